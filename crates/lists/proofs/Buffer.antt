@@ -1,0 +1,37 @@
+-- Laws of buffers: lengths, one list behind another, and what is wiped behind. Assumes nothing.
+use Prim.Native.Nat.{ℕ, _+_, _-_, _≤_}
+use native.Mathlib.Omega.{arith}
+use mathlib.Core.Path.{_≡_, sym, ap, ap₂, _∙_}
+use mathlib.Core.List.{List, _++_}
+use lib.ListN.{length, take, drop, replicate, length-append, length-drop, length-take, length-replicate}
+use lib.Seq.{take-append-seam, drop-append-seam, drop-append-add, drop-drop, take-at, drop-at}
+use Rattle.lists.specs.Buffer.{front, placed, wipedFrom}
+
+module _ {A : Type 0} where
+  pub front-length : (vs d : List A) → length vs ≤ length d → length (front vs d) ≡ length d
+  front-length vs d h = omega (arith, length-append vs (drop (length vs) d), length-drop (length vs) d)
+
+  pub front-take : (vs d : List A) (n : ℕ) → n ≡ length vs → take n (front vs d) ≡ vs
+  front-take vs d n e = take-at vs (drop (length vs) d) n (sym e)
+
+  pub front-drop : (vs d : List A) (n : ℕ) → n ≡ length vs → drop n (front vs d) ≡ drop n d
+  front-drop vs d n e = drop-at vs (drop (length vs) d) n (sym e) ∙ ap (λ (k : ℕ). drop k d) (sym e)
+
+  -- us behind vs, with which the buffer begins
+  pub front-more : (vs us d : List A) (held : ℕ) → held ≡ length vs → placed held us (front vs d) ≡ front (vs ++ us) d
+  front-more vs us d held e =
+      rw e
+      (ap₂ (λ (a b : List A). a ++ us ++ b) (take-append-seam vs (drop (length vs) d))
+      (drop-append-add vs (drop (length vs) d) (length us) ∙ drop-drop (length us) (length vs) d ∙ ap (λ (n : ℕ). drop n d) (sym (length-append vs us))))
+
+  pub placed-length : (held : ℕ) (vs d : List A) → held + length vs ≤ length d → length (placed held vs d) ≡ length d
+  placed-length held vs d h = simp (length-append, length-take, length-drop) (omega arith)
+
+  pub wiped-length : (n : ℕ) (z : A) (d : List A) → n ≤ length d → length (wipedFrom n z d) ≡ length d
+  wiped-length n z d h = simp (length-append, length-take, length-replicate) (omega arith)
+
+  -- a list that stands first, wiped behind it
+  pub wiped-front : (vs d : List A) (z : A) (n : ℕ) → n ≡ length vs → length vs ≤ length d → wipedFrom n z (front vs d) ≡ vs ++ replicate (length d - length vs) z
+  wiped-front vs d z n e h =
+      let k : length (front vs d) - n ≡ length d - length vs = omega (arith, front-length vs d h) in
+      ap₂ (λ (a : List A) (k : ℕ). a ++ replicate k z) (front-take vs d n e) k

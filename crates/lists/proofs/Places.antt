@@ -1,0 +1,152 @@
+-- Laws of scans in row order: a range, a row and a block lose their first part; `any`, `keep` and `count` go over `++`; what a scan has ahead.
+-- Assumes nothing.
+use Prim.Native.Nat.{ℕ, zero, suc, _+_, _-_, _*_, _<_, _≤_}
+use native.Mathlib.Nat.{sub-eq-zero-of-le, mul-le-mul, mul-le-mul-right}
+use native.Mathlib.Numerals.{add-one}
+use native.Mathlib.Omega.{arith}
+use mathlib.Core.Path.{_≡_, refl, sym, ap, _∙_}
+use mathlib.Core.Bool.{Bool, true, false, cond, _||_}
+use mathlib.Core.List.{List, [], _∷_, _++_}
+use lib.ListN.{length, length-append, length-map}
+use lib.Dec.{ltb}
+use borrow.Author.Tests.{lt-ltb, le-ltb, ltb-true, ltb-false}
+use Rattle.lists.specs.Places.{Place, counted, range, row, rows, block, any, keep, count}
+
+-- the place of a cell lies in the map
+pub in-map : (w h x y : ℕ) → x < w → y < h → y * w + x < w * h
+in-map w h x y p q = let e : suc y * w ≤ h * w = mul-le-mul-right w q in omega arith
+
+-- ---- ranges, rows and blocks by their first part
+
+pub range-end : (a b : ℕ) → b ≤ a → range a b ≡ []
+unfolding range counted
+range-end a b h = ap (counted a) (sub-eq-zero-of-le h)
+
+pub range-step : (a b : ℕ) → a < b → range a b ≡ a ∷ range (a + 1) b
+unfolding range counted
+range-step a b h =
+    let e : b - a ≡ suc (b - (a + 1)) = omega arith in
+    ap (counted a) e ∙ ap (λ (k : ℕ). a ∷ counted k (b - (a + 1))) (sym (add-one a))
+
+pub row-end : (y a b : ℕ) → b ≤ a → row y a b ≡ []
+unfolding row
+row-end y a b h = rw (range-end a b h)
+
+pub row-step : (y a b : ℕ) → a < b → row y a b ≡ record { x = a; y = y } ∷ row y (a + 1) b
+unfolding row
+row-step y a b h = rw (range-step a b h)
+
+pub block-end : (a b c d : ℕ) → d ≤ c → block a b c d ≡ []
+unfolding block rows
+block-end a b c d h = rw (range-end c d h)
+
+pub block-step : (a b c d : ℕ) → c < d → block a b c d ≡ row c a b ++ block a b (c + 1) d
+unfolding block rows
+block-step a b c d h = rw (range-step c d h)
+
+rows-none : (a b : ℕ) (ys : List ℕ) → b ≤ a → rows a b ys ≡ []
+unfolding rows
+rows-none a b [] h = refl
+rows-none a b (y ∷ ys) h = rw (row-end y a b h) (rows-none a b ys h)
+
+pub block-thin : (a b c d : ℕ) → b ≤ a → block a b c d ≡ []
+unfolding block
+block-thin a b c d h = rows-none a b (range c d) h
+
+-- ---- a scan by cells: what columns a to b in rows up to d have ahead at a place, the rest of its row and then the rows below
+
+unfoldable pub ahead : ℕ → ℕ → ℕ → Place → List Place
+ahead a b d p = cond (ltb (p .y) d) (row (p .y) (p .x) b ++ block a b (p .y + 1) d) []
+
+pub ahead-cell : (a b d x y : ℕ) → x < b → y < d → ahead a b d (record { x = x; y = y }) ≡ record { x = x; y = y } ∷ ahead a b d (record { x = x + 1; y = y })
+unfolding ahead
+ahead-cell a b d x y p q = rw (lt-ltb y d q, row-step y x b p)
+
+pub ahead-end : (a b d x y : ℕ) → d ≤ y → ahead a b d (record { x = x; y = y }) ≡ []
+unfolding ahead
+ahead-end a b d x y q = rw (le-ltb y d q)
+
+pub ahead-start : (a b c d : ℕ) → block a b c d ≡ ahead a b d (record { x = a; y = c })
+unfolding ahead
+ahead-start a b c d = go (ltb c d) refl
+  where
+    go : (t : Bool) → ltb c d ≡ t → block a b c d ≡ cond t (row c a b ++ block a b (c + 1) d) []
+    go true e = block-step a b c d (ltb-true c d e)
+    go false e = block-end a b c d (ltb-false c d e)
+
+pub ahead-row : (a b d x y : ℕ) → b ≤ x → y < d → ahead a b d (record { x = x; y = y }) ≡ ahead a b d (record { x = a; y = y + 1 })
+ahead-row a b d x y p q = unfold ahead in (rw (lt-ltb y d q, row-end y x b p) (ahead-start a b (y + 1) d))
+
+-- what is left to pass, to find and to count, by whether the first cell ahead passes the test
+module _ (f : Place → Bool) (a b d x y : ℕ) (p : x < b) (q : y < d) where
+  pub keep-hit : f (record { x = x; y = y }) ≡ true
+      → keep f (ahead a b d (record { x = x; y = y })) ≡ record { x = x; y = y } ∷ keep f (ahead a b d (record { x = x + 1; y = y }))
+  keep-hit e = rw (ahead-cell a b d x y p q, e)
+
+  pub keep-miss : f (record { x = x; y = y }) ≡ false
+      → keep f (ahead a b d (record { x = x; y = y })) ≡ keep f (ahead a b d (record { x = x + 1; y = y }))
+  keep-miss e = rw (ahead-cell a b d x y p q, e)
+
+  pub any-hit : f (record { x = x; y = y }) ≡ true → any f (ahead a b d (record { x = x; y = y })) ≡ true
+  any-hit e = rw (ahead-cell a b d x y p q, e)
+
+  pub any-miss : f (record { x = x; y = y }) ≡ false
+      → any f (ahead a b d (record { x = x; y = y })) ≡ any f (ahead a b d (record { x = x + 1; y = y }))
+  any-miss e = rw (ahead-cell a b d x y p q, e)
+
+-- ---- two lists in a row
+
+module _ {A : Type 0} (f : A → Bool) where
+  pub any-append : (s t : List A) → any f (s ++ t) ≡ (any f s || any f t)
+  any-append [] t = refl
+  any-append (a ∷ s) t = pick (f a) (any-append s t)
+    where
+      pick : (b : Bool) → any f (s ++ t) ≡ (any f s || any f t) → (b || any f (s ++ t)) ≡ (b || any f s || any f t)
+      pick true e = refl
+      pick false e = e
+
+  pub keep-append : (s t : List A) → keep f (s ++ t) ≡ keep f s ++ keep f t
+  keep-append [] t = refl
+  keep-append (a ∷ s) t = pick (f a) (keep-append s t)
+    where
+      pick : (b : Bool) → keep f (s ++ t) ≡ keep f s ++ keep f t → cond b (a ∷ keep f (s ++ t)) (keep f (s ++ t)) ≡ cond b (a ∷ keep f s) (keep f s) ++ keep f t
+      pick true e = ap (λ (l : List A). a ∷ l) e
+      pick false e = e
+
+  pub count-append : (s t : List A) → count f (s ++ t) ≡ count f s + count f t
+  unfolding count
+  count-append s t = ap length (keep-append s t) ∙ length-append (keep f s) (keep f t)
+
+  pub keep-le : (l : List A) → length (keep f l) ≤ length l
+  keep-le [] = omega arith
+  keep-le (a ∷ l) = pick (f a) (keep-le l)
+    where
+      pick : (b : Bool) → length (keep f l) ≤ length l → length (cond b (a ∷ keep f l) (keep f l)) ≤ suc (length l)
+      pick true e = omega arith
+      pick false e = omega arith
+
+-- ---- a block has as many places as its sides say, and a test passes at no more
+
+length-counted : (a n : ℕ) → length (counted a n) ≡ n
+unfolding counted
+length-counted a zero = refl
+length-counted a (suc n) = ap suc (length-counted (suc a) n)
+
+length-row : (y a b : ℕ) → length (row y a b) ≡ b - a
+unfolding row range
+length-row y a b = length-map (counted a (b - a)) (λ (x : ℕ). record { x = x; y = y }) ∙ length-counted a (b - a)
+
+length-rows : (a b : ℕ) (ys : List ℕ) → length (rows a b ys) ≡ length ys * (b - a)
+unfolding rows
+length-rows a b [] = omega arith
+length-rows a b (y ∷ ys) = length-append (row y a b) (rows a b ys) ∙ omega (arith, length-row y a b, length-rows a b ys)
+
+pub length-block : (a b c d : ℕ) → length (block a b c d) ≡ (d - c) * (b - a)
+unfolding block range
+length-block a b c d = length-rows a b (range c d) ∙ ap (λ (k : ℕ). k * (b - a)) (length-counted c (d - c))
+
+pub count-block-le : (f : Place → Bool) (a b c d k m : ℕ) → b - a ≤ k → d - c ≤ m → count f (block a b c d) ≤ m * k
+unfolding count
+count-block-le f a b c d k m p q =
+    let e : (d - c) * (b - a) ≤ m * k = mul-le-mul q p in
+    omega (arith, keep-le f (block a b c d), length-block a b c d)

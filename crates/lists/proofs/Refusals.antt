@@ -1,0 +1,12 @@
+-- Laws of numbered conditions. Assumes nothing.
+use Prim.Native.Nat.{ℕ, _<_}
+use native.Mathlib.Omega.{arith}
+use mathlib.Core.Path.{_≡_, refl}
+use mathlib.Core.Bool.{Bool, true, false, cond}
+use mathlib.Core.List.{List, _∷_}
+use Rattle.lists.specs.Refusals.{lowest}
+
+-- no number: the first condition does not hold, and none behind it
+pub lowest-none : (b : Bool) (n : ℕ) (cs : List (Bool × ℕ)) → 0 < n → lowest ((b, n) ∷ cs) ≡ 0 → (b ≡ false) × (lowest cs ≡ 0)
+lowest-none true n cs p e = absurd (let no : ⊥ = omega arith in no)
+lowest-none false n cs p e = (refl, e)

@@ -1,0 +1,17 @@
+-- What a buffer, a slice that the caller lends ("room" in document 01), holds after a call.
+use Prim.Native.Nat.{ℕ, _+_, _-_}
+use mathlib.Core.List.{List, _++_}
+use lib.ListN.{length, take, drop, replicate}
+
+module _ {A : Type 0} where
+  -- vs first, and behind them the buffer as it was
+  abbrev pub front : List A → List A → List A
+  front vs d = vs ++ drop (length vs) d
+
+  -- vs behind the first `held` elements, and the buffer as it was before and behind them
+  abbrev pub placed : ℕ → List A → List A → List A
+  placed held vs d = take held d ++ vs ++ drop (held + length vs) d
+
+  -- the first n elements, and z in every place behind them
+  abbrev pub wipedFrom : ℕ → A → List A → List A
+  wipedFrom n z d = take n d ++ replicate (length d - n) z

@@ -1,0 +1,4 @@
+pub mod Tab
+pub mod Places
+pub mod Buffer
+pub mod Refusals
