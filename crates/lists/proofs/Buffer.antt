@@ -1,10 +1,11 @@
 -- Laws of buffers: lengths, one list behind another, and what is wiped behind. Assumes nothing.
-use Prim.Native.Nat.{ℕ, _+_, _-_, _≤_}
+use Prim.Native.Nat.{ℕ, suc, _+_, _-_, _<_, _≤_}
+use native.Mathlib.Nat.{add-zero, zero-add}
 use native.Mathlib.Omega.{arith}
-use mathlib.Core.Path.{_≡_, sym, ap, ap₂, _∙_}
-use mathlib.Core.List.{List, _++_}
-use lib.ListN.{length, take, drop, replicate, length-append, length-drop, length-take, length-replicate}
-use lib.Seq.{take-append-seam, drop-append-seam, drop-append-add, drop-drop, take-at, drop-at}
+use mathlib.Core.Path.{_≡_, refl, sym, ap, ap₂, _∙_}
+use mathlib.Core.List.{List, [], _∷_, _++_, append-assoc, append-nil}
+use lib.ListN.{length, take, drop, set, replicate, length-append, length-drop, length-take, length-replicate, take-append-drop}
+use lib.Seq.{take-append-seam, drop-append-add, drop-drop, drop-cons, set-at, take-at, drop-at, length-take-le}
 use Rattle.lists.specs.Buffer.{front, placed, wipedFrom}
 
 module _ {A : Type 0} where
@@ -23,6 +24,21 @@ module _ {A : Type 0} where
       rw e
       (ap₂ (λ (a b : List A). a ++ us ++ b) (take-append-seam vs (drop (length vs) d))
       (drop-append-add vs (drop (length vs) d) (length us) ∙ drop-drop (length us) (length vs) d ∙ ap (λ (n : ℕ). drop n d) (sym (length-append vs us))))
+
+  -- nothing placed; placed before everything; and one element more behind those placed
+  pub placed-none : (held : ℕ) (d : List A) → d ≡ placed held [] d
+  placed-none held d = sym (ap₂ (λ (a : List A) (k : ℕ). a ++ drop k d) (append-nil (take held d)) (add-zero held) ∙ take-append-drop held d)
+
+  pub placed-first : (vs d : List A) → placed 0 vs d ≡ front vs d
+  placed-first vs d = ap (λ (k : ℕ). vs ++ drop k d) (zero-add (length vs))
+
+  pub placed-set : (held : ℕ) (vs d : List A) (v : A) → held + length vs < length d → set (placed held vs d) (held + length vs) v ≡ placed held (vs ++ (v ∷ [])) d
+  placed-set held vs d v h =
+      let n = held + length vs in
+      let l : length (take held d ++ vs) ≡ n = length-append (take held d) vs ∙ ap (λ (k : ℕ). k + length vs) (length-take-le held d (omega arith)) in
+      let e : suc n ≡ held + length (vs ++ (v ∷ [])) = omega (arith, length-append vs (v ∷ [])) in
+      rw (drop-cons d (held + length vs) v h)
+      (set-at (take held d ++ vs) _ (drop (suc n) d) v n l ∙ ap (λ (k : ℕ). take held d ++ vs ++ v ∷ drop k d) e ∙ simp append-assoc)
 
   pub placed-length : (held : ℕ) (vs d : List A) → held + length vs ≤ length d → length (placed held vs d) ≡ length d
   placed-length held vs d h = simp (length-append, length-take, length-drop) (omega arith)
