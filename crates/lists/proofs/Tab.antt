@@ -1,4 +1,4 @@
--- Laws of `tab` and `grid`: lengths, elements, and what a loop that fills a list from the front needs. Assumes nothing.
+-- Laws of elements, of `tab` and of `grid`: lengths, elements, and what a loop that fills a list from the front needs. Assumes nothing.
 use mathlib.Core.Path.{_≡_, refl, ap, sym, _∙_}
 use mathlib.Core.List.{List, [], _∷_, _++_, append-assoc, append-nil}
 use Prim.Native.Nat.{ℕ, zero, suc, _+_, _*_, _-_, _<_, _≤_}
@@ -11,6 +11,12 @@ use lib.ListN.{length, getD, take, drop, set, length-append, List·getD-append, 
 use borrow.Rule.Slice.PartMut.{putMid}
 use lib.Seq.{take-suc-set, take-all, length-take-le, getD-take, take-append-add, drop-cons, set-at, take-at, drop-at, getD-at, drop-drop, getD-append-add}
 use Rattle.lists.specs.Tab.{tab, grid}
+
+-- what stands for the elements past a list's end does not show before it
+pub getD-any : {A : Type 0} (s : List A) (i : ℕ) (d d′ : A) → i < length s → getD s i d ≡ getD s i d′
+getD-any [] i d d′ h = absurd (not-suc-le-zero h)
+getD-any (a ∷ s) zero d d′ h = refl
+getD-any (a ∷ s) (suc i) d d′ h = getD-any s i d d′ (le-of-suc-le-suc h)
 
 -- a list of len elements whose first n are those of f
 pub record Prefix {A : Type 0} (len : ℕ) (f : ℕ → A) (n : ℕ) (s : List A) : Type 0 where

@@ -1,0 +1,88 @@
+-- Laws of a buffer of corners: its slices' lengths, and its corners read back. Assumes nothing.
+use Prim.Native.Nat.{ℕ, _+_, _<_, _≤_, min}
+use native.Mathlib.Omega.{arith}
+use mathlib.Core.Path.{_≡_, refl, sym, ap, _∙_}
+use mathlib.Core.List.{List, _++_, map}
+use lib.ListN.{length, take, drop, getD, length-map, List·getD-append, List·getD-map}
+use lib.Seq.{ext-getD, length-take-le, getD-take}
+use lib.Ieee.{Float, nan}
+use Rattle.lists.specs.Tab.{tab}
+use Rattle.lists.specs.Buffer.{front}
+use Rattle.lists.proofs.Tab.{getD-any, length-tab, getD-tab}
+use Rattle.lists.proofs.Buffer.{front-length, placed-length}
+use Rattle.corner_list.specs.declared.Corner.{Corner}
+use Rattle.corner_list.specs.CornerList.{Slices, slices, xOf, yOf, strengthOf, placesOf, cornerAt, cornersOf, frontCorners, placedCorners}
+
+-- ---- a place of the buffer is one of each slice
+module _ (b : Slices) (n : ℕ) (h : n ≤ placesOf b) where
+  pub in-xs : n ≤ length (b .xs)
+  in-xs = omega arith
+
+  pub in-ys : n ≤ length (b .ys)
+  in-ys = omega arith
+
+  pub in-strengths : n ≤ length (b .strengths)
+  in-strengths = omega arith
+
+-- ---- buffers alike in each slice
+pub slices-alike : {xs ys ss xs′ ys′ ss′ : List Float} → xs ≡ xs′ → ys ≡ ys′ → ss ≡ ss′ → slices xs ys ss ≡ slices xs′ ys′ ss′
+slices-alike p q r = rw (p, q, r)
+
+pub same-places : (b b′ : Slices) → length (b .xs) ≡ length (b′ .xs) → length (b .ys) ≡ length (b′ .ys) → length (b .strengths) ≡ length (b′ .strengths) → placesOf b ≡ placesOf b′
+same-places b b′ p q r = rw (p, q, r)
+
+-- ---- the first n corners
+module _ (b : Slices) (n : ℕ) where
+  pub corners-length : length (cornersOf b n) ≡ n
+  corners-length = length-tab n (cornerAt b)
+
+  pub corners-at : (i : ℕ) (d : Corner) → i < n → getD (cornersOf b n) i d ≡ cornerAt b i
+  corners-at i d h = getD-tab n (cornerAt b) i d h
+
+  -- one slice of them
+  fields : (g : Corner → Float) (s : List Float) → ((i : ℕ) → g (cornerAt b i) ≡ getD s i nan) → n ≤ length s → map g (cornersOf b n) ≡ take n s
+  fields g s e h =
+      let long : length (map g (cornersOf b n)) ≡ n = length-map (cornersOf b n) g ∙ corners-length in
+      ext-getD (g (cornerAt b 0)) (map g (cornersOf b n)) (take n s) (long ∙ sym (length-take-le n s h))
+      (λ i l.
+      let k : i < n = rw long at l in
+      List·getD-map g (cornersOf b n) i (cornerAt b 0) ∙ ap g (corners-at i (cornerAt b 0) k) ∙ e i
+      ∙ getD-any s i nan (g (cornerAt b 0)) (omega arith) ∙ sym (getD-take n s i (g (cornerAt b 0)) k))
+
+  pub corners-xs : n ≤ length (b .xs) → map xOf (cornersOf b n) ≡ take n (b .xs)
+  corners-xs h = fields xOf (b .xs) (λ i. refl) h
+
+  pub corners-ys : n ≤ length (b .ys) → map yOf (cornersOf b n) ≡ take n (b .ys)
+  corners-ys h = fields yOf (b .ys) (λ i. refl) h
+
+  pub corners-strengths : n ≤ length (b .strengths) → map strengthOf (cornersOf b n) ≡ take n (b .strengths)
+  corners-strengths h = fields strengthOf (b .strengths) (λ i. refl) h
+
+-- ---- corners that were written are read back
+module _ (cs : List Corner) (b : Slices) (n : ℕ) (e : n ≡ length cs) where
+  field-front : (g : Corner → Float) (s : List Float) (i : ℕ) (d : Corner) → i < n → getD (front (map g cs) s) i nan ≡ g (getD cs i d)
+  field-front g s i d h =
+      let l : i < length (map g cs) = rw (length-map cs g) (omega arith) in
+      List·getD-append (map g cs) (drop (length (map g cs)) s) nan i l ∙ getD-any (map g cs) i nan (g d) l ∙ List·getD-map g cs i d
+
+  pub corners-front : cornersOf (frontCorners cs b) n ≡ cs
+  corners-front =
+      let z = cornerAt b 0 in
+      ext-getD z (cornersOf (frontCorners cs b) n) cs (corners-length (frontCorners cs b) n ∙ e)
+      (λ i l.
+      let h : i < n = rw (corners-length (frontCorners cs b) n) at l in
+      corners-at (frontCorners cs b) n i z h
+      ∙ corner-alike (field-front xOf (b .xs) i z h) (field-front yOf (b .ys) i z h) (field-front strengthOf (b .strengths) i z h))
+    where
+      corner-alike : {x y s : Float} {c : Corner} → x ≡ c .x → y ≡ c .y → s ≡ c .strength → record { x = x; y = y; strength = s } ≡ c
+      corner-alike p q r = rw (p, q, r)
+
+  -- and each slice is as long as it was
+  pub front-xs : n ≤ placesOf b → length (frontCorners cs b .xs) ≡ length (b .xs)
+  front-xs h = front-length (map xOf cs) (b .xs) (omega (arith, length-map cs xOf))
+
+  pub front-ys : n ≤ placesOf b → length (frontCorners cs b .ys) ≡ length (b .ys)
+  front-ys h = front-length (map yOf cs) (b .ys) (omega (arith, length-map cs yOf))
+
+  pub front-strengths : n ≤ placesOf b → length (frontCorners cs b .strengths) ≡ length (b .strengths)
+  front-strengths h = front-length (map strengthOf cs) (b .strengths) (omega (arith, length-map cs strengthOf))

@@ -1,0 +1,51 @@
+-- A list of corners in a buffer of three slices, the shortest counting ("corner room" in document 01).
+use Prim.Native.Nat.{ℕ, min}
+use mathlib.Core.List.{List, map}
+use lib.ListN.{length, getD, set}
+use lib.Ieee.{Float, nan}
+use Rattle.lists.specs.Tab.{tab}
+use Rattle.lists.specs.Buffer.{front, placed}
+use Rattle.corner_list.specs.declared.Corner.{Corner}
+
+-- the contents of the three slices
+pub record Slices : Type 0 where
+  pub xs : List Float
+  pub ys : List Float
+  pub strengths : List Float
+
+abbrev pub slices : List Float → List Float → List Float → Slices
+slices xs ys strengths = record { xs = xs; ys = ys; strengths = strengths }
+
+-- a corner's field in each slice
+abbrev pub xOf : Corner → Float
+xOf c = c .x
+
+abbrev pub yOf : Corner → Float
+yOf c = c .y
+
+abbrev pub strengthOf : Corner → Float
+strengthOf c = c .strength
+
+-- how many corners there is a place for
+abbrev pub placesOf : Slices → ℕ
+placesOf b = min (length (b .xs)) (min (length (b .ys)) (length (b .strengths)))
+
+-- the corner at a place; a field whose slice is shorter is NaN
+abbrev pub cornerAt : Slices → ℕ → Corner
+cornerAt b i = record { x = getD (b .xs) i nan; y = getD (b .ys) i nan; strength = getD (b .strengths) i nan }
+
+-- the first n corners
+abbrev pub cornersOf : Slices → ℕ → List Corner
+cornersOf b n = tab n (cornerAt b)
+
+-- ---- the buffer after a change: the same done to each slice
+abbrev pub withCorner : ℕ → Corner → Slices → Slices
+withCorner i c b = slices (set (b .xs) i (c .x)) (set (b .ys) i (c .y)) (set (b .strengths) i (c .strength))
+
+-- the corners cs first, the buffer behind them as it was
+abbrev pub frontCorners : List Corner → Slices → Slices
+frontCorners cs b = slices (front (map xOf cs) (b .xs)) (front (map yOf cs) (b .ys)) (front (map strengthOf cs) (b .strengths))
+
+-- the corners cs behind the first `held`, the buffer before and behind them as it was
+abbrev pub placedCorners : ℕ → List Corner → Slices → Slices
+placedCorners held cs b = slices (placed held (map xOf cs) (b .xs)) (placed held (map yOf cs) (b .ys)) (placed held (map strengthOf cs) (b .strengths))

@@ -1,0 +1,67 @@
+// Corners, and lists of them in a buffer of three slices.
+ghost use mathlib.Core.Path.{_≡_};
+ghost use Prim.Native.Nat.{min};
+ghost use lib.ListN.{getD};
+ghost use lib.Ieee.{nan};
+ghost use Rattle.corner_list.specs.CornerList.{slices, cornerAt, withCorner};
+
+// Where a corner is, in pixels, and the response at its peak.
+pub struct Corner {
+    pub x: f32,
+    pub y: f32,
+    pub strength: f32,
+}
+
+// The element at a place of a slice, and NaN past its end.
+fn element(s: &[f32], at: usize) -> f32
+    ensures { λ r. ⌜ r ≡ getD (now (s .entry)) at nan ⌝ }
+{
+    if at < s.len() {
+        return s[at];
+    }
+    0.0 / 0.0
+}
+
+// The corner at a place of a buffer; a field whose slice is shorter is NaN.
+pub fn corner_at(xs: &[f32], ys: &[f32], strengths: &[f32], at: usize) -> Corner
+    ensures { λ r. ⌜ r ≡ cornerAt (slices (now (xs .entry)) (now (ys .entry)) (now (strengths .entry))) at ⌝ }
+{
+    Corner {
+        x: element(xs, at),
+        y: element(ys, at),
+        strength: element(strengths, at),
+    }
+}
+
+// Stores an element, where the slice has the place.
+fn store(s: &mut [f32], at: usize, v: f32)
+    ensures { λ _. ⌜ now (s .exit) ≡ lib.ListN.set (now (s .entry)) at v ⌝ }
+{
+    if at < s.len() {
+        s[at] = v;
+    }
+}
+
+// Puts a corner at a place of a buffer; a slice that lacks the place stays as it was.
+pub fn put_corner(xs: &mut [f32], ys: &mut [f32], strengths: &mut [f32], at: usize, c: Corner)
+    ensures { λ _. ⌜ slices (now (xs .exit)) (now (ys .exit)) (now (strengths .exit))
+        ≡ withCorner at c (slices (now (xs .entry)) (now (ys .entry)) (now (strengths .entry))) ⌝ }
+{
+    store(xs, at, c.x);
+    store(ys, at, c.y);
+    store(strengths, at, c.strength);
+}
+
+// The lesser of two lengths.
+fn lesser(a: usize, b: usize) -> usize
+    ensures { λ r. ⌜ r ≡ min a b ⌝ }
+{
+    if a < b { a } else { b }
+}
+
+// The places of a buffer whose slices have these lengths: those of the shortest.
+pub fn places(xs: usize, ys: usize, strengths: usize) -> usize
+    ensures { λ r. ⌜ r ≡ min xs (min ys strengths) ⌝ }
+{
+    lesser(xs, lesser(ys, strengths))
+}
