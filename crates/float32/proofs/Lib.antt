@@ -1,0 +1,15 @@
+pub mod Poly
+pub mod Canonical
+pub mod Classes
+pub mod Magnitude
+pub mod Truncation
+pub mod HalfAway
+pub mod Cases
+pub mod Scale
+pub mod Rounding
+pub mod Values
+pub mod Approx
+pub mod Units
+pub mod Sums
+pub mod Running
+pub mod Bounds

@@ -1,0 +1,93 @@
+-- A running sum of floats that are not negative, against the exact sum: the relative error grows by one part in 2 ^ 24 - 2048 with each addition, up to 2048 of them.
+-- Numbers of units throughout (`Units`). Assumes nothing.
+use mathlib.Core.Path.{_≡_, refl, ap, subst}
+use mathlib.Core.Logic.{⊎-elim}
+use Prim.Native.Nat.{ℕ, zero, suc, _+_, _*_, _^_, _≤_, _<_}
+use native.Mathlib.Nat.{le-trans, le-of-lt, lt-of-le-of-lt, lt-of-lt-of-le, mul-add, add-mul, mul-le-mul-right, mul-le-mul-left, mul-suc, suc-mul, mul-lt-mul-of-pos-right, eq-or-lt-of-le, le-of-suc-le-suc}
+use native.Mathlib.Omega.{arith}
+use mathlib.Core.Bool.{false}
+use lib.Dec.{lit<, lit≤}
+use lib.Pow.{pow-pos}
+use lib.Ieee.{Float, binary32, low, add, mul}
+use lib.Ieee.Exact.{HasValue}
+use Rattle.float32.specs.Float32.{zero as zero32}
+use Rattle.float32.specs.Value.{total}
+use Rattle.float32.proofs.Rounding.{HalfNear}
+use Rattle.float32.proofs.Sums.{total-bound}
+use Rattle.float32.proofs.Units.{Units, rounded, units-near, add-units, scale-units}
+
+-- ---- x is A units, and |A - X| ≤ X c / 16775168
+abbrev pub Near : ℕ → ℕ → ℕ → Type 0
+Near A X c = (A * 16775168 ≤ X * 16775168 + X * c) × (X * 16775168 ≤ A * 16775168 + X * c)
+
+pub record Nearly (x : Float) (X c : ℕ) : Type 0 where
+  pub size : ℕ
+  pub units : Units binary32 x size
+  pub near : Near size X c
+
+-- ---- one rounding
+near-zero : (A X : ℕ) → A ≡ X → Near A X 0
+near-zero A X e = omega arith
+
+looser : (A X c d : ℕ) → c ≤ d → Near A X c → Near A X d
+looser A X c d h n = let k : X * c ≤ X * d = mul-le-mul-left X h in omega arith
+
+rounded-near : (g A X c : ℕ) → c < 2048 → HalfNear (g * 8388608) (A * 8388608) A → Near A X c → Near g X (suc c)
+rounded-near g A X c h r n =
+    let k : X * c ≤ X * 2048 = mul-le-mul-left X (le-of-lt h) in
+    let s = mul-suc X c in
+    omega arith
+
+sum-near : (A B X Y c : ℕ) → Near A X c → Near B Y c → Near (A + B) (X + Y) c
+sum-near A B X Y c n m = omega (arith, add-mul X Y c)
+
+-- ---- no overflow: an exact value up to 2 ^ 60
+abbrev pub Modest : ℕ → Type 0
+Modest X = X ≤ 2 ^ 60 * 2 ^ low binary32
+
+small-of : (A X c L : ℕ) → 0 < L → c ≤ 2048 → Near A X c → X ≤ 2 ^ 60 * L → A < 2 ^ 127 * L
+small-of A X c L K h n m =
+    let k : X * c ≤ X * 2048 = mul-le-mul-left X h in
+    let a : A ≤ 2 * X = omega arith in
+    let b : A ≤ 2 ^ 61 * L = omega arith in
+    lt-of-le-of-lt b (mul-lt-mul-of-pos-right (lit< tt) K)
+
+below : (c : ℕ) → c < 2048 → c ≤ 2048
+below c h = omega arith
+
+pub add-nearly : (x y : Float) (X Y c d : ℕ) → d ≤ c → c < 2048 → Modest (X + Y) → Nearly x X c → Nearly y Y d → Nearly (add binary32 x y) (X + Y) (suc c)
+add-nearly x y X Y c d l h m v w =
+    let n = sum-near (v .size) (w .size) X Y c (v .near) (looser (w .size) Y d c l (w .near)) in
+    record {
+      size = rounded binary32 (v .size + w .size);
+      units = add-units binary32 x y (v .size) (w .size) (v .units) (w .units) (small-of (v .size + w .size) (X + Y) c (2 ^ low binary32) (pow-pos (low binary32)) (below c h) n m);
+      near = rounded-near (rounded binary32 (v .size + w .size)) (v .size + w .size) (X + Y) c h (units-near binary32 (v .size + w .size)) n;
+    }
+
+pub exactly : (x : Float) (X : ℕ) → Units binary32 x X → Nearly x X 0
+exactly x X v = record { size = X; units = v; near = near-zero X X refl }
+
+-- a whole number times an exact value
+pub scale-nearly : (x y : Float) (k b : ℕ) → HasValue x false k 1 → Units binary32 y b → Modest (k * b) → Nearly (mul binary32 x y) (k * b) 1
+scale-nearly x y k b v w m =
+    let n = near-zero (k * b) (k * b) refl in
+    record {
+      size = rounded binary32 (k * b);
+      units = scale-units binary32 x y k b v w (small-of (k * b) (k * b) 0 (2 ^ low binary32) (pow-pos (low binary32)) (lit≤ tt) n m);
+      near = rounded-near (rounded binary32 (k * b)) (k * b) (k * b) 0 (lit< tt) (units-near binary32 (k * b)) n;
+    }
+
+-- ---- sums of many
+unfoldable pub running : (ℕ → Float) → ℕ → Float
+running t zero = zero32
+running t (suc k) = add binary32 (running t k) (t k)
+
+pub running-nearly : (t : ℕ → Float) (X : ℕ → ℕ) (d H n : ℕ) → n + d ≤ 2048 → n * H ≤ 2 ^ 60 * 2 ^ low binary32 → ((i : ℕ) → i < n → Nearly (t i) (X i) d) → ((i : ℕ) → i < n → X i ≤ H)
+    → (k : ℕ) → k ≤ n → Nearly (running t k) (total X k) (k + d)
+unfolding running total
+running-nearly t X d H n s m v b zero l = record { size = 0; units = (refl, refl); near = omega arith }
+running-nearly t X d H n s m v b (suc k) l =
+    let e : suc (k + d) ≡ suc k + d = omega arith in
+    let sum : total X (suc k) ≤ n * H = le-trans (total-bound X H (suc k) (λ i q. b i (lt-of-lt-of-le q l))) (mul-le-mul-right H l) in
+    subst (λ (c : ℕ). Nearly (add binary32 (running t k) (t k)) (total X k + X k) c) e
+    (add-nearly (running t k) (t k) (total X k) (X k) (k + d) d (omega arith) (omega arith) (le-trans sum m) (running-nearly t X d H n s m v b k (le-of-lt l)) (v k l))

@@ -1,0 +1,44 @@
+-- What the operations on `f32` give, over the logic's IEEE values: a finite x is ± num x / den x (lib.Ieee.Positive).
+use Prim.Native.Nat.{ℕ, suc, _+_, _*_, _/_}
+use mathlib.Core.Bool.{Bool, true, false, cond}
+use lib.IntN.{pos}
+use lib.Ieee.{Float, nan, inf, fin, lt, le}
+use lib.Ieee.Positive.{num, den}
+use Rattle.float32.specs.declared.Rounded.{Rounded}
+use Rattle.float32.specs.declared.Rounded.the-variants.{Natural, Negative, Beyond}
+
+-- +0.0
+abbrev pub zero : Float
+zero = fin false 0 (pos 0)
+
+-- Rust's `abs`: the sign is cleared, so -0.0 becomes +0.0; a NaN stays
+unfoldable pub abs : Float → Float
+abs nan = nan
+abs (inf s) = inf false
+abs (fin s m e) = fin false m e
+
+-- Rust's `x.max(0.0)`, "NaN and negatives become 0"; so does -0.0 (Rust leaves open which zero it gives there)
+unfoldable pub lift : Float → Float
+lift x = cond (lt zero x) x zero
+
+-- ---- Rust's `x.round()` as a whole number
+
+-- |x| rounded to a whole number, a half up: (2 |x| + 1) / 2, cut off
+unfoldable pub nearestWhole : Float → ℕ
+nearestWhole x = (2 * num x + den x) / (2 * den x)
+
+-- a size with a sign; there is no negative 0
+abbrev pub signed : Bool → ℕ → Rounded
+signed false n = Natural n
+signed true ℕ.zero = Natural 0
+signed true (suc n) = Negative (suc n)
+
+-- a number, or `Beyond` where it is not judged
+abbrev pub judged : Bool → Rounded → Rounded
+judged true r = r
+judged false r = Beyond
+
+-- a half goes away from zero; sizes above 2 ^ 24, infinities and NaN are not judged
+unfoldable pub roundHalfAway : Float → Rounded
+unfolding abs nearestWhole
+roundHalfAway x = judged (le (abs x) (fin false 1 (pos 24))) (signed (lt x zero) (nearestWhole x))

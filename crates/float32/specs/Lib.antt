@@ -1,0 +1,2 @@
+pub mod Float32
+pub mod Value

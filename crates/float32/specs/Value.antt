@@ -1,0 +1,62 @@
+-- The number that a float is, as a signed fraction of naturals. Definitions only.
+use Prim.Native.Nat.{ℕ, suc, _+_, _-_, _*_, _≤_, _<_}
+use mathlib.Core.Path.{_≡_}
+use mathlib.Core.Bool.{false, cond}
+use lib.Dec.{T}
+use lib.IntN.{ℤ, pos, negsuc}
+use lib.Ieee.{Float, nan, inf, fin, up, down}
+use lib.Ieee.Positive.{den}
+use lib.Ieee.Scale.{finite}
+use lib.Ieee.Exact.{HasValue}
+
+-- a finite x is (gain x - loss x) / den x, one of the two being 0
+abbrev pub gain : Float → ℕ
+gain nan = 0
+gain (inf s) = 0
+gain (fin s m e) = cond s 0 (m * up e)
+
+abbrev pub loss : Float → ℕ
+loss nan = 0
+loss (inf s) = 0
+loss (fin s m e) = cond s (m * up e) 0
+
+-- x is finite, and x = (p - n) / c, for a c above 0
+pub record IsValue (x : Float) (p n c : ℕ) : Type 0 where
+  pub is-finite : T (finite x)
+  pub equal : gain x * c + n * den x ≡ p * den x + loss x * c
+
+-- x is finite, and |x - (p - n) / c| ≤ r / c, for a c above 0
+pub record Within (x : Float) (p n c r : ℕ) : Type 0 where
+  pub is-finite : T (finite x)
+  pub at-most : gain x * c + n * den x ≤ (p + r) * den x + loss x * c
+  pub at-least : p * den x + loss x * c ≤ gain x * c + (n + r) * den x
+
+-- t is finite, and is the natural number k
+abbrev pub IsWhole : Float → ℕ → Type 0
+IsWhole t k = IsValue t k 0 1
+
+-- an integer z is plusPart z - minusPart z, one of the two being 0
+abbrev pub plusPart : ℤ → ℕ
+plusPart (pos n) = n
+plusPart (negsuc n) = 0
+
+abbrev pub minusPart : ℤ → ℕ
+minusPart (pos n) = 0
+minusPart (negsuc n) = suc n
+
+-- |a - b|
+abbrev pub dist : ℕ → ℕ → ℕ
+dist a b = (a - b) + (b - a)
+
+-- x is finite, its sign is +, and x ≤ n
+pub record UpTo (x : Float) (n : ℕ) : Type 0 where
+  pub top : ℕ
+  pub bottom : ℕ
+  pub bottom-pos : 0 < bottom
+  pub value : HasValue x false top bottom
+  pub at-most : top ≤ n * bottom
+
+-- X 0 + X 1 + .. + X (k - 1)
+unfoldable pub total : (ℕ → ℕ) → ℕ → ℕ
+total X ℕ.zero = 0
+total X (suc k) = total X k + X k

@@ -1,0 +1,94 @@
+// The f32 operations that the corner finder leans on, written out.
+ghost use mathlib.Core.Path.{_≡_};
+ghost use Prim.Native.Nat.{ℕ, _+_, _*_, _<_, _≤_};
+ghost use lib.Ieee.{binary32, nan, ofBits, toBits, toUnsigned};
+ghost use lib.Ieee.Scale.{finite};
+ghost use Rattle.float32.specs.Float32.{abs as absOf, lift, roundHalfAway};
+
+// |x|; a NaN stays a NaN, and -0.0 becomes 0.0.
+pub fn abs(x: f32) -> f32
+    ensures { λ r. ⌜ r ≡ absOf x ⌝ }
+{
+    if x < 0.0 {
+        return -x;
+    }
+    if x == 0.0 {
+        return 0.0;
+    }
+    x
+}
+
+pub fn is_finite(x: f32) -> bool
+    ensures { λ r. ⌜ r ≡ finite x ⌝ }
+{
+    if x < f32::from_bits(0x7f80_0000) {
+        return f32::from_bits(0xff80_0000) < x;
+    }
+    false
+}
+
+// A threshold: NaN and negatives become 0.
+pub fn lifted(x: f32) -> f32
+    ensures { λ r. ⌜ r ≡ lift x ⌝ }
+{
+    if 0.0 < x { x } else { 0.0 }
+}
+
+// The float of any pattern: every NaN pattern gives a NaN.
+pub fn from_bits(n: u32) -> f32
+    ensures { λ r. ⌜ r ≡ ofBits binary32 n ⌝ }
+{
+    if 0x7f80_0000 < n % 0x8000_0000 {
+        return 0.0 / 0.0;
+    }
+    f32::from_bits(n)
+}
+
+// The pattern of a float; 0x7fc00000 stands for every NaN.
+pub fn to_bits(x: f32) -> u32
+    ensures { λ r. ⌜ r ≡ toBits binary32 x ⌝ }
+{
+    if x != x {
+        return 0x7fc0_0000;
+    }
+    f32::to_bits(x)
+}
+
+// Rust's `x as usize`: toward zero, 0 for a NaN and for negatives, the largest usize from 2^64 on.
+pub fn cut_off(x: f32) -> usize
+    ensures { λ r. ⌜ r ≡ toUnsigned 64 x ⌝ }
+{
+    if -1.0 < x {
+        if x < 18446744073709551616.0 {
+            return std::num::truncating_f32_to_u64(x) as usize;
+        }
+        return 18446744073709551615;
+    }
+    0
+}
+
+// A float rounded to a whole number: not negative, negative (by its size), or not judged.
+pub enum Rounded {
+    Natural(usize),
+    Negative(usize),
+    Beyond,
+}
+
+// Rust's `x.round()`: a half goes away from zero. Beyond 2^24 in size, and at a NaN, `Beyond`.
+// Twice a float is exact, so no sum is rounded here.
+pub fn round_half_away(x: f32) -> Rounded
+    ensures { λ r. ⌜ r ≡ roundHalfAway x ⌝ }
+{
+    let a = abs(x);
+    if a <= 16777216.0 {
+        let n = (cut_off(a + a) + 1) / 2;
+        if x < 0.0 {
+            if n == 0 {
+                return Rounded::Natural(0);
+            }
+            return Rounded::Negative(n);
+        }
+        return Rounded::Natural(n);
+    }
+    Rounded::Beyond
+}
