@@ -17,35 +17,21 @@ use lib.Ieee.Exact.{HasValue, round-exact}
 use lib.Ieee.Positive.{num, den, den-pos}
 use Rattle.float32.specs.declared.Rounded.the-variants.{Natural, Negative, Beyond}
 use Rattle.float32.specs.Float32.{zero, abs, nearestWhole, roundHalfAway, signed, judged}
-use Rattle.float32.proofs.Canonical.{rise, rest, up-rise, down-rest, own-small, own-low, fits-plain}
+use Rattle.float32.proofs.Order.{order-of, in-order}
+use Rattle.float32.proofs.Canonical.{fits-plain, far-below, round-shifted}
+use Rattle.float32.proofs.Poly.{poly}
 use Rattle.float32.proofs.Truncation.{cut-value}
 
 -- ---- the sum of a float with itself is exact: it has the value 2 * m * 2 ^ e
-regroup : (m u d t p : ℕ) → d * t ≡ p → (m * u * d + m * u * d) * p ≡ m * (u * t * 2) * (d * d)
-regroup m u d t p h =
-    subst (λ (z : ℕ). (m * u * d + m * u * d) * z ≡ m * (u * t * 2) * (d * d)) h
-    (ap (λ (z : ℕ). z * (d * t)) (sym (two-mul (m * u * d))) ∙ simp (mul-assoc, mul-comm, mul-left-comm))
-
-under : (c m u d t p : ℕ) → d * t ≡ p → m * u ≤ c * d → m * (u * t * 2) ≤ c * 2 * p
-under c m u d t p h l =
-    subst (λ (z : ℕ). m * (u * t * 2) ≤ c * 2 * z) h
-    (le-trans (le-of-eq (simp (mul-assoc, mul-comm, mul-left-comm))) (le-trans (mul-le-mul-right (t * 2) l) (le-of-eq (simp (mul-assoc, mul-comm, mul-left-comm)))))
-
-module _ (m : ℕ) (e : ℤ) (f : fits binary32 (fin false m e) ≡ true) (small : m * up e ≤ 2 ^ 24 * down e) where
-  j : ℕ
-  j = suc (rise e + rest e)
-
-  power : up e * 2 ^ rest e * 2 ≡ 2 ^ j
-  unfolding j
-  power = rw (up-rise e, ← pow-add, ← pow-suc)
-
-  doubled : HasValue (add binary32 (fin false m e) (fin false m e)) false (m * up e * down e + m * up e * down e) (down e * down e)
-  unfolding add sum j
-  doubled =
-      let d = down-rest e (own-low false m e f) in
-      round-exact binary32 false (m * up e * down e + m * up e * down e) (down e * down e) m j (mul-pos (down-pos e) (down-pos e)) (own-small false m e f)
-      (rw (← power) (lt-of-le-of-lt (under (2 ^ 24) m (up e) (down e) (2 ^ rest e) (2 ^ 149) d small) (lit< tt)))
-      (rw (← power) (regroup m (up e) (down e) (2 ^ rest e) (2 ^ 149) d))
+doubled : (m : ℕ) (e : ℤ) → fits binary32 (fin false m e) ≡ true → m * up e ≤ 2 ^ 24 * down e
+    → HasValue (add binary32 (fin false m e) (fin false m e)) false (m * up e * down e + m * up e * down e) (down e * down e)
+unfolding add sum
+doubled m e f small =
+    round-shifted false m e 1 f (far-below (m * up e * 2) (down e) (down-pos e) (omega (arith, small))) (m * up e * down e + m * up e * down e) (down e * down e) (mul-pos (down-pos e) (down-pos e))
+    (twofold (m * up e) (down e))
+  where
+    twofold : (n d : ℕ) → (n * d + n * d) * d ≡ n * 2 * (d * d)
+    twofold n d = simp poly (omega arith)
 
 -- ---- the nearest whole number, a half up, by twice the float
 half-up : (n d : ℕ) → 0 < d → (2 * n / d + 1) / 2 ≡ (2 * n + d) / (2 * d)
@@ -56,14 +42,6 @@ twice n d p = ap (λ (z : ℕ). z / (d * d)) (sym (two-mul (n * d)) ∙ sym (mul
 
 twice-small : (n d : ℕ) → 0 < d → n ≤ 2 ^ 24 * d → 2 * n / d < 2 ^ 26
 twice-small n d p h = div-lt-iff-lt-mul {k = d} {x = 2 * n} {y = 2 ^ 26} p .1 (omega arith)
-
-order-of : (a b : ℕ) (c : Bool) → (ltb a b || (eqb a b && c)) ≡ true → a ≤ b
-order-of a b c h = go (ltb a b) (eqb a b) refl refl h
-  where
-    go : (p q : Bool) → ltb a b ≡ p → eqb a b ≡ q → (p || (q && c)) ≡ true → a ≤ b
-    go true q x y z = omega (arith, ltb-true a b x)
-    go false true x y z = omega (arith, eqb-true a b y)
-    go false false x y z = absurd (true≢false (sym z))
 
 size-within : (m : ℕ) (e : ℤ) → le (fin false m e) (fin false 1 (pos 24)) ≡ true → m * up e ≤ 2 ^ 24 * down e
 unfolding le
@@ -104,13 +82,6 @@ signed-negative ℕ.zero h = absurd (h refl)
 signed-negative (suc k) h = refl
 
 -- ---- the rounding of a value that is a / c, not negative
-in-order : (a b : ℕ) (z : Bool) → a ≤ b → (ltb a b || (eqb a b && (true || z))) ≡ true
-in-order a b z h = elim (eq-or-lt-of-le h) [ inl p ↦ go (ltb a b) (eq-eqb a b p) | inr q ↦ rw (lt-ltb a b q) ]
-  where
-    go : (x : Bool) → eqb a b ≡ true → (x || (eqb a b && (true || z))) ≡ true
-    go true e = refl
-    go false e = rw e
-
 module _ (m : ℕ) (e : ℤ) (a c : ℕ) (p : 0 < c) (l : a ≤ 2 ^ 24 * c) (h : m * up e * c ≡ a * down e) where
   size-le : m * up e ≤ 2 ^ 24 * down e
   size-le =

@@ -1,4 +1,5 @@
 pub mod Poly
+pub mod Order
 pub mod Canonical
 pub mod Classes
 pub mod Magnitude

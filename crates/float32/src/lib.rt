@@ -9,13 +9,7 @@ ghost use Rattle.float32.specs.Float32.{abs as absOf, lift, roundHalfAwa
 pub fn abs(x: f32) -> f32
     ensures { λ r. ⌜ r ≡ absOf x ⌝ }
 {
-    if x < 0.0 {
-        return -x;
-    }
-    if x == 0.0 {
-        return 0.0;
-    }
-    x
+    if x <= 0.0 { 0.0 - x } else { x }
 }
 
 pub fn is_finite(x: f32) -> bool
