@@ -5,9 +5,9 @@ use native.Mathlib.Nat.{eq-or-lt-of-le}
 use mathlib.Core.Path.{_≡_, refl, sym, ap, ap₂, _∙_, subst}
 use mathlib.Core.Logic.{⊎-elim}
 use mathlib.Core.Bool.{Bool, true, false, cond, _||_, false≢true}
-use mathlib.Core.List.{List, [], _∷_, _++_, map, tail-eq-of-cons-eq}
+use mathlib.Core.List.{List, [], _∷_, _++_, map, append-assoc, tail-eq-of-cons-eq}
 use lib.ListN.{length}
-use Rattle.lists.specs.Places.{Place, counted, range, row, rows, block, any, keep, All}
+use Rattle.lists.specs.Places.{Place, counted, range, row, rows, block, any, keep, flatMap, All}
 use Rattle.lists.proofs.Tests.{is-false, or-neither}
 
 -- ---- each member
@@ -49,6 +49,22 @@ all-mapped P g (a ∷ l) h = (h .0, all-mapped P g l (h .1))
 pub all-unmapped : {A B : Type 0} (P : B → Type 0) (g : A → B) (l : List A) → All P (map g l) → All (λ a. P (g a)) l
 all-unmapped P g [] h = tt
 all-unmapped P g (a ∷ l) h = (h .0, all-unmapped P g l (h .1))
+
+-- ---- the lists of each member
+
+module _ {A B : Type 0} where
+  pub flatMap-append : (f : A → List B) (s t : List A) → flatMap f (s ++ t) ≡ flatMap f s ++ flatMap f t
+  flatMap-append f [] t = refl
+  flatMap-append f (a ∷ s) t = ap (λ (l : List B). f a ++ l) (flatMap-append f s t) ∙ sym (append-assoc (f a) (flatMap f s) (flatMap f t))
+
+  pub flatMap-alike : (f g : A → List B) (l : List A) → All (λ a. f a ≡ g a) l → flatMap f l ≡ flatMap g l
+  flatMap-alike f g [] h = refl
+  flatMap-alike f g (a ∷ l) h = ap₂ (λ (s t : List B). s ++ t) (h .0) (flatMap-alike f g l (h .1))
+
+  -- one for each
+  pub flatMap-single : (f : A → List B) (g : A → B) (l : List A) → All (λ a. f a ≡ g a ∷ []) l → flatMap f l ≡ map g l
+  flatMap-single f g [] h = refl
+  flatMap-single f g (a ∷ l) h = ap₂ (λ (s t : List B). s ++ t) (h .0) (flatMap-single f g l (h .1))
 
 -- ---- each place of a block, by its column and row
 

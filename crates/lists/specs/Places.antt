@@ -45,6 +45,11 @@ module _ {A : Type 0} (f : A → Bool) where
   unfoldable pub count : List A → ℕ
   count l = length (keep l)
 
+-- the lists of each member, one behind the other
+abbrev pub flatMap : {A B : Type 0} → (A → List B) → List A → List B
+flatMap f [] = []
+flatMap f (a ∷ l) = f a ++ flatMap f l
+
 -- a fact of each member
 abbrev pub All : {A : Type 0} → (A → Type 0) → List A → Type 0
 All P [] = Unit
