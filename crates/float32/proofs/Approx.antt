@@ -1,24 +1,23 @@
 -- How the operators carry approximations (`Within x p n c r`: |x - (p - n) / c| ≤ r / c), and where they are exact. All in the numbers p, n, c, r of the statement:
 -- no law here shows the format's smallest value, so at literals the conditions are small numbers. Assumes nothing.
 use mathlib.Core.Path.{_≡_, refl, sym, ap, _∙_, subst}
-use mathlib.Core.Logic.{_⊎_, inl, inr, _↔_, ⊎-elim}
-use Prim.Native.Nat.{ℕ, zero, suc, _+_, _-_, _*_, _/_, _%_, _^_, _≤_, _<_}
-use native.Mathlib.Nat.{le-refl, le-trans, le-antisymm, le-of-eq, lt-of-lt-of-le, lt-of-le-of-lt, mul-comm, mul-assoc, mul-left-comm, mul-right-comm, mul-add, add-mul, zero-mul, mul-one, one-mul, mul-zero, add-zero, mul-le-mul-right, mul-le-mul-left, mul-lt-mul-of-pos-right, lt-of-mul-lt-mul-right, le-of-mul-le-mul-right, eq-of-mul-eq-mul-right, mul-pos, eq-zero-or-pos, pow-suc}
+use Prim.Native.Nat.{ℕ, suc, _+_, _-_, _*_, _^_, _≤_, _<_}
+use native.Mathlib.Nat.{le-trans, le-antisymm, le-of-eq, lt-of-lt-of-le, mul-comm, mul-assoc, mul-left-comm, mul-right-comm, add-mul, zero-mul, mul-one, one-mul, add-zero, mul-le-mul-right, mul-le-mul-left, mul-lt-mul-of-pos-right, lt-of-mul-lt-mul-right, le-of-mul-le-mul-right, eq-of-mul-eq-mul-right, mul-pos, pow-suc}
 use native.Mathlib.Omega.{arith}
-use mathlib.Core.Bool.{Bool, true, false, not, cond, true≢false}
-use lib.Dec.{T, eqb, lit<}
-use lib.IntN.{ℤ, pos}
+use mathlib.Core.Bool.{Bool, true, false, cond, true≢false}
+use lib.Dec.{T, lit<}
+use lib.IntN.{pos}
 use lib.Pow.{pow-add, pow-pos, pow-mono}
-use lib.Ieee.{Float, nan, inf, fin, Format, prec, emax, low, up, down, unlike, round, neg, sum, add, sub, mul, div, ofInt, lt}
-use lib.Ieee.Fits.{up-pos, down-pos, reach}
+use lib.Ieee.{Float, nan, inf, fin, Format, prec, emax, low, up, down, round, neg, add, sub, mul, div, ofInt, lt}
+use lib.Ieee.Fits.{down-pos, reach}
 use lib.Ieee.Exact.{HasValue, round-exact}
-use lib.Ieee.Positive.{den, den-pos, first-pos}
-use lib.Ieee.Scale.{grid, overflow, finite, round-under, round-same}
+use lib.Ieee.Positive.{den, den-pos}
+use lib.Ieee.Scale.{grid, finite, round-under, round-same}
 use Rattle.float32.specs.Float32.{abs}
 use Rattle.float32.specs.Value.{gain, loss, IsValue, Within, dist}
 use Rattle.float32.proofs.Poly.{poly}
 use Rattle.float32.proofs.Rounding.{HalfNear, ulp, grid-near, grid-under, round-val}
-use Rattle.float32.proofs.Values.{IsFrac, SignedFrac, of-HasValue, rescale, value-unique, add-frac, sub-frac, within-value, lt-value, spread, mul-frac, div-frac, mul-round}
+use Rattle.float32.proofs.Values.{IsFrac, SignedFrac, of-HasValue, rescale, add-frac, sub-frac, within-value, lt-value, spread, mul-frac, div-frac, mul-round}
 
 -- ---- a float's own fraction
 pub own : (x : Float) → T (finite x) → IsValue x (gain x) (loss x) (den x)
@@ -121,7 +120,7 @@ round-within f s a C p n c r j h K e m = go s e
         let w = near p n (omega arith) in
         within-value (round f false a C) (grid f a C) 0 (2 ^ low f) p n c (r + h) (pow-pos (low f)) (val false) (omega arith) (omega arith)
 
-pub frac-within : (f : Format) (x : Float) (P N D p n c r j h : ℕ) → 0 < D → SignedFrac f x P N D → FracWithin P N D p n c r → Binade f p n c r j h → Within x p n c (r + h)
+frac-within : (f : Format) (x : Float) (P N D p n c r j h : ℕ) → 0 < D → SignedFrac f x P N D → FracWithin P N D p n c r → Binade f p n c r j h → Within x p n c (r + h)
 frac-within f x P N D p n c r j h E s e m =
     subst (λ (z : Float). Within z p n c (r + h)) (sym (s .is))
     (round-within f (s .sign) (s .top) (s .bottom) p n c r j h (s .bottom-pos) (near-frac (s .sign) (s .top) (s .bottom) P N D p n c r E (s .frac) e) m)
@@ -148,7 +147,7 @@ add-within f x y p n q m c r s j h v w o =
     (sum-near (gain x) (loss x) (den x) (gain y) (loss y) (den y) p n q m c r s (v .at-most, v .at-least) (w .at-most, w .at-least))
     o
 
-pub neg-within : (x : Float) (p n c r : ℕ) → Within x p n c r → Within (neg x) n p c r
+neg-within : (x : Float) (p n c r : ℕ) → Within x p n c r → Within (neg x) n p c r
 unfolding neg
 neg-within nan p n c r v = absurd (v .is-finite)
 neg-within (inf s) p n c r v = absurd (v .is-finite)
@@ -188,7 +187,7 @@ div-within f x y k p n c r j h K v w o =
     )
 
 -- ---- the absolute value
-pub dist-mul : (a b k : ℕ) → dist a b * k ≡ dist (a * k) (b * k)
+dist-mul : (a b k : ℕ) → dist a b * k ≡ dist (a * k) (b * k)
 dist-mul a b k = omega (arith, add-mul (a - b) (b - a) k, spread k a b, spread k b a)
 
 -- g / D is the size of (p - n), to r
@@ -281,7 +280,7 @@ round-exact-at f s a C p n i K e d = go s e
         let h : n ≤ p = le-of-mul-le-mul-right (omega arith) K in
         rescale (round f false a C) a 0 C p n (2 ^ i) K (omega arith) (of-HasValue (round f false a C) false a C (val false (p - n) (gap-below p n (2 ^ prec f) h (d .under)) (omega (arith, spread C p n))))
 
-pub frac-exact : (f : Format) (x : Float) (P N D p n i : ℕ) → 0 < D → SignedFrac f x P N D → P * 2 ^ i + n * D ≡ p * D + N * 2 ^ i → Digits f p n i → IsValue x p n (2 ^ i)
+frac-exact : (f : Format) (x : Float) (P N D p n i : ℕ) → 0 < D → SignedFrac f x P N D → P * 2 ^ i + n * D ≡ p * D + N * 2 ^ i → Digits f p n i → IsValue x p n (2 ^ i)
 frac-exact f x P N D p n i E s e d =
     subst (λ (z : Float). IsValue z p n (2 ^ i)) (sym (s .is)) (round-exact-at f (s .sign) (s .top) (s .bottom) p n i (s .bottom-pos) (turn (cond (s .sign) 0 (s .top)) (cond (s .sign) (s .top) 0) (s .bottom) (s .frac)) d)
   where
@@ -291,9 +290,6 @@ frac-exact f x P N D p n i E s e d =
         (let x = simp poly at (ap (λ (z : ℕ). z * 2 ^ i) m) in
         let y = simp poly at (ap (λ (z : ℕ). z * C) e) in
         simp poly (omega arith))
-
-pub add-exact : (f : Format) (x y : Float) (p n q m i : ℕ) → IsValue x p n (2 ^ i) → IsValue y q m (2 ^ i) → Digits f (p + q) (n + m) i → IsValue (add f x y) (p + q) (n + m) (2 ^ i)
-add-exact f x y p n q m i v w d = frac-exact f (add f x y) (p + q) (n + m) (2 ^ i) (p + q) (n + m) i (pow-pos i) (add-frac f x y p n q m (2 ^ i) v w) refl d
 
 pub sub-exact : (f : Format) (x y : Float) (p n q m i : ℕ) → IsValue x p n (2 ^ i) → IsValue y q m (2 ^ i) → Digits f (p + m) (n + q) i → IsValue (sub f x y) (p + m) (n + q) (2 ^ i)
 sub-exact f x y p n q m i v w d = frac-exact f (sub f x y) (p + m) (n + q) (2 ^ i) (p + m) (n + q) i (pow-pos i) (sub-frac f x y p n q m (2 ^ i) v w) refl d

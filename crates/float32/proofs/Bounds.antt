@@ -1,8 +1,7 @@
 -- Bounds by whole numbers go through a rounding unharmed, since the format holds the whole number: sums and quotients of what is not negative. Assumes nothing.
 use mathlib.Core.Path.{_≡_, refl, sym, ap, _∙_, subst}
-use mathlib.Core.Logic.{⊎-elim}
-use Prim.Native.Nat.{ℕ, zero as none, suc, _+_, _-_, _*_, _^_, _≤_, _<_}
-use native.Mathlib.Nat.{le-trans, le-of-eq, lt-of-le-of-lt, mul-comm, mul-assoc, mul-left-comm, mul-right-comm, mul-add, add-mul, mul-one, zero-mul, mul-pos, mul-le-mul-right, mul-le-mul-left, mul-lt-mul-of-pos-right, le-of-mul-le-mul-right, eq-of-mul-eq-mul-right, eq-zero-or-pos}
+use Prim.Native.Nat.{ℕ, zero as none, suc, _+_, _*_, _^_, _≤_, _<_}
+use native.Mathlib.Nat.{le-trans, le-of-eq, lt-of-le-of-lt, mul-comm, mul-right-comm, mul-one, zero-mul, mul-pos, mul-le-mul-right, mul-le-mul-left, mul-lt-mul-of-pos-right, le-of-mul-le-mul-right, eq-of-mul-eq-mul-right}
 use native.Mathlib.Omega.{arith}
 use mathlib.Core.Bool.{Bool, true, false, cond, true≢false}
 use lib.Dec.{T, eqb, lit<}
@@ -18,7 +17,7 @@ use Rattle.float32.specs.Float32.{zero}
 use Rattle.float32.specs.Value.{IsValue, UpTo}
 use Rattle.float32.proofs.Poly.{poly}
 use Rattle.float32.proofs.Rounding.{grid-under, round-val}
-use Rattle.float32.proofs.Values.{of-HasValue, ofInt-value, lt-value, le-not-lt, not-eqb}
+use Rattle.float32.proofs.Values.{of-HasValue, ofInt-value, lt-value, le-value, not-eqb}
 use Rattle.float32.proofs.Units.{add-round}
 use Rattle.float32.proofs.Running.{Nearly, Near}
 
@@ -46,12 +45,8 @@ prec-in Format.binary64 = omega arith
 -- the order of two values over one denominator
 pub value-le : (x y : Float) (a b c : ℕ) → 0 < c → HasValue x false a c → HasValue y false b c → T (le x y) → a ≤ b
 value-le x y a b c C v w h =
-    let i = of-HasValue x false a c v in
-    let j = of-HasValue y false b c w in
-    not-above a b (λ q. le-not-lt x y (i .is-finite) (j .is-finite) .0 h (lt-value y x b 0 a 0 c C j i .1 q))
-  where
-    not-above : (g b : ℕ) → (b + 0 < g + 0 → ⊥) → g ≤ b
-    not-above g b h = ⊎-elim (λ z. omega arith) (λ z. absurd (h (omega arith))) (eq-zero-or-pos (g - b))
+    let k = le-value x y a 0 b 0 c C (of-HasValue x false a c v) (of-HasValue y false b c w) .0 h in
+    omega arith
 
 -- the whole number n over any denominator
 pub whole-over : (x : Float) (n c : ℕ) → HasValue x false n 1 → HasValue x false (n * c) c
@@ -59,7 +54,7 @@ whole-over nan n c h = absurd h
 whole-over (inf s) n c h = absurd h
 whole-over (fin s m e) n c h = (h .0, ap (λ (z : ℕ). z * c) (sym (mul-one (m * up e)) ∙ h .1) ∙ mul-right-comm n (down e) c)
 
-pub round-upto : (f : Format) (a c n : ℕ) → 0 < c → n < 2 ^ prec f → a ≤ n * c → UpTo (round f false a c) n
+round-upto : (f : Format) (a c n : ℕ) → 0 < c → n < 2 ^ prec f → a ≤ n * c → UpTo (round f false a c) n
 unfolding ofInt
 round-upto f a c n C h l =
     let v = round-val f false a c (grid-under f a c (prec f) C (prec-in f) (lt-of-le-of-lt l (mul-lt-mul-of-pos-right h C))) in

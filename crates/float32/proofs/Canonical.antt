@@ -1,6 +1,6 @@
 -- How binary32 writes a finite number: m * 2 ^ e with m odd, or 0 with the exponent 0. So a number is written in one way, and rounding leaves
 -- what the format holds as it is, also times a power of two. Assumes nothing.
-use mathlib.Core.Path.{_≡_, refl, sym, ap, _∙_, subst}
+use mathlib.Core.Path.{_≡_, refl, sym, ap, _∙_}
 use mathlib.Core.Bool.{Bool, true, false, _&&_}
 use Prim.Native.Nat.{ℕ, zero, suc, _+_, _-_, _*_, _%_, _^_, _≤_, _<_}
 use native.Mathlib.Nat.{mul-one, one-mul, mul-assoc, mul-comm, mul-left-comm, mul-right-comm, mul-mul-mul-comm, zero-mul, pow-succ', mul-pos, mul-lt-mul-of-pos-right, eq-of-mul-eq-mul-right, le-of-eq, lt-of-le-of-lt, lt-of-lt-of-le, two-pow-succ, zero-lt-suc}
@@ -15,7 +15,7 @@ use lib.Ieee.Exact.{HasValue, round-exact}
 use Rattle.lists.proofs.Tests.{from-T, and-parts}
 
 -- 2 ^ e is 1 only at 0
-pub unit-power : (e : ℤ) → up e * down e ≡ 1 → e ≡ pos 0
+unit-power : (e : ℤ) → up e * down e ≡ 1 → e ≡ pos 0
 unit-power (pos zero) h = refl
 unit-power (pos (suc k)) h = absurd (omega (arith, mul-one (2 ^ suc k), two-pow-succ k, pow-pos k))
 unit-power (negsuc k) h = absurd (omega (arith, one-mul (2 ^ suc k), two-pow-succ k, pow-pos k))
@@ -37,14 +37,8 @@ own s (suc m) e h =
     let q = and-parts (A && B) C (p .0) in
     (ltb-true (suc m) (2 ^ 24) (and-parts A B (q .0) .1), leb-true (down e) (2 ^ 149) (q .1), ltb-true (suc m * up e) (2 ^ 128 * down e) (p .1))
 
-pub own-small : (s : Bool) (m : ℕ) (e : ℤ) → fits binary32 (fin s m e) ≡ true → m < 2 ^ 24
-own-small s m e h = own s m e h .0
-
 pub own-low : (s : Bool) (m : ℕ) (e : ℤ) → fits binary32 (fin s m e) ≡ true → down e ≤ 2 ^ 149
 own-low s m e h = own s m e h .1
-
-pub own-high : (s : Bool) (m : ℕ) (e : ℤ) → fits binary32 (fin s m e) ≡ true → m * up e < 2 ^ 128 * down e
-own-high s m e h = own s m e h .2
 
 own-odd : (s : Bool) (m : ℕ) (e : ℤ) → fits binary32 (fin s (suc m) e) ≡ true → suc m % 2 ≡ 1
 unfolding fits
@@ -135,7 +129,7 @@ written-once m n e g o p h l q =
     (r .0, place-unique e g h l (r .1))
 
 -- X / E and Y / G are both a / c
-pub crossed : (X E Y G a c : ℕ) → 0 < c → X * c ≡ a * E → Y * c ≡ a * G → X * G ≡ Y * E
+crossed : (X E Y G a c : ℕ) → 0 < c → X * c ≡ a * E → Y * c ≡ a * G → X * G ≡ Y * E
 crossed X E Y G a c C h k =
     eq-of-mul-eq-mul-right c C (X * G) (Y * E)
     (mul-right-comm X G c ∙ ap (λ (z : ℕ). z * G) h ∙ mul-right-comm a E G ∙ ap (λ (z : ℕ). z * E) (sym k) ∙ mul-right-comm Y c E)
@@ -176,7 +170,7 @@ module _ (s : Bool) (m : ℕ) (e : ℤ) (k : ℕ) (f : fits binary32 (fin s m e)
   pub round-shifted : (num den : ℕ) → 0 < den → num * down e ≡ m * up e * 2 ^ k * den → HasValue (round binary32 s num den) s num den
   round-shifted num den p h =
       let r = down-rest e (own-low s m e f) in
-      round-exact binary32 s num den m (place e + k) p (own-small s m e f)
+      round-exact binary32 s num den m (place e + k) p (own s m e f .0)
       (bound (m * up e * 2 ^ k) (down e) (2 ^ rest e) (2 ^ 128) (2 ^ 149) (m * 2 ^ (place e + k)) (pow-pos (rest e)) r shifted small)
       (equal num den (m * up e * 2 ^ k) (down e) (2 ^ rest e) (2 ^ 149) (m * 2 ^ (place e + k)) r shifted h)
     where
@@ -193,5 +187,5 @@ far-below n d p h = lt-of-le-of-lt h (mul-lt-mul-of-pos-right (lit< tt) p)
 pub round-own : (s : Bool) (m : ℕ) (e : ℤ) → fits binary32 (fin s m e) ≡ true → round binary32 s (m * up e) (down e) ≡ fin s m e
 round-own s m e f =
     same-float (round binary32 s (m * up e) (down e)) (fin s m e) s (m * up e) (down e) (down-pos e) (from-T _ (round-fits binary32 s (m * up e) (down e))) f
-    (round-shifted s m e 0 f (rw mul-one (own-high s m e f)) (m * up e) (down e) (down-pos e) (rw mul-one refl))
+    (round-shifted s m e 0 f (rw mul-one (own s m e f .2)) (m * up e) (down e) (down-pos e) (rw mul-one refl))
     (refl, refl)

@@ -1,7 +1,7 @@
 -- Rounding at the places where other rules differ, computed from the definition. Assumes nothing.
 use mathlib.Core.Path.{_≡_, refl}
 use lib.Ieee.{binary32, ofBits, inf, le}
-use mathlib.Core.Bool.{true, false}
+use mathlib.Core.Bool.{false}
 use Rattle.float32.specs.declared.Rounded.the-variants.{Natural, Negative, Beyond}
 use Rattle.float32.specs.Float32.{roundHalfAway}
 

@@ -1,6 +1,6 @@
 -- Finite values, NaN and its bit patterns, and the lifted threshold, by the cases of a value. Assumes nothing.
 use mathlib.Core.Path.{_≡_, refl, sym, _∙_, subst}
-use mathlib.Core.Bool.{Bool, true, false, not, true≢false}
+use mathlib.Core.Bool.{true, false, not, true≢false}
 use Prim.Native.Nat.{ℕ, _%_, _≤_, _<_}
 use lib.Dec.{T, lt→ltb}
 use borrow.Author.Tests.{le-ltb}

@@ -1,5 +1,4 @@
 pub mod Poly
-pub mod Order
 pub mod Canonical
 pub mod Classes
 pub mod Magnitude

@@ -1,9 +1,8 @@
 -- A running sum of floats that are not negative, against the exact sum: the relative error grows by one part in 2 ^ 24 - 2048 with each addition, up to 2048 of them.
 -- Numbers of units throughout (`Units`). Assumes nothing.
-use mathlib.Core.Path.{_≡_, refl, ap, subst}
-use mathlib.Core.Logic.{⊎-elim}
+use mathlib.Core.Path.{_≡_, refl, subst}
 use Prim.Native.Nat.{ℕ, zero, suc, _+_, _*_, _^_, _≤_, _<_}
-use native.Mathlib.Nat.{le-trans, le-of-lt, lt-of-le-of-lt, lt-of-lt-of-le, mul-add, add-mul, mul-le-mul-right, mul-le-mul-left, mul-suc, suc-mul, mul-lt-mul-of-pos-right, eq-or-lt-of-le, le-of-suc-le-suc}
+use native.Mathlib.Nat.{le-trans, le-of-lt, lt-of-le-of-lt, lt-of-lt-of-le, add-mul, mul-le-mul-right, mul-le-mul-left, mul-suc, mul-lt-mul-of-pos-right}
 use native.Mathlib.Omega.{arith}
 use mathlib.Core.Bool.{false}
 use lib.Dec.{lit<, lit≤}
@@ -42,7 +41,7 @@ sum-near : (A B X Y c : ℕ) → Near A X c → Near B Y c → Near (A + B) (X +
 sum-near A B X Y c n m = omega (arith, add-mul X Y c)
 
 -- ---- no overflow: an exact value up to 2 ^ 60
-abbrev pub Modest : ℕ → Type 0
+abbrev Modest : ℕ → Type 0
 Modest X = X ≤ 2 ^ 60 * 2 ^ low binary32
 
 small-of : (A X c L : ℕ) → 0 < L → c ≤ 2048 → Near A X c → X ≤ 2 ^ 60 * L → A < 2 ^ 127 * L
@@ -55,7 +54,7 @@ small-of A X c L K h n m =
 below : (c : ℕ) → c < 2048 → c ≤ 2048
 below c h = omega arith
 
-pub add-nearly : (x y : Float) (X Y c d : ℕ) → d ≤ c → c < 2048 → Modest (X + Y) → Nearly x X c → Nearly y Y d → Nearly (add binary32 x y) (X + Y) (suc c)
+add-nearly : (x y : Float) (X Y c d : ℕ) → d ≤ c → c < 2048 → Modest (X + Y) → Nearly x X c → Nearly y Y d → Nearly (add binary32 x y) (X + Y) (suc c)
 add-nearly x y X Y c d l h m v w =
     let n = sum-near (v .size) (w .size) X Y c (v .near) (looser (w .size) Y d c l (w .near)) in
     record {

@@ -3,7 +3,7 @@
 use mathlib.Core.Path.{_≡_, sym, ap, _∙_, subst}
 use mathlib.Core.Logic.{⊎-elim}
 use Prim.Native.Nat.{ℕ, suc, _+_, _-_, _*_, _/_, _^_, _≤_, _<_}
-use native.Mathlib.Nat.{le-trans, le-of-eq, lt-of-lt-of-le, mul-comm, mul-assoc, mul-left-comm, mul-add, add-mul, one-mul, mul-one, le-of-mul-le-mul-right, eq-of-mul-eq-mul-right, mul-pos, mul-div-cancel, eq-zero-or-pos}
+use native.Mathlib.Nat.{le-trans, le-of-eq, lt-of-lt-of-le, one-mul, mul-one, le-of-mul-le-mul-right, eq-of-mul-eq-mul-right, mul-pos, mul-div-cancel, eq-zero-or-pos}
 use native.Mathlib.Omega.{arith}
 use mathlib.Core.Bool.{true, false, true≢false}
 use lib.Dec.{lit<}
@@ -74,10 +74,10 @@ abbrev pub Units : Format → Float → ℕ → Type 0
 Units f x g = HasValue x false g (2 ^ low f)
 
 -- far below overflow
-abbrev pub Small : Format → ℕ → Type 0
+abbrev Small : Format → ℕ → Type 0
 Small f s = s < 2 ^ emax f * 2 ^ low f
 
-pub round-units : (f : Format) (s : ℕ) → Small f s → Units f (round f false s (2 ^ low f)) (rounded f s)
+round-units : (f : Format) (s : ℕ) → Small f s → Units f (round f false s (2 ^ low f)) (rounded f s)
 round-units f s h = round-val f false s (2 ^ low f) (grid-under f s (2 ^ low f) (emax f) (pow-pos (low f)) (same (emax f)) h)
   where
     same : (e : ℕ) → e ≤ e

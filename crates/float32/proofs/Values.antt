@@ -2,21 +2,20 @@
 -- `IsValue x p n c` is a difference, good for sums: no law on it goes by the signs. Assumes nothing.
 use mathlib.Core.Path.{_≡_, refl, sym, ap, _∙_, subst}
 use mathlib.Core.Logic.{_⊎_, inl, inr, _↔_, ⊎-elim}
-use Prim.Native.Nat.{ℕ, zero, suc, _+_, _-_, _*_, _/_, _%_, _^_, _≤_, _<_}
-use native.Mathlib.Nat.{le-trans, le-of-eq, le-antisymm, le-of-lt, lt-of-lt-of-le, lt-of-le-of-lt, mul-comm, mul-assoc, mul-left-comm, mul-right-comm, mul-add, add-mul, zero-mul, mul-zero, one-mul, mul-one, mul-le-mul-right, mul-le-mul-left, mul-lt-mul-of-pos-right, lt-of-mul-lt-mul-right, le-of-mul-le-mul-right, eq-of-mul-eq-mul-right, mul-pos, mul-mul-mul-comm, mul-sub, lt-irrefl, eq-or-lt-of-le, eq-zero-or-pos}
+use Prim.Native.Nat.{ℕ, zero, suc, _+_, _-_, _*_, _^_, _≤_, _<_}
+use native.Mathlib.Nat.{le-trans, le-of-eq, le-antisymm, le-of-lt, lt-of-lt-of-le, mul-comm, mul-right-comm, mul-add, add-mul, zero-mul, mul-zero, mul-one, mul-le-mul-right, mul-lt-mul-of-pos-right, lt-of-mul-lt-mul-right, le-of-mul-le-mul-right, eq-of-mul-eq-mul-right, mul-pos, mul-mul-mul-comm, mul-sub, lt-irrefl, eq-or-lt-of-le, eq-zero-or-pos}
 use native.Mathlib.Omega.{arith}
-use mathlib.Core.Bool.{Bool, true, false, not, _&&_, _||_, Bool·beq, cond, true≢false}
-use lib.Dec.{T, ltb, eqb, ltb→lt, lt→ltb, nltb→le, not-T, eqb·suc-zero, eqb→eq}
-use lib.IntN.{ℤ, pos}
+use mathlib.Core.Bool.{Bool, true, false, not, _&&_, _||_, cond, true≢false}
+use lib.Dec.{T, ltb, eqb, ltb→lt, lt→ltb, nltb→le, eqb·suc-zero, eqb→eq}
+use lib.IntN.{pos}
 use lib.Pow.{pow-add, pow-pos, pow-mono}
 use lib.Ieee.{Float, nan, inf, fin, Format, binary32, binary64, prec, emax, low, up, down, unlike, round, neg, sum, add, sub, mul, div, ofInt, lt, eq, le}
-use lib.Ieee.Fits.{up-pos, down-pos, reach, and-i, and-l, and-r, eq→eqb}
+use lib.Ieee.Fits.{down-pos, reach, and-i, and-l, and-r, eq→eqb}
 use lib.Ieee.Exact.{HasValue, round-exact}
 use lib.Ieee.Positive.{den, den-pos, first-pos}
-use lib.Ieee.Scale.{grid, overflow, finite, round-same}
+use lib.Ieee.Scale.{finite, round-same}
 use Rattle.float32.specs.Value.{gain, loss, IsValue, Within}
 use Rattle.float32.proofs.Poly.{poly}
-use Rattle.float32.proofs.Rounding.{HalfNear}
 
 -- ---- ±a / c = (p - n) / d
 abbrev pub IsFrac : Bool → ℕ → ℕ → ℕ → ℕ → ℕ → Type 0
@@ -79,7 +78,7 @@ down-past a b c p n q m d h e k = omega (arith, spread d b a, mul-le-mul-right d
 swap : (s : Bool) (a c p n q m d : ℕ) → IsFrac s a c (q + p) (m + n) d → IsFrac s a c (p + q) (n + m) d
 swap s a c p n q m d e = omega (arith, add-mul p q c, add-mul n m c, add-mul q p c, add-mul m n c)
 
-pub sum-frac : (f : Format) (s : Bool) (a : ℕ) (t : Bool) (b c p n q m d : ℕ) → 0 < c → IsFrac s a c p n d → IsFrac t b c q m d → SignedFrac f (sum f s a t b c) (p + q) (n + m) d
+sum-frac : (f : Format) (s : Bool) (a : ℕ) (t : Bool) (b c p n q m d : ℕ) → 0 < c → IsFrac s a c p n d → IsFrac t b c q m d → SignedFrac f (sum f s a t b c) (p + q) (n + m) d
 unfolding sum
 sum-frac f true a true b c p n q m d C e k = record { sign = true; top = a + b; bottom = c; bottom-pos = C; is = refl; frac = alike true a b c p n q m d e k }
 sum-frac f false a false b c p n q m d C e k = record { sign = false; top = a + b; bottom = c; bottom-pos = C; is = refl; frac = alike false a b c p n q m d e k }
@@ -121,7 +120,7 @@ add-frac f (fin s a i) (fin t b o) p n q m d e k =
     (times s (a * up i) (down i) d p n (down o) (e .equal))
     (subst (λ (z : ℕ). IsFrac t (b * up o * down i) z q m d) (mul-comm (down o) (down i)) (times t (b * up o) (down o) d q m (down i) (k .equal)))
 
-pub neg-value : (x : Float) (p n c : ℕ) → IsValue x p n c → IsValue (neg x) n p c
+neg-value : (x : Float) (p n c : ℕ) → IsValue x p n c → IsValue (neg x) n p c
 unfolding neg
 neg-value nan p n c e = absurd (e .is-finite)
 neg-value (inf s) p n c e = absurd (e .is-finite)
@@ -175,7 +174,7 @@ quotient-frac : (s : Bool) (X D Y E k p n c : ℕ) → Y * 1 ≡ k * E → IsFra
 quotient-frac true X D Y E k p n c v e = let x = simp poly at (ap (λ (z : ℕ). z * (k * E)) e) in let y : Y ≡ k * E = sym (mul-one Y) ∙ v in rw y (simp poly (omega arith))
 quotient-frac false X D Y E k p n c v e = let x = simp poly at (ap (λ (z : ℕ). z * (k * E)) e) in let y : Y ≡ k * E = sym (mul-one Y) ∙ v in rw y (simp poly (omega arith))
 
-same-sign : (s : Bool) → unlike s false ≡ s
+pub same-sign : (s : Bool) → unlike s false ≡ s
 same-sign true = refl
 same-sign false = refl
 
@@ -327,16 +326,31 @@ eq-parts (fin true m e) (fin false n d) h k = let o = level-other (m * up e * do
 at-most : (a b : ℕ) → (b < a → ⊥) → a ≤ b
 at-most a b h = ⊎-elim (λ z. omega arith) (λ z. absurd (h (omega arith))) (eq-zero-or-pos (a - b))
 
-pub le-not-lt : (x y : Float) → T (finite x) → T (finite y) → T (le x y) ↔ (T (lt y x) → ⊥)
+le-parts : (x y : Float) → T (finite x) → T (finite y) → (T (le x y) ↔ (gain x * den y + loss y * den x ≤ gain y * den x + loss x * den y))
 unfolding le
-le-not-lt x y h k =
+le-parts x y h k =
     let a = lt-parts x y h k in
     let b = eq-parts x y h k in
-    let c = lt-parts y x k h in
     let o = or-iff (lt x y) (eq x y) in (
-      λ t l. ⊎-elim (λ p. omega (arith, a .0 p, c .0 l)) (λ p. omega (arith, b .0 p, c .0 l)) (o .0 t),
-      λ n. o .1 (⊎-elim (λ p. inr (b .1 p)) (λ p. inl (a .1 p)) (eq-or-lt-of-le (at-most (gain x * den y + loss y * den x) (gain y * den x + loss x * den y) (λ l. n (c .1 (omega arith)))))),
+      λ t. ⊎-elim (λ p. le-of-lt (a .0 p)) (λ p. le-of-eq (b .0 p)) (o .0 t),
+      λ l. o .1 (⊎-elim (λ p. inr (b .1 p)) (λ p. inl (a .1 p)) (eq-or-lt-of-le l)),
     )
+
+-- an order turned round
+turned : (a b c d : ℕ) → (b < a) ↔ (d < c) → (a ≤ b) ↔ (c ≤ d)
+turned a b c d i = (λ l. at-most c d (λ z. omega (arith, i .1 z)), λ l. at-most a b (λ z. omega (arith, i .0 z)))
+
+pub le-value : (x y : Float) (p n q m c : ℕ) → 0 < c → IsValue x p n c → IsValue y q m c → T (le x y) ↔ (p + m ≤ q + n)
+le-value x y p n q m c C e k =
+    let a = le-parts x y (e .is-finite) (k .is-finite) in
+    let b = turned (gain x * den y + loss y * den x) (gain y * den x + loss x * den y) (p + m) (q + n) (order-eq (gain y) (loss y) (den y) (gain x) (loss x) (den x) q m p n c C (den-pos y) (den-pos x) (k .equal) (e .equal)) in
+    (λ t. b .0 (a .0 t), λ l. a .1 (b .1 l))
+
+pub le-not-lt : (x y : Float) → T (finite x) → T (finite y) → T (le x y) ↔ (T (lt y x) → ⊥)
+le-not-lt x y h k =
+    let a = le-parts x y h k in
+    let b = lt-parts y x k h in
+    (λ t l. omega (arith, a .0 t, b .0 l), λ n. a .1 (at-most _ _ (λ l. n (b .1 (omega (arith, l))))))
 
 -- ---- near another fraction
 within-le : (G L D c d p n q m : ℕ) → 0 < c → G * c + n * D ≡ p * D + L * c → p * d + m * c ≤ q * c + n * d → G * d + m * D ≤ q * D + L * d
