@@ -1,4 +1,4 @@
--- The number that a float is, as a signed fraction of naturals. Definitions only.
+-- The number that a float is, as a signed fraction of naturals; bounds and sums of naturals that go with it.
 use Prim.Native.Nat.{ℕ, suc, _+_, _-_, _*_, _≤_, _<_}
 use mathlib.Core.Path.{_≡_}
 use mathlib.Core.Bool.{false, cond}
@@ -9,7 +9,7 @@ use lib.Ieee.Positive.{den}
 use lib.Ieee.Scale.{finite}
 use lib.Ieee.Exact.{HasValue}
 
--- a finite x is (gain x - loss x) / den x, one of the two being 0
+-- ---- a finite x is (gain x - loss x) / den x, one of the two being 0
 abbrev pub gain : Float → ℕ
 gain nan = 0
 gain (inf s) = 0
@@ -31,10 +31,19 @@ pub record Within (x : Float) (p n c r : ℕ) : Type 0 where
   pub at-most : gain x * c + n * den x ≤ (p + r) * den x + loss x * c
   pub at-least : p * den x + loss x * c ≤ gain x * c + (n + r) * den x
 
--- t is finite, and is the natural number k
+-- x is finite, and is the natural number k
 abbrev pub IsWhole : Float → ℕ → Type 0
-IsWhole t k = IsValue t k 0 1
+IsWhole x k = IsValue x k 0 1
 
+-- x is finite, its sign is +, and x ≤ n
+pub record UpTo (x : Float) (n : ℕ) : Type 0 where
+  pub top : ℕ
+  pub bottom : ℕ
+  pub bottom-pos : 0 < bottom
+  pub value : HasValue x false top bottom
+  pub at-most : top ≤ n * bottom
+
+-- ---- integers and naturals
 -- an integer z is plusPart z - minusPart z, one of the two being 0
 abbrev pub plusPart : ℤ → ℕ
 plusPart (pos n) = n
@@ -48,15 +57,7 @@ minusPart (negsuc n) = suc n
 abbrev pub dist : ℕ → ℕ → ℕ
 dist a b = (a - b) + (b - a)
 
--- x is finite, its sign is +, and x ≤ n
-pub record UpTo (x : Float) (n : ℕ) : Type 0 where
-  pub top : ℕ
-  pub bottom : ℕ
-  pub bottom-pos : 0 < bottom
-  pub value : HasValue x false top bottom
-  pub at-most : top ≤ n * bottom
-
--- X 0 + X 1 + .. + X (k - 1)
+-- f 0 + f 1 + .. + f (n - 1)
 unfoldable pub total : (ℕ → ℕ) → ℕ → ℕ
-total X ℕ.zero = 0
-total X (suc k) = total X k + X k
+total f ℕ.zero = 0
+total f (suc n) = total f n + f n

@@ -1,11 +1,10 @@
-// The f32 operations that the corner finder leans on, written out.
+// Operations on f32 that Rust's `std` has and Rattle's has not, or not for every value: each is total.
 ghost use mathlib.Core.Path.{_≡_};
-ghost use Prim.Native.Nat.{ℕ, _+_, _*_, _<_, _≤_};
-ghost use lib.Ieee.{binary32, nan, ofBits, toBits, toUnsigned};
+ghost use lib.Ieee.{binary32, ofBits, toBits, toUnsigned};
 ghost use lib.Ieee.Scale.{finite};
 ghost use Rattle.float32.specs.Float32.{abs as absOf, lift, roundHalfAway};
 
-// |x|; a NaN stays a NaN, and -0.0 becomes 0.0.
+// |x|: -0.0 becomes 0.0, and a NaN stays. One comparison, which a loop over many values does side by side.
 pub fn abs(x: f32) -> f32
     ensures { λ r. ⌜ r ≡ absOf x ⌝ }
 {
@@ -21,14 +20,14 @@ pub fn is_finite(x: f32) -> bool
     false
 }
 
-// A threshold: NaN and negatives become 0.
+// x where it is above 0, else 0.0: NaN and negatives become 0.
 pub fn lifted(x: f32) -> f32
     ensures { λ r. ⌜ r ≡ lift x ⌝ }
 {
     if 0.0 < x { x } else { 0.0 }
 }
 
-// The float of any pattern: every NaN pattern gives a NaN.
+// The float of any 32 bits. `f32::from_bits` is undefined at a NaN's pattern: each of them gives the one NaN.
 pub fn from_bits(n: u32) -> f32
     ensures { λ r. ⌜ r ≡ ofBits binary32 n ⌝ }
 {
@@ -38,7 +37,7 @@ pub fn from_bits(n: u32) -> f32
     f32::from_bits(n)
 }
 
-// The pattern of a float; 0x7fc00000 stands for every NaN.
+// The 32 bits of a float; 0x7fc00000 for a NaN.
 pub fn to_bits(x: f32) -> u32
     ensures { λ r. ⌜ r ≡ toBits binary32 x ⌝ }
 {
@@ -48,7 +47,7 @@ pub fn to_bits(x: f32) -> u32
     f32::to_bits(x)
 }
 
-// Rust's `x as usize`: toward zero, 0 for a NaN and for negatives, the largest usize from 2^64 on.
+// Rust's `x as usize`: cut off toward zero, 0 for a NaN and for negatives, the largest usize from 2^64 on.
 pub fn cut_off(x: f32) -> usize
     ensures { λ r. ⌜ r ≡ toUnsigned 64 x ⌝ }
 {
@@ -61,15 +60,15 @@ pub fn cut_off(x: f32) -> usize
     0
 }
 
-// A float rounded to a whole number: not negative, negative (by its size), or not judged.
+// A float rounded to a whole number: not negative, negative (its size), or not judged.
 pub enum Rounded {
     Natural(usize),
     Negative(usize),
     Beyond,
 }
 
-// Rust's `x.round()`: a half goes away from zero. Beyond 2^24 in size, and at a NaN, `Beyond`.
-// Twice a float is exact, so no sum is rounded here.
+// Rust's `x.round()`: a half goes away from zero. Above 2^24 in size, and at a NaN, `Beyond`.
+// Twice a float is exact; x + 0.5 is not, and would round 0.49999997 to 1.
 pub fn round_half_away(x: f32) -> Rounded
     ensures { λ r. ⌜ r ≡ roundHalfAway x ⌝ }
 {
