@@ -198,8 +198,13 @@ pub abs-within : (x : Float) (p n c r : ℕ) → Within x p n c r → Within (ab
 unfolding abs
 abs-within nan p n c r w = absurd (w .is-finite)
 abs-within (inf s) p n c r w = absurd (w .is-finite)
-abs-within (fin true m i) p n c r w = let z = size-near (m * up i * c) (down i) n p r (omega (arith, w .at-least)) (omega (arith, w .at-most)) in record { is-finite = tt; at-most = omega (arith, dist-mul p n (down i), dist-mul n p (down i), add-mul (dist p n) r (down i), add-mul (dist n p) r (down i)); at-least = omega (arith, dist-mul p n (down i), dist-mul n p (down i)) }
-abs-within (fin false m i) p n c r w = let z = size-near (m * up i * c) (down i) p n r (omega (arith, w .at-most)) (omega (arith, w .at-least)) in record { is-finite = tt; at-most = omega arith; at-least = omega arith }
+abs-within (fin true m i) p n c r w =
+    let z = size-near (m * up i * c) (down i) n p r (omega (arith, w .at-least)) (omega (arith, w .at-most)) in
+    let e : dist n p ≡ dist p n = omega arith in
+    subst (λ (q : ℕ). Within (fin false m i) q 0 c r) e (record { is-finite = tt; at-most = omega arith; at-least = omega arith })
+abs-within (fin false m i) p n c r w =
+    let z = size-near (m * up i * c) (down i) p n r (omega (arith, w .at-most)) (omega (arith, w .at-least)) in
+    record { is-finite = tt; at-most = omega arith; at-least = omega arith }
 
 -- ---- an exact value is an approximation, and one approximation implies another
 pub value-within : (x : Float) (p n c : ℕ) → IsValue x p n c → Within x p n c 0

@@ -25,29 +25,24 @@ pub own-zero : (s : Bool) (e : ℤ) → fits binary32 (fin s zero e) ≡ true �
 unfolding fits
 own-zero s e h = unit-power e (eqb-true (up e * down e) 1 h)
 
-own : (s : Bool) (m : ℕ) (e : ℤ) → fits binary32 (fin s m e) ≡ true → (m < 2 ^ 24) × (down e ≤ 2 ^ 149) × (m * up e < 2 ^ 128 * down e)
+own-parts : (s : Bool) (m : ℕ) (e : ℤ) → fits binary32 (fin s (suc m) e) ≡ true → (suc m % 2 ≡ 1) × (suc m < 2 ^ 24) × (down e ≤ 2 ^ 149) × (suc m * up e < 2 ^ 128 * down e)
 unfolding fits
-own s zero e h = rw (own-zero s e h) (pow-pos 24, lit≤ tt, pow-pos 128)
-own s (suc m) e h =
+own-parts s m e h =
     let A = eqb (suc m % 2) 1 in
     let B = ltb (suc m) (2 ^ 24) in
     let C = leb (down e) (2 ^ 149) in
     let D = ltb (suc m * up e) (2 ^ 128 * down e) in
     let p = and-parts (A && B && C) D h in
     let q = and-parts (A && B) C (p .0) in
-    (ltb-true (suc m) (2 ^ 24) (and-parts A B (q .0) .1), leb-true (down e) (2 ^ 149) (q .1), ltb-true (suc m * up e) (2 ^ 128 * down e) (p .1))
+    let r = and-parts A B (q .0) in
+    (eqb-true (suc m % 2) 1 (r .0), ltb-true (suc m) (2 ^ 24) (r .1), leb-true (down e) (2 ^ 149) (q .1), ltb-true (suc m * up e) (2 ^ 128 * down e) (p .1))
+
+own : (s : Bool) (m : ℕ) (e : ℤ) → fits binary32 (fin s m e) ≡ true → (m < 2 ^ 24) × (down e ≤ 2 ^ 149) × (m * up e < 2 ^ 128 * down e)
+own s zero e h = rw (own-zero s e h) (pow-pos 24, lit≤ tt, pow-pos 128)
+own s (suc m) e h = let p = own-parts s m e h in (p .1, p .2, p .3)
 
 pub own-low : (s : Bool) (m : ℕ) (e : ℤ) → fits binary32 (fin s m e) ≡ true → down e ≤ 2 ^ 149
 own-low s m e h = own s m e h .1
-
-own-odd : (s : Bool) (m : ℕ) (e : ℤ) → fits binary32 (fin s (suc m) e) ≡ true → suc m % 2 ≡ 1
-unfolding fits
-own-odd s m e h =
-    let A = eqb (suc m % 2) 1 in
-    let B = ltb (suc m) (2 ^ 24) in
-    let C = leb (down e) (2 ^ 149) in
-    let D = ltb (suc m * up e) (2 ^ 128 * down e) in
-    eqb-true (suc m % 2) 1 (and-parts A B (and-parts (A && B) C (and-parts (A && B && C) D h .0) .0) .0)
 
 -- `fits` asks nothing of the sign
 pub fits-plain : (s : Bool) (m : ℕ) (e : ℤ) → fits binary32 (fin s m e) ≡ fits binary32 (fin false m e)
@@ -56,7 +51,7 @@ fits-plain s zero e = refl
 fits-plain s (suc m) e = refl
 
 -- ---- 2 ^ e in units of 2 ^ -149, the format's smallest value: 2 ^ place e of them. Where the format holds 2 ^ e, rest e digits are free below it
-pub place : ℤ → ℕ
+place : ℤ → ℕ
 place (pos k) = k + 149
 place (negsuc k) = 149 - suc k
 
@@ -155,7 +150,7 @@ same-float (fin t m e) (fin u n d) s a c C f g h k = go m n f g (crossed (m * up
     go zero (suc n) f g q = absurd (not-none n d e (sym q))
     go (suc m) zero f g q = absurd (not-none m e d q)
     go (suc m) (suc n) f g q =
-        let r = written-once (suc m) (suc n) e d (own-odd t m e f) (own-odd u n d g) (own-low t (suc m) e f) (own-low u (suc n) d g) q in
+        let r = written-once (suc m) (suc n) e d (own-parts t m e f .0) (own-parts u n d g .0) (own-low t (suc m) e f) (own-low u (suc n) d g) q in
         rw (signs, r .0, r .1)
 
 -- ---- m * 2 ^ e, times a power of two without overflow, is rounded to itself

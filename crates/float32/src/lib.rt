@@ -4,7 +4,7 @@ ghost use lib.Ieee.{binary32, ofBits, toBits, toUnsigned};
 ghost use lib.Ieee.Scale.{finite};
 ghost use Rattle.float32.specs.Float32.{abs as absOf, lift, roundHalfAway};
 
-// |x|: -0.0 becomes 0.0, and a NaN stays. One comparison, which a loop over many values does side by side.
+// |x|: -0.0 becomes 0.0, and a NaN stays. One comparison, so that a loop over many values vectorises.
 pub fn abs(x: f32) -> f32
     ensures { λ r. ⌜ r ≡ absOf x ⌝ }
 {
