@@ -1,0 +1,5 @@
+pub mod Window
+pub mod Axis
+pub mod Outcomes
+pub mod Judgement
+pub mod Promised

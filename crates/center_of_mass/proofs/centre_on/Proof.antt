@@ -1,0 +1,50 @@
+-- `center_of_mass::centre_on` meets its contract, test by test. Assumes nothing.
+use mathlib.Core.Path.{sym, ap, _∙_}
+use native.Mathlib.Omega.{arith}
+use Rattle.center_of_mass.specs.CenterOfMass.{placed, centreOn}
+use Rattle.center_of_mass.proofs.Axis.{not-natural, too-low, too-high, in-place}
+use borrow.Author.Needs.{needs}
+use Rattle.center_of_mass.proofs.centre_on.Statement.{statement}
+use Rattle.center_of_mass.proofs.centre_on.Tie as tie
+
+round-half-away-requires : tie.Need-round-half-away-requires
+round-half-away-requires c κs = search needs
+
+enum-known-nearest : tie.Need-enum-known-nearest
+enum-known-nearest c = search needs
+
+returns : tie.Need-returns
+unfolding centreOn
+returns c = not-natural (c .before .before .args .r) (c .before .before .args .side) (c .before .round-half-away .result) (c .match .keys2) ∙ ap (placed _ _) (c .before .round-half-away .ensures)
+
+returns-2 : tie.Need-returns-2
+unfolding centreOn
+returns-2 c = too-low _ _ _ (c .if1 .taken) ∙ ap (placed _ _) (sym (c .before .before .nearest .given .1) ∙ c .before .before .before .before .round-half-away .ensures)
+
+returns-3 : tie.Need-returns-3
+unfolding centreOn
+returns-3 c = too-high _ _ _ (c .before .if1 .left) (omega arith) ∙ ap (placed _ _) (sym (c .before .before .before .nearest .given .1) ∙ c .before .before .before .before .before .round-half-away .ensures)
+
+sub-if3 : tie.Need-sub-if3
+sub-if3 c = search needs
+
+returns-4 : tie.Need-returns-4
+unfolding centreOn
+returns-4 c = too-high _ _ _ (c .before .before .if1 .left) (omega arith) ∙ ap (placed _ _) (sym (c .before .before .before .before .nearest .given .1) ∙ c .before .before .before .before .before .before .round-half-away .ensures)
+
+returns-5 : tie.Need-returns-5
+unfolding centreOn
+returns-5 c = in-place _ _ _ (c .before .before .if1 .left) (omega arith) ∙ ap (placed _ _) (sym (c .before .before .before .before .nearest .given .1) ∙ c .before .before .before .before .before .before .round-half-away .ensures)
+
+pub centre-on-spec : {M : Type 1} → statement M
+centre-on-spec =
+    tie.close
+    (tie.spec
+    round-half-away-requires
+    enum-known-nearest
+    returns
+    returns-2
+    returns-3
+    sub-if3
+    returns-4
+    returns-5)

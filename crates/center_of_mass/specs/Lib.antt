@@ -1,0 +1,2 @@
+pub mod CenterOfMass
+pub mod Promise
