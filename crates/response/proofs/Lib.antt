@@ -1,0 +1,6 @@
+pub mod Sums
+pub mod Indices
+pub mod Samples
+pub mod Inside
+pub mod Outcome
+pub mod Map

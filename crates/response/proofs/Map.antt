@@ -1,0 +1,122 @@
+-- What a caller of the patch function can use: the answer taken apart, and the buffer by column and row. Assumes nothing.
+use mathlib.Core.Path.{_≡_, refl, sym, ap, _∙_}
+use mathlib.Core.List.{List}
+use Prim.Native.Nat.{ℕ, zero, suc, _+_, _*_, _-_, _<_, _≤_}
+use native.Mathlib.Omega.{arith}
+use native.Mathlib.Nat.{mul-comm}
+use borrow.Author.Tests.{ne-eqb}
+use lib.Ieee.{Float}
+use lib.ListN.{length, getD, take, drop, List·getD-append}
+use Rattle.lists.specs.Buffer.{front}
+use Rattle.lists.proofs.Tab.{length-grid, getD-grid}
+use Rattle.lists.proofs.Places.{in-map}
+use Rattle.lists.proofs.Buffer.{front-length, front-take, front-drop}
+use Rattle.ring.specs.Ring.{Ring}
+use Rattle.response.specs.Response.{responseAt}
+use Rattle.response.specs.Patch.{View, whole, sideOf, cols, rows, left, top, cells, refusal, answerOf, numberOf, Patched}
+use Rattle.response.specs.declared.Patch.{Patch}
+use Rattle.response.specs.declared.Patch.the-variants.{Cells, Refused}
+use Rattle.response.proofs.Outcome.{taken}
+
+-- the buffer d after a map of pw by ph was made
+pub record Filled (v : View) (d e : List Float) (pw ph : ℕ) : Type 0 where
+  pub cols-are : pw ≡ cols v
+  pub rows-are : ph ≡ rows v
+  pub enough : ph * pw ≤ length d
+  pub fills : e ≡ front (cells v) d
+
+-- ---- the answer
+cells-is : (v : View) (n pw ph : ℕ) → answerOf v n ≡ Cells pw ph → (n ≡ 0) × (pw ≡ cols v) × (ph ≡ rows v)
+cells-is v zero pw ph e = (refl, (cc), (cc))
+cells-is v (suc n) pw ph e = let z : _≡_ {A = ℕ} 0 1 = cc in absurd (omega arith)
+
+refused-is : (v : View) (n m : ℕ) → answerOf v n ≡ Refused m → (n ≡ m) × (0 < m)
+refused-is v zero m e = let z : _≡_ {A = ℕ} 0 1 = cc in absurd (omega arith)
+refused-is v (suc n) m e = let q : suc n ≡ m = cc in (q, omega arith)
+
+module _ (v : View) (radius : ℕ) (d e : List Float) (r : Patch) (p : Patched v radius d e r) where
+  -- a map was made
+  pub filled : (pw ph : ℕ) → r ≡ Cells pw ph → Filled v d e pw ph
+  filled pw ph c =
+      let q = cells-is v (refusal v radius (length d)) pw ph (sym (p .answer) ∙ c) in
+      record {
+        cols-are = q .1;
+        rows-are = q .2;
+        enough = rw (q .1, q .2) (taken _ _ _ _ _ _ (q .0) .enough);
+        fills = p .buffer ∙ rw c;
+      }
+
+  -- or refused, and the buffer is as it was
+  pub refused : (n : ℕ) → r ≡ Refused n → (refusal v radius (length d) ≡ n) × (e ≡ d)
+  refused n c =
+      let q = refused-is v (refusal v radius (length d)) n (sym (p .answer) ∙ c) in
+      (q .0, p .buffer ∙ rw (c, ne-eqb n 0 (λ (z : n ≡ 0). let no : ⊥ = omega (arith, q .1) in no)))
+
+  -- the answer's number is the lowest that refuses
+  pub number : numberOf r ≡ refusal v radius (length d)
+  number = ap numberOf (p .answer) ∙ of (refusal v radius (length d))
+    where
+      of : (n : ℕ) → numberOf (answerOf v n) ≡ n
+      of zero = refl
+      of (suc n) = refl
+
+  -- where nothing refuses, a map is made
+  module _ (none : refusal v radius (length d) ≡ 0) where
+    pub accepted : r ≡ Cells (cols v) (rows v)
+    accepted = p .answer ∙ rw none
+
+    pub never-refused : (n : ℕ) → r ≡ Refused n → ⊥
+    never-refused n c = let z : _≡_ {A = ℕ} 0 1 = cc accepted in omega arith
+
+-- ---- the map
+pub cells-length : (v : View) → length (cells v) ≡ rows v * cols v
+unfolding cells
+cells-length v = length-grid (cols v) (rows v) (λ i j. responseAt (v .img) (v .w) (v .h) (v .ring) (left v + i) (top v + j))
+
+-- the cell of column i and row j
+pub cells-at : (v : View) (i j : ℕ) (x : Float) → i < cols v → j < rows v → getD (cells v) (j * cols v + i) x ≡ responseAt (v .img) (v .w) (v .h) (v .ring) (left v + i) (top v + j)
+unfolding cells
+cells-at v i j x p q = getD-grid (cols v) (rows v) (λ i j. responseAt (v .img) (v .w) (v .h) (v .ring) (left v + i) (top v + j)) i j x p q
+
+module _ (v : View) (d e : List Float) (pw ph : ℕ) (f : Filled v d e pw ph) where
+  area : ph * pw ≡ length (cells v)
+  area = rw (f .cols-are, f .rows-are) (sym (cells-length v))
+
+  pub same-length : length e ≡ length d
+  same-length = rw (f .fills) (front-length (cells v) d (rw (← area) (f .enough)))
+
+  -- the buffer's front and the rest
+  pub front-is : take (ph * pw) e ≡ cells v
+  front-is = rw (f .fills) (front-take (cells v) d (ph * pw) area)
+
+  pub rest-is : drop (ph * pw) e ≡ drop (ph * pw) d
+  rest-is = rw (f .fills) (front-drop (cells v) d (ph * pw) area)
+
+  pub place-in : (i j : ℕ) → i < pw → j < ph → j * pw + i < length e
+  place-in i j p q = omega (arith, same-length, f .enough, in-map pw ph i j p q, mul-comm pw ph)
+
+  pub cell-at : (i j : ℕ) (x : Float) → i < pw → j < ph → getD e (j * pw + i) x ≡ responseAt (v .img) (v .w) (v .h) (v .ring) (left v + i) (top v + j)
+  cell-at i j x p q =
+      rw (f .fills)
+      (List·getD-append (cells v) (drop (length (cells v)) d) x (j * pw + i) (omega (arith, area, in-map pw ph i j p q, mul-comm pw ph))
+      ∙ rw (f .cols-are) (cells-at v i j x (omega (arith, f .cols-are)) (omega (arith, f .rows-are))))
+
+-- ---- a box inside the image keeps its sides and its corner; and the whole image
+module _ (v : View) (wide : v .x0 < v .x1) (high : v .y0 < v .y1) (in-width : v .x1 ≤ v .w) (in-height : v .y1 ≤ v .h) where
+  pub box-cols : cols v ≡ v .x1 - v .x0
+  box-cols = rw (ne-eqb (sideOf (v .h) (v .y0) (v .y1)) 0 (λ z. let no : ⊥ = omega arith in no)) (omega arith)
+
+  pub box-rows : rows v ≡ v .y1 - v .y0
+  box-rows = rw (ne-eqb (sideOf (v .w) (v .x0) (v .x1)) 0 (λ z. let no : ⊥ = omega arith in no)) (omega arith)
+
+  pub box-left : left v ≡ v .x0
+  box-left = omega arith
+
+  pub box-top : top v ≡ v .y0
+  box-top = omega arith
+
+pub whole-cols : (img : List ℕ) (w h : ℕ) (t : Ring) → 0 < h → cols (whole img w h t) ≡ w
+whole-cols img w h t l = rw (ne-eqb (sideOf h 0 h) 0 (λ z. let no : ⊥ = omega arith in no)) (omega arith)
+
+pub whole-rows : (img : List ℕ) (w h : ℕ) (t : Ring) → 0 < w → rows (whole img w h t) ≡ h
+whole-rows img w h t l = rw (ne-eqb (sideOf w 0 w) 0 (λ z. let no : ⊥ = omega arith in no)) (omega arith)

@@ -1,0 +1,108 @@
+-- What no refusal tells of a call, the clipped box in the image, and what each call answers and leaves. Assumes nothing.
+use mathlib.Core.Path.{_≡_, refl, _∙_}
+use mathlib.Core.Logic.{_⊎_, inl, inr, ⊎-elim}
+use mathlib.Core.Bool.{Bool, true, false, cond, not, _||_}
+use mathlib.Core.List.{List, [], _∷_, _++_}
+use Prim.Native.Nat.{ℕ, zero, suc, _+_, _*_, _≤_}
+use native.Mathlib.Nat.{mul-le-mul, mul-comm, le-trans, le-of-eq}
+use native.Mathlib.Omega.{arith}
+use borrow.Author.Tests.{eqb-true, ltb-false, not-false, eq-eqb, le-ltb}
+use lib.Dec.{eqb, ltb, eqb·suc-zero}
+use lib.Ieee.{Float}
+use lib.ListN.{length, drop}
+use Rattle.lists.specs.Tab.{grid}
+use Rattle.lists.proofs.Refusals.{lowest-none}
+use Rattle.lists.proofs.Tests.{or-neither, or-right}
+use Rattle.lists.proofs.Tab.{length-grid}
+use Rattle.ring.proofs.Places.{radius-is}
+use Rattle.response.specs.Response.{responseAt}
+use Rattle.response.specs.Needs.{Image}
+use Rattle.response.specs.Patch.{View, sideOf, besides, cols, rows, left, top, cells, isRing, refusalOf, refusal, Patched}
+use Rattle.response.specs.declared.Patch.the-variants.{Cells, Refused}
+
+one-of : (a b : Bool) → (a || b) ≡ true → (a ≡ true) ⊎ (b ≡ true)
+one-of true b p = inl refl
+one-of false b p = inr p
+
+-- ---- no refusal: an image, one of the two rings, and places enough
+pub record Taken (pixels w h radius size places : ℕ) : Type 0 where
+  pub narrow : w ≤ 4096
+  pub low : h ≤ 4096
+  pub sized : pixels ≡ w * h
+  pub known : (radius ≡ 5) ⊎ (radius ≡ 10)
+  pub enough : size ≤ places
+
+pub taken : (pixels w h radius size places : ℕ) → refusalOf pixels w h radius size places ≡ 0 → Taken pixels w h radius size places
+unfolding refusalOf
+taken pixels w h radius size places e =
+    let last : List (Bool × ℕ) = (ltb places size, 8) ∷ [] in
+    let third : List (Bool × ℕ) = (not (isRing radius), 3) ∷ last in
+    let second : List (Bool × ℕ) = (not (eqb pixels (w * h)), 2) ∷ third in
+    let p = lowest-none (ltb 4096 w || ltb 4096 h) 1 second (omega arith) e in
+    let q = lowest-none (not (eqb pixels (w * h))) 2 third (omega arith) (p .1) in
+    let r = lowest-none (not (isRing radius)) 3 last (omega arith) (q .1) in
+    let u = lowest-none (ltb places size) 8 [] (omega arith) (r .1) in
+    let sides = or-neither (ltb 4096 w) (ltb 4096 h) (p .0) in
+    record {
+      narrow = ltb-false _ _ (sides .0);
+      low = ltb-false _ _ (sides .1);
+      sized = eqb-true _ _ (not-false _ (q .0));
+      known =
+          ⊎-elim (λ x. inl (eqb-true _ _ x)) (λ x. inr (eqb-true _ _ x)) (one-of (eqb radius 5) (eqb radius 10) (not-false _ (r .0)));
+      enough = ltb-false _ _ (u .0);
+    }
+
+-- and where these hold, nothing refuses
+pub allowed : (pixels w h radius size places : ℕ) → Taken pixels w h radius size places → refusalOf pixels w h radius size places ≡ 0
+unfolding refusalOf
+allowed pixels w h radius size places t = rw (le-ltb _ _ (t .narrow), le-ltb _ _ (t .low), eq-eqb _ _ (t .sized), two (t .known), le-ltb _ _ (t .enough))
+  where
+    two : (radius ≡ 5) ⊎ (radius ≡ 10) → isRing radius ≡ true
+    two o = ⊎-elim (λ (x : radius ≡ 5). rw (eq-eqb _ _ x)) (λ (x : radius ≡ 10). rw (eq-eqb _ _ x) (or-right (eqb radius 5))) o
+
+pub image : (img : List ℕ) (w h radius size places : ℕ) → Taken (length img) w h radius size places → Image img w h radius
+image img w h radius size places t = record { sized = t .sized; narrow = t .narrow; low = t .low; own-radius = radius-is radius (t .known) }
+
+-- ---- the clipped box lies in the image
+besides-le : (own other : ℕ) → besides own other ≤ own
+besides-le own other = pick (eqb other 0)
+  where
+    pick : (b : Bool) → cond b 0 own ≤ own
+    pick true = omega arith
+    pick false = omega arith
+
+module _ (v : View) where
+  pub cols-in : left v + cols v ≤ v .w
+  cols-in = omega (arith, besides-le (sideOf (v .w) (v .x0) (v .x1)) (sideOf (v .h) (v .y0) (v .y1)))
+
+  pub rows-in : top v + rows v ≤ v .h
+  rows-in = omega (arith, besides-le (sideOf (v .h) (v .y0) (v .y1)) (sideOf (v .w) (v .x0) (v .x1)))
+
+  pub cols-le : cols v ≤ v .w
+  cols-le = omega (arith, cols-in)
+
+  pub rows-le : rows v ≤ v .h
+  rows-le = omega (arith, rows-in)
+
+  pub area-in : rows v * cols v ≤ v .w * v .h
+  area-in = le-trans (mul-le-mul rows-le cols-le) (le-of-eq (mul-comm (v .h) (v .w)))
+
+-- ---- what a call answers and leaves
+pub number-is : (v : View) (radius places n pw ph : ℕ) → n ≡ refusalOf (length (v .img)) (v .w) (v .h) radius (ph * pw) places → pw ≡ cols v → ph ≡ rows v → n ≡ refusal v radius places
+number-is v radius places n pw ph e c r = rw (e, c, r)
+
+module _ (v : View) (radius : ℕ) (d : List Float) where
+  pub when-refused : (n : ℕ) → n ≡ refusal v radius (length d) → (n ≡ 0 → ⊥) → Patched v radius d d (Refused n)
+  when-refused zero e z = absurd (z refl)
+  when-refused (suc n) e z = record { answer = rw (← e); buffer = rw (eqb·suc-zero n) }
+
+  -- what the rows fill is what the map holds
+  pub when-filled : (n pw ph x y : ℕ) (e : List Float) → n ≡ refusal v radius (length d) → n ≡ 0 → pw ≡ cols v → ph ≡ rows v → x ≡ left v → y ≡ top v
+      → e ≡ grid pw ph (λ i j. responseAt (v .img) (v .w) (v .h) (v .ring) (x + i) (y + j)) ++ drop (ph * pw) d
+      → Patched v radius d e (Cells pw ph)
+  unfolding cells
+  when-filled n pw ph x y e q z c r l t f =
+      record {
+        answer = rw (← q, z, c, r);
+        buffer = f ∙ rw (c, r, l, t, length-grid (cols v) (rows v));
+      }

@@ -1,0 +1,86 @@
+-- Where the samples and the cross of a cell lie, for any ring whose square about the cell lies in the image. Assumes nothing.
+use mathlib.Core.Path.{_≡_, ap}
+use mathlib.Core.List.{List}
+use Prim.Native.Nat.{ℕ, _+_, _*_, _-_, _<_, _≤_}
+use native.Mathlib.Omega.{arith}
+use lib.Ieee.{Float}
+use lib.ListN.{length, getD}
+use Rattle.lists.specs.Tab.{tab}
+use Rattle.lists.proofs.Tab.{getD-tab, tab-ext}
+use Rattle.lists.proofs.Places.{in-map}
+use Rattle.ring.specs.Ring.{Ring, ringOf, dx, dy, IsRing}
+use Rattle.ring.proofs.Table.{ringOf-is}
+use Rattle.ring.proofs.Places.{dx-le, dy-le, radius-pos}
+use Rattle.response.specs.Response.{samples, crossOf, responseOf, response}
+use Rattle.response.specs.Needs.{offsetAt, Framed, Inner, CellSumsOf}
+use Rattle.response.proofs.Indices.{area-le, row-above, row-below, place-add}
+
+-- ---- any ring of a radius r
+module _ (t : Ring) (is : IsRing t) (r : ℕ) (e : t .radius ≡ r) (w h x y : ℕ) (n : Inner w h r x y) where
+  -- place k of the ring, counted from the corner of its square
+  pub sample-place : (k : ℕ) → (y - r) * w + (x - r) + offsetAt t w k ≡ (y - t .radius + dy t k) * w + (x - t .radius + dx t k)
+  sample-place k = rw e (place-add w (x - r) (y - r) (dx t k) (dy t k))
+
+  pub sample-in : (k : ℕ) → (y - r) * w + (x - r) + offsetAt t w k < w * h
+  sample-in k =
+      rw (sample-place k)
+      (in-map w h _ _ (omega (arith, dx-le t is k, n .left, n .right)) (omega (arith, dy-le t is k, n .above, n .below)))
+
+  -- the cross about the cell's own index
+  pub cross-sum : (img : List ℕ)
+      → getD img (y * w + x) 0 + getD img (y * w + x - w) 0 + getD img (y * w + x + w) 0 + getD img (y * w + x + 1) 0 + getD img (y * w + x - 1) 0 ≡ crossOf img w x y
+  cross-sum img =
+      let up : y * w + x - w ≡ (y - 1) * w + x = omega (arith, row-above w y (omega (arith, radius-pos t is, n .above))) in
+      let down : y * w + x + w ≡ (y + 1) * w + x = omega (arith, row-below w y) in
+      let right : y * w + x + 1 ≡ y * w + (x + 1) = omega arith in
+      let left : y * w + x - 1 ≡ y * w + (x - 1) = omega (arith, radius-pos t is, n .left) in
+      rw (up, down, right, left)
+
+  pub cross-in : (w ≤ y * w + x) × (1 ≤ y * w + x) × (y * w + x + w < w * h) × (y * w + x + 1 < w * h)
+  cross-in =
+      let one : 1 ≤ r = omega (arith, radius-pos t is) in
+      omega (
+        arith,
+        row-above w y (omega (arith, n .above)),
+        row-below w y,
+        in-map w h x (y + 1) (omega (arith, n .right)) (omega (arith, n .below)),
+        in-map w h (x + 1) y (omega (arith, n .right)) (omega (arith, n .below)),
+        n .left,
+      )
+
+-- ---- the same with the offsets in an array
+module _ (img : List ℕ) (w h radius : ℕ) (off : List ℕ) (f : Framed img w h radius off) (x y : ℕ) (n : Inner w h radius x y) where
+  offset-is : (k : ℕ) → k < 16 → getD off k 0 ≡ offsetAt (ringOf radius) w k
+  offset-is k l = rw (f .offsets) (getD-tab 16 (offsetAt (ringOf radius) w) k 0 l)
+
+  pub sample-lt : (k : ℕ) → k < 16 → (y - radius) * w + (x - radius) + getD off k 0 < length img
+  sample-lt k l = rw (offset-is k l, f .image .sized) (sample-in (ringOf radius) (ringOf-is radius) radius (f .image .own-radius) w h x y n k)
+
+  pub gathered : tab 16 (λ k. getD img ((y - radius) * w + (x - radius) + getD off k 0) 0) ≡ samples img w (ringOf radius) x y
+  unfolding samples
+  gathered =
+      tab-ext 16 _ _
+      (λ k l. ap (λ (i : ℕ). getD img i 0) (rw (offset-is k l) (sample-place (ringOf radius) (ringOf-is radius) radius (f .image .own-radius) w h x y n k)))
+
+  pub crossed : getD img (y * w + x) 0 + getD img (y * w + x - w) 0 + getD img (y * w + x + w) 0 + getD img (y * w + x + 1) 0 + getD img (y * w + x - 1) 0 ≡ crossOf img w x y
+  crossed = cross-sum (ringOf radius) (ringOf-is radius) radius (f .image .own-radius) w h x y n img
+
+  pub cross-lies : (w ≤ y * w + x) × (1 ≤ y * w + x) × (y * w + x + w < length img) × (y * w + x + 1 < length img)
+  cross-lies = rw (f .image .sized) (cross-in (ringOf radius) (ringOf-is radius) radius (f .image .own-radius) w h x y n)
+
+  -- the corner of the ring's square and the cell itself, as indices
+  pub corner-small : (y - radius) * w + (x - radius) < 16777216
+  corner-small =
+      omega (
+        arith,
+        in-map w h (x - radius) (y - radius) (omega (arith, n .right)) (omega (arith, n .below)),
+        area-le w h (f .image .narrow) (f .image .low),
+      )
+
+  pub cell-small : y * w + x < 16777216
+  cell-small = omega (arith, in-map w h x y (omega (arith, n .right)) (omega (arith, n .below)), area-le w h (f .image .narrow) (f .image .low))
+
+-- the float of a cell's sums is its response
+pub assembled : (img : List ℕ) (w : ℕ) (t : Ring) (x y a b m q : ℕ) (v : Float) → CellSumsOf img w t x y a b m q → v ≡ responseOf a b m q → v ≡ response img w t x y
+unfolding response
+assembled img w t x y a b m q v p e = rw (e, p .ring .sr-is, p .ring .dr-is, p .ring .sum-is, p .cross-is)

@@ -1,0 +1,53 @@
+-- `response::rows::reach` meets its contract. Assumes nothing.
+use native.Mathlib.Omega.{arith}
+use Rattle.response.proofs.Inside.{span-above, span-below, span-row}
+use borrow.Author.Needs.{needs}
+use Rattle.response.proofs.rows.reach.Statement.{statement}
+use Rattle.response.proofs.rows.reach.Tie as tie
+
+returns : tie.Need-returns
+returns c = span-above _ _ _ _ _ _ (c .before .pre .0) (c .if1 .taken)
+
+sub-if2 : tie.Need-sub-if2
+sub-if2 c = search needs
+
+returns-2 : tie.Need-returns-2
+returns-2 c = span-below _ _ _ _ _ _ (c .before .before .pre .0) (omega arith)
+
+less-requires : tie.Need-less-requires
+less-requires c κs = search needs
+
+lesser-requires : tie.Need-lesser-requires
+lesser-requires c κs = search needs
+
+less-requires-2 : tie.Need-less-requires-2
+less-requires-2 c κs = search needs
+
+less-requires-3 : tie.Need-less-requires-3
+less-requires-3 c κs = search needs
+
+lesser-requires-2 : tie.Need-lesser-requires-2
+lesser-requires-2 c κs = search needs
+
+greater-requires : tie.Need-greater-requires
+greater-requires c κs = search needs
+
+returns-3 : tie.Need-returns-3
+returns-3 c =
+    span-row _ _ _ _ _ _ (c .before .before .before .before .before .before .before .before .pre .0) _ _ _ _ _ _ (c .before .before .before .before .before .before .before .if1 .left) (omega (arith, c .before .before .before .before .before .before .if2 .left))
+    (c .before .before .before .before .before .less .ensures) (c .before .before .before .before .lesser .ensures) (c .before .before .before .less2 .ensures) (c .before .before .less3 .ensures) (c .before .lesser2 .ensures) (c .greater .ensures)
+
+pub reach-spec : {M : Type 1} → statement M
+reach-spec =
+    tie.close
+    (tie.spec
+    returns
+    sub-if2
+    returns-2
+    less-requires
+    lesser-requires
+    less-requires-2
+    less-requires-3
+    lesser-requires-2
+    greater-requires
+    returns-3)

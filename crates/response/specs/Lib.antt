@@ -1,0 +1,4 @@
+pub mod Response
+pub mod Exact
+pub mod Patch
+pub mod Needs

@@ -1,0 +1,85 @@
+-- The response map of a box of an image: the clipped box, the refusals, the answer and the buffer.
+use Prim.Native.Nat.{ℕ, zero, suc, _+_, _*_, _-_, min}
+use mathlib.Core.Path.{_≡_}
+use mathlib.Core.Bool.{Bool, cond, not, _||_}
+use mathlib.Core.List.{List, [], _∷_}
+use lib.Dec.{ltb, eqb}
+use lib.ListN.{length}
+use lib.Ieee.{Float}
+use Rattle.lists.specs.Tab.{grid}
+use Rattle.lists.specs.Buffer.{front}
+use Rattle.lists.specs.Refusals.{lowest}
+use Rattle.ring.specs.Ring.{Ring}
+use Rattle.response.specs.Response.{responseAt}
+use Rattle.response.specs.declared.Patch.{Patch}
+use Rattle.response.specs.declared.Patch.the-variants.{Cells, Refused}
+
+-- what a map shows: the columns x0 up to, not including, x1 of the rows y0 up to y1 of an image of w by h, by a ring
+pub record View : Type 0 where
+  pub img : List ℕ
+  pub w : ℕ
+  pub h : ℕ
+  pub ring : Ring
+  pub x0 : ℕ
+  pub y0 : ℕ
+  pub x1 : ℕ
+  pub y1 : ℕ
+
+-- the whole image as one box
+abbrev pub whole : List ℕ → ℕ → ℕ → Ring → View
+whole img w h t = record { img = img; w = w; h = h; ring = t; x0 = 0; y0 = 0; x1 = w; y1 = h }
+
+-- ---- the box clipped to the image
+
+-- how many of the columns, or rows, a up to b lie among n
+abbrev pub sideOf : ℕ → ℕ → ℕ → ℕ
+sideOf n a b = min b n - min a n
+
+-- a side, or 0 where the other is 0: an empty box gives a map of 0 by 0
+abbrev pub besides : ℕ → ℕ → ℕ
+besides own other = cond (eqb other 0) 0 own
+
+abbrev pub cols : View → ℕ
+cols v = besides (sideOf (v .w) (v .x0) (v .x1)) (sideOf (v .h) (v .y0) (v .y1))
+
+abbrev pub rows : View → ℕ
+rows v = besides (sideOf (v .h) (v .y0) (v .y1)) (sideOf (v .w) (v .x0) (v .x1))
+
+-- the image's column and row of the map's first cell
+abbrev pub left : View → ℕ
+left v = min (v .x0) (v .w)
+
+abbrev pub top : View → ℕ
+top v = min (v .y0) (v .h)
+
+-- the map's cells in row order
+unfoldable pub cells : View → List Float
+cells v = grid (cols v) (rows v) (λ i j. responseAt (v .img) (v .w) (v .h) (v .ring) (left v + i) (top v + j))
+
+-- ---- what a call answers and leaves, for a ring's radius as given and a buffer of so many places
+
+abbrev pub isRing : ℕ → Bool
+isRing radius = eqb radius 5 || eqb radius 10
+
+-- 1: a side above 4096; 2: not w * h pixels; 3: a ring that is not 5 or 10; 8: fewer places than cells
+unfoldable pub refusalOf : ℕ → ℕ → ℕ → ℕ → ℕ → ℕ → ℕ
+refusalOf pixels w h radius size places =
+    lowest ((ltb 4096 w || ltb 4096 h, 1) ∷ (not (eqb pixels (w * h)), 2) ∷ (not (isRing radius), 3) ∷ (ltb places size, 8) ∷ [])
+
+abbrev pub refusal : View → ℕ → ℕ → ℕ
+refusal v radius places = refusalOf (length (v .img)) (v .w) (v .h) radius (rows v * cols v) places
+
+-- the answer of each number: 0 is a map with its sides, any other a refusal
+abbrev pub answerOf : View → ℕ → Patch
+answerOf v zero = Cells (cols v) (rows v)
+answerOf v (suc n) = Refused (suc n)
+
+-- and an answer's number
+abbrev pub numberOf : Patch → ℕ
+numberOf (Cells pw ph) = 0
+numberOf (Refused n) = n
+
+-- the promise of `chess_response_u8_patch`: r is the answer, and the buffer d becomes e, the cells first and the rest as it was, or all as it was
+pub record Patched (v : View) (radius : ℕ) (d e : List Float) (r : Patch) : Type 0 where
+  pub answer : r ≡ answerOf v (refusal v radius (length d))
+  pub buffer : e ≡ cond (eqb (numberOf r) 0) (front (cells v) d) d

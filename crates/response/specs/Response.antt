@@ -1,0 +1,78 @@
+-- The ChESS response of a cell, from the ChESS paper's SR, DR and means, in the f32 operations of `chess_response_at_u8` and in their order.
+use Prim.Native.Nat.{ℕ, _+_, _*_, _-_}
+use mathlib.Core.Bool.{Bool, false, cond, _&&_}
+use mathlib.Core.List.{List}
+use lib.Dec.{leb, ltb}
+use lib.IntN.{pos}
+use lib.ListN.{getD}
+use lib.Ieee.{Float, fin, binary32, ofInt, sub, mul, div}
+use Rattle.float32.specs.Float32.{zero, abs}
+use Rattle.float32.specs.Value.{dist, total}
+use Rattle.lists.specs.Tab.{tab}
+use Rattle.ring.specs.Ring.{Ring, dx, dy}
+
+-- ---- whole numbers, of sixteen samples s
+
+-- SR: the sum over k = 0..3 of |s(k) + s(k+8) - s(k+4) - s(k+12)|
+abbrev pub srOf : List ℕ → ℕ
+srOf s = total (λ k. dist (getD s k 0 + getD s (k + 8) 0) (getD s (k + 4) 0 + getD s (k + 12) 0)) 4
+
+-- DR: the sum over k = 0..7 of |s(k) - s(k+8)|
+abbrev pub drOf : List ℕ → ℕ
+drOf s = total (λ k. dist (getD s k 0) (getD s (k + 8) 0)) 8
+
+-- their sum
+abbrev pub sumOf : List ℕ → ℕ
+sumOf s = total (λ k. getD s k 0) 16
+
+-- ---- of a cell of an image w wide
+
+-- the pixel of column x and row y
+abbrev pub pixel : List ℕ → ℕ → ℕ → ℕ → ℕ
+pixel img w x y = getD img (y * w + x) 0
+
+-- the samples of the ring about a cell
+unfoldable pub samples : List ℕ → ℕ → Ring → ℕ → ℕ → List ℕ
+samples img w t x y = tab 16 (λ k. pixel img w (x - t .radius + dx t k) (y - t .radius + dy t k))
+
+-- the sum of the cross: the cell and its neighbours above, below, right and left
+abbrev pub crossOf : List ℕ → ℕ → ℕ → ℕ → ℕ
+crossOf img w x y = pixel img w x y + pixel img w x (y - 1) + pixel img w x (y + 1) + pixel img w (x + 1) y + pixel img w (x - 1) y
+
+-- ---- floats
+
+-- 16.0 and 5.0
+abbrev pub sixteen : Float
+sixteen = fin false 1 (pos 4)
+
+abbrev pub five : Float
+five = fin false 5 (pos 0)
+
+-- `n as f32`
+abbrev pub floatOf : ℕ → Float
+floatOf n = ofInt binary32 (pos n)
+
+abbrev pub ringMean : ℕ → Float
+ringMean sum = div binary32 (floatOf sum) sixteen
+
+abbrev pub crossMean : ℕ → Float
+crossMean cross = div binary32 (floatOf cross) five
+
+-- SR - DR - 16 |ring mean - cross mean|
+unfoldable pub responseOf : ℕ → ℕ → ℕ → ℕ → Float
+responseOf sr dr sum cross =
+    sub binary32 (sub binary32 (floatOf sr) (floatOf dr)) (mul binary32 sixteen (abs (sub binary32 (ringMean sum) (crossMean cross))))
+
+-- the response of a cell whose ring lies in the image
+unfoldable pub response : List ℕ → ℕ → Ring → ℕ → ℕ → Float
+unfolding samples responseOf
+response img w t x y = let s = samples img w t x y in responseOf (srOf s) (drOf s) (sumOf s) (crossOf img w x y)
+
+-- the cell lies further than the ring's radius from each edge of the image
+abbrev pub inside : ℕ → ℕ → Ring → ℕ → ℕ → Bool
+inside w h t x y = leb (t .radius) x && (ltb (x + t .radius) w && (leb (t .radius) y && ltb (y + t .radius) h))
+
+-- the response of any cell: 0 within a ring radius of the edge
+unfoldable pub responseAt : List ℕ → ℕ → ℕ → Ring → ℕ → ℕ → Float
+unfolding response
+responseAt img w h t x y = cond (inside w h t x y) (response img w t x y) zero

@@ -1,0 +1,157 @@
+// The response of one cell: the sums of its sixteen samples and of its cross, and the float that they give.
+ghost use mathlib.Core.Path.{_≡_};
+ghost use Prim.Native.Nat.{ℕ, _+_, _-_, _<_, _≤_};
+ghost use lib.ListN.{length, getD};
+ghost use Rattle.float32.specs.Value.{dist};
+ghost use Rattle.lists.specs.Tab.{tab};
+ghost use Rattle.ring.specs.Ring.{ringOf};
+ghost use Rattle.response.specs.Response.{srOf, drOf, sumOf, responseOf};
+ghost use Rattle.response.specs.Needs.{Framed, Inner, RingSumsOf, CellSumsOf};
+
+// |a - b|.
+fn gap(a: u16, b: u16) -> u16
+    ensures { λ r. ⌜ r ≡ dist a b ⌝ }
+{
+    if a < b { b - a } else { a - b }
+}
+
+fn wide(b: u8) -> u16
+    ensures { λ r. ⌜ (r ≡ b) × (r < 256) ⌝ }
+{
+    b as u16
+}
+
+// |a - b| of two samples.
+fn across(a: u8, b: u8) -> u16
+    ensures { λ r. ⌜ (r ≡ dist a b) × (r < 256) ⌝ }
+{
+    gap(wide(a), wide(b))
+}
+
+// |(a + b) - (c + d)| of four samples.
+fn square(a: u8, b: u8, c: u8, d: u8) -> u16
+    ensures { λ r. ⌜ (r ≡ dist (a + b) (c + d)) × (r < 511) ⌝ }
+{
+    gap(wide(a) + wide(b), wide(c) + wide(d))
+}
+
+fn sr(s: [u8; 16]) -> u16
+    ensures { λ r. ⌜ r ≡ srOf s ⌝ }
+{
+    let mut sum = 0u16;
+    let mut k = 0usize;
+    while k < 4 {
+        sum += square(s[k], s[k + 8], s[k + 4], s[k + 12]);
+        k += 1;
+    }
+    sum
+}
+
+fn dr(s: [u8; 16]) -> u16
+    ensures { λ r. ⌜ r ≡ drOf s ⌝ }
+{
+    let mut sum = 0u16;
+    let mut k = 0usize;
+    while k < 8 {
+        sum += across(s[k], s[k + 8]);
+        k += 1;
+    }
+    sum
+}
+
+fn ring_sum(s: [u8; 16]) -> u16
+    ensures { λ r. ⌜ r ≡ sumOf s ⌝ }
+{
+    let mut sum = 0u16;
+    let mut k = 0usize;
+    while k < 16 {
+        sum += wide(s[k]);
+        k += 1;
+    }
+    sum
+}
+
+struct RingSums {
+    sr: u16,
+    dr: u16,
+    sum: u16,
+}
+
+// The three sums of sixteen samples.
+fn ring_sums(s: [u8; 16]) -> RingSums
+    ensures { λ r. ⌜ RingSumsOf s (r .sr) (r .dr) (r .sum) ⌝ }
+{
+    RingSums {
+        sr: sr(s),
+        dr: dr(s),
+        sum: ring_sum(s),
+    }
+}
+
+// The pixels at the offsets behind base.
+fn gather(img: &[u8], base: usize, off: [usize; 16]) -> [u8; 16]
+    requires { ⌜ ((k : ℕ) → k < 16 → base + getD off k 0 < length (now img)) ⌝ }
+    ensures { λ r. ⌜ r ≡ tab 16 (λ k. getD (now (img .entry)) (base + getD off k 0) 0) ⌝ }
+{
+    let mut s = [0u8; 16];
+    let mut k = 0usize;
+    while k < 16 {
+        let o = off[k];
+        s[k] = img[base + o];
+        k += 1;
+    }
+    s
+}
+
+fn four(a: u8, b: u8, c: u8, d: u8) -> u16
+    ensures { λ r. ⌜ (r ≡ a + b + c + d) × (r < 1021) ⌝ }
+{
+    wide(a) + wide(b) + wide(c) + wide(d)
+}
+
+// The sum of the cross about the pixel at mid.
+fn cross(img: &[u8], w: usize, mid: usize) -> u16
+    requires { ⌜ (w ≤ mid) × (1 ≤ mid) × (mid + w < length (now img)) × (mid + 1 < length (now img)) ⌝ }
+    ensures { λ r. ⌜ r ≡ getD (now (img .entry)) mid 0 + getD (now (img .entry)) (mid - w) 0 + getD (now (img .entry)) (mid + w) 0 + getD (now (img .entry)) (mid + 1) 0 + getD (now (img .entry)) (mid - 1) 0 ⌝ }
+{
+    four(img[mid], img[mid - w], img[mid + w], img[mid + 1]) + wide(img[mid - 1])
+}
+
+pub(crate) struct CellSums {
+    pub(crate) sr: u16,
+    pub(crate) dr: u16,
+    pub(crate) sum: u16,
+    pub(crate) cross: u16,
+}
+
+// The sums of a cell whose ring lies in the image.
+pub(crate) fn cell_sums(
+    img: &[u8],
+    w: usize,
+    h: usize,
+    radius: usize,
+    off: [usize; 16],
+    x: usize,
+    y: usize,
+) -> CellSums
+    requires { ⌜ Framed (now img) w h radius off ⌝ }
+    requires { ⌜ Inner w h radius x y ⌝ }
+    ensures { λ r. ⌜ CellSumsOf (now (img .entry)) w (ringOf radius) x y (r .sr) (r .dr) (r .sum) (r .cross) ⌝ }
+{
+    let ring = ring_sums(gather(img, (y - radius) * w + (x - radius), off));
+    CellSums {
+        sr: ring.sr,
+        dr: ring.dr,
+        sum: ring.sum,
+        cross: cross(img, w, y * w + x),
+    }
+}
+
+// SR - DR - 16 |ring mean - cross mean|, by the operations of `chess_response_at_u8` in their order.
+pub(crate) fn value(sr: u16, dr: u16, sum: u16, cross: u16) -> f32
+    ensures { λ r. ⌜ r ≡ responseOf sr dr sum cross ⌝ }
+{
+    let mu_n = (sum as f32) / 16.0;
+    let mu_l = (cross as f32) / 5.0;
+    (sr as f32) - (dr as f32) - 16.0 * float32::abs(mu_n - mu_l)
+}

@@ -1,0 +1,91 @@
+// The ChESS response map of a box of an image.
+mod cell; // cell.rt: the response of one cell
+mod rows; // rows.rt: runs, rows and boxes of cells
+mod numbers; // numbers.rt: differences and bounds of whole numbers
+
+ghost use mathlib.Core.Path.{_≡_};
+ghost use Prim.Native.Nat.{_*_, _≤_};
+ghost use Rattle.ring.specs.Ring.{ringOf};
+ghost use Rattle.response.specs.Patch.{sideOf, besides, isRing, refusalOf, Patched};
+use numbers::less;
+use numbers::lesser;
+
+// How many of the columns, or rows, a up to b lie among n.
+fn side(n: usize, a: usize, b: usize) -> usize
+    ensures { λ r. ⌜ r ≡ sideOf n a b ⌝ }
+{
+    less(lesser(b, n), lesser(a, n))
+}
+
+// A side, or 0 where the other is 0.
+fn beside(own: usize, other: usize) -> usize
+    ensures { λ r. ⌜ r ≡ besides own other ⌝ }
+{
+    if other == 0 { 0 } else { own }
+}
+
+// The radius of one of the two rings.
+fn is_ring(radius: u32) -> bool
+    ensures { λ r. ⌜ r ≡ isRing radius ⌝ }
+{
+    if radius == 5 {
+        return true;
+    }
+    radius == 10
+}
+
+// Why a map of pw by ph cells is refused, or 0.
+fn refusal(pixels: usize, w: usize, h: usize, ring: u32, pw: usize, ph: usize, places: usize) -> u8
+    requires { ⌜ (pw ≤ w) × (ph ≤ h) ⌝ }
+    ensures { λ r. ⌜ r ≡ refusalOf pixels w h ring (ph * pw) places ⌝ }
+{
+    if 4096 < w {
+        return 1;
+    }
+    if 4096 < h {
+        return 1;
+    }
+    if pixels != w * h {
+        return 2;
+    }
+    if !is_ring(ring) {
+        return 3;
+    }
+    if places < ph * pw {
+        return 8;
+    }
+    0
+}
+
+// A map of w by h cells at the front of the buffer, or the number of a refusal, which leaves the buffer as it was.
+pub enum Patch {
+    Cells { w: usize, h: usize },
+    Refused(u8),
+}
+
+// The responses of the cells in the columns x0 up to x1 and the rows y0 up to y1 of an image of w by h pixels, in row order at the
+// front of `map`. The box is clipped to the image. The ring's radius is 5 or 10.
+pub fn chess_response_u8_patch(
+    img: &[u8],
+    w: usize,
+    h: usize,
+    ring: u32,
+    x0: usize,
+    y0: usize,
+    x1: usize,
+    y1: usize,
+    map: &mut [f32],
+) -> Patch
+    ensures { λ r. ⌜ Patched (record { img = now (img .entry); w = w; h = h; ring = ringOf ring; x0 = x0; y0 = y0; x1 = x1; y1 = y1 }) ring (now (map .entry)) (now (map .exit)) r ⌝ }
+{
+    let across = side(w, x0, x1);
+    let down = side(h, y0, y1);
+    let pw = beside(across, down);
+    let ph = beside(down, across);
+    let no = refusal(img.len(), w, h, ring, pw, ph, map.len());
+    if no != 0 {
+        return Patch::Refused(no);
+    }
+    rows::fill(img, w, h, ring, lesser(x0, w), lesser(y0, h), pw, ph, map);
+    Patch::Cells { w: pw, h: ph }
+}
