@@ -1,0 +1,14 @@
+-- Each case of the table comes out as document 01 says, by computation. Assumes nothing.
+use mathlib.Core.Path.{_≡_, refl}
+use mathlib.Core.List.{List, map}
+use lib.IntN.{ℤ}
+use Rattle.lists.specs.Tab.{tab}
+use Rattle.ring.specs.Ring.{ring5}
+use Rattle.response.specs.Response.{samples}
+use Rattle.response.specs.Exact.{fifthsAt}
+use Rattle.float32.specs.Value.{total}
+use Rattle.demands.specs.Cases.{Case, cases}
+
+pub cases-hold : map (λ (c : Case). c .given) cases ≡ map (λ (c : Case). c .said) cases
+unfolding cases fifthsAt samples total tab ring5
+cases-hold = refl
