@@ -2,10 +2,11 @@
 use Prim.Native.Nat.{ℕ, suc, _+_, _-_, _<_, _≤_}
 use native.Mathlib.Nat.{add-zero, zero-add}
 use native.Mathlib.Omega.{arith}
-use mathlib.Core.Path.{_≡_, refl, sym, ap, ap₂, _∙_}
+use mathlib.Core.Path.{_≡_, sym, ap, ap₂, _∙_}
 use mathlib.Core.List.{List, [], _∷_, _++_, append-assoc, append-nil}
-use lib.ListN.{length, take, drop, set, replicate, length-append, length-drop, length-take, length-replicate, take-append-drop}
-use lib.Seq.{take-append-seam, drop-append-add, drop-drop, drop-cons, set-at, take-at, drop-at, length-take-le}
+use lib.ListN.{length, getD, take, drop, set, replicate, length-append, length-drop, length-take, length-replicate, take-append-drop, List·getD-append}
+use lib.Seq.{take-append-seam, drop-append-add, drop-drop, drop-cons, set-at, take-at, drop-at, length-take-le, getD-take}
+use borrow.Rule.Slice.PartMut.{putMid}
 use Rattle.lists.specs.Buffer.{front, placed, wipedFrom}
 
 module _ {A : Type 0} where
@@ -27,7 +28,7 @@ module _ {A : Type 0} where
 
   -- nothing placed; placed before everything; and one element more behind those placed
   pub placed-none : (held : ℕ) (d : List A) → d ≡ placed held [] d
-  placed-none held d = sym (ap₂ (λ (a : List A) (k : ℕ). a ++ drop k d) (append-nil (take held d)) (add-zero held) ∙ take-append-drop held d)
+  placed-none held d = sym (rw (add-zero, append-nil) (take-append-drop held d))
 
   pub placed-first : (vs d : List A) → placed 0 vs d ≡ front vs d
   placed-first vs d = ap (λ (k : ℕ). vs ++ drop k d) (zero-add (length vs))
@@ -42,6 +43,30 @@ module _ {A : Type 0} where
 
   pub placed-length : (held : ℕ) (vs d : List A) → held + length vs ≤ length d → length (placed held vs d) ≡ length d
   placed-length held vs d h = simp (length-append, length-take, length-drop) (omega arith)
+
+  -- us behind vs, which are placed already
+  pub placed-more : (held n : ℕ) (vs us d : List A) → held ≤ length d → n ≡ held + length vs → placed n us (placed held vs d) ≡ placed held (vs ++ us) d
+  placed-more held n vs us d h e =
+      let l : length (take held d ++ vs) ≡ n = length-append (take held d) vs ∙ ap (λ (k : ℕ). k + length vs) (length-take-le held d h) ∙ sym e in
+      let k : held + length vs + length us ≡ held + length (vs ++ us) = omega (arith, length-append vs us) in
+      let rest : drop (n + length us) (placed held vs d) ≡ drop (held + length (vs ++ us)) d =
+          sym (drop-drop (length us) n (placed held vs d))
+          ∙ ap (drop (length us)) (drop-at (take held d ++ vs) (drop (held + length vs) d) n l)
+          ∙ drop-drop (length us) (held + length vs) d
+          ∙ ap (λ (i : ℕ). drop i d) k in
+      ap₂ (λ (a b : List A). a ++ us ++ b) (take-at (take held d ++ vs) (drop (held + length vs) d) n l) rest
+      ∙ ap (λ (a : List A). a ++ drop (held + length (vs ++ us)) d) (append-assoc (take held d) vs us)
+
+  -- a part of the buffer that comes back as vs
+  pub put-placed : (a k : ℕ) (vs d : List A) → k ≡ length vs → putMid a k d vs ≡ placed a vs d
+  put-placed a k vs d e = rw (drop-drop, e) (sym (append-assoc (take a d) vs (drop (a + length vs) d)))
+
+  -- what stands before vs is as it was
+  pub placed-before : (held : ℕ) (vs d : List A) (i : ℕ) (z : A) → held ≤ length d → i < held → getD (placed held vs d) i z ≡ getD d i z
+  placed-before held vs d i z h l =
+      ap (λ (s : List A). getD s i z) (append-assoc (take held d) vs (drop (held + length vs) d))
+      ∙ List·getD-append (take held d) (vs ++ drop (held + length vs) d) z i (rw (length-take-le held d h) l)
+      ∙ getD-take held d i z l
 
   pub wiped-length : (n : ℕ) (z : A) (d : List A) → n ≤ length d → length (wipedFrom n z d) ≡ length d
   wiped-length n z d h = simp (length-append, length-take, length-replicate) (omega arith)

@@ -79,6 +79,13 @@ module _ {A : Type 0} where
       ∙ getD-grid w h f x y d hx l)
       (eq-or-lt-of-le (le-of-suc-le-suc hy))
 
+  -- two functions that agree in each cell
+  pub grid-ext : (w h : ℕ) (f g : ℕ → ℕ → A) → ((x y : ℕ) → x < w → y < h → f x y ≡ g x y) → grid w h f ≡ grid w h g
+  unfolding grid
+  grid-ext w zero f g e = refl
+  grid-ext w (suc h) f g e =
+      rw (grid-ext w h f g (λ x y p q. e x y p (omega arith)), tab-ext w (λ x. f x h) (λ x. g x h) (λ x p. e x h p (omega arith)))
+
   -- with no rows filled the list is as it was
   pub grid-none : (w : ℕ) (f : ℕ → ℕ → A) (d : List A) → d ≡ grid w 0 f ++ drop 0 d
   unfolding grid

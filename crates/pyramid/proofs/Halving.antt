@@ -1,0 +1,164 @@
+-- Laws of halving a level that may lie in the buffer that is written: what is read stands before what is written, so it is as it was; a block
+-- of a row, a row and a level are each placed behind what is done. Assumes nothing.
+use Prim.Native.Nat.{ℕ, zero, suc, _+_, _-_, _*_, _/_, _<_, _≤_}
+use native.Mathlib.Nat.{mul-le-mul-right, suc-mul}
+use native.Mathlib.Numerals.{add-one}
+use native.Mathlib.Omega.{arith}
+use mathlib.Core.Path.{_≡_, refl, sym, ap, ap₂, _∙_}
+use mathlib.Core.List.{List, [], _∷_, _++_}
+use lib.ListN.{length, getD, take, drop}
+use lib.Seq.{getD-drop, getD-take}
+use borrow.Rule.Slice.PartMut.{putMid}
+use Rattle.lists.specs.Tab.{tab, grid}
+use Rattle.lists.specs.Buffer.{placed}
+use Rattle.lists.proofs.Tab.{length-tab, tab-ext, tab-add, length-grid, grid-ext}
+use Rattle.lists.proofs.Buffer.{placed-none, placed-more, placed-before, put-placed}
+use Rattle.pyramid.specs.Pyramid.{boxOf, pixelAt, halfPixel, halved}
+use Rattle.pyramid.specs.Halve.{holderOf, Halving, Summed, RowHalved, LevelHalved}
+
+pub holder-buffer : (base levels : List ℕ) (k : ℕ) → (k ≡ 0 → ⊥) → levels ≡ holderOf base levels k
+holder-buffer base levels zero z = absurd (z refl)
+holder-buffer base levels (suc k) z = refl
+
+-- the slice that is read keeps its length, and has one
+holder-length : (base d s : List ℕ) (k : ℕ) → length s ≡ length d → length (holderOf base s k) ≡ length (holderOf base d k)
+holder-length base d s zero e = refl
+holder-length base d s (suc k) e = e
+
+pub holder-short : (base d : List ℕ) (k most : ℕ) → length base < most → length d < most → length (holderOf base d k) < most
+holder-short base d zero most p q = p
+holder-short base d (suc k) most p q = q
+
+-- what is read is as it was
+kept : (base d vs : List ℕ) (k to i j : ℕ) → to ≤ length d → i ≡ j → ((k ≡ 0 → ⊥) → j < to) → getD (holderOf base (placed to vs d) k) i 0 ≡ getD (holderOf base d k) j 0
+kept base d vs zero to i j h e l = ap (λ (n : ℕ). getD base n 0) e
+kept base d vs (suc k) to i j h e l = ap (λ (n : ℕ). getD (placed to vs d) n 0) e ∙ placed-before to vs d j 0 h (l (λ z. omega arith))
+
+-- a half-size pixel of the two rows that begin at `from`, by its four places
+half-at : (s : List ℕ) (from w x : ℕ)
+    → halfPixel (drop from s) w x 0 ≡ boxOf (getD s (from + 2 * x) 0) (getD s (from + 2 * x + 1) 0) (getD s (from + w + 2 * x) 0) (getD s (from + w + 2 * x + 1) 0)
+unfolding halfPixel
+half-at s from w x =
+    rw (
+      at (0 * w + 2 * x) (from + 2 * x) (omega arith),
+      at (0 * w + (2 * x + 1)) (from + 2 * x + 1) (omega arith),
+      at (1 * w + 2 * x) (from + w + 2 * x) (omega arith),
+      at (1 * w + (2 * x + 1)) (from + w + 2 * x + 1) (omega arith),
+    )
+  where
+    at : (i j : ℕ) → from + i ≡ j → getD (drop from s) i 0 ≡ getD s j 0
+    at i j p = getD-drop from s i 0 ∙ ap (λ (n : ℕ). getD s n 0) p
+
+-- images whose pairs of rows agree have the same half-size pixels there
+half-alike : (s t : List ℕ) (w x y y′ : ℕ) → ((i : ℕ) → i < 2 * w → getD s (2 * y * w + i) 0 ≡ getD t (2 * y′ * w + i) 0) → x < w / 2 → halfPixel s w x y ≡ halfPixel t w x y′
+unfolding halfPixel
+half-alike s t w x y y′ e l =
+    rw (
+      at (2 * x) (2 * y * w + 2 * x) (2 * y′ * w + 2 * x) (omega arith) (omega arith) (omega arith),
+      at (2 * x + 1) (2 * y * w + (2 * x + 1)) (2 * y′ * w + (2 * x + 1)) (omega arith) (omega arith) (omega arith),
+      at (w + 2 * x) ((2 * y + 1) * w + 2 * x) ((2 * y′ + 1) * w + 2 * x) (omega arith) (omega arith) (omega arith),
+      at (w + (2 * x + 1)) ((2 * y + 1) * w + (2 * x + 1)) ((2 * y′ + 1) * w + (2 * x + 1)) (omega arith) (omega arith) (omega arith),
+    )
+  where
+    at : (i p q : ℕ) → i < 2 * w → p ≡ 2 * y * w + i → q ≡ 2 * y′ * w + i → getD s p 0 ≡ getD t q 0
+    at i p q l c d = ap (λ (n : ℕ). getD s n 0) c ∙ e i l ∙ ap (λ (n : ℕ). getD t n 0) (sym d)
+
+-- ---- a block of m pixels from column x on, of the two rows that begin at `from`
+
+pub row-none : (base d : List ℕ) (k from w to : ℕ) → RowHalved base d k from w to 0 d
+unfolding tab
+row-none base d k from w to = record { is = placed-none to d }
+
+module _ (base d : List ℕ) (k from w to : ℕ) (ok : Halving base d k from w 2 to) where
+  abbrev rowOf : ℕ → ℕ
+  rowOf x = halfPixel (drop from (holderOf base d k)) w x 0
+
+  -- by the column sums of the buffer as it is by then
+  block-pixel : (x m : ℕ) (vs sums : List ℕ) → x + m ≤ w / 2 → Summed (holderOf base (placed to vs d) k) (from + 2 * x) (from + 2 * x + w) (2 * m) sums
+      → (i : ℕ) → i < m → (getD sums (2 * i) 0 + getD sums (2 * i + 1) 0 + 2) / 4 ≡ rowOf (x + i)
+  block-pixel x m vs sums p q i l =
+      let read : (a b : ℕ) → a ≡ b → b < from + w * 2 → getD (holderOf base (placed to vs d) k) a 0 ≡ getD (holderOf base d k) b 0 =
+          λ a b e t. kept base d vs k to a b (omega (arith, ok .fits)) e (λ z. omega (arith, ok .behind z)) in
+      let sum : getD sums (2 * i) 0 + getD sums (2 * i + 1) 0 + 2
+          ≡ getD (holderOf base d k) (from + 2 * (x + i)) 0 + getD (holderOf base d k) (from + 2 * (x + i) + 1) 0
+          + getD (holderOf base d k) (from + w + 2 * (x + i)) 0 + getD (holderOf base d k) (from + w + 2 * (x + i) + 1) 0 + 2 =
+          omega (
+            arith,
+            q .each (2 * i) (omega arith),
+            q .each (2 * i + 1) (omega arith),
+            read (from + 2 * x + 2 * i) (from + 2 * (x + i)) (omega arith) (omega arith),
+            read (from + 2 * x + (2 * i + 1)) (from + 2 * (x + i) + 1) (omega arith) (omega arith),
+            read (from + 2 * x + w + 2 * i) (from + w + 2 * (x + i)) (omega arith) (omega arith),
+            read (from + 2 * x + w + (2 * i + 1)) (from + w + 2 * (x + i) + 1) (omega arith) (omega arith),
+          ) in
+      ap (λ (n : ℕ). n / 4) sum ∙ sym (half-at (holderOf base d k) from w (x + i))
+
+  -- the block's columns lie in the two rows
+  pub block-inside : (s : List ℕ) (x m : ℕ) → length s ≡ length d → x + m ≤ w / 2 → from + 2 * x + w + 2 * m ≤ length (holderOf base s k)
+  block-inside s x m e p = omega (arith, ok .inside, holder-length base d s k e)
+
+  pub row-put : (x m n : ℕ) (s sums ys : List ℕ) → RowHalved base d k from w to x s → x + m ≤ w / 2 → Summed (holderOf base s k) (from + 2 * x) (from + 2 * x + w) (2 * m) sums
+      → ys ≡ tab n (λ i. (getD sums (2 * i) 0 + getD sums (2 * i + 1) 0 + 2) / 4) → n ≡ m
+      → RowHalved base d k from w to (x + m) (putMid (to + x) (to + x + m - (to + x)) s ys)
+  row-put x m n s sums ys e p q t r =
+      let z : ys ≡ tab m (λ i. rowOf (x + i)) =
+          t ∙ ap (λ (j : ℕ). tab j (λ i. (getD sums (2 * i) 0 + getD sums (2 * i + 1) 0 + 2) / 4)) r
+          ∙ tab-ext m _ _ (block-pixel x m (tab x rowOf) sums p (rw (e .is) at q)) in
+      let l : to + x + m - (to + x) ≡ length ys = omega (arith, ap length z, length-tab m (λ i. rowOf (x + i))) in
+      record {
+        is =
+            put-placed (to + x) (to + x + m - (to + x)) ys s l
+            ∙ ap (placed (to + x) ys) (e .is)
+            ∙ placed-more to (to + x) (tab x rowOf) ys d (omega (arith, ok .fits)) (omega (arith, length-tab x rowOf))
+            ∙ ap (λ (v : List ℕ). placed to v d) (ap (λ (v : List ℕ). tab x rowOf ++ v) z ∙ sym (tab-add x m rowOf));
+      }
+
+-- ---- row y of the level that begins at `from`
+
+-- its two rows end within the level, and its half-size pixels within the new one
+pub row-below : (from w h y a : ℕ) → y < h / 2 → a ≡ from + 2 * y * w → a + 2 * w ≤ from + w * h
+row-below from w h y a l p = omega (arith, mul-le-mul-right w (let z : 2 * (y + 1) ≤ h = omega arith in z))
+
+pub row-end : (to w h y at : ℕ) → y < h / 2 → at ≡ to + y * (w / 2) → at + w / 2 ≤ to + w / 2 * (h / 2)
+row-end to w h y at l q = omega (arith, mul-le-mul-right (w / 2) l, suc-mul y (w / 2))
+
+pub level-none : (base d : List ℕ) (k from w to : ℕ) → LevelHalved base d k from w to 0 d
+unfolding grid
+level-none base d k from w to = record { is = placed-none to d }
+
+module _ (base d : List ℕ) (k from w h to : ℕ) (ok : Halving base d k from w h to) (s : List ℕ) (y a at : ℕ) (long : length s ≡ length d) (l : y < h / 2) (p : a ≡ from + 2 * y * w) (q : at ≡ to + y * (w / 2)) where
+  pub row-ok : Halving base s k a w 2 at
+  row-ok =
+      record {
+        inside = omega (arith, row-below from w h y a l p, ok .inside, holder-length base d s k long);
+        behind = λ z. omega (arith, row-below from w h y a l p, ok .behind z);
+        fits = omega (arith, row-end to w h y at l q, ok .fits);
+      }
+
+  pub row-more : (s′ : List ℕ) → LevelHalved base d k from w to y s → RowHalved base s k a w at (w / 2) s′ → LevelHalved base d k from w to (y + 1) s′
+  unfolding grid
+  row-more s′ e r =
+      let f : ℕ → ℕ → ℕ = halfPixel (drop from (holderOf base d k)) w in
+      let read : (i : ℕ) → i < 2 * w → getD (drop a (holderOf base s k)) (2 * 0 * w + i) 0 ≡ getD (drop from (holderOf base d k)) (2 * y * w + i) 0 =
+          λ i t.
+          getD-drop a (holderOf base s k) (2 * 0 * w + i) 0
+          ∙ rw (e .is) (kept base d (grid (w / 2) y f) k to (a + (2 * 0 * w + i)) (from + (2 * y * w + i)) (omega (arith, ok .fits)) (omega arith) (λ z. omega (arith, row-below from w h y a l p, ok .behind z)))
+          ∙ sym (getD-drop from (holderOf base d k) (2 * y * w + i) 0) in
+      let pixel : (x : ℕ) → x < w / 2 → halfPixel (drop a (holderOf base s k)) w x 0 ≡ f x y =
+          λ x t. half-alike (drop a (holderOf base s k)) (drop from (holderOf base d k)) w x 0 y read t in
+      record {
+        is =
+            r .is
+            ∙ ap₂ (placed at) (tab-ext (w / 2) _ _ pixel) (e .is)
+            ∙ placed-more to at (grid (w / 2) y f) (tab (w / 2) (λ x. f x y)) d (omega (arith, ok .fits)) (omega (arith, length-grid (w / 2) y f))
+            ∙ rw add-one;
+      }
+
+-- an image is read no further than its last pixel
+pub halved-take : (s : List ℕ) (w h : ℕ) → halved (take (w * h) s) w h ≡ halved s w h
+unfolding halved
+halved-take s w h =
+    grid-ext (w / 2) (h / 2) _ _
+    (λ x y i j.
+    half-alike (take (w * h) s) s w x y y
+    (λ k l. getD-take (w * h) s (2 * y * w + k) 0 (omega (arith, row-below 0 w h y (2 * y * w) j (omega arith)))) i)

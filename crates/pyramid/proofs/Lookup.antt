@@ -1,0 +1,73 @@
+-- Where a level lies: the answer of `level_at` by its number, and the part that `level` hands back. Assumes nothing.
+use Prim.Native.Nat.{ℕ, zero, suc, _+_, _-_, _*_, _^_, _<_, _≤_}
+use native.Mathlib.Omega.{arith}
+use mathlib.Core.Path.{_≡_, refl, sym, ap, ap₂, _∙_}
+use mathlib.Core.Bool.{Bool, true, false, cond}
+use mathlib.Core.List.{List, []}
+use lib.Dec.{eqb}
+use lib.ListN.{length, take, drop}
+use lib.Seq.{take-all}
+use borrow.Author.Tests.{ne-eqb, eqb-true}
+use Rattle.pyramid.specs.Pyramid.{levelSide, levelCells, levelCount, cellsAbove}
+use Rattle.pyramid.specs.Refusals.{levelRefusal}
+use Rattle.pyramid.specs.Level.{placeAnswer, levelAnswer, levelPart, levelIn}
+use Rattle.pyramid.specs.Halve.{holderOf}
+use Rattle.pyramid.specs.declared.LevelAnswer.{LevelAnswer}
+use Rattle.pyramid.specs.declared.LevelAnswer.the-variants.{Level, Refused}
+use Rattle.pyramid.proofs.Sides.{side-base}
+use Rattle.pyramid.proofs.Refusals.{Accepted, level-accepted}
+use Rattle.pyramid.proofs.Above.{level-inside}
+
+module _ (pixels places w h count least k : ℕ) where
+  pub answer-refused : (n : ℕ) → levelRefusal pixels places w h count least k ≡ n → (n ≡ 0 → ⊥) → Refused n ≡ levelAnswer pixels places w h count least k
+  unfolding levelAnswer
+  answer-refused n e z = rw (e, ne-eqb n 0 z)
+
+  pub answer-level : (from : ℕ) → levelRefusal pixels places w h count least k ≡ 0 → from ≡ cellsAbove w h k → Level from (levelSide w k) (levelSide h k) ≡ levelAnswer pixels places w h count least k
+  unfolding levelAnswer
+  answer-level from e f = rw (e, f)
+
+-- an answer taken apart
+level-is : (t : Bool) (n f a b g c d : ℕ) → cond t (Level f a b) (Refused n) ≡ Level g c d → (t ≡ true) × (g ≡ f) × (c ≡ a) × (d ≡ b)
+level-is true n f a b g c d e = (refl, (cc), (cc), (cc))
+level-is false n f a b g c d e = let z : _≡_ {A = ℕ} 0 1 = cc in absurd (omega arith)
+
+refused-is : (t : Bool) (n f a b m : ℕ) → cond t (Level f a b) (Refused n) ≡ Refused m → t ≡ false
+refused-is true n f a b m e = let z : _≡_ {A = ℕ} 0 1 = cc in absurd (omega arith)
+refused-is false n f a b m e = refl
+
+-- the part by its place in the slice that the level lies in
+pub part-is : (base levels : List ℕ) (w h k : ℕ) → length base ≡ w * h → take (levelCells w h k) (drop (cellsAbove w h k) (holderOf base levels k)) ≡ levelPart base levels w h k
+unfolding cellsAbove
+part-is base levels w h zero e = take-all (levelCells w h 0) base (omega (arith, e, ap₂ (λ (a b : ℕ). a * b) (side-base w) (side-base h)))
+part-is base levels w h (suc k) e = refl
+
+-- a level that is handed out: nothing refuses it, and its place and sides are those of level k
+pub record Placed (pixels places w h count least k from a b : ℕ) : Type 0 where
+  pub free : levelRefusal pixels places w h count least k ≡ 0
+  pub begins : from ≡ cellsAbove w h k
+  pub cols : a ≡ levelSide w k
+  pub rows : b ≡ levelSide h k
+
+pub level-placed : (pixels places w h count least k from a b : ℕ) → levelAnswer pixels places w h count least k ≡ Level from a b → Placed pixels places w h count least k from a b
+unfolding levelAnswer
+level-placed pixels places w h count least k from a b e =
+    let p = level-is (eqb (levelRefusal pixels places w h count least k) 0) _ _ _ _ from a b e in
+    record { free = eqb-true _ 0 (p .0); begins = p .1; cols = p .2; rows = p .3 }
+
+pub refused-empty : (base levels : List ℕ) (w h count least k n : ℕ) → levelAnswer (length base) (length levels) w h count least k ≡ Refused n → [] ≡ levelIn base levels w h count least k
+unfolding levelAnswer levelIn
+refused-empty base levels w h count least k n e = rw (refused-is (eqb (levelRefusal (length base) (length levels) w h count least k) 0) _ _ _ _ n e)
+
+module _ (base levels : List ℕ) (w h count least k from a b : ℕ) (p : Placed (length base) (length levels) w h count least k from a b) where
+  -- it ends within its slice
+  pub placed-inside : from + a * b ≤ length (holderOf base levels k)
+  placed-inside =
+      let q = level-accepted _ _ _ _ _ _ k (p .free) in
+      rw (p .begins, p .cols, p .rows) (level-inside base levels w h (levelCount w h count least) k (q .0 .image .sized) (q .0 .fits) (q .1))
+
+  pub placed-part : (s : List ℕ) → s ≡ holderOf base levels k → take (from + a * b - from) (drop from s) ≡ levelIn base levels w h count least k
+  unfolding levelIn
+  placed-part s e =
+      let m : from + a * b - from ≡ a * b = omega arith in
+      rw (e, m, p .free, p .begins, p .cols, p .rows) (part-is base levels w h k (level-accepted _ _ _ _ _ _ k (p .free) .0 .image .sized))

@@ -1,0 +1,61 @@
+-- `pyramid::build_pyramid` meets its contract. Assumes nothing.
+use Prim.Native.Nat.{_<_, _≤_}
+use native.Mathlib.Omega.{arith}
+use mathlib.Core.Path.{_≡_, sym, ap, _∙_}
+use lib.ListN.{length}
+use borrow.Author.Needs.{needs}
+use Rattle.pyramid.specs.Pyramid.{levelCount, cellsAbove}
+use Rattle.pyramid.proofs.Refusals.{Sized, Accepted, image-none, build-image, build-short, accepts}
+use Rattle.pyramid.proofs.Building.{built-refused, built-filled, cells-known}
+use Rattle.pyramid.proofs.build_pyramid.Statement.{statement}
+use Rattle.pyramid.proofs.build_pyramid.Tie as tie
+
+image-fault-requires : tie.Need-image-fault-requires
+image-fault-requires c κs = search needs
+
+returns : tie.Need-returns
+returns c =
+    let a = c .before .before .before .before .args in
+    built-refused _ _ _ _ _ _ _ (build-image _ (length (a .levels .now)) _ _ (a .num-levels) (a .min-size) _ (c .before .image-fault .ensures) (c .if1 .taken)) (c .if1 .taken)
+
+level-count-requires : tie.Need-level-count-requires
+level-count-requires c κs = search needs
+
+cells-before-requires : tie.Need-cells-before-requires
+cells-before-requires c κs = search needs
+
+-- where the buffer is judged: nothing refuses the base, and the count is that of the pixels above it
+image : (c : tie.After-cells-before) → Sized (length (c .before .before .before .before .before .before .args .base .now)) (c .before .before .before .before .before .before .args .width) (c .before .before .before .before .before .before .args .height)
+image c = image-none _ _ _ _ (c .before .before .before .image-fault .ensures) (c .before .before .if1 .left)
+
+cells : (c : tie.After-cells-before) → c .cells-before .result ≡ cellsAbove (c .before .before .before .before .before .before .args .width) (c .before .before .before .before .before .before .args .height) (levelCount (c .before .before .before .before .before .before .args .width) (c .before .before .before .before .before .before .args .height) (c .before .before .before .before .before .before .args .num-levels) (c .before .before .before .before .before .before .args .min-size))
+cells c = cells-known _ _ _ _ _ _ _ (image c) (c .before .level-count .ensures) (c .cells-before .ensures)
+
+returns-2 : tie.Need-returns-2
+returns-2 c = built-refused _ _ _ _ _ _ _ (build-short _ _ _ _ _ _ (image (c .before)) (rw (cells (c .before)) at (c .if2 .taken))) (λ e. omega arith)
+
+-- and the buffer is long enough
+ready : (c : tie.Else2) → Accepted (length (c .before .before .before .before .before .before .before .args .base .now)) (length (c .before .before .before .before .before .before .before .args .levels .now)) (c .before .before .before .before .before .before .before .args .width) (c .before .before .before .before .before .before .before .args .height) (c .before .before .before .before .before .before .before .args .num-levels) (c .before .before .before .before .before .before .before .args .min-size)
+ready c = record { image = image (c .before); fits = rw (cells (c .before)) at (c .if2 .left) }
+
+fill-levels-requires : tie.Need-fill-levels-requires
+fill-levels-requires c κs = (ready (c .before) .image .sized, rw (c .before .before .before .level-count .ensures) (ready (c .before) .fits))
+
+same-length : tie.Need-same-length
+same-length c = search needs
+
+returns-3 : tie.Need-returns-3
+returns-3 c = built-filled _ _ _ _ _ _ _ _ (accepts _ _ _ _ _ _ (ready (c .before .before .before .before))) (c .before .before .before .before .before .before .level-count .ensures) (c .before .before .fill-levels .ensures)
+
+pub build-pyramid-spec : {M : Type 1} → statement M
+build-pyramid-spec =
+    tie.close
+    (tie.spec
+    image-fault-requires
+    returns
+    level-count-requires
+    cells-before-requires
+    returns-2
+    fill-levels-requires
+    same-length
+    returns-3)

@@ -1,0 +1,118 @@
+-- `pyramid::halve_rows` meets its contract: after x columns their half-size pixels are placed. Assumes nothing.
+use Prim.Native.Nat.{ℕ, _+_, _-_, _*_, _/_, _^_, _<_, _≤_}
+use native.Mathlib.Omega.{arith}
+use mathlib.Core.Path.{_≡_, refl, sym, ap, _∙_}
+use lib.ListN.{length, take, drop}
+use borrow.Author.Needs.{needs}
+use Rattle.lists.proofs.Tab.{part-length}
+use Rattle.pyramid.specs.Halve.{holderOf, Halving, Summed, RowHalved}
+use Rattle.pyramid.proofs.Halving.{holder-short, row-none, block-inside, row-put}
+use Rattle.pyramid.proofs.halve_rows.Statement.{statement}
+use Rattle.pyramid.proofs.halve_rows.Tie as tie
+
+abbrev Inv-loop : tie.InvT-loop
+Inv-loop base k from w levels₀ to n x₀ levels x = (length levels ≡ length levels₀) × (x ≤ n) × RowHalved base levels₀ k from w to x levels
+
+abbrev μ-loop : tie.MeasureT-loop
+μ-loop base k from w levels₀ to n x₀ levels x = n - x
+
+loop-holds : tie.Need-loop-holds Inv-loop μ-loop
+loop-holds c = (refl, search needs, row-none _ _ _ _ _ _)
+
+sub-lesser : tie.Need-sub-lesser Inv-loop μ-loop
+sub-lesser c = search needs
+
+lesser-requires : tie.Need-lesser-requires Inv-loop μ-loop
+lesser-requires c κs = search needs
+
+-- the block ends within the row, so that its columns lie in the two rows
+ends : (c : tie.After-lesser Inv-loop μ-loop) → c .before .before .loop .x + c .lesser .result ≤ c .before .before .before .before .before .args .w / 2
+ends c = rw (c .lesser .ensures) (omega (arith, c .before .loop-test .taken))
+
+inside : (c : tie.After-lesser Inv-loop μ-loop) → c .before .before .before .before .before .args .from + 2 * c .before .before .loop .x + c .before .before .before .before .before .args .w + 2 * c .lesser .result ≤ length (holderOf (c .before .before .before .before .before .args .base .now) (c .before .before .loop .levels) (c .before .before .before .before .before .args .k))
+inside c = block-inside _ _ _ _ _ _ (c .before .before .before .before .before .pre) _ _ _ (c .before .before .loop .inv .0) (ends c)
+
+short : (c : tie.After-lesser Inv-loop μ-loop) → length (holderOf (c .before .before .before .before .before .args .base .now) (c .before .before .loop .levels) (c .before .before .before .before .before .args .k)) < 2 ^ 64
+short c = holder-short _ _ (c .before .before .before .before .before .args .k) _ (c .before .before .before .before .before .good .0 .0) (omega (arith, c .before .before .loop .inv .0, c .before .before .before .before .before .good .1 .1 .1 .1 .0 .0))
+
+mul-top : tie.Need-mul-top Inv-loop μ-loop
+mul-top c = search needs
+
+add-top : tie.Need-add-top Inv-loop μ-loop
+add-top c = record { fits = omega (arith, short c, inside c) }
+
+add-level-sums : tie.Need-add-level-sums Inv-loop μ-loop
+add-level-sums c = record { fits = omega (arith, short (c .before), inside (c .before)) }
+
+mul-level-sums : tie.Need-mul-level-sums Inv-loop μ-loop
+mul-level-sums c = search needs
+
+level-sums-requires : tie.Need-level-sums-requires Inv-loop μ-loop
+level-sums-requires c κs = (omega (arith, c .before .lesser .ensures), omega (arith, inside (c .before)), inside (c .before))
+
+add-a : tie.Need-add-a Inv-loop μ-loop
+add-a c = search needs
+
+add-e : tie.Need-add-e Inv-loop μ-loop
+add-e c = search needs
+
+sub-pair-means : tie.Need-sub-pair-means Inv-loop μ-loop
+sub-pair-means c = search needs
+
+part-pair-means-start : tie.Need-part-pair-means-start Inv-loop μ-loop
+part-pair-means-start c = search needs
+
+part-pair-means-end : tie.Need-part-pair-means-end Inv-loop μ-loop
+part-pair-means-end c = omega (arith, ends (c .before .before), c .before .before .before .before .loop .inv .0, c .before .before .before .before .before .before .before .pre .fits)
+
+-- the part of the buffer that the block's pixels go to
+part : (c : tie.After-lesser Inv-loop μ-loop) → length (take (c .before .before .before .before .before .args .to + c .before .before .loop .x + c .lesser .result - (c .before .before .before .before .before .args .to + c .before .before .loop .x)) (drop (c .before .before .before .before .before .args .to + c .before .before .loop .x) (c .before .before .loop .levels))) ≡ c .lesser .result
+part c = part-length (c .before .before .before .before .before .args .to + c .before .before .loop .x) (c .lesser .result) (c .before .before .loop .levels) (omega (arith, ends c, c .before .before .loop .inv .0, c .before .before .before .before .before .pre .fits))
+
+pair-means-requires : tie.Need-pair-means-requires Inv-loop μ-loop
+pair-means-requires c κs = (rw (part (c .before .before .before)) (omega (arith, c .before .before .before .lesser .ensures)), λ i l. c .before .level-sums .ensures .small i (rw (part (c .before .before .before)) at l))
+
+add-x : tie.Need-add-x Inv-loop μ-loop
+add-x c = search needs
+
+loop-less : tie.Need-loop-less Inv-loop μ-loop
+loop-less c = search needs
+
+loop-again : tie.Need-loop-again Inv-loop μ-loop
+loop-again c = (
+  search needs,
+  ends (c .before .before .before .before .before .before),
+  row-put _ _ _ _ _ _ (c .before .before .before .before .before .before .before .before .before .before .before .pre) _ _ _ _ _ _ (c .before .before .before .before .before .before .before .before .loop .inv .2) (ends (c .before .before .before .before .before .before)) (c .before .before .before .before .level-sums .ensures) (c .before .before .pair-means .ensures) (part (c .before .before .before .before .before .before)),
+)
+
+same-length : tie.Need-same-length Inv-loop μ-loop
+same-length c = search needs
+
+returns : tie.Need-returns Inv-loop μ-loop
+returns c = let e : c .before .loop .x ≡ c .before .before .before .before .args .w / 2 = omega arith in rw e at (c .before .loop .inv .2)
+
+pub halve-rows-spec : {M : Type 1} → statement M
+halve-rows-spec =
+    tie.close
+    (tie.spec
+    Inv-loop
+    μ-loop
+    loop-holds
+    sub-lesser
+    lesser-requires
+    mul-top
+    add-top
+    add-level-sums
+    mul-level-sums
+    level-sums-requires
+    add-a
+    add-e
+    sub-pair-means
+    part-pair-means-start
+    part-pair-means-end
+    pair-means-requires
+    add-x
+    loop-less
+    loop-again
+    same-length
+    returns)

@@ -1,0 +1,5 @@
+pub mod Pyramid
+pub mod Refusals
+pub mod Build
+pub mod Level
+pub mod Halve
