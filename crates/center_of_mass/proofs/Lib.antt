@@ -3,3 +3,6 @@ pub mod Axis
 pub mod Outcomes
 pub mod Judgement
 pub mod Promised
+pub mod Weights
+pub mod Range
+pub mod Peak

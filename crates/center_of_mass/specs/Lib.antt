@@ -1,2 +1,3 @@
 pub mod CenterOfMass
 pub mod Promise
+pub mod Range

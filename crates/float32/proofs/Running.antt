@@ -1,14 +1,17 @@
 -- A running sum of floats that are not negative, against the exact sum: the relative error grows by one part in 2 ^ 24 - 2048 with each addition, up to 2048 of them.
 -- Numbers of units throughout (`Units`). Assumes nothing.
 use mathlib.Core.Path.{_≡_, refl, subst}
+use mathlib.Core.List.{List, [], _∷_}
+use lib.ListN.{length}
 use Prim.Native.Nat.{ℕ, zero, suc, _+_, _*_, _^_, _≤_, _<_}
-use native.Mathlib.Nat.{le-trans, le-of-lt, lt-of-le-of-lt, lt-of-lt-of-le, add-mul, mul-le-mul-right, mul-le-mul-left, mul-suc, mul-lt-mul-of-pos-right}
+use native.Mathlib.Nat.{add-zero, zero-add, add-assoc, suc-mul, le-trans, le-of-lt, lt-of-le-of-lt, lt-of-lt-of-le, add-mul, mul-le-mul-right, mul-le-mul-left, mul-suc, mul-lt-mul-of-pos-right}
 use native.Mathlib.Omega.{arith}
 use mathlib.Core.Bool.{false}
 use lib.Dec.{lit<, lit≤}
 use lib.Pow.{pow-pos}
 use lib.Ieee.{Float, binary32, low, add, mul}
 use lib.Ieee.Exact.{HasValue}
+use Rattle.lists.specs.Places.{sumOf, All}
 use Rattle.float32.specs.Float32.{zero as zero32}
 use Rattle.float32.specs.Value.{total}
 use Rattle.float32.proofs.Rounding.{HalfNear}
@@ -90,3 +93,26 @@ running-nearly t X d H n s m v b (suc k) l =
     let sum : total X (suc k) ≤ n * H = le-trans (total-bound X H (suc k) (λ i q. b i (lt-of-lt-of-le q l))) (mul-le-mul-right H l) in
     subst (λ (c : ℕ). Nearly (add binary32 (running t k) (t k)) (total X k + X k) c) e
     (add-nearly (running t k) (t k) (total X k) (X k) (k + d) d (omega arith) (omega arith) (le-trans sum m) (running-nearly t X d H n s m v b k (le-of-lt l)) (v k l))
+
+-- ---- the terms of a list, one after the other
+module _ {A : Type 0} (t : A → Float) where
+  unfoldable pub summed : Float → List A → Float
+  summed a [] = a
+  summed a (p ∷ ps) = summed (add binary32 a (t p)) ps
+
+  module _ (X : A → ℕ) (d H B : ℕ) (top : B ≤ 2 ^ 60 * 2 ^ low binary32) where
+    summed-on : (ps : List A) → All (λ p. Nearly (t p) (X p) d × (X p ≤ H)) ps → (a : Float) (S c : ℕ) → Nearly a S c → d ≤ c → c + length ps ≤ 2048 → S + length ps * H ≤ B
+        → Nearly (summed a ps) (S + sumOf X ps) (c + length ps)
+    unfolding summed
+    summed-on [] h a S c v l n b = rw (add-zero S, add-zero c) v
+    summed-on (p ∷ ps) h a S c v l n b =
+        let k : c + suc (length ps) ≡ suc c + length ps = omega arith in
+        let m : S + X p + length ps * H ≤ B = omega (arith, h .0 .1, suc-mul (length ps) H) in
+        let s = add-nearly a (t p) S (X p) c d l (omega arith) (le-trans (omega arith) top) v (h .0 .0) in
+        rw (← add-assoc S (X p) (sumOf X ps), k) (summed-on ps (h .1) (add binary32 a (t p)) (S + X p) (suc c) s (omega arith) (omega arith) m)
+
+  pub summed-nearly : (X : A → ℕ) (d H : ℕ) (ps : List A) → d + length ps ≤ 2048 → length ps * H ≤ 2 ^ 60 * 2 ^ low binary32 → All (λ p. Nearly (t p) (X p) d × (X p ≤ H)) ps
+      → Nearly (summed zero32 ps) (sumOf X ps) (d + length ps)
+  summed-nearly X d H ps n b h =
+      let none : Nearly zero32 0 d = record { size = 0; units = (refl, refl); near = omega arith } in
+      rw zero-add at (summed-on X d H (length ps * H) b ps h zero32 0 d none (omega arith) n (omega arith))

@@ -1,14 +1,15 @@
 -- Floats that are not negative as whole numbers of units, the format's smallest value 2 ^ -low. A sum of two, and a product with a whole number, are whole numbers of units
 -- before they are rounded, so the relative error is at most one part in 2 ^ prec everywhere, subnormal results included. Assumes nothing.
-use mathlib.Core.Path.{_≡_, sym, ap, _∙_, subst}
+use mathlib.Core.Path.{_≡_, refl, sym, ap, _∙_, subst}
 use mathlib.Core.Logic.{⊎-elim}
 use Prim.Native.Nat.{ℕ, suc, _+_, _-_, _*_, _/_, _^_, _≤_, _<_}
-use native.Mathlib.Nat.{le-trans, le-of-eq, lt-of-lt-of-le, one-mul, mul-one, le-of-mul-le-mul-right, eq-of-mul-eq-mul-right, mul-pos, mul-div-cancel, eq-zero-or-pos}
+use native.Mathlib.Nat.{le-trans, le-of-eq, lt-of-lt-of-le, one-mul, mul-one, le-of-mul-le-mul-right, eq-of-mul-eq-mul-right, mul-pos, mul-div-cancel, eq-zero-or-pos, mul-assoc, mul-comm}
 use native.Mathlib.Omega.{arith}
 use mathlib.Core.Bool.{true, false, true≢false}
 use lib.Dec.{lit<}
+use lib.IntN.{ℤ}
 use lib.Pow.{pow-pos, pow-mono}
-use lib.Ieee.{Float, nan, inf, fin, Format, prec, emax, low, up, down, size, round, sum, add, mul}
+use lib.Ieee.{Float, nan, inf, fin, Format, binary32, fits, prec, emax, low, up, down, size, round, sum, add, mul}
 use lib.Ieee.Digits.{size-lt}
 use lib.Ieee.Fits.{down-pos, reach}
 use lib.Ieee.Exact.{HasValue, round-exact}
@@ -16,6 +17,7 @@ use lib.Ieee.Scale.{grid, overflow, round-same}
 use Rattle.float32.proofs.Poly.{poly}
 use Rattle.float32.proofs.Rounding.{HalfNear, grid-under, round-val, grid-relative}
 use Rattle.float32.proofs.Values.{value-unique, mul-round}
+use Rattle.float32.proofs.Canonical.{rest, down-rest, own-low}
 
 -- ---- a whole number s of units, rounded
 abbrev pub rounded : Format → ℕ → ℕ
@@ -72,6 +74,19 @@ units-near f s = ⊎-elim normal small (eq-zero-or-pos (prec f - size (s * 2 ^ l
 -- ---- x is g units, and not negative
 abbrev pub Units : Format → Float → ℕ → Type 0
 Units f x g = HasValue x false g (2 ^ low f)
+
+-- the units of a float that binary32 holds
+unfoldable pub unitsOf : Float → ℕ
+unitsOf nan = 0
+unitsOf (inf s) = 0
+unitsOf (fin s m e) = m * up e * 2 ^ rest e
+
+pub own-units : (m : ℕ) (e : ℤ) → fits binary32 (fin false m e) ≡ true → Units binary32 (fin false m e) (unitsOf (fin false m e))
+unfolding unitsOf
+own-units m e f = (refl, ap (λ (z : ℕ). m * up e * z) (sym (down-rest e (own-low false m e f))) ∙ regroup (m * up e) (down e) (2 ^ rest e))
+  where
+    regroup : (n d t : ℕ) → n * (d * t) ≡ n * t * d
+    regroup n d t = simp (mul-assoc, mul-comm)
 
 -- far below overflow
 abbrev Small : Format → ℕ → Type 0

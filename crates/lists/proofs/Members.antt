@@ -1,13 +1,13 @@
 -- A fact of each member of a list, of each place of a block, and filters of one list by two tests. Assumes nothing.
-use Prim.Native.Nat.{ℕ, zero, suc, _+_, _-_, _<_, _≤_}
+use Prim.Native.Nat.{ℕ, zero, suc, _+_, _-_, _*_, _<_, _≤_}
 use native.Mathlib.Omega.{arith}
-use native.Mathlib.Nat.{eq-or-lt-of-le}
+use native.Mathlib.Nat.{eq-or-lt-of-le, le-of-suc-le-suc, not-suc-le-zero, mul-add}
 use mathlib.Core.Path.{_≡_, refl, sym, ap, ap₂, _∙_, subst}
 use mathlib.Core.Logic.{⊎-elim}
 use mathlib.Core.Bool.{Bool, true, false, cond, _||_, false≢true}
 use mathlib.Core.List.{List, [], _∷_, _++_, map, append-assoc, tail-eq-of-cons-eq}
-use lib.ListN.{length}
-use Rattle.lists.specs.Places.{Place, counted, range, row, rows, block, any, keep, flatMap, All}
+use lib.ListN.{length, getD}
+use Rattle.lists.specs.Places.{Place, counted, range, row, rows, block, any, keep, flatMap, sumOf, All}
 use Rattle.lists.proofs.Tests.{is-false, or-neither}
 
 -- ---- each member
@@ -42,6 +42,12 @@ module _ {A : Type 0} where
   any-none f [] e = tt
   any-none f (a ∷ l) e = let q = or-neither (f a) (any f l) e in (λ z. false≢true (sym (q .0) ∙ z), any-none f l (q .1))
 
+  -- the member at a place
+  pub all-at : (P : A → Type 0) (l : List A) → All P l → (i : ℕ) (d : A) → i < length l → P (getD l i d)
+  all-at P [] h i d k = absurd (not-suc-le-zero k)
+  all-at P (a ∷ l) h zero d k = h .0
+  all-at P (a ∷ l) h (suc i) d k = all-at P l (h .1) i d (le-of-suc-le-suc k)
+
 pub all-mapped : {A B : Type 0} (P : B → Type 0) (g : A → B) (l : List A) → All (λ a. P (g a)) l → All P (map g l)
 all-mapped P g [] h = tt
 all-mapped P g (a ∷ l) h = (h .0, all-mapped P g l (h .1))
@@ -49,6 +55,17 @@ all-mapped P g (a ∷ l) h = (h .0, all-mapped P g l (h .1))
 pub all-unmapped : {A B : Type 0} (P : B → Type 0) (g : A → B) (l : List A) → All P (map g l) → All (λ a. P (g a)) l
 all-unmapped P g [] h = tt
 all-unmapped P g (a ∷ l) h = (h .0, all-unmapped P g l (h .1))
+
+-- ---- sums of a number of each member
+
+module _ {A : Type 0} (X : A → ℕ) where
+  pub sum-weighted : (Y : A → ℕ) (k : ℕ) (l : List A) → All (λ a. X a ≤ k * Y a) l → sumOf X l ≤ k * sumOf Y l
+  sum-weighted Y k [] h = omega arith
+  sum-weighted Y k (a ∷ l) h = omega (arith, h .0, sum-weighted Y k l (h .1), mul-add k (Y a) (sumOf Y l))
+
+  pub sum-none : (l : List A) → sumOf X l ≡ 0 → All (λ a. X a ≡ 0) l
+  sum-none [] e = tt
+  sum-none (a ∷ l) e = (omega arith, sum-none l (omega arith))
 
 -- ---- the lists of each member
 
