@@ -50,10 +50,10 @@ module _ {A : Type 0} where
       let l : length (take held d ++ vs) ≡ n = length-append (take held d) vs ∙ ap (λ (k : ℕ). k + length vs) (length-take-le held d h) ∙ sym e in
       let k : held + length vs + length us ≡ held + length (vs ++ us) = omega (arith, length-append vs us) in
       let rest : drop (n + length us) (placed held vs d) ≡ drop (held + length (vs ++ us)) d =
-          sym (drop-drop (length us) n (placed held vs d))
-          ∙ ap (drop (length us)) (drop-at (take held d ++ vs) (drop (held + length vs) d) n l)
-          ∙ drop-drop (length us) (held + length vs) d
-          ∙ ap (λ (i : ℕ). drop i d) k in
+      sym (drop-drop (length us) n (placed held vs d))
+      ∙ ap (drop (length us)) (drop-at (take held d ++ vs) (drop (held + length vs) d) n l)
+      ∙ drop-drop (length us) (held + length vs) d
+      ∙ ap (λ (i : ℕ). drop i d) k in
       ap₂ (λ (a b : List A). a ++ us ++ b) (take-at (take held d ++ vs) (drop (held + length vs) d) n l) rest
       ∙ ap (λ (a : List A). a ++ drop (held + length (vs ++ us)) d) (append-assoc (take held d) vs us)
 

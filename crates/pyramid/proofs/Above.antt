@@ -102,8 +102,8 @@ module _ (base d : List ℕ) (w h n k a b from to : ℕ) (s : List ℕ) (sized :
   unfolding above levelPixels halved
   reach-next s′ e t =
       let pixels : halved (drop from (holderOf base s k)) a b ≡ levelPixels base w h (suc k) =
-          sym (halved-take (drop from (holderOf base s k)) a b)
-          ∙ rw (r .cols, r .rows, r .begins, r .holds) (ap (λ (v : List ℕ). halved v (levelSide w k) (levelSide h k)) (level-built base d w h (suc k) k sized (omega arith))) in
+      sym (halved-take (drop from (holderOf base s k)) a b)
+      ∙ rw (r .cols, r .rows, r .begins, r .holds) (ap (λ (v : List ℕ). halved v (levelSide w k) (levelSide h k)) (level-built base d w h (suc k) k sized (omega arith))) in
       record {
         long = e ∙ r .long;
         last = omega arith;

@@ -78,19 +78,19 @@ module _ (base d : List ℕ) (k from w to : ℕ) (ok : Halving base d k from w 2
       → (i : ℕ) → i < m → (getD sums (2 * i) 0 + getD sums (2 * i + 1) 0 + 2) / 4 ≡ rowOf (x + i)
   block-pixel x m vs sums p q i l =
       let read : (a b : ℕ) → a ≡ b → b < from + w * 2 → getD (holderOf base (placed to vs d) k) a 0 ≡ getD (holderOf base d k) b 0 =
-          λ a b e t. kept base d vs k to a b (omega (arith, ok .fits)) e (λ z. omega (arith, ok .behind z)) in
+      λ a b e t. kept base d vs k to a b (omega (arith, ok .fits)) e (λ z. omega (arith, ok .behind z)) in
       let sum : getD sums (2 * i) 0 + getD sums (2 * i + 1) 0 + 2
-          ≡ getD (holderOf base d k) (from + 2 * (x + i)) 0 + getD (holderOf base d k) (from + 2 * (x + i) + 1) 0
-          + getD (holderOf base d k) (from + w + 2 * (x + i)) 0 + getD (holderOf base d k) (from + w + 2 * (x + i) + 1) 0 + 2 =
-          omega (
-            arith,
-            q .each (2 * i) (omega arith),
-            q .each (2 * i + 1) (omega arith),
-            read (from + 2 * x + 2 * i) (from + 2 * (x + i)) (omega arith) (omega arith),
-            read (from + 2 * x + (2 * i + 1)) (from + 2 * (x + i) + 1) (omega arith) (omega arith),
-            read (from + 2 * x + w + 2 * i) (from + w + 2 * (x + i)) (omega arith) (omega arith),
-            read (from + 2 * x + w + (2 * i + 1)) (from + w + 2 * (x + i) + 1) (omega arith) (omega arith),
-          ) in
+      ≡ getD (holderOf base d k) (from + 2 * (x + i)) 0 + getD (holderOf base d k) (from + 2 * (x + i) + 1) 0
+      + getD (holderOf base d k) (from + w + 2 * (x + i)) 0 + getD (holderOf base d k) (from + w + 2 * (x + i) + 1) 0 + 2 =
+      omega (
+        arith,
+        q .each (2 * i) (omega arith),
+        q .each (2 * i + 1) (omega arith),
+        read (from + 2 * x + 2 * i) (from + 2 * (x + i)) (omega arith) (omega arith),
+        read (from + 2 * x + (2 * i + 1)) (from + 2 * (x + i) + 1) (omega arith) (omega arith),
+        read (from + 2 * x + w + 2 * i) (from + w + 2 * (x + i)) (omega arith) (omega arith),
+        read (from + 2 * x + w + (2 * i + 1)) (from + w + 2 * (x + i) + 1) (omega arith) (omega arith),
+      ) in
       ap (λ (n : ℕ). n / 4) sum ∙ sym (half-at (holderOf base d k) from w (x + i))
 
   -- the block's columns lie in the two rows
@@ -102,8 +102,8 @@ module _ (base d : List ℕ) (k from w to : ℕ) (ok : Halving base d k from w 2
       → RowHalved base d k from w to (x + m) (putMid (to + x) (to + x + m - (to + x)) s ys)
   row-put x m n s sums ys e p q t r =
       let z : ys ≡ tab m (λ i. rowOf (x + i)) =
-          t ∙ ap (λ (j : ℕ). tab j (λ i. (getD sums (2 * i) 0 + getD sums (2 * i + 1) 0 + 2) / 4)) r
-          ∙ tab-ext m _ _ (block-pixel x m (tab x rowOf) sums p (rw (e .is) at q)) in
+      t ∙ ap (λ (j : ℕ). tab j (λ i. (getD sums (2 * i) 0 + getD sums (2 * i + 1) 0 + 2) / 4)) r
+      ∙ tab-ext m _ _ (block-pixel x m (tab x rowOf) sums p (rw (e .is) at q)) in
       let l : to + x + m - (to + x) ≡ length ys = omega (arith, ap length z, length-tab m (λ i. rowOf (x + i))) in
       record {
         is =
@@ -140,12 +140,12 @@ module _ (base d : List ℕ) (k from w h to : ℕ) (ok : Halving base d k from w
   row-more s′ e r =
       let f : ℕ → ℕ → ℕ = halfPixel (drop from (holderOf base d k)) w in
       let read : (i : ℕ) → i < 2 * w → getD (drop a (holderOf base s k)) (2 * 0 * w + i) 0 ≡ getD (drop from (holderOf base d k)) (2 * y * w + i) 0 =
-          λ i t.
-          getD-drop a (holderOf base s k) (2 * 0 * w + i) 0
-          ∙ rw (e .is) (kept base d (grid (w / 2) y f) k to (a + (2 * 0 * w + i)) (from + (2 * y * w + i)) (omega (arith, ok .fits)) (omega arith) (λ z. omega (arith, row-below from w h y a l p, ok .behind z)))
-          ∙ sym (getD-drop from (holderOf base d k) (2 * y * w + i) 0) in
+      λ i t.
+      getD-drop a (holderOf base s k) (2 * 0 * w + i) 0
+      ∙ rw (e .is) (kept base d (grid (w / 2) y f) k to (a + (2 * 0 * w + i)) (from + (2 * y * w + i)) (omega (arith, ok .fits)) (omega arith) (λ z. omega (arith, row-below from w h y a l p, ok .behind z)))
+      ∙ sym (getD-drop from (holderOf base d k) (2 * y * w + i) 0) in
       let pixel : (x : ℕ) → x < w / 2 → halfPixel (drop a (holderOf base s k)) w x 0 ≡ f x y =
-          λ x t. half-alike (drop a (holderOf base s k)) (drop from (holderOf base d k)) w x 0 y read t in
+      λ x t. half-alike (drop a (holderOf base s k)) (drop from (holderOf base d k)) w x 0 y read t in
       record {
         is =
             r .is

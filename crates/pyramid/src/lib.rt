@@ -122,7 +122,11 @@ fn cells_before(width: usize, height: usize, n: usize) -> usize
 pub fn cells_above(width: usize, height: usize, num_levels: u32, min_size: usize) -> usize
     ensures { λ r. ⌜ r ≡ capped (cellsAbove width height (levelCount width height «num_levels» «min_size»)) ⌝ }
 {
-    cells_before(width, height, level_count(width, height, num_levels, min_size))
+    cells_before(
+        width,
+        height,
+        level_count(width, height, num_levels, min_size),
+    )
 }
 
 // The slice that level k lies in.
@@ -156,7 +160,14 @@ fn column_sums(pixels: &[u8], top: usize, low: usize, n: usize) -> [u16; 128]
 }
 
 // The same of level k, whichever slice it lies in.
-fn level_sums<'a>(base: &'a [u8], levels: &'a [u8], k: usize, top: usize, low: usize, n: usize) -> [u16; 128]
+fn level_sums<'a>(
+    base: &'a [u8],
+    levels: &'a [u8],
+    k: usize,
+    top: usize,
+    low: usize,
+    n: usize,
+) -> [u16; 128]
     requires { ⌜ (n ≤ 128) × (top + n ≤ length (holderOf (now base) (now levels) k)) × (low + n ≤ length (holderOf (now base) (now levels) k)) ⌝ }
     ensures { λ r. ⌜ Summed (holderOf (now (base .entry)) (now (levels .entry)) k) top low n r ⌝ }
 {
@@ -312,8 +323,21 @@ pub fn level<'a>(
 ) -> &'a [u8]
     ensures { λ r. ⌜ now r ≡ levelIn (now (base .entry)) (now (levels .entry)) width height «num_levels» «min_size» k ⌝ }
 {
-    let a = level_at(base.len(), levels.len(), width, height, num_levels, min_size, k);
-    let LevelAnswer::Level { from, width: w, height: h } = a else {
+    let a = level_at(
+        base.len(),
+        levels.len(),
+        width,
+        height,
+        num_levels,
+        min_size,
+        k,
+    );
+    let LevelAnswer::Level {
+        from,
+        width: w,
+        height: h,
+    } = a
+    else {
         return &base[0..0];
     };
     let part = holder(base, levels, k);
