@@ -1,10 +1,9 @@
 -- The worked cases that document 01 marks P, as one table: what the definitions give, and what the document says, both as lists of integers.
-use Prim.Native.Nat.{ℕ, _+_}
-use mathlib.Core.Bool.{cond}
+use Prim.Native.Nat.{ℕ}
 use mathlib.Core.List.{List, [], _∷_, map}
-use lib.Dec.{eqb}
 use lib.IntN.{ℤ, pos}
-use lib.ListN.{replicate, set}
+use lib.ListN.{length, replicate, set}
+use Rattle.pyramid.specs.Pyramid.{halved, levelSide, levelCount}
 use Rattle.ring.specs.Ring.{ring5}
 use Rattle.response.specs.Exact.{fifthsAt}
 
@@ -14,6 +13,10 @@ pub record Case : Type 0 where
 
 abbrev case : List ℤ → List ℤ → Case
 case g s = record { given = g; said = s }
+
+-- a case of natural numbers
+abbrev naturals : List ℕ → List ℕ → Case
+naturals g s = case (map pos g) (map pos s)
 
 -- ---- images
 
@@ -43,10 +46,18 @@ brighter = set wholeCase 60 129
 
 -- ---- the table
 unfoldable pub cases : List Case
-unfolding fifthsAt
+unfolding fifthsAt halved levelCount
 cases =
+    -- box 0,0,0,1 → 0; 0,0,1,1 → 1; four 255 → 255
+    naturals (halved (0 ∷ 0 ∷ 0 ∷ 1 ∷ []) 2 2) (0 ∷ [])
+    ∷ naturals (halved (0 ∷ 0 ∷ 1 ∷ 1 ∷ []) 2 2) (1 ∷ [])
+    ∷ naturals (halved (replicate 4 255) 2 2) (255 ∷ [])
+    -- 5 by 3 halves to 2 by 1
+    ∷ naturals (levelSide 5 1 ∷ levelSide 3 1 ∷ length (halved (replicate 15 7) 5 3) ∷ []) (2 ∷ 1 ∷ 2 ∷ [])
+    -- minimum 0, base 0 by 0, count 1 → one level
+    ∷ naturals (levelCount 0 0 1 0 ∷ []) (1 ∷ [])
     -- flat 100 → fifths 0
-    case (fifthsAt flat 11 11 ring5 5 5 ∷ []) (pos 0 ∷ [])
+    ∷ case (fifthsAt flat 11 11 ring5 5 5 ∷ []) (pos 0 ∷ [])
     -- the whole case's centre → 10,160 fifths; cross sum 641 → 10,144
     ∷ case (fifthsAt wholeCase 11 11 ring5 5 5 ∷ []) (pos 10160 ∷ [])
     ∷ case (fifthsAt brighter 11 11 ring5 5 5 ∷ []) (pos 10144 ∷ [])
