@@ -18,8 +18,9 @@ pub record Halving (base levels : List ℕ) (k from w h to : ℕ) : Type 0 where
   pub behind : (k ≡ 0 → ⊥) → from + w * h ≤ to
   pub fits : to + w / 2 * (h / 2) ≤ length levels
 
--- the sums of n columns of two rows, which begin at `top` and at `low`
+-- the sums of n columns of two rows, which begin at `top` and at `low`, first among 128
 pub record Summed (pixels : List ℕ) (top low n : ℕ) (sums : List ℕ) : Type 0 where
+  pub long : length sums ≡ 128
   pub each : (i : ℕ) → i < n → getD sums i 0 ≡ getD pixels (top + i) 0 + getD pixels (low + i) 0
   pub small : (i : ℕ) → i < n → getD sums i 0 ≤ 510
 

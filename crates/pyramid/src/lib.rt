@@ -122,11 +122,7 @@ fn cells_before(width: usize, height: usize, n: usize) -> usize
 pub fn cells_above(width: usize, height: usize, num_levels: u32, min_size: usize) -> usize
     ensures { λ r. ⌜ r ≡ capped (cellsAbove width height (levelCount width height «num_levels» «min_size»)) ⌝ }
 {
-    cells_before(
-        width,
-        height,
-        level_count(width, height, num_levels, min_size),
-    )
+    cells_before(width, height, level_count(width, height, num_levels, min_size))
 }
 
 // The slice that level k lies in.
@@ -146,17 +142,15 @@ fn wide(b: u8) -> u16
 }
 
 // The sums of up to 128 columns of two rows, which begin at top and at low.
-fn column_sums(pixels: &[u8], top: usize, low: usize, n: usize) -> [u16; 128]
-    requires { ⌜ (n ≤ 128) × (top + n ≤ length (now pixels)) × (low + n ≤ length (now pixels)) ⌝ }
-    ensures { λ r. ⌜ Summed (now (pixels .entry)) top low n r ⌝ }
+fn column_sums(pixels: &[u8], top: usize, low: usize, n: usize, sums: &mut [u16; 128])
+    requires { ⌜ (n ≤ 128) × (top + n ≤ length (now pixels)) × (low + n ≤ length (now pixels)) × (length (now sums) ≡ 128) ⌝ }
+    ensures { λ _. ⌜ Summed (now (pixels .entry)) top low n (now (sums .exit)) ⌝ }
 {
-    let mut sums = [0u16; 128];
     let mut i = 0usize;
     while i < n {
         sums[i] = wide(pixels[top + i]) + wide(pixels[low + i]);
         i += 1;
     }
-    sums
 }
 
 // The same of level k, whichever slice it lies in.
@@ -167,18 +161,19 @@ fn level_sums<'a>(
     top: usize,
     low: usize,
     n: usize,
-) -> [u16; 128]
-    requires { ⌜ (n ≤ 128) × (top + n ≤ length (holderOf (now base) (now levels) k)) × (low + n ≤ length (holderOf (now base) (now levels) k)) ⌝ }
-    ensures { λ r. ⌜ Summed (holderOf (now (base .entry)) (now (levels .entry)) k) top low n r ⌝ }
+    sums: &mut [u16; 128],
+)
+    requires { ⌜ (n ≤ 128) × (top + n ≤ length (holderOf (now base) (now levels) k)) × (low + n ≤ length (holderOf (now base) (now levels) k)) × (length (now sums) ≡ 128) ⌝ }
+    ensures { λ _. ⌜ Summed (holderOf (now (base .entry)) (now (levels .entry)) k) top low n (now (sums .exit)) ⌝ }
 {
-    column_sums(holder(base, levels, k), top, low, n)
+    column_sums(holder(base, levels, k), top, low, n, sums);
 }
 
 // The half-size pixels of pairs of column sums.
-fn pair_means(sums: [u16; 128], out: &mut [u8])
+fn pair_means(sums: &[u16; 128], out: &mut [u8])
     requires { ⌜ length (now out) ≤ 64 ⌝ }
-    requires { ⌜ ((i : ℕ) → i < 2 * length (now out) → getD sums i 0 ≤ 510) ⌝ }
-    ensures { λ _. ⌜ now (out .exit) ≡ tab (length (now (out .entry))) (λ i. (getD sums (2 * i) 0 + getD sums (2 * i + 1) 0 + 2) / 4) ⌝ }
+    requires { ⌜ ((i : ℕ) → i < 2 * length (now out) → getD (now sums) i 0 ≤ 510) ⌝ }
+    ensures { λ _. ⌜ now (out .exit) ≡ tab (length (now (out .entry))) (λ i. (getD (now (sums .entry)) (2 * i) 0 + getD (now (sums .entry)) (2 * i + 1) 0 + 2) / 4) ⌝ }
 {
     let n = out.len();
     let mut i = 0usize;
@@ -194,14 +189,15 @@ fn halve_rows(base: &[u8], k: usize, from: usize, w: usize, levels: &mut [u8], t
     ensures { λ _. ⌜ RowHalved (now (base .entry)) (now (levels .entry)) k from w to (w / 2) (now (levels .exit)) ⌝ }
 {
     let n = w / 2;
+    let mut sums = [0u16; 128];
     let mut x = 0usize;
     while x < n {
         let m = lesser(64, n - x);
         let top = from + 2 * x;
-        let sums = level_sums(base, levels, k, top, top + w, 2 * m);
+        level_sums(base, levels, k, top, top + w, 2 * m, &mut sums);
         let a = to + x;
         let e = a + m;
-        pair_means(sums, &mut levels[a..e]);
+        pair_means(&sums, &mut levels[a..e]);
         x += m;
     }
 }
@@ -323,21 +319,8 @@ pub fn level<'a>(
 ) -> &'a [u8]
     ensures { λ r. ⌜ now r ≡ levelIn (now (base .entry)) (now (levels .entry)) width height «num_levels» «min_size» k ⌝ }
 {
-    let a = level_at(
-        base.len(),
-        levels.len(),
-        width,
-        height,
-        num_levels,
-        min_size,
-        k,
-    );
-    let LevelAnswer::Level {
-        from,
-        width: w,
-        height: h,
-    } = a
-    else {
+    let a = level_at(base.len(), levels.len(), width, height, num_levels, min_size, k);
+    let LevelAnswer::Level { from, width: w, height: h } = a else {
         return &base[0..0];
     };
     let part = holder(base, levels, k);

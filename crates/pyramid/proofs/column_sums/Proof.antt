@@ -16,7 +16,7 @@ abbrev μ-loop : tie.MeasureT-loop
 μ-loop pixels top low n sums₀ i₀ sums i = n - i
 
 loop-holds : tie.Need-loop-holds Inv-loop μ-loop
-loop-holds c = (search needs, prefix-none _ _ _ refl)
+loop-holds c = (search needs, prefix-none _ _ _ (c .before .pre .3))
 
 add-wide : tie.Need-add-wide Inv-loop μ-loop
 add-wide c = search needs
@@ -42,8 +42,8 @@ add-sums c = search needs
 mul-sums : tie.Need-mul-sums Inv-loop μ-loop
 mul-sums c = search needs
 
-array-write-sums : tie.Need-array-write-sums Inv-loop μ-loop
-array-write-sums c = search needs
+element-write-sums : tie.Need-element-write-sums Inv-loop μ-loop
+element-write-sums c = search needs
 
 add-i : tie.Need-add-i Inv-loop μ-loop
 add-i c = search needs
@@ -61,6 +61,7 @@ sum-at c i h = prefix-at _ _ _ _ i 0 (c .before .loop .inv .1) (omega arith)
 returns : tie.Need-returns Inv-loop μ-loop
 returns c =
     record {
+      long = c .before .loop .inv .1 .long;
       each = sum-at c;
       small =
           λ i h. omega (
@@ -86,7 +87,7 @@ column-sums-spec =
     wide-requires-2
     add-sums
     mul-sums
-    array-write-sums
+    element-write-sums
     add-i
     loop-less
     loop-again

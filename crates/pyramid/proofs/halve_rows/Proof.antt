@@ -11,13 +11,14 @@ use Rattle.pyramid.proofs.halve_rows.Statement.{statement}
 use Rattle.pyramid.proofs.halve_rows.Tie as tie
 
 abbrev Inv-loop : tie.InvT-loop
-Inv-loop base k from w levels₀ to n x₀ levels x = (length levels ≡ length levels₀) × (x ≤ n) × RowHalved base levels₀ k from w to x levels
+Inv-loop base k from w levels₀ to n sums₀ x₀ levels sums x =
+    (length levels ≡ length levels₀) × (x ≤ n) × RowHalved base levels₀ k from w to x levels × (length sums ≡ 128)
 
 abbrev μ-loop : tie.MeasureT-loop
-μ-loop base k from w levels₀ to n x₀ levels x = n - x
+μ-loop base k from w levels₀ to n sums₀ x₀ levels sums x = n - x
 
 loop-holds : tie.Need-loop-holds Inv-loop μ-loop
-loop-holds c = (refl, search needs, row-none _ _ _ _ _ _)
+loop-holds c = (refl, search needs, row-none _ _ _ _ _ _, refl)
 
 sub-lesser : tie.Need-sub-lesser Inv-loop μ-loop
 sub-lesser c = search needs
@@ -48,7 +49,7 @@ mul-level-sums : tie.Need-mul-level-sums Inv-loop μ-loop
 mul-level-sums c = search needs
 
 level-sums-requires : tie.Need-level-sums-requires Inv-loop μ-loop
-level-sums-requires c κs = (omega (arith, c .before .lesser .ensures), omega (arith, inside (c .before)), inside (c .before))
+level-sums-requires c κs = (omega (arith, c .before .before .lesser .ensures), omega (arith, inside (c .before .before)), inside (c .before .before), c .before .before .before .before .loop .inv .3)
 
 add-a : tie.Need-add-a Inv-loop μ-loop
 add-a c = search needs
@@ -63,14 +64,14 @@ part-pair-means-start : tie.Need-part-pair-means-start Inv-loop μ-loop
 part-pair-means-start c = search needs
 
 part-pair-means-end : tie.Need-part-pair-means-end Inv-loop μ-loop
-part-pair-means-end c = omega (arith, ends (c .before .before), c .before .before .before .before .loop .inv .0, c .before .before .before .before .before .before .before .pre .fits)
+part-pair-means-end c = omega (arith, ends (c .before .before .before .before), c .before .before .before .before .before .before .loop .inv .0, c .before .before .before .before .before .before .before .before .before .pre .fits)
 
 -- the part of the buffer that the block's pixels go to
 part : (c : tie.After-lesser Inv-loop μ-loop) → length (take (c .before .before .before .before .before .args .to + c .before .before .loop .x + c .lesser .result - (c .before .before .before .before .before .args .to + c .before .before .loop .x)) (drop (c .before .before .before .before .before .args .to + c .before .before .loop .x) (c .before .before .loop .levels))) ≡ c .lesser .result
 part c = part-length (c .before .before .before .before .before .args .to + c .before .before .loop .x) (c .lesser .result) (c .before .before .loop .levels) (omega (arith, ends c, c .before .before .loop .inv .0, c .before .before .before .before .before .pre .fits))
 
 pair-means-requires : tie.Need-pair-means-requires Inv-loop μ-loop
-pair-means-requires c κs = (rw (part (c .before .before .before)) (omega (arith, c .before .before .before .lesser .ensures)), λ i l. c .before .level-sums .ensures .small i (rw (part (c .before .before .before)) at l))
+pair-means-requires c κs = (rw (part (c .before .before .before .before .before)) (omega (arith, c .before .before .before .before .before .lesser .ensures)), λ i l. c .before .before .level-sums .ensures .small i (rw (part (c .before .before .before .before .before)) at l))
 
 add-x : tie.Need-add-x Inv-loop μ-loop
 add-x c = search needs
@@ -79,11 +80,13 @@ loop-less : tie.Need-loop-less Inv-loop μ-loop
 loop-less c = search needs
 
 loop-again : tie.Need-loop-again Inv-loop μ-loop
-loop-again c = (
-  search needs,
-  ends (c .before .before .before .before .before .before),
-  row-put _ _ _ _ _ _ (c .before .before .before .before .before .before .before .before .before .before .before .pre) _ _ _ _ _ _ (c .before .before .before .before .before .before .before .before .loop .inv .2) (ends (c .before .before .before .before .before .before)) (c .before .before .before .before .level-sums .ensures) (c .before .before .pair-means .ensures) (part (c .before .before .before .before .before .before)),
-)
+loop-again c =
+    let p = c .before .before .before .before .before .before .before .before in (
+      search needs,
+      ends p,
+      row-put _ _ _ _ _ _ (c .before .before .before .before .before .before .before .before .before .before .before .before .before .pre) _ _ _ _ _ _ (c .before .before .before .before .before .before .before .before .before .before .loop .inv .2) (ends p) (c .before .before .before .before .before .level-sums .ensures) (c .before .before .pair-means .ensures) (part p),
+      c .before .before .before .before .before .level-sums .ensures .long,
+    )
 
 same-length : tie.Need-same-length Inv-loop μ-loop
 same-length c = search needs

@@ -9,10 +9,10 @@ use Rattle.pyramid.proofs.pair_means.Statement.{statement}
 use Rattle.pyramid.proofs.pair_means.Tie as tie
 
 abbrev Inv-loop : tie.InvT-loop
-Inv-loop out₀ sums n i₀ out i = (i ≤ n) × Prefix n (λ j. (getD sums (2 * j) 0 + getD sums (2 * j + 1) 0 + 2) / 4) i out
+Inv-loop sums out₀ n i₀ out i = (i ≤ n) × Prefix n (λ j. (getD sums (2 * j) 0 + getD sums (2 * j + 1) 0 + 2) / 4) i out
 
 abbrev μ-loop : tie.MeasureT-loop
-μ-loop out₀ sums n i₀ out i = n - i
+μ-loop sums out₀ n i₀ out i = n - i
 
 loop-holds : tie.Need-loop-holds Inv-loop μ-loop
 loop-holds c = (search needs, prefix-none _ _ _ refl)
@@ -23,8 +23,8 @@ mul-out c = search needs
 mul-out-2 : tie.Need-mul-out-2 Inv-loop μ-loop
 mul-out-2 c = search needs
 
-array-read-out : tie.Need-array-read-out Inv-loop μ-loop
-array-read-out c = search needs
+element-copy-out-out : tie.Need-element-copy-out-out Inv-loop μ-loop
+element-copy-out-out c = search needs
 
 mul-out-3 : tie.Need-mul-out-3 Inv-loop μ-loop
 mul-out-3 c = search needs
@@ -35,21 +35,21 @@ add-out c = search needs
 mul-out-4 : tie.Need-mul-out-4 Inv-loop μ-loop
 mul-out-4 c = search needs
 
-array-read-out-2 : tie.Need-array-read-out-2 Inv-loop μ-loop
-array-read-out-2 c = search needs
+element-copy-out-out-2 : tie.Need-element-copy-out-out-2 Inv-loop μ-loop
+element-copy-out-out-2 c = search needs
 
 -- the sums of a pair of columns
-pair : (c : tie.In-loop Inv-loop μ-loop) → getD (c .before .before .args .t1) (2 * c .before .loop .i) 0 + getD (c .before .before .args .t1) (2 * c .before .loop .i + 1) 0 ≤ 1020
+pair : (c : tie.In-loop Inv-loop μ-loop) → getD (c .before .before .args .sums .now) (2 * c .before .loop .i) 0 + getD (c .before .before .args .sums .now) (2 * c .before .loop .i + 1) 0 ≤ 1020
 pair c = omega (arith, c .before .before .pre .1 (2 * c .before .loop .i) (omega arith), c .before .before .pre .1 (2 * c .before .loop .i + 1) (omega arith))
 
 add-out-2 : tie.Need-add-out-2 Inv-loop μ-loop
-add-out-2 c = omega (arith, pair c)
+add-out-2 c = omega (arith, pair (c .before .before))
 
 add-out-3 : tie.Need-add-out-3 Inv-loop μ-loop
-add-out-3 c = omega (arith, pair c)
+add-out-3 c = omega (arith, pair (c .before .before))
 
 cast-out : tie.Need-cast-out Inv-loop μ-loop
-cast-out c = omega (arith, pair c)
+cast-out c = omega (arith, pair (c .before .before))
 
 slice-write-out : tie.Need-slice-write-out Inv-loop μ-loop
 slice-write-out c = search needs
@@ -61,7 +61,7 @@ loop-less : tie.Need-loop-less Inv-loop μ-loop
 loop-less c = search needs
 
 loop-again : tie.Need-loop-again Inv-loop μ-loop
-loop-again c = (search needs, prefix-set _ _ _ _ _ (c .before .loop .inv .1) (c .loop-test .taken) refl)
+loop-again c = (search needs, prefix-set _ _ _ _ _ (c .before .before .before .loop .inv .1) (c .before .before .loop-test .taken) refl)
 
 same-length : tie.Need-same-length Inv-loop μ-loop
 same-length c = search needs
@@ -78,11 +78,11 @@ pair-means-spec =
     loop-holds
     mul-out
     mul-out-2
-    array-read-out
+    element-copy-out-out
     mul-out-3
     add-out
     mul-out-4
-    array-read-out-2
+    element-copy-out-out-2
     add-out-2
     add-out-3
     cast-out
