@@ -79,6 +79,19 @@ module _ {A : Type 0} where
       ∙ getD-grid w h f x y d hx l)
       (eq-or-lt-of-le (le-of-suc-le-suc hy))
 
+  -- what holds of each of its cells, and of the element that stands for those past its end
+  pub getD-grid-any : (P : A → Type 0) (d : A) → P d → (f : ℕ → ℕ → A) → ((x y : ℕ) → P (f x y)) → (w h k : ℕ) → P (getD (grid w h f) k d)
+  unfolding grid
+  getD-grid-any P d p f q w zero k = p
+  getD-grid-any P d p f q w (suc h) k =
+      elim (decLt k (length (grid w h f))) [
+        | yes l ↦ rw (List·getD-append (grid w h f) (tab w (λ x. f x h)) d k l) (getD-grid-any P d p f q w h k)
+        | no g ↦
+            let e : k ≡ length (grid w h f) + (k - length (grid w h f)) = omega arith in
+            rw (e, getD-append-add (grid w h f) (tab w (λ x. f x h)) (k - length (grid w h f)) d)
+            (getD-tab-any P d p (λ x. f x h) (λ x. q x h) w (k - length (grid w h f)))
+      ]
+
   -- two functions that agree in each cell
   pub grid-ext : (w h : ℕ) (f g : ℕ → ℕ → A) → ((x y : ℕ) → x < w → y < h → f x y ≡ g x y) → grid w h f ≡ grid w h g
   unfolding grid

@@ -12,7 +12,7 @@ use Rattle.lists.specs.Tab.{grid}
 use Rattle.lists.specs.Buffer.{front, placed}
 use Rattle.lists.proofs.Buffer.{front-more}
 use Rattle.pyramid.specs.Pyramid.{halfPixel, halved, levelSide, levelPixels, levelCells, cellsAbove, above}
-use Rattle.pyramid.specs.Halve.{holderOf, Halving, LevelHalved, Filled}
+use Rattle.pyramid.specs.Needs.{holderOf, Halving, LevelHalved, Filled}
 use Rattle.pyramid.proofs.Sides.{side-base, side-next}
 use Rattle.pyramid.proofs.Cells.{cells-next, above-last, length-higher, length-above}
 use Rattle.pyramid.proofs.Halving.{halved-take}

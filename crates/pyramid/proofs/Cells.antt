@@ -7,8 +7,7 @@ use mathlib.Core.Path.{_≡_, refl, sym, ap, ap₂, _∙_}
 use mathlib.Core.List.{List, [], _++_}
 use lib.ListN.{length, length-append}
 use Rattle.lists.proofs.Tab.{length-grid}
-use Rattle.pyramid.specs.Pyramid.{halfPixel, halved, levelSide, levelPixels, levelCells, cellsAbove, above}
-use Rattle.pyramid.specs.Build.{capped}
+use Rattle.pyramid.specs.Pyramid.{halfPixel, halved, levelSide, levelPixels, levelCells, cellsAbove, capped, above}
 use Rattle.pyramid.proofs.Sides.{side-base, side-next}
 
 -- ---- where a loop over the levels begins, goes on and ends

@@ -14,7 +14,7 @@ use Rattle.lists.specs.Buffer.{placed}
 use Rattle.lists.proofs.Tab.{length-tab, tab-ext, tab-add, length-grid, grid-ext}
 use Rattle.lists.proofs.Buffer.{placed-none, placed-more, placed-before, put-placed}
 use Rattle.pyramid.specs.Pyramid.{boxOf, pixelAt, halfPixel, halved}
-use Rattle.pyramid.specs.Halve.{holderOf, Halving, Summed, RowHalved, LevelHalved}
+use Rattle.pyramid.specs.Needs.{holderOf, Halving, Summed, RowHalved, LevelHalved}
 
 pub holder-buffer : (base levels : List ℕ) (k : ℕ) → (k ≡ 0 → ⊥) → levels ≡ holderOf base levels k
 holder-buffer base levels zero z = absurd (z refl)

@@ -5,3 +5,4 @@ pub mod Above
 pub mod Refusals
 pub mod Building
 pub mod Lookup
+pub mod Levels

@@ -10,8 +10,8 @@ use lib.Seq.{take-all}
 use borrow.Author.Tests.{ne-eqb, eqb-true}
 use Rattle.pyramid.specs.Pyramid.{levelSide, levelCells, levelCount, cellsAbove}
 use Rattle.pyramid.specs.Refusals.{levelRefusal}
-use Rattle.pyramid.specs.Level.{placeAnswer, levelAnswer, levelPart, levelIn}
-use Rattle.pyramid.specs.Halve.{holderOf}
+use Rattle.pyramid.specs.Level.{answerOf, levelAnswer, levelPart, levelIn}
+use Rattle.pyramid.specs.Needs.{holderOf}
 use Rattle.pyramid.specs.declared.LevelAnswer.{LevelAnswer}
 use Rattle.pyramid.specs.declared.LevelAnswer.the-variants.{Level, Refused}
 use Rattle.pyramid.proofs.Sides.{side-base}
@@ -21,20 +21,21 @@ use Rattle.pyramid.proofs.Above.{level-inside}
 module _ (pixels places w h count least k : ℕ) where
   pub answer-refused : (n : ℕ) → levelRefusal pixels places w h count least k ≡ n → (n ≡ 0 → ⊥) → Refused n ≡ levelAnswer pixels places w h count least k
   unfolding levelAnswer
-  answer-refused n e z = rw (e, ne-eqb n 0 z)
+  answer-refused zero e z = absurd (z refl)
+  answer-refused (suc n) e z = rw e
 
   pub answer-level : (from : ℕ) → levelRefusal pixels places w h count least k ≡ 0 → from ≡ cellsAbove w h k → Level from (levelSide w k) (levelSide h k) ≡ levelAnswer pixels places w h count least k
   unfolding levelAnswer
   answer-level from e f = rw (e, f)
 
 -- an answer taken apart
-level-is : (t : Bool) (n f a b g c d : ℕ) → cond t (Level f a b) (Refused n) ≡ Level g c d → (t ≡ true) × (g ≡ f) × (c ≡ a) × (d ≡ b)
-level-is true n f a b g c d e = (refl, (cc), (cc), (cc))
-level-is false n f a b g c d e = let z : _≡_ {A = ℕ} 0 1 = cc in absurd (omega arith)
+level-is : (w h k n f a b : ℕ) → answerOf w h k n ≡ Level f a b → (n ≡ 0) × (f ≡ cellsAbove w h k) × (a ≡ levelSide w k) × (b ≡ levelSide h k)
+level-is w h k zero f a b e = (refl, (cc), (cc), (cc))
+level-is w h k (suc n) f a b e = let z : _≡_ {A = ℕ} 0 1 = cc in absurd (omega arith)
 
-refused-is : (t : Bool) (n f a b m : ℕ) → cond t (Level f a b) (Refused n) ≡ Refused m → t ≡ false
-refused-is true n f a b m e = let z : _≡_ {A = ℕ} 0 1 = cc in absurd (omega arith)
-refused-is false n f a b m e = refl
+refused-is : (w h k n m : ℕ) → answerOf w h k n ≡ Refused m → (n ≡ m) × (0 < m)
+refused-is w h k zero m e = let z : _≡_ {A = ℕ} 0 1 = cc in absurd (omega arith)
+refused-is w h k (suc n) m e = let q : suc n ≡ m = cc in (q, omega arith)
 
 -- the part by its place in the slice that the level lies in
 pub part-is : (base levels : List ℕ) (w h k : ℕ) → length base ≡ w * h → take (levelCells w h k) (drop (cellsAbove w h k) (holderOf base levels k)) ≡ levelPart base levels w h k
@@ -52,12 +53,14 @@ pub record Placed (pixels places w h count least k from a b : ℕ) : Type 0 wher
 pub level-placed : (pixels places w h count least k from a b : ℕ) → levelAnswer pixels places w h count least k ≡ Level from a b → Placed pixels places w h count least k from a b
 unfolding levelAnswer
 level-placed pixels places w h count least k from a b e =
-    let p = level-is (eqb (levelRefusal pixels places w h count least k) 0) _ _ _ _ from a b e in
-    record { free = eqb-true _ 0 (p .0); begins = p .1; cols = p .2; rows = p .3 }
+    let p = level-is w h k (levelRefusal pixels places w h count least k) from a b e in
+    record { free = p .0; begins = p .1; cols = p .2; rows = p .3 }
 
 pub refused-empty : (base levels : List ℕ) (w h count least k n : ℕ) → levelAnswer (length base) (length levels) w h count least k ≡ Refused n → [] ≡ levelIn base levels w h count least k
 unfolding levelAnswer levelIn
-refused-empty base levels w h count least k n e = rw (refused-is (eqb (levelRefusal (length base) (length levels) w h count least k) 0) _ _ _ _ n e)
+refused-empty base levels w h count least k n e =
+    let p = refused-is w h k (levelRefusal (length base) (length levels) w h count least k) n e in
+    rw (e, ne-eqb n 0 (λ (z : n ≡ 0). omega (arith, p .1)))
 
 module _ (base levels : List ℕ) (w h count least k from a b : ℕ) (p : Placed (length base) (length levels) w h count least k from a b) where
   -- it ends within its slice
@@ -67,7 +70,7 @@ module _ (base levels : List ℕ) (w h count least k from a b : ℕ) (p : Placed
       rw (p .begins, p .cols, p .rows) (level-inside base levels w h (levelCount w h count least) k (q .0 .image .sized) (q .0 .fits) (q .1))
 
   pub placed-part : (s : List ℕ) → s ≡ holderOf base levels k → take (from + a * b - from) (drop from s) ≡ levelIn base levels w h count least k
-  unfolding levelIn
+  unfolding levelIn levelAnswer
   placed-part s e =
       let m : from + a * b - from ≡ a * b = omega arith in
       rw (e, m, p .free, p .begins, p .cols, p .rows) (part-is base levels w h k (level-accepted _ _ _ _ _ _ k (p .free) .0 .image .sized))

@@ -4,10 +4,10 @@ use native.Mathlib.Omega.{arith}
 use mathlib.Core.Path.{_≡_, refl, sym, ap, _∙_}
 use mathlib.Core.Bool.{Bool, true, false, _||_, not}
 use mathlib.Core.List.{List, [], _∷_}
-use lib.Dec.{ltb, leb, eqb}
+use lib.Dec.{ltb, eqb}
 use borrow.Author.Tests.{lt-ltb, le-ltb, le-leb, lt-leb, eq-eqb, ltb-false, leb-false, eqb-true, not-false}
 use Rattle.lists.specs.Refusals.{lowest}
-use Rattle.lists.proofs.Refusals.{lowest-none}
+use Rattle.lists.proofs.Refusals.{all-clear}
 use Rattle.lists.proofs.Tests.{or-neither}
 use Rattle.pyramid.specs.Pyramid.{levelCount, cellsAbove}
 use Rattle.pyramid.specs.Refusals.{isLarge, isMisfit, isAbsent, isShort, imageRefusal, buildRefusal, levelRefusal}
@@ -28,15 +28,10 @@ sized-of pixels w h p q =
     let o = or-neither (ltb 4096 w) (ltb 4096 h) p in
     record { narrow = ltb-false 4096 w (o .0); low = ltb-false 4096 h (o .1); sized = eqb-true pixels (w * h) (not-false (eqb pixels (w * h)) q) }
 
--- the first two conditions of a table do not hold, and none behind them
-image-passed : (pixels w h : ℕ) (cs : List (Bool × ℕ)) → lowest ((isLarge w h, 1) ∷ (isMisfit pixels w h, 2) ∷ cs) ≡ 0 → Sized pixels w h × (lowest cs ≡ 0)
-image-passed pixels w h cs e =
-    let p = lowest-none (isLarge w h) 1 ((isMisfit pixels w h, 2) ∷ cs) (omega arith) e in
-    let q = lowest-none (isMisfit pixels w h) 2 cs (omega arith) (p .1) in
-    (sized-of pixels w h (p .0) (q .0), q .1)
-
 pub image-none : (pixels w h n : ℕ) → n ≡ imageRefusal pixels w h → n ≡ 0 → Sized pixels w h
-image-none pixels w h n e z = image-passed pixels w h [] (sym e ∙ z) .0
+image-none pixels w h n e z =
+    let q = all-clear ((isLarge w h, 1) ∷ (isMisfit pixels w h, 2) ∷ []) (omega arith, (omega arith, tt)) (sym e ∙ z) in
+    sized-of pixels w h (q .0) (q .1 .0)
 
 -- one of the two holds: what stands behind them does not count
 image-first : (a b : Bool) (n : ℕ) (cs : List (Bool × ℕ)) → n ≡ lowest ((a, 1) ∷ (b, 2) ∷ []) → (n ≡ 0 → ⊥) → lowest ((a, 1) ∷ (b, 2) ∷ cs) ≡ n
@@ -61,9 +56,8 @@ module _ (pixels places w h count least : ℕ) where
   pub accepted : buildRefusal pixels places w h count least ≡ 0 → Accepted pixels places w h count least
   unfolding buildRefusal
   accepted e =
-      let p = image-passed pixels w h ((isShort places w h count least, 9) ∷ []) e in
-      let q = lowest-none (isShort places w h count least) 9 [] (omega arith) (p .1) in
-      record { image = p .0; fits = ltb-false _ _ (q .0) }
+      let q = all-clear ((isLarge w h, 1) ∷ (isMisfit pixels w h, 2) ∷ (isShort places w h count least, 9) ∷ []) (omega arith, (omega arith, (omega arith, tt))) e in
+      record { image = sized-of pixels w h (q .0) (q .1 .0); fits = ltb-false _ _ (q .1 .1 .0) }
 
   -- ---- level k
   module _ (k : ℕ) where
@@ -86,7 +80,6 @@ module _ (pixels places w h count least : ℕ) where
     pub level-accepted : levelRefusal pixels places w h count least k ≡ 0 → Accepted pixels places w h count least × (k < levelCount w h count least)
     unfolding levelRefusal
     level-accepted e =
-        let p = image-passed pixels w h ((isAbsent w h count least k, 3) ∷ (isShort places w h count least, 9) ∷ []) e in
-        let q = lowest-none (isAbsent w h count least k) 3 ((isShort places w h count least, 9) ∷ []) (omega arith) (p .1) in
-        let r = lowest-none (isShort places w h count least) 9 [] (omega arith) (q .1) in
-        (record { image = p .0; fits = ltb-false _ _ (r .0) }, leb-false _ _ (q .0))
+        let q = all-clear ((isLarge w h, 1) ∷ (isMisfit pixels w h, 2) ∷ (isAbsent w h count least k, 3) ∷ (isShort places w h count least, 9) ∷ [])
+        (omega arith, (omega arith, (omega arith, (omega arith, tt)))) e in
+        (record { image = sized-of pixels w h (q .0) (q .1 .0); fits = ltb-false _ _ (q .1 .1 .1 .0) }, leb-false _ _ (q .1 .1 .0))

@@ -1,28 +1,28 @@
--- What `build_pyramid` answers and what it leaves in the level buffer; what `cells_above` answers.
-use Prim.Native.Nat.{ℕ, _-_, _^_, min}
+-- What `build_pyramid` answers, and what it leaves in the level buffer.
+use Prim.Native.Nat.{ℕ, zero, suc}
 use mathlib.Core.Path.{_≡_}
 use mathlib.Core.Bool.{cond}
 use mathlib.Core.List.{List}
 use lib.Dec.{eqb}
 use lib.ListN.{length}
 use Rattle.lists.specs.Buffer.{front}
-use Rattle.pyramid.specs.Pyramid.{levelCount, cellsAbove, above}
+use Rattle.pyramid.specs.Pyramid.{levelCount, above}
 use Rattle.pyramid.specs.Refusals.{buildRefusal}
 use Rattle.pyramid.specs.declared.Pyramid.{Pyramid}
 use Rattle.pyramid.specs.declared.Pyramid.the-variants.{Levels, Refused}
 
--- the answer for document 01's number, 0 for none: how many levels there are, or the number
-abbrev pub pyramidAnswer : ℕ → ℕ → Pyramid
-pyramidAnswer number n = cond (eqb number 0) (Levels n) (Refused number)
+-- the answer of each number: 0 is a pyramid of n levels, any other a refusal
+abbrev pub answerOf : ℕ → ℕ → Pyramid
+answerOf n zero = Levels n
+answerOf n (suc k) = Refused (suc k)
 
--- the level buffer: the levels above the base first, and behind them as it was; where refused, as it was
-abbrev pub levelsAfter : ℕ → List ℕ → List ℕ → List ℕ
-levelsAfter number built levels = cond (eqb number 0) (front built levels) levels
+-- and an answer's number
+abbrev pub numberOf : Pyramid → ℕ
+numberOf (Levels n) = 0
+numberOf (Refused k) = k
 
-pub record Built (base : List ℕ) (w h count least : ℕ) (levels : List ℕ) (answer : Pyramid) (levels′ : List ℕ) : Type 0 where
-  pub answered : answer ≡ pyramidAnswer (buildRefusal (length base) (length levels) w h count least) (levelCount w h count least)
-  pub left : levels′ ≡ levelsAfter (buildRefusal (length base) (length levels) w h count least) (above base w h (levelCount w h count least)) levels
-
--- a number as a usize holds it: the largest of them where it is larger
-abbrev pub capped : ℕ → ℕ
-capped n = min n (2 ^ 64 - 1)
+-- the promise of `build_pyramid`: r is the answer, and the level buffer d becomes e, the levels above the base first and the rest as it was, or
+-- all as it was
+pub record Built (base : List ℕ) (w h count least : ℕ) (d : List ℕ) (r : Pyramid) (e : List ℕ) : Type 0 where
+  pub answer : r ≡ answerOf (levelCount w h count least) (buildRefusal (length base) (length d) w h count least)
+  pub buffer : e ≡ cond (eqb (numberOf r) 0) (front (above base w h (levelCount w h count least)) d) d

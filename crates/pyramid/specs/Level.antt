@@ -9,21 +9,29 @@ use Rattle.pyramid.specs.Refusals.{levelRefusal}
 use Rattle.pyramid.specs.declared.LevelAnswer.{LevelAnswer}
 use Rattle.pyramid.specs.declared.LevelAnswer.the-variants.{Level, Refused}
 
--- the answer for document 01's number, 0 for none: where level k begins, in the base or in the level buffer, and its sides, or the number
-abbrev pub placeAnswer : ℕ → ℕ → ℕ → ℕ → LevelAnswer
-placeAnswer number w h k = cond (eqb number 0) (Level (cellsAbove w h k) (levelSide w k) (levelSide h k)) (Refused number)
+-- the answer of each number for level k over a base of w by h: 0 is where it begins, in the base or in the level buffer, and its sides; any
+-- other is a refusal
+abbrev pub answerOf : ℕ → ℕ → ℕ → ℕ → LevelAnswer
+answerOf w h k zero = Level (cellsAbove w h k) (levelSide w k) (levelSide h k)
+answerOf w h k (suc n) = Refused (suc n)
 
+-- and an answer's number
+abbrev pub numberOf : LevelAnswer → ℕ
+numberOf (Level from w h) = 0
+numberOf (Refused n) = n
+
+-- the promise of `level_at`, for `pixels` in the base and `places` in the level buffer
 unfoldable pub levelAnswer : ℕ → ℕ → ℕ → ℕ → ℕ → ℕ → ℕ → LevelAnswer
 unfolding levelRefusal
-levelAnswer pixels places w h count least k = placeAnswer (levelRefusal pixels places w h count least k) w h k
+levelAnswer pixels places w h count least k = answerOf w h k (levelRefusal pixels places w h count least k)
 
 -- level 0 is the base, and each other level a part of the level buffer
 abbrev pub levelPart : List ℕ → List ℕ → ℕ → ℕ → ℕ → List ℕ
 levelPart base levels w h zero = base
 levelPart base levels w h (suc k) = take (levelCells w h (suc k)) (drop (cellsAbove w h (suc k)) levels)
 
--- level k, and nothing where it is refused
+-- the promise of `level`: level k, and nothing where `level_at` refuses it
 unfoldable pub levelIn : List ℕ → List ℕ → ℕ → ℕ → ℕ → ℕ → ℕ → List ℕ
-unfolding levelRefusal
+unfolding levelAnswer
 levelIn base levels w h count least k =
-    cond (eqb (levelRefusal (length base) (length levels) w h count least k) 0) (levelPart base levels w h k) []
+    cond (eqb (numberOf (levelAnswer (length base) (length levels) w h count least k)) 0) (levelPart base levels w h k) []

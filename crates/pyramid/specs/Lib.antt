@@ -2,4 +2,4 @@ pub mod Pyramid
 pub mod Refusals
 pub mod Build
 pub mod Level
-pub mod Halve
+pub mod Needs

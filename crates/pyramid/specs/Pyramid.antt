@@ -1,6 +1,6 @@
 -- The box-filter image pyramid of document 01: half-size images, the levels, and how many of them there are.
 -- An image is the list of its pixels in row order, with its sides.
-use Prim.Native.Nat.{ℕ, zero, suc, _+_, _*_, _/_, _^_}
+use Prim.Native.Nat.{ℕ, zero, suc, _+_, _-_, _*_, _/_, _^_, min}
 use mathlib.Core.Bool.{Bool, cond, _||_}
 use mathlib.Core.List.{List, [], _++_}
 use lib.Dec.{ltb, eqb}
@@ -68,6 +68,10 @@ unfoldable pub cellsAbove : ℕ → ℕ → ℕ → ℕ
 cellsAbove w h zero = 0
 cellsAbove w h (suc zero) = 0
 cellsAbove w h (suc (suc k)) = cellsAbove w h (suc k) + levelCells w h (suc k)
+
+-- a number as a usize holds it: the largest one where it is larger
+abbrev pub capped : ℕ → ℕ
+capped n = min n (2 ^ 64 - 1)
 
 -- the pixels of levels 1 .. n - 1
 unfoldable pub above : List ℕ → ℕ → ℕ → ℕ → List ℕ

@@ -1,7 +1,7 @@
--- `pyramid::is_below` meets its contract. Assumes nothing.
+-- `pyramid::count::is_below` meets its contract. Assumes nothing.
 use borrow.Author.Tests.{lt-ltb, le-ltb}
-use Rattle.pyramid.proofs.is_below.Statement.{statement}
-use Rattle.pyramid.proofs.is_below.Tie as tie
+use Rattle.pyramid.proofs.count.is_below.Statement.{statement}
+use Rattle.pyramid.proofs.count.is_below.Tie as tie
 
 returns : tie.Need-returns
 returns c = simp (lt-ltb _ _ (c .if1 .taken))

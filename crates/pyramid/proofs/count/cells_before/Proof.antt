@@ -1,15 +1,14 @@
--- `pyramid::cells_before` meets its contract. The invariant: the sides of level k, and the pixels of levels 1 .. k. Assumes nothing.
+-- `pyramid::count::cells_before` meets its contract. The invariant: the sides of level k, and the pixels of levels 1 .. k. Assumes nothing.
 use Prim.Native.Nat.{ℕ, suc, _+_, _-_, _*_, _/_, _≤_}
 use native.Mathlib.Numerals.{add-one}
 use native.Mathlib.Omega.{arith}
 use mathlib.Core.Path.{_≡_, refl, sym, ap, _∙_}
 use borrow.Author.Needs.{needs}
-use Rattle.pyramid.specs.Pyramid.{levelSide, cellsAbove}
-use Rattle.pyramid.specs.Build.{capped}
+use Rattle.pyramid.specs.Pyramid.{levelSide, cellsAbove, capped}
 use Rattle.pyramid.proofs.Sides.{side-base, side-next}
 use Rattle.pyramid.proofs.Cells.{cells-last, capped-next}
-use Rattle.pyramid.proofs.cells_before.Statement.{statement}
-use Rattle.pyramid.proofs.cells_before.Tie as tie
+use Rattle.pyramid.proofs.count.cells_before.Statement.{statement}
+use Rattle.pyramid.proofs.count.cells_before.Tie as tie
 
 abbrev Inv-loop : tie.InvT-loop
 Inv-loop width height n w₀ h₀ sum₀ k₀ w h sum k =

@@ -1,12 +1,12 @@
--- `pyramid::pair_means` meets its contract: the places passed hold their half-size pixels. Assumes nothing.
+-- `pyramid::halve::pair_means` meets its contract: the places passed hold their half-size pixels. Assumes nothing.
 use Prim.Native.Nat.{ℕ, _+_, _-_, _*_, _/_, _<_, _≤_}
 use native.Mathlib.Omega.{arith}
 use mathlib.Core.Path.{refl}
 use lib.ListN.{getD}
 use borrow.Author.Needs.{needs}
 use Rattle.lists.proofs.Tab.{Prefix, prefix-none, prefix-set, prefix-all}
-use Rattle.pyramid.proofs.pair_means.Statement.{statement}
-use Rattle.pyramid.proofs.pair_means.Tie as tie
+use Rattle.pyramid.proofs.halve.pair_means.Statement.{statement}
+use Rattle.pyramid.proofs.halve.pair_means.Tie as tie
 
 abbrev Inv-loop : tie.InvT-loop
 Inv-loop sums out₀ n i₀ out i = (i ≤ n) × Prefix n (λ j. (getD sums (2 * j) 0 + getD sums (2 * j + 1) 0 + 2) / 4) i out

@@ -1,7 +1,7 @@
--- `pyramid::level_sums` meets its contract. Assumes nothing.
+-- `pyramid::halve::level_sums` meets its contract. Assumes nothing.
 use borrow.Author.Needs.{needs}
-use Rattle.pyramid.proofs.level_sums.Statement.{statement}
-use Rattle.pyramid.proofs.level_sums.Tie as tie
+use Rattle.pyramid.proofs.halve.level_sums.Statement.{statement}
+use Rattle.pyramid.proofs.halve.level_sums.Tie as tie
 
 holder-requires : tie.Need-holder-requires
 holder-requires c κs = search needs

@@ -1,8 +1,8 @@
--- `pyramid::is_too_small` meets its contract. Assumes nothing.
+-- `pyramid::count::is_too_small` meets its contract. Assumes nothing.
 use borrow.Author.Needs.{needs}
 use borrow.Author.Tests.{eq-eqb, ne-eqb}
-use Rattle.pyramid.proofs.is_too_small.Statement.{statement}
-use Rattle.pyramid.proofs.is_too_small.Tie as tie
+use Rattle.pyramid.proofs.count.is_too_small.Statement.{statement}
+use Rattle.pyramid.proofs.count.is_too_small.Tie as tie
 
 returns : tie.Need-returns
 returns c = simp (eq-eqb _ _ (c .if1 .taken))

@@ -1,14 +1,14 @@
--- `pyramid::halve` meets its contract: after y rows their half-size pixels are placed. Assumes nothing.
+-- `pyramid::halve::halve` meets its contract: after y rows their half-size pixels are placed. Assumes nothing.
 use Prim.Native.Nat.{ℕ, _+_, _-_, _*_, _/_, _^_, _<_, _≤_}
 use native.Mathlib.Nat.{suc-mul}
 use native.Mathlib.Omega.{arith}
 use mathlib.Core.Path.{_≡_, refl}
 use lib.ListN.{length}
 use borrow.Author.Needs.{needs}
-use Rattle.pyramid.specs.Halve.{holderOf, Halving, LevelHalved}
+use Rattle.pyramid.specs.Needs.{holderOf, Halving, LevelHalved}
 use Rattle.pyramid.proofs.Halving.{holder-short, level-none, row-below, row-end, row-ok, row-more}
-use Rattle.pyramid.proofs.halve.Statement.{statement}
-use Rattle.pyramid.proofs.halve.Tie as tie
+use Rattle.pyramid.proofs.halve.halve.Statement.{statement}
+use Rattle.pyramid.proofs.halve.halve.Tie as tie
 
 abbrev Inv-loop : tie.InvT-loop
 Inv-loop base k from w h levels₀ to a₀ at₀ y₀ levels a at y =

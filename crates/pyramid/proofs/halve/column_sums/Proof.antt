@@ -1,13 +1,13 @@
--- `pyramid::column_sums` meets its contract: the places passed hold their columns' sums. Assumes nothing.
+-- `pyramid::halve::column_sums` meets its contract: the places passed hold their columns' sums. Assumes nothing.
 use Prim.Native.Nat.{ℕ, _+_, _-_, _<_, _≤_}
 use native.Mathlib.Omega.{arith}
 use mathlib.Core.Path.{_≡_, refl, ap₂}
 use lib.ListN.{getD}
 use borrow.Author.Needs.{needs}
 use Rattle.lists.proofs.Tab.{Prefix, prefix-none, prefix-set, prefix-at}
-use Rattle.pyramid.specs.Halve.{Summed}
-use Rattle.pyramid.proofs.column_sums.Statement.{statement}
-use Rattle.pyramid.proofs.column_sums.Tie as tie
+use Rattle.pyramid.specs.Needs.{Summed}
+use Rattle.pyramid.proofs.halve.column_sums.Statement.{statement}
+use Rattle.pyramid.proofs.halve.column_sums.Tie as tie
 
 abbrev Inv-loop : tie.InvT-loop
 Inv-loop pixels top low n sums₀ i₀ sums i = (i ≤ n) × Prefix 128 (λ j. getD pixels (top + j) 0 + getD pixels (low + j) 0) i sums

@@ -1,8 +1,8 @@
--- `pyramid::holder` meets its contract. Assumes nothing.
+-- `pyramid::halve::holder` meets its contract. Assumes nothing.
 use borrow.Author.Needs.{needs}
 use Rattle.pyramid.proofs.Halving.{holder-buffer}
-use Rattle.pyramid.proofs.holder.Statement.{statement}
-use Rattle.pyramid.proofs.holder.Tie as tie
+use Rattle.pyramid.proofs.halve.holder.Statement.{statement}
+use Rattle.pyramid.proofs.halve.holder.Tie as tie
 
 returns : tie.Need-returns
 returns c = search needs

@@ -1,11 +1,11 @@
--- `pyramid::fill_levels` meets its contract: with level k built, levels 1 .. k stand first in the buffer. Assumes nothing.
+-- `pyramid::halve::fill_levels` meets its contract: with level k built, levels 1 .. k stand first in the buffer. Assumes nothing.
 use Prim.Native.Nat.{_+_, _-_, _*_, _/_, _≤_}
 use native.Mathlib.Omega.{arith}
 use lib.ListN.{length}
 use borrow.Author.Needs.{needs}
 use Rattle.pyramid.proofs.Above.{Reached, reach-base, reach-all, next-fits, level-ok, reach-next}
-use Rattle.pyramid.proofs.fill_levels.Statement.{statement}
-use Rattle.pyramid.proofs.fill_levels.Tie as tie
+use Rattle.pyramid.proofs.halve.fill_levels.Statement.{statement}
+use Rattle.pyramid.proofs.halve.fill_levels.Tie as tie
 
 abbrev Inv-loop : tie.InvT-loop
 Inv-loop base width height n levels₀ w₀ h₀ from₀ to₀ k₀ levels w h from to k = Reached base levels₀ width height n k w h from to levels

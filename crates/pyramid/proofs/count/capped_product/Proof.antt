@@ -1,10 +1,10 @@
--- `pyramid::capped_product` meets its contract: a quotient tells whether the product is too large. Assumes nothing.
+-- `pyramid::count::capped_product` meets its contract: a quotient tells whether the product is too large. Assumes nothing.
 use Prim.Native.Nat.{ℕ, _*_, _/_, _≤_, _<_}
 use native.Mathlib.Nat.{div-lt-iff-lt-mul, le-div-iff-mul-le}
 use native.Mathlib.Omega.{arith}
 use borrow.Author.Needs.{needs}
-use Rattle.pyramid.proofs.capped_product.Statement.{statement}
-use Rattle.pyramid.proofs.capped_product.Tie as tie
+use Rattle.pyramid.proofs.count.capped_product.Statement.{statement}
+use Rattle.pyramid.proofs.count.capped_product.Tie as tie
 
 returns : tie.Need-returns
 returns c = rw (c .if1 .taken) (omega arith)

@@ -1,14 +1,14 @@
--- `pyramid::halve_rows` meets its contract: after x columns their half-size pixels are placed. Assumes nothing.
+-- `pyramid::halve::halve_rows` meets its contract: after x columns their half-size pixels are placed. Assumes nothing.
 use Prim.Native.Nat.{ℕ, _+_, _-_, _*_, _/_, _^_, _<_, _≤_}
 use native.Mathlib.Omega.{arith}
 use mathlib.Core.Path.{_≡_, refl, sym, ap, _∙_}
 use lib.ListN.{length, take, drop}
 use borrow.Author.Needs.{needs}
 use Rattle.lists.proofs.Tab.{part-length}
-use Rattle.pyramid.specs.Halve.{holderOf, Halving, Summed, RowHalved}
+use Rattle.pyramid.specs.Needs.{holderOf, Halving, Summed, RowHalved}
 use Rattle.pyramid.proofs.Halving.{holder-short, row-none, block-inside, row-put}
-use Rattle.pyramid.proofs.halve_rows.Statement.{statement}
-use Rattle.pyramid.proofs.halve_rows.Tie as tie
+use Rattle.pyramid.proofs.halve.halve_rows.Statement.{statement}
+use Rattle.pyramid.proofs.halve.halve_rows.Tie as tie
 
 abbrev Inv-loop : tie.InvT-loop
 Inv-loop base k from w levels₀ to n sums₀ x₀ levels sums x =

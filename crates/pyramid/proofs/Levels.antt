@@ -1,0 +1,114 @@
+-- What a caller of the pyramid can use: an answer taken apart, a level looked up in the buffer that was built, and its bytes. The laws of
+-- sides and of lengths stand in Sides and Cells. Assumes nothing.
+use Prim.Native.Nat.{ℕ, zero, suc, _+_, _*_, _/_, _<_, _≤_}
+use native.Mathlib.Omega.{arith}
+use mathlib.Core.Path.{_≡_, refl, sym, ap, _∙_}
+use mathlib.Core.List.{List, []}
+use lib.ListN.{length, getD}
+use borrow.Author.Tests.{ne-eqb}
+use Rattle.lists.specs.Buffer.{front}
+use Rattle.lists.proofs.Tab.{getD-grid-any}
+use Rattle.lists.proofs.Buffer.{front-length}
+use Rattle.pyramid.specs.Pyramid.{boxOf, pixelAt, halfPixel, halved, levelSide, levelCells, levelPixels, levelCount, cellsAbove, above}
+use Rattle.pyramid.specs.Refusals.{buildRefusal, levelRefusal}
+use Rattle.pyramid.specs.Build.{answerOf, numberOf, Built}
+use Rattle.pyramid.specs.Level.{levelAnswer, levelPart, levelIn}
+use Rattle.pyramid.specs.declared.Pyramid.{Pyramid}
+use Rattle.pyramid.specs.declared.Pyramid.the-variants.{Levels, Refused}
+use Rattle.pyramid.specs.declared.LevelAnswer.the-variants.{Level}
+use Rattle.pyramid.proofs.Sides.{side-le}
+use Rattle.pyramid.proofs.Cells.{length-above, length-level}
+use Rattle.pyramid.proofs.Refusals.{Accepted, accepts, accepted, level-accepts}
+use Rattle.pyramid.proofs.Above.{level-built}
+use Rattle.pyramid.proofs.Lookup.{answer-level, part-is}
+
+-- the level buffer d after a pyramid of n levels was built over a base of w by h
+pub record Complete (base : List ℕ) (w h count least : ℕ) (d e : List ℕ) (n : ℕ) : Type 0 where
+  pub allowed : Accepted (length base) (length d) w h count least
+  pub counted : n ≡ levelCount w h count least
+  pub long : length e ≡ length d
+  pub fills : e ≡ front (above base w h n) d
+
+-- ---- the answer
+
+levels-is : (n k m : ℕ) → answerOf n k ≡ Levels m → (k ≡ 0) × (m ≡ n)
+levels-is n zero m e = (refl, (cc))
+levels-is n (suc k) m e = let z : _≡_ {A = ℕ} 0 1 = cc in absurd (omega arith)
+
+refused-is : (n k m : ℕ) → answerOf n k ≡ Refused m → (k ≡ m) × (0 < m)
+refused-is n zero m e = let z : _≡_ {A = ℕ} 0 1 = cc in absurd (omega arith)
+refused-is n (suc k) m e = let q : suc k ≡ m = cc in (q, omega arith)
+
+module _ (base : List ℕ) (w h count least : ℕ) (d : List ℕ) (r : Pyramid) (e : List ℕ) (b : Built base w h count least d r e) where
+  -- a pyramid was built
+  pub built : (n : ℕ) → r ≡ Levels n → Complete base w h count least d e n
+  built n c =
+      let q = levels-is (levelCount w h count least) (buildRefusal (length base) (length d) w h count least) n (sym (b .answer) ∙ c) in
+      let a = accepted _ _ _ _ _ _ (q .0) in
+      let f : e ≡ front (above base w h n) d = b .buffer ∙ rw (c, q .1) in
+      record {
+        allowed = a;
+        counted = q .1;
+        long = ap length f ∙ front-length (above base w h n) d (rw (length-above base w h n, q .1) (a .fits));
+        fills = f;
+      }
+
+  -- or refused, and the level buffer is as it was
+  pub refused : (n : ℕ) → r ≡ Refused n → (buildRefusal (length base) (length d) w h count least ≡ n) × (e ≡ d)
+  refused n c =
+      let q = refused-is (levelCount w h count least) (buildRefusal (length base) (length d) w h count least) n (sym (b .answer) ∙ c) in
+      (q .0, b .buffer ∙ rw (c, ne-eqb n 0 (λ (z : n ≡ 0). omega (arith, q .1))))
+
+  -- the answer's number is the lowest that refuses
+  pub number : numberOf r ≡ buildRefusal (length base) (length d) w h count least
+  number = ap numberOf (b .answer) ∙ of (buildRefusal (length base) (length d) w h count least)
+    where
+      of : (k : ℕ) → numberOf (answerOf (levelCount w h count least) k) ≡ k
+      of zero = refl
+      of (suc k) = refl
+
+  -- where nothing refuses, all levels are built
+  pub builds : Accepted (length base) (length d) w h count least → r ≡ Levels (levelCount w h count least)
+  builds a = b .answer ∙ ap (answerOf (levelCount w h count least)) (accepts _ _ _ _ _ _ a)
+
+-- ---- the lookup of what was built
+
+module _ (base : List ℕ) (w h count least : ℕ) (d e : List ℕ) (n : ℕ) (c : Complete base w h count least d e n) (k : ℕ) (l : k < n) where
+  still : Accepted (length base) (length e) w h count least
+  still = rw (c .long) (c .allowed)
+
+  free : levelRefusal (length base) (length e) w h count least k ≡ 0
+  free = level-accepts _ _ _ _ _ _ k still (rw (c .counted) at l)
+
+  -- `level_at` says where level k lies
+  pub level-place : levelAnswer (length base) (length e) w h count least k ≡ Level (cellsAbove w h k) (levelSide w k) (levelSide h k)
+  level-place = sym (answer-level _ _ _ _ _ _ _ _ free refl)
+
+  -- `level` hands out the base, halved k times
+  pub level-found : levelIn base e w h count least k ≡ levelPixels base w h k
+  unfolding levelIn
+  level-found =
+      rw level-place
+      (sym (part-is base e w h k (c .allowed .image .sized)) ∙ rw (c .fills) (level-built base d w h n k (c .allowed .image .sized) l))
+
+  -- width × height pixels, and sides up to 4,096: what number 2 and number 1 ask
+  pub level-long : length (levelIn base e w h count least k) ≡ levelSide w k * levelSide h k
+  level-long = ap length level-found ∙ length-level base w h k (c .allowed .image .sized)
+
+  pub level-small : (levelSide w k ≤ 4096) × (levelSide h k ≤ 4096)
+  level-small = (omega (arith, side-le w k, c .allowed .image .narrow), omega (arith, side-le h k, c .allowed .image .low))
+
+-- ---- bytes
+
+box-byte : (p q r s : ℕ) → p < 256 → q < 256 → r < 256 → s < 256 → boxOf p q r s < 256
+box-byte p q r s a b c d = omega arith
+
+halved-bytes : (img : List ℕ) (w h : ℕ) → ((i : ℕ) → getD img i 0 < 256) → (i : ℕ) → getD (halved img w h) i 0 < 256
+unfolding halved halfPixel
+halved-bytes img w h b i = getD-grid-any (λ (v : ℕ). v < 256) 0 (omega arith) _ (λ x y. box-byte _ _ _ _ (b _) (b _) (b _) (b _)) (w / 2) (h / 2) i
+
+-- every pixel of a level is below 256 if the base's are
+pub level-bytes : (base : List ℕ) (w h : ℕ) → ((i : ℕ) → getD base i 0 < 256) → (k i : ℕ) → getD (levelPixels base w h k) i 0 < 256
+unfolding levelPixels
+level-bytes base w h b zero i = b i
+level-bytes base w h b (suc k) i = halved-bytes (levelPixels base w h k) (levelSide w k) (levelSide h k) (level-bytes base w h b k) i

@@ -1,0 +1,126 @@
+// Halving: a level at half size, written behind the levels before it. A level above the first is read from the buffer that is written.
+ghost use mathlib.Core.Path.{_≡_};
+ghost use Prim.Native.Nat.{ℕ, _+_, _*_, _/_, _<_, _≤_, min};
+ghost use lib.ListN.{length, getD};
+ghost use Rattle.lists.specs.Tab.{tab};
+ghost use Rattle.pyramid.specs.Pyramid.{cellsAbove};
+ghost use Rattle.pyramid.specs.Needs.{holderOf, Halving, Summed, RowHalved, LevelHalved, Filled};
+
+fn lesser(a: usize, b: usize) -> usize
+    ensures { λ r. ⌜ r ≡ min a b ⌝ }
+{
+    if a < b { a } else { b }
+}
+
+fn wide(b: u8) -> u16
+    ensures { λ r. ⌜ (r ≡ b) × (r ≤ 255) ⌝ }
+{
+    b as u16
+}
+
+// The slice that level k lies in.
+pub(crate) fn holder<'a>(base: &'a [u8], levels: &'a [u8], k: usize) -> &'a [u8]
+    ensures { λ r. ⌜ now r ≡ holderOf (now (base .entry)) (now (levels .entry)) k ⌝ }
+{
+    if k == 0 {
+        return base;
+    }
+    levels
+}
+
+// The sums of up to 128 columns of two rows, which begin at top and at low.
+fn column_sums(pixels: &[u8], top: usize, low: usize, n: usize, sums: &mut [u16; 128])
+    requires { ⌜ (n ≤ 128) × (top + n ≤ length (now pixels)) × (low + n ≤ length (now pixels)) × (length (now sums) ≡ 128) ⌝ }
+    ensures { λ _. ⌜ Summed (now (pixels .entry)) top low n (now (sums .exit)) ⌝ }
+{
+    let mut i = 0usize;
+    while i < n {
+        sums[i] = wide(pixels[top + i]) + wide(pixels[low + i]);
+        i += 1;
+    }
+}
+
+// The same of level k, whichever slice it lies in.
+fn level_sums<'a>(
+    base: &'a [u8],
+    levels: &'a [u8],
+    k: usize,
+    top: usize,
+    low: usize,
+    n: usize,
+    sums: &mut [u16; 128],
+)
+    requires { ⌜ (n ≤ 128) × (top + n ≤ length (holderOf (now base) (now levels) k)) × (low + n ≤ length (holderOf (now base) (now levels) k)) × (length (now sums) ≡ 128) ⌝ }
+    ensures { λ _. ⌜ Summed (holderOf (now (base .entry)) (now (levels .entry)) k) top low n (now (sums .exit)) ⌝ }
+{
+    column_sums(holder(base, levels, k), top, low, n, sums);
+}
+
+// The half-size pixels of pairs of column sums.
+fn pair_means(sums: &[u16; 128], out: &mut [u8])
+    requires { ⌜ length (now out) ≤ 64 ⌝ }
+    requires { ⌜ ((i : ℕ) → i < 2 * length (now out) → getD (now sums) i 0 ≤ 510) ⌝ }
+    ensures { λ _. ⌜ now (out .exit) ≡ tab (length (now (out .entry))) (λ i. (getD (now (sums .entry)) (2 * i) 0 + getD (now (sums .entry)) (2 * i + 1) 0 + 2) / 4) ⌝ }
+{
+    let n = out.len();
+    let mut i = 0usize;
+    while i < n {
+        out[i] = ((sums[2 * i] + sums[2 * i + 1] + 2) / 4) as u8;
+        i += 1;
+    }
+}
+
+// Two rows of level k, from `from` on, at half size from `to` on.
+fn halve_rows(base: &[u8], k: usize, from: usize, w: usize, levels: &mut [u8], to: usize)
+    requires { ⌜ Halving (now base) (now levels) k from w 2 to ⌝ }
+    ensures { λ _. ⌜ RowHalved (now (base .entry)) (now (levels .entry)) k from w to (w / 2) (now (levels .exit)) ⌝ }
+{
+    let n = w / 2;
+    let mut sums = [0u16; 128];
+    let mut x = 0usize;
+    while x < n {
+        let m = lesser(64, n - x);
+        let top = from + 2 * x;
+        level_sums(base, levels, k, top, top + w, 2 * m, &mut sums);
+        let a = to + x;
+        let e = a + m;
+        pair_means(&sums, &mut levels[a..e]);
+        x += m;
+    }
+}
+
+// Level k, of w by h, from `from` on, at half size from `to` on.
+fn halve(base: &[u8], k: usize, from: usize, w: usize, h: usize, levels: &mut [u8], to: usize)
+    requires { ⌜ Halving (now base) (now levels) k from w h to ⌝ }
+    ensures { λ _. ⌜ LevelHalved (now (base .entry)) (now (levels .entry)) k from w to (h / 2) (now (levels .exit)) ⌝ }
+{
+    let mut a = from;
+    let mut at = to;
+    let mut y = 0usize;
+    while y < h / 2 {
+        halve_rows(base, k, a, w, levels, at);
+        a = a + 2 * w;
+        at = at + w / 2;
+        y += 1;
+    }
+}
+
+// Levels 1 .. n - 1, one behind the other.
+pub(crate) fn fill_levels(base: &[u8], width: usize, height: usize, n: usize, levels: &mut [u8])
+    requires { ⌜ (length (now base) ≡ width * height) × (cellsAbove width height n ≤ length (now levels)) ⌝ }
+    ensures { λ _. ⌜ Filled (now (base .entry)) width height n (now (levels .entry)) (now (levels .exit)) ⌝ }
+{
+    let mut w = width;
+    let mut h = height;
+    let mut from = 0usize;
+    let mut to = 0usize;
+    let mut k = 0usize;
+    while k + 1 < n {
+        halve(base, k, from, w, h, levels, to);
+        w = w / 2;
+        h = h / 2;
+        from = to;
+        to = to + w * h;
+        k += 1;
+    }
+}
