@@ -37,6 +37,13 @@ module _ (w h : ℕ) (t : Ring) (x y : ℕ) where
 
 -- ---- which cells of a row have their ring in the image
 
+-- how far the lower edge is
+pub near-edge : (h y radius : ℕ) → h - y ≤ radius → h ≤ y + radius
+near-edge h y radius l = omega arith
+
+pub off-edge : (h y radius : ℕ) → radius < h - y → y + radius < h
+off-edge h y radius l = omega arith
+
 module _ (w h radius x0 y n : ℕ) (e : ringOf radius .radius ≡ radius) where
   -- none, where the row is too near the upper or the lower edge
   span-none : ((i : ℕ) → inside w h (ringOf radius) (x0 + i) y ≡ false) → Span w h radius x0 y n n n

@@ -52,9 +52,12 @@ left v = min (v .x0) (v .w)
 abbrev pub top : View → ℕ
 top v = min (v .y0) (v .h)
 
--- the map's cells in row order
+-- the response of the map's cell of column i and row j, and all of them in row order
+abbrev pub responseIn : View → ℕ → ℕ → Float
+responseIn v i j = responseAt (v .img) (v .w) (v .h) (v .ring) (left v + i) (top v + j)
+
 unfoldable pub cells : View → List Float
-cells v = grid (cols v) (rows v) (λ i j. responseAt (v .img) (v .w) (v .h) (v .ring) (left v + i) (top v + j))
+cells v = grid (cols v) (rows v) (responseIn v)
 
 -- ---- what a call answers and leaves, for a ring's radius as given and a buffer of so many places
 
