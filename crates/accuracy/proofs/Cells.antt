@@ -1,5 +1,4 @@
 -- The theorems of `specs/Theorems.antt` on cells: a cell's sums are those of bytes, so its response is accurate, whatever the ring. Assumes nothing.
-use mathlib.Core.Path.{refl}
 use mathlib.Core.Bool.{Bool, true, false, cond}
 use mathlib.Core.List.{List}
 use Prim.Native.Nat.{ℕ, _+_, _-_, _*_, _<_, _≤_}
@@ -8,18 +7,19 @@ use native.Mathlib.Omega.{arith}
 use lib.Dec.{T, lit<}
 use lib.IntN.{ℤ, pos, subℕ}
 use lib.ListN.{getD}
-use lib.Ieee.{Float, fin, binary32, fits, lt, le}
+use lib.Ieee.{Float, binary32, fits, le}
 use lib.Ieee.Fits.{sub-fits, cond-fits}
 use Rattle.lists.proofs.Tab.{getD-tab-any}
-use Rattle.float32.specs.Float32.{zero, lift}
+use Rattle.float32.specs.Float32.{zero}
 use Rattle.float32.specs.Value.{IsWhole, plusPart}
 use Rattle.float32.proofs.Sums.{total-bound}
+use Rattle.float32.proofs.Values.{of-HasValue, ofInt-value}
 use Rattle.ring.specs.Ring.{Ring}
-use Rattle.response.specs.Response.{samples, srOf, drOf, sumOf, crossOf, responseOf, inside, response, responseAt}
+use Rattle.response.specs.Response.{samples, srOf, drOf, ringSumOf, crossOf, floatOf, responseOf, inside, response, responseAt}
 use Rattle.response.specs.Exact.{credit, fifthsAt}
-use Rattle.response.proofs.Map.{cells-at, filled, cell-at}
+use Rattle.response.proofs.Map.{cells-at, cells-all, filled, cell-at}
 use Rattle.accuracy.specs.Accurate.{Accurate, Bytes}
-use Rattle.accuracy.specs.Theorems.{CellAccurate, MapAccurate, PatchAccurate, CellsOrdered, CellAboveWhole, CellAtMostWhole, FifthsSmall, CellFits, CellSmall}
+use Rattle.accuracy.specs.Theorems.{CellAccurate, MapAccurate, PatchAccurate, CellsOrdered, MapsOrdered, CellAboveWhole, CellAtMostWhole, FifthsSmall, CellFits, CellSmall, MapSmall}
 use Rattle.accuracy.proofs.Integers.{plus-le, less-parts}
 use Rattle.accuracy.proofs.Error.{InRange}
 use Rattle.accuracy.proofs.Judged.{response-accurate, zero-accurate, ordered, above-whole, at-most-whole}
@@ -32,7 +32,7 @@ module _ (s : List ℕ) (bytes : (k : ℕ) → getD s k 0 < 256) where
   dr-le : drOf s ≤ 2040
   dr-le = total-bound _ 255 8 (λ k h. omega (arith, bytes k, bytes (k + 8)))
 
-  sum-le : sumOf s ≤ 4080
+  sum-le : ringSumOf s ≤ 4080
   sum-le = total-bound _ 255 16 (λ k h. omega (arith, bytes k))
 
 module _ (img : List ℕ) (w : ℕ) (t : Ring) (x y : ℕ) (bytes : Bytes img) where
@@ -43,7 +43,7 @@ module _ (img : List ℕ) (w : ℕ) (t : Ring) (x y : ℕ) (bytes : Bytes img) w
   cross-le : crossOf img w x y ≤ 1275
   cross-le = omega (arith, bytes (y * w + x), bytes ((y - 1) * w + x), bytes ((y + 1) * w + x), bytes (y * w + (x + 1)), bytes (y * w + (x - 1)))
 
-  in-range : InRange (srOf (samples img w t x y)) (drOf (samples img w t x y)) (sumOf (samples img w t x y)) (crossOf img w x y)
+  in-range : InRange (srOf (samples img w t x y)) (drOf (samples img w t x y)) (ringSumOf (samples img w t x y)) (crossOf img w x y)
   in-range =
       record {
         sr-small = sr-le (samples img w t x y) sample-lt;
@@ -73,6 +73,9 @@ pub cells-ordered : CellsOrdered
 cells-ordered img w h t x y img′ w′ h′ t′ x′ y′ a b l =
     ordered _ _ _ _ (cell-accurate img w h t x y a) (cell-accurate img′ w′ h′ t′ x′ y′ b) l
 
+pub maps-ordered : MapsOrdered
+maps-ordered v i j v′ i′ j′ d a b p q p′ q′ l = ordered _ _ _ _ (map-accurate v a i j d p q) (map-accurate v′ b i′ j′ d p′ q′) l
+
 pub cell-above-whole : CellAboveWhole
 cell-above-whole threshold k img w h t x y whole bytes = above-whole _ _ _ _ whole (cell-accurate img w h t x y bytes)
 
@@ -94,23 +97,15 @@ pub cell-fits : CellFits
 unfolding responseAt response responseOf fits
 cell-fits img w h t x y = cond-fits binary32 (inside w h t x y) _ zero (sub-fits binary32 _ _) tt
 
-least : T (le zero (fin false 1 (pos 13)))
-unfolding le lt
-least = tt
-
-small : (x : Float) (E : ℤ) → Accurate x E → plusPart E ≤ 10200 → T (le (lift x) (fin false 1 (pos 13)))
-unfolding lift
-small x E a h = pick (lt zero x)
-  where
-    top : IsWhole (fin false 1 (pos 13)) 8192
-    top = record { is-finite = tt; equal = refl }
-
-    under : T (le x (fin false 1 (pos 13)))
-    under = at-most-whole (fin false 1 (pos 13)) x 8192 E top a .1 (λ l. let no : ⊥ = omega (arith, less-parts (pos 40960) E .0 l) in no)
-
-    pick : (b : Bool) → T (le (cond b x zero) (fin false 1 (pos 13)))
-    pick true = under
-    pick false = least
-
 pub cell-small : CellSmall
-cell-small img w h t x y bytes = small _ _ (cell-accurate img w h t x y bytes) (fifths-small img w h t x y bytes)
+cell-small img w h t x y bytes =
+    at-most-whole (floatOf 8192) (responseAt img w h t x y) 8192 (fifthsAt img w h t x y) top (cell-accurate img w h t x y bytes) .1
+    (λ l. let no : ⊥ = omega (arith, less-parts (pos 40960) (fifthsAt img w h t x y) .0 l, fifths-small img w h t x y bytes) in no)
+  where
+    top : IsWhole (floatOf 8192) 8192
+    top = of-HasValue (floatOf 8192) false 8192 1 (ofInt-value binary32 8192 (lit< tt))
+
+pub map-small : MapSmall
+map-small v bytes =
+    cells-all (λ x. T (fits binary32 x) × T (le x (floatOf 8192))) v
+    (λ i j p q. (cell-fits (v .img) (v .w) (v .h) (v .ring) _ _, cell-small (v .img) (v .w) (v .h) (v .ring) _ _ bytes))

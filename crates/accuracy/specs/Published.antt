@@ -4,14 +4,14 @@ use mathlib.Core.List.{List}
 use lib.Ieee.{Float, binary32, add, sub, mul, div}
 use Rattle.float32.specs.Float32.{abs}
 use Rattle.ring.specs.Ring.{Ring}
-use Rattle.response.specs.Response.{pixel, samples, srOf, drOf, sumOf, sixteen, five, floatOf}
+use Rattle.response.specs.Response.{pixel, samples, srOf, drOf, ringSumOf, sixteen, five, floatOf}
 
 unfoldable pub published : List ℕ → ℕ → Ring → ℕ → ℕ → Float
 published img w t x y =
     let s = samples img w t x y in
     let sr = srOf s in
     let dr = drOf s in
-    let mu-n = div binary32 (floatOf (sumOf s)) sixteen in
+    let mu-n = div binary32 (floatOf (ringSumOf s)) sixteen in
     let c = floatOf (pixel img w x y) in
     let n = floatOf (pixel img w x (y - 1)) in
     let s0 = floatOf (pixel img w x (y + 1)) in

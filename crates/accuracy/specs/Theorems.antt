@@ -7,12 +7,11 @@ use lib.Dec.{T}
 use lib.ListN.{getD}
 use lib.IntN.{ℤ, pos}
 use lib.Signed.{_<ℤ_}
-use lib.Ieee.{Float, fin, binary32, fits, lt, le}
-use mathlib.Core.Bool.{false}
-use Rattle.float32.specs.Float32.{lift}
+use lib.Ieee.{Float, binary32, fits, lt, le}
+use Rattle.lists.specs.Places.{All}
 use Rattle.float32.specs.Value.{IsWhole, plusPart}
 use Rattle.ring.specs.Ring.{Ring}
-use Rattle.response.specs.Response.{responseAt}
+use Rattle.response.specs.Response.{floatOf, responseAt}
 use Rattle.response.specs.Patch.{View, cols, rows, cells, Patched}
 use Rattle.response.specs.Exact.{fifthsAt, fifthsIn}
 use Rattle.response.specs.declared.Patch.{Patch}
@@ -55,6 +54,12 @@ CellsOrdered =
     (img : List ℕ) (w h : ℕ) (t : Ring) (x y : ℕ) (img′ : List ℕ) (w′ h′ : ℕ) (t′ : Ring) (x′ y′ : ℕ) → Bytes img → Bytes img′
     → fifthsAt img w h t x y <ℤ fifthsAt img′ w′ h′ t′ x′ y′ → T (lt (responseAt img w h t x y) (responseAt img′ w′ h′ t′ x′ y′))
 
+-- and of any two maps
+abbrev pub MapsOrdered : Type 0
+MapsOrdered =
+    (v : View) (i j : ℕ) (v′ : View) (i′ j′ : ℕ) (d : Float) → Bytes (v .img) → Bytes (v′ .img) → i < cols v → j < rows v → i′ < cols v′ → j′ < rows v′
+    → fifthsIn v i j <ℤ fifthsIn v′ i′ j′ → T (lt (getD (cells v) (j * cols v + i) d) (getD (cells v′) (j′ * cols v′ + i′) d))
+
 abbrev pub CellAboveWhole : Type 0
 CellAboveWhole =
     (threshold : Float) (k : ℕ) (img : List ℕ) (w h : ℕ) (t : Ring) (x y : ℕ) → IsWhole threshold k → Bytes img
@@ -71,9 +76,13 @@ CellAtMostWhole =
 abbrev pub FifthsSmall : Type 0
 FifthsSmall = (img : List ℕ) (w h : ℕ) (t : Ring) (x y : ℕ) → Bytes img → plusPart (fifthsAt img w h t x y) ≤ 10200
 
--- the float is one of binary32, and at most 8192 (2 ^ 13)
+-- the float is one of binary32, and at most 8192
 abbrev pub CellFits : Type 0
 CellFits = (img : List ℕ) (w h : ℕ) (t : Ring) (x y : ℕ) → T (fits binary32 (responseAt img w h t x y))
 
 abbrev pub CellSmall : Type 0
-CellSmall = (img : List ℕ) (w h : ℕ) (t : Ring) (x y : ℕ) → Bytes img → T (le (lift (responseAt img w h t x y)) (fin false 1 (pos 13)))
+CellSmall = (img : List ℕ) (w h : ℕ) (t : Ring) (x y : ℕ) → Bytes img → T (le (responseAt img w h t x y) (floatOf 8192))
+
+-- each of a map
+abbrev pub MapSmall : Type 0
+MapSmall = (v : View) → Bytes (v .img) → All (λ x. T (fits binary32 x) × T (le x (floatOf 8192))) (cells v)

@@ -7,9 +7,11 @@ use native.Mathlib.Nat.{mul-comm}
 use borrow.Author.Tests.{ne-eqb}
 use lib.Ieee.{Float}
 use lib.ListN.{length, getD, take, drop, List·getD-append}
+use Rattle.lists.specs.Places.{All}
 use Rattle.lists.specs.Buffer.{front}
 use Rattle.lists.proofs.Tab.{length-grid, getD-grid}
 use Rattle.lists.proofs.Places.{in-map}
+use Rattle.lists.proofs.Members.{all-grid}
 use Rattle.lists.proofs.Buffer.{front-length, front-take, front-drop}
 use Rattle.ring.specs.Ring.{Ring}
 use Rattle.response.specs.Patch.{View, whole, sideOf, cols, rows, left, top, responseIn, cells, refusal, answerOf, numberOf, Patched}
@@ -76,6 +78,11 @@ cells-length v = length-grid (cols v) (rows v) (responseIn v)
 pub cells-at : (v : View) (i j : ℕ) (x : Float) → i < cols v → j < rows v → getD (cells v) (j * cols v + i) x ≡ responseIn v i j
 unfolding cells
 cells-at v i j x p q = getD-grid (cols v) (rows v) (responseIn v) i j x p q
+
+-- what holds of each cell's response
+pub cells-all : (P : Float → Type 0) (v : View) → ((i j : ℕ) → i < cols v → j < rows v → P (responseIn v i j)) → All P (cells v)
+unfolding cells
+cells-all P v h = all-grid P (cols v) (rows v) (responseIn v) h
 
 module _ (v : View) (d e : List Float) (pw ph : ℕ) (f : Filled v d e pw ph) where
   area : ph * pw ≡ length (cells v)

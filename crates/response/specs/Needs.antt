@@ -6,7 +6,7 @@ use Prim.Native.Nat.{ℕ, _+_, _*_, _<_, _≤_}
 use lib.ListN.{length}
 use Rattle.lists.specs.Tab.{tab}
 use Rattle.ring.specs.Ring.{Ring, ringOf, dx, dy}
-use Rattle.response.specs.Response.{inside, samples, srOf, drOf, sumOf, crossOf}
+use Rattle.response.specs.Response.{inside, samples, srOf, drOf, ringSumOf, crossOf}
 
 -- an image of w by h pixels, and the radius of one of the two rings
 pub record Image (img : List ℕ) (w h radius : ℕ) : Type 0 where
@@ -43,7 +43,7 @@ pub record Span (w h radius x0 y n a b : ℕ) : Type 0 where
 pub record RingSumsOf (s : List ℕ) (sr dr sum : ℕ) : Type 0 where
   pub sr-is : sr ≡ srOf s
   pub dr-is : dr ≡ drOf s
-  pub sum-is : sum ≡ sumOf s
+  pub sum-is : sum ≡ ringSumOf s
 
 -- those of a cell, and its cross
 pub record CellSumsOf (img : List ℕ) (w : ℕ) (t : Ring) (x y sr dr sum cross : ℕ) : Type 0 where

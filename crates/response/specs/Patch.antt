@@ -61,6 +61,7 @@ cells v = grid (cols v) (rows v) (responseIn v)
 
 -- ---- what a call answers and leaves, for a ring's radius as given and a buffer of so many places
 
+-- the radius of one of the two rings
 abbrev pub isRing : ℕ → Bool
 isRing radius = eqb radius 5 || eqb radius 10
 
@@ -82,7 +83,8 @@ abbrev pub numberOf : Patch → ℕ
 numberOf (Cells pw ph) = 0
 numberOf (Refused n) = n
 
--- the promise of `chess_response_u8_patch`: r is the answer, and the buffer d becomes e, the cells first and the rest as it was, or all as it was
+-- the promise of `chess_response_u8_patch`: r is the answer, and the buffer d becomes e: the map's cells first and the rest as it was, and
+-- all of it as it was where the call is refused
 pub record Patched (v : View) (radius : ℕ) (d e : List Float) (r : Patch) : Type 0 where
   pub answer : r ≡ answerOf v (refusal v radius (length d))
   pub buffer : e ≡ cond (eqb (numberOf r) 0) (front (cells v) d) d
