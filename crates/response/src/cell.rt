@@ -134,7 +134,7 @@ pub(crate) fn cell_sums(
     x: usize,
     y: usize,
 ) -> CellSums
-    requires { ⌜ Framed (now img) w h radius off ⌝ }
+    requires { ⌜ Framed (now img) w h (ringOf radius) radius off ⌝ }
     requires { ⌜ Inner w h radius x y ⌝ }
     ensures { λ r. ⌜ CellSumsOf (now (img .entry)) w (ringOf radius) x y (r .sr) (r .dr) (r .sum) (r .cross) ⌝ }
 {

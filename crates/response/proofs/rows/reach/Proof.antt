@@ -5,13 +5,13 @@ use Rattle.response.proofs.rows.reach.Statement.{statement}
 use Rattle.response.proofs.rows.reach.Tie as tie
 
 returns : tie.Need-returns
-returns c = span-above _ _ _ _ _ _ (c .before .pre .0) (c .if1 .taken)
+returns c = span-above _ _ _ _ _ _ _ (c .before .pre .0) (c .if1 .taken)
 
 sub-if2 : tie.Need-sub-if2
 sub-if2 c = search needs
 
 returns-2 : tie.Need-returns-2
-returns-2 c = span-below _ _ _ _ _ _ (c .before .before .pre .0) (near-edge _ _ _ (c .if2 .taken))
+returns-2 c = span-below _ _ _ _ _ _ _ (c .before .before .pre .0) (near-edge _ _ _ (c .if2 .taken))
 
 less-requires : tie.Need-less-requires
 less-requires c κs = search needs
@@ -34,7 +34,7 @@ greater-requires c κs = search needs
 returns-3 : tie.Need-returns-3
 returns-3 c =
     let p = c .before .before .before .before .before .before in
-    span-row _ _ _ _ _ _ (p .before .before .pre .0) _ _ _ _ _ _ (p .before .if1 .left) (off-edge _ _ _ (p .if2 .left))
+    span-row _ _ _ _ _ _ _ (p .before .before .pre .0) _ _ _ _ _ _ (p .before .if1 .left) (off-edge _ _ _ (p .if2 .left))
     (c .before .before .before .before .before .less .ensures) (c .before .before .before .before .lesser .ensures) (c .before .before .before .less2 .ensures) (c .before .before .less3 .ensures) (c .before .lesser2 .ensures) (c .greater .ensures)
 
 pub reach-spec : {M : Type 1} → statement M
