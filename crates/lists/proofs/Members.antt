@@ -7,6 +7,7 @@ use mathlib.Core.Logic.{⊎-elim}
 use mathlib.Core.Bool.{Bool, true, false, cond, _||_, false≢true}
 use mathlib.Core.List.{List, [], _∷_, _++_, map, append-assoc, tail-eq-of-cons-eq}
 use lib.ListN.{length, getD}
+use Rattle.lists.specs.Tab.{tab, grid}
 use Rattle.lists.specs.Places.{Place, counted, range, row, rows, block, any, keep, flatMap, sumOf, All}
 use Rattle.lists.proofs.Tests.{is-false, or-neither}
 
@@ -82,6 +83,19 @@ module _ {A B : Type 0} where
   pub flatMap-single : (f : A → List B) (g : A → B) (l : List A) → All (λ a. f a ≡ g a ∷ []) l → flatMap f l ≡ map g l
   flatMap-single f g [] h = refl
   flatMap-single f g (a ∷ l) h = ap₂ (λ (s t : List B). s ++ t) (h .0) (flatMap-single f g l (h .1))
+
+-- ---- each element of a list that a function gives
+
+pub all-tab : {A : Type 0} (P : A → Type 0) (n : ℕ) (f : ℕ → A) → ((k : ℕ) → k < n → P (f k)) → All P (tab n f)
+unfolding tab
+all-tab P zero f h = tt
+all-tab P (suc n) f h = all-append P (tab n f) (f n ∷ []) (all-tab P n f (λ k l. h k (omega arith))) (h n (omega arith), tt)
+
+pub all-grid : {A : Type 0} (P : A → Type 0) (w h : ℕ) (f : ℕ → ℕ → A) → ((x y : ℕ) → x < w → y < h → P (f x y)) → All P (grid w h f)
+unfolding grid
+all-grid P w zero f p = tt
+all-grid P w (suc h) f p =
+    all-append P (grid w h f) (tab w (λ x. f x h)) (all-grid P w h f (λ x y i j. p x y i (omega arith))) (all-tab P w (λ x. f x h) (λ x i. p x h i (omega arith)))
 
 -- ---- each place of a block, by its column and row
 

@@ -1,16 +1,17 @@
 -- Where a cell's ring lies in the image, what the response of a cell is there and elsewhere, and which cells of a row those are. Assumes nothing.
-use mathlib.Core.Path.{_≡_, sym}
+use mathlib.Core.Path.{_≡_, sym, _∙_}
 use mathlib.Core.Bool.{false}
 use mathlib.Core.List.{List}
 use Prim.Native.Nat.{ℕ, _+_, _-_, _<_, _≤_, min, max}
 use native.Mathlib.Nat.{le-refl, add-assoc}
 use native.Mathlib.Omega.{arith}
+use lib.Ieee.{Float}
 use borrow.Author.Tests.{lt-ltb, le-ltb, le-leb, lt-leb}
 use Rattle.lists.specs.Tab.{tab}
 use Rattle.lists.proofs.Tab.{tab-ext}
 use Rattle.lists.proofs.Tests.{and-none}
 use Rattle.float32.specs.Float32.{zero}
-use Rattle.ring.specs.Ring.{Ring, ringOf}
+use Rattle.ring.specs.Ring.{Ring}
 use Rattle.response.specs.Response.{inside, response, responseAt}
 use Rattle.response.specs.Needs.{Inner, Span}
 
@@ -37,9 +38,16 @@ module _ (w h : ℕ) (t : Ring) (x y : ℕ) where
 
 -- ---- which cells of a row have their ring in the image
 
-module _ (w h radius x0 y n : ℕ) (e : ringOf radius .radius ≡ radius) where
+-- how far the lower edge is
+pub near-edge : (h y radius : ℕ) → h - y ≤ radius → h ≤ y + radius
+near-edge h y radius l = omega arith
+
+pub off-edge : (h y radius : ℕ) → radius < h - y → y + radius < h
+off-edge h y radius l = omega arith
+
+module _ (w h : ℕ) (t : Ring) (radius x0 y n : ℕ) (e : t .radius ≡ radius) where
   -- none, where the row is too near the upper or the lower edge
-  span-none : ((i : ℕ) → inside w h (ringOf radius) (x0 + i) y ≡ false) → Span w h radius x0 y n n n
+  span-none : ((i : ℕ) → inside w h t (x0 + i) y ≡ false) → Span w h t radius x0 y n n n
   span-none out =
       record {
         ordered = le-refl n;
@@ -49,30 +57,30 @@ module _ (w h radius x0 y n : ℕ) (e : ringOf radius .radius ≡ radius) where
         outer-right = λ i p q. out i;
       }
 
-  pub span-above : y < radius → Span w h radius x0 y n n n
-  span-above l = span-none (λ i. out-above w h (ringOf radius) (x0 + i) y (rw e l))
+  pub span-above : y < radius → Span w h t radius x0 y n n n
+  span-above l = span-none (λ i. out-above w h t (x0 + i) y (rw e l))
 
-  pub span-below : h ≤ y + radius → Span w h radius x0 y n n n
-  span-below l = span-none (λ i. out-below w h (ringOf radius) (x0 + i) y (rw e l))
+  pub span-below : h ≤ y + radius → Span w h t radius x0 y n n n
+  span-below l = span-none (λ i. out-below w h t (x0 + i) y (rw e l))
 
   -- else those that lie the radius and more from either end, as the code finds them
   pub span-row : (l a r s m b : ℕ) → radius ≤ y → y + radius < h → l ≡ radius - x0 → a ≡ min n l → r ≡ w - radius → s ≡ r - x0 → m ≡ min n s → b ≡ max a m
-      → Span w h radius x0 y n a b
+      → Span w h t radius x0 y n a b
   span-row l a r s m b above below el ea er es em eb =
       record {
         ordered = omega arith;
         ends = omega arith;
-        outer-left = λ i p. out-left w h (ringOf radius) (x0 + i) y (rw e (omega arith));
+        outer-left = λ i p. out-left w h t (x0 + i) y (rw e (omega arith));
         inner = λ i p q. record { left = omega arith; right = omega arith; above = above; below = below };
-        outer-right = λ i p q. out-right w h (ringOf radius) (x0 + i) y (rw e (omega arith));
+        outer-right = λ i p q. out-right w h t (x0 + i) y (rw e (omega arith));
       }
 
 -- a run of cells inside the span, by column of the image and by place of the row
-module _ (w h radius x0 y n a b : ℕ) (s : Span w h radius x0 y n a b) (i m : ℕ) (l : a ≤ i) (r : i + m ≤ b) where
+module _ (w h : ℕ) (t : Ring) (radius x0 y n a b : ℕ) (s : Span w h t radius x0 y n a b) (i m : ℕ) (l : a ≤ i) (r : i + m ≤ b) where
   pub inner-run : (p : ℕ) → p < m → Inner w h radius (x0 + i + p) y
   inner-run p q = rw add-assoc (s .inner (i + p) (omega arith) (omega arith))
 
-  pub response-run : (img : List ℕ) → ringOf radius .radius ≡ radius
-      → tab m (λ p. response img w (ringOf radius) (x0 + i + p) y) ≡ tab m (λ p. responseAt img w h (ringOf radius) (x0 + (i + p)) y)
-  response-run img e =
-      tab-ext m _ _ (λ p q. sym (rw (← add-assoc x0 i p) (at-inside w h (ringOf radius) (x0 + i + p) y img radius e (inner-run p q))))
+  pub run-found : (img : List ℕ) (ys : List Float) → t .radius ≡ radius → ys ≡ tab m (λ p. response img w t (x0 + i + p) y)
+      → ys ≡ tab m (λ p. responseAt img w h t (x0 + (i + p)) y)
+  run-found img ys e q =
+      q ∙ tab-ext m _ _ (λ p l. sym (rw (← add-assoc x0 i p) (at-inside w h t (x0 + i + p) y img radius e (inner-run p l))))

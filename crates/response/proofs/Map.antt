@@ -7,13 +7,14 @@ use native.Mathlib.Nat.{mul-comm}
 use borrow.Author.Tests.{ne-eqb}
 use lib.Ieee.{Float}
 use lib.ListN.{length, getD, take, drop, List·getD-append}
+use Rattle.lists.specs.Places.{All}
 use Rattle.lists.specs.Buffer.{front}
 use Rattle.lists.proofs.Tab.{length-grid, getD-grid}
 use Rattle.lists.proofs.Places.{in-map}
+use Rattle.lists.proofs.Members.{all-grid}
 use Rattle.lists.proofs.Buffer.{front-length, front-take, front-drop}
 use Rattle.ring.specs.Ring.{Ring}
-use Rattle.response.specs.Response.{responseAt}
-use Rattle.response.specs.Patch.{View, whole, sideOf, cols, rows, left, top, cells, refusal, answerOf, numberOf, Patched}
+use Rattle.response.specs.Patch.{View, whole, sideOf, cols, rows, left, top, responseIn, cells, refusal, answerOf, numberOf, Patched}
 use Rattle.response.specs.declared.Patch.{Patch}
 use Rattle.response.specs.declared.Patch.the-variants.{Cells, Refused}
 use Rattle.response.proofs.Outcome.{taken}
@@ -71,12 +72,17 @@ module _ (v : View) (radius : ℕ) (d e : List Float) (r : Patch) (p : Patched v
 -- ---- the map
 pub cells-length : (v : View) → length (cells v) ≡ rows v * cols v
 unfolding cells
-cells-length v = length-grid (cols v) (rows v) (λ i j. responseAt (v .img) (v .w) (v .h) (v .ring) (left v + i) (top v + j))
+cells-length v = length-grid (cols v) (rows v) (responseIn v)
 
 -- the cell of column i and row j
-pub cells-at : (v : View) (i j : ℕ) (x : Float) → i < cols v → j < rows v → getD (cells v) (j * cols v + i) x ≡ responseAt (v .img) (v .w) (v .h) (v .ring) (left v + i) (top v + j)
+pub cells-at : (v : View) (i j : ℕ) (x : Float) → i < cols v → j < rows v → getD (cells v) (j * cols v + i) x ≡ responseIn v i j
 unfolding cells
-cells-at v i j x p q = getD-grid (cols v) (rows v) (λ i j. responseAt (v .img) (v .w) (v .h) (v .ring) (left v + i) (top v + j)) i j x p q
+cells-at v i j x p q = getD-grid (cols v) (rows v) (responseIn v) i j x p q
+
+-- what holds of each cell's response
+pub cells-all : (P : Float → Type 0) (v : View) → ((i j : ℕ) → i < cols v → j < rows v → P (responseIn v i j)) → All P (cells v)
+unfolding cells
+cells-all P v h = all-grid P (cols v) (rows v) (responseIn v) h
 
 module _ (v : View) (d e : List Float) (pw ph : ℕ) (f : Filled v d e pw ph) where
   area : ph * pw ≡ length (cells v)
@@ -95,7 +101,7 @@ module _ (v : View) (d e : List Float) (pw ph : ℕ) (f : Filled v d e pw ph) wh
   pub place-in : (i j : ℕ) → i < pw → j < ph → j * pw + i < length e
   place-in i j p q = omega (arith, same-length, f .enough, in-map pw ph i j p q, mul-comm pw ph)
 
-  pub cell-at : (i j : ℕ) (x : Float) → i < pw → j < ph → getD e (j * pw + i) x ≡ responseAt (v .img) (v .w) (v .h) (v .ring) (left v + i) (top v + j)
+  pub cell-at : (i j : ℕ) (x : Float) → i < pw → j < ph → getD e (j * pw + i) x ≡ responseIn v i j
   cell-at i j x p q =
       rw (f .fills)
       (List·getD-append (cells v) (drop (length (cells v)) d) x (j * pw + i) (omega (arith, area, in-map pw ph i j p q, mul-comm pw ph))

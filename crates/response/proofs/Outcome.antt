@@ -12,17 +12,14 @@ use lib.Ieee.{Float}
 use lib.ListN.{length, drop}
 use Rattle.lists.specs.Tab.{grid}
 use Rattle.lists.proofs.Refusals.{lowest-none}
-use Rattle.lists.proofs.Tests.{or-neither, or-right}
+use Rattle.lists.proofs.Tests.{or-neither, or-either, or-right}
 use Rattle.lists.proofs.Tab.{length-grid}
+use Rattle.ring.specs.Ring.{ringOf}
 use Rattle.ring.proofs.Places.{radius-is}
 use Rattle.response.specs.Response.{responseAt}
 use Rattle.response.specs.Needs.{Image}
 use Rattle.response.specs.Patch.{View, sideOf, besides, cols, rows, left, top, cells, isRing, refusalOf, refusal, Patched}
 use Rattle.response.specs.declared.Patch.the-variants.{Cells, Refused}
-
-one-of : (a b : Bool) → (a || b) ≡ true → (a ≡ true) ⊎ (b ≡ true)
-one-of true b p = inl refl
-one-of false b p = inr p
 
 -- ---- no refusal: an image, one of the two rings, and places enough
 pub record Taken (pixels w h radius size places : ℕ) : Type 0 where
@@ -48,7 +45,7 @@ taken pixels w h radius size places e =
       low = ltb-false _ _ (sides .1);
       sized = eqb-true _ _ (not-false _ (q .0));
       known =
-          ⊎-elim (λ x. inl (eqb-true _ _ x)) (λ x. inr (eqb-true _ _ x)) (one-of (eqb radius 5) (eqb radius 10) (not-false _ (r .0)));
+          ⊎-elim (λ x. inl (eqb-true _ _ x)) (λ x. inr (eqb-true _ _ x)) (or-either (eqb radius 5) (eqb radius 10) (not-false _ (r .0)));
       enough = ltb-false _ _ (u .0);
     }
 
@@ -60,8 +57,8 @@ allowed pixels w h radius size places t = rw (le-ltb _ _ (t .narrow), le-ltb _ _
     two : (radius ≡ 5) ⊎ (radius ≡ 10) → isRing radius ≡ true
     two o = ⊎-elim (λ (x : radius ≡ 5). rw (eq-eqb _ _ x)) (λ (x : radius ≡ 10). rw (eq-eqb _ _ x) (or-right (eqb radius 5))) o
 
-pub image : (img : List ℕ) (w h radius size places : ℕ) → Taken (length img) w h radius size places → Image img w h radius
-image img w h radius size places t = record { sized = t .sized; narrow = t .narrow; low = t .low; own-radius = radius-is radius (t .known) }
+pub image : (img : List ℕ) (w h radius size places : ℕ) → Taken (length img) w h radius size places → Image img w h × (ringOf radius .radius ≡ radius)
+image img w h radius size places t = (record { sized = t .sized; narrow = t .narrow; low = t .low }, radius-is radius (t .known))
 
 -- ---- the clipped box lies in the image
 besides-le : (own other : ℕ) → besides own other ≤ own

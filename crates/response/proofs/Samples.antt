@@ -1,5 +1,5 @@
 -- Where the samples and the cross of a cell lie, for any ring whose square about the cell lies in the image. Assumes nothing.
-use mathlib.Core.Path.{_≡_, ap}
+use mathlib.Core.Path.{_≡_, ap, _∙_, subst}
 use mathlib.Core.List.{List}
 use Prim.Native.Nat.{ℕ, _+_, _*_, _-_, _<_, _≤_}
 use native.Mathlib.Omega.{arith}
@@ -8,11 +8,10 @@ use lib.ListN.{length, getD}
 use Rattle.lists.specs.Tab.{tab}
 use Rattle.lists.proofs.Tab.{getD-tab, tab-ext}
 use Rattle.lists.proofs.Places.{in-map}
-use Rattle.ring.specs.Ring.{Ring, ringOf, dx, dy, IsRing}
-use Rattle.ring.proofs.Table.{ringOf-is}
+use Rattle.ring.specs.Ring.{Ring, dx, dy, IsRing}
 use Rattle.ring.proofs.Places.{dx-le, dy-le, radius-pos}
 use Rattle.response.specs.Response.{samples, crossOf, responseOf, response}
-use Rattle.response.specs.Needs.{offsetAt, Framed, Inner, CellSumsOf}
+use Rattle.response.specs.Needs.{offsetAt, Framed, Inner, RingSumsOf, CellSumsOf}
 use Rattle.response.proofs.Indices.{area-le, row-above, row-below, place-add}
 
 -- ---- any ring of a radius r
@@ -49,24 +48,27 @@ module _ (t : Ring) (is : IsRing t) (r : ℕ) (e : t .radius ≡ r) (w h x y : �
       )
 
 -- ---- the same with the offsets in an array
-module _ (img : List ℕ) (w h radius : ℕ) (off : List ℕ) (f : Framed img w h radius off) (x y : ℕ) (n : Inner w h radius x y) where
-  offset-is : (k : ℕ) → k < 16 → getD off k 0 ≡ offsetAt (ringOf radius) w k
-  offset-is k l = rw (f .offsets) (getD-tab 16 (offsetAt (ringOf radius) w) k 0 l)
+module _ (img : List ℕ) (w h : ℕ) (t : Ring) (radius : ℕ) (off : List ℕ) (f : Framed img w h t radius off) (x y : ℕ) (n : Inner w h radius x y) where
+  offset-is : (k : ℕ) → k < 16 → getD off k 0 ≡ offsetAt t w k
+  offset-is k l = rw (f .offsets) (getD-tab 16 (offsetAt t w) k 0 l)
 
   pub sample-lt : (k : ℕ) → k < 16 → (y - radius) * w + (x - radius) + getD off k 0 < length img
-  sample-lt k l = rw (offset-is k l, f .image .sized) (sample-in (ringOf radius) (ringOf-is radius) radius (f .image .own-radius) w h x y n k)
+  sample-lt k l = rw (offset-is k l, f .image .sized) (sample-in t (f .is-ring) radius (f .own-radius) w h x y n k)
 
-  pub gathered : tab 16 (λ k. getD img ((y - radius) * w + (x - radius) + getD off k 0) 0) ≡ samples img w (ringOf radius) x y
+  gathered : tab 16 (λ k. getD img ((y - radius) * w + (x - radius) + getD off k 0) 0) ≡ samples img w t x y
   unfolding samples
-  gathered =
-      tab-ext 16 _ _
-      (λ k l. ap (λ (i : ℕ). getD img i 0) (rw (offset-is k l) (sample-place (ringOf radius) (ringOf-is radius) radius (f .image .own-radius) w h x y n k)))
+  gathered = tab-ext 16 _ _ (λ k l. ap (λ (i : ℕ). getD img i 0) (rw (offset-is k l) (sample-place t (f .is-ring) radius (f .own-radius) w h x y n k)))
 
-  pub crossed : getD img (y * w + x) 0 + getD img (y * w + x - w) 0 + getD img (y * w + x + w) 0 + getD img (y * w + x + 1) 0 + getD img (y * w + x - 1) 0 ≡ crossOf img w x y
-  crossed = cross-sum (ringOf radius) (ringOf-is radius) radius (f .image .own-radius) w h x y n img
+  -- the sums that the code finds are the cell's
+  pub ring-found : (s : List ℕ) (a b m : ℕ) → s ≡ tab 16 (λ k. getD img ((y - radius) * w + (x - radius) + getD off k 0) 0) → RingSumsOf s a b m → RingSumsOf (samples img w t x y) a b m
+  ring-found s a b m e r = subst (λ (l : List ℕ). RingSumsOf l a b m) (e ∙ gathered) r
+
+  pub cross-found : (q : ℕ)
+      → q ≡ getD img (y * w + x) 0 + getD img (y * w + x - w) 0 + getD img (y * w + x + w) 0 + getD img (y * w + x + 1) 0 + getD img (y * w + x - 1) 0 → q ≡ crossOf img w x y
+  cross-found q e = e ∙ cross-sum t (f .is-ring) radius (f .own-radius) w h x y n img
 
   pub cross-lies : (w ≤ y * w + x) × (1 ≤ y * w + x) × (y * w + x + w < length img) × (y * w + x + 1 < length img)
-  cross-lies = rw (f .image .sized) (cross-in (ringOf radius) (ringOf-is radius) radius (f .image .own-radius) w h x y n)
+  cross-lies = rw (f .image .sized) (cross-in t (f .is-ring) radius (f .own-radius) w h x y n)
 
   -- the corner of the ring's square and the cell itself, as indices
   pub corner-small : (y - radius) * w + (x - radius) < 16777216

@@ -5,7 +5,8 @@ use mathlib.Core.List.{List}
 use lib.IntN.{ℤ, pos, subℕ}
 use Rattle.float32.specs.Value.{dist}
 use Rattle.ring.specs.Ring.{Ring}
-use Rattle.response.specs.Response.{srOf, drOf, sumOf, samples, crossOf, inside}
+use Rattle.response.specs.Response.{srOf, drOf, ringSumOf, samples, crossOf, inside}
+use Rattle.response.specs.Patch.{View, left, top}
 
 -- 5 (SR - DR) - |5 ring sum - 16 cross sum|, as a difference of two naturals
 abbrev pub credit : ℕ → ℕ
@@ -22,4 +23,8 @@ unfoldable pub fifthsAt : List ℕ → ℕ → ℕ → Ring → ℕ → ℕ → 
 unfolding samples
 fifthsAt img w h t x y =
     let s = samples img w t x y in
-    cond (inside w h t x y) (fifths (srOf s) (drOf s) (sumOf s) (crossOf img w x y)) (pos 0)
+    cond (inside w h t x y) (fifths (srOf s) (drOf s) (ringSumOf s) (crossOf img w x y)) (pos 0)
+
+-- and of the cell of column i and row j of a map
+abbrev pub fifthsIn : View → ℕ → ℕ → ℤ
+fifthsIn v i j = fifthsAt (v .img) (v .w) (v .h) (v .ring) (left v + i) (top v + j)

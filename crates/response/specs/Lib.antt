@@ -1,4 +1,4 @@
 pub mod Response
-pub mod Exact
 pub mod Patch
+pub mod Exact
 pub mod Needs

@@ -5,24 +5,25 @@ use mathlib.Core.List.{List}
 use Prim.Native.Nat.{ℕ, _+_, _*_, _<_, _≤_}
 use lib.ListN.{length}
 use Rattle.lists.specs.Tab.{tab}
-use Rattle.ring.specs.Ring.{Ring, ringOf, dx, dy}
-use Rattle.response.specs.Response.{inside, samples, srOf, drOf, sumOf, crossOf}
+use Rattle.ring.specs.Ring.{Ring, dx, dy, IsRing}
+use Rattle.response.specs.Response.{inside, samples, srOf, drOf, ringSumOf, crossOf}
 
--- an image of w by h pixels, and the radius of one of the two rings
-pub record Image (img : List ℕ) (w h radius : ℕ) : Type 0 where
+-- an image of w by h pixels
+pub record Image (img : List ℕ) (w h : ℕ) : Type 0 where
   pub sized : length img ≡ w * h
   pub narrow : w ≤ 4096
   pub low : h ≤ 4096
-  pub own-radius : ringOf radius .radius ≡ radius
 
 -- how far place k of a ring lies, in an image w wide, behind the corner of the ring's square
 abbrev pub offsetAt : Ring → ℕ → ℕ → ℕ
 offsetAt t w k = dy t k * w + dx t k
 
--- an image, and its ring's offsets in it
-pub record Framed (img : List ℕ) (w h radius : ℕ) (off : List ℕ) : Type 0 where
-  pub image : Image img w h radius
-  pub offsets : off ≡ tab 16 (offsetAt (ringOf radius) w)
+-- an image, and a ring of that radius with its places' offsets in the image
+pub record Framed (img : List ℕ) (w h : ℕ) (t : Ring) (radius : ℕ) (off : List ℕ) : Type 0 where
+  pub image : Image img w h
+  pub is-ring : IsRing t
+  pub own-radius : t .radius ≡ radius
+  pub offsets : off ≡ tab 16 (offsetAt t w)
 
 -- the square of a radius about the cell lies in the image
 pub record Inner (w h radius x y : ℕ) : Type 0 where
@@ -32,18 +33,18 @@ pub record Inner (w h radius x y : ℕ) : Type 0 where
   pub below : y + radius < h
 
 -- of n cells from column x0 on in row y, those from place a up to place b have their ring in the image, and no others
-pub record Span (w h radius x0 y n a b : ℕ) : Type 0 where
+pub record Span (w h : ℕ) (t : Ring) (radius x0 y n a b : ℕ) : Type 0 where
   pub ordered : a ≤ b
   pub ends : b ≤ n
-  pub outer-left : (i : ℕ) → i < a → inside w h (ringOf radius) (x0 + i) y ≡ false
+  pub outer-left : (i : ℕ) → i < a → inside w h t (x0 + i) y ≡ false
   pub inner : (i : ℕ) → a ≤ i → i < b → Inner w h radius (x0 + i) y
-  pub outer-right : (i : ℕ) → b ≤ i → i < n → inside w h (ringOf radius) (x0 + i) y ≡ false
+  pub outer-right : (i : ℕ) → b ≤ i → i < n → inside w h t (x0 + i) y ≡ false
 
 -- the three sums of sixteen samples
 pub record RingSumsOf (s : List ℕ) (sr dr sum : ℕ) : Type 0 where
   pub sr-is : sr ≡ srOf s
   pub dr-is : dr ≡ drOf s
-  pub sum-is : sum ≡ sumOf s
+  pub sum-is : sum ≡ ringSumOf s
 
 -- those of a cell, and its cross
 pub record CellSumsOf (img : List ℕ) (w : ℕ) (t : Ring) (x y sr dr sum cross : ℕ) : Type 0 where

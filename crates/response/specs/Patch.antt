@@ -52,12 +52,16 @@ left v = min (v .x0) (v .w)
 abbrev pub top : View → ℕ
 top v = min (v .y0) (v .h)
 
--- the map's cells in row order
+-- the response of the map's cell of column i and row j, and all of them in row order
+abbrev pub responseIn : View → ℕ → ℕ → Float
+responseIn v i j = responseAt (v .img) (v .w) (v .h) (v .ring) (left v + i) (top v + j)
+
 unfoldable pub cells : View → List Float
-cells v = grid (cols v) (rows v) (λ i j. responseAt (v .img) (v .w) (v .h) (v .ring) (left v + i) (top v + j))
+cells v = grid (cols v) (rows v) (responseIn v)
 
 -- ---- what a call answers and leaves, for a ring's radius as given and a buffer of so many places
 
+-- the radius of one of the two rings
 abbrev pub isRing : ℕ → Bool
 isRing radius = eqb radius 5 || eqb radius 10
 
@@ -79,7 +83,8 @@ abbrev pub numberOf : Patch → ℕ
 numberOf (Cells pw ph) = 0
 numberOf (Refused n) = n
 
--- the promise of `chess_response_u8_patch`: r is the answer, and the buffer d becomes e, the cells first and the rest as it was, or all as it was
+-- the promise of `chess_response_u8_patch`: r is the answer, and the buffer d becomes e: the map's cells first and the rest as it was, and
+-- all of it as it was where the call is refused
 pub record Patched (v : View) (radius : ℕ) (d e : List Float) (r : Patch) : Type 0 where
   pub answer : r ≡ answerOf v (refusal v radius (length d))
   pub buffer : e ≡ cond (eqb (numberOf r) 0) (front (cells v) d) d

@@ -21,9 +21,9 @@ srOf s = total (λ k. dist (getD s k 0 + getD s (k + 8) 0) (getD s (k + 4) 0 + g
 abbrev pub drOf : List ℕ → ℕ
 drOf s = total (λ k. dist (getD s k 0) (getD s (k + 8) 0)) 8
 
--- their sum
-abbrev pub sumOf : List ℕ → ℕ
-sumOf s = total (λ k. getD s k 0) 16
+-- the sum of all sixteen
+abbrev pub ringSumOf : List ℕ → ℕ
+ringSumOf s = total (λ k. getD s k 0) 16
 
 -- ---- of a cell of an image w wide
 
@@ -66,9 +66,9 @@ responseOf sr dr sum cross =
 -- the response of a cell whose ring lies in the image
 unfoldable pub response : List ℕ → ℕ → Ring → ℕ → ℕ → Float
 unfolding samples responseOf
-response img w t x y = let s = samples img w t x y in responseOf (srOf s) (drOf s) (sumOf s) (crossOf img w x y)
+response img w t x y = let s = samples img w t x y in responseOf (srOf s) (drOf s) (ringSumOf s) (crossOf img w x y)
 
--- the cell lies further than the ring's radius from each edge of the image
+-- the cell is not within a ring radius of the image's edge: the ring's square about it lies in the image
 abbrev pub inside : ℕ → ℕ → Ring → ℕ → ℕ → Bool
 inside w h t x y = leb (t .radius) x && (ltb (x + t .radius) w && (leb (t .radius) y && ltb (y + t .radius) h))
 

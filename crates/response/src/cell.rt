@@ -5,7 +5,7 @@ ghost use lib.ListN.{length, getD};
 ghost use Rattle.float32.specs.Value.{dist};
 ghost use Rattle.lists.specs.Tab.{tab};
 ghost use Rattle.ring.specs.Ring.{ringOf};
-ghost use Rattle.response.specs.Response.{srOf, drOf, sumOf, responseOf};
+ghost use Rattle.response.specs.Response.{srOf, drOf, ringSumOf, responseOf};
 ghost use Rattle.response.specs.Needs.{Framed, Inner, RingSumsOf, CellSumsOf};
 
 // |a - b|.
@@ -60,7 +60,7 @@ fn dr(s: [u8; 16]) -> u16
 }
 
 fn ring_sum(s: [u8; 16]) -> u16
-    ensures { λ r. ⌜ r ≡ sumOf s ⌝ }
+    ensures { λ r. ⌜ r ≡ ringSumOf s ⌝ }
 {
     let mut sum = 0u16;
     let mut k = 0usize;
@@ -134,7 +134,7 @@ pub(crate) fn cell_sums(
     x: usize,
     y: usize,
 ) -> CellSums
-    requires { ⌜ Framed (now img) w h radius off ⌝ }
+    requires { ⌜ Framed (now img) w h (ringOf radius) radius off ⌝ }
     requires { ⌜ Inner w h radius x y ⌝ }
     ensures { λ r. ⌜ CellSumsOf (now (img .entry)) w (ringOf radius) x y (r .sr) (r .dr) (r .sum) (r .cross) ⌝ }
 {

@@ -48,7 +48,7 @@ fn run(
     y: usize,
     out: &mut [f32],
 )
-    requires { ⌜ Framed (now img) w h radius off ⌝ }
+    requires { ⌜ Framed (now img) w h (ringOf radius) radius off ⌝ }
     requires { ⌜ length (now out) ≤ 32 ⌝ }
     requires { ⌜ ((i : ℕ) → i < length (now out) → Inner w h radius (x + i) y) ⌝ }
     requires { ⌜ x + length (now out) ≤ w ⌝ }
@@ -84,7 +84,7 @@ struct Stretch {
 // Which of n cells of row y, from column x0 on, have their ring in the image.
 fn reach(w: usize, h: usize, radius: usize, x0: usize, y: usize, n: usize) -> Stretch
     requires { ⌜ (ringOf radius .radius ≡ radius) × (y < h) ⌝ }
-    ensures { λ r. ⌜ Span w h radius x0 y n (r .from) (r .to) ⌝ }
+    ensures { λ r. ⌜ Span w h (ringOf radius) radius x0 y n (r .from) (r .to) ⌝ }
 {
     if y < radius {
         return Stretch { from: n, to: n };
@@ -108,7 +108,7 @@ fn row(
     y: usize,
     out: &mut [f32],
 )
-    requires { ⌜ Framed (now img) w h radius off ⌝ }
+    requires { ⌜ Framed (now img) w h (ringOf radius) radius off ⌝ }
     requires { ⌜ (x0 + length (now out) ≤ w) × (y < h) ⌝ }
     ensures { λ _. ⌜ now (out .exit) ≡ tab (length (now (out .entry))) (λ i. responseAt (now (img .entry)) w h (ringOf radius) (x0 + i) y) ⌝ }
 {
@@ -144,7 +144,7 @@ pub(crate) fn fill(
     ph: usize,
     map: &mut [f32],
 )
-    requires { ⌜ Image (now img) w h ring ⌝ }
+    requires { ⌜ Image (now img) w h × (ringOf ring .radius ≡ ring) ⌝ }
     requires { ⌜ (x + pw ≤ w) × (y + ph ≤ h) × (ph * pw ≤ length (now map)) ⌝ }
     ensures { λ _. ⌜ now (map .exit) ≡ grid pw ph (λ i j. responseAt (now (img .entry)) w h (ringOf ring) (x + i) (y + j)) ++ drop (ph * pw) (now (map .entry)) ⌝ }
 {

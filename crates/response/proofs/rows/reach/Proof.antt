@@ -1,18 +1,17 @@
--- `response::rows::reach` meets its contract. Assumes nothing.
-use native.Mathlib.Omega.{arith}
-use Rattle.response.proofs.Inside.{span-above, span-below, span-row}
+-- `response::rows::reach` meets its contract: each return is a span of the row. Assumes nothing.
+use Rattle.response.proofs.Inside.{near-edge, off-edge, span-above, span-below, span-row}
 use borrow.Author.Needs.{needs}
 use Rattle.response.proofs.rows.reach.Statement.{statement}
 use Rattle.response.proofs.rows.reach.Tie as tie
 
 returns : tie.Need-returns
-returns c = span-above _ _ _ _ _ _ (c .before .pre .0) (c .if1 .taken)
+returns c = span-above _ _ _ _ _ _ _ (c .before .pre .0) (c .if1 .taken)
 
 sub-if2 : tie.Need-sub-if2
 sub-if2 c = search needs
 
 returns-2 : tie.Need-returns-2
-returns-2 c = span-below _ _ _ _ _ _ (c .before .before .pre .0) (omega arith)
+returns-2 c = span-below _ _ _ _ _ _ _ (c .before .before .pre .0) (near-edge _ _ _ (c .if2 .taken))
 
 less-requires : tie.Need-less-requires
 less-requires c κs = search needs
@@ -34,7 +33,8 @@ greater-requires c κs = search needs
 
 returns-3 : tie.Need-returns-3
 returns-3 c =
-    span-row _ _ _ _ _ _ (c .before .before .before .before .before .before .before .before .pre .0) _ _ _ _ _ _ (c .before .before .before .before .before .before .before .if1 .left) (omega (arith, c .before .before .before .before .before .before .if2 .left))
+    let p = c .before .before .before .before .before .before in
+    span-row _ _ _ _ _ _ _ (p .before .before .pre .0) _ _ _ _ _ _ (p .before .if1 .left) (off-edge _ _ _ (p .if2 .left))
     (c .before .before .before .before .before .less .ensures) (c .before .before .before .before .lesser .ensures) (c .before .before .before .less2 .ensures) (c .before .before .less3 .ensures) (c .before .lesser2 .ensures) (c .greater .ensures)
 
 pub reach-spec : {M : Type 1} → statement M

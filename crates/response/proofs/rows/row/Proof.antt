@@ -1,5 +1,5 @@
 -- `response::rows::row` meets its contract. Each of the three loops keeps that the places passed hold their cells' responses. Assumes nothing.
-use mathlib.Core.Path.{_≡_, refl, sym, _∙_}
+use mathlib.Core.Path.{_≡_, refl, sym}
 use Prim.Native.Nat.{_+_, _-_, _≤_}
 use native.Mathlib.Omega.{arith}
 use borrow.Author.Needs.{needs}
@@ -8,7 +8,7 @@ use lib.ListN.{length, take, drop}
 use Rattle.ring.specs.Ring.{ringOf}
 use Rattle.response.specs.Response.{responseAt}
 use Rattle.lists.proofs.Tab.{Prefix, prefix-none, prefix-set, prefix-put, prefix-all, part-length}
-use Rattle.response.proofs.Inside.{at-outside, inner-run, response-run}
+use Rattle.response.proofs.Inside.{at-outside, inner-run, run-found}
 use Rattle.response.proofs.rows.row.Statement.{statement}
 use Rattle.response.proofs.rows.row.Tie as tie
 
@@ -82,7 +82,7 @@ part-run-start c = search needs
 part-run-end : tie.Need-part-run-end Inv-loop μ-loop Inv-loop2 μ-loop2 Inv-loop3 μ-loop3
 part-run-end c = search needs
 
--- where the next block's length is known: the block ends inside the span, and the part lent is that long
+-- where the next run's length is known: the run ends inside the span, and its part of the row is that long
 run-end : (c : tie.After-lesser Inv-loop μ-loop Inv-loop2 μ-loop2 Inv-loop3 μ-loop3) → c .before .before .loop2 .i + c .lesser .result ≤ c .before .before .before .before .before .reach .result .to
 run-end c = rw (c .lesser .ensures) (omega (arith, c .before .before .loop2))
 
@@ -96,7 +96,7 @@ run-requires c κs =
       (
         rw part (omega (arith, c .before .lesser .ensures)),
         (
-          (λ p l. inner-run _ _ _ _ _ _ _ _ (c .before .before .before .before .before .before .reach .ensures) _ _ (c .before .before .before .loop2 .inv .1) (run-end (c .before)) p (rw part at l)),
+          (λ p l. inner-run _ _ _ _ _ _ _ _ _ (c .before .before .before .before .before .before .reach .ensures) _ _ (c .before .before .before .loop2 .inv .1) (run-end (c .before)) p (rw part at l)),
           rw part (omega (arith, run-end (c .before), c .before .before .before .before .before .before .reach .ensures .ends, c .before .before .before .before .before .before .before .before .before .pre .1 .0)),
         ),
       ),
@@ -109,8 +109,8 @@ loop2-again : tie.Need-loop2-again Inv-loop μ-loop Inv-loop2 μ-loop2 Inv-loop3
 loop2-again c =
     let p = c .before .before .before .before in (
       prefix-put _ _ _ _ _ _ _ (c .before .before .before .before .before .before .loop2 .inv .0) (omega (arith, run-end p, c .before .before .before .before .before .before .before .before .before .reach .ensures .ends))
-          (c .before .before .run .ensures
-          ∙ response-run _ _ _ _ _ _ _ _ (c .before .before .before .before .before .before .before .before .before .reach .ensures) _ _ (c .before .before .before .before .before .before .loop2 .inv .1) (rw (run-length p) (run-end p)) _ (c .before .before .before .before .before .before .before .before .before .before .before .before .pre .0 .image .own-radius))
+          (run-found _ _ _ _ _ _ _ _ _ (c .before .before .before .before .before .before .before .before .before .reach .ensures) _ _ (c .before .before .before .before .before .before .loop2 .inv .1) (rw (run-length p) (run-end p)) _ _
+          (c .before .before .before .before .before .before .before .before .before .before .before .before .pre .0 .own-radius) (c .before .before .run .ensures))
           (run-length p),
       omega (arith, c .before .before .before .before .before .before .loop2),
       run-end p,

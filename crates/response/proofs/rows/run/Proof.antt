@@ -4,7 +4,7 @@ use Prim.Native.Nat.{_+_, _-_, _<_, _≤_}
 use native.Mathlib.Omega.{arith}
 use borrow.Author.Needs.{needs}
 use Rattle.ring.specs.Ring.{ringOf}
-use Rattle.response.specs.Response.{samples, srOf, drOf, sumOf, crossOf, response}
+use Rattle.response.specs.Response.{samples, srOf, drOf, ringSumOf, crossOf, response}
 use Rattle.lists.proofs.Tab.{Prefix, prefix-none, prefix-set, prefix-at, prefix-all}
 use Rattle.response.proofs.Samples.{assembled}
 use Rattle.response.proofs.rows.run.Statement.{statement}
@@ -15,7 +15,7 @@ Inv-loop img w h radius off x y out n a₀ b₀ c₀ d₀ j₀ a b c d j =
     (j ≤ n)
     × Prefix 32 (λ i. srOf (samples img w (ringOf radius) (x + i) y)) j a
     × Prefix 32 (λ i. drOf (samples img w (ringOf radius) (x + i) y)) j b
-    × Prefix 32 (λ i. sumOf (samples img w (ringOf radius) (x + i) y)) j c
+    × Prefix 32 (λ i. ringSumOf (samples img w (ringOf radius) (x + i) y)) j c
     × Prefix 32 (λ i. crossOf img w (x + i) y) j d
 
 abbrev μ-loop : tie.MeasureT-loop

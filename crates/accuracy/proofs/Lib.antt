@@ -1,0 +1,5 @@
+pub mod Integers
+pub mod Error
+pub mod Judged
+pub mod Cells
+pub mod Published

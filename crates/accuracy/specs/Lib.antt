@@ -1,0 +1,3 @@
+pub mod Accurate
+pub mod Theorems
+pub mod Published
