@@ -1,5 +1,4 @@
--- A seed at a positive cell is accepted: it is refused by nothing, its window is about that cell, and the cell's weight makes the mass one above 0.
--- And a coordinate of at most 4,096 is one that the box and the merge take. Assumes nothing.
+-- A seed at a positive cell is accepted: it is refused by nothing, its window is about that cell, and the cell's weight makes the mass one above 0. Assumes nothing.
 use mathlib.Core.Path.{_≡_, refl, sym, ap, _∙_, subst}
 use mathlib.Core.Bool.{true, false, true≢false}
 use mathlib.Core.List.{List}
@@ -23,11 +22,11 @@ use Rattle.float32.proofs.HalfAway.{natural-of-value}
 use Rattle.float32.proofs.Classes.{lift-above}
 use Rattle.float32.proofs.Units.{unitsOf}
 use Rattle.float32.proofs.Running.{exactly}
-use Rattle.float32.proofs.Bounds.{nearly-positive-only, upto-finite, upto-above, upto-below, upto-more}
+use Rattle.float32.proofs.Bounds.{nearly-positive-only}
 use Rattle.center_of_mass.specs.declared.Centre.the-variants.{At}
 use Rattle.center_of_mass.specs.declared.Outcome.the-variants.{Accepted}
 use Rattle.center_of_mass.specs.CenterOfMass.{weightAt, window, windowSums, seedFits, centreOn, refined}
-use Rattle.center_of_mass.specs.Range.{Usual, PeakAccepted, InScope}
+use Rattle.center_of_mass.specs.Range.{Usual, PeakAccepted}
 use Rattle.center_of_mass.proofs.Axis.{in-place}
 use Rattle.center_of_mass.proofs.Judgement.{none}
 use Rattle.center_of_mass.proofs.Outcomes.{with-mass}
@@ -92,6 +91,3 @@ peak-accepted r m w h px py u R W H e X X' Y Y' p =
       s .sw,
       rw (← n) (sym (with-mass r x y m w h px py (centre-itself px a r w X X') (centre-itself py b r h Y Y') s refl (is-true _ (peak-mass r m w h px py u i p)))),
     )
-
-pub in-scope : InScope
-in-scope x n h u = (upto-finite x n u, upto-above x n u, upto-below x (ofInt binary32 (pos 4096)) 4096 (ofInt-value binary32 4096 (lit< tt)) (upto-more x n 4096 h u))

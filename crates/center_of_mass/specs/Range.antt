@@ -7,7 +7,6 @@ use lib.Dec.{T}
 use lib.ListN.{length, getD}
 use lib.IntN.{pos}
 use lib.Ieee.{Float, nan, binary32, fits, lt, le, add, ofInt}
-use lib.Ieee.Scale.{finite}
 use Rattle.lists.specs.Places.{All}
 use Rattle.float32.specs.Float32.{zero}
 use Rattle.float32.specs.Value.{UpTo}
@@ -38,7 +37,3 @@ PeakAccepted =
     (r : ℕ) (m : List Float) (w h px py : ℕ) → All Usual m → r ≤ 16 → w ≤ 4096 → h ≤ 4096 → length m ≡ w * h → r ≤ px → px + r < w → r ≤ py → py + r < h
     → T (lt zero (getD m (py * w + px) nan))
     → (cx : Float) × (cy : Float) × (mass : Float) × (refined r (ofInt binary32 (pos px)) (ofInt binary32 (pos py)) true m w h ≡ Accepted cx cy mass)
-
--- a coordinate from 0 to 4,096, as the box and the merge ask it
-abbrev pub InScope : Type 0
-InScope = (x : Float) (n : ℕ) → n ≤ 4096 → UpTo x n → T (finite x) × T (le zero x) × T (le x (ofInt binary32 (pos 4096)))

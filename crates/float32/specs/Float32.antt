@@ -1,8 +1,8 @@
 -- What the operations on `f32` give, over the logic's IEEE values: a finite x is ± num x / den x (lib.Ieee.Positive).
 use Prim.Native.Nat.{ℕ, suc, _+_, _*_, _/_}
-use mathlib.Core.Bool.{Bool, true, false, cond}
+use mathlib.Core.Bool.{Bool, true, false, cond, _&&_}
 use lib.IntN.{pos}
-use lib.Ieee.{Float, nan, inf, fin, lt, le}
+use lib.Ieee.{Float, nan, inf, fin, binary32, lt, le, ofInt}
 use lib.Ieee.Positive.{num, den}
 use Rattle.float32.specs.declared.Rounded.{Rounded}
 use Rattle.float32.specs.declared.Rounded.the-variants.{Natural, Negative, Beyond}
@@ -20,6 +20,11 @@ abs (fin s m e) = fin false m e
 -- Rust's `x.max(0.0)`, "NaN and negatives become 0"; so does -0.0 (Rust leaves open which zero it gives there)
 unfoldable pub lift : Float → Float
 lift x = cond (lt zero x) x zero
+
+-- document 01's "from a to b", for whole numbers: both ends are inside, and so is -0.0 where 0 is; a NaN is not
+unfoldable pub between : ℕ → ℕ → Float → Bool
+unfolding le ofInt
+between a b x = le (ofInt binary32 (pos a)) x && le x (ofInt binary32 (pos b))
 
 -- ---- Rust's `x.round()` as a whole number
 

@@ -1,0 +1,116 @@
+-- Contexts: what the tests say of the table of refusals, what holds of a context that is not refused, and that a sound one never is. Assumes nothing.
+use mathlib.Core.Path.{_≡_, refl, sym, ap, _∙_}
+use mathlib.Core.Logic.{_⊎_, inl, inr}
+use mathlib.Core.Bool.{Bool, true, false, not, _&&_, _||_, false≢true, true≢false}
+use Prim.Native.Nat.{ℕ, _+_, _*_, _%_, _^_, _≤_, _<_, max}
+use native.Mathlib.Nat.{mul-le-mul, one-mul}
+use native.Mathlib.Omega.{arith}
+use lib.Dec.{T, ltb, leb, eqb, lit<, le→leb}
+use lib.Pow.{pow-mono, shl-exact}
+use borrow.Author.Tests.{lt-ltb, le-ltb, le-leb, lt-leb, eq-eqb, ne-eqb, ltb-false, leb-true, eqb-true}
+use Rattle.lists.specs.Places.{All}
+use Rattle.lists.proofs.Tests.{and-parts, and-none, or-neither, or-right}
+use Rattle.lists.proofs.Refusals.{all-clear}
+use Rattle.float32.specs.Float32.{between}
+use Rattle.corner_list.specs.declared.Corner.{Corner}
+use Rattle.multiscale.specs.declared.RoiContext.{RoiContext}
+use Rattle.multiscale.specs.Multiscale.{parametersFit, conditions, refusal, border, roiRadius}
+use Rattle.multiscale.specs.Promise.{Sound}
+
+-- ---- a ring's radius
+pub ring-fits : (n : ℕ) → (n ≡ 5) ⊎ (n ≡ 10) → (eqb n 5 || eqb n 10) ≡ true
+ring-fits n (inl e) = rw (eq-eqb n 5 e)
+ring-fits n (inr e) = rw (eq-eqb n 10 e) (or-right (eqb n 5))
+
+ring-is : (n : ℕ) → (eqb n 5 || eqb n 10) ≡ true → (n ≡ 5) ⊎ (n ≡ 10)
+ring-is n e = go (eqb n 5) (eqb n 10) refl refl e
+  where
+    go : (a b : Bool) → eqb n 5 ≡ a → eqb n 10 ≡ b → (a || b) ≡ true → (n ≡ 5) ⊎ (n ≡ 10)
+    go true b p q e = inl (eqb-true n 5 p)
+    go false true p q e = inr (eqb-true n 10 q)
+    go false false p q e = absurd (false≢true e)
+
+-- ---- the sizes of a sound context are small
+module _ (c : RoiContext) (s : Sound c) where
+  ring-small : c .ring ≤ 10
+  ring-small = elim (s .ring) [ inl e ↦ omega arith | inr e ↦ omega arith ]
+
+  pub border-small : border c ≤ 42
+  border-small = omega (arith, ring-small, s .window, s .centroid)
+
+  search-small : c .search * 2 ^ c .level ≤ 255 * 4096
+  search-small = mul-le-mul (s .search) (pow-mono {j = 12} (s .level))
+
+  pub radius-small : roiRadius c ≤ 2000000
+  unfolding roiRadius
+  radius-small = omega (arith, search-small, border-small)
+
+  -- the search radius, shifted by the level
+  pub search-shifted : c .search * 2 ^ c .level % 2 ^ 32 ≡ c .search * 2 ^ c .level
+  search-shifted = shl-exact {a = c .search} 8 (c .level) 32 (omega (arith, s .search)) (omega (arith, s .level))
+
+  -- the scale, and that a float holds it
+  pub scale-is : 1 * 2 ^ c .level % 2 ^ 32 ≡ 2 ^ c .level
+  scale-is = shl-exact {a = 1} 1 (c .level) 32 (omega arith) (omega (arith, s .level)) ∙ one-mul (2 ^ c .level)
+
+  pub scale-held : T (leb (1 * 2 ^ c .level % 2 ^ 32) (2 ^ 24))
+  scale-held = le→leb (1 * 2 ^ c .level % 2 ^ 32) (2 ^ 24) (rw scale-is (pow-mono {j = 24} (omega (arith, s .level))))
+
+  sound-fits : parametersFit c ≡ true
+  unfolding parametersFit
+  sound-fits = rw (le-leb (c .window) 16 (s .window), le-leb (c .centroid) 16 (s .centroid), le-leb (c .search) 255 (s .search), le-leb (c .level) 12 (s .level)) (ring-fits (c .ring) (s .ring))
+
+-- ---- the table, by the tests
+module _ (c : RoiContext) (s : Corner) where
+  pub wide : 4096 < c .width → 1 ≡ refusal c s
+  unfolding refusal
+  wide k = rw (lt-ltb 4096 (c .width) k)
+
+  pub high : c .width ≤ 4096 → 4096 < c .height → 1 ≡ refusal c s
+  unfolding refusal
+  high j k = rw (le-ltb 4096 (c .width) j, lt-ltb 4096 (c .height) k)
+
+  module _ (w : c .width ≤ 4096) (h : c .height ≤ 4096) where
+    pub unfit : parametersFit c ≡ false → 3 ≡ refusal c s
+    unfolding refusal
+    unfit e = rw (le-ltb 4096 (c .width) w, le-ltb 4096 (c .height) h, e)
+
+    pub x-far : parametersFit c ≡ true → between 0 4096 (s .x) ≡ false → 4 ≡ refusal c s
+    unfolding refusal
+    x-far e x = rw (le-ltb 4096 (c .width) w, le-ltb 4096 (c .height) h, e, x)
+
+    pub y-far : parametersFit c ≡ true → between 0 4096 (s .y) ≡ false → 4 ≡ refusal c s
+    unfolding refusal
+    y-far e y = rw (le-ltb 4096 (c .width) w, le-ltb 4096 (c .height) h, e, y, and-none (between 0 4096 (s .x)))
+
+    pub none : parametersFit c ≡ true → between 0 4096 (s .x) ≡ true → between 0 4096 (s .y) ≡ true → 0 ≡ refusal c s
+    unfolding refusal
+    none e x y = rw (le-ltb 4096 (c .width) w, le-ltb 4096 (c .height) h, e, x, y)
+
+  -- ---- nothing is refused
+  pub sound : refusal c s ≡ 0 → Sound c
+  unfolding refusal parametersFit
+  sound e =
+      let clear = all-clear (conditions c s) (lit< tt, (lit< tt, (lit< tt, tt))) e in
+      let sides = or-neither (ltb 4096 (c .width)) (ltb 4096 (c .height)) (clear .0) in
+      let p = and-parts (leb (c .window) 16) _ (not-not (parametersFit c) (clear .1 .0)) in
+      let q = and-parts (leb (c .centroid) 16) _ (p .1) in
+      let r = and-parts (leb (c .search) 255) _ (q .1) in
+      let t = and-parts (leb (c .level) 12) _ (r .1) in
+      record {
+        width = ltb-false 4096 (c .width) (sides .0);
+        height = ltb-false 4096 (c .height) (sides .1);
+        ring = ring-is (c .ring) (t .1);
+        window = leb-true (c .window) 16 (p .0);
+        centroid = leb-true (c .centroid) 16 (q .0);
+        search = leb-true (c .search) 255 (r .0);
+        level = leb-true (c .level) 12 (t .0);
+      }
+    where
+      not-not : (b : Bool) → not b ≡ false → b ≡ true
+      not-not true e = refl
+      not-not false e = absurd (true≢false e)
+
+  -- a sound context refuses no seed from 0 to 4,096
+  pub never-refused : Sound c → between 0 4096 (s .x) ≡ true → between 0 4096 (s .y) ≡ true → refusal c s ≡ 0
+  never-refused k x y = sym (none (k .width) (k .height) (sound-fits c k) x y)

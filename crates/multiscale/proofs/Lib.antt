@@ -1,0 +1,5 @@
+pub mod Contexts
+pub mod Axis
+pub mod Promised
+pub mod Box
+pub mod Centre

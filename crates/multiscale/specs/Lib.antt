@@ -1,0 +1,2 @@
+pub mod Multiscale
+pub mod Promise

@@ -1,0 +1,165 @@
+// The box of the base image in which a corner of a coarser level, the seed, is looked for again: its region of interest (ROI).
+ghost use mathlib.Core.Path.{_≡_};
+ghost use mathlib.Core.Bool.{_||_};
+ghost use Prim.Native.Nat.{_≤_};
+ghost use lib.Dec.{eqb};
+ghost use Rattle.float32.specs.Float32.{between};
+ghost use Rattle.multiscale.specs.Multiscale.{parametersFit, refusal as refusalOf, border as borderOf, roiRadius, spanAbout, spanOn};
+ghost use Rattle.multiscale.specs.Promise.{Sound, Boxed};
+use corner_list::Corner;
+
+// The base's sides, the radii of ring, window, centroid and search, and the number of the seed's level.
+pub struct RoiContext {
+    pub width: usize,
+    pub height: usize,
+    pub ring: u32,
+    pub window: u32,
+    pub centroid: u32,
+    pub search: u32,
+    pub level: u32,
+}
+
+// The box from column x0 and row y0 up to, not including, column x1 and row y1; no box; or the number of the refusal.
+pub enum RoiAnswer {
+    Bounds(usize, usize, usize, usize),
+    NoRoi,
+    Refused(u8),
+}
+
+// The box's ends on one axis.
+enum Span {
+    Ends(usize, usize),
+    Nothing,
+}
+
+fn is_ring(radius: u32) -> bool
+    ensures { λ r. ⌜ r ≡ (eqb radius 5 || eqb radius 10) ⌝ }
+{
+    if radius == 5 {
+        return true;
+    }
+    radius == 10
+}
+
+fn in_range(x: f32) -> bool
+    ensures { λ r. ⌜ r ≡ between 0 4096 x ⌝ }
+{
+    if 0.0 <= x {
+        return x <= 4096.0;
+    }
+    false
+}
+
+// The box about a centre on one axis: r pixels both ways, clipped to the border b.
+fn span_about(c: usize, r: usize, b: usize, side: usize) -> Span
+    requires { ⌜ (r ≤ 2000000) × (b ≤ 42) × (side ≤ 4096) ⌝ }
+    ensures { λ s. ⌜ s ≡ spanAbout b r side c ⌝ }
+{
+    if c < b + 1 {
+        return Span::Nothing;
+    }
+    if side <= c {
+        return Span::Nothing;
+    }
+    if side - c <= b + 1 {
+        return Span::Nothing;
+    }
+    let low = if c < r + b { b } else { c - r };
+    let high = if side - b < c + r + 1 {
+        side - b
+    } else {
+        c + r + 1
+    };
+    if high - low <= 2 * b {
+        return Span::Nothing;
+    }
+    Span::Ends(low, high)
+}
+
+impl RoiContext {
+    fn parameters_fit(self) -> bool
+        ensures { λ r. ⌜ r ≡ parametersFit self ⌝ }
+    {
+        if 16 < self.window {
+            return false;
+        }
+        if 16 < self.centroid {
+            return false;
+        }
+        if 255 < self.search {
+            return false;
+        }
+        if 12 < self.level {
+            return false;
+        }
+        is_ring(self.ring)
+    }
+
+    // The number of the refusal, 0 for none.
+    fn refusal(self, c: Corner) -> u8
+        ensures { λ r. ⌜ r ≡ refusalOf self c ⌝ }
+    {
+        if 4096 < self.width {
+            return 1;
+        }
+        if 4096 < self.height {
+            return 1;
+        }
+        if self.parameters_fit() {
+            if in_range(c.x) {
+                if in_range(c.y) {
+                    return 0;
+                }
+            }
+            return 4;
+        }
+        3
+    }
+
+    fn border(self) -> usize
+        requires { ⌜ Sound self ⌝ }
+        ensures { λ r. ⌜ r ≡ borderOf self ⌝ }
+    {
+        (self.ring + self.window + self.centroid) as usize
+    }
+
+    // The box's radius about its centre.
+    fn roi_radius(self) -> usize
+        requires { ⌜ Sound self ⌝ }
+        ensures { λ r. ⌜ r ≡ roiRadius self ⌝ }
+    {
+        let least = self.border() + 2;
+        let search = (self.search << self.level) as usize;
+        if search < least { least } else { search }
+    }
+
+    // The box's ends on the axis of a side, for a seed's coordinate.
+    fn span_on(self, side: usize, x: f32) -> Span
+        requires { ⌜ Sound self × (side ≤ 4096) ⌝ }
+        ensures { λ s. ⌜ s ≡ spanOn self side x ⌝ }
+    {
+        let scale = (1u32 << self.level) as f32;
+        let centre = float32::round_half_away(x * scale);
+        let float32::Rounded::Natural(c) = centre else {
+            return Span::Nothing;
+        };
+        span_about(c, self.roi_radius(), self.border(), side)
+    }
+
+    // The box of a seed.
+    pub fn compute_roi(self, c: Corner) -> RoiAnswer
+        ensures { λ a. ⌜ Boxed self c a ⌝ }
+    {
+        let n = self.refusal(c);
+        if n != 0 {
+            return RoiAnswer::Refused(n);
+        }
+        let Span::Ends(x0, x1) = self.span_on(self.width, c.x) else {
+            return RoiAnswer::NoRoi;
+        };
+        let Span::Ends(y0, y1) = self.span_on(self.height, c.y) else {
+            return RoiAnswer::NoRoi;
+        };
+        RoiAnswer::Bounds(x0, y0, x1, y1)
+    }
+}
