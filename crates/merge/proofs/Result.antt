@@ -59,6 +59,7 @@ module _ (P : Corner → Type 0) where
 -- ---- where nothing is refused (proofs/Judged.antt) the answer is the number of corners left, which stand first in the buffer
 pub merges-done : (radius : Float) (places count : ℕ) (b b′ : Slices) (answer : Merged) (cs : List Corner) → cornersOf b count ≡ cs → refusalOf radius places count b ≡ 0 → Merges radius places count b answer b′
     → (answer ≡ Kept (length (resultOf radius cs))) × (b′ ≡ frontCorners (resultOf radius cs) b)
-merges-done radius places count b b′ answer cs is none m =
-    (m .answered ∙ ap (λ (k : ℕ). answerOf k (length (resultOf radius (cornersOf b count)))) none ∙ ap (λ (l : List Corner). Kept (length (resultOf radius l))) is,
-    m .buffer ∙ ap (λ (k : ℕ). bufferOf k (resultOf radius (cornersOf b count)) b) none ∙ ap (λ (l : List Corner). frontCorners (resultOf radius l) b) is)
+merges-done radius places count b b′ answer cs is none m = (
+  m .answered ∙ ap (λ (k : ℕ). answerOf k (length (resultOf radius (cornersOf b count)))) none ∙ ap (λ (l : List Corner). Kept (length (resultOf radius l))) is,
+  m .buffer ∙ ap (λ (k : ℕ). bufferOf k (resultOf radius (cornersOf b count)) b) none ∙ ap (λ (l : List Corner). frontCorners (resultOf radius l) b) is,
+)
