@@ -1,17 +1,23 @@
--- Laws of a buffer of corners: its slices' lengths, and its corners read back. Assumes nothing.
-use Prim.Native.Nat.{ℕ, _+_, _<_, _≤_, min}
+-- Laws of a buffer of corners: its slices' lengths, its corners read back, and the corners that stand first. Assumes nothing.
+use Prim.Native.Nat.{ℕ, zero, suc, _+_, _<_, _≤_, min}
 use native.Mathlib.Omega.{arith}
 use mathlib.Core.Path.{_≡_, refl, sym, ap, _∙_}
-use mathlib.Core.List.{List, _++_, map}
-use lib.ListN.{length, take, drop, getD, length-map, List·getD-append, List·getD-map}
+use mathlib.Core.List.{List, [], _∷_, _++_, map, map-append}
+use lib.ListN.{length, take, drop, getD, set, length-map, List·getD-append, List·getD-map}
 use lib.Seq.{ext-getD, length-take-le, getD-take}
 use lib.Ieee.{Float, nan}
 use Rattle.lists.specs.Tab.{tab}
 use Rattle.lists.specs.Buffer.{front}
 use Rattle.lists.proofs.Tab.{getD-any, length-tab, getD-tab}
-use Rattle.lists.proofs.Buffer.{front-length, placed-length}
+use Rattle.lists.proofs.Buffer.{front-length, front-same, front-again, front-behind, front-set, front-next}
 use Rattle.corner_list.specs.declared.Corner.{Corner}
-use Rattle.corner_list.specs.CornerList.{Slices, slices, xOf, yOf, strengthOf, placesOf, cornerAt, cornersOf, frontCorners, placedCorners}
+use Rattle.corner_list.specs.CornerList.{Slices, slices, xOf, yOf, strengthOf, placesOf, cornerAt, cornersOf, withCorner, frontCorners}
+
+-- a field of each corner, one of them replaced
+map-set : (g : Corner → Float) (cs : List Corner) (i : ℕ) (c : Corner) → map g (set cs i c) ≡ set (map g cs) i (g c)
+map-set g [] i c = refl
+map-set g (a ∷ cs) zero c = refl
+map-set g (a ∷ cs) (suc i) c = ap (λ (l : List Float). g a ∷ l) (map-set g cs i c)
 
 -- ---- a place of the buffer is one of each slice
 module _ (b : Slices) (n : ℕ) (h : n ≤ placesOf b) where
@@ -86,3 +92,48 @@ module _ (cs : List Corner) (b : Slices) (n : ℕ) (e : n ≡ length cs) where
 
   pub front-strengths : n ≤ placesOf b → length (frontCorners cs b .strengths) ≡ length (b .strengths)
   front-strengths h = front-length (map strengthOf cs) (b .strengths) (omega (arith, length-map cs strengthOf))
+
+-- ---- the corners that stand first, changed
+
+-- the buffer's own first n
+pub corners-same : (b : Slices) (n : ℕ) → n ≤ placesOf b → b ≡ frontCorners (cornersOf b n) b
+corners-same b n h =
+    slices-alike
+    (same xOf (b .xs) (omega arith) (corners-xs b n (omega arith)))
+    (same yOf (b .ys) (omega arith) (corners-ys b n (omega arith)))
+    (same strengthOf (b .strengths) (omega arith) (corners-strengths b n (omega arith)))
+  where
+    same : (g : Corner → Float) (s : List Float) → n ≤ length s → map g (cornersOf b n) ≡ take n s → s ≡ front (map g (cornersOf b n)) s
+    same g s h e = front-same n s h ∙ ap (λ (l : List Float). front l s) (sym e)
+
+module _ (cs : List Corner) (b : Slices) where
+  -- other corners over them, at least as many
+  pub corners-again : (ds : List Corner) → length cs ≤ length ds → frontCorners ds (frontCorners cs b) ≡ frontCorners ds b
+  corners-again ds h = slices-alike (again xOf (b .xs)) (again yOf (b .ys)) (again strengthOf (b .strengths))
+    where
+      again : (g : Corner → Float) (s : List Float) → front (map g ds) (front (map g cs) s) ≡ front (map g ds) s
+      again g s = front-again (map g cs) (map g ds) s (omega (arith, length-map cs g, length-map ds g))
+
+  -- a corner behind them
+  pub corners-behind : (i : ℕ) → length cs ≤ i → cornerAt (frontCorners cs b) i ≡ cornerAt b i
+  corners-behind i h = rw (behind xOf (b .xs), behind yOf (b .ys), behind strengthOf (b .strengths))
+    where
+      behind : (g : Corner → Float) (s : List Float) → getD (front (map g cs) s) i nan ≡ getD s i nan
+      behind g s = front-behind (map g cs) s i nan (omega (arith, length-map cs g))
+
+  -- one of them replaced
+  pub corners-set : (i : ℕ) (c : Corner) → i < length cs → withCorner i c (frontCorners cs b) ≡ frontCorners (set cs i c) b
+  corners-set i c h = slices-alike (put xOf (b .xs)) (put yOf (b .ys)) (put strengthOf (b .strengths))
+    where
+      put : (g : Corner → Float) (s : List Float) → set (front (map g cs) s) i (g c) ≡ front (map g (set cs i c)) s
+      put g s =
+          front-set (map g cs) s i (g c) (omega (arith, length-map cs g)) ∙ ap (λ (l : List Float). front l s) (sym (map-set g cs i c))
+
+  -- one corner more
+  pub corners-next : (n : ℕ) (c : Corner) → n ≡ length cs → n < placesOf b → withCorner n c (frontCorners cs b) ≡ frontCorners (cs ++ (c ∷ [])) b
+  corners-next n c e h =
+      slices-alike (put xOf (b .xs) (omega arith)) (put yOf (b .ys) (omega arith)) (put strengthOf (b .strengths) (omega arith))
+    where
+      put : (g : Corner → Float) (s : List Float) → n < length s → set (front (map g cs) s) n (g c) ≡ front (map g (cs ++ (c ∷ []))) s
+      put g s l =
+          front-next (map g cs) s n (g c) (e ∙ sym (length-map cs g)) l ∙ ap (λ (l : List Float). front l s) (sym (map-append g cs (c ∷ [])))

@@ -1,11 +1,11 @@
--- Laws of buffers: lengths, one list behind another, and what is wiped behind. Assumes nothing.
+-- Laws of buffers: lengths, one list behind or over another, one element stored, and what is wiped behind. Assumes nothing.
 use Prim.Native.Nat.{ℕ, suc, _+_, _-_, _<_, _≤_}
 use native.Mathlib.Nat.{add-zero, zero-add}
 use native.Mathlib.Omega.{arith}
 use mathlib.Core.Path.{_≡_, sym, ap, ap₂, _∙_}
 use mathlib.Core.List.{List, [], _∷_, _++_, append-assoc, append-nil}
-use lib.ListN.{length, getD, take, drop, set, replicate, length-append, length-drop, length-take, length-replicate, take-append-drop, List·getD-append}
-use lib.Seq.{take-append-seam, drop-append-add, drop-drop, drop-cons, set-at, take-at, drop-at, length-take-le, getD-take}
+use lib.ListN.{length, getD, take, drop, set, replicate, length-append, length-drop, length-take, length-replicate, take-append-drop, List·getD-append, length-set}
+use lib.Seq.{take-append-seam, drop-append-add, drop-drop, drop-cons, set-at, take-at, drop-at, length-take-le, getD-take, getD-append-add, getD-drop, set-append-left}
 use borrow.Rule.Slice.PartMut.{putMid}
 use Rattle.lists.specs.Buffer.{front, placed, wipedFrom}
 
@@ -18,6 +18,32 @@ module _ {A : Type 0} where
 
   pub front-drop : (vs d : List A) (n : ℕ) → n ≡ length vs → drop n (front vs d) ≡ drop n d
   front-drop vs d n e = drop-at vs (drop (length vs) d) n (sym e) ∙ ap (λ (k : ℕ). drop k d) (sym e)
+
+  -- the buffer begins with its own first n; other elements, at least as many, come first
+  pub front-same : (n : ℕ) (d : List A) → n ≤ length d → d ≡ front (take n d) d
+  front-same n d h = sym (ap (λ (k : ℕ). take n d ++ drop k d) (length-take-le n d h) ∙ take-append-drop n d)
+
+  pub front-again : (vs us d : List A) → length vs ≤ length us → front us (front vs d) ≡ front us d
+  front-again vs us d h =
+      let e : length us ≡ length vs + (length us - length vs) = omega arith in
+      ap (λ (l : List A). us ++ l)
+      (ap (λ (k : ℕ). drop k (front vs d)) e
+      ∙ drop-append-add vs (drop (length vs) d) (length us - length vs)
+      ∙ drop-drop (length us - length vs) (length vs) d
+      ∙ ap (λ (k : ℕ). drop k d) (sym e))
+
+  -- what stands behind vs
+  pub front-behind : (vs d : List A) (i : ℕ) (z : A) → length vs ≤ i → getD (front vs d) i z ≡ getD d i z
+  front-behind vs d i z h =
+      let e : i ≡ length vs + (i - length vs) = omega arith in
+      ap (λ (k : ℕ). getD (front vs d) k z) e
+      ∙ getD-append-add vs (drop (length vs) d) (i - length vs) z
+      ∙ getD-drop (length vs) d (i - length vs) z
+      ∙ ap (λ (k : ℕ). getD d k z) (sym e)
+
+  -- one of vs replaced
+  pub front-set : (vs d : List A) (i : ℕ) (v : A) → i < length vs → set (front vs d) i v ≡ front (set vs i v) d
+  front-set vs d i v h = set-append-left vs (drop (length vs) d) i v h ∙ ap (λ (k : ℕ). set vs i v ++ drop k d) (sym (length-set vs i v))
 
   -- us behind vs, with which the buffer begins
   pub front-more : (vs us d : List A) (held : ℕ) → held ≡ length vs → placed held us (front vs d) ≡ front (vs ++ us) d
@@ -40,6 +66,14 @@ module _ {A : Type 0} where
       let e : suc n ≡ held + length (vs ++ (v ∷ [])) = omega (arith, length-append vs (v ∷ [])) in
       rw (drop-cons d (held + length vs) v h)
       (set-at (take held d ++ vs) _ (drop (suc n) d) v n l ∙ ap (λ (k : ℕ). take held d ++ vs ++ v ∷ drop k d) e ∙ simp append-assoc)
+
+  -- one element more behind vs, with which the buffer begins
+  pub front-next : (vs d : List A) (n : ℕ) (v : A) → n ≡ length vs → n < length d → set (front vs d) n v ≡ front (vs ++ (v ∷ [])) d
+  front-next vs d n v e h =
+      ap (λ (l : List A). set l n v) (sym (placed-first vs d))
+      ∙ ap (λ (k : ℕ). set (placed 0 vs d) k v) (e ∙ sym (zero-add (length vs)))
+      ∙ placed-set 0 vs d v (omega arith)
+      ∙ placed-first (vs ++ (v ∷ [])) d
 
   pub placed-length : (held : ℕ) (vs d : List A) → held + length vs ≤ length d → length (placed held vs d) ≡ length d
   placed-length held vs d h = simp (length-append, length-take, length-drop) (omega arith)

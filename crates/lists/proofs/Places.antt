@@ -1,16 +1,19 @@
 -- Laws of scans in row order: a range, a row and a block lose their first part; `any`, `keep` and `count` go over `++`; what a scan has ahead.
 -- Assumes nothing.
 use Prim.Native.Nat.{ℕ, zero, suc, _+_, _-_, _*_, _<_, _≤_}
-use native.Mathlib.Nat.{sub-eq-zero-of-le, mul-le-mul, mul-le-mul-right}
+use native.Mathlib.Nat.{sub-eq-zero-of-le, mul-le-mul, mul-le-mul-right, eq-or-lt-of-le, le-of-suc-le-suc, not-suc-le-zero}
 use native.Mathlib.Numerals.{add-one}
 use native.Mathlib.Omega.{arith}
 use mathlib.Core.Path.{_≡_, refl, sym, ap, _∙_}
+use mathlib.Core.Logic.{⊎-elim}
 use mathlib.Core.Bool.{Bool, true, false, cond, _||_}
 use mathlib.Core.List.{List, [], _∷_, _++_}
 use lib.ListN.{length, length-append, length-map}
 use lib.Dec.{ltb}
 use borrow.Author.Tests.{lt-ltb, le-ltb, ltb-true, ltb-false}
+use Rattle.lists.specs.Tab.{tab}
 use Rattle.lists.specs.Places.{Place, counted, range, row, rows, block, any, keep, count}
+use Rattle.lists.proofs.Tests.{or-right}
 
 -- the place of a cell lies in the map
 pub in-map : (w h x y : ℕ) → x < w → y < h → y * w + x < w * h
@@ -124,6 +127,27 @@ module _ {A : Type 0} (f : A → Bool) where
       pick : (b : Bool) → length (keep f l) ≤ length l → length (cond b (a ∷ keep f l) (keep f l)) ≤ suc (length l)
       pick true e = omega arith
       pick false e = omega arith
+
+-- ---- a test of the elements that a function of the place gives
+
+module _ {A : Type 0} (f : A → Bool) (h : ℕ → A) where
+  any-last : (n : ℕ) → any f (tab (suc n) h) ≡ (any f (tab n h) || (f (h n) || false))
+  unfolding tab
+  any-last n = any-append f (tab n h) (h n ∷ [])
+
+  pub any-tab-hit : (n i : ℕ) → i < n → f (h i) ≡ true → any f (tab n h) ≡ true
+  any-tab-hit zero i l e = absurd (not-suc-le-zero l)
+  any-tab-hit (suc n) i l e =
+      any-last n
+      ∙ ⊎-elim
+      (λ (q : i ≡ n). ap (λ (b : Bool). any f (tab n h) || (b || false)) (ap (λ (k : ℕ). f (h k)) (sym q) ∙ e) ∙ or-right (any f (tab n h)))
+      (λ (m : i < n). ap (λ (b : Bool). b || (f (h n) || false)) (any-tab-hit n i m e))
+      (eq-or-lt-of-le (le-of-suc-le-suc l))
+
+  pub any-tab-none : (n : ℕ) → ((i : ℕ) → i < n → f (h i) ≡ false) → any f (tab n h) ≡ false
+  unfolding tab
+  any-tab-none zero g = refl
+  any-tab-none (suc n) g = any-last n ∙ rw (any-tab-none n (λ i l. g i (omega arith)), g n (omega arith))
 
 -- ---- a block has as many places as its sides say, and a test passes at no more
 

@@ -1,0 +1,16 @@
+-- `merge::is_sized` meets its contract. Assumes nothing.
+use borrow.Author.Needs.{needs}
+use lib.Ieee.{ofBits}
+use Rattle.merge.specs.Merge.{isSized}
+use Rattle.merge.proofs.is_sized.Statement.{statement}
+use Rattle.merge.proofs.is_sized.Tie as tie
+
+is-between-requires : tie.Need-is-between-requires
+is-between-requires c κs = search needs
+
+returns : tie.Need-returns
+unfolding isSized ofBits
+returns c = c .is-between .ensures
+
+pub is-sized-spec : {M : Type 1} → statement M
+is-sized-spec = tie.close (tie.spec is-between-requires returns)

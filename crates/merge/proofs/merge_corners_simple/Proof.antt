@@ -1,0 +1,24 @@
+-- `merge::merge_corners_simple` meets its contract. Assumes nothing.
+use borrow.Author.Needs.{needs}
+use Rattle.merge.proofs.Answer.{merges-whole}
+use Rattle.merge.proofs.merge_corners_simple.Statement.{statement}
+use Rattle.merge.proofs.merge_corners_simple.Tie as tie
+
+merge-within-requires : tie.Need-merge-within-requires
+merge-within-requires c κs = search needs
+
+same-length : tie.Need-same-length
+same-length c = search needs
+
+same-length-2 : tie.Need-same-length-2
+same-length-2 c = search needs
+
+same-length-3 : tie.Need-same-length-3
+same-length-3 c = search needs
+
+returns : tie.Need-returns
+returns c = merges-whole _ _ _ _ _ (c .before .before .before .before .before .before .merge-within .ensures)
+
+pub merge-corners-simple-spec : {M : Type 1} → statement M
+merge-corners-simple-spec =
+    tie.close (tie.spec merge-within-requires same-length same-length-2 same-length-3 returns)

@@ -1,0 +1,68 @@
+-- `merge::settling::merge_in` meets its contract: each turn is one of `Progress`. Assumes nothing.
+use Prim.Native.Nat.{_-_}
+use native.Mathlib.Omega.{arith}
+use Rattle.corner_list.specs.CornerList.{slices}
+use Rattle.merge.specs.Merge.{joins}
+use Rattle.merge.proofs.Progress.{Progress, progress-none, progress-fits, progress-turn, progress-all, progress-xs, progress-ys, progress-strengths}
+use borrow.Author.Needs.{needs}
+use Rattle.merge.proofs.settling.merge_in.Statement.{statement}
+use Rattle.merge.proofs.settling.merge_in.Tie as tie
+
+abbrev Inv-loop : tie.InvT-loop
+Inv-loop xs₀ ys₀ strengths₀ g n k₀ i₀ xs ys strengths k i = Progress (joins g) n (slices xs₀ ys₀ strengths₀) (slices xs ys strengths) k i
+
+abbrev μ-loop : tie.MeasureT-loop
+μ-loop xs₀ ys₀ strengths₀ g n k₀ i₀ xs ys strengths k i = n - i
+
+loop-holds : tie.Need-loop-holds Inv-loop μ-loop
+loop-holds c = progress-none _ _ _
+
+corner-at-requires : tie.Need-corner-at-requires Inv-loop μ-loop
+corner-at-requires c κs = search needs
+
+settle-in-requires : tie.Need-settle-in-requires Inv-loop μ-loop
+settle-in-requires c κs =
+    let turn = c .before .before .before .before .before .before .before in
+    progress-fits _ _ _ (turn .before .before .before .before .before .pre) _ _ _ (turn .before .loop .inv) (turn .loop-test .taken)
+
+add-i : tie.Need-add-i Inv-loop μ-loop
+add-i c = omega arith
+
+loop-less : tie.Need-loop-less Inv-loop μ-loop
+loop-less c = omega arith
+
+loop-again : tie.Need-loop-again Inv-loop μ-loop
+loop-again c =
+    let settled = c .before .before .before .before .before .before in
+    let read = settled .before .before .before .before in
+    let turn = read .before .before .before .before in
+    progress-turn _ _ _ (turn .before .before .before .before .before .pre) _ _ _ (turn .before .loop .inv) _ _ _ (turn .loop-test .taken) (read .corner-at .ensures) (settled .settle-in .ensures)
+
+same-length : tie.Need-same-length Inv-loop μ-loop
+same-length c = progress-xs _ _ _ (c .before .before .before .before .before .pre) _ _ _ (c .before .loop .inv)
+
+same-length-2 : tie.Need-same-length-2 Inv-loop μ-loop
+same-length-2 c = progress-ys _ _ _ (c .before .before .before .before .before .pre) _ _ _ (c .before .loop .inv)
+
+same-length-3 : tie.Need-same-length-3 Inv-loop μ-loop
+same-length-3 c = progress-strengths _ _ _ (c .before .before .before .before .before .pre) _ _ _ (c .before .loop .inv)
+
+returns : tie.Need-returns Inv-loop μ-loop
+returns c = progress-all _ _ _ (c .before .before .before .before .before .pre) _ _ _ (c .before .loop .inv) (c .loop-test .left)
+
+pub merge-in-spec : {M : Type 1} → statement M
+merge-in-spec =
+    tie.close
+    (tie.spec
+    Inv-loop
+    μ-loop
+    loop-holds
+    corner-at-requires
+    settle-in-requires
+    add-i
+    loop-less
+    loop-again
+    same-length
+    same-length-2
+    same-length-3
+    returns)

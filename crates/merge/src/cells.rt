@@ -1,0 +1,96 @@
+// Which corners join: those near each other whose grid cells differ by at most one each way. No grid is stored; the cell numbers
+// decide.
+ghost use mathlib.Core.Path.{_≡_};
+ghost use Prim.Native.Nat.{_≤_};
+ghost use mathlib.Core.Bool.{false};
+ghost use mathlib.Core.List.{[], _∷_};
+ghost use lib.ListN.{length, take};
+ghost use lib.Ieee.{inf};
+ghost use Rattle.corner_list.specs.CornerList.{slices, cornersOf, placesOf};
+ghost use Rattle.merge.specs.Merge.{cellOf, adjacent, neighbours, joins, leastFrom, gridOf};
+use corner_list::Corner;
+
+// The least coordinates of a list of corners, 1 / radius, and the radius squared.
+pub(crate) struct Grid {
+    pub left: f32,
+    pub top: f32,
+    pub inverse: f32,
+    pub square: f32,
+}
+
+// The lesser of two numbers, the second unless the first is below it.
+fn lesser(v: f32, m: f32) -> f32
+    ensures { λ r. ⌜ r ≡ leastFrom m (v ∷ []) ⌝ }
+{
+    if v < m { v } else { m }
+}
+
+// The least of the first n numbers, and infinity if there is none.
+fn least(vs: &[f32], n: usize) -> f32
+    requires { ⌜ n ≤ length (now vs) ⌝ }
+    ensures { λ r. ⌜ r ≡ leastFrom (inf false) (take n (now (vs .entry))) ⌝ }
+{
+    let mut m = f32::from_bits(0x7f80_0000);
+    for i in 0..n {
+        m = lesser(vs[i], m);
+    }
+    m
+}
+
+// The grid of a radius and the first n corners of a buffer.
+pub(crate) fn grid_of(xs: &[f32], ys: &[f32], strengths: &[f32], n: usize, radius: f32) -> Grid
+    requires { ⌜ n ≤ placesOf (slices (now xs) (now ys) (now strengths)) ⌝ }
+    ensures { λ g. ⌜ g ≡ gridOf radius (cornersOf (slices (now (xs .entry)) (now (ys .entry)) (now (strengths .entry))) n) ⌝ }
+{
+    Grid {
+        left: least(xs, n),
+        top: least(ys, n),
+        inverse: 1.0 / radius,
+        square: radius * radius,
+    }
+}
+
+// A coordinate's cell number.
+fn cell_of(least: f32, inverse: f32, v: f32) -> usize
+    ensures { λ r. ⌜ r ≡ cellOf least inverse v ⌝ }
+{
+    float32::cut_off((v - least) * inverse)
+}
+
+// Whether two cell numbers differ by at most one.
+fn is_adjacent(a: usize, b: usize) -> bool
+    ensures { λ r. ⌜ r ≡ adjacent a b ⌝ }
+{
+    if a < b { b - a <= 1 } else { a - b <= 1 }
+}
+
+// Whether the cell numbers of two coordinates differ by at most one.
+fn in_adjacent_cells(least: f32, inverse: f32, v: f32, w: f32) -> bool
+    ensures { λ r. ⌜ r ≡ adjacent (cellOf least inverse v) (cellOf least inverse w) ⌝ }
+{
+    is_adjacent(cell_of(least, inverse, v), cell_of(least, inverse, w))
+}
+
+// Whether the cells of two corners differ by at most one each way.
+fn are_neighbours(g: Grid, c: Corner, o: Corner) -> bool
+    ensures { λ r. ⌜ r ≡ neighbours g c o ⌝ }
+{
+    if in_adjacent_cells(g.left, g.inverse, c.x, o.x) {
+        in_adjacent_cells(g.top, g.inverse, c.y, o.y)
+    } else {
+        false
+    }
+}
+
+// Whether c joins o: near enough, and in neighbouring cells.
+pub(crate) fn is_joined(g: Grid, c: Corner, o: Corner) -> bool
+    ensures { λ r. ⌜ r ≡ joins g c o ⌝ }
+{
+    let dx = c.x - o.x;
+    let dy = c.y - o.y;
+    if dx * dx + dy * dy <= g.square {
+        are_neighbours(g, c, o)
+    } else {
+        false
+    }
+}

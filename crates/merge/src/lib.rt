@@ -1,0 +1,144 @@
+// Merging corners: of those closer than a radius the strongest is kept.
+mod cells;
+mod settling;
+
+ghost use mathlib.Core.Path.{_≡_};
+ghost use mathlib.Core.Bool.{not, cond};
+ghost use Prim.Native.Nat.{min};
+ghost use lib.Dec.{ltb};
+ghost use Rattle.lists.specs.Places.{any};
+ghost use Rattle.corner_list.specs.CornerList.{slices, cornersOf, placesOf};
+ghost use Rattle.merge.specs.Merge.{isOff, isSized, isInside, between, refusalOf, Merges};
+use corner_list::Corner;
+
+// The answer of merging: how many corners are left, or the number of the refusal.
+pub enum Merged {
+    Kept(usize),
+    Refused(u8),
+}
+
+// Whether a radius is off: not finite, or at most 0.
+pub fn is_off(radius: f32) -> bool
+    ensures { λ r. ⌜ r ≡ isOff radius ⌝ }
+{
+    if float32::is_finite(radius) {
+        radius <= 0.0
+    } else {
+        true
+    }
+}
+
+// Whether lo <= v <= hi.
+fn is_between(lo: f32, hi: f32, v: f32) -> bool
+    ensures { λ r. ⌜ r ≡ between lo hi v ⌝ }
+{
+    if lo <= v { v <= hi } else { false }
+}
+
+// Whether a radius is from 1/64 to 4,096.
+pub fn is_sized(radius: f32) -> bool
+    ensures { λ r. ⌜ r ≡ isSized radius ⌝ }
+{
+    is_between(0.015625, 4096.0, radius)
+}
+
+// Whether a corner's coordinates are from 0 to 4,096.
+fn is_inside(c: Corner) -> bool
+    ensures { λ r. ⌜ r ≡ isInside c ⌝ }
+{
+    if is_between(0.0, 4096.0, c.x) {
+        is_between(0.0, 4096.0, c.y)
+    } else {
+        false
+    }
+}
+
+// Whether one of the first n corners of a buffer is not inside.
+fn has_outside(xs: &[f32], ys: &[f32], strengths: &[f32], n: usize) -> bool
+    ensures { λ r. ⌜ r ≡ any (λ c. not (isInside c)) (cornersOf (slices (now (xs .entry)) (now (ys .entry)) (now (strengths .entry))) n) ⌝ }
+{
+    for i in 0..n {
+        if !is_inside(corner_list::corner_at(xs, ys, strengths, i)) {
+            return true;
+        }
+    }
+    false
+}
+
+// The lesser of two counts.
+fn fewer(a: usize, b: usize) -> usize
+    ensures { λ r. ⌜ r ≡ min a b ⌝ }
+{
+    if a < b { a } else { b }
+}
+
+// 10 if more corners are stated than there are places.
+fn crowding(places: usize, count: usize) -> u8
+    ensures { λ r. ⌜ r ≡ cond (ltb places count) 10 0 ⌝ }
+{
+    if places < count { 10 } else { 0 }
+}
+
+// The number of the refusal, 0 for none.
+fn refusal(
+    xs: &[f32],
+    ys: &[f32],
+    strengths: &[f32],
+    places: usize,
+    count: usize,
+    radius: f32,
+) -> u8
+    ensures { λ r. ⌜ r ≡ refusalOf radius places count (slices (now (xs .entry)) (now (ys .entry)) (now (strengths .entry))) ⌝ }
+{
+    if is_off(radius) {
+        return crowding(places, count);
+    }
+    if has_outside(xs, ys, strengths, fewer(count, places)) {
+        return 4;
+    }
+    if is_sized(radius) {
+        return crowding(places, count);
+    }
+    5
+}
+
+// Merges the first `count` corners of a buffer of at most `places` places.
+fn merge_within(
+    xs: &mut [f32],
+    ys: &mut [f32],
+    strengths: &mut [f32],
+    places: usize,
+    count: usize,
+    radius: f32,
+) -> Merged
+    ensures { λ r. ⌜ Merges radius (min places (placesOf (slices (now (xs .entry)) (now (ys .entry)) (now (strengths .entry))))) count
+        (slices (now (xs .entry)) (now (ys .entry)) (now (strengths .entry))) r (slices (now (xs .exit)) (now (ys .exit)) (now (strengths .exit))) ⌝ }
+{
+    let held = fewer(
+        places,
+        corner_list::places(xs.len(), ys.len(), strengths.len()),
+    );
+    let number = refusal(xs, ys, strengths, held, count, radius);
+    if number != 0 {
+        return Merged::Refused(number);
+    }
+    if is_off(radius) {
+        return Merged::Kept(count);
+    }
+    let g = cells::grid_of(xs, ys, strengths, count, radius);
+    Merged::Kept(settling::merge_in(xs, ys, strengths, g, count))
+}
+
+// Merges the first `count` corners of a buffer in place, as the Rust's `merge_corners_simple`.
+pub fn merge_corners_simple(
+    xs: &mut [f32],
+    ys: &mut [f32],
+    strengths: &mut [f32],
+    count: usize,
+    radius: f32,
+) -> Merged
+    ensures { λ r. ⌜ Merges radius (placesOf (slices (now (xs .entry)) (now (ys .entry)) (now (strengths .entry)))) count
+        (slices (now (xs .entry)) (now (ys .entry)) (now (strengths .entry))) r (slices (now (xs .exit)) (now (ys .exit)) (now (strengths .exit))) ⌝ }
+{
+    merge_within(xs, ys, strengths, xs.len(), count, radius)
+}
