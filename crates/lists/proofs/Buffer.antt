@@ -7,7 +7,10 @@ use mathlib.Core.List.{List, [], _∷_, _++_, append-assoc, append-nil}
 use lib.ListN.{length, getD, take, drop, set, replicate, length-append, length-drop, length-take, length-replicate, take-append-drop, List·getD-append, length-set}
 use lib.Seq.{take-append-seam, drop-append-add, drop-drop, drop-cons, set-at, take-at, drop-at, length-take-le, getD-take, getD-append-add, getD-drop, set-append-left}
 use borrow.Rule.Slice.PartMut.{putMid}
+use native.Mathlib.Numerals.{add-one}
+use Rattle.lists.specs.Tab.{tab}
 use Rattle.lists.specs.Buffer.{front, placed, wipedFrom}
+use Rattle.lists.proofs.Tab.{length-tab}
 
 module _ {A : Type 0} where
   pub front-length : (vs d : List A) → length vs ≤ length d → length (front vs d) ≡ length d
@@ -51,6 +54,17 @@ module _ {A : Type 0} where
       rw e
       (ap₂ (λ (a b : List A). a ++ us ++ b) (take-append-seam vs (drop (length vs) d))
       (drop-append-add vs (drop (length vs) d) (length us) ∙ drop-drop (length us) (length vs) d ∙ ap (λ (n : ℕ). drop n d) (sym (length-append vs us))))
+
+  -- one element more behind those that stand first
+  pub front-set : (vs d : List A) (v : A) (n : ℕ) → n ≡ length vs → n < length d → set (front vs d) n v ≡ front (vs ++ (v ∷ [])) d
+  front-set vs d v n e h =
+      let m : suc n ≡ length (vs ++ (v ∷ [])) = omega (arith, length-append vs (v ∷ [])) in
+      rw (sym e, drop-cons d n v h) (set-at vs _ (drop (suc n) d) v n (sym e) ∙ ap (λ (k : ℕ). vs ++ v ∷ drop k d) m ∙ simp append-assoc)
+
+  -- and with the elements of a function
+  pub front-tab : (f : ℕ → A) (d : List A) (n : ℕ) → n < length d → set (front (tab n f) d) n (f n) ≡ front (tab (n + 1) f) d
+  unfolding tab
+  front-tab f d n h = rw (add-one n) (front-set (tab n f) d (f n) n (sym (length-tab n f)) h)
 
   -- nothing placed; placed before everything; and one element more behind those placed
   pub placed-none : (held : ℕ) (d : List A) → d ≡ placed held [] d

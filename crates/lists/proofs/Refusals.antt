@@ -3,7 +3,7 @@ use Prim.Native.Nat.{ℕ, _<_}
 use native.Mathlib.Omega.{arith}
 use mathlib.Core.Path.{_≡_, refl}
 use mathlib.Core.Bool.{Bool, true, false, cond}
-use mathlib.Core.List.{List, [], _∷_}
+use mathlib.Core.List.{List, [], _∷_, _++_}
 use Rattle.lists.specs.Places.{All}
 use Rattle.lists.specs.Refusals.{lowest}
 
@@ -16,3 +16,9 @@ lowest-none false n cs p e = (refl, e)
 pub all-clear : (cs : List (Bool × ℕ)) → All (λ c. 0 < c .1) cs → lowest cs ≡ 0 → All (λ c. c .0 ≡ false) cs
 all-clear [] p e = tt
 all-clear (c ∷ cs) p e = let r = lowest-none (c .0) (c .1) cs (p .0) e in (r .0, all-clear cs (p .1) (r .1))
+
+-- a number: conditions behind those that give it do not count
+pub lowest-some : (cs ds : List (Bool × ℕ)) → (lowest cs ≡ 0 → ⊥) → lowest (cs ++ ds) ≡ lowest cs
+lowest-some [] ds h = absurd (h refl)
+lowest-some ((true, n) ∷ cs) ds h = refl
+lowest-some ((false, n) ∷ cs) ds h = lowest-some cs ds h

@@ -1,0 +1,62 @@
+-- Small streams and what is read of them, computed from the definition. Assumes nothing.
+use Prim.Native.Nat.{ℕ}
+use mathlib.Core.Path.{_≡_, refl}
+use mathlib.Core.List.{List, [], _∷_, _++_, map}
+use lib.ListN.{replicate}
+use lib.Ieee.{ofBits, lt}
+use Rattle.stream.specs.Stream.{bodyLength, sidesFault, rangeOutside, radiusOutside, parametersFault, paddingFault, bodyFault, recordFault, Reading, accepted, refused, readRecord, readPixels, readParameters, readFrame}
+
+-- sides; parameters with ring, window and merge radius; pixels of one record
+abbrev sides : ℕ → ℕ → List ℕ
+sides w h = 1 ∷ w ∷ 0 ∷ h ∷ 0 ∷ []
+
+abbrev parameters : ℕ → ℕ → List ℕ → List ℕ
+parameters ring window merge = (2 ∷ ring ∷ 0 ∷ 0 ∷ 128 ∷ 63 ∷ window ∷ 2 ∷ 3 ∷ []) ++ merge ++ (4 ∷ 5 ∷ 6 ∷ 7 ∷ [])
+
+abbrev three : List ℕ
+three = 0 ∷ 0 ∷ 64 ∷ 64 ∷ []
+
+abbrev good : List ℕ
+good = parameters 5 1 three
+
+abbrev pixel : ℕ → ℕ → List ℕ
+pixel v padding = 3 ∷ v ∷ replicate 31 padding
+
+abbrev streams : List (List ℕ)
+streams =
+    []
+    ∷ (5 ∷ [])
+    ∷ (2 ∷ [])
+    ∷ (1 ∷ 1 ∷ 0 ∷ 1 ∷ [])
+    ∷ sides 97 1
+    ∷ (sides 1 1 ++ parameters 6 1 (0 ∷ 0 ∷ 0 ∷ 70 ∷ []))
+    ∷ (sides 1 1 ++ parameters 5 1 (0 ∷ 0 ∷ 0 ∷ 70 ∷ []))
+    ∷ (sides 1 1 ++ good ++ (4 ∷ []))
+    ∷ (sides 1 1 ++ good ++ pixel 9 1)
+    ∷ (sides 1 1 ++ good ++ pixel 9 0)
+    ∷ (sides 0 1 ++ good ++ pixel 9 0)
+    ∷ []
+
+abbrev numbers : List ℕ
+numbers = 7 ∷ 6 ∷ 11 ∷ 7 ∷ 1 ∷ 3 ∷ 5 ∷ 11 ∷ 7 ∷ 7 ∷ 11 ∷ []
+
+pub faults : map readFrame streams ≡ map refused numbers
+unfolding readFrame bodyLength ofBits lt
+faults = refl
+
+-- a stream of one pixel, and one byte behind it that is not read
+pub one-pixel : readFrame (sides 1 1 ++ good ++ pixel 9 0 ++ (4 ∷ 8 ∷ [])) ≡ accepted record {
+  width = 1;
+  height = 1;
+  ring = 5;
+  «threshold_bits» = 0x3f80_0000;
+  window = 1;
+  least = 2;
+  centroid = 3;
+  «merge_bits» = 0x4040_0000;
+  levels = 4;
+  minimum = 0x0605;
+  search = 7;
+} (9 ∷ [])
+unfolding readFrame bodyLength ofBits lt
+one-pixel = refl

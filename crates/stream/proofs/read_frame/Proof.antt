@@ -1,0 +1,81 @@
+-- `stream::read_frame` meets its contract: the stream is judged whole, and its sides fit the buffer. Assumes nothing.
+use Prim.Native.Nat.{_*_, _≤_}
+use native.Mathlib.Omega.{arith}
+use mathlib.Core.Path.{_≡_, sym, ap, _∙_}
+use lib.ListN.{length}
+use Rattle.stream.specs.Reader.{headerAt, pixelCount, Whole}
+use Rattle.stream.proofs.Answer.{pixels-are, pixels-fit, refused-read, frame-read}
+use borrow.Author.Needs.{needs}
+use Rattle.stream.proofs.read_frame.Statement.{statement}
+use Rattle.stream.proofs.read_frame.Tie as tie
+
+stream-fault-requires : tie.Need-stream-fault-requires
+stream-fault-requires c κs = search needs
+
+returns : tie.Need-returns
+returns c = refused-read (c .before .before .before .args .input .now) (c .before .before .before .args .pixels .now) (c .before .stream-fault .result) (c .before .stream-fault .ensures) (c .if1 .taken)
+
+whole : (c : tie.Else1) → Whole (c .before .before .before .args .input .now)
+whole c = c .before .stream-fault .ensures .whole (c .if1 .left)
+
+header-is : (c : tie.After-header-of) → c .header-of .result ≡ headerAt (c .before .before .before .before .before .before .args .input .now)
+unfolding headerAt
+header-is c = c .header-of .ensures
+
+sub-sides : tie.Need-sub-sides
+sub-sides c = search needs
+
+part-sides-start : tie.Need-part-sides-start
+part-sides-start c = search needs
+
+part-sides-end : tie.Need-part-sides-end
+part-sides-end c = omega (arith, whole c .long)
+
+sub-parameters : tie.Need-sub-parameters
+sub-parameters c = search needs
+
+part-parameters-start : tie.Need-part-parameters-start
+part-parameters-start c = search needs
+
+part-parameters-end : tie.Need-part-parameters-end
+part-parameters-end c = omega (arith, whole (c .before) .long)
+
+header-of-requires : tie.Need-header-of-requires
+header-of-requires c κs = search needs
+
+mul-store-pixels : tie.Need-mul-store-pixels
+mul-store-pixels c =
+    let s = c .before .before .before .before .before .before .before .args .input .now in
+    omega (arith, pixels-are s (c .before .header-of .result) (header-is (c .before)), pixels-fit s (whole (c .before .before .before .before) .small))
+
+store-pixels-requires : tie.Need-store-pixels-requires
+store-pixels-requires c κs =
+    let s = c .before .before .before .before .before .before .before .before .args .input .now in
+    let n = pixels-are s (c .before .before .header-of .result) (header-is (c .before .before)) in
+    let ok = whole (c .before .before .before .before .before) in
+    (rw n (ok .long), omega (arith, n, pixels-fit s (ok .small), c .store-pixels-arg .given .0 .1))
+
+returns-2 : tie.Need-returns-2
+returns-2 c =
+    let header = c .before .before .before in
+    let fault = header .before .before .before .before in
+    let a = fault .before .before .args in
+    frame-read (a .input .now) (a .pixels .now) (fault .stream-fault .result) (fault .stream-fault .ensures) (header .before .before .before .if1 .left) (header .header-of .result)
+    (header .header-of .result .width * header .header-of .result .height) (c .store-pixels .last .1 .1 .0) (header-is header) (pixels-are (a .input .now) (header .header-of .result) (header-is header)) (c .store-pixels .ensures)
+
+pub read-frame-spec : {M : Type 1} → statement M
+read-frame-spec =
+    tie.close
+    (tie.spec
+    stream-fault-requires
+    returns
+    sub-sides
+    part-sides-start
+    part-sides-end
+    sub-parameters
+    part-parameters-start
+    part-parameters-end
+    header-of-requires
+    mul-store-pixels
+    store-pixels-requires
+    returns-2)

@@ -1,0 +1,167 @@
+-- The frame stream of document 01 ("The added stream and listing") over a list of bytes: its records, their faults, and what a stream holds.
+use Prim.Native.Nat.{ℕ, zero, suc, _+_, _-_, _*_, _/_, _%_}
+use mathlib.Core.Bool.{Bool, true, false, cond, not, _&&_, _||_}
+use mathlib.Core.List.{List, [], _∷_, _++_}
+use lib.ListN.{length, getD, take, drop, replicate}
+use lib.Dec.{eqb, ltb, leb}
+use lib.IntN.{pos, negsuc}
+use lib.Ieee.{Float, fin, binary32, ofBits, lt}
+use lib.Ieee.Scale.{finite}
+use Rattle.float32.specs.Float32.{zero as zero32}
+use Rattle.lists.specs.Places.{any}
+use Rattle.lists.specs.Refusals.{lowest}
+use Rattle.stream.specs.declared.Header.{Header}
+
+-- ---- numbers at a place of a list of bytes, little-endian
+abbrev pub u8 : List ℕ → ℕ → ℕ
+u8 s at = getD s at 0
+
+abbrev pub u16 : List ℕ → ℕ → ℕ
+u16 s at = u8 s at + 256 * u8 s (at + 1)
+
+abbrev pub u32 : List ℕ → ℕ → ℕ
+u32 s at = u16 s at + 65536 * u16 s (at + 2)
+
+-- ---- records: "One byte of kind, then a body of fixed length"
+
+-- kind 1: sides; 2: parameters; 3: 32 pixels; 4: end, empty
+abbrev pub known : ℕ → Bool
+known kind = leb 1 kind && leb kind 4
+
+unfoldable pub bodyLength : ℕ → ℕ
+bodyLength kind = cond (eqb kind 1) 4 (cond (eqb kind 2) 16 (cond (eqb kind 3) 32 0))
+
+-- the body of a record at the front of s, and the bytes behind the record
+abbrev pub bodyOf : ℕ → List ℕ → List ℕ
+bodyOf kind s = take (bodyLength kind) (drop 1 s)
+
+abbrev pub behind : ℕ → List ℕ → List ℕ
+behind kind s = drop (1 + bodyLength kind) s
+
+-- kind 1: "width, height (u16 each)"; kind 2: "ring u8, threshold f32, window u8, least neighbours u8, centroid radius u8,
+-- merge radius f32, levels u8, minimum size u16, search radius u8"
+abbrev pub headerOf : List ℕ → List ℕ → Header
+headerOf sides parameters =
+    record {
+      width = u16 sides 0;
+      height = u16 sides 2;
+      ring = u8 parameters 0;
+      «threshold_bits» = u32 parameters 1;
+      window = u8 parameters 5;
+      least = u8 parameters 6;
+      centroid = u8 parameters 7;
+      «merge_bits» = u32 parameters 8;
+      levels = u8 parameters 12;
+      minimum = u16 parameters 13;
+      search = u8 parameters 15;
+    }
+
+-- ---- faults by 01's numbers, 0 for none
+
+-- 1: "A side above .. 96"
+unfoldable pub sidesFault : ℕ → ℕ → ℕ
+sidesFault width height = lowest ((ltb 96 width || ltb 96 height, 1) ∷ [])
+
+-- "Ring not 5 or 10; window or centroid radius outside 0..16"
+unfoldable pub rangeOutside : ℕ → ℕ → ℕ → Bool
+rangeOutside ring window centroid = not (eqb ring 5 || eqb ring 10) || ltb 16 window || ltb 16 centroid
+
+-- "Merge radius finite, positive, outside 1/64..4,096"
+unfoldable pub radiusOutside : Float → Bool
+radiusOutside r = finite r && lt zero32 r && (lt r (fin false 1 (negsuc 5)) || lt (fin false 1 (pos 12)) r)
+
+-- 3, then 5
+unfoldable pub parametersFault : ℕ → ℕ → ℕ → ℕ → ℕ
+unfolding rangeOutside radiusOutside
+parametersFault ring window centroid merge =
+    lowest ((rangeOutside ring window centroid, 3) ∷ (radiusOutside (ofBits binary32 merge), 5) ∷ [])
+
+-- 7: "padding not 0", where `left` pixels have not come yet
+unfoldable pub paddingFault : ℕ → List ℕ → ℕ
+paddingFault left body = lowest ((any (λ v. not (eqb v 0)) (drop left body), 7) ∷ [])
+
+-- the body's own faults, by its kind
+unfoldable pub bodyFault : ℕ → ℕ → List ℕ → ℕ
+unfolding sidesFault parametersFault paddingFault
+bodyFault kind left body =
+    cond (eqb kind 1) (sidesFault (u16 body 0) (u16 body 2))
+    (cond (eqb kind 2) (parametersFault (u8 body 0) (u8 body 5) (u8 body 7) (u32 body 8))
+    (cond (eqb kind 3) (paddingFault left body) 0))
+
+-- a record where kind `due` is due, in the order of judging. 7: "Stream cut short"; 6: "Unknown kind"; 11: "A known kind out of its order",
+-- before its body; "a body cut short gives 7 alone"; the body's own fault
+unfoldable pub recordFault : ℕ → ℕ → List ℕ → ℕ
+unfolding bodyLength bodyFault
+recordFault due left [] = 7
+recordFault due left (kind ∷ rest) =
+    lowest
+    ((not (known kind), 6)
+    ∷ (not (eqb kind due), 11)
+    ∷ (ltb (length rest) (bodyLength due), 7)
+    ∷ (true, bodyFault due left (take (bodyLength due) rest))
+    ∷ [])
+
+-- ---- reading
+
+-- sides and parameters with the pixels in row order, or the number of the earliest fault
+pub data Reading : Type 0 where
+  accepted : Header → List ℕ → Reading
+  refused : ℕ → Reading
+
+abbrev pub unless : ℕ → Reading → Reading
+unless fault next = cond (eqb fault 0) next (refused fault)
+
+-- the record of kind `due` at the front of s, and then `next` of its body and of the bytes behind it
+unfoldable pub readRecord : ℕ → ℕ → List ℕ → (List ℕ → List ℕ → Reading) → Reading
+unfolding recordFault
+readRecord due left s next = unless (recordFault due left s) (next (bodyOf due s) (behind due s))
+
+-- "as many 3 as needed, 4"; n pixels need (n + 31) / 32 records
+abbrev pub recordsFor : ℕ → ℕ
+recordsFor n = (n + 31) / 32
+
+unfoldable pub readPixels : ℕ → Header → ℕ → List ℕ → List ℕ → Reading
+unfolding readRecord
+readPixels zero header left pixels s = readRecord 4 left s (λ body rest. accepted header pixels)
+readPixels (suc n) header left pixels s =
+    readRecord 3 left s (λ body rest. readPixels n header (left - 32) (pixels ++ take left body) rest)
+
+-- what follows the sides
+unfoldable pub readParameters : List ℕ → List ℕ → Reading
+unfolding readPixels
+readParameters sides s =
+    readRecord 2 0 s (λ parameters rest.
+    let header = headerOf sides parameters in
+    let n = header .width * header .height in
+    readPixels (recordsFor n) header n [] rest)
+
+-- "Order 1, 2, as many 3 as needed, 4; bytes after that 4 are not read."
+unfoldable pub readFrame : List ℕ → Reading
+unfolding readParameters
+readFrame s = readRecord 1 0 s readParameters
+
+-- ---- writing: the one stream of sides, parameters and pixels
+abbrev pub bytes16 : ℕ → List ℕ
+bytes16 n = n % 256 ∷ n / 256 ∷ []
+
+abbrev pub bytes32 : ℕ → List ℕ
+bytes32 n = bytes16 (n % 65536) ++ bytes16 (n / 65536)
+
+abbrev pub sidesBytes : Header → List ℕ
+sidesBytes h = bytes16 (h .width) ++ bytes16 (h .height)
+
+abbrev pub parametersBytes : Header → List ℕ
+parametersBytes h =
+    (h .ring ∷ bytes32 (h .«threshold_bits»))
+    ++ (h .window ∷ h .least ∷ h .centroid ∷ bytes32 (h .«merge_bits»))
+    ++ (h .levels ∷ bytes16 (h .minimum))
+    ++ (h .search ∷ [])
+
+-- "32 pixels in row order, zeros after the last"
+unfoldable pub pixelBytes : ℕ → List ℕ → List ℕ
+pixelBytes zero pixels = []
+pixelBytes (suc n) pixels = 3 ∷ ((take 32 pixels ++ replicate (32 - length pixels) 0) ++ pixelBytes n (drop 32 pixels))
+
+unfoldable pub frameBytes : Header → List ℕ → List ℕ
+unfolding pixelBytes
+frameBytes h pixels = (1 ∷ sidesBytes h) ++ (2 ∷ parametersBytes h) ++ pixelBytes (recordsFor (length pixels)) pixels ++ (4 ∷ [])
