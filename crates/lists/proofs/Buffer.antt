@@ -55,17 +55,6 @@ module _ {A : Type 0} where
       (ap₂ (λ (a b : List A). a ++ us ++ b) (take-append-seam vs (drop (length vs) d))
       (drop-append-add vs (drop (length vs) d) (length us) ∙ drop-drop (length us) (length vs) d ∙ ap (λ (n : ℕ). drop n d) (sym (length-append vs us))))
 
-  -- one element more behind those that stand first
-  pub front-set : (vs d : List A) (v : A) (n : ℕ) → n ≡ length vs → n < length d → set (front vs d) n v ≡ front (vs ++ (v ∷ [])) d
-  front-set vs d v n e h =
-      let m : suc n ≡ length (vs ++ (v ∷ [])) = omega (arith, length-append vs (v ∷ [])) in
-      rw (sym e, drop-cons d n v h) (set-at vs _ (drop (suc n) d) v n (sym e) ∙ ap (λ (k : ℕ). vs ++ v ∷ drop k d) m ∙ simp append-assoc)
-
-  -- and with the elements of a function
-  pub front-tab : (f : ℕ → A) (d : List A) (n : ℕ) → n < length d → set (front (tab n f) d) n (f n) ≡ front (tab (n + 1) f) d
-  unfolding tab
-  front-tab f d n h = rw (add-one n) (front-set (tab n f) d (f n) n (sym (length-tab n f)) h)
-
   -- nothing placed; placed before everything; and one element more behind those placed
   pub placed-none : (held : ℕ) (d : List A) → d ≡ placed held [] d
   placed-none held d = sym (rw (add-zero, append-nil) (take-append-drop held d))
@@ -88,6 +77,11 @@ module _ {A : Type 0} where
       ∙ ap (λ (k : ℕ). set (placed 0 vs d) k v) (e ∙ sym (zero-add (length vs)))
       ∙ placed-set 0 vs d v (omega arith)
       ∙ placed-first (vs ++ (v ∷ [])) d
+
+  -- and with the elements of a function
+  pub front-tab : (f : ℕ → A) (d : List A) (n : ℕ) → n < length d → set (front (tab n f) d) n (f n) ≡ front (tab (n + 1) f) d
+  unfolding tab
+  front-tab f d n h = rw (add-one n) (front-next (tab n f) d n (f n) (sym (length-tab n f)) h)
 
   pub placed-length : (held : ℕ) (vs d : List A) → held + length vs ≤ length d → length (placed held vs d) ≡ length d
   placed-length held vs d h = simp (length-append, length-take, length-drop) (omega arith)
