@@ -15,6 +15,7 @@ fn gap(a: u16, b: u16) -> u16
     if a < b { b - a } else { a - b }
 }
 
+// A byte as a wider number.
 fn wide(b: u8) -> u16
     ensures { λ r. ⌜ (r ≡ b) × (r < 256) ⌝ }
 {
@@ -35,6 +36,7 @@ fn square(a: u8, b: u8, c: u8, d: u8) -> u16
     gap(wide(a) + wide(b), wide(c) + wide(d))
 }
 
+// SR, the sum response: opposite samples together against those a quarter turn on.
 fn sr(s: [u8; 16]) -> u16
     ensures { λ r. ⌜ r ≡ srOf s ⌝ }
 {
@@ -47,6 +49,7 @@ fn sr(s: [u8; 16]) -> u16
     sum
 }
 
+// DR, the difference response: opposite samples against each other.
 fn dr(s: [u8; 16]) -> u16
     ensures { λ r. ⌜ r ≡ drOf s ⌝ }
 {
@@ -59,6 +62,7 @@ fn dr(s: [u8; 16]) -> u16
     sum
 }
 
+// The sum of the samples.
 fn ring_sum(s: [u8; 16]) -> u16
     ensures { λ r. ⌜ r ≡ ringSumOf s ⌝ }
 {
@@ -71,6 +75,7 @@ fn ring_sum(s: [u8; 16]) -> u16
     sum
 }
 
+// SR, DR and the sum.
 struct RingSums {
     sr: u16,
     dr: u16,
@@ -103,6 +108,7 @@ fn gather(img: &[u8], base: usize, off: [usize; 16]) -> [u8; 16]
     s
 }
 
+// The sum of four bytes.
 fn four(a: u8, b: u8, c: u8, d: u8) -> u16
     ensures { λ r. ⌜ (r ≡ a + b + c + d) × (r < 1021) ⌝ }
 {
@@ -117,6 +123,7 @@ fn cross(img: &[u8], w: usize, mid: usize) -> u16
     four(img[mid], img[mid - w], img[mid + w], img[mid + 1]) + wide(img[mid - 1])
 }
 
+// The whole numbers of a cell's response.
 pub(crate) struct CellSums {
     pub(crate) sr: u16,
     pub(crate) dr: u16,

@@ -13,6 +13,7 @@ use crate::numbers::greater;
 use crate::numbers::less;
 use crate::numbers::lesser;
 
+// A byte as an index.
 fn index(b: u8) -> usize
     ensures { λ r. ⌜ r ≡ b ⌝ }
 {
