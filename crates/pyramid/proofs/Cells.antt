@@ -1,10 +1,10 @@
 -- How many pixels the levels have: the lengths of a level and of the levels above the base, and that these are fewer than the base's.
 -- Assumes nothing.
-use Prim.Native.Nat.{ℕ, zero, suc, _+_, _-_, _*_, _/_, _^_, _<_, _≤_, min}
-use native.Mathlib.Nat.{mul-le-mul, mul-comm, le-trans}
+use Prim.Native.Nat.{ℕ, zero, suc, _+_, _-_, _*_, _/_, _≤_}
+use native.Mathlib.Nat.{mul-le-mul, mul-comm}
 use native.Mathlib.Omega.{arith}
-use mathlib.Core.Path.{_≡_, refl, sym, ap, ap₂, _∙_}
-use mathlib.Core.List.{List, [], _++_}
+use mathlib.Core.Path.{_≡_, refl, ap₂, _∙_}
+use mathlib.Core.List.{List}
 use lib.ListN.{length, length-append}
 use Rattle.lists.proofs.Tab.{length-grid}
 use Rattle.pyramid.specs.Pyramid.{halfPixel, halved, levelSide, levelPixels, levelCells, cellsAbove, capped, above}
@@ -28,6 +28,10 @@ unfolding above
 above-last img w h zero k p q = let z : k ≡ 0 = omega arith in rw z
 above-last img w h (suc n) k p q = let z : k ≡ n = omega arith in rw z
 
+-- level 0 has the base's pixels
+pub cells-base : (w h : ℕ) → w * h ≡ levelCells w h 0
+cells-base w h = ap₂ (λ (a b : ℕ). a * b) (side-base w) (side-base h)
+
 -- ---- lengths
 
 pub length-halved : (img : List ℕ) (w h : ℕ) → length (halved img w h) ≡ w / 2 * (h / 2)
@@ -42,7 +46,7 @@ length-higher img w h k =
 
 pub length-level : (img : List ℕ) (w h k : ℕ) → length img ≡ w * h → length (levelPixels img w h k) ≡ levelCells w h k
 unfolding levelPixels
-length-level img w h zero e = e ∙ ap₂ (λ (a b : ℕ). a * b) (side-base w) (side-base h)
+length-level img w h zero e = e ∙ cells-base w h
 length-level img w h (suc k) e = length-higher img w h k
 
 pub length-above : (img : List ℕ) (w h n : ℕ) → length (above img w h n) ≡ cellsAbove w h n
@@ -53,17 +57,15 @@ length-above img w h (suc (suc k)) =
     length-append (above img w h (suc k)) (levelPixels img w h (suc k))
     ∙ ap₂ (λ (a b : ℕ). a + b) (length-above img w h (suc k)) (length-higher img w h k)
 
--- ---- the levels above the base have at most a third of its pixels
+-- ---- three times the pixels of the levels above the base are at most its own
 
 quarter : (a b : ℕ) → 4 * (a / 2 * (b / 2)) ≤ a * b
 quarter a b = let h : 2 * (a / 2) * (2 * (b / 2)) ≤ a * b = mul-le-mul (omega arith) (omega arith) in omega arith
 
 third : (w h k : ℕ) → 3 * cellsAbove w h (suc k) + levelCells w h k ≤ w * h
 unfolding cellsAbove
-third w h zero = omega (arith, ap₂ (λ (a b : ℕ). a * b) (side-base w) (side-base h))
-third w h (suc k) =
-    let q : 4 * levelCells w h (suc k) ≤ levelCells w h k = rw (← side-next w k (levelSide w k) refl, ← side-next h k (levelSide h k) refl) (quarter (levelSide w k) (levelSide h k)) in
-    omega (arith, third w h k)
+third w h zero = omega (arith, cells-base w h)
+third w h (suc k) = omega (arith, third w h k, rw (side-next w k (levelSide w k) refl, side-next h k (levelSide h k) refl) at (quarter (levelSide w k) (levelSide h k)))
 
 pub cells-le : (w h n : ℕ) → 3 * cellsAbove w h n ≤ w * h
 unfolding cellsAbove

@@ -5,7 +5,7 @@ use native.Mathlib.Nat.{mul-le-mul-right, suc-mul}
 use native.Mathlib.Numerals.{add-one}
 use native.Mathlib.Omega.{arith}
 use mathlib.Core.Path.{_≡_, refl, sym, ap, ap₂, _∙_}
-use mathlib.Core.List.{List, [], _∷_, _++_}
+use mathlib.Core.List.{List, _++_}
 use lib.ListN.{length, getD, take, drop}
 use lib.Seq.{getD-drop, getD-take}
 use borrow.Rule.Slice.PartMut.{putMid}
@@ -13,14 +13,14 @@ use Rattle.lists.specs.Tab.{tab, grid}
 use Rattle.lists.specs.Buffer.{placed}
 use Rattle.lists.proofs.Tab.{length-tab, tab-ext, tab-add, length-grid, grid-ext}
 use Rattle.lists.proofs.Buffer.{placed-none, placed-more, placed-before, put-placed}
-use Rattle.pyramid.specs.Pyramid.{boxOf, pixelAt, halfPixel, halved}
+use Rattle.pyramid.specs.Pyramid.{boxOf, halfPixel, halved}
 use Rattle.pyramid.specs.Needs.{holderOf, Halving, Summed, RowHalved, LevelHalved}
 
 pub holder-buffer : (base levels : List ℕ) (k : ℕ) → (k ≡ 0 → ⊥) → levels ≡ holderOf base levels k
 holder-buffer base levels zero z = absurd (z refl)
 holder-buffer base levels (suc k) z = refl
 
--- the slice that is read keeps its length, and has one
+-- the slice that is read keeps its length, and its length is a usize
 holder-length : (base d s : List ℕ) (k : ℕ) → length s ≡ length d → length (holderOf base s k) ≡ length (holderOf base d k)
 holder-length base d s zero e = refl
 holder-length base d s (suc k) e = e
@@ -73,37 +73,44 @@ module _ (base d : List ℕ) (k from w to : ℕ) (ok : Halving base d k from w 2
   abbrev rowOf : ℕ → ℕ
   rowOf x = halfPixel (drop from (holderOf base d k)) w x 0
 
-  -- by the column sums of the buffer as it is by then
+  -- what is read of the buffer as it is by then
+  block-read : (vs : List ℕ) (a b : ℕ) → a ≡ b → b < from + w * 2 → getD (holderOf base (placed to vs d) k) a 0 ≡ getD (holderOf base d k) b 0
+  block-read vs a b e l = kept base d vs k to a b (omega (arith, ok .fits)) e (λ z. omega (arith, ok .behind z))
+
+  -- by the column sums
   block-pixel : (x m : ℕ) (vs sums : List ℕ) → x + m ≤ w / 2 → Summed (holderOf base (placed to vs d) k) (from + 2 * x) (from + 2 * x + w) (2 * m) sums
       → (i : ℕ) → i < m → (getD sums (2 * i) 0 + getD sums (2 * i + 1) 0 + 2) / 4 ≡ rowOf (x + i)
-  block-pixel x m vs sums p q i l =
-      let read : (a b : ℕ) → a ≡ b → b < from + w * 2 → getD (holderOf base (placed to vs d) k) a 0 ≡ getD (holderOf base d k) b 0 =
-      λ a b e t. kept base d vs k to a b (omega (arith, ok .fits)) e (λ z. omega (arith, ok .behind z)) in
-      let sum : getD sums (2 * i) 0 + getD sums (2 * i + 1) 0 + 2
-      ≡ getD (holderOf base d k) (from + 2 * (x + i)) 0 + getD (holderOf base d k) (from + 2 * (x + i) + 1) 0
-      + getD (holderOf base d k) (from + w + 2 * (x + i)) 0 + getD (holderOf base d k) (from + w + 2 * (x + i) + 1) 0 + 2 =
-      omega (
-        arith,
-        q .each (2 * i) (omega arith),
-        q .each (2 * i + 1) (omega arith),
-        read (from + 2 * x + 2 * i) (from + 2 * (x + i)) (omega arith) (omega arith),
-        read (from + 2 * x + (2 * i + 1)) (from + 2 * (x + i) + 1) (omega arith) (omega arith),
-        read (from + 2 * x + w + 2 * i) (from + w + 2 * (x + i)) (omega arith) (omega arith),
-        read (from + 2 * x + w + (2 * i + 1)) (from + w + 2 * (x + i) + 1) (omega arith) (omega arith),
-      ) in
-      ap (λ (n : ℕ). n / 4) sum ∙ sym (half-at (holderOf base d k) from w (x + i))
+  block-pixel x m vs sums p q i l = ap (λ (n : ℕ). n / 4) four ∙ sym (half-at (holderOf base d k) from w (x + i))
+    where
+      at : ℕ → ℕ
+      at n = getD (holderOf base d k) n 0
+
+      four : getD sums (2 * i) 0 + getD sums (2 * i + 1) 0 + 2 ≡ at (from + 2 * (x + i)) + at (from + 2 * (x + i) + 1) + at (from + w + 2 * (x + i)) + at (from + w + 2 * (x + i) + 1) + 2
+      four =
+          omega (
+            arith,
+            q .each (2 * i) (omega arith),
+            q .each (2 * i + 1) (omega arith),
+            block-read vs (from + 2 * x + 2 * i) (from + 2 * (x + i)) (omega arith) (omega arith),
+            block-read vs (from + 2 * x + (2 * i + 1)) (from + 2 * (x + i) + 1) (omega arith) (omega arith),
+            block-read vs (from + 2 * x + w + 2 * i) (from + w + 2 * (x + i)) (omega arith) (omega arith),
+            block-read vs (from + 2 * x + w + (2 * i + 1)) (from + w + 2 * (x + i) + 1) (omega arith) (omega arith),
+          )
 
   -- the block's columns lie in the two rows
   pub block-inside : (s : List ℕ) (x m : ℕ) → length s ≡ length d → x + m ≤ w / 2 → from + 2 * x + w + 2 * m ≤ length (holderOf base s k)
   block-inside s x m e p = omega (arith, ok .inside, holder-length base d s k e)
 
+  block-tab : (x m n : ℕ) (s sums : List ℕ) → RowHalved base d k from w to x s → x + m ≤ w / 2 → Summed (holderOf base s k) (from + 2 * x) (from + 2 * x + w) (2 * m) sums → n ≡ m
+      → tab n (λ i. (getD sums (2 * i) 0 + getD sums (2 * i + 1) 0 + 2) / 4) ≡ tab m (λ i. rowOf (x + i))
+  block-tab x m n s sums e p q r = rw r (tab-ext m _ _ (block-pixel x m (tab x rowOf) sums p (rw (e .is) at q)))
+
+  -- the block behind the columns before it
   pub row-put : (x m n : ℕ) (s sums ys : List ℕ) → RowHalved base d k from w to x s → x + m ≤ w / 2 → Summed (holderOf base s k) (from + 2 * x) (from + 2 * x + w) (2 * m) sums
       → ys ≡ tab n (λ i. (getD sums (2 * i) 0 + getD sums (2 * i + 1) 0 + 2) / 4) → n ≡ m
       → RowHalved base d k from w to (x + m) (putMid (to + x) (to + x + m - (to + x)) s ys)
   row-put x m n s sums ys e p q t r =
-      let z : ys ≡ tab m (λ i. rowOf (x + i)) =
-      t ∙ ap (λ (j : ℕ). tab j (λ i. (getD sums (2 * i) 0 + getD sums (2 * i + 1) 0 + 2) / 4)) r
-      ∙ tab-ext m _ _ (block-pixel x m (tab x rowOf) sums p (rw (e .is) at q)) in
+      let z : ys ≡ tab m (λ i. rowOf (x + i)) = t ∙ block-tab x m n s sums e p q r in
       let l : to + x + m - (to + x) ≡ length ys = omega (arith, ap length z, length-tab m (λ i. rowOf (x + i))) in
       record {
         is =
@@ -135,22 +142,27 @@ module _ (base d : List ℕ) (k from w h to : ℕ) (ok : Halving base d k from w
         fits = omega (arith, row-end to w h y at l q, ok .fits);
       }
 
+  abbrev pixelOf : ℕ → ℕ → ℕ
+  pixelOf = halfPixel (drop from (holderOf base d k)) w
+
+  -- what is read of the buffer as it is by then
+  row-read : LevelHalved base d k from w to y s → (i : ℕ) → i < 2 * w → getD (drop a (holderOf base s k)) (2 * 0 * w + i) 0 ≡ getD (drop from (holderOf base d k)) (2 * y * w + i) 0
+  row-read e i t =
+      getD-drop a (holderOf base s k) (2 * 0 * w + i) 0
+      ∙ rw (e .is)
+      (kept base d (grid (w / 2) y pixelOf) k to (a + (2 * 0 * w + i)) (from + (2 * y * w + i)) (omega (arith, ok .fits)) (omega arith)
+      (λ z. omega (arith, row-below from w h y a l p, ok .behind z)))
+      ∙ sym (getD-drop from (holderOf base d k) (2 * y * w + i) 0)
+
+  -- the row behind the rows before it
   pub row-more : (s′ : List ℕ) → LevelHalved base d k from w to y s → RowHalved base s k a w at (w / 2) s′ → LevelHalved base d k from w to (y + 1) s′
   unfolding grid
   row-more s′ e r =
-      let f : ℕ → ℕ → ℕ = halfPixel (drop from (holderOf base d k)) w in
-      let read : (i : ℕ) → i < 2 * w → getD (drop a (holderOf base s k)) (2 * 0 * w + i) 0 ≡ getD (drop from (holderOf base d k)) (2 * y * w + i) 0 =
-      λ i t.
-      getD-drop a (holderOf base s k) (2 * 0 * w + i) 0
-      ∙ rw (e .is) (kept base d (grid (w / 2) y f) k to (a + (2 * 0 * w + i)) (from + (2 * y * w + i)) (omega (arith, ok .fits)) (omega arith) (λ z. omega (arith, row-below from w h y a l p, ok .behind z)))
-      ∙ sym (getD-drop from (holderOf base d k) (2 * y * w + i) 0) in
-      let pixel : (x : ℕ) → x < w / 2 → halfPixel (drop a (holderOf base s k)) w x 0 ≡ f x y =
-      λ x t. half-alike (drop a (holderOf base s k)) (drop from (holderOf base d k)) w x 0 y read t in
       record {
         is =
             r .is
-            ∙ ap₂ (placed at) (tab-ext (w / 2) _ _ pixel) (e .is)
-            ∙ placed-more to at (grid (w / 2) y f) (tab (w / 2) (λ x. f x y)) d (omega (arith, ok .fits)) (omega (arith, length-grid (w / 2) y f))
+            ∙ ap₂ (placed at) (tab-ext (w / 2) _ _ (λ x t. half-alike (drop a (holderOf base s k)) (drop from (holderOf base d k)) w x 0 y (row-read e) t)) (e .is)
+            ∙ placed-more to at (grid (w / 2) y pixelOf) (tab (w / 2) (λ x. pixelOf x y)) d (omega (arith, ok .fits)) (omega (arith, length-grid (w / 2) y pixelOf))
             ∙ rw add-one;
       }
 

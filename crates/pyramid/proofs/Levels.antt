@@ -1,26 +1,26 @@
 -- What a caller of the pyramid can use: an answer taken apart, a level looked up in the buffer that was built, and its bytes. The laws of
 -- sides and of lengths stand in Sides and Cells. Assumes nothing.
-use Prim.Native.Nat.{ℕ, zero, suc, _+_, _*_, _/_, _<_, _≤_}
+use Prim.Native.Nat.{ℕ, zero, suc, _*_, _/_, _<_, _≤_}
 use native.Mathlib.Omega.{arith}
 use mathlib.Core.Path.{_≡_, refl, sym, ap, _∙_}
-use mathlib.Core.List.{List, []}
+use mathlib.Core.List.{List}
 use lib.ListN.{length, getD}
 use borrow.Author.Tests.{ne-eqb}
 use Rattle.lists.specs.Buffer.{front}
 use Rattle.lists.proofs.Tab.{getD-grid-any}
 use Rattle.lists.proofs.Buffer.{front-length}
-use Rattle.pyramid.specs.Pyramid.{boxOf, pixelAt, halfPixel, halved, levelSide, levelCells, levelPixels, levelCount, cellsAbove, above}
+use Rattle.pyramid.specs.Pyramid.{boxOf, halfPixel, halved, levelSide, levelPixels, levelCount, cellsAbove, above}
 use Rattle.pyramid.specs.Refusals.{buildRefusal, levelRefusal}
 use Rattle.pyramid.specs.Build.{answerOf, numberOf, Built}
-use Rattle.pyramid.specs.Level.{levelAnswer, levelPart, levelIn}
+use Rattle.pyramid.specs.Level.{levelAnswer, levelIn}
 use Rattle.pyramid.specs.declared.Pyramid.{Pyramid}
 use Rattle.pyramid.specs.declared.Pyramid.the-variants.{Levels, Refused}
 use Rattle.pyramid.specs.declared.LevelAnswer.the-variants.{Level}
-use Rattle.pyramid.proofs.Sides.{side-le}
+use Rattle.pyramid.proofs.Sides.{side-le, count-few}
 use Rattle.pyramid.proofs.Cells.{length-above, length-level}
 use Rattle.pyramid.proofs.Refusals.{Accepted, accepts, accepted, level-accepts}
 use Rattle.pyramid.proofs.Above.{level-built}
-use Rattle.pyramid.proofs.Lookup.{answer-level, part-is}
+use Rattle.pyramid.proofs.Lookup.{answer-level}
 
 -- the level buffer d after a pyramid of n levels was built over a base of w by h
 pub record Complete (base : List ℕ) (w h count least : ℕ) (d e : List ℕ) (n : ℕ) : Type 0 where
@@ -71,6 +71,10 @@ module _ (base : List ℕ) (w h count least : ℕ) (d : List ℕ) (r : Pyramid) 
   pub builds : Accepted (length base) (length d) w h count least → r ≡ Levels (levelCount w h count least)
   builds a = b .answer ∙ ap (answerOf (levelCount w h count least)) (accepts _ _ _ _ _ _ a)
 
+-- ---- how many levels: at most 13
+pub levels-few : (base : List ℕ) (w h count least : ℕ) (d e : List ℕ) (n : ℕ) → Complete base w h count least d e n → n ≤ 13
+levels-few base w h count least d e n c = rw (c .counted) (count-few w h count least (c .allowed .image .narrow))
+
 -- ---- the lookup of what was built
 
 module _ (base : List ℕ) (w h count least : ℕ) (d e : List ℕ) (n : ℕ) (c : Complete base w h count least d e n) (k : ℕ) (l : k < n) where
@@ -87,9 +91,7 @@ module _ (base : List ℕ) (w h count least : ℕ) (d e : List ℕ) (n : ℕ) (c
   -- `level` hands out the base, halved k times
   pub level-found : levelIn base e w h count least k ≡ levelPixels base w h k
   unfolding levelIn
-  level-found =
-      rw level-place
-      (sym (part-is base e w h k (c .allowed .image .sized)) ∙ rw (c .fills) (level-built base d w h n k (c .allowed .image .sized) l))
+  level-found = rw (level-place, c .fills) (level-built base d w h n k l)
 
   -- width × height pixels, and sides up to 4,096: what number 2 and number 1 ask
   pub level-long : length (levelIn base e w h count least k) ≡ levelSide w k * levelSide h k

@@ -1,22 +1,17 @@
 -- Where a level lies: the answer of `level_at` by its number, and the part that `level` hands back. Assumes nothing.
-use Prim.Native.Nat.{ℕ, zero, suc, _+_, _-_, _*_, _^_, _<_, _≤_}
+use Prim.Native.Nat.{ℕ, zero, suc, _+_, _-_, _*_, _<_, _≤_}
 use native.Mathlib.Omega.{arith}
-use mathlib.Core.Path.{_≡_, refl, sym, ap, ap₂, _∙_}
-use mathlib.Core.Bool.{Bool, true, false, cond}
+use mathlib.Core.Path.{_≡_, refl}
 use mathlib.Core.List.{List, []}
-use lib.Dec.{eqb}
 use lib.ListN.{length, take, drop}
-use lib.Seq.{take-all}
-use borrow.Author.Tests.{ne-eqb, eqb-true}
-use Rattle.pyramid.specs.Pyramid.{levelSide, levelCells, levelCount, cellsAbove}
+use borrow.Author.Tests.{ne-eqb}
+use Rattle.pyramid.specs.Pyramid.{levelSide, levelCount, cellsAbove}
 use Rattle.pyramid.specs.Refusals.{levelRefusal}
-use Rattle.pyramid.specs.Level.{answerOf, levelAnswer, levelPart, levelIn}
+use Rattle.pyramid.specs.Level.{answerOf, levelAnswer, levelIn}
 use Rattle.pyramid.specs.Needs.{holderOf}
-use Rattle.pyramid.specs.declared.LevelAnswer.{LevelAnswer}
 use Rattle.pyramid.specs.declared.LevelAnswer.the-variants.{Level, Refused}
-use Rattle.pyramid.proofs.Sides.{side-base}
-use Rattle.pyramid.proofs.Refusals.{Accepted, level-accepted}
-use Rattle.pyramid.proofs.Above.{level-inside}
+use Rattle.pyramid.proofs.Refusals.{level-accepted}
+use Rattle.pyramid.proofs.Above.{level-inside, part-is}
 
 module _ (pixels places w h count least k : ℕ) where
   pub answer-refused : (n : ℕ) → levelRefusal pixels places w h count least k ≡ n → (n ≡ 0 → ⊥) → Refused n ≡ levelAnswer pixels places w h count least k
@@ -36,12 +31,6 @@ level-is w h k (suc n) f a b e = let z : _≡_ {A = ℕ} 0 1 = cc in absurd (ome
 refused-is : (w h k n m : ℕ) → answerOf w h k n ≡ Refused m → (n ≡ m) × (0 < m)
 refused-is w h k zero m e = let z : _≡_ {A = ℕ} 0 1 = cc in absurd (omega arith)
 refused-is w h k (suc n) m e = let q : suc n ≡ m = cc in (q, omega arith)
-
--- the part by its place in the slice that the level lies in
-pub part-is : (base levels : List ℕ) (w h k : ℕ) → length base ≡ w * h → take (levelCells w h k) (drop (cellsAbove w h k) (holderOf base levels k)) ≡ levelPart base levels w h k
-unfolding cellsAbove
-part-is base levels w h zero e = take-all (levelCells w h 0) base (omega (arith, e, ap₂ (λ (a b : ℕ). a * b) (side-base w) (side-base h)))
-part-is base levels w h (suc k) e = refl
 
 -- a level that is handed out: nothing refuses it, and its place and sides are those of level k
 pub record Placed (pixels places w h count least k from a b : ℕ) : Type 0 where

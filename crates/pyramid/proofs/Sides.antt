@@ -1,12 +1,11 @@
 -- Laws of the levels' sides and of how many levels there are. Assumes nothing.
-use Prim.Native.Nat.{ℕ, zero, suc, _+_, _-_, _*_, _/_, _^_, _<_, _≤_}
+use Prim.Native.Nat.{ℕ, zero, suc, _+_, _-_, _/_, _^_, _<_, _≤_}
 use native.Mathlib.Nat.{div-div-eq-div-mul, div-one, div-le-self, div-eq-of-lt, pow-suc, mul-comm, le-of-suc-le-suc, pos-of-ne-zero}
 use native.Mathlib.Decide.{decLt}
-use native.Mathlib.Numerals.{add-one, one-add}
+use native.Mathlib.Numerals.{one-add}
 use native.Mathlib.Omega.{arith}
 use mathlib.Core.Path.{_≡_, refl, sym, ap, _∙_}
 use mathlib.Core.Bool.{Bool, true, false, cond, _||_}
-use lib.Pow.{pow-pos, pow-mono}
 use lib.Dec.{ltb, eqb}
 use borrow.Author.Tests.{ltb-false, eqb-false}
 use Rattle.lists.proofs.Tests.{or-neither}
@@ -107,7 +106,7 @@ built-level w h (suc n) least k l = go (isBelow w h least) refl k l
         let r = below-none a b least (p .1) in
         record { cols = r .0; rows = r .1; some-cols = λ z. pos-of-ne-zero (eqb-false a 0 (q .0)); some-rows = λ z. pos-of-ne-zero (eqb-false b 0 (q .1)) }
 
--- a side below 2^s makes at most s levels: up to 4,096 there are at most 13
+-- a side below 2^s makes at most s levels
 pub count-le : (w h count least s : ℕ) → 0 < s → w < 2 ^ s → levelCount w h count least ≤ s
 count-le w h count least s p l =
     elim (decLt s (levelCount w h count least)) [
@@ -115,6 +114,11 @@ count-le w h count least s p l =
       | no g ↦ omega arith
     ]
 
+-- up to sides of 4,096 there are at most 13
+pub count-few : (w h count least : ℕ) → w ≤ 4096 → levelCount w h count least ≤ 13
+count-few w h count least l = count-le w h count least 13 (omega arith) (omega arith)
+
+-- and never more than asked for
 halvings-le : (n w h least : ℕ) → halvings n w h least ≤ n
 unfolding halvings
 halvings-le zero w h least = omega arith

@@ -5,7 +5,7 @@ use mathlib.Core.Bool.{Bool, cond, _||_}
 use mathlib.Core.List.{List, [], _++_}
 use lib.Dec.{ltb, eqb}
 use lib.ListN.{getD}
-use Rattle.lists.specs.Tab.{tab, grid}
+use Rattle.lists.specs.Tab.{grid}
 
 -- a half-size pixel: (sum of four + 2) div 4
 abbrev pub boxOf : ℕ → ℕ → ℕ → ℕ → ℕ

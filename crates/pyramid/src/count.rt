@@ -1,4 +1,4 @@
-// How many levels a pyramid has by its sides, and how many pixels they have: the parts.
+// Which levels are built by their sides, and how many pixels levels have.
 ghost use mathlib.Core.Path.{_≡_};
 ghost use Prim.Native.Nat.{_+_, _*_};
 ghost use Rattle.pyramid.specs.Pyramid.{isBelow, isTooSmall, cellsAbove, capped};
@@ -26,6 +26,7 @@ pub(crate) fn is_too_small(w: usize, h: usize, least: usize) -> bool
     is_below(w, h, least)
 }
 
+// a * b, or the largest usize.
 fn capped_product(a: usize, b: usize) -> usize
     ensures { λ r. ⌜ r ≡ capped (a * b) ⌝ }
 {
@@ -38,6 +39,7 @@ fn capped_product(a: usize, b: usize) -> usize
     a * b
 }
 
+// a + b, or the largest usize.
 fn capped_sum(a: usize, b: usize) -> usize
     ensures { λ r. ⌜ r ≡ capped (a + b) ⌝ }
 {
@@ -47,7 +49,7 @@ fn capped_sum(a: usize, b: usize) -> usize
     a + b
 }
 
-// How many pixels levels 1 .. n - 1 have.
+// How many pixels levels 1 .. n - 1 have, or the largest usize.
 pub(crate) fn cells_before(width: usize, height: usize, n: usize) -> usize
     ensures { λ r. ⌜ r ≡ capped (cellsAbove width height n) ⌝ }
 {

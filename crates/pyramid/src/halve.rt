@@ -56,7 +56,7 @@ fn level_sums<'a>(
     column_sums(holder(base, levels, k), top, low, n, sums);
 }
 
-// The half-size pixels of pairs of column sums.
+// The half-size pixels of pairs of columns, by their sums.
 fn pair_means(sums: &[u16; 128], out: &mut [u8])
     requires { ⌜ length (now out) ≤ 64 ⌝ }
     requires { ⌜ ((i : ℕ) → i < 2 * length (now out) → getD (now sums) i 0 ≤ 510) ⌝ }
@@ -70,7 +70,9 @@ fn pair_means(sums: &[u16; 128], out: &mut [u8])
     }
 }
 
-// Two rows of level k, from `from` on, at half size from `to` on.
+// Two rows of level k, which begin at `from`, at half size from `to` on, up to 64 pixels at a time. The sums of the columns come first, and
+// then the means of pairs: each loop runs on as many columns at once as the machine's vectors hold, and what the buffer holds is read
+// before it is written.
 fn halve_rows(base: &[u8], k: usize, from: usize, w: usize, levels: &mut [u8], to: usize)
     requires { ⌜ Halving (now base) (now levels) k from w 2 to ⌝ }
     ensures { λ _. ⌜ RowHalved (now (base .entry)) (now (levels .entry)) k from w to (w / 2) (now (levels .exit)) ⌝ }
@@ -89,7 +91,7 @@ fn halve_rows(base: &[u8], k: usize, from: usize, w: usize, levels: &mut [u8], t
     }
 }
 
-// Level k, of w by h, from `from` on, at half size from `to` on.
+// Level k, of w by h, which begins at `from`, at half size from `to` on.
 fn halve(base: &[u8], k: usize, from: usize, w: usize, h: usize, levels: &mut [u8], to: usize)
     requires { ⌜ Halving (now base) (now levels) k from w h to ⌝ }
     ensures { λ _. ⌜ LevelHalved (now (base .entry)) (now (levels .entry)) k from w to (h / 2) (now (levels .exit)) ⌝ }
@@ -105,7 +107,7 @@ fn halve(base: &[u8], k: usize, from: usize, w: usize, h: usize, levels: &mut [u
     }
 }
 
-// Levels 1 .. n - 1, one behind the other.
+// Levels 1 .. n - 1, one behind the other, at the front of the level buffer.
 pub(crate) fn fill_levels(base: &[u8], width: usize, height: usize, n: usize, levels: &mut [u8])
     requires { ⌜ (length (now base) ≡ width * height) × (cellsAbove width height n ≤ length (now levels)) ⌝ }
     ensures { λ _. ⌜ Filled (now (base .entry)) width height n (now (levels .entry)) (now (levels .exit)) ⌝ }

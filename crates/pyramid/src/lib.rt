@@ -10,13 +10,13 @@ ghost use Rattle.pyramid.specs.Level.{levelAnswer, levelIn};
 use count::cells_before;
 use halve::holder;
 
-// How many levels the pyramid has, or the refusal's number.
+// How many levels the pyramid has, or the number of a refusal.
 pub enum Pyramid {
     Levels(usize),
     Refused(u8),
 }
 
-// Where a level begins, in the base or in the level buffer, and its sides, or the refusal's number.
+// Where a level begins, in the base or in the level buffer, and its sides, or the number of a refusal.
 pub enum LevelAnswer {
     Level {
         from: usize,
@@ -26,7 +26,7 @@ pub enum LevelAnswer {
     Refused(u8),
 }
 
-// How many levels a pyramid over a base of these sides has.
+// How many levels a pyramid over a base of these sides has: at most num_levels, the base included, and none with a side below min_size.
 pub fn level_count(width: usize, height: usize, num_levels: u32, min_size: usize) -> usize
     ensures { λ r. ⌜ r ≡ levelCount width height «num_levels» «min_size» ⌝ }
 {
@@ -51,7 +51,7 @@ pub fn level_count(width: usize, height: usize, num_levels: u32, min_size: usize
     n
 }
 
-// How many pixels the levels above the base have: what the level buffer must hold.
+// How many pixels the levels above the base have, which is what the level buffer must hold; the largest usize where there are more.
 pub fn cells_above(width: usize, height: usize, num_levels: u32, min_size: usize) -> usize
     ensures { λ r. ⌜ r ≡ capped (cellsAbove width height (levelCount width height «num_levels» «min_size»)) ⌝ }
 {
@@ -62,7 +62,7 @@ pub fn cells_above(width: usize, height: usize, num_levels: u32, min_size: usize
     )
 }
 
-// Why a base of these sides is refused, or 0.
+// Why a base of w by h that has so many pixels is refused, or 0.
 fn image_fault(pixels: usize, w: usize, h: usize) -> u8
     ensures { λ r. ⌜ r ≡ imageRefusal pixels w h ⌝ }
 {
@@ -78,7 +78,8 @@ fn image_fault(pixels: usize, w: usize, h: usize) -> u8
     0
 }
 
-// Builds the levels above the base into the level buffer.
+// Builds the levels above the base into the level buffer, one behind the other. Behind them the buffer stays as it was, and a refusal leaves
+// all of it as it was.
 pub fn build_pyramid(
     base: &[u8],
     width: usize,
@@ -101,7 +102,7 @@ pub fn build_pyramid(
     Pyramid::Levels(n)
 }
 
-// Where level k lies, and its sides.
+// Where level k lies and its sides, for a base of so many pixels and a level buffer of so many places.
 pub fn level_at(
     pixels: usize,
     places: usize,
@@ -131,7 +132,7 @@ pub fn level_at(
     }
 }
 
-// Level k: a part of the base or of the level buffer, and an empty part where it is refused.
+// Level k: a part of the base or of the level buffer, and an empty part where `level_at` refuses it.
 pub fn level<'a>(
     base: &'a [u8],
     levels: &'a [u8],

@@ -1,7 +1,6 @@
--- `pyramid::build_pyramid` meets its contract. Assumes nothing.
-use Prim.Native.Nat.{_<_, _≤_}
+-- `pyramid::build_pyramid` meets its contract: each return is the answer for the first condition that holds. Assumes nothing.
 use native.Mathlib.Omega.{arith}
-use mathlib.Core.Path.{_≡_, sym, ap, _∙_}
+use mathlib.Core.Path.{_≡_}
 use lib.ListN.{length}
 use borrow.Author.Needs.{needs}
 use Rattle.pyramid.specs.Pyramid.{levelCount, cellsAbove}
@@ -24,18 +23,22 @@ level-count-requires c κs = search needs
 cells-before-requires : tie.Need-cells-before-requires
 cells-before-requires c κs = search needs
 
+-- the entry
+abbrev start : tie.After-cells-before → tie.Start
+start c = c .before .before .before .before .before .before
+
 -- where the buffer is judged: nothing refuses the base, and the count is that of the pixels above it
-image : (c : tie.After-cells-before) → Sized (length (c .before .before .before .before .before .before .args .base .now)) (c .before .before .before .before .before .before .args .width) (c .before .before .before .before .before .before .args .height)
+image : (c : tie.After-cells-before) → Sized (length (start c .args .base .now)) (start c .args .width) (start c .args .height)
 image c = image-none _ _ _ _ (c .before .before .before .image-fault .ensures) (c .before .before .if1 .left)
 
-cells : (c : tie.After-cells-before) → c .cells-before .result ≡ cellsAbove (c .before .before .before .before .before .before .args .width) (c .before .before .before .before .before .before .args .height) (levelCount (c .before .before .before .before .before .before .args .width) (c .before .before .before .before .before .before .args .height) (c .before .before .before .before .before .before .args .num-levels) (c .before .before .before .before .before .before .args .min-size))
+cells : (c : tie.After-cells-before) → c .cells-before .result ≡ cellsAbove (start c .args .width) (start c .args .height) (levelCount (start c .args .width) (start c .args .height) (start c .args .num-levels) (start c .args .min-size))
 cells c = cells-known _ _ _ _ _ _ _ (image c) (c .before .level-count .ensures) (c .cells-before .ensures)
 
 returns-2 : tie.Need-returns-2
 returns-2 c = built-refused _ _ _ _ _ _ _ (build-short _ _ _ _ _ _ (image (c .before)) (rw (cells (c .before)) at (c .if2 .taken))) (λ e. omega arith)
 
 -- and the buffer is long enough
-ready : (c : tie.Else2) → Accepted (length (c .before .before .before .before .before .before .before .args .base .now)) (length (c .before .before .before .before .before .before .before .args .levels .now)) (c .before .before .before .before .before .before .before .args .width) (c .before .before .before .before .before .before .before .args .height) (c .before .before .before .before .before .before .before .args .num-levels) (c .before .before .before .before .before .before .before .args .min-size)
+ready : (c : tie.Else2) → Accepted (length (start (c .before) .args .base .now)) (length (start (c .before) .args .levels .now)) (start (c .before) .args .width) (start (c .before) .args .height) (start (c .before) .args .num-levels) (start (c .before) .args .min-size)
 ready c = record { image = image (c .before); fits = rw (cells (c .before)) at (c .if2 .left) }
 
 fill-levels-requires : tie.Need-fill-levels-requires

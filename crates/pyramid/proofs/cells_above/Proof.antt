@@ -1,5 +1,5 @@
 -- `pyramid::cells_above` meets its contract. Assumes nothing.
-use mathlib.Core.Path.{_≡_, ap, _∙_}
+use mathlib.Core.Path.{_∙_}
 use borrow.Author.Needs.{needs}
 use Rattle.pyramid.proofs.cells_above.Statement.{statement}
 use Rattle.pyramid.proofs.cells_above.Tie as tie

@@ -1,7 +1,7 @@
 -- `pyramid::level` meets its contract: the answer of `level_at` says which part of which slice is handed back. Assumes nothing.
 use Prim.Native.Nat.{_+_, _*_, _^_, _<_, _≤_}
 use native.Mathlib.Omega.{arith}
-use mathlib.Core.Path.{_≡_, sym, _∙_}
+use mathlib.Core.Path.{sym, _∙_}
 use lib.ListN.{length}
 use Rattle.pyramid.proofs.Halving.{holder-short}
 use Rattle.pyramid.proofs.Lookup.{Placed, refused-empty, level-placed, placed-inside, placed-part}
@@ -28,24 +28,28 @@ part-result-end : tie.Need-part-result-end
 part-result-end c = search needs
 
 returns : tie.Need-returns
-returns c = let a = c .before .before .before .before .before .before .args in refused-empty (a .base .now) (a .levels .now) _ _ _ _ _ _ (sym (c .before .before .before .level-at .ensures) ∙ c .before .enum-told .given .1)
+returns c = refused-empty (c .before .before .before .before .before .before .args .base .now) (c .before .before .before .before .before .before .args .levels .now) _ _ _ _ _ _ (sym (c .before .before .before .level-at .ensures) ∙ c .before .enum-told .given .1)
 
 holder-requires : tie.Need-holder-requires
 holder-requires c κs = search needs
 
+-- the entry
+abbrev start : tie.After-holder → tie.Start
+start c = c .before .before .before .before .before .before .before
+
 -- where the level lies
-place : (c : tie.After-holder) → Placed (length (c .before .before .before .before .before .before .before .args .base .now)) (length (c .before .before .before .before .before .before .before .args .levels .now)) (c .before .before .before .before .before .before .before .args .width) (c .before .before .before .before .before .before .before .args .height) (c .before .before .before .before .before .before .before .args .num-levels) (c .before .before .before .before .before .before .before .args .min-size) (c .before .before .before .before .before .before .before .args .k) (c .before .before .a .given .0 .0) (c .before .before .a .given .0 .1 .0) (c .before .before .a .given .0 .1 .1 .0)
+place : (c : tie.After-holder) → Placed (length (start c .args .base .now)) (length (start c .args .levels .now)) (start c .args .width) (start c .args .height) (start c .args .num-levels) (start c .args .min-size) (start c .args .k) (c .before .before .a .given .0 .0) (c .before .before .a .given .0 .1 .0) (c .before .before .a .given .0 .1 .1 .0)
 place c = level-placed _ _ _ _ _ _ _ _ _ _ (sym (c .before .before .before .before .level-at .ensures) ∙ c .before .before .a .given .1)
 
 inside : (c : tie.After-holder) → c .before .before .a .given .0 .0 + c .before .before .a .given .0 .1 .0 * c .before .before .a .given .0 .1 .1 .0 ≤ length (c .holder .result .now)
 inside c =
-    let a = c .before .before .before .before .before .before .before .args in
+    let a = start c .args in
     rw (c .holder .ensures) (placed-inside (a .base .now) (a .levels .now) _ _ _ _ _ _ _ _ (place c))
 
 short : (c : tie.After-holder) → length (c .holder .result .now) < 2 ^ 64
 short c =
-    let a = c .before .before .before .before .before .before .before .args in
-    let g = c .before .before .before .before .before .before .before .good in
+    let a = start c .args in
+    let g = start c .good in
     rw (c .holder .ensures) (holder-short (a .base .now) (a .levels .now) (a .k) (2 ^ 64) (g .0 .0) (g .1 .0 .0))
 
 mul-end : tie.Need-mul-end

@@ -3,9 +3,9 @@ use Prim.Native.Nat.{_<_}
 use native.Mathlib.Omega.{arith}
 use mathlib.Core.Path.{_≡_, _∙_}
 use Rattle.pyramid.specs.Pyramid.{levelCount, cellsAbove}
-use Rattle.pyramid.proofs.Sides.{count-le}
+use Rattle.pyramid.proofs.Sides.{count-few}
 use Rattle.pyramid.proofs.Cells.{cells-exact}
-use Rattle.pyramid.proofs.Refusals.{Sized, Accepted, image-none, level-image, level-absent, level-short, level-accepts}
+use Rattle.pyramid.proofs.Refusals.{Sized, image-none, level-image, level-absent, level-short, level-accepts}
 use Rattle.pyramid.proofs.Building.{cells-known}
 use Rattle.pyramid.proofs.Lookup.{answer-refused, answer-level}
 use borrow.Author.Needs.{needs}
@@ -21,8 +21,12 @@ returns c = let a = c .before .before .args in answer-refused _ _ _ _ _ _ _ _ (l
 level-count-requires : tie.Need-level-count-requires
 level-count-requires c κs = search needs
 
+-- the entry
+abbrev start : tie.After-level-count → tie.Start
+start c = c .before .before .before
+
 -- where the level is looked for: nothing refuses the base
-image : (c : tie.After-level-count) → Sized (c .before .before .before .args .pixels) (c .before .before .before .args .width) (c .before .before .before .args .height)
+image : (c : tie.After-level-count) → Sized (start c .args .pixels) (start c .args .width) (start c .args .height)
 image c = image-none _ _ _ _ (c .before .before .image-fault .ensures) (c .before .if1 .left)
 
 returns-2 : tie.Need-returns-2
@@ -32,10 +36,10 @@ cells-before-requires : tie.Need-cells-before-requires
 cells-before-requires c κs = search needs
 
 -- the level is built
-built : (c : tie.Else2) → c .before .before .before .before .args .k < levelCount (c .before .before .before .before .args .width) (c .before .before .before .before .args .height) (c .before .before .before .before .args .num-levels) (c .before .before .before .before .args .min-size)
+built : (c : tie.Else2) → start (c .before) .args .k < levelCount (start (c .before) .args .width) (start (c .before) .args .height) (start (c .before) .args .num-levels) (start (c .before) .args .min-size)
 built c = rw (c .before .level-count .ensures) at (c .if2 .left)
 
-cells : (c : tie.After-cells-before) → c .cells-before .result ≡ cellsAbove (c .before .before .before .before .before .args .width) (c .before .before .before .before .before .args .height) (levelCount (c .before .before .before .before .before .args .width) (c .before .before .before .before .before .args .height) (c .before .before .before .before .before .args .num-levels) (c .before .before .before .before .before .args .min-size))
+cells : (c : tie.After-cells-before) → c .cells-before .result ≡ cellsAbove (start (c .before .before) .args .width) (start (c .before .before) .args .height) (levelCount (start (c .before .before) .args .width) (start (c .before .before) .args .height) (start (c .before .before) .args .num-levels) (start (c .before .before) .args .min-size))
 cells c = cells-known _ _ _ _ _ _ _ (image (c .before .before)) (c .before .before .level-count .ensures) (c .cells-before .ensures)
 
 returns-3 : tie.Need-returns-3
@@ -45,8 +49,8 @@ cells-before-requires-2 : tie.Need-cells-before-requires-2
 cells-before-requires-2 c κs = search needs
 
 -- there are at most 13 levels
-few : (c : tie.Else2) → c .before .before .before .before .args .k < 13
-few c = omega (arith, built c, count-le (c .before .before .before .before .args .width) (c .before .before .before .before .args .height) (c .before .before .before .before .args .num-levels) (c .before .before .before .before .args .min-size) 13 (omega arith) (omega (arith, image (c .before) .narrow)))
+few : (c : tie.Else2) → start (c .before) .args .k < 13
+few c = omega (arith, built c, count-few (start (c .before) .args .width) (start (c .before) .args .height) (start (c .before) .args .num-levels) (start (c .before) .args .min-size) (image (c .before) .narrow))
 
 shr-t12 : tie.Need-shr-t12
 shr-t12 c = omega (arith, few (c .before .before .before))

@@ -1,8 +1,7 @@
 -- `pyramid::level_count` meets its contract. The invariant: the levels counted and those still to come above the last of them are all.
 -- Assumes nothing.
-use Prim.Native.Nat.{ℕ, suc, _+_, _-_, _/_, _≤_}
-use native.Mathlib.Omega.{arith}
-use mathlib.Core.Path.{_≡_, sym, ap, _∙_}
+use Prim.Native.Nat.{_+_, _-_, _≤_}
+use mathlib.Core.Path.{_≡_, sym, _∙_}
 use borrow.Author.Needs.{needs}
 use Rattle.pyramid.specs.Pyramid.{halvings, levelCount}
 use Rattle.pyramid.proofs.Sides.{counted-stop, counted-all, counted-more, count-none, count-below, count-some}

@@ -1,8 +1,7 @@
 -- `pyramid::count::cells_before` meets its contract. The invariant: the sides of level k, and the pixels of levels 1 .. k. Assumes nothing.
-use Prim.Native.Nat.{ℕ, suc, _+_, _-_, _*_, _/_, _≤_}
+use Prim.Native.Nat.{suc, _-_, _≤_}
 use native.Mathlib.Numerals.{add-one}
-use native.Mathlib.Omega.{arith}
-use mathlib.Core.Path.{_≡_, refl, sym, ap, _∙_}
+use mathlib.Core.Path.{_≡_, refl, ap, _∙_}
 use borrow.Author.Needs.{needs}
 use Rattle.pyramid.specs.Pyramid.{levelSide, cellsAbove, capped}
 use Rattle.pyramid.proofs.Sides.{side-base, side-next}

@@ -1,11 +1,10 @@
 -- `pyramid::halve::column_sums` meets its contract: the places passed hold their columns' sums. Assumes nothing.
 use Prim.Native.Nat.{ℕ, _+_, _-_, _<_, _≤_}
 use native.Mathlib.Omega.{arith}
-use mathlib.Core.Path.{_≡_, refl, ap₂}
+use mathlib.Core.Path.{_≡_, ap₂}
 use lib.ListN.{getD}
 use borrow.Author.Needs.{needs}
 use Rattle.lists.proofs.Tab.{Prefix, prefix-none, prefix-set, prefix-at}
-use Rattle.pyramid.specs.Needs.{Summed}
 use Rattle.pyramid.proofs.halve.column_sums.Statement.{statement}
 use Rattle.pyramid.proofs.halve.column_sums.Tie as tie
 
@@ -54,8 +53,12 @@ loop-less c = search needs
 loop-again : tie.Need-loop-again Inv-loop μ-loop
 loop-again c = (search needs, prefix-set _ _ _ _ _ (c .before .before .before .before .before .loop .inv .1) (search needs) (ap₂ (λ (a b : ℕ). a + b) (c .before .before .wide .ensures .0) (c .wide2 .ensures .0)))
 
+-- the entry
+abbrev start : tie.After-loop Inv-loop μ-loop → tie.Start Inv-loop μ-loop
+start c = c .before .before .before
+
 -- each of the sums passed
-sum-at : (c : tie.After-loop Inv-loop μ-loop) (i : ℕ) → i < c .before .before .before .args .n → getD (c .before .loop .sums) i 0 ≡ getD (c .before .before .before .args .pixels .now) (c .before .before .before .args .top + i) 0 + getD (c .before .before .before .args .pixels .now) (c .before .before .before .args .low + i) 0
+sum-at : (c : tie.After-loop Inv-loop μ-loop) (i : ℕ) → i < start c .args .n → getD (c .before .loop .sums) i 0 ≡ getD (start c .args .pixels .now) (start c .args .top + i) 0 + getD (start c .args .pixels .now) (start c .args .low + i) 0
 sum-at c i h = prefix-at _ _ _ _ i 0 (c .before .loop .inv .1) (omega arith)
 
 returns : tie.Need-returns Inv-loop μ-loop

@@ -3,7 +3,7 @@ use Prim.Native.Nat.{_+_, _-_, _*_, _/_, _≤_}
 use native.Mathlib.Omega.{arith}
 use lib.ListN.{length}
 use borrow.Author.Needs.{needs}
-use Rattle.pyramid.proofs.Above.{Reached, reach-base, reach-all, next-fits, level-ok, reach-next}
+use Rattle.pyramid.proofs.Building.{Reached, reach-base, reach-all, next-fits, level-ok, reach-next}
 use Rattle.pyramid.proofs.halve.fill_levels.Statement.{statement}
 use Rattle.pyramid.proofs.halve.fill_levels.Tie as tie
 
@@ -19,17 +19,22 @@ loop-holds c = reach-base _ _ _ _ _
 add-loop : tie.Need-add-loop Inv-loop μ-loop
 add-loop c = search needs
 
-halve-requires : tie.Need-halve-requires Inv-loop μ-loop
-halve-requires c κs = level-ok _ _ _ _ _ _ _ _ _ _ _ (c .before .before .before .before .before .pre .0) (c .before .before .before .before .before .pre .1) (c .before .before .loop .inv) (c .before .loop-test .taken)
+-- the entry
+abbrev start : tie.In-loop Inv-loop μ-loop → tie.Start Inv-loop μ-loop
+start c = c .before .before .before .before
 
-next : (c : tie.In-loop Inv-loop μ-loop) → c .before .loop .to + c .before .loop .w / 2 * (c .before .loop .h / 2) ≤ length (c .before .before .before .before .args .levels .now)
-next c = next-fits _ _ _ _ _ _ _ _ _ _ _ (c .before .before .before .before .pre .0) (c .before .before .before .before .pre .1) (c .before .loop .inv) (c .loop-test .taken)
+halve-requires : tie.Need-halve-requires Inv-loop μ-loop
+halve-requires c κs = let p = c .before in level-ok _ _ _ _ _ _ _ _ _ _ _ (start p .pre .0) (start p .pre .1) (p .before .loop .inv) (p .loop-test .taken)
+
+-- the next level ends within the buffer
+next : (c : tie.In-loop Inv-loop μ-loop) → c .before .loop .to + c .before .loop .w / 2 * (c .before .loop .h / 2) ≤ length (start c .args .levels .now)
+next c = next-fits _ _ _ _ _ _ _ _ _ _ _ (start c .pre .0) (start c .pre .1) (c .before .loop .inv) (c .loop-test .taken)
 
 mul-to : tie.Need-mul-to Inv-loop μ-loop
-mul-to c = record { fits = omega (arith, next (c .before .before .before .before), c .before .before .before .before .before .before .before .before .good .1 .1 .1 .1 .0 .0) }
+mul-to c = let p = c .before .before .before .before in record { fits = omega (arith, next p, start p .good .1 .1 .1 .1 .0 .0) }
 
 add-to : tie.Need-add-to Inv-loop μ-loop
-add-to c = record { fits = omega (arith, next (c .before .before .before .before), c .before .before .before .before .before .before .before .before .good .1 .1 .1 .1 .0 .0) }
+add-to c = let p = c .before .before .before .before in record { fits = omega (arith, next p, start p .good .1 .1 .1 .1 .0 .0) }
 
 add-k : tie.Need-add-k Inv-loop μ-loop
 add-k c = search needs
@@ -38,7 +43,9 @@ loop-less : tie.Need-loop-less Inv-loop μ-loop
 loop-less c = search needs
 
 loop-again : tie.Need-loop-again Inv-loop μ-loop
-loop-again c = reach-next _ _ _ _ _ _ _ _ _ _ _ (c .before .before .before .before .before .before .before .before .pre .0) (c .before .before .before .before .before .before .before .before .pre .1) (c .before .before .before .before .before .loop .inv) (c .before .before .before .before .loop-test .taken) _ (c .before .before .halve .kept .1 .1 .1 .1 .1 .0) (c .before .before .halve .ensures)
+loop-again c =
+    let p = c .before .before .before .before in
+    reach-next _ _ _ _ _ _ _ _ _ _ _ (start p .pre .0) (start p .pre .1) (p .before .loop .inv) (p .loop-test .taken) _ (c .before .before .halve .kept .1 .1 .1 .1 .1 .0) (c .before .before .halve .ensures)
 
 same-length : tie.Need-same-length Inv-loop μ-loop
 same-length c = c .before .loop .inv .long

@@ -1,11 +1,11 @@
 -- `pyramid::halve::halve_rows` meets its contract: after x columns their half-size pixels are placed. Assumes nothing.
-use Prim.Native.Nat.{ℕ, _+_, _-_, _*_, _/_, _^_, _<_, _≤_}
+use Prim.Native.Nat.{_+_, _-_, _*_, _/_, _^_, _<_, _≤_}
 use native.Mathlib.Omega.{arith}
-use mathlib.Core.Path.{_≡_, refl, sym, ap, _∙_}
+use mathlib.Core.Path.{_≡_, refl}
 use lib.ListN.{length, take, drop}
 use borrow.Author.Needs.{needs}
 use Rattle.lists.proofs.Tab.{part-length}
-use Rattle.pyramid.specs.Needs.{holderOf, Halving, Summed, RowHalved}
+use Rattle.pyramid.specs.Needs.{holderOf, RowHalved}
 use Rattle.pyramid.proofs.Halving.{holder-short, row-none, block-inside, row-put}
 use Rattle.pyramid.proofs.halve.halve_rows.Statement.{statement}
 use Rattle.pyramid.proofs.halve.halve_rows.Tie as tie
@@ -26,15 +26,19 @@ sub-lesser c = search needs
 lesser-requires : tie.Need-lesser-requires Inv-loop μ-loop
 lesser-requires c κs = search needs
 
+-- the entry
+abbrev start : tie.After-lesser Inv-loop μ-loop → tie.Start Inv-loop μ-loop
+start c = c .before .before .before .before .before
+
 -- the block ends within the row, so that its columns lie in the two rows
-ends : (c : tie.After-lesser Inv-loop μ-loop) → c .before .before .loop .x + c .lesser .result ≤ c .before .before .before .before .before .args .w / 2
-ends c = rw (c .lesser .ensures) (omega (arith, c .before .loop-test .taken))
+ends : (c : tie.After-lesser Inv-loop μ-loop) → c .before .before .loop .x + c .lesser .result ≤ start c .args .w / 2
+ends c = omega (arith, c .lesser .ensures, c .before .loop-test .taken)
 
-inside : (c : tie.After-lesser Inv-loop μ-loop) → c .before .before .before .before .before .args .from + 2 * c .before .before .loop .x + c .before .before .before .before .before .args .w + 2 * c .lesser .result ≤ length (holderOf (c .before .before .before .before .before .args .base .now) (c .before .before .loop .levels) (c .before .before .before .before .before .args .k))
-inside c = block-inside _ _ _ _ _ _ (c .before .before .before .before .before .pre) _ _ _ (c .before .before .loop .inv .0) (ends c)
+inside : (c : tie.After-lesser Inv-loop μ-loop) → start c .args .from + 2 * c .before .before .loop .x + start c .args .w + 2 * c .lesser .result ≤ length (holderOf (start c .args .base .now) (c .before .before .loop .levels) (start c .args .k))
+inside c = block-inside _ _ _ _ _ _ (start c .pre) _ _ _ (c .before .before .loop .inv .0) (ends c)
 
-short : (c : tie.After-lesser Inv-loop μ-loop) → length (holderOf (c .before .before .before .before .before .args .base .now) (c .before .before .loop .levels) (c .before .before .before .before .before .args .k)) < 2 ^ 64
-short c = holder-short _ _ (c .before .before .before .before .before .args .k) _ (c .before .before .before .before .before .good .0 .0) (omega (arith, c .before .before .loop .inv .0, c .before .before .before .before .before .good .1 .1 .1 .1 .0 .0))
+short : (c : tie.After-lesser Inv-loop μ-loop) → length (holderOf (start c .args .base .now) (c .before .before .loop .levels) (start c .args .k)) < 2 ^ 64
+short c = holder-short _ _ (start c .args .k) _ (start c .good .0 .0) (omega (arith, c .before .before .loop .inv .0, start c .good .1 .1 .1 .1 .0 .0))
 
 mul-top : tie.Need-mul-top Inv-loop μ-loop
 mul-top c = search needs
@@ -49,7 +53,8 @@ mul-level-sums : tie.Need-mul-level-sums Inv-loop μ-loop
 mul-level-sums c = search needs
 
 level-sums-requires : tie.Need-level-sums-requires Inv-loop μ-loop
-level-sums-requires c κs = (omega (arith, c .before .before .lesser .ensures), omega (arith, inside (c .before .before)), inside (c .before .before), c .before .before .before .before .loop .inv .3)
+level-sums-requires c κs =
+    let p = c .before .before in (omega (arith, p .lesser .ensures), omega (arith, inside p), inside p, p .before .before .loop .inv .3)
 
 add-a : tie.Need-add-a Inv-loop μ-loop
 add-a c = search needs
@@ -64,14 +69,15 @@ part-pair-means-start : tie.Need-part-pair-means-start Inv-loop μ-loop
 part-pair-means-start c = search needs
 
 part-pair-means-end : tie.Need-part-pair-means-end Inv-loop μ-loop
-part-pair-means-end c = omega (arith, ends (c .before .before .before .before), c .before .before .before .before .before .before .loop .inv .0, c .before .before .before .before .before .before .before .before .before .pre .fits)
+part-pair-means-end c = let p = c .before .before .before .before in omega (arith, ends p, p .before .before .loop .inv .0, start p .pre .fits)
 
 -- the part of the buffer that the block's pixels go to
-part : (c : tie.After-lesser Inv-loop μ-loop) → length (take (c .before .before .before .before .before .args .to + c .before .before .loop .x + c .lesser .result - (c .before .before .before .before .before .args .to + c .before .before .loop .x)) (drop (c .before .before .before .before .before .args .to + c .before .before .loop .x) (c .before .before .loop .levels))) ≡ c .lesser .result
-part c = part-length (c .before .before .before .before .before .args .to + c .before .before .loop .x) (c .lesser .result) (c .before .before .loop .levels) (omega (arith, ends c, c .before .before .loop .inv .0, c .before .before .before .before .before .pre .fits))
+part : (c : tie.After-lesser Inv-loop μ-loop) → length (take (start c .args .to + c .before .before .loop .x + c .lesser .result - (start c .args .to + c .before .before .loop .x)) (drop (start c .args .to + c .before .before .loop .x) (c .before .before .loop .levels))) ≡ c .lesser .result
+part c = part-length (start c .args .to + c .before .before .loop .x) (c .lesser .result) (c .before .before .loop .levels) (omega (arith, ends c, c .before .before .loop .inv .0, start c .pre .fits))
 
 pair-means-requires : tie.Need-pair-means-requires Inv-loop μ-loop
-pair-means-requires c κs = (rw (part (c .before .before .before .before .before)) (omega (arith, c .before .before .before .before .before .lesser .ensures)), λ i l. c .before .before .level-sums .ensures .small i (rw (part (c .before .before .before .before .before)) at l))
+pair-means-requires c κs =
+    let p = c .before .before .before .before .before in (rw (part p) (omega (arith, p .lesser .ensures)), λ i l. c .before .before .level-sums .ensures .small i (rw (part p) at l))
 
 add-x : tie.Need-add-x Inv-loop μ-loop
 add-x c = search needs
@@ -84,7 +90,7 @@ loop-again c =
     let p = c .before .before .before .before .before .before .before .before in (
       search needs,
       ends p,
-      row-put _ _ _ _ _ _ (c .before .before .before .before .before .before .before .before .before .before .before .before .before .pre) _ _ _ _ _ _ (c .before .before .before .before .before .before .before .before .before .before .loop .inv .2) (ends p) (c .before .before .before .before .before .level-sums .ensures) (c .before .before .pair-means .ensures) (part p),
+      row-put _ _ _ _ _ _ (start p .pre) _ _ _ _ _ _ (p .before .before .loop .inv .2) (ends p) (c .before .before .before .before .before .level-sums .ensures) (c .before .before .pair-means .ensures) (part p),
       c .before .before .before .before .before .level-sums .ensures .long,
     )
 
