@@ -14,7 +14,6 @@ use Rattle.float32.proofs.Rounded.{the-type as rounded-type}
 use Rattle.float32.specs.Float32.{roundHalfAway}
 use Rattle.float32.specs.declared.Rounded.{Rounded}
 use Rattle.float32.specs.declared.Rounded.the-variants.{Natural, Negative, Beyond}
-use Rattle.center_of_mass.specs.declared.Centre.{Centre}
 use Rattle.center_of_mass.specs.declared.Centre.the-variants.{At, Outside}
 use Rattle.center_of_mass.specs.CenterOfMass.{placed, centreOn}
 

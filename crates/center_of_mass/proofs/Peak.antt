@@ -12,7 +12,6 @@ use lib.Ieee.{Float, nan, inf, fin, binary32, lt, le, div, ofInt}
 use lib.Ieee.Bits.{is-true}
 use lib.Ieee.Exact.{HasValue}
 use lib.Ieee.Order.{le-of-values}
-use borrow.Author.Tests.{le-ltb, eq-eqb}
 use Rattle.lists.specs.Places.{Place, All}
 use Rattle.lists.proofs.Members.{at-block}
 use Rattle.float32.specs.Float32.{zero, abs, roundHalfAway}
@@ -24,7 +23,6 @@ use Rattle.float32.proofs.Units.{unitsOf}
 use Rattle.float32.proofs.Running.{exactly}
 use Rattle.float32.proofs.Bounds.{nearly-positive-only}
 use Rattle.center_of_mass.specs.declared.Centre.the-variants.{At}
-use Rattle.center_of_mass.specs.declared.Outcome.the-variants.{Accepted}
 use Rattle.center_of_mass.specs.CenterOfMass.{weightAt, window, windowSums, seedFits, centreOn, refined}
 use Rattle.center_of_mass.specs.Range.{Usual, PeakAccepted}
 use Rattle.center_of_mass.proofs.Axis.{in-place}

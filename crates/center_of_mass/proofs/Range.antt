@@ -1,23 +1,21 @@
 -- The theorems of `specs/Range.antt`: an accepted centre of mass is the quotient of two running sums over a window within the map. Assumes nothing.
-use mathlib.Core.Path.{_≡_, refl, sym, ap, _∙_, subst}
+use mathlib.Core.Path.{_≡_, refl, sym, subst}
 use mathlib.Core.Bool.{Bool, true, false, cond}
 use mathlib.Core.List.{List}
 use Prim.Native.Nat.{ℕ, zero, suc, _+_, _-_, _*_, _≤_, _<_}
 use native.Mathlib.Nat.{mul-le-mul, mul-le-mul-right, mul-comm, suc-mul}
 use native.Mathlib.Omega.{arith}
 use lib.Dec.{T}
-use lib.ListN.{length, getD}
+use lib.ListN.{length}
 use lib.IntN.{pos}
 use lib.Ieee.{Float, nan, binary32, lt, add, div, ofInt}
-use lib.Ieee.Bits.{is-true}
-use Rattle.lists.specs.Places.{Place, block, All}
+use Rattle.lists.specs.Places.{All}
 use Rattle.lists.proofs.Places.{length-block}
-use Rattle.lists.proofs.Members.{all-at, all-block, at-block}
-use Rattle.float32.specs.Float32.{zero as zero32, lift}
+use Rattle.lists.proofs.Members.{all-at, all-block}
+use Rattle.float32.specs.Float32.{zero as zero32}
 use Rattle.float32.specs.Value.{UpTo}
 use Rattle.float32.proofs.Bounds.{upto-more, whole-upto, add-upto}
 use Rattle.center_of_mass.specs.declared.Sums.{Sums}
-use Rattle.center_of_mass.specs.declared.Outcome.{Outcome}
 use Rattle.center_of_mass.specs.declared.Outcome.the-variants.{Accepted, Rejected, IllConditioned}
 use Rattle.center_of_mass.specs.declared.Centre.{Centre}
 use Rattle.center_of_mass.specs.declared.Centre.the-variants.{At, Outside}

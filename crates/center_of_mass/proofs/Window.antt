@@ -1,14 +1,14 @@
 -- The sums over a window, a cell and a row at a time, and the cells of a window as places of the map. Assumes nothing.
-use mathlib.Core.Path.{_≡_, refl, sym, ap, _∙_}
+use mathlib.Core.Path.{_≡_, refl}
 use mathlib.Core.List.{List, [], _∷_, _++_}
-use Prim.Native.Nat.{ℕ, suc, _+_, _-_, _*_, _≤_, _<_}
+use Prim.Native.Nat.{ℕ, _+_, _*_, _≤_, _<_}
 use native.Mathlib.Nat.{mul-le-mul, mul-le-mul-right, mul-comm, suc-mul}
 use native.Mathlib.Omega.{arith}
 use lib.Ieee.{Float}
 use Rattle.lists.specs.Places.{Place, row, block}
 use Rattle.lists.proofs.Places.{row-end, row-step, block-end, block-step}
 use Rattle.center_of_mass.specs.declared.Sums.{Sums}
-use Rattle.center_of_mass.specs.CenterOfMass.{noSums, withCell, withCells}
+use Rattle.center_of_mass.specs.CenterOfMass.{withCell, withCells}
 
 module _ (m : List Float) (w : ℕ) where
   cells-append : (s : Sums) (ps qs : List Place) → withCells m w s (ps ++ qs) ≡ withCells m w (withCells m w s ps) qs

@@ -39,7 +39,7 @@ unfolding lift
 withCells m w s [] = s
 withCells m w s (p ∷ ps) = withCells m w (withCell m w s p) ps
 
--- the window of radius r about column cx and row cy, in row order
+-- the window of radius r about column cx and row cy, in row order; it lies within the map, so there is nothing to clamp, as the Rust does
 abbrev pub window : ℕ → ℕ → ℕ → List Place
 window r cx cy = block (cx - r) (cx + r + 1) (cy - r) (cy + r + 1)
 

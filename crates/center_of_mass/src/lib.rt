@@ -1,9 +1,9 @@
 // The centre of mass of a response map about a seed.
 ghost use mathlib.Core.Path.{_≡_};
-ghost use Prim.Native.Nat.{ℕ, _+_, _*_, _≤_, _<_};
+ghost use Prim.Native.Nat.{_+_, _*_, _≤_, _<_};
 ghost use lib.ListN.{length};
 ghost use Rattle.lists.specs.Places.{row, block};
-ghost use Rattle.center_of_mass.specs.CenterOfMass.{noSums, withCells, seedFits, refusal, centreOn, outcomeOf};
+ghost use Rattle.center_of_mass.specs.CenterOfMass.{noSums, withCells, seedFits, refusal as refusalOf, centreOn, outcomeOf};
 ghost use Rattle.center_of_mass.specs.Promise.{Refined};
 
 pub struct CenterOfMassRefiner {
@@ -77,7 +77,7 @@ fn seed_fits(x: f32) -> bool
 
 // The number of the refusal, 0 for none; `cells` is the map's length.
 fn refusal(radius: u32, x: f32, y: f32, has_map: bool, cells: usize, w: usize, h: usize) -> u8
-    ensures { λ r. ⌜ r ≡ Rattle.center_of_mass.specs.CenterOfMass.refusal radius x y «has_map» cells w h ⌝ }
+    ensures { λ r. ⌜ r ≡ refusalOf radius x y «has_map» cells w h ⌝ }
 {
     if has_map {
         if 4096 < w {

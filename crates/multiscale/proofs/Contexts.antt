@@ -1,14 +1,13 @@
 -- Contexts: what the tests say of the table of refusals, what holds of a context that is not refused, and that a sound one never is. Assumes nothing.
-use mathlib.Core.Path.{_≡_, refl, sym, ap, _∙_}
+use mathlib.Core.Path.{_≡_, refl, sym, _∙_}
 use mathlib.Core.Logic.{_⊎_, inl, inr}
-use mathlib.Core.Bool.{Bool, true, false, not, _&&_, _||_, false≢true, true≢false}
-use Prim.Native.Nat.{ℕ, _+_, _*_, _%_, _^_, _≤_, _<_, max}
+use mathlib.Core.Bool.{Bool, true, false, not, _||_, false≢true, true≢false}
+use Prim.Native.Nat.{ℕ, _*_, _%_, _^_, _≤_, _<_}
 use native.Mathlib.Nat.{mul-le-mul, one-mul}
 use native.Mathlib.Omega.{arith}
 use lib.Dec.{T, ltb, leb, eqb, lit<, le→leb}
 use lib.Pow.{pow-mono, shl-exact}
-use borrow.Author.Tests.{lt-ltb, le-ltb, le-leb, lt-leb, eq-eqb, ne-eqb, ltb-false, leb-true, eqb-true}
-use Rattle.lists.specs.Places.{All}
+use borrow.Author.Tests.{lt-ltb, le-ltb, le-leb, eq-eqb, ltb-false, leb-true, eqb-true}
 use Rattle.lists.proofs.Tests.{and-parts, and-none, or-neither, or-right}
 use Rattle.lists.proofs.Refusals.{all-clear}
 use Rattle.float32.specs.Float32.{between}

@@ -1,5 +1,5 @@
 -- What `compute_roi` promises, and the contexts that are not refused.
-use Prim.Native.Nat.{ℕ, _≤_}
+use Prim.Native.Nat.{_≤_}
 use mathlib.Core.Path.{_≡_}
 use mathlib.Core.Logic.{_⊎_}
 use Rattle.corner_list.specs.declared.Corner.{Corner}

@@ -1,13 +1,11 @@
 -- `center_of_mass::centre_of_mass` meets its contract: what the two centres and the sums ensure, put together. Assumes nothing.
-use mathlib.Core.Path.{_≡_, sym, ap, _∙_}
+use mathlib.Core.Path.{_≡_, sym, _∙_}
 use Prim.Native.Nat.{ℕ, _+_, _≤_, _<_}
 use native.Mathlib.Omega.{arith}
 use lib.Ieee.{ofBits}
 use borrow.Author.Needs.{needs}
-use Rattle.float32.specs.Float32.{roundHalfAway}
-use Rattle.center_of_mass.specs.declared.Centre.{Centre}
 use Rattle.center_of_mass.specs.declared.Centre.the-variants.{At}
-use Rattle.center_of_mass.specs.CenterOfMass.{centreOn, outcomeOf}
+use Rattle.center_of_mass.specs.CenterOfMass.{centreOn}
 use Rattle.center_of_mass.proofs.Window.{rows-in}
 use Rattle.center_of_mass.proofs.Axis.{window-in}
 use Rattle.center_of_mass.proofs.Outcomes.{no-column, no-row, with-mass, no-mass}

@@ -1,5 +1,5 @@
 -- `RoiContext::compute_roi` meets its contract: refused, no box, or a box. Assumes nothing.
-use mathlib.Core.Path.{_≡_, sym, _∙_}
+use mathlib.Core.Path.{sym, _∙_}
 use Rattle.multiscale.specs.Multiscale.{refusal}
 use Rattle.multiscale.specs.Promise.{Sound}
 use Rattle.multiscale.proofs.Contexts.{sound}

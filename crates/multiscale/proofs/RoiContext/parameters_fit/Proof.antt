@@ -1,5 +1,4 @@
 -- `multiscale::RoiContext::parameters_fit` meets its contract, test by test. Assumes nothing.
-use mathlib.Core.Path.{sym}
 use borrow.Author.Tests.{le-leb, lt-leb}
 use Rattle.multiscale.specs.Multiscale.{parametersFit}
 use borrow.Author.Needs.{needs}
