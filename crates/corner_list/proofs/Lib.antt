@@ -1,2 +1,3 @@
 pub mod Corners
 pub mod Growing
+pub mod Inside

@@ -3,13 +3,24 @@ ghost use mathlib.Core.Path.{_≡_};
 ghost use Prim.Native.Nat.{min};
 ghost use lib.ListN.{getD};
 ghost use lib.Ieee.{nan};
-ghost use Rattle.corner_list.specs.CornerList.{slices, cornerAt, withCorner};
+ghost use Rattle.corner_list.specs.CornerList.{isInside, slices, cornerAt, withCorner};
 
 // Where a corner is, in pixels, and the response at its peak.
 pub struct Corner {
     pub x: f32,
     pub y: f32,
     pub strength: f32,
+}
+
+// Whether both coordinates are from 0 to 4,096.
+pub fn is_inside(c: Corner) -> bool
+    ensures { λ r. ⌜ r ≡ isInside c ⌝ }
+{
+    if float32::is_between(0.0, 4096.0, c.x) {
+        float32::is_between(0.0, 4096.0, c.y)
+    } else {
+        false
+    }
 }
 
 // The element at a place of a slice, and NaN past its end.

@@ -35,13 +35,10 @@ upto-above x n u = le-of-values zero x 0 1 (u .top) (u .bottom) (lit< tt) (u .bo
 pub upto-more : (x : Float) (n m : ℕ) → n ≤ m → UpTo x n → UpTo x m
 upto-more x n m h u = record { top = u .top; bottom = u .bottom; bottom-pos = u .bottom-pos; value = u .value; at-most = le-trans (u .at-most) (mul-le-mul-right (u .bottom) h) }
 
--- it passes the test for a range that ends at n or later
-pub upto-between : (x : Float) (n b : ℕ) → n ≤ b → b < 2 ^ 24 → UpTo x n → between 0 b x ≡ true
-unfolding between
-upto-between x n b l h u =
-    let top = ofInt binary32 (pos b) in
-    sym (and-on (le zero x) (le x top) (from-T (le zero x) (upto-above x n u)))
-    ∙ from-T (le x top) (upto-below x top b (ofInt-value binary32 b h) (upto-more x n b l u))
+-- it is in a range from 0 that ends at n or later
+pub upto-between : (x top : Float) (n b : ℕ) → n ≤ b → HasValue top false b 1 → UpTo x n → between zero top x ≡ true
+upto-between x top n b l v u =
+    sym (and-on (le zero x) (le x top) (from-T (le zero x) (upto-above x n u))) ∙ from-T (le x top) (upto-below x top b v (upto-more x n b l u))
 
 pub whole-upto : (f : Format) (n : ℕ) → n < 2 ^ prec f → UpTo (ofInt f (pos n)) n
 whole-upto f n h = record { top = n; bottom = 1; bottom-pos = lit< tt; value = ofInt-value f n h; at-most = le-of-eq (sym (mul-one n)) }

@@ -2,7 +2,7 @@
 use Prim.Native.Nat.{ℕ, suc, _+_, _*_, _/_}
 use mathlib.Core.Bool.{Bool, true, false, cond, _&&_}
 use lib.IntN.{pos}
-use lib.Ieee.{Float, nan, inf, fin, binary32, lt, le, ofInt}
+use lib.Ieee.{Float, nan, inf, fin, lt, le}
 use lib.Ieee.Positive.{num, den}
 use Rattle.float32.specs.declared.Rounded.{Rounded}
 use Rattle.float32.specs.declared.Rounded.the-variants.{Natural, Negative, Beyond}
@@ -21,10 +21,9 @@ abs (fin s m e) = fin false m e
 unfoldable pub lift : Float → Float
 lift x = cond (lt zero x) x zero
 
--- document 01's "from a to b", for whole numbers: both ends are inside, and so is -0.0 where 0 is; a NaN is not
-unfoldable pub between : ℕ → ℕ → Float → Bool
-unfolding le ofInt
-between a b x = le (ofInt binary32 (pos a)) x && le x (ofInt binary32 (pos b))
+-- from lo to hi, both included: -0.0 is 0 here, and a NaN is in no range
+abbrev pub between : Float → Float → Float → Bool
+between lo hi x = le lo x && le x hi
 
 -- ---- Rust's `x.round()` as a whole number
 

@@ -2,7 +2,7 @@
 ghost use mathlib.Core.Path.{_≡_};
 ghost use lib.Ieee.{binary32, ofBits, toBits, toUnsigned};
 ghost use lib.Ieee.Scale.{finite};
-ghost use Rattle.float32.specs.Float32.{abs as absOf, lift, roundHalfAway};
+ghost use Rattle.float32.specs.Float32.{abs as absOf, lift, between, roundHalfAway};
 
 // |x|: -0.0 becomes 0.0, and a NaN stays. One comparison, so that a loop over many values vectorises.
 pub fn abs(x: f32) -> f32
@@ -25,6 +25,13 @@ pub fn lifted(x: f32) -> f32
     ensures { λ r. ⌜ r ≡ lift x ⌝ }
 {
     if 0.0 < x { x } else { 0.0 }
+}
+
+// Whether x is from lo to hi, both included; a NaN is not.
+pub fn is_between(lo: f32, hi: f32, x: f32) -> bool
+    ensures { λ r. ⌜ r ≡ between lo hi x ⌝ }
+{
+    if lo <= x { x <= hi } else { false }
 }
 
 // The float of any 32 bits. `f32::from_bits` is undefined at a NaN's pattern: each of them gives the one NaN.

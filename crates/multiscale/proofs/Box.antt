@@ -1,12 +1,12 @@
--- What a caller has of the answer: a box lies between the image's borders and is wider than two of them, and a sound context refuses no seed in range. Assumes nothing.
+-- What a caller has of the answer: a box lies between the image's borders and is wider than two of them, and a sound context refuses no seed that is inside. Assumes nothing.
 use mathlib.Core.Path.{_≡_, sym, _∙_}
 use mathlib.Core.Bool.{true}
 use Prim.Native.Nat.{ℕ, zero, suc, _≤_, _<_}
 use native.Mathlib.Omega.{arith}
 use lib.Ieee.{Float}
-use Rattle.float32.specs.Float32.{between}
 use Rattle.float32.specs.declared.Rounded.{Rounded}
 use Rattle.float32.specs.declared.Rounded.the-variants.{Natural, Negative, Beyond}
+use Rattle.corner_list.specs.CornerList.{isInside}
 use Rattle.corner_list.specs.declared.Corner.{Corner}
 use Rattle.multiscale.specs.declared.RoiContext.{RoiContext}
 use Rattle.multiscale.specs.declared.RoiAnswer.the-variants.{Bounds, Refused}
@@ -50,10 +50,10 @@ module _ (c : RoiContext) (s : Corner) where
     box-inside = let b = box-between in (omega arith, omega arith, omega arith, omega arith)
 
   -- ---- no refusal
-  module _ (k : Sound c) (x : between 0 4096 (s .x) ≡ true) (y : between 0 4096 (s .y) ≡ true) where
+  module _ (k : Sound c) (i : isInside s ≡ true) where
     pub answered : roiOf c s ≡ bounds (spanOn c (c .width) (s .x)) (spanOn c (c .height) (s .y))
     unfolding roiOf
-    answered = rw (never-refused c s k x y)
+    answered = rw (never-refused c s k i)
 
     pub not-refused : (n : ℕ) → roiOf c s ≡ Refused n → ⊥
     not-refused n e = go (spanOn c (c .width) (s .x)) (spanOn c (c .height) (s .y)) (sym answered ∙ e)

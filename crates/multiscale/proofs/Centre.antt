@@ -4,29 +4,28 @@ use mathlib.Core.Bool.{Bool, true, false, true≢false}
 use Prim.Native.Nat.{ℕ, _+_, _*_, _/_, _^_, _≤_}
 use native.Mathlib.Nat.{zero-mul, mul-le-mul, le-trans, le-of-eq}
 use native.Mathlib.Omega.{arith}
-use lib.Dec.{lit<}
 use lib.IntN.{ℤ, pos}
 use lib.Pow.{pow-mono}
-use lib.Ieee.{Float, nan, inf, fin, binary32, up, down, le, mul, fits, ofInt}
+use lib.Ieee.{Float, nan, inf, fin, binary32, up, down, le, mul, fits}
 use lib.Ieee.Fits.{down-pos}
 use lib.Ieee.Positive.{num, den}
 use Rattle.lists.proofs.Tests.{and-parts, to-T}
 use Rattle.float32.specs.declared.Rounded.the-variants.{Natural}
 use Rattle.float32.specs.Float32.{zero, between}
 use Rattle.float32.specs.Value.{IsValue, gain, loss}
-use Rattle.float32.proofs.Values.{of-HasValue, ofInt-value, le-value}
+use Rattle.float32.proofs.Values.{of-HasValue, le-value}
 use Rattle.float32.proofs.Approx.{own}
 use Rattle.float32.proofs.Bounds.{whole-over}
 use Rattle.float32.proofs.Scale.{power-float, scaled}
 use Rattle.float32.proofs.HalfAway.{natural-of-value}
+use Rattle.corner_list.specs.CornerList.{largest}
 use Rattle.multiscale.specs.Multiscale.{centreOf}
 
 -- ---- a coordinate from 0 to 4,096 is at most 4,096 in size, and 0 where its sign is set
-module _ (s : Bool) (m : ℕ) (e : ℤ) (h : between 0 4096 (fin s m e) ≡ true) where
+module _ (s : Bool) (m : ℕ) (e : ℤ) (h : between zero largest (fin s m e) ≡ true) where
   at-least : loss (fin s m e) ≤ gain (fin s m e)
-  unfolding between
   at-least =
-      let p = and-parts (le zero (fin s m e)) (le (fin s m e) (ofInt binary32 (pos 4096))) h in
+      let p = and-parts (le zero (fin s m e)) (le (fin s m e) largest) h in
       let v = le-value zero (fin s m e) 0 0 (gain (fin s m e)) (loss (fin s m e)) (down e) (down-pos e) nought (own (fin s m e) tt) .0 (to-T (p .0)) in
       omega arith
     where
@@ -34,27 +33,25 @@ module _ (s : Bool) (m : ℕ) (e : ℤ) (h : between 0 4096 (fin s m e) ≡ true
       nought = record { is-finite = tt; equal = omega arith }
 
   at-most : gain (fin s m e) ≤ 4096 * down e + loss (fin s m e)
-  unfolding between
   at-most =
-      let top = ofInt binary32 (pos 4096) in
-      let p = and-parts (le zero (fin s m e)) (le (fin s m e) top) h in
-      let v = of-HasValue top false (4096 * down e) (down e) (whole-over top 4096 (down e) (ofInt-value binary32 4096 (lit< tt))) in
-      let l = le-value (fin s m e) top (gain (fin s m e)) (loss (fin s m e)) (4096 * down e) 0 (down e) (down-pos e) (own (fin s m e) tt) v .0 (to-T (p .1)) in
+      let p = and-parts (le zero (fin s m e)) (le (fin s m e) largest) h in
+      let v = of-HasValue largest false (4096 * down e) (down e) (whole-over largest 4096 (down e) (refl, refl)) in
+      let l = le-value (fin s m e) largest (gain (fin s m e)) (loss (fin s m e)) (4096 * down e) 0 (down e) (down-pos e) (own (fin s m e) tt) v .0 (to-T (p .1)) in
       omega arith
 
-unsigned : (s : Bool) (m : ℕ) (e : ℤ) → between 0 4096 (fin s m e) ≡ true → s ≡ true → m * up e ≡ 0
+unsigned : (s : Bool) (m : ℕ) (e : ℤ) → between zero largest (fin s m e) ≡ true → s ≡ true → m * up e ≡ 0
 unsigned true m e h q = let l = at-least true m e h in omega arith
 unsigned false m e h q = absurd (true≢false (sym q))
 
-small : (s : Bool) (m : ℕ) (e : ℤ) → between 0 4096 (fin s m e) ≡ true → m * up e ≤ 2 ^ 12 * down e
+small : (s : Bool) (m : ℕ) (e : ℤ) → between zero largest (fin s m e) ≡ true → m * up e ≤ 2 ^ 12 * down e
 small true m e h = let l = unsigned true m e h refl in omega arith
 small false m e h = let l = at-most false m e h in omega arith
 
 grown : (n d p : ℕ) → n ≤ 2 ^ 12 * d → p ≤ 2 ^ 12 → n * p ≤ 2 ^ 24 * d
 grown n d p h l = le-trans (mul-le-mul h l) (le-of-eq (omega arith))
 
-pub centre-is : (x : Float) (k : ℕ) → fits binary32 x ≡ true → between 0 4096 x ≡ true → k ≤ 12 → centreOf k x ≡ Natural ((2 * (num x * 2 ^ k) + den x) / (2 * den x))
-unfolding centreOf between
+pub centre-is : (x : Float) (k : ℕ) → fits binary32 x ≡ true → between zero largest x ≡ true → k ≤ 12 → centreOf k x ≡ Natural ((2 * (num x * 2 ^ k) + den x) / (2 * den x))
+unfolding centreOf le
 centre-is nan k f h l = absurd (true≢false (sym h))
 centre-is (inf true) k f h l = absurd (true≢false (sym h))
 centre-is (inf false) k f h l = absurd (true≢false (sym h))

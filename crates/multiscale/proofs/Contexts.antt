@@ -8,9 +8,9 @@ use native.Mathlib.Omega.{arith}
 use lib.Dec.{T, ltb, leb, eqb, lit<, le→leb}
 use lib.Pow.{pow-mono, shl-exact}
 use borrow.Author.Tests.{lt-ltb, le-ltb, le-leb, eq-eqb, ltb-false, leb-true, eqb-true}
-use Rattle.lists.proofs.Tests.{and-parts, and-none, or-neither, or-right}
+use Rattle.lists.proofs.Tests.{and-parts, or-neither, or-right}
 use Rattle.lists.proofs.Refusals.{all-clear}
-use Rattle.float32.specs.Float32.{between}
+use Rattle.corner_list.specs.CornerList.{isInside}
 use Rattle.corner_list.specs.declared.Corner.{Corner}
 use Rattle.multiscale.specs.declared.RoiContext.{RoiContext}
 use Rattle.multiscale.specs.Multiscale.{parametersFit, conditions, refusal, border, roiRadius}
@@ -74,17 +74,13 @@ module _ (c : RoiContext) (s : Corner) where
     unfolding refusal
     unfit e = rw (le-ltb 4096 (c .width) w, le-ltb 4096 (c .height) h, e)
 
-    pub x-far : parametersFit c ≡ true → between 0 4096 (s .x) ≡ false → 4 ≡ refusal c s
+    pub outside : parametersFit c ≡ true → isInside s ≡ false → 4 ≡ refusal c s
     unfolding refusal
-    x-far e x = rw (le-ltb 4096 (c .width) w, le-ltb 4096 (c .height) h, e, x)
+    outside e i = rw (le-ltb 4096 (c .width) w, le-ltb 4096 (c .height) h, e, i)
 
-    pub y-far : parametersFit c ≡ true → between 0 4096 (s .y) ≡ false → 4 ≡ refusal c s
+    pub none : parametersFit c ≡ true → isInside s ≡ true → 0 ≡ refusal c s
     unfolding refusal
-    y-far e y = rw (le-ltb 4096 (c .width) w, le-ltb 4096 (c .height) h, e, y, and-none (between 0 4096 (s .x)))
-
-    pub none : parametersFit c ≡ true → between 0 4096 (s .x) ≡ true → between 0 4096 (s .y) ≡ true → 0 ≡ refusal c s
-    unfolding refusal
-    none e x y = rw (le-ltb 4096 (c .width) w, le-ltb 4096 (c .height) h, e, x, y)
+    none e i = rw (le-ltb 4096 (c .width) w, le-ltb 4096 (c .height) h, e, i)
 
   -- ---- nothing is refused
   pub sound : refusal c s ≡ 0 → Sound c
@@ -110,6 +106,6 @@ module _ (c : RoiContext) (s : Corner) where
       not-not true e = refl
       not-not false e = absurd (true≢false e)
 
-  -- a sound context refuses no seed from 0 to 4,096
-  pub never-refused : Sound c → between 0 4096 (s .x) ≡ true → between 0 4096 (s .y) ≡ true → refusal c s ≡ 0
-  never-refused k x y = sym (none (k .width) (k .height) (sound-fits c k) x y)
+  -- a sound context refuses no seed that is inside
+  pub never-refused : Sound c → isInside s ≡ true → refusal c s ≡ 0
+  never-refused k i = sym (none (k .width) (k .height) (sound-fits c k) i)

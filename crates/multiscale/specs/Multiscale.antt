@@ -1,14 +1,15 @@
 -- The box of the base image in which a seed of a coarser level is looked for again (`RoiContext::compute_roi` and `make_roi_context`).
 use Prim.Native.Nat.{ℕ, zero, suc, _+_, _-_, _*_, _^_, min, max}
-use mathlib.Core.Bool.{Bool, cond, _&&_, _||_, not}
+use mathlib.Core.Bool.{Bool, cond, not, _&&_, _||_}
 use mathlib.Core.List.{List, [], _∷_}
 use lib.Dec.{leb, ltb, eqb}
 use lib.IntN.{pos}
 use lib.Ieee.{Float, binary32, mul, ofInt}
 use Rattle.lists.specs.Refusals.{lowest}
-use Rattle.float32.specs.Float32.{between, roundHalfAway}
+use Rattle.float32.specs.Float32.{roundHalfAway}
 use Rattle.float32.specs.declared.Rounded.{Rounded}
 use Rattle.float32.specs.declared.Rounded.the-variants.{Natural, Negative, Beyond}
+use Rattle.corner_list.specs.CornerList.{isInside}
 use Rattle.corner_list.specs.declared.Corner.{Corner}
 use Rattle.multiscale.specs.declared.RoiContext.{RoiContext}
 use Rattle.multiscale.specs.declared.RoiAnswer.{RoiAnswer}
@@ -26,12 +27,12 @@ abbrev pub conditions : RoiContext → Corner → List (Bool × ℕ)
 conditions c s =
     (ltb 4096 (c .width) || ltb 4096 (c .height), 1)
     ∷ (not (parametersFit c), 3)
-    ∷ (not (between 0 4096 (s .x) && between 0 4096 (s .y)), 4)
+    ∷ (not (isInside s), 4)
     ∷ []
 
 -- the lowest number, 0 for none
 unfoldable pub refusal : RoiContext → Corner → ℕ
-unfolding parametersFit between
+unfolding parametersFit isInside
 refusal c s = lowest (conditions c s)
 
 -- ---- the sizes

@@ -3,7 +3,6 @@ ghost use mathlib.Core.Path.{_≡_};
 ghost use mathlib.Core.Bool.{_||_};
 ghost use Prim.Native.Nat.{_≤_};
 ghost use lib.Dec.{eqb};
-ghost use Rattle.float32.specs.Float32.{between};
 ghost use Rattle.multiscale.specs.Multiscale.{parametersFit, refusal as refusalOf, border as borderOf, roiRadius, spanAbout, spanOn};
 ghost use Rattle.multiscale.specs.Promise.{Sound, Boxed};
 use corner_list::Corner;
@@ -39,15 +38,6 @@ fn is_ring(radius: u32) -> bool
         return true;
     }
     radius == 10
-}
-
-fn in_range(x: f32) -> bool
-    ensures { λ r. ⌜ r ≡ between 0 4096 x ⌝ }
-{
-    if 0.0 <= x {
-        return x <= 4096.0;
-    }
-    false
 }
 
 // The box about a centre on one axis: r pixels both ways, clipped to the border b.
@@ -106,10 +96,8 @@ impl RoiContext {
             return 1;
         }
         if self.parameters_fit() {
-            if in_range(c.x) {
-                if in_range(c.y) {
-                    return 0;
-                }
+            if corner_list::is_inside(c) {
+                return 0;
             }
             return 4;
         }

@@ -1,6 +1,6 @@
 -- `multiscale::RoiContext::refusal` meets its contract, test by test. Assumes nothing.
 use mathlib.Core.Path.{sym, _∙_}
-use Rattle.multiscale.proofs.Contexts.{wide, high, unfit, x-far, y-far, none}
+use Rattle.multiscale.proofs.Contexts.{wide, high, unfit, outside, none}
 use borrow.Author.Needs.{needs}
 use Rattle.multiscale.proofs.RoiContext.refusal.Statement.{statement}
 use Rattle.multiscale.proofs.RoiContext.refusal.Tie as tie
@@ -14,23 +14,17 @@ returns-2 c = high _ _ (c .before .before .if1 .left) (c .if2 .taken)
 parameters-fit-requires : tie.Need-parameters-fit-requires
 parameters-fit-requires c κs = search needs
 
-in-range-requires : tie.Need-in-range-requires
-in-range-requires c κs = search needs
-
-in-range-requires-2 : tie.Need-in-range-requires-2
-in-range-requires-2 c κs = search needs
+is-inside-requires : tie.Need-is-inside-requires
+is-inside-requires c κs = search needs
 
 returns-3 : tie.Need-returns-3
-returns-3 c = none _ _ (c .before .before .before .before .before .before .before .before .if1 .left) (c .before .before .before .before .before .before .if2 .left) (sym (c .before .before .before .before .before .parameters-fit .ensures) ∙ c .before .before .before .before .if3 .taken) (sym (c .before .before .before .in-range .ensures) ∙ c .before .before .if4 .taken) (sym (c .before .in-range2 .ensures) ∙ c .if5 .taken)
+returns-3 c = none _ _ (c .before .before .before .before .before .before .if1 .left) (c .before .before .before .before .if2 .left) (sym (c .before .before .before .parameters-fit .ensures) ∙ c .before .before .if3 .taken) (sym (c .before .is-inside .ensures) ∙ c .if4 .taken)
 
 returns-4 : tie.Need-returns-4
-returns-4 c = y-far _ _ (c .before .before .before .before .before .before .before .before .if1 .left) (c .before .before .before .before .before .before .if2 .left) (sym (c .before .before .before .before .before .parameters-fit .ensures) ∙ c .before .before .before .before .if3 .taken) (sym (c .before .in-range2 .ensures) ∙ c .if5 .left)
+returns-4 c = outside _ _ (c .before .before .before .before .before .before .if1 .left) (c .before .before .before .before .if2 .left) (sym (c .before .before .before .parameters-fit .ensures) ∙ c .before .before .if3 .taken) (sym (c .before .is-inside .ensures) ∙ c .if4 .left)
 
 returns-5 : tie.Need-returns-5
-returns-5 c = x-far _ _ (c .before .before .before .before .before .before .if1 .left) (c .before .before .before .before .if2 .left) (sym (c .before .before .before .parameters-fit .ensures) ∙ c .before .before .if3 .taken) (sym (c .before .in-range .ensures) ∙ c .if4 .left)
-
-returns-6 : tie.Need-returns-6
-returns-6 c = unfit _ _ (c .before .before .before .before .if1 .left) (c .before .before .if2 .left) (sym (c .before .parameters-fit .ensures) ∙ c .if3 .left)
+returns-5 c = unfit _ _ (c .before .before .before .before .if1 .left) (c .before .before .if2 .left) (sym (c .before .parameters-fit .ensures) ∙ c .if3 .left)
 
 pub refusal-spec : {M : Type 1} → statement M
 refusal-spec =
@@ -39,9 +33,7 @@ refusal-spec =
     returns
     returns-2
     parameters-fit-requires
-    in-range-requires
-    in-range-requires-2
+    is-inside-requires
     returns-3
     returns-4
-    returns-5
-    returns-6)
+    returns-5)
