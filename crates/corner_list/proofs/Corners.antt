@@ -4,7 +4,7 @@ use native.Mathlib.Omega.{arith}
 use mathlib.Core.Path.{_≡_, refl, sym, ap, _∙_}
 use mathlib.Core.List.{List, [], _∷_, _++_, map, map-append}
 use lib.ListN.{length, take, drop, getD, set, length-map, List·getD-append, List·getD-map}
-use lib.Seq.{ext-getD, length-take-le, getD-take}
+use lib.Seq.{ext-getD, length-take-le, getD-take, getD-set-same, getD-set-other}
 use lib.Ieee.{Float, nan}
 use Rattle.lists.specs.Tab.{tab}
 use Rattle.lists.specs.Buffer.{front}
@@ -92,6 +92,16 @@ module _ (cs : List Corner) (b : Slices) (n : ℕ) (e : n ≡ length cs) where
 
   pub front-strengths : n ≤ placesOf b → length (frontCorners cs b .strengths) ≡ length (b .strengths)
   front-strengths h = front-length (map strengthOf cs) (b .strengths) (omega (arith, length-map cs strengthOf))
+
+-- ---- a corner put at a place is read back, and every other is as it was
+module _ (b : Slices) (at : ℕ) (c : Corner) where
+  pub with-here : at < placesOf b → cornerAt (withCorner at c b) at ≡ c
+  with-here h =
+      rw (getD-set-same (b .xs) at (c .x) nan (omega arith), getD-set-same (b .ys) at (c .y) nan (omega arith), getD-set-same (b .strengths) at (c .strength) nan (omega arith))
+
+  pub with-there : (i : ℕ) → (i ≡ at → ⊥) → cornerAt (withCorner at c b) i ≡ cornerAt b i
+  with-there i h =
+      rw (getD-set-other (b .xs) at i (c .x) nan h, getD-set-other (b .ys) at i (c .y) nan h, getD-set-other (b .strengths) at i (c .strength) nan h)
 
 -- ---- the corners that stand first, changed
 

@@ -1,6 +1,7 @@
 pub mod Numbers
 pub mod Judged
-pub mod Place
+pub mod First
+pub mod Slots
 pub mod Settle
 pub mod Progress
 pub mod Answer

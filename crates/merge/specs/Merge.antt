@@ -26,15 +26,20 @@ use Rattle.merge.specs.declared.Merged.the-variants.{Kept, Refused}
 abbrev pub cellOf : Float → Float → Float → ℕ
 cellOf least inverse v = toUnsigned 64 (mul binary32 (sub binary32 v least) inverse)
 
+-- a corner's cell number across, and down
+abbrev pub columnOf : Grid → Corner → ℕ
+columnOf g c = cellOf (g .left) (g .inverse) (c .x)
+
+abbrev pub rowOf : Grid → Corner → ℕ
+rowOf g c = cellOf (g .top) (g .inverse) (c .y)
+
 -- two cell numbers that differ by at most one
 abbrev pub adjacent : ℕ → ℕ → Bool
 adjacent a b = leb a (b + 1) && leb b (a + 1)
 
 -- two corners whose cell numbers differ by at most one each way
 unfoldable pub neighbours : Grid → Corner → Corner → Bool
-neighbours g c o =
-    adjacent (cellOf (g .left) (g .inverse) (c .x)) (cellOf (g .left) (g .inverse) (o .x))
-    && adjacent (cellOf (g .top) (g .inverse) (c .y)) (cellOf (g .top) (g .inverse) (o .y))
+neighbours g c o = adjacent (columnOf g c) (columnOf g o) && adjacent (rowOf g c) (rowOf g o)
 
 abbrev pub squared : Float → Float
 squared d = mul binary32 d d

@@ -1,17 +1,30 @@
 -- What the private functions that search the kept corners and settle one among them promise.
-use Prim.Native.Nat.{ℕ, zero, suc, _≤_}
+use Prim.Native.Nat.{ℕ, _<_, _≤_}
 use mathlib.Core.Path.{_≡_}
-use mathlib.Core.Bool.{Bool, cond}
-use mathlib.Core.List.{List, [], _∷_}
+use mathlib.Core.Logic.{_⊎_}
+use mathlib.Core.Bool.{Bool, true}
+use mathlib.Core.List.{List}
 use lib.ListN.{length}
 use Rattle.corner_list.specs.declared.Corner.{Corner}
-use Rattle.corner_list.specs.CornerList.{Slices, placesOf, cornersOf, frontCorners}
-use Rattle.merge.specs.Merge.{settle}
+use Rattle.corner_list.specs.CornerList.{Slices, cornerAt, cornersOf, frontCorners}
+use Rattle.merge.specs.declared.cells.Grid.{Grid}
+use Rattle.merge.specs.Merge.{joins, settle}
 
--- the place of the first that passes a test, the list's length if none does
-abbrev pub place : {A : Type 0} → (A → Bool) → List A → ℕ
-place f [] = zero
-place f (a ∷ l) = cond (f a) zero (suc (place f l))
+-- whether c joins the corner at a place of a buffer
+abbrev pub joinsAt : Grid → Corner → Slices → ℕ → Bool
+joinsAt g c b i = joins g c (cornerAt b i)
+
+-- r is the first of the numbers below n that passes a test, or n if none does
+pub record IsFirst (f : ℕ → Bool) (n r : ℕ) : Type 0 where
+  pub at-most : r ≤ n
+  pub passes : r < n → f r ≡ true
+  pub before : (i : ℕ) → i < r → f i ≡ true → ⊥
+
+-- r is n or passes the test, and is at most n and every number that passes it and is looked at
+pub record Lowers (f : ℕ → Bool) (Looked : ℕ → Type 0) (n r : ℕ) : Type 0 where
+  pub at-most : r ≤ n
+  pub passes : (r ≡ n) ⊎ (f r ≡ true)
+  pub before : (i : ℕ) → i < r → Looked i → f i ≡ true → ⊥
 
 -- n corners are now first in a buffer, in the place of its first k: those with c settled among them
 pub record Settled (j : Corner → Corner → Bool) (k : ℕ) (c : Corner) (b : Slices) (n : ℕ) (b′ : Slices) : Type 0 where

@@ -7,7 +7,7 @@ ghost use mathlib.Core.List.{[], _∷_};
 ghost use lib.ListN.{length, take};
 ghost use lib.Ieee.{inf};
 ghost use Rattle.corner_list.specs.CornerList.{slices, cornersOf, placesOf};
-ghost use Rattle.merge.specs.Merge.{cellOf, adjacent, neighbours, joins, leastFrom, gridOf};
+ghost use Rattle.merge.specs.Merge.{cellOf, columnOf, rowOf, adjacent, neighbours, joins, leastFrom, gridOf};
 use corner_list::Corner;
 
 // The least coordinates of a list of corners, 1 / radius, and the radius squared.
@@ -57,6 +57,20 @@ fn cell_of(least: f32, inverse: f32, v: f32) -> usize
     float32::cut_off((v - least) * inverse)
 }
 
+// A corner's cell number across.
+pub(crate) fn column_of(g: Grid, c: Corner) -> usize
+    ensures { λ r. ⌜ r ≡ columnOf g c ⌝ }
+{
+    cell_of(g.left, g.inverse, c.x)
+}
+
+// A corner's cell number down.
+pub(crate) fn row_of(g: Grid, c: Corner) -> usize
+    ensures { λ r. ⌜ r ≡ rowOf g c ⌝ }
+{
+    cell_of(g.top, g.inverse, c.y)
+}
+
 // Whether two cell numbers differ by at most one.
 fn is_adjacent(a: usize, b: usize) -> bool
     ensures { λ r. ⌜ r ≡ adjacent a b ⌝ }
@@ -64,19 +78,12 @@ fn is_adjacent(a: usize, b: usize) -> bool
     if a < b { b - a <= 1 } else { a - b <= 1 }
 }
 
-// Whether the cell numbers of two coordinates differ by at most one.
-fn in_adjacent_cells(least: f32, inverse: f32, v: f32, w: f32) -> bool
-    ensures { λ r. ⌜ r ≡ adjacent (cellOf least inverse v) (cellOf least inverse w) ⌝ }
-{
-    is_adjacent(cell_of(least, inverse, v), cell_of(least, inverse, w))
-}
-
 // Whether the cells of two corners differ by at most one each way.
 fn are_neighbours(g: Grid, c: Corner, o: Corner) -> bool
     ensures { λ r. ⌜ r ≡ neighbours g c o ⌝ }
 {
-    if in_adjacent_cells(g.left, g.inverse, c.x, o.x) {
-        in_adjacent_cells(g.top, g.inverse, c.y, o.y)
+    if is_adjacent(column_of(g, c), column_of(g, o)) {
+        is_adjacent(row_of(g, c), row_of(g, o))
     } else {
         false
     }

@@ -1,5 +1,7 @@
 // Merging corners: of those closer than a radius the strongest is kept.
 mod cells;
+mod index;
+mod search;
 mod settling;
 
 ghost use mathlib.Core.Path.{_≡_};

@@ -1,18 +1,18 @@
--- `merge::settling::first_joined` meets its contract: c joins none of the corners passed. Assumes nothing.
+-- `merge::search::first_joined` meets its contract: c joins none of the corners passed. Assumes nothing.
 use borrow.Author.Needs.{needs}
 use borrow.Author.Count.{below-none, below-more}
 use Prim.Native.Nat.{ℕ, _-_, _<_, _≤_}
 use native.Mathlib.Omega.{arith}
 use mathlib.Core.Path.{_≡_, sym, ap, _∙_}
 use mathlib.Core.Bool.{true, false≢true}
-use Rattle.corner_list.specs.CornerList.{slices, cornerAt}
+use Rattle.corner_list.specs.CornerList.{slices}
 use Rattle.merge.specs.Merge.{joins}
-use Rattle.merge.proofs.Place.{place-tab}
-use Rattle.merge.proofs.settling.first_joined.Statement.{statement}
-use Rattle.merge.proofs.settling.first_joined.Tie as tie
+use Rattle.merge.specs.Search.{joinsAt}
+use Rattle.merge.proofs.search.first_joined.Statement.{statement}
+use Rattle.merge.proofs.search.first_joined.Tie as tie
 
 abbrev Inv-loop : tie.InvT-loop
-Inv-loop xs ys strengths g k c i₀ i = (i ≤ k) × ((m : ℕ) → m < i → joins g c (cornerAt (slices xs ys strengths) m) ≡ true → ⊥)
+Inv-loop xs ys strengths g k c i₀ i = (i ≤ k) × ((m : ℕ) → m < i → joinsAt g c (slices xs ys strengths) m ≡ true → ⊥)
 
 abbrev μ-loop : tie.MeasureT-loop
 μ-loop xs ys strengths g k c i₀ i = k - i
@@ -29,13 +29,13 @@ is-joined-requires c κs = search needs
 -- the test, of the corner in the buffer
 tested : (c : tie.After-is-joined Inv-loop μ-loop)
     → let a = c .before .before .before .before .before .before .before .args in
-    joins (a .g) (a .c) (cornerAt (slices (a .xs .now) (a .ys .now) (a .strengths .now)) (c .before .before .before .loop .i)) ≡ c .is-joined .result
+    joinsAt (a .g) (a .c) (slices (a .xs .now) (a .ys .now) (a .strengths .now)) (c .before .before .before .loop .i) ≡ c .is-joined .result
 tested c =
     let a = c .before .before .before .before .before .before .before .args in
     ap (joins (a .g) (a .c)) (sym (c .before .corner-at .ensures)) ∙ sym (c .is-joined .ensures)
 
 returns : tie.Need-returns Inv-loop μ-loop
-returns c = place-tab _ _ _ _ (omega arith) (c .before .before .before .before .loop .inv .1) (λ _. tested (c .before) ∙ c .if1 .taken)
+returns c = record { at-most = omega arith; passes = λ _. tested (c .before) ∙ c .if1 .taken; before = c .before .before .before .before .loop .inv .1 }
 
 add-i : tie.Need-add-i Inv-loop μ-loop
 add-i c = omega arith
@@ -48,7 +48,7 @@ loop-again c =
     (omega arith, below-more _ _ (c .before .before .before .before .loop .inv .1) (λ e. false≢true (sym (c .if1 .left) ∙ sym (tested (c .before)) ∙ e)))
 
 returns-2 : tie.Need-returns-2 Inv-loop μ-loop
-returns-2 c = place-tab _ _ _ _ (omega arith) (λ m l. c .before .loop .inv .1 m (omega arith)) (λ l. absurd (let no : ⊥ = omega arith in no))
+returns-2 c = record { at-most = omega arith; passes = λ l. absurd (let no : ⊥ = omega arith in no); before = λ m l. c .before .loop .inv .1 m (omega arith) }
 
 pub first-joined-spec : {M : Type 1} → statement M
 first-joined-spec =

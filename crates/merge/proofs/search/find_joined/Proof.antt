@@ -1,0 +1,51 @@
+-- `merge::search::find_joined` meets its contract: the four homes list all that c joins. Assumes nothing.
+use borrow.Author.Needs.{needs}
+use mathlib.Core.Path.{ap}
+use Prim.Native.Nat.{ℕ, _/_}
+use Rattle.merge.proofs.First.{lowers-then, lowers-first}
+use Rattle.merge.proofs.Slots.{all-near}
+use Rattle.merge.proofs.search.find_joined.Statement.{statement}
+use Rattle.merge.proofs.search.find_joined.Tie as tie
+
+cast-if1 : tie.Need-cast-if1
+cast-if1 c = search needs
+
+first-joined-requires : tie.Need-first-joined-requires
+first-joined-requires c κs = search needs
+
+returns : tie.Need-returns
+returns c = search needs
+
+column-of-requires : tie.Need-column-of-requires
+column-of-requires c κs = search needs
+
+row-of-requires : tie.Need-row-of-requires
+row-of-requires c κs = search needs
+
+lowest-of-two-requires : tie.Need-lowest-of-two-requires
+lowest-of-two-requires c κs = search needs
+
+add-lowest-of-two : tie.Need-add-lowest-of-two
+add-lowest-of-two c = search needs
+
+lowest-of-two-requires-2 : tie.Need-lowest-of-two-requires-2
+lowest-of-two-requires-2 c κs = search needs
+
+returns-2 : tie.Need-returns-2
+returns-2 c =
+    lowers-first _ _ _ _ (lowers-then _ _ _ _ _ _ (c .before .lowest-of-two .ensures) (c .lowest-of-two2 .ensures))
+    (all-near _ _ _ _ (c .before .before .before .before .before .before .before .before .before .pre) _ _ _ (ap (λ (n : ℕ). n / 2) (c .before .before .before .column-of .ensures)) (ap (λ (n : ℕ). n / 2) (c .before .before .row-of .ensures)) (c .before .before .before .before .if1 .left))
+
+pub find-joined-spec : {M : Type 1} → statement M
+find-joined-spec =
+    tie.close
+    (tie.spec
+    cast-if1
+    first-joined-requires
+    returns
+    column-of-requires
+    row-of-requires
+    lowest-of-two-requires
+    add-lowest-of-two
+    lowest-of-two-requires-2
+    returns-2)

@@ -1,0 +1,71 @@
+-- `merge::search::lowest_from` meets its contract: `low` is the lowest of the slots passed, up to an empty one or the end. Assumes nothing.
+use borrow.Author.Needs.{needs}
+use Prim.Native.Nat.{_-_, _≤_}
+use native.Mathlib.Omega.{arith}
+use mathlib.Core.Path.{_≡_}
+use lib.ListN.{length}
+use Rattle.corner_list.specs.CornerList.{slices}
+use Rattle.merge.specs.Search.{joinsAt}
+use Rattle.merge.proofs.First.{Looking, looking-none, looking-turn, looking-empty, looking-end}
+use Rattle.merge.proofs.search.lowest_from.Statement.{statement}
+use Rattle.merge.proofs.search.lowest_from.Tie as tie
+
+abbrev Inv-loop : tie.InvT-loop
+Inv-loop xs ys strengths table g home most c low₀ p₀ p-end low p =
+    Looking (joinsAt g c (slices xs ys strengths)) table home most low p × (p ≤ length table) × (p-end ≡ length table)
+
+abbrev μ-loop : tie.MeasureT-loop
+μ-loop xs ys strengths table g home most c low₀ p₀ p-end low p = length table - p
+
+loop-holds : tie.Need-loop-holds Inv-loop μ-loop
+loop-holds c = (looking-none _ _ _ _, omega arith, omega arith)
+
+mul-i : tie.Need-mul-i Inv-loop μ-loop
+mul-i c = omega arith
+
+shared-slice-read-i : tie.Need-shared-slice-read-i Inv-loop μ-loop
+shared-slice-read-i c = omega arith
+
+returns : tie.Need-returns Inv-loop μ-loop
+returns c =
+    let at = c .before .before .before in
+    looking-empty _ _ _ _ _ _ (at .loop .inv .0) (c .if1 .taken) (omega arith) (omega arith)
+
+cast-lower-of : tie.Need-cast-lower-of Inv-loop μ-loop
+cast-lower-of c = omega (arith, c .before .shared-slice-known5 .given (c .before .before .before .loop .p))
+
+lower-of-requires : tie.Need-lower-of-requires Inv-loop μ-loop
+lower-of-requires c κs = search needs
+
+add-p : tie.Need-add-p Inv-loop μ-loop
+add-p c = omega arith
+
+loop-less : tie.Need-loop-less Inv-loop μ-loop
+loop-less c = omega arith
+
+loop-again : tie.Need-loop-again Inv-loop μ-loop
+loop-again c = (looking-turn _ _ _ _ _ _ (c .before .before .before .before .loop .inv .0) _ (c .lower-of .ensures), omega arith, omega arith)
+
+first-joined-requires : tie.Need-first-joined-requires Inv-loop μ-loop
+first-joined-requires c κs = search needs
+
+returns-2 : tie.Need-returns-2 Inv-loop μ-loop
+returns-2 c = looking-end _ _ _ _ _ _ (c .before .before .loop .inv .0) _ (c .first-joined .ensures)
+
+pub lowest-from-spec : {M : Type 1} → statement M
+lowest-from-spec =
+    tie.close
+    (tie.spec
+    Inv-loop
+    μ-loop
+    loop-holds
+    mul-i
+    shared-slice-read-i
+    returns
+    cast-lower-of
+    lower-of-requires
+    add-p
+    loop-less
+    loop-again
+    first-joined-requires
+    returns-2)

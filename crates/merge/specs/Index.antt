@@ -1,0 +1,50 @@
+-- The index of the kept corners by their cells: a table of slots, each of them empty or holding a place of the buffer.
+use Prim.Native.Nat.{ℕ, _+_, _*_, _/_, _%_, _<_, _≤_}
+use mathlib.Core.Path.{_≡_}
+use mathlib.Core.Logic.{_⊎_}
+use mathlib.Core.List.{List}
+use lib.ListN.{length, getD}
+use Rattle.corner_list.specs.declared.Corner.{Corner}
+use Rattle.corner_list.specs.CornerList.{Slices, cornerAt}
+use Rattle.merge.specs.declared.cells.Grid.{Grid}
+use Rattle.merge.specs.Merge.{columnOf, rowOf}
+
+-- what an empty slot holds; no place that is listed is as large
+abbrev pub empty : ℕ
+empty = 4294967295
+
+-- cells are taken in pairs, each way: cell 0, then 1 and 2, 3 and 4. So the neighbours of a cell n lie in pair n / 2 or in the next
+abbrev pub pairOf : ℕ → ℕ
+pairOf n = (n + 1) / 2
+
+-- the home, among so many slots, of the cells in pair x across and pair y down: any function would do, this one scatters
+unfoldable pub homeOf : ℕ → ℕ → ℕ → ℕ
+homeOf slots x y = (x % 65536 * 40503 + y % 65536 * 51749) / 16 % slots
+
+-- a corner's home
+abbrev pub homeAt : Grid → ℕ → Corner → ℕ
+homeAt g slots c = homeOf slots (pairOf (columnOf g c)) (pairOf (rowOf g c))
+
+-- whoever looks at the slots from `home` on, up to the first that is empty, meets place i or comes to the table's end
+pub record Listed (table : List ℕ) (home i : ℕ) : Type 0 where
+  pub slot : ℕ
+  pub from : home ≤ slot
+  pub full : (q : ℕ) → home ≤ q → q < slot → getD table q 0 ≡ empty → ⊥
+  pub here : (length table ≤ slot) ⊎ (getD table slot 0 ≡ i)
+
+-- slot p is where to list a place: the first from `home` on that is empty or holds it, or the table's end
+pub record SlotFor (table : List ℕ) (home place p : ℕ) : Type 0 where
+  pub from : home ≤ p
+  pub full : (q : ℕ) → home ≤ q → q < p → getD table q 0 ≡ empty → ⊥
+  pub here : (length table ≤ p) ⊎ ((getD table p 0 ≡ empty) ⊎ (getD table p 0 ≡ place))
+
+-- a place is now listed, and every other as before
+pub record Lists (table : List ℕ) (home place : ℕ) (table′ : List ℕ) : Type 0 where
+  pub long : length table′ ≡ length table
+  pub listed : place < empty → Listed table′ home place
+  pub still : (h i : ℕ) → i < empty → Listed table h i → Listed table′ h i
+
+-- the first k corners of a buffer are listed, each at its home
+pub record Indexed (g : Grid) (table : List ℕ) (b : Slices) (k : ℕ) : Type 0 where
+  pub some : 0 < length table
+  pub each : (i : ℕ) → i < k → i < empty → Listed table (homeAt g (length table) (cornerAt b i)) i

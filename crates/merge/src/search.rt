@@ -1,0 +1,77 @@
+// The first of the kept corners that a corner joins.
+ghost use mathlib.Core.Path.{_≡_};
+ghost use mathlib.Core.Logic.{_⊎_};
+ghost use mathlib.Core.Bool.{cond, _&&_};
+ghost use Prim.Native.Nat.{_+_, _<_, _≤_};
+ghost use lib.ListN.{length};
+ghost use lib.Dec.{ltb};
+ghost use Rattle.corner_list.specs.CornerList.{slices};
+ghost use Rattle.merge.specs.Search.{joinsAt, IsFirst, Lowers};
+ghost use Rattle.merge.specs.Index.{empty, homeOf, Listed, Indexed};
+use corner_list::Corner;
+use crate::cells::Grid;
+
+// The lowest of the first k places of a buffer whose corner c joins, or k: looks at each.
+fn first_joined(xs: &[f32], ys: &[f32], strengths: &[f32], g: Grid, k: usize, c: Corner) -> usize
+    ensures { λ r. ⌜ IsFirst (joinsAt g c (slices (now (xs .entry)) (now (ys .entry)) (now (strengths .entry)))) k r ⌝ }
+{
+    for i in 0..k {
+        if crate::cells::is_joined(g, c, corner_list::corner_at(xs, ys, strengths, i)) {
+            return i;
+        }
+    }
+    k
+}
+
+// Place i if it is below `low` and c joins its corner, else `low`.
+fn lower_of(xs: &[f32], ys: &[f32], strengths: &[f32], g: Grid, i: usize, low: usize, c: Corner) -> usize
+    ensures { λ r. ⌜ r ≡ cond (ltb i low && joinsAt g c (slices (now (xs .entry)) (now (ys .entry)) (now (strengths .entry))) i) i low ⌝ }
+{
+    if i < low {
+        if crate::cells::is_joined(g, c, corner_list::corner_at(xs, ys, strengths, i)) {
+            return i;
+        }
+    }
+    low
+}
+
+// The lowest place below `most` whose corner c joins of those listed from `home` on, or `most`.
+fn lowest_from(xs: &[f32], ys: &[f32], strengths: &[f32], table: &[u32], g: Grid, home: usize, most: usize, c: Corner) -> usize
+    requires { ⌜ (home ≤ length (now table)) × (most ≤ empty) ⌝ }
+    ensures { λ r. ⌜ Lowers (joinsAt g c (slices (now (xs .entry)) (now (ys .entry)) (now (strengths .entry)))) (Listed (now (table .entry)) home) most r ⌝ }
+{
+    let mut low = most;
+    for p in home..table.len() {
+        let i = table[p];
+        if i == crate::index::EMPTY {
+            return low;
+        }
+        low = lower_of(xs, ys, strengths, g, i as usize, low, c);
+    }
+    first_joined(xs, ys, strengths, g, low, c)
+}
+
+// The same of those listed from the homes of two pairs side by side, x and x + 1 across.
+fn lowest_of_two(xs: &[f32], ys: &[f32], strengths: &[f32], table: &[u32], g: Grid, x: usize, y: usize, most: usize, c: Corner) -> usize
+    requires { ⌜ (0 < length (now table)) × (most ≤ empty) × (x + 1 < 18446744073709551616) ⌝ }
+    ensures { λ r. ⌜ Lowers (joinsAt g c (slices (now (xs .entry)) (now (ys .entry)) (now (strengths .entry))))
+        (λ i. Listed (now (table .entry)) (homeOf (length (now (table .entry))) x y) i ⊎ Listed (now (table .entry)) (homeOf (length (now (table .entry))) (x + 1) y) i) most r ⌝ }
+{
+    let slots = table.len();
+    let low = lowest_from(xs, ys, strengths, table, g, crate::index::home_of(slots, x, y), most, c);
+    lowest_from(xs, ys, strengths, table, g, crate::index::home_of(slots, x + 1, y), low, c)
+}
+
+// The lowest of the first k places of a buffer whose corner c joins, or k: looks at those that the index lists near c.
+pub(crate) fn find_joined(xs: &[f32], ys: &[f32], strengths: &[f32], table: &[u32], g: Grid, k: usize, c: Corner) -> usize
+    requires { ⌜ Indexed g (now table) (slices (now xs) (now ys) (now strengths)) k ⌝ }
+    ensures { λ r. ⌜ IsFirst (joinsAt g c (slices (now (xs .entry)) (now (ys .entry)) (now (strengths .entry)))) k r ⌝ }
+{
+    if (crate::index::EMPTY as usize) < k {
+        return first_joined(xs, ys, strengths, g, k, c);
+    }
+    let x = crate::cells::column_of(g, c) / 2;
+    let y = crate::cells::row_of(g, c) / 2;
+    let low = lowest_of_two(xs, ys, strengths, table, g, x, y, k, c);
+    lowest_of_two(xs, ys, strengths, table, g, x, y + 1, low, c)
+}
