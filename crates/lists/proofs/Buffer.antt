@@ -5,7 +5,7 @@ use native.Mathlib.Omega.{arith}
 use mathlib.Core.Path.{_≡_, sym, ap, ap₂, _∙_}
 use mathlib.Core.List.{List, [], _∷_, _++_, append-assoc, append-nil}
 use lib.ListN.{length, getD, take, drop, set, replicate, length-append, length-drop, length-take, length-replicate, take-append-drop, List·getD-append}
-use lib.Seq.{take-append-seam, drop-append-add, drop-drop, drop-cons, set-at, take-at, drop-at, length-take-le, getD-take}
+use lib.Seq.{take-append-seam, drop-append-add, drop-drop, drop-cons, set-at, take-at, drop-at, take-suc, length-take-le, getD-take}
 use borrow.Rule.Slice.PartMut.{putMid}
 use native.Mathlib.Numerals.{add-one}
 use Rattle.lists.specs.Tab.{tab}
@@ -29,17 +29,6 @@ module _ {A : Type 0} where
       (ap₂ (λ (a b : List A). a ++ us ++ b) (take-append-seam vs (drop (length vs) d))
       (drop-append-add vs (drop (length vs) d) (length us) ∙ drop-drop (length us) (length vs) d ∙ ap (λ (n : ℕ). drop n d) (sym (length-append vs us))))
 
-  -- one element more behind those that stand first
-  pub front-set : (vs d : List A) (v : A) (n : ℕ) → n ≡ length vs → n < length d → set (front vs d) n v ≡ front (vs ++ (v ∷ [])) d
-  front-set vs d v n e h =
-      let m : suc n ≡ length (vs ++ (v ∷ [])) = omega (arith, length-append vs (v ∷ [])) in
-      rw (sym e, drop-cons d n v h) (set-at vs _ (drop (suc n) d) v n (sym e) ∙ ap (λ (k : ℕ). vs ++ v ∷ drop k d) m ∙ simp append-assoc)
-
-  -- and with the elements of a function
-  pub front-tab : (f : ℕ → A) (d : List A) (n : ℕ) → n < length d → set (front (tab n f) d) n (f n) ≡ front (tab (n + 1) f) d
-  unfolding tab
-  front-tab f d n h = rw (add-one n) (front-set (tab n f) d (f n) n (sym (length-tab n f)) h)
-
   -- nothing placed; placed before everything; and one element more behind those placed
   pub placed-none : (held : ℕ) (d : List A) → d ≡ placed held [] d
   placed-none held d = sym (rw (add-zero, append-nil) (take-append-drop held d))
@@ -54,6 +43,28 @@ module _ {A : Type 0} where
       let e : suc n ≡ held + length (vs ++ (v ∷ [])) = omega (arith, length-append vs (v ∷ [])) in
       rw (drop-cons d (held + length vs) v h)
       (set-at (take held d ++ vs) _ (drop (suc n) d) v n l ∙ ap (λ (k : ℕ). take held d ++ vs ++ v ∷ drop k d) e ∙ simp append-assoc)
+
+  -- the same behind those that stand first, as they are or as the elements of a function
+  pub front-set : (vs d : List A) (v : A) (n : ℕ) → n ≡ length vs → n < length d → set (front vs d) n v ≡ front (vs ++ (v ∷ [])) d
+  front-set vs d v n e h =
+      let k : n ≡ 0 + length vs = omega arith in
+      ap₂ (λ (s : List A) (i : ℕ). set s i v) (sym (placed-first vs d)) k ∙ placed-set 0 vs d v (omega arith) ∙ placed-first (vs ++ (v ∷ [])) d
+
+  pub front-tab : (f : ℕ → A) (d : List A) (n : ℕ) → n < length d → set (front (tab n f) d) n (f n) ≡ front (tab (n + 1) f) d
+  unfolding tab
+  front-tab f d n h = rw (add-one n) (front-set (tab n f) d (f n) n (sym (length-tab n f)) h)
+
+  -- one element more before those placed
+  pub placed-cons : (held : ℕ) (vs d : List A) (v : A) → held < length d → set (placed (held + 1) vs d) held v ≡ placed held (v ∷ vs) d
+  placed-cons held vs d v h =
+      let rest = drop (held + 1 + length vs) d in
+      let k : held + 1 + length vs ≡ held + suc (length vs) = omega arith in
+      let first : take (held + 1) d ≡ take held d ++ (getD d held v ∷ []) = ap (λ (i : ℕ). take i d) (add-one held) ∙ take-suc d held v h in
+      let split : take (held + 1) d ++ vs ++ rest ≡ take held d ++ getD d held v ∷ (vs ++ rest) = rw first (simp append-assoc) in
+      ap (λ (s : List A). set s held v) split
+      ∙ set-at (take held d) (getD d held v) (vs ++ rest) v held (length-take-le held d (omega arith))
+      ∙ ap (λ (i : ℕ). take held d ++ v ∷ (vs ++ drop i d)) k
+      ∙ simp append-assoc
 
   pub placed-length : (held : ℕ) (vs d : List A) → held + length vs ≤ length d → length (placed held vs d) ≡ length d
   placed-length held vs d h = simp (length-append, length-take, length-drop) (omega arith)
