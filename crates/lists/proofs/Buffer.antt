@@ -5,7 +5,7 @@ use native.Mathlib.Omega.{arith}
 use mathlib.Core.Path.{_≡_, sym, ap, ap₂, _∙_}
 use mathlib.Core.List.{List, [], _∷_, _++_, append-assoc, append-nil}
 use lib.ListN.{length, getD, take, drop, set, replicate, length-append, length-drop, length-take, length-replicate, take-append-drop, List·getD-append, length-set}
-use lib.Seq.{take-append-seam, drop-append-add, drop-drop, drop-cons, set-at, take-at, drop-at, length-take-le, getD-take, getD-append-add, getD-drop, set-append-left}
+use lib.Seq.{take-append-seam, drop-append-add, drop-drop, drop-cons, set-at, take-at, drop-at, take-suc, length-take-le, getD-take, getD-append-add, getD-drop, set-append-left}
 use borrow.Rule.Slice.PartMut.{putMid}
 use native.Mathlib.Numerals.{add-one}
 use Rattle.lists.specs.Tab.{tab}
@@ -82,6 +82,18 @@ module _ {A : Type 0} where
   pub front-tab : (f : ℕ → A) (d : List A) (n : ℕ) → n < length d → set (front (tab n f) d) n (f n) ≡ front (tab (n + 1) f) d
   unfolding tab
   front-tab f d n h = rw (add-one n) (front-next (tab n f) d n (f n) (sym (length-tab n f)) h)
+
+  -- one element more before those placed
+  pub placed-cons : (held : ℕ) (vs d : List A) (v : A) → held < length d → set (placed (held + 1) vs d) held v ≡ placed held (v ∷ vs) d
+  placed-cons held vs d v h =
+      let rest = drop (held + 1 + length vs) d in
+      let k : held + 1 + length vs ≡ held + suc (length vs) = omega arith in
+      let first : take (held + 1) d ≡ take held d ++ (getD d held v ∷ []) = ap (λ (i : ℕ). take i d) (add-one held) ∙ take-suc d held v h in
+      let split : take (held + 1) d ++ vs ++ rest ≡ take held d ++ getD d held v ∷ (vs ++ rest) = rw first (simp append-assoc) in
+      ap (λ (s : List A). set s held v) split
+      ∙ set-at (take held d) (getD d held v) (vs ++ rest) v held (length-take-le held d (omega arith))
+      ∙ ap (λ (i : ℕ). take held d ++ v ∷ (vs ++ drop i d)) k
+      ∙ simp append-assoc
 
   pub placed-length : (held : ℕ) (vs d : List A) → held + length vs ≤ length d → length (placed held vs d) ≡ length d
   placed-length held vs d h = simp (length-append, length-take, length-drop) (omega arith)

@@ -132,7 +132,7 @@ pairs-both g c o e =
     (pairs-near (columnOf g c) (columnOf g o) (w .0), pairs-near (rowOf g c) (rowOf g o) (w .1))
 
 module _ (g : Grid) (table : List ℕ) (b : Slices) (k : ℕ) (index : Indexed g table b k) (c : Corner) (x y : ℕ)
-  (ex : x ≡ columnOf g c / 2) (ey : y ≡ rowOf g c / 2) where
+    (ex : x ≡ columnOf g c / 2) (ey : y ≡ rowOf g c / 2) where
   abbrev At : ℕ → ℕ → ℕ → Type 0
   At u v i = Listed table (homeOf (length table) u v) i
 

@@ -6,8 +6,8 @@ ghost use mathlib.Core.Path.{_≡_};
 ghost use Prim.Native.Nat.{_<_, _≤_};
 ghost use lib.ListN.{length};
 ghost use Rattle.merge.specs.Index.{pairOf, homeOf, homeAt, SlotFor, Lists};
-use corner_list::Corner;
 use crate::cells::Grid;
+use corner_list::Corner;
 
 // What an empty slot holds.
 pub(crate) const EMPTY: u32 = 4294967295;

@@ -8,8 +8,8 @@ ghost use lib.Dec.{ltb};
 ghost use Rattle.corner_list.specs.CornerList.{slices};
 ghost use Rattle.merge.specs.Search.{joinsAt, IsFirst, Lowers};
 ghost use Rattle.merge.specs.Index.{empty, homeOf, Listed, Indexed};
-use corner_list::Corner;
 use crate::cells::Grid;
+use corner_list::Corner;
 
 // The lowest of the first k places of a buffer whose corner c joins, or k: looks at each.
 fn first_joined(xs: &[f32], ys: &[f32], strengths: &[f32], g: Grid, k: usize, c: Corner) -> usize
@@ -24,7 +24,15 @@ fn first_joined(xs: &[f32], ys: &[f32], strengths: &[f32], g: Grid, k: usize, c:
 }
 
 // Place i if it is below `low` and c joins its corner, else `low`.
-fn lower_of(xs: &[f32], ys: &[f32], strengths: &[f32], g: Grid, i: usize, low: usize, c: Corner) -> usize
+fn lower_of(
+    xs: &[f32],
+    ys: &[f32],
+    strengths: &[f32],
+    g: Grid,
+    i: usize,
+    low: usize,
+    c: Corner,
+) -> usize
     ensures { λ r. ⌜ r ≡ cond (ltb i low && joinsAt g c (slices (now (xs .entry)) (now (ys .entry)) (now (strengths .entry))) i) i low ⌝ }
 {
     if i < low {
@@ -36,7 +44,16 @@ fn lower_of(xs: &[f32], ys: &[f32], strengths: &[f32], g: Grid, i: usize, low: u
 }
 
 // The lowest place below `most` whose corner c joins of those listed from `home` on, or `most`.
-fn lowest_from(xs: &[f32], ys: &[f32], strengths: &[f32], table: &[u32], g: Grid, home: usize, most: usize, c: Corner) -> usize
+fn lowest_from(
+    xs: &[f32],
+    ys: &[f32],
+    strengths: &[f32],
+    table: &[u32],
+    g: Grid,
+    home: usize,
+    most: usize,
+    c: Corner,
+) -> usize
     requires { ⌜ (home ≤ length (now table)) × (most ≤ empty) ⌝ }
     ensures { λ r. ⌜ Lowers (joinsAt g c (slices (now (xs .entry)) (now (ys .entry)) (now (strengths .entry)))) (Listed (now (table .entry)) home) most r ⌝ }
 {
@@ -52,18 +69,54 @@ fn lowest_from(xs: &[f32], ys: &[f32], strengths: &[f32], table: &[u32], g: Grid
 }
 
 // The same of those listed from the homes of two pairs side by side, x and x + 1 across.
-fn lowest_of_two(xs: &[f32], ys: &[f32], strengths: &[f32], table: &[u32], g: Grid, x: usize, y: usize, most: usize, c: Corner) -> usize
+fn lowest_of_two(
+    xs: &[f32],
+    ys: &[f32],
+    strengths: &[f32],
+    table: &[u32],
+    g: Grid,
+    x: usize,
+    y: usize,
+    most: usize,
+    c: Corner,
+) -> usize
     requires { ⌜ (0 < length (now table)) × (most ≤ empty) × (x + 1 < 18446744073709551616) ⌝ }
     ensures { λ r. ⌜ Lowers (joinsAt g c (slices (now (xs .entry)) (now (ys .entry)) (now (strengths .entry))))
         (λ i. Listed (now (table .entry)) (homeOf (length (now (table .entry))) x y) i ⊎ Listed (now (table .entry)) (homeOf (length (now (table .entry))) (x + 1) y) i) most r ⌝ }
 {
     let slots = table.len();
-    let low = lowest_from(xs, ys, strengths, table, g, crate::index::home_of(slots, x, y), most, c);
-    lowest_from(xs, ys, strengths, table, g, crate::index::home_of(slots, x + 1, y), low, c)
+    let low = lowest_from(
+        xs,
+        ys,
+        strengths,
+        table,
+        g,
+        crate::index::home_of(slots, x, y),
+        most,
+        c,
+    );
+    lowest_from(
+        xs,
+        ys,
+        strengths,
+        table,
+        g,
+        crate::index::home_of(slots, x + 1, y),
+        low,
+        c,
+    )
 }
 
 // The lowest of the first k places of a buffer whose corner c joins, or k: looks at those that the index lists near c.
-pub(crate) fn find_joined(xs: &[f32], ys: &[f32], strengths: &[f32], table: &[u32], g: Grid, k: usize, c: Corner) -> usize
+pub(crate) fn find_joined(
+    xs: &[f32],
+    ys: &[f32],
+    strengths: &[f32],
+    table: &[u32],
+    g: Grid,
+    k: usize,
+    c: Corner,
+) -> usize
     requires { ⌜ Indexed g (now table) (slices (now xs) (now ys) (now strengths)) k ⌝ }
     ensures { λ r. ⌜ IsFirst (joinsAt g c (slices (now (xs .entry)) (now (ys .entry)) (now (strengths .entry)))) k r ⌝ }
 {

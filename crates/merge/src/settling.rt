@@ -7,11 +7,19 @@ ghost use Rattle.corner_list.specs.CornerList.{slices, cornersOf, placesOf, wit
 ghost use Rattle.merge.specs.Merge.{joins, merged};
 ghost use Rattle.merge.specs.Search.{Settled, Left};
 ghost use Rattle.merge.specs.Index.{homeAt, Lists, Indexed};
-use corner_list::Corner;
 use crate::cells::Grid;
+use corner_list::Corner;
 
 // Puts c at a place of a buffer, and lists it.
-fn put_listed(xs: &mut [f32], ys: &mut [f32], strengths: &mut [f32], table: &mut [u32], g: Grid, at: usize, c: Corner)
+fn put_listed(
+    xs: &mut [f32],
+    ys: &mut [f32],
+    strengths: &mut [f32],
+    table: &mut [u32],
+    g: Grid,
+    at: usize,
+    c: Corner,
+)
     requires { ⌜ 0 < length (now table) ⌝ }
     ensures { λ _. ⌜ slices (now (xs .exit)) (now (ys .exit)) (now (strengths .exit)) ≡ withCorner at c (slices (now (xs .entry)) (now (ys .entry)) (now (strengths .entry))) ⌝ }
     ensures { λ _. ⌜ Lists (now (table .entry)) (homeAt g (length (now (table .entry))) c) at (now (table .exit)) ⌝ }
@@ -22,7 +30,15 @@ fn put_listed(xs: &mut [f32], ys: &mut [f32], strengths: &mut [f32], table: &mut
 }
 
 // Settles c among the first k corners of a buffer, which are indexed, and returns how many there are then.
-fn settle_in(xs: &mut [f32], ys: &mut [f32], strengths: &mut [f32], table: &mut [u32], g: Grid, k: usize, c: Corner) -> usize
+fn settle_in(
+    xs: &mut [f32],
+    ys: &mut [f32],
+    strengths: &mut [f32],
+    table: &mut [u32],
+    g: Grid,
+    k: usize,
+    c: Corner,
+) -> usize
     requires { ⌜ k < placesOf (slices (now xs) (now ys) (now strengths)) ⌝ }
     requires { ⌜ Indexed g (now table) (slices (now xs) (now ys) (now strengths)) k ⌝ }
     ensures { λ n. ⌜ Settled (joins g) k c (slices (now (xs .entry)) (now (ys .entry)) (now (strengths .entry))) n
@@ -43,7 +59,14 @@ fn settle_in(xs: &mut [f32], ys: &mut [f32], strengths: &mut [f32], table: &mut 
 }
 
 // Merges the first n corners of a buffer in place, with a table for their index, and returns how many are left.
-fn merge_with(xs: &mut [f32], ys: &mut [f32], strengths: &mut [f32], table: &mut [u32], g: Grid, n: usize) -> usize
+fn merge_with(
+    xs: &mut [f32],
+    ys: &mut [f32],
+    strengths: &mut [f32],
+    table: &mut [u32],
+    g: Grid,
+    n: usize,
+) -> usize
     requires { ⌜ n ≤ placesOf (slices (now xs) (now ys) (now strengths)) ⌝ }
     requires { ⌜ 0 < length (now table) ⌝ }
     ensures { λ k. ⌜ Left (merged (joins g) [] (cornersOf (slices (now (xs .entry)) (now (ys .entry)) (now (strengths .entry))) n))
@@ -58,7 +81,13 @@ fn merge_with(xs: &mut [f32], ys: &mut [f32], strengths: &mut [f32], table: &mut
 }
 
 // Merges the first n corners of a buffer in place, and returns how many are left.
-pub(crate) fn merge_in(xs: &mut [f32], ys: &mut [f32], strengths: &mut [f32], g: Grid, n: usize) -> usize
+pub(crate) fn merge_in(
+    xs: &mut [f32],
+    ys: &mut [f32],
+    strengths: &mut [f32],
+    g: Grid,
+    n: usize,
+) -> usize
     requires { ⌜ n ≤ placesOf (slices (now xs) (now ys) (now strengths)) ⌝ }
     ensures { λ k. ⌜ Left (merged (joins g) [] (cornersOf (slices (now (xs .entry)) (now (ys .entry)) (now (strengths .entry))) n))
         (slices (now (xs .entry)) (now (ys .entry)) (now (strengths .entry))) k (slices (now (xs .exit)) (now (ys .exit)) (now (strengths .exit))) ⌝ }

@@ -41,9 +41,11 @@ loop-again c =
     let settled = c .before .before .before .before .before .before .before .before in
     let read = settled .before .before .before .before .before in
     let turn = read .before .before .before .before in
-    let inv = turn .before .loop .inv in
-    (progress-turn _ _ _ (turn .before .before .before .before .before .before .pre .0) _ _ _ (inv .0) _ _ _ (turn .loop-test .taken) (read .corner-at .ensures) (settled .settle-in .ensures .0),
-    settled .settle-in .ensures .1, settled .settle-in .kept .1 .1 .1 .0 ∙ inv .2)
+    let inv = turn .before .loop .inv in (
+      progress-turn _ _ _ (turn .before .before .before .before .before .before .pre .0) _ _ _ (inv .0) _ _ _ (turn .loop-test .taken) (read .corner-at .ensures) (settled .settle-in .ensures .0),
+      settled .settle-in .ensures .1,
+      settled .settle-in .kept .1 .1 .1 .0 ∙ inv .2,
+    )
 
 same-length : tie.Need-same-length Inv-loop μ-loop
 same-length c =

@@ -31,9 +31,10 @@ returns : tie.Need-returns
 returns c =
     let put = c .before .before .before .before .before .before .before .before in
     let found = put .before .before .before .before .before .before in
-    let pre = found .before .before .before .before .before .before .before .before .before .pre in
-    (settled-new _ _ _ _ (pre .0) _ (found .find-joined .ensures) (put .before .before .before .before .before .if1 .taken) _ (put .put-listed .ensures .0),
-    indexed-put _ _ _ _ (pre .1) _ _ (pre .0) _ _ (put .put-listed .ensures .0) (put .put-listed .ensures .1) _ (λ i l e. omega arith))
+    let pre = found .before .before .before .before .before .before .before .before .before .pre in (
+      settled-new _ _ _ _ (pre .0) _ (found .find-joined .ensures) (put .before .before .before .before .before .if1 .taken) _ (put .put-listed .ensures .0),
+      indexed-put _ _ _ _ (pre .1) _ _ (pre .0) _ _ (put .put-listed .ensures .0) (put .put-listed .ensures .1) _ (λ i l e. omega arith),
+    )
 
 corner-at-requires : tie.Need-corner-at-requires
 corner-at-requires c κs = search needs
@@ -58,9 +59,10 @@ returns-2 c =
     let put = c .before .before .before .before .before .before .before .before in
     let read = put .before .before .before .before .before .before .before .before in
     let found = read .before .before .before .before .before in
-    let pre = found .before .before .before .before .before .before .before .before .before .pre in
-    (settled-stronger _ _ _ _ (pre .0) _ (found .find-joined .ensures) (read .before .before .before .before .if1 .left) _ (read .corner-at .ensures) (put .before .before .before .before .before .if2 .taken) _ (put .put-listed2 .ensures .0),
-    indexed-put _ _ _ _ (pre .1) _ _ (omega (arith, pre .0)) _ _ (put .put-listed2 .ensures .0) (put .put-listed2 .ensures .1) _ (λ i l e. l))
+    let pre = found .before .before .before .before .before .before .before .before .before .pre in (
+      settled-stronger _ _ _ _ (pre .0) _ (found .find-joined .ensures) (read .before .before .before .before .if1 .left) _ (read .corner-at .ensures) (put .before .before .before .before .before .if2 .taken) _ (put .put-listed2 .ensures .0),
+      indexed-put _ _ _ _ (pre .1) _ _ (omega (arith, pre .0)) _ _ (put .put-listed2 .ensures .0) (put .put-listed2 .ensures .1) _ (λ i l e. l),
+    )
 
 same-length-9 : tie.Need-same-length-9
 same-length-9 c = search needs

@@ -1,0 +1,40 @@
+-- The whole case of document 01, "corners 1" and "1280 1280 40a00000 40a00000 44fe0000", computed from the definition. Assumes nothing.
+use Prim.Native.Nat.{ℕ, _-_, _^_}
+use mathlib.Core.Bool.{false}
+use mathlib.Core.Path.{_≡_, refl}
+use mathlib.Core.List.{List, [], _∷_, _++_}
+use lib.Ieee.{nan, inf, binary32, ofBits, toBits, toUnsigned, mul}
+use Rattle.corner_list.specs.declared.Corner.{Corner}
+use Rattle.listing.specs.Text.{digitOf, digits, places, decimal, hexadecimal, unitsOf, cornersText, refusedText}
+
+-- 5, 5 and 2032
+abbrev centre : Corner
+centre = record { x = ofBits binary32 0x40a0_0000; y = ofBits binary32 0x40a0_0000; strength = ofBits binary32 0x44fe_0000 }
+
+abbrev text : List ℕ
+text =
+    (99 ∷ 111 ∷ 114 ∷ 110 ∷ 101 ∷ 114 ∷ 115 ∷ 32 ∷ 49 ∷ 10 ∷ [])
+    ++ (49 ∷ 50 ∷ 56 ∷ 48 ∷ 32 ∷ [])
+    ++ (49 ∷ 50 ∷ 56 ∷ 48 ∷ 32 ∷ [])
+    ++ (52 ∷ 48 ∷ 97 ∷ 48 ∷ 48 ∷ 48 ∷ 48 ∷ 48 ∷ 32 ∷ [])
+    ++ (52 ∷ 48 ∷ 97 ∷ 48 ∷ 48 ∷ 48 ∷ 48 ∷ 48 ∷ 32 ∷ [])
+    ++ (52 ∷ 52 ∷ 102 ∷ 101 ∷ 48 ∷ 48 ∷ 48 ∷ 48 ∷ 10 ∷ [])
+
+pub whole-case : cornersText (centre ∷ []) ≡ text
+unfolding cornersText unitsOf decimal hexadecimal toBits toUnsigned ofBits mul
+whole-case = refl
+
+-- numbers: 0 has a digit too, and letters are small
+pub numbers : (decimal 0 ≡ 48 ∷ []) × (decimal 10 ≡ 49 ∷ 48 ∷ []) × (hexadecimal 171 ≡ 48 ∷ 48 ∷ 48 ∷ 48 ∷ 48 ∷ 48 ∷ 97 ∷ 98 ∷ [])
+unfolding decimal hexadecimal
+numbers = (refl, refl, refl)
+
+-- a NaN, infinities and negatives
+pub edges : (unitsOf nan ≡ 0) × (unitsOf (inf false) ≡ 2 ^ 64 - 1) × (unitsOf (ofBits binary32 0xbf80_0000) ≡ 0) × (toBits binary32 nan ≡ 0x7fc0_0000)
+unfolding unitsOf toBits toUnsigned ofBits mul
+edges = (refl, refl, refl, refl)
+
+-- "refused 11"
+pub refusal : refusedText 11 ≡ 114 ∷ 101 ∷ 102 ∷ 117 ∷ 115 ∷ 101 ∷ 100 ∷ 32 ∷ 49 ∷ 49 ∷ 10 ∷ []
+unfolding refusedText decimal
+refusal = refl

@@ -1,0 +1,5 @@
+pub mod Numbers
+pub mod Appending
+pub mod Lines
+pub mod Texts
+pub mod Case

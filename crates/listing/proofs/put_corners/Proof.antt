@@ -1,0 +1,80 @@
+-- `listing::put_corners` meets its contract. The invariant: the lines of the corners passed are written. Assumes nothing.
+use Prim.Native.Nat.{_-_}
+use native.Mathlib.Omega.{arith}
+use mathlib.Core.Path.{refl, _∙_}
+use lib.ListN.{length}
+use Rattle.corner_list.specs.CornerList.{slices, cornerAt}
+use Rattle.listing.proofs.Appending.{wrote-length}
+use Rattle.listing.proofs.Texts.{Lines, lines-none, lines-next, lines-all}
+use borrow.Author.Needs.{needs}
+use Rattle.listing.proofs.put_corners.Statement.{statement}
+use Rattle.listing.proofs.put_corners.Tie as tie
+
+abbrev Inv-loop : tie.InvT-loop
+Inv-loop xs ys strengths count out₀ at₀ i₀ out at i = Lines (cornerAt (slices xs ys strengths)) count at₀ out₀ i at out
+
+abbrev μ-loop : tie.MeasureT-loop
+μ-loop xs ys strengths count out₀ at₀ i₀ out at i = count - i
+
+slice-aggregate-put-heading : tie.Need-slice-aggregate-put-heading Inv-loop μ-loop
+slice-aggregate-put-heading c = refl
+
+put-heading-requires : tie.Need-put-heading-requires Inv-loop μ-loop
+put-heading-requires c κs = omega (arith, c .before .before .before .before .before .before .pre .1)
+
+loop-holds : tie.Need-loop-holds Inv-loop μ-loop
+loop-holds c =
+    let heading = c .before .before in
+    let start = heading .before .before .before .before .before .before .before in
+    let a = start .args in
+    lines-none (cornerAt (slices (a .xs .now) (a .ys .now) (a .strengths .now))) (a .count) (heading .put-heading .result) (a .out .now) (heading .put-heading .last .0) (start .pre .0) (start .pre .1) (heading .put-heading .ensures)
+
+corner-at-requires : tie.Need-corner-at-requires Inv-loop μ-loop
+corner-at-requires c κs = search needs
+
+put-line-requires : tie.Need-put-line-requires Inv-loop μ-loop
+put-line-requires c κs = omega (arith, c .before .before .before .loop .inv .left, c .before .before .loop-test .taken)
+
+add-i : tie.Need-add-i Inv-loop μ-loop
+add-i c = omega (arith, c .before .before .before .before .before .loop-test .taken)
+
+loop-less : tie.Need-loop-less Inv-loop μ-loop
+loop-less c = omega (arith, c .before .before .before .before .before .loop-test .taken)
+
+loop-again : tie.Need-loop-again Inv-loop μ-loop
+loop-again c =
+    let line = c .before .before in
+    let corner = line .before .before in
+    let at = corner .before .before in
+    let heading = at .before .before .before in
+    let a = heading .before .before .before .before .before .before .before .args in
+    lines-next (cornerAt (slices (a .xs .now) (a .ys .now) (a .strengths .now))) (a .count) (heading .put-heading .result) (heading .put-heading .last .0) (at .loop .i) (at .loop .at) (at .loop .out) (at .loop .inv)
+    (line .put-line .result) (line .put-line .last .0) (corner .corner-at .result) (corner .before .loop-test .taken) (corner .corner-at .ensures) (line .put-line .ensures)
+
+same-length : tie.Need-same-length Inv-loop μ-loop
+same-length c = wrote-length (c .before .loop .inv .wrote) ∙ wrote-length (c .before .before .before .before .put-heading .ensures)
+
+returns : tie.Need-returns Inv-loop μ-loop
+returns c =
+    let at = c .before in
+    let heading = at .before .before .before in
+    let a = heading .before .before .before .before .before .before .before .args in
+    lines-all (cornerAt (slices (a .xs .now) (a .ys .now) (a .strengths .now))) (a .count) (heading .put-heading .result) (heading .put-heading .last .0) (at .loop .i) (at .loop .at) (at .loop .out) (at .loop .inv)
+    (c .loop-test .left) (a .out .now) (heading .put-heading .ensures)
+
+pub put-corners-spec : {M : Type 1} → statement M
+put-corners-spec =
+    tie.close
+    (tie.spec
+    Inv-loop
+    μ-loop
+    slice-aggregate-put-heading
+    put-heading-requires
+    loop-holds
+    corner-at-requires
+    put-line-requires
+    add-i
+    loop-less
+    loop-again
+    same-length
+    returns)

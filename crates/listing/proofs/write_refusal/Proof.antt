@@ -1,0 +1,21 @@
+-- `listing::write_refusal` meets its contract. Assumes nothing.
+use Rattle.listing.specs.Text.{refusedText}
+use Rattle.listing.proofs.Texts.{wrote-first}
+use borrow.Author.Needs.{needs}
+use Rattle.listing.proofs.write_refusal.Statement.{statement}
+use Rattle.listing.proofs.write_refusal.Tie as tie
+
+slice-aggregate-put-heading : tie.Need-slice-aggregate-put-heading
+slice-aggregate-put-heading c = search needs
+
+put-heading-requires : tie.Need-put-heading-requires
+put-heading-requires c κs = search needs
+
+returns : tie.Need-returns
+unfolding refusedText
+returns c =
+    let is = wrote-first (c .put-heading .ensures) in
+    record { long = is .0; text = is .1 }
+
+pub write-refusal-spec : {M : Type 1} → statement M
+write-refusal-spec = tie.close (tie.spec slice-aggregate-put-heading put-heading-requires returns)

@@ -1,0 +1,84 @@
+-- The text of a corner list (document 01, "The added stream and listing"), as a list of bytes.
+use Prim.Native.Nat.{ℕ, zero, suc, _+_, _/_, _%_}
+use mathlib.Core.Bool.{false, cond}
+use mathlib.Core.List.{List, [], _∷_, _++_}
+use lib.ListN.{length}
+use lib.Dec.{ltb}
+use lib.IntN.{pos}
+use lib.Ieee.{Float, fin, binary32, mul, toUnsigned, toBits}
+use Rattle.lists.specs.Places.{flatMap}
+use Rattle.corner_list.specs.declared.Corner.{Corner}
+
+-- ---- numbers
+
+-- the character of a digit: 0 to 9, then a to f
+unfoldable pub digitOf : ℕ → ℕ
+digitOf d = cond (ltb d 10) (48 + d) (87 + d)
+
+-- the last k digits of n to a base, the highest first
+unfoldable pub digits : ℕ → ℕ → ℕ → List ℕ
+unfolding digitOf
+digits base zero n = []
+digits base (suc k) n = digits base k (n / base) ++ (digitOf (n % base) ∷ [])
+
+-- how many decimal digits n has: one, and one more for each division by 10 that it stands; n itself is enough for their number
+unfoldable pub places : ℕ → ℕ → ℕ
+places zero n = 1
+places (suc most) n = cond (ltb n 10) 1 (suc (places most (n / 10)))
+
+unfoldable pub decimal : ℕ → List ℕ
+unfolding digits places
+decimal n = digits 10 (places n n) n
+
+-- "eight hexadecimal digits"
+unfoldable pub hexadecimal : ℕ → List ℕ
+unfolding digits
+hexadecimal n = digits 16 8 n
+
+-- ---- lines
+abbrev pub space : ℕ
+space = 32
+
+abbrev pub newline : ℕ
+newline = 10
+
+-- "in 256ths of a pixel, cut off"
+unfoldable pub unitsOf : Float → ℕ
+unitsOf x = toUnsigned 64 (mul binary32 x (fin false 1 (pos 8)))
+
+-- "x and y in 256ths of a pixel, cut off, then x, y and strength as eight hexadecimal digits of their bits"
+abbrev pub columns : Corner → List (List ℕ)
+columns c =
+    decimal (unitsOf (c .x))
+    ∷ decimal (unitsOf (c .y))
+    ∷ hexadecimal (toBits binary32 (c .x))
+    ∷ hexadecimal (toBits binary32 (c .y))
+    ∷ hexadecimal (toBits binary32 (c .strength))
+    ∷ []
+
+-- columns with a space between them, and a newline behind the last
+abbrev pub line : List (List ℕ) → List ℕ
+line [] = newline ∷ []
+line (column ∷ []) = column ++ (newline ∷ [])
+line (column ∷ next ∷ more) = (column ++ (space ∷ [])) ++ line (next ∷ more)
+
+-- ---- texts
+
+-- "corners " and "refused "
+abbrev pub corners : List ℕ
+corners = 99 ∷ 111 ∷ 114 ∷ 110 ∷ 101 ∷ 114 ∷ 115 ∷ 32 ∷ []
+
+abbrev pub refused : List ℕ
+refused = 114 ∷ 101 ∷ 102 ∷ 117 ∷ 115 ∷ 101 ∷ 100 ∷ 32 ∷ []
+
+-- a word and a number
+abbrev pub heading : List ℕ → ℕ → List ℕ
+heading word n = word ++ (decimal n ++ (newline ∷ []))
+
+-- "prints `corners N`, then a line for each corner"
+unfoldable pub cornersText : List Corner → List ℕ
+cornersText cs = heading corners (length cs) ++ flatMap (λ c. line (columns c)) cs
+
+-- "A refused stream prints `refused N` alone"
+unfoldable pub refusedText : ℕ → List ℕ
+refusedText n = heading refused n
