@@ -1,0 +1,4 @@
+//! Stub module over the three original files.
+pub mod detect;
+pub mod response;
+pub mod ring;

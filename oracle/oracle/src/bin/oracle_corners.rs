@@ -1,0 +1,86 @@
+//! oracle_corners [OPTIONS] < STREAM: what `corners` must print.
+//!   --state                               then what each buffer holds afterwards, as `corners` would leave it
+//!   --exact                               instead the list of the pass by exact values
+//!   --side N                              the largest side (96)
+//!   --buffers MAP LEVELS SEEDS CORNERS    the buffers' lengths (9216 3072 512 512)
+use oracle::buffers::{byte_front, float_front, Buffers, CornerBuffer, Rest, Sizes};
+use oracle::exact::EXACT;
+use oracle::frame::corners_of;
+use oracle::listing::{listing, refused};
+use oracle::numbers::bits;
+use oracle::program::{Program, CORNERS};
+use oracle::stream::read;
+use std::io::Read;
+
+struct Options {
+    program: Program,
+    state: bool,
+    exact: bool,
+}
+
+fn options() -> Options {
+    let mut options = Options { program: CORNERS, state: false, exact: false };
+    let mut words = std::env::args().skip(1);
+    while let Some(word) = words.next() {
+        let mut number = || words.next().and_then(|w| w.parse().ok()).expect("a number");
+        match word.as_str() {
+            "--state" => options.state = true,
+            "--exact" => options.exact = true,
+            "--side" => options.program.largest_side = number(),
+            "--buffers" => {
+                let (map, levels) = (number(), number());
+                let (seeds, corners) = ([number(); 3], [number(); 3]);
+                options.program.sizes = Sizes { map, levels, seeds, corners };
+            }
+            _ => panic!("unknown option {word}"),
+        }
+    }
+    options
+}
+
+fn show(name: &str, length: usize, front: Vec<String>, rest: Rest) {
+    let rest = match rest {
+        Rest::Zero => "zero",
+        Rest::AsBefore => "as before",
+    };
+    println!("{name}: {} of {length}: {} then {rest}", front.len(), front.join(" "));
+}
+
+fn show_floats(name: &str, before: &[f32], after: &[f32]) {
+    let (front, rest) = float_front(before, after);
+    let digits = front.iter().map(|&v| format!("{:08x}", bits(v))).collect();
+    show(name, after.len(), digits, rest);
+}
+
+fn show_list(name: &str, before: &CornerBuffer, after: &CornerBuffer) {
+    show_floats(&format!("{name} x"), &before.x, &after.x);
+    show_floats(&format!("{name} y"), &before.y, &after.y);
+    show_floats(&format!("{name} strength"), &before.strength, &after.strength);
+}
+
+fn show_state(before: &Buffers, after: &Buffers) {
+    show_floats("map", &before.map, &after.map);
+    let (front, rest) = byte_front(&before.levels, &after.levels);
+    let digits = front.iter().map(|v| format!("{v:02x}")).collect();
+    show("levels", after.levels.len(), digits, rest);
+    show_list("seeds", &before.seeds, &after.seeds);
+    show_list("corners", &before.corners, &after.corners);
+}
+
+fn main() {
+    let options = options();
+    let mut stream = Vec::new();
+    std::io::stdin().read_to_end(&mut stream).expect("standard input");
+    if options.exact {
+        match read(&stream, options.program.largest_side) {
+            Ok(u) => print!("{}", listing(&corners_of(u.image(), &u.params, &EXACT))),
+            Err(number) => print!("{}", refused(number)),
+        }
+        return;
+    }
+    print!("{}", options.program.print(&stream));
+    if options.state {
+        let before = Buffers::before(&options.program.sizes);
+        show_state(&before, &options.program.run(&stream).1);
+    }
+}

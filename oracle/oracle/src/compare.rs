@@ -1,0 +1,57 @@
+//! Holds another implementation of `corners` to the oracle, stream by stream.
+use crate::generate::frames::{damaged_stream, random_stream};
+use crate::generate::{hunted, refused_streams};
+use crate::program::corners;
+use crate::stream::write;
+use crate::tally::Tally;
+use std::fs;
+use std::path::Path;
+
+/// A stream and a name for the file that keeps it where the answers differ.
+pub struct Case {
+    pub name: String,
+    pub stream: Vec<u8>,
+}
+
+/// `count` random streams, a fifth as many damaged ones, and the fixed ones: hunted frames and each refusal.
+pub fn cases(count: u64, seed: u64) -> impl Iterator<Item = Case> {
+    let random = (0..count)
+        .map(move |case| Case { name: format!("random-{seed}-{case}"), stream: random_stream(seed, case) });
+    let damaged = (0..count / 5)
+        .map(move |case| Case { name: format!("damaged-{seed}-{case}"), stream: damaged_stream(seed, case) });
+    let found = hunted::FOUND.into_iter().map(|(road, number)| Case {
+        name: format!("hunted-{road:?}-{number}"),
+        stream: write(&road.frame(number)),
+    });
+    let refused = refused_streams::cases()
+        .into_iter()
+        .enumerate()
+        .map(|(case, r)| Case { name: format!("refusal-{case}"), stream: r.stream });
+    random.chain(damaged).chain(found).chain(refused)
+}
+
+/// Runs `answer` on every case. A differing stream is left in `folder` as NAME.in, with NAME.due and NAME.got.
+pub fn run(
+    cases: impl Iterator<Item = Case>,
+    folder: &Path,
+    mut answer: impl FnMut(&[u8]) -> Vec<u8>,
+) -> Tally {
+    let mut tally = Tally::default();
+    for case in cases {
+        let due = corners(&case.stream).into_bytes();
+        let got = answer(&case.stream);
+        if got != due {
+            keep(folder, &case, &due, &got);
+        }
+        tally.check(&case.name, got == due);
+    }
+    tally
+}
+
+fn keep(folder: &Path, case: &Case, due: &[u8], got: &[u8]) {
+    fs::create_dir_all(folder).expect("a folder for differing streams");
+    for (ending, bytes) in [("in", &case.stream[..]), ("due", due), ("got", got)] {
+        let file = folder.join(format!("{}.{ending}", case.name));
+        fs::write(file, bytes).expect("a file for a differing stream");
+    }
+}

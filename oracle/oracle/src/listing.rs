@@ -1,0 +1,32 @@
+//! The text of a corner list.
+use crate::numbers::bits;
+use crate::refusal::Refusal;
+use crate::Corner;
+
+/// "256ths of a pixel, cut off": the product is exact.
+fn in_256ths(coordinate: f32) -> i64 {
+    (coordinate * 256.0) as i64
+}
+
+/// One corner's line.
+fn line(c: &Corner) -> String {
+    format!(
+        "{} {} {:08x} {:08x} {:08x}\n",
+        in_256ths(c.x),
+        in_256ths(c.y),
+        bits(c.x),
+        bits(c.y),
+        bits(c.strength)
+    )
+}
+
+/// The listing of a finished frame.
+pub fn listing(list: &[Corner]) -> String {
+    let lines: String = list.iter().map(line).collect();
+    format!("corners {}\n{lines}", list.len())
+}
+
+/// What a refused stream prints.
+pub fn refused(number: Refusal) -> String {
+    format!("refused {number}\n")
+}

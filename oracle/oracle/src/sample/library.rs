@@ -1,0 +1,114 @@
+//! Frames of the library: buffers of every size, and what each holds afterwards.
+use super::file::{kind, Body, File};
+use crate::buffers::{Buffers, Sizes};
+use crate::frame::{find_corners, with_lists};
+use crate::generate::frames::{frame, Shape};
+use crate::generate::refused_frames::{self, Case};
+use crate::generate::{images, Rng};
+use crate::image::Image;
+use crate::params::{Params, PLAIN};
+use crate::pass::STEPS;
+use crate::pyramid::{levels_of, pixels_above};
+use crate::refusal::{number_of, LARGEST_SIDE};
+use box_image_pyramid::PyramidBuffers;
+
+const SUBJECT: u64 = 102;
+const RANDOM: u64 = 200;
+
+fn put(file: &mut File, case: &Case) {
+    let p = &case.params;
+    let before = Buffers::before(&case.sizes);
+    let mut after = before.clone();
+    let image = Image { pixels: &case.pixels, width: case.width, height: case.height };
+    let answer = find_corners(image, p, &mut after, LARGEST_SIDE);
+    let mut body = Body::default();
+    body.words(&[case.width, case.height, p.ring as usize]).float(p.threshold);
+    body.words(&[p.window as usize, p.least as usize, p.centroid as usize]).float(p.merge);
+    body.words(&[p.levels as usize, p.minimum as usize, p.search as usize]);
+    body.bytes(&case.pixels);
+    body.words(&[case.sizes.map, case.sizes.levels]);
+    body.words(&case.sizes.seeds).words(&case.sizes.corners);
+    body.words(&[number_of(&answer) as usize, answer.unwrap_or(0)]);
+    body.float_buffer(&before.map, &after.map);
+    body.byte_buffer(&before.levels, &after.levels);
+    for (before, after) in [(&before.seeds, &after.seeds), (&before.corners, &after.corners)] {
+        body.float_buffer(&before.x, &after.x);
+        body.float_buffer(&before.y, &after.y);
+        body.float_buffer(&before.strength, &after.strength);
+    }
+    file.record(kind::LIBRARY_FRAME, number_of(&answer), &body);
+}
+
+/// The buffers that a frame just needs.
+fn needed(image: Image, params: &Params) -> Sizes {
+    let mut scratch = PyramidBuffers::new();
+    let levels = pixels_above(&levels_of(image, params, &mut scratch)).len();
+    with_lists(image, params, &STEPS, |lists| Sizes {
+        map: image.width * image.height,
+        levels,
+        seeds: [lists.seeds.len(); 3],
+        corners: [lists.found.len(); 3],
+    })
+}
+
+/// Just enough, too short in one buffer, or more than enough and unequal.
+fn varied(rng: &mut Rng, needed: Sizes) -> Sizes {
+    let mut sizes = needed;
+    let slice = rng.below(3);
+    let less = |n: usize| n.saturating_sub(1);
+    match rng.below(8) {
+        0 => sizes.map = less(needed.map),
+        1 => sizes.levels = less(needed.levels),
+        2 => sizes.seeds[slice] = less(needed.seeds[slice]),
+        3 => sizes.corners[slice] = less(needed.corners[slice]),
+        4 => sizes.corners = needed.corners.map(|n| n / 2),
+        5 => {
+            sizes.map += rng.below(9);
+            sizes.levels += rng.below(9);
+            sizes.seeds = needed.seeds.map(|n| n + rng.below(5));
+            sizes.corners = needed.corners.map(|n| n + rng.below(5));
+        }
+        _ => {}
+    }
+    sizes
+}
+
+fn random(rng: &mut Rng) -> Case {
+    let shape = if rng.once_in(10) { Shape::Thin } else { Shape::Small };
+    let upload = frame(rng, shape);
+    Case {
+        name: "random",
+        sizes: varied(rng, needed(upload.image(), &upload.params)),
+        width: upload.width,
+        height: upload.height,
+        params: upload.params,
+        pixels: upload.pixels,
+        number: 0,
+    }
+}
+
+/// A long frame: sides that `corners` never sees.
+fn long(rng: &mut Rng, width: usize, height: usize, levels: u32) -> Case {
+    let pixels = images::stamped(rng, width, height, 5, 6);
+    let params = Params { window: 1, merge: 3.0, levels, ..PLAIN };
+    let sizes = needed(Image { pixels: &pixels, width, height }, &params);
+    Case { name: "long", width, height, pixels, params, sizes, number: 0 }
+}
+
+pub fn file(seed: u64) -> File {
+    let mut file = File::new("library.bin");
+    for case in refused_frames::cases() {
+        put(&mut file, &case);
+    }
+    for case in 0..RANDOM {
+        put(&mut file, &random(&mut Rng::of_case(seed, SUBJECT, case)));
+    }
+    let mut rng = Rng::of_case(seed, SUBJECT, RANDOM);
+    for (width, height, levels) in
+        [(4096, 1, 3), (1, 4096, 3), (4096, 2, 2), (300, 13, 1), (13, 300, 1), (200, 28, 2)]
+    {
+        let case = long(&mut rng, width, height, levels);
+        put(&mut file, &case);
+    }
+    file
+}
