@@ -10,7 +10,7 @@ pub struct CornerBuffer {
     pub strength: Vec<f32>,
 }
 
-/// Everything that a frame is lent.
+/// Everything that a frame borrows.
 #[derive(Clone, Debug, Default)]
 pub struct Buffers {
     pub map: Vec<f32>,

@@ -102,3 +102,24 @@ pub fn has_whole_threshold(params: &Params) -> bool {
     let lifted = params.threshold.max(0.0);
     lifted.is_finite() && lifted.fract() == 0.0
 }
+
+#[cfg(test)]
+mod tests {
+    use super::*;
+    use crate::params::PLAIN;
+
+    #[test]
+    fn the_paper_s_value_in_fifths() {
+        let half: [i32; 16] = std::array::from_fn(|k| if k % 8 < 4 { 255 } else { 0 });
+        assert_eq!(fifths_of(&half, 640), 10_160);
+        assert_eq!(fifths_of(&half, 641), 10_144);
+        assert_eq!(fifths_of(&[100; 16], 500), 0);
+    }
+
+    #[test]
+    fn whole_thresholds() {
+        let whole = |threshold| has_whole_threshold(&Params { threshold, ..PLAIN });
+        assert!(whole(f32::NAN) && whole(-0.5) && whole(7.0) && whole(f32::MAX));
+        assert!(!whole(0.5) && !whole(f32::INFINITY) && !whole(f32::from_bits(1)));
+    }
+}

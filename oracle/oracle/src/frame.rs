@@ -54,3 +54,55 @@ pub fn by_orchestrator(image: Image, params: &Params) -> Vec<Corner> {
     let found = detect(view.expect("a checked image"), &config);
     found.iter().map(|d| Corner::new(d.x, d.y, d.response)).collect()
 }
+
+#[cfg(test)]
+mod tests {
+    use super::*;
+    use crate::buffers::{bytes_before, floats_before, Sizes};
+    use crate::generate::images::whole_case;
+    use crate::params::PLAIN;
+    use crate::refusal::LARGEST_SIDE;
+
+    /// The whole case in a frame of two levels, of which only the base has a corner, or of one.
+    fn find(levels: u32, sizes: &Sizes) -> (Result<usize, Refusal>, Buffers) {
+        let mut buffers = Buffers::before(sizes);
+        let pixels = whole_case();
+        let image = Image { pixels: &pixels, width: 11, height: 11 };
+        let params = Params { merge: 3.0, levels, ..PLAIN };
+        (find_corners(image, &params, &mut buffers, LARGEST_SIDE), buffers)
+    }
+
+    const SIZES: Sizes = Sizes { map: 122, levels: 27, seeds: [1, 2, 3], corners: [3, 2, 4] };
+
+    #[test]
+    fn a_finished_frame_leaves_its_lists_and_zeros() {
+        let (answer, buffers) = find(1, &SIZES);
+        assert_eq!(answer, Ok(1));
+        assert_eq!(buffers.map, [0.0; 122]);
+        assert_eq!(buffers.levels, bytes_before(27));
+        assert_eq!(buffers.seeds.strength, [0.0; 3]);
+        assert_eq!(buffers.corners.x, [5.0, 0.0, 0.0]);
+        assert_eq!(buffers.corners.strength, [2032.0, 0.0, 0.0, 0.0]);
+    }
+
+    #[test]
+    fn levels_stand_first_and_the_rest_is_as_before() {
+        let (answer, buffers) = find(2, &SIZES);
+        assert_eq!(answer, Ok(0));
+        assert_eq!(buffers.levels[25..], bytes_before(27)[25..]);
+        assert_ne!(buffers.levels[..25], bytes_before(27)[..25]);
+    }
+
+    #[test]
+    fn refusal_10_clears_everything_and_the_others_nothing() {
+        let (answer, buffers) = find(1, &Sizes { corners: [3, 0, 4], ..SIZES });
+        assert_eq!(answer, Err(10));
+        assert_eq!(buffers.map, [0.0; 122]);
+        assert_eq!(buffers.levels, [0; 27]);
+        assert_eq!(buffers.corners.strength, [0.0; 4]);
+        let (answer, buffers) = find(1, &Sizes { map: 120, ..SIZES });
+        assert_eq!(answer, Err(8));
+        assert_eq!(buffers.map, floats_before(120));
+        assert_eq!(buffers.corners.x, floats_before(3));
+    }
+}

@@ -30,3 +30,16 @@ pub fn listing(list: &[Corner]) -> String {
 pub fn refused(number: Refusal) -> String {
     format!("refused {number}\n")
 }
+
+#[cfg(test)]
+mod tests {
+    use super::*;
+
+    #[test]
+    fn columns_of_a_line() {
+        let list = [Corner::new(5.0, 5.999_999_5, 2032.0)];
+        assert_eq!(listing(&list), "corners 1\n1280 1535 40a00000 40bfffff 44fe0000\n");
+        assert_eq!(listing(&[]), "corners 0\n");
+        assert_eq!(refused(7), "refused 7\n");
+    }
+}

@@ -51,3 +51,26 @@ pub fn search_box(
     let scale = 1.0 / (1u32 << level) as f32;
     Ok(boxes_of(base, scale, params, &[Corner::new(x, y, 0.0)])[0])
 }
+
+#[cfg(test)]
+mod tests {
+    use super::*;
+    use crate::numbers::next_away;
+    use crate::params::PLAIN;
+
+    #[test]
+    fn ends_of_the_coordinates() {
+        let at = |x, y| search_box(200, 200, 0, &PLAIN, x, y);
+        assert_eq!(at(-0.0, 4096.0), Ok(None));
+        assert_eq!(at(-f32::from_bits(1), 9.0), Err(4));
+        assert_eq!(at(9.0, next_away(4096.0)), Err(4));
+        assert_eq!(at(f32::NAN, 9.0), Err(4));
+    }
+
+    #[test]
+    fn seeds_half_way_go_away_from_zero() {
+        let x0 = |x| search_box(200, 200, 1, &PLAIN, x, 40.0).map(|found| found.map(|area| area.x0));
+        assert_eq!(x0(50.25), Ok(Some(101 - 7)));
+        assert_eq!(x0(50.75), Ok(Some(102 - 7)));
+    }
+}

@@ -1,5 +1,5 @@
-//! The four wrong roads of document 01, and two wrong merges more. A frame or a vector on which one of them gives another
-//! answer is worth keeping.
+//! The four wrong roads of document 01, and two wrong merges more. A frame or a vector on which one of them gives
+//! another answer is worth keeping.
 use crate::exact::EXACT;
 use crate::image::Image;
 use crate::merge::{is_close, merge_where};

@@ -3,8 +3,10 @@ use oracle::timing::{best_of, Subject};
 
 fn main() {
     let n: usize = std::env::args().nth(1).map_or(7, |word| word.parse().expect("a number"));
-    println!("thread CPU times in ms, best of {n}; ring 5, threshold 30, window 2, least 2, centroid 2, merge 3.0, search 3");
-    println!("(cell 24, turned, softness 2, noise 3; frame1 and frame3: one and three levels)");
+    println!(
+        "thread CPU times in ms, best of {n}; frame1 and frame3: one and three levels; boards of cells of 24"
+    );
+    println!("ring 5, threshold 30, window 2, least 2, centroid 2, merge 3.0, search 3");
     println!(
         "{:>10} {:>9} {:>6} {:>9} {:>9} {:>8} {:>9} {:>9} {:>9} {:>7} {:>8}",
         "frame",

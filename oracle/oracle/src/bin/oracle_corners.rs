@@ -38,12 +38,14 @@ fn options() -> Options {
     options
 }
 
+/// A line for a buffer: its length, the places that were written first, and what stands behind them.
 fn show(name: &str, length: usize, front: Vec<String>, rest: Rest) {
     let rest = match rest {
         Rest::Zero => "zero",
         Rest::AsBefore => "as before",
     };
-    println!("{name}: {} of {length}: {} then {rest}", front.len(), front.join(" "));
+    let front: String = front.iter().map(|digits| format!("{digits} ")).collect();
+    println!("{name} ({length}): {front}then {rest}");
 }
 
 fn show_floats(name: &str, before: &[f32], after: &[f32]) {

@@ -1,5 +1,5 @@
-//! oracle_hunt [COUNT [LIMIT]]: looks for frames that show each wrong road of document 01, COUNT of each among the first
-//! LIMIT frames of its hunt. Those in generate/hunted.rs were found so.
+//! oracle_hunt [COUNT [LIMIT]]: looks for frames that show each wrong road of document 01, COUNT of each among the
+//! first LIMIT frames of its hunt. Those in generate/hunted.rs were found so.
 use oracle::generate::hunted::{Road, ROADS};
 
 fn hunt(road: Road, count: usize, limit: u64) {

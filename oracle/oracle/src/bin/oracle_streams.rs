@@ -1,5 +1,5 @@
-//! oracle_streams DIR N SEED: writes N random and N/5 damaged streams, the hunted frames and each refusal as DIR/NAME.in,
-//! with what `corners` must print for each as DIR/NAME.out.
+//! oracle_streams DIR N SEED: writes N random and N/5 damaged streams, the hunted frames and each refusal as
+//! DIR/NAME.in, with what `corners` must print for each as DIR/NAME.out.
 use oracle::compare::cases;
 use oracle::program::corners;
 use std::path::Path;

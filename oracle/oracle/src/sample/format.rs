@@ -100,3 +100,25 @@ pub fn walk(file: &[u8]) -> Result<usize, String> {
         records += 1;
     }
 }
+
+#[cfg(test)]
+mod tests {
+    use super::*;
+    use crate::sample::file::{Body, File};
+
+    #[test]
+    fn broken_files_are_noticed() {
+        let mut file = File::new("listings");
+        let mut body = Body::default();
+        file.record(kind::LISTING, 0, body.floats(&[1.0]).floats(&[2.0]).floats(&[3.0]).bytes(b"text"));
+        let bytes = file.finished();
+        assert_eq!(walk(&bytes), Ok(1));
+        assert!(walk(&bytes[..bytes.len() - 1]).is_err());
+        assert!(walk(&[bytes.clone(), vec![0]].concat()).is_err());
+        for at in [0, 1, 5, bytes.len() - 4] {
+            let mut broken = bytes.clone();
+            broken[at] ^= 32;
+            assert!(walk(&broken).is_err(), "byte {at}");
+        }
+    }
+}

@@ -36,3 +36,37 @@ pub fn files(seed: u64) -> Vec<File> {
         numbers::file(seed),
     ]
 }
+
+#[cfg(test)]
+mod tests {
+    use super::*;
+
+    /// The refusals that a file must hold.
+    fn refusals(name: &str) -> &'static [u32] {
+        match name {
+            "frames.bin" => &[1, 3, 5, 6, 7, 10, 11],
+            "library.bin" => &[1, 2, 3, 5, 8, 9, 10],
+            "responses.bin" => &[1, 2, 3, 8],
+            "peaks.bin" => &[1, 2, 3, 10],
+            "centroids.bin" => &[1, 2, 3, 4],
+            "boxes.bin" => &[1, 3, 4],
+            "levels.bin" => &[1, 2, 3, 9],
+            "merges.bin" => &[4, 5, 10],
+            "streams.bin" => &[1, 3, 5, 6, 7, 11],
+            _ => &[],
+        }
+    }
+
+    #[test]
+    fn the_sample_keeps_to_its_description() {
+        let files = files(SEED);
+        for file in &files {
+            assert_eq!(format::walk(&file.finished()), Ok(file.records), "{}", file.name);
+            let due: Vec<u32> = file.refusals.keys().copied().filter(|&number| number > 0).collect();
+            assert_eq!(due, refusals(file.name), "{}", file.name);
+            assert!(file.largest_body <= 24_019, "{}", file.name);
+        }
+        let size: usize = files.iter().map(|file| file.finished().len()).sum();
+        assert!(size < 3_000_000, "{size} bytes");
+    }
+}
