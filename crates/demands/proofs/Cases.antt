@@ -2,6 +2,8 @@
 use mathlib.Core.Path.{_≡_, refl}
 use mathlib.Core.List.{List, map}
 use lib.IntN.{ℤ}
+use lib.Ieee.{mul, le, ofInt}
+use Rattle.multiscale.specs.Multiscale.{roiOf}
 use Rattle.lists.specs.Tab.{tab, grid}
 use Rattle.pyramid.specs.Pyramid.{halfPixel, halved, halvings, levelCount}
 use Rattle.ring.specs.Ring.{ring5}
@@ -11,5 +13,5 @@ use Rattle.float32.specs.Value.{total}
 use Rattle.demands.specs.Cases.{Case, cases}
 
 pub cases-hold : map (λ (c : Case). c .given) cases ≡ map (λ (c : Case). c .said) cases
-unfolding cases fifthsAt samples total tab grid ring5 halfPixel halved halvings levelCount
+unfolding cases fifthsAt samples total tab grid ring5 halfPixel halved halvings levelCount roiOf mul le ofInt
 cases-hold = refl

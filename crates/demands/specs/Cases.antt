@@ -1,8 +1,14 @@
 -- The worked cases that document 01 marks P, as one table: what the definitions give, and what the document says, both as lists of integers.
 use Prim.Native.Nat.{ℕ}
 use mathlib.Core.List.{List, [], _∷_, map}
-use lib.IntN.{ℤ, pos}
+use lib.IntN.{ℤ, pos, negsuc}
 use lib.ListN.{length, replicate, set}
+use mathlib.Core.Bool.{false}
+use lib.Ieee.{Float, fin, binary32, ofInt}
+use Rattle.float32.specs.Float32 as float32
+use Rattle.corner_list.specs.declared.Corner.{Corner}
+use Rattle.multiscale.specs.declared.RoiContext.{RoiContext}
+use Rattle.multiscale.specs.Multiscale.{roiOf, numberOf, valuesOf}
 use Rattle.pyramid.specs.Pyramid.{halved, levelSide, levelCount}
 use Rattle.ring.specs.Ring.{ring5}
 use Rattle.response.specs.Exact.{fifthsAt}
@@ -44,9 +50,23 @@ wholeCase =
 abbrev pub brighter : List ℕ
 brighter = set wholeCase 60 129
 
+-- ---- boxes: base 200 by 200, border 9, scale 1/2, search 3
+abbrev context : RoiContext
+context = record { width = 200; height = 200; ring = 5; window = 2; centroid = 2; search = 3; level = 1 }
+
+abbrev wholeFloat : ℕ → Float
+wholeFloat n = ofInt binary32 (pos n)
+
+abbrev seed : Float → Float → Corner
+seed x y = record { x = x; y = y; strength = float32.zero }
+
+-- the refusal's number, 0 for none, and the box, which is empty for "no box"
+abbrev box : Corner → List ℕ
+box s = numberOf (roiOf context s) ∷ valuesOf (roiOf context s)
+
 -- ---- the table
 unfoldable pub cases : List Case
-unfolding fifthsAt halved levelCount
+unfolding fifthsAt halved levelCount roiOf
 cases =
     -- box 0,0,0,1 → 0; 0,0,1,1 → 1; four 255 → 255
     naturals (halved (0 ∷ 0 ∷ 0 ∷ 1 ∷ []) 2 2) (0 ∷ [])
@@ -61,4 +81,8 @@ cases =
     -- the whole case's centre → 10,160 fifths; cross sum 641 → 10,144
     ∷ case (fifthsAt wholeCase 11 11 ring5 5 5 ∷ []) (pos 10160 ∷ [])
     ∷ case (fifthsAt brighter 11 11 ring5 5 5 ∷ []) (pos 10144 ∷ [])
+    -- seed (50,40) → (89,69,112,92); (7.5,50) → no box; (8,50) → box with x from 9 to 28
+    ∷ naturals (box (seed (wholeFloat 50) (wholeFloat 40))) (0 ∷ 89 ∷ 69 ∷ 112 ∷ 92 ∷ [])
+    ∷ naturals (box (seed (fin false 15 (negsuc 0)) (wholeFloat 50))) (0 ∷ [])
+    ∷ naturals (box (seed (wholeFloat 8) (wholeFloat 50))) (0 ∷ 9 ∷ 89 ∷ 28 ∷ 112 ∷ [])
     ∷ []
