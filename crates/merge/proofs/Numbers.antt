@@ -18,7 +18,7 @@ use Rattle.merge.specs.Merge.{adjacent, squared, leastFrom, gridOf}
 
 -- ---- cell numbers that differ by at most one
 
-above-one : (a b : ℕ) → leb (b - a) 1 ≡ leb b (a + 1)
+pub above-one : (a b : ℕ) → leb (b - a) 1 ≡ leb b (a + 1)
 above-one a b = go (leb (b - a) 1) refl
   where
     go : (t : Bool) → leb (b - a) 1 ≡ t → t ≡ leb b (a + 1)

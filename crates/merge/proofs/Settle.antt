@@ -1,5 +1,5 @@
 -- A corner settled among the kept ones: as a list by the first that it joins, its length, and in the buffer. Assumes nothing.
-use Prim.Native.Nat.{ℕ, zero, suc, _+_, _<_, _≤_}
+use Prim.Native.Nat.{ℕ, zero, suc, _+_, _<_, _≤_, max}
 use native.Mathlib.Nat.{not-suc-le-zero}
 use native.Mathlib.Omega.{arith}
 use mathlib.Core.Path.{_≡_, refl, sym, ap, _∙_}
@@ -13,7 +13,7 @@ use Rattle.corner_list.specs.declared.Corner.{Corner}
 use Rattle.corner_list.specs.CornerList.{Slices, placesOf, cornerAt, cornersOf, withCorner, frontCorners}
 use Rattle.corner_list.proofs.Corners.{corners-length, corners-at, corners-same, corners-set, corners-next}
 use Rattle.merge.specs.Merge.{stronger, settle}
-use Rattle.merge.specs.Search.{IsFirst, Settled}
+use Rattle.merge.specs.Search.{IsFirst, Settled, Takes}
 
 -- ---- lists
 
@@ -71,12 +71,15 @@ module _ (j : Corner → Corner → Bool) (k : ℕ) (c : Corner) (b : Slices) (f
   none : (m : ℕ) → m < i → j c (getD Kept m c) ≡ true → ⊥
   none m l t = first .before m l (ap (j c) (sym (corners-at b k m c (omega (arith, first .at-most)))) ∙ t)
 
-  pub settled-new : k ≤ i → (b′ : Slices) → b′ ≡ withCorner k c b → Settled j k c b (k + 1) b′
-  settled-new h b′ put =
+  pub takes-new : k ≤ i → Takes j k c b k
+  takes-new h =
       let e : settle j Kept c ≡ Kept ++ (c ∷ []) = settle-none j c c Kept (λ m l. none m (omega (arith, many))) in
       record {
-        count = omega (arith, many, ap length e ∙ length-append Kept (c ∷ []));
-        buffer = put ∙ ap (withCorner k c) starts ∙ corners-next Kept b k c (sym many) fit ∙ ap (λ (l : List Corner). frontCorners l b) (sym e);
+        put = λ _. record {
+          count = omega (arith, many, ap length e ∙ length-append Kept (c ∷ []));
+          buffer = ap (withCorner k c) starts ∙ corners-next Kept b k c (sym many) fit ∙ ap (λ (l : List Corner). frontCorners l b) (sym e);
+        };
+        dropped = λ l. absurd (let no : ⊥ = omega arith in no);
       }
 
   module _ (h : i < k) (o : Corner) (is : o ≡ cornerAt b i) where
@@ -89,18 +92,26 @@ module _ (j : Corner → Corner → Bool) (k : ℕ) (c : Corner) (b : Slices) (f
         ∙ ap (λ (p : Corner). set Kept i (stronger c p)) here
         ∙ ap (λ (u : Bool). set Kept i (cond u c o)) e
 
-    pub settled-stronger : lt (o .strength) (c .strength) ≡ true → (b′ : Slices) → b′ ≡ withCorner i c b → Settled j k c b k b′
-    settled-stronger t b′ put =
+    pub takes-stronger : lt (o .strength) (c .strength) ≡ true → Takes j k c b i
+    takes-stronger t =
         let e : settle j Kept c ≡ set Kept i c = there true t in
         record {
-          count = omega (arith, many, ap length e ∙ length-set Kept i c);
-          buffer = put ∙ ap (withCorner i c) starts ∙ corners-set Kept b i c (omega (arith, many)) ∙ ap (λ (l : List Corner). frontCorners l b) (sym e);
+          put = λ _. record {
+            count = omega (arith, many, ap length e ∙ length-set Kept i c);
+            buffer = ap (withCorner i c) starts ∙ corners-set Kept b i c (omega (arith, many)) ∙ ap (λ (l : List Corner). frontCorners l b) (sym e);
+          };
+          dropped = λ l. absurd (let no : ⊥ = omega arith in no);
         }
 
-    pub settled-weaker : lt (o .strength) (c .strength) ≡ false → Settled j k c b k b
-    settled-weaker t =
+    pub takes-none : lt (o .strength) (c .strength) ≡ false → Takes j k c b (k + 1)
+    takes-none t =
         let e : settle j Kept c ≡ Kept = there false t ∙ ap (set Kept i) (sym here) ∙ set-getD Kept i c in
         record {
-          count = omega (arith, many, ap length e);
-          buffer = starts ∙ ap (λ (l : List Corner). frontCorners l b) (sym e);
+          put = λ l. absurd (let no : ⊥ = omega arith in no);
+          dropped = λ _. record { count = omega (arith, many, ap length e); buffer = starts ∙ ap (λ (l : List Corner). frontCorners l b) (sym e) };
         }
+
+-- ---- c put in the place that it takes
+pub settled-put : (j : Corner → Corner → Bool) (k : ℕ) (c : Corner) (b : Slices) (r n : ℕ) (b′ : Slices) → Takes j k c b r → r ≤ k → n ≡ max k (r + 1) → b′ ≡ withCorner r c b → Settled j k c b n b′
+settled-put j k c b r n b′ t h e put =
+    let s = t .put h in record { count = e ∙ s .count; buffer = put ∙ s .buffer }

@@ -44,7 +44,7 @@ pub record Lists (table : List ℕ) (home place : ℕ) (table′ : List ℕ) : T
   pub listed : place < empty → Listed table′ home place
   pub still : (h i : ℕ) → i < empty → Listed table h i → Listed table′ h i
 
--- the first k corners of a buffer are listed, each at its home
-pub record Indexed (g : Grid) (table : List ℕ) (b : Slices) (k : ℕ) : Type 0 where
+-- each of the first k corners of a buffer is listed at its home, or lies so far up that no corner from row `floor` on joins it
+pub record Indexed (g : Grid) (floor : ℕ) (table : List ℕ) (b : Slices) (k : ℕ) : Type 0 where
   pub some : 0 < length table
-  pub each : (i : ℕ) → i < k → i < empty → Listed table (homeAt g (length table) (cornerAt b i)) i
+  pub each : (i : ℕ) → i < k → i < empty → (rowOf g (cornerAt b i) + 1 < floor) ⊎ Listed table (homeAt g (length table) (cornerAt b i)) i

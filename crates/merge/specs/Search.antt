@@ -1,12 +1,12 @@
 -- What the private functions that search the kept corners and settle one among them promise.
-use Prim.Native.Nat.{ℕ, _<_, _≤_}
+use Prim.Native.Nat.{ℕ, _+_, _<_, _≤_, max}
 use mathlib.Core.Path.{_≡_}
 use mathlib.Core.Logic.{_⊎_}
 use mathlib.Core.Bool.{Bool, true}
 use mathlib.Core.List.{List}
 use lib.ListN.{length}
 use Rattle.corner_list.specs.declared.Corner.{Corner}
-use Rattle.corner_list.specs.CornerList.{Slices, cornerAt, cornersOf, frontCorners}
+use Rattle.corner_list.specs.CornerList.{Slices, cornerAt, cornersOf, withCorner, frontCorners}
 use Rattle.merge.specs.declared.cells.Grid.{Grid}
 use Rattle.merge.specs.Merge.{joins, settle}
 
@@ -30,6 +30,12 @@ pub record Lowers (f : ℕ → Bool) (Looked : ℕ → Type 0) (n r : ℕ) : Typ
 pub record Settled (j : Corner → Corner → Bool) (k : ℕ) (c : Corner) (b : Slices) (n : ℕ) (b′ : Slices) : Type 0 where
   pub count : n ≡ length (settle j (cornersOf b k) c)
   pub buffer : b′ ≡ frontCorners (settle j (cornersOf b k) c) b
+
+-- Place r is the one that c takes among the first k corners of a buffer: put there, k itself included, it is settled among them. Beyond k it
+-- takes none: they are settled as they are.
+pub record Takes (j : Corner → Corner → Bool) (k : ℕ) (c : Corner) (b : Slices) (r : ℕ) : Type 0 where
+  pub put : r ≤ k → Settled j k c b (max k (r + 1)) (withCorner r c b)
+  pub dropped : k < r → Settled j k c b k b
 
 -- n corners are now first in a buffer: what is left of a list
 pub record Left (left : List Corner) (b : Slices) (n : ℕ) (b′ : Slices) : Type 0 where

@@ -2,10 +2,16 @@
 // stands at its home or behind it with no empty slot between. Other places may stand there too, of corners with the same home by
 // chance or that were replaced since: a search tests the corner that is at the place now. Where the table is full, or a run of slots
 // goes on to its end, a search looks at every kept corner.
+// Lists come by rows, so of a long one only the last rows are near what is to come: from time to time the index is made anew of
+// the corners that are not above row `floor`.
 ghost use mathlib.Core.Path.{_≡_};
-ghost use Prim.Native.Nat.{_<_, _≤_};
+ghost use mathlib.Core.Logic.{_⊎_};
+ghost use Prim.Native.Nat.{_+_, _<_, _≤_};
 ghost use lib.ListN.{length};
-ghost use Rattle.merge.specs.Index.{pairOf, homeOf, homeAt, SlotFor, Lists};
+ghost use lib.Dec.{leb};
+ghost use Rattle.corner_list.specs.CornerList.{slices, withCorner};
+ghost use Rattle.merge.specs.Merge.{rowOf};
+ghost use Rattle.merge.specs.Index.{pairOf, homeOf, homeAt, SlotFor, Lists, Indexed};
 use crate::cells::Grid;
 use corner_list::Corner;
 
@@ -54,15 +60,116 @@ fn slot_for(table: &[u32], home: usize, place: usize) -> usize
     table.len()
 }
 
-// Lists a place.
-pub(crate) fn list_place(table: &mut [u32], home: usize, place: usize)
-    requires { ⌜ home ≤ length (now table) ⌝ }
-    ensures { λ _. ⌜ Lists (now (table .entry)) home place (now (table .exit)) ⌝ }
+// Lists the place of c.
+fn list_place(table: &mut [u32], g: Grid, place: usize, c: Corner)
+    requires { ⌜ 0 < length (now table) ⌝ }
+    ensures { λ _. ⌜ Lists (now (table .entry)) (homeAt g (length (now (table .entry))) c) place (now (table .exit)) ⌝ }
 {
     if place < EMPTY as usize {
-        let p = slot_for(table, home, place);
+        let p = slot_for(table, home_at(g, table.len(), c), place);
         if p < table.len() {
             table[p] = place as u32;
         }
     }
+}
+
+// Puts c at a place of a buffer, and lists it.
+pub(crate) fn put_listed(
+    xs: &mut [f32],
+    ys: &mut [f32],
+    strengths: &mut [f32],
+    table: &mut [u32],
+    g: Grid,
+    at: usize,
+    c: Corner,
+)
+    requires { ⌜ 0 < length (now table) ⌝ }
+    ensures { λ _. ⌜ slices (now (xs .exit)) (now (ys .exit)) (now (strengths .exit)) ≡ withCorner at c (slices (now (xs .entry)) (now (ys .entry)) (now (strengths .entry))) ⌝ }
+    ensures { λ _. ⌜ Lists (now (table .entry)) (homeAt g (length (now (table .entry))) c) at (now (table .exit)) ⌝ }
+{
+    corner_list::put_corner(xs, ys, strengths, at, c);
+    list_place(table, g, at, c);
+}
+
+// Whether row `row` is the one above `floor`, or below.
+fn reaches(floor: usize, row: usize) -> bool
+    ensures { λ r. ⌜ r ≡ leb floor (row + 1) ⌝ }
+{
+    if row < floor { floor - row <= 1 } else { true }
+}
+
+// Empties every slot.
+fn clear(table: &mut [u32]) {
+    for p in 0..table.len() {
+        table[p] = EMPTY;
+    }
+}
+
+// Lists the place of c, if c reaches `floor`.
+fn list_near(table: &mut [u32], g: Grid, floor: usize, place: usize, c: Corner)
+    requires { ⌜ 0 < length (now table) ⌝ }
+    ensures { λ _. ⌜ ((rowOf g c + 1 < floor) × (now (table .exit) ≡ now (table .entry)))
+        ⊎ Lists (now (table .entry)) (homeAt g (length (now (table .entry))) c) place (now (table .exit)) ⌝ }
+{
+    if reaches(floor, crate::cells::row_of(g, c)) {
+        list_place(table, g, place, c);
+    }
+}
+
+// Lists the first k corners of a buffer, but those that do not reach `floor`.
+fn list_kept(
+    xs: &[f32],
+    ys: &[f32],
+    strengths: &[f32],
+    table: &mut [u32],
+    g: Grid,
+    floor: usize,
+    k: usize,
+)
+    requires { ⌜ 0 < length (now table) ⌝ }
+    ensures { λ _. ⌜ Indexed g floor (now (table .exit)) (slices (now (xs .entry)) (now (ys .entry)) (now (strengths .entry))) k ⌝ }
+{
+    for i in 0..k {
+        list_near(
+            table,
+            g,
+            floor,
+            i,
+            corner_list::corner_at(xs, ys, strengths, i),
+        );
+    }
+}
+
+// The lowest row of the corners from place `from` up to n.
+fn lowest_row(xs: &[f32], ys: &[f32], strengths: &[f32], g: Grid, from: usize, n: usize) -> usize {
+    let mut low = 18446744073709551615;
+    for i in from..n {
+        let c = corner_list::corner_at(xs, ys, strengths, i);
+        low = crate::fewer(crate::cells::row_of(g, c), low);
+    }
+    low
+}
+
+// Makes the index of the first k corners anew where it is time: at every 65,536th corner of a list of n. Returns the row from which it holds.
+pub(crate) fn refresh(
+    xs: &[f32],
+    ys: &[f32],
+    strengths: &[f32],
+    table: &mut [u32],
+    g: Grid,
+    floor: usize,
+    k: usize,
+    i: usize,
+    n: usize,
+) -> usize
+    requires { ⌜ Indexed g floor (now table) (slices (now xs) (now ys) (now strengths)) k ⌝ }
+    ensures { λ r. ⌜ Indexed g r (now (table .exit)) (slices (now (xs .entry)) (now (ys .entry)) (now (strengths .entry))) k ⌝ }
+{
+    if i % 65536 != 65535 {
+        return floor;
+    }
+    let low = lowest_row(xs, ys, strengths, g, i, n);
+    clear(table);
+    list_kept(xs, ys, strengths, table, g, low, k);
+    low
 }

@@ -67,8 +67,8 @@ fn has_outside(xs: &[f32], ys: &[f32], strengths: &[f32], n: usize) -> bool
     false
 }
 
-// The lesser of two counts.
-fn fewer(a: usize, b: usize) -> usize
+// The lesser of two numbers.
+pub(crate) fn fewer(a: usize, b: usize) -> usize
     ensures { λ r. ⌜ r ≡ min a b ⌝ }
 {
     if a < b { a } else { b }
@@ -124,11 +124,7 @@ fn merge_within(
     if number != 0 {
         return Merged::Refused(number);
     }
-    if is_off(radius) {
-        return Merged::Kept(count);
-    }
-    let g = cells::grid_of(xs, ys, strengths, count, radius);
-    Merged::Kept(settling::merge_in(xs, ys, strengths, g, count))
+    Merged::Kept(settling::merge_list(xs, ys, strengths, count, radius))
 }
 
 // Merges the first `count` corners of a buffer in place, as the Rust's `merge_corners_simple`.

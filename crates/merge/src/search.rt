@@ -1,12 +1,13 @@
-// The first of the kept corners that a corner joins.
+// The first of the kept corners that a corner joins, and the place that it takes.
 ghost use mathlib.Core.Path.{_≡_};
 ghost use mathlib.Core.Logic.{_⊎_};
 ghost use mathlib.Core.Bool.{cond, _&&_};
 ghost use Prim.Native.Nat.{_+_, _<_, _≤_};
 ghost use lib.ListN.{length};
 ghost use lib.Dec.{ltb};
-ghost use Rattle.corner_list.specs.CornerList.{slices};
-ghost use Rattle.merge.specs.Search.{joinsAt, IsFirst, Lowers};
+ghost use Rattle.corner_list.specs.CornerList.{slices, placesOf};
+ghost use Rattle.merge.specs.Merge.{joins};
+ghost use Rattle.merge.specs.Search.{joinsAt, IsFirst, Lowers, Takes};
 ghost use Rattle.merge.specs.Index.{empty, homeOf, Listed, Indexed};
 use crate::cells::Grid;
 use corner_list::Corner;
@@ -108,23 +109,55 @@ fn lowest_of_two(
 }
 
 // The lowest of the first k places of a buffer whose corner c joins, or k: looks at those that the index lists near c.
-pub(crate) fn find_joined(
+fn find_joined(
     xs: &[f32],
     ys: &[f32],
     strengths: &[f32],
     table: &[u32],
     g: Grid,
+    floor: usize,
     k: usize,
     c: Corner,
 ) -> usize
-    requires { ⌜ Indexed g (now table) (slices (now xs) (now ys) (now strengths)) k ⌝ }
+    requires { ⌜ Indexed g floor (now table) (slices (now xs) (now ys) (now strengths)) k ⌝ }
     ensures { λ r. ⌜ IsFirst (joinsAt g c (slices (now (xs .entry)) (now (ys .entry)) (now (strengths .entry)))) k r ⌝ }
 {
+    let row = crate::cells::row_of(g, c);
+    if row < floor {
+        return first_joined(xs, ys, strengths, g, k, c);
+    }
     if (crate::index::EMPTY as usize) < k {
         return first_joined(xs, ys, strengths, g, k, c);
     }
     let x = crate::cells::column_of(g, c) / 2;
-    let y = crate::cells::row_of(g, c) / 2;
+    let y = row / 2;
     let low = lowest_of_two(xs, ys, strengths, table, g, x, y, k, c);
     lowest_of_two(xs, ys, strengths, table, g, x, y + 1, low, c)
+}
+
+// The place that c takes among the first k of a buffer: that of the first that it joins, if it is stronger; k, if it joins none;
+// and k + 1, which is none, if it is dropped.
+pub(crate) fn place_for(
+    xs: &[f32],
+    ys: &[f32],
+    strengths: &[f32],
+    table: &[u32],
+    g: Grid,
+    floor: usize,
+    k: usize,
+    c: Corner,
+) -> usize
+    requires { ⌜ k < placesOf (slices (now xs) (now ys) (now strengths)) ⌝ }
+    requires { ⌜ Indexed g floor (now table) (slices (now xs) (now ys) (now strengths)) k ⌝ }
+    ensures { λ r. ⌜ Takes (joins g) k c (slices (now (xs .entry)) (now (ys .entry)) (now (strengths .entry))) r ⌝ }
+{
+    let i = find_joined(xs, ys, strengths, table, g, floor, k, c);
+    if k <= i {
+        return k;
+    }
+    let o = corner_list::corner_at(xs, ys, strengths, i);
+    if o.strength < c.strength {
+        return i;
+    }
+    k + 1
 }

@@ -1,14 +1,17 @@
 -- `merge::index::list_place` meets its contract: stored in its slot, or not where the table ends before it or the place is too large. Assumes nothing.
 use borrow.Author.Needs.{needs}
-use Rattle.merge.proofs.Slots.{lists-none, lists-end, lists-at}
+use Rattle.merge.proofs.Slots.{home-in, lists-home, lists-none, lists-end, lists-at}
 use Rattle.merge.proofs.index.list_place.Statement.{statement}
 use Rattle.merge.proofs.index.list_place.Tie as tie
 
 cast-if1 : tie.Need-cast-if1
 cast-if1 c = search needs
 
+home-at-requires : tie.Need-home-at-requires
+home-at-requires c κs = search needs
+
 slot-for-requires : tie.Need-slot-for-requires
-slot-for-requires c κs = search needs
+slot-for-requires c κs = home-in _ _ _ _ (c .before .before .before .before .pre) (c .home-at .ensures)
 
 cast-table : tie.Need-cast-table
 cast-table c = search needs
@@ -23,13 +26,15 @@ same-length : tie.Need-same-length
 same-length c = search needs
 
 returns : tie.Need-returns
-returns c = lists-at _ _ _ _ (c .before .slot-for .ensures) (c .if2 .taken)
+returns c =
+    lists-home _ _ _ _ _ (c .before .before .home-at .ensures) (lists-at _ _ _ _ (c .before .slot-for .ensures) (c .if2 .taken))
 
 same-length-2 : tie.Need-same-length-2
 same-length-2 c = search needs
 
 returns-2 : tie.Need-returns-2
-returns-2 c = lists-end _ _ _ _ (c .before .slot-for .ensures) (c .if2 .left)
+returns-2 c =
+    lists-home _ _ _ _ _ (c .before .before .home-at .ensures) (lists-end _ _ _ _ (c .before .slot-for .ensures) (c .if2 .left))
 
 returns-3 : tie.Need-returns-3
 returns-3 c = lists-none _ _ _ (c .if1 .left)
@@ -39,6 +44,7 @@ list-place-spec =
     tie.close
     (tie.spec
     cast-if1
+    home-at-requires
     slot-for-requires
     cast-table
     mul-table

@@ -1,5 +1,6 @@
 -- `merge::search::find_joined` meets its contract: the four homes list all that c joins. Assumes nothing.
 use borrow.Author.Needs.{needs}
+use native.Mathlib.Omega.{arith}
 use mathlib.Core.Path.{ap}
 use Prim.Native.Nat.{ℕ, _/_}
 use Rattle.merge.proofs.First.{lowers-then, lowers-first}
@@ -7,8 +8,8 @@ use Rattle.merge.proofs.Slots.{all-near}
 use Rattle.merge.proofs.search.find_joined.Statement.{statement}
 use Rattle.merge.proofs.search.find_joined.Tie as tie
 
-cast-if1 : tie.Need-cast-if1
-cast-if1 c = search needs
+row-of-requires : tie.Need-row-of-requires
+row-of-requires c κs = search needs
 
 first-joined-requires : tie.Need-first-joined-requires
 first-joined-requires c κs = search needs
@@ -16,11 +17,17 @@ first-joined-requires c κs = search needs
 returns : tie.Need-returns
 returns c = search needs
 
+cast-if2 : tie.Need-cast-if2
+cast-if2 c = search needs
+
+first-joined-requires-2 : tie.Need-first-joined-requires-2
+first-joined-requires-2 c κs = search needs
+
+returns-2 : tie.Need-returns-2
+returns-2 c = search needs
+
 column-of-requires : tie.Need-column-of-requires
 column-of-requires c κs = search needs
-
-row-of-requires : tie.Need-row-of-requires
-row-of-requires c κs = search needs
 
 lowest-of-two-requires : tie.Need-lowest-of-two-requires
 lowest-of-two-requires c κs = search needs
@@ -31,21 +38,24 @@ add-lowest-of-two c = search needs
 lowest-of-two-requires-2 : tie.Need-lowest-of-two-requires-2
 lowest-of-two-requires-2 c κs = search needs
 
-returns-2 : tie.Need-returns-2
-returns-2 c =
+returns-3 : tie.Need-returns-3
+returns-3 c =
+    let cells = c .before .before in
     lowers-first _ _ _ _ (lowers-then _ _ _ _ _ _ (c .before .lowest-of-two .ensures) (c .lowest-of-two2 .ensures))
-    (all-near _ _ _ _ (c .before .before .before .before .before .before .before .before .before .pre) _ _ _ (ap (λ (n : ℕ). n / 2) (c .before .before .before .column-of .ensures)) (ap (λ (n : ℕ). n / 2) (c .before .before .row-of .ensures)) (c .before .before .before .before .if1 .left))
+    (all-near _ _ _ _ _ (cells .before .before .before .before .before .before .before .before .pre) _ _ _ (ap (λ (n : ℕ). n / 2) (cells .column-of .ensures)) (ap (λ (n : ℕ). n / 2) (cells .before .before .before .row-of .ensures)) (cells .before .if2 .left) (omega (arith, cells .before .before .before .row-of .ensures)))
 
 pub find-joined-spec : {M : Type 1} → statement M
 find-joined-spec =
     tie.close
     (tie.spec
-    cast-if1
+    row-of-requires
     first-joined-requires
     returns
+    cast-if2
+    first-joined-requires-2
+    returns-2
     column-of-requires
-    row-of-requires
     lowest-of-two-requires
     add-lowest-of-two
     lowest-of-two-requires-2
-    returns-2)
+    returns-3)

@@ -13,25 +13,31 @@ use Rattle.merge.proofs.settling.merge_with.Statement.{statement}
 use Rattle.merge.proofs.settling.merge_with.Tie as tie
 
 abbrev Inv-loop : tie.InvT-loop
-Inv-loop xs₀ ys₀ strengths₀ table₀ g n k₀ i₀ xs ys strengths table k i =
-    Progress (joins g) n (slices xs₀ ys₀ strengths₀) (slices xs ys strengths) k i × Indexed g table (slices xs ys strengths) k × (length table ≡ length table₀)
+Inv-loop xs₀ ys₀ strengths₀ table₀ g n k₀ floor₀ i₀ xs ys strengths table k floor i =
+    Progress (joins g) n (slices xs₀ ys₀ strengths₀) (slices xs ys strengths) k i × Indexed g floor table (slices xs ys strengths) k × (length table ≡ length table₀)
 
 abbrev μ-loop : tie.MeasureT-loop
-μ-loop xs₀ ys₀ strengths₀ table₀ g n k₀ i₀ xs ys strengths table k i = n - i
+μ-loop xs₀ ys₀ strengths₀ table₀ g n k₀ floor₀ i₀ xs ys strengths table k floor i = n - i
 
 loop-holds : tie.Need-loop-holds Inv-loop μ-loop
-loop-holds c = (progress-none _ _ _, indexed-none _ _ _ (c .before .before .before .before .pre .1), refl)
+loop-holds c = (progress-none _ _ _, indexed-none _ _ _ _ (c .before .before .before .before .pre .1), refl)
+
+refresh-requires : tie.Need-refresh-requires Inv-loop μ-loop
+refresh-requires c κs = c .before .before .before .before .before .loop .inv .1
 
 corner-at-requires : tie.Need-corner-at-requires Inv-loop μ-loop
 corner-at-requires c κs = search needs
 
 settle-in-requires : tie.Need-settle-in-requires Inv-loop μ-loop
 settle-in-requires c κs =
-    let turn = c .before .before .before .before .before .before .before .before in
-    (progress-fits _ _ _ (turn .before .before .before .before .before .before .pre .0) _ _ _ (turn .before .loop .inv .0) (turn .loop-test .taken), turn .before .loop .inv .1)
+    let fresh = c .before .before .before .before .before .before .before .before .before .before in
+    let turn = fresh .before .before .before .before .before in
+    (progress-fits _ _ _ (turn .before .before .before .before .before .before .pre .0) _ _ _ (turn .before .loop .inv .0) (turn .loop-test .taken), fresh .refresh .ensures)
 
 add-i : tie.Need-add-i Inv-loop μ-loop
-add-i c = omega arith
+add-i c =
+    let turn = c .before .before .before .before .before .before .before .before .before .before .before .before .before .before .before .before .before .before .before .before .before .before .before .before in
+    omega (arith, turn .loop-test .taken, turn .before .before .before .before .before .before .fits .n)
 
 loop-less : tie.Need-loop-less Inv-loop μ-loop
 loop-less c = omega arith
@@ -40,11 +46,12 @@ loop-again : tie.Need-loop-again Inv-loop μ-loop
 loop-again c =
     let settled = c .before .before .before .before .before .before .before .before in
     let read = settled .before .before .before .before .before in
-    let turn = read .before .before .before .before in
+    let fresh = read .before .before .before .before .before .before in
+    let turn = fresh .before .before .before .before .before in
     let inv = turn .before .loop .inv in (
       progress-turn _ _ _ (turn .before .before .before .before .before .before .pre .0) _ _ _ (inv .0) _ _ _ (turn .loop-test .taken) (read .corner-at .ensures) (settled .settle-in .ensures .0),
       settled .settle-in .ensures .1,
-      settled .settle-in .kept .1 .1 .1 .0 ∙ inv .2,
+      settled .settle-in .kept .1 .1 .1 .0 ∙ fresh .refresh .kept .1 .1 .1 .0 ∙ inv .2,
     )
 
 same-length : tie.Need-same-length Inv-loop μ-loop
@@ -73,6 +80,7 @@ merge-with-spec =
     Inv-loop
     μ-loop
     loop-holds
+    refresh-requires
     corner-at-requires
     settle-in-requires
     add-i

@@ -1,0 +1,48 @@
+-- `merge::settling::merge_list` meets its contract: off, or merged by the grid. Assumes nothing.
+use borrow.Author.Needs.{needs}
+use mathlib.Core.Path.{sym, _∙_}
+use Rattle.merge.proofs.Answer.{left-off, left-on}
+use Rattle.merge.proofs.settling.merge_list.Statement.{statement}
+use Rattle.merge.proofs.settling.merge_list.Tie as tie
+
+is-off-requires : tie.Need-is-off-requires
+is-off-requires c κs = search needs
+
+returns : tie.Need-returns
+returns c =
+    left-off _ _ _ (sym (c .before .is-off .ensures) ∙ c .if1 .taken) (c .before .before .before .before .before .pre)
+
+grid-of-requires : tie.Need-grid-of-requires
+grid-of-requires c κs = search needs
+
+merge-in-requires : tie.Need-merge-in-requires
+merge-in-requires c κs = search needs
+
+same-length : tie.Need-same-length
+same-length c = search needs
+
+same-length-2 : tie.Need-same-length-2
+same-length-2 c = search needs
+
+same-length-3 : tie.Need-same-length-3
+same-length-3 c = search needs
+
+returns-2 : tie.Need-returns-2
+returns-2 c =
+    let done = c .before .before .before .before .before .before in
+    let made = done .before .before .before .before in
+    let on = made .before .before .before .before in
+    left-on _ _ _ _ _ _ (sym (on .before .is-off .ensures) ∙ on .if1 .left) (made .grid-of .ensures) (done .merge-in .ensures)
+
+pub merge-list-spec : {M : Type 1} → statement M
+merge-list-spec =
+    tie.close
+    (tie.spec
+    is-off-requires
+    returns
+    grid-of-requires
+    merge-in-requires
+    same-length
+    same-length-2
+    same-length-3
+    returns-2)
