@@ -4,7 +4,7 @@ use mathlib.Core.Path.{_≡_, refl}
 use mathlib.Core.List.{List, [], _∷_, _++_, map}
 use lib.ListN.{replicate}
 use lib.Ieee.{ofBits, lt}
-use Rattle.stream.specs.Stream.{bodyLength, sidesFault, rangeOutside, radiusOutside, parametersFault, paddingFault, bodyFault, recordFault, Reading, accepted, refused, readRecord, readPixels, readParameters, readFrame}
+use Rattle.stream.specs.Stream.{bodyLength, accepted, refused, readFrame}
 
 -- sides; parameters with ring, window and merge radius; pixels of one record
 abbrev sides : ℕ → ℕ → List ℕ

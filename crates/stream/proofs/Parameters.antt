@@ -1,6 +1,6 @@
 -- Laws of the parameters' faults. Assumes nothing.
 use Prim.Native.Nat.{ℕ}
-use mathlib.Core.Path.{_≡_, refl, sym, ap, _∙_}
+use mathlib.Core.Path.{_≡_, refl, sym}
 use mathlib.Core.Bool.{Bool, true, false, cond}
 use mathlib.Core.List.{[], _∷_}
 use lib.Dec.{eqb}
@@ -10,7 +10,7 @@ use lib.Ieee.Scale.{finite}
 use Rattle.float32.specs.Float32.{zero}
 use Rattle.lists.specs.Refusals.{lowest}
 use Rattle.stream.specs.Stream.{rangeOutside, radiusOutside, parametersFault}
-use Rattle.stream.specs.Reader.{firstFault, rangeFault, radiusFault}
+use Rattle.stream.specs.Parts.{firstFault, rangeFault, radiusFault}
 
 -- the range before the radius
 pub parameters-first : (ring window centroid merge : ℕ) → firstFault (rangeFault ring window centroid) (radiusFault merge) ≡ parametersFault ring window centroid merge

@@ -66,7 +66,7 @@ sidesFault width height = lowest ((ltb 96 width || ltb 96 height, 1) ∷ [])
 unfoldable pub rangeOutside : ℕ → ℕ → ℕ → Bool
 rangeOutside ring window centroid = not (eqb ring 5 || eqb ring 10) || ltb 16 window || ltb 16 centroid
 
--- "Merge radius finite, positive, outside 1/64..4,096"
+-- "Merge radius finite, positive, outside 1/64..4,096": 2 ^ -6 and 2 ^ 12
 unfoldable pub radiusOutside : Float → Bool
 radiusOutside r = finite r && lt zero32 r && (lt r (fin false 1 (negsuc 5)) || lt (fin false 1 (pos 12)) r)
 

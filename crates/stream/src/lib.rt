@@ -5,7 +5,8 @@ ghost use lib.ListN.{length, drop};
 ghost use Rattle.lists.specs.Tab.{tab};
 ghost use Rattle.lists.specs.Buffer.{front};
 ghost use Rattle.stream.specs.Stream.{u8, u16, u32, bodyLength, headerOf, sidesFault, parametersFault, paddingFault, bodyFault, recordFault, recordsFor};
-ghost use Rattle.stream.specs.Reader.{FrameRead, due, kindFault, firstFault, rangeFault, radiusFault, pixelCount, pixelAt, leftAfter, Judged};
+ghost use Rattle.stream.specs.Answer.{FrameRead};
+ghost use Rattle.stream.specs.Parts.{due, kindFault, firstFault, rangeFault, radiusFault, pixelCount, pixelAt, leftAfter, Judged};
 
 // Sides and parameters. Threshold and merge radius are the 32 bits that came: a NaN may have any pattern.
 pub struct Header {
