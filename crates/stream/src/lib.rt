@@ -125,17 +125,10 @@ fn radius_fault(bits: u32) -> u8
     ensures { λ r. ⌜ r ≡ radiusFault bits ⌝ }
 {
     let radius = float32::from_bits(bits);
-    if float32::is_finite(radius) {
-        if 0.0 < radius {
-            if radius < 0.015625 {
-                return 5;
-            }
-            if 4096.0 < radius {
-                return 5;
-            }
-        }
+    if merge::is_off(radius) {
+        return 0;
     }
-    0
+    if merge::is_sized(radius) { 0 } else { 5 }
 }
 
 fn parameters_fault(body: &[u8]) -> u8
