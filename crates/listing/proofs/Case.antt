@@ -5,7 +5,7 @@ use mathlib.Core.Path.{_≡_, refl}
 use mathlib.Core.List.{List, [], _∷_, _++_}
 use lib.Ieee.{nan, inf, binary32, ofBits, toBits, toUnsigned, mul}
 use Rattle.corner_list.specs.declared.Corner.{Corner}
-use Rattle.listing.specs.Text.{digitOf, digits, places, decimal, hexadecimal, unitsOf, cornersText, refusedText}
+use Rattle.listing.specs.Text.{decimal, hexadecimal, unitsOf, cornersText, refusedText}
 
 -- 5, 5 and 2032
 abbrev centre : Corner

@@ -1,8 +1,8 @@
 -- Laws of columns, lines and texts: how long they are, and a list that grows by one line. Assumes nothing.
-use Prim.Native.Nat.{ℕ, suc, _+_, _*_, _^_, _<_, _≤_}
+use Prim.Native.Nat.{ℕ, _+_, _^_, _<_, _≤_}
 use native.Mathlib.Numerals.{add-one}
 use native.Mathlib.Omega.{arith}
-use mathlib.Core.Path.{_≡_, refl, sym, ap, _∙_}
+use mathlib.Core.Path.{_≡_, ap, _∙_}
 use mathlib.Core.List.{List, [], _∷_, _++_, append-nil}
 use lib.ListN.{length, length-append}
 use mathlib.Core.Bool.{false}
@@ -13,7 +13,7 @@ use Rattle.lists.specs.Tab.{tab}
 use Rattle.lists.specs.Places.{flatMap}
 use Rattle.lists.proofs.Members.{flatMap-append}
 use Rattle.corner_list.specs.declared.Corner.{Corner}
-use Rattle.listing.specs.Text.{decimal, hexadecimal, unitsOf, columns, line, corners, heading}
+use Rattle.listing.specs.Text.{decimal, hexadecimal, unitsOf, columns, line, cornersWord, heading}
 use Rattle.listing.specs.Writing.{ended}
 use Rattle.listing.proofs.Numbers.{decimal-long, hexadecimal-long}
 
@@ -38,7 +38,7 @@ line-long c =
     (omega (arith, units-long (c .x), units-long (c .y), hexadecimal-long (toBits binary32 (c .x)), hexadecimal-long (toBits binary32 (c .y)), hexadecimal-long (toBits binary32 (c .strength))))
 
 -- ---- a heading, and one line more
-pub heading-long : (n : ℕ) → n ≤ 512 → length (heading corners n) ≤ 12
+pub heading-long : (n : ℕ) → n ≤ 512 → length (heading cornersWord n) ≤ 12
 heading-long n h = omega (arith, ended-long (decimal n) 10, decimal-long 2 n (omega arith))
 
 abbrev pub lines : List Corner → List ℕ

@@ -1,8 +1,8 @@
 -- The text of a corner list as it grows by lines, and the promises from the bytes written. Assumes nothing.
-use Prim.Native.Nat.{ℕ, suc, _+_, _*_, _<_, _≤_}
+use Prim.Native.Nat.{ℕ, _+_, _*_, _^_, _<_, _≤_}
 use native.Mathlib.Decide.{decLt}
 use native.Mathlib.Omega.{arith}
-use mathlib.Core.Path.{_≡_, refl, sym, ap, ap₂, _∙_}
+use mathlib.Core.Path.{_≡_, sym, ap, ap₂, _∙_}
 use mathlib.Core.List.{List, [], _∷_, _++_}
 use lib.ListN.{length, length-append}
 use borrow.Author.Tests.{lt-ltb, le-ltb}
@@ -14,10 +14,11 @@ use Rattle.corner_list.specs.declared.Corner.{Corner}
 use Rattle.corner_list.specs.CornerList.{Slices, cornersOf}
 use Rattle.corner_list.proofs.Corners.{corners-length}
 use Rattle.listing.specs.declared.Listing.the-variants.{Text, Refused}
-use Rattle.listing.specs.Text.{columns, line, corners, heading, cornersText}
-use Rattle.listing.specs.Writing.{longest, Wrote, listing, answerOf, bufferAfter, CornersWritten}
+use Rattle.listing.specs.Text.{newline, columns, line, cornersWord, heading, cornersText, refusedText}
+use Rattle.listing.specs.Writing.{longest, Wrote}
+use Rattle.listing.specs.Answer.{listing, CornersWritten}
 use Rattle.listing.proofs.Appending.{wrote-length, wrote-more, wrote-as, wrote-none, wrote-leaves}
-use Rattle.listing.proofs.Lines.{line-long, heading-long, lines, lines-more}
+use Rattle.listing.proofs.Lines.{decimal-ended, line-long, heading-long, lines, lines-more}
 
 -- ---- the lines of the first i of `count` corners behind the heading
 pub record Lines (f : ℕ → Corner) (count start : ℕ) (before : List ℕ) (i at : ℕ) (out : List ℕ) : Type 0 where
@@ -26,7 +27,7 @@ pub record Lines (f : ℕ → Corner) (count start : ℕ) (before : List ℕ) (i
   pub left : at + 69 * count ≤ length out + 69 * i
 
 -- the heading leaves a place for the longest lines
-pub lines-none : (f : ℕ → Corner) (count at : ℕ) (before out : List ℕ) → count ≤ 512 → length before ≡ longest → Wrote (heading corners count) 0 before at out → Lines f count at out 0 at out
+pub lines-none : (f : ℕ → Corner) (count at : ℕ) (before out : List ℕ) → count ≤ 512 → length before ≡ longest → Wrote (heading cornersWord count) 0 before at out → Lines f count at out 0 at out
 unfolding tab
 lines-none f count at before out h l w =
     let room = wrote-leaves w 12 (69 * count) (heading-long count h) (omega arith) in
@@ -42,11 +43,11 @@ module _ (f : ℕ → Corner) (count start : ℕ) (before : List ℕ) (i at : �
       }
 
   -- with the heading before them
-  pub lines-all : count ≤ i → (first : List ℕ) → Wrote (heading corners count) 0 first start before → Wrote (cornersText (tab count f)) 0 first at out
+  pub lines-all : count ≤ i → (first : List ℕ) → Wrote (heading cornersWord count) 0 first start before → Wrote (cornersText (tab count f)) 0 first at out
   unfolding cornersText
   lines-all h first w =
       let done : i ≡ count = omega (arith, s .upto) in
-      wrote-as (ap₂ (λ (n k : ℕ). heading corners n ++ lines (tab k f)) (sym (length-tab count f)) done) (wrote-more w (s .wrote))
+      wrote-as (ap₂ (λ (n k : ℕ). heading cornersWord n ++ lines (tab k f)) (sym (length-tab count f)) done) (wrote-more w (s .wrote))
 
 -- ---- the promises
 pub wrote-first : {text : List ℕ} {end : ℕ} {before after : List ℕ} → Wrote text 0 before end after → (end ≡ length text) × (after ≡ front text before)
@@ -74,7 +75,11 @@ lines-long (c ∷ cs) = omega (arith, length-append (line (columns c)) (lines cs
 
 pub corners-long : (cs : List Corner) → length cs ≤ 512 → length (cornersText cs) ≤ longest
 unfolding cornersText
-corners-long cs h = omega (arith, length-append (heading corners (length cs)) (lines cs), heading-long (length cs) h, lines-long cs)
+corners-long cs h = omega (arith, length-append (heading cornersWord (length cs)) (lines cs), heading-long (length cs) h, lines-long cs)
+
+pub refusal-long : (n : ℕ) → n < 2 ^ 64 → length (refusedText n) ≤ longest
+unfolding refusedText
+refusal-long n h = omega (arith, decimal-ended n newline h)
 
 -- a text was written: it stands first in the buffer, which has the place for it
 pub record Listed (b : Slices) (count : ℕ) (before : List ℕ) (end : ℕ) (after : List ℕ) : Type 0 where

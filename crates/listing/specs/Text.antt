@@ -21,7 +21,7 @@ unfolding digitOf
 digits base zero n = []
 digits base (suc k) n = digits base k (n / base) ++ (digitOf (n % base) ∷ [])
 
--- how many decimal digits n has: one, and one more for each division by 10 that it stands; n itself is enough for their number
+-- how many decimal digits n has: one, and one more for each time that it can be divided by 10; `most` times are looked at, and n times are enough
 unfoldable pub places : ℕ → ℕ → ℕ
 places zero n = 1
 places (suc most) n = cond (ltb n 10) 1 (suc (places most (n / 10)))
@@ -65,11 +65,11 @@ line (column ∷ next ∷ more) = (column ++ (space ∷ [])) ++ line (next ∷ m
 -- ---- texts
 
 -- "corners " and "refused "
-abbrev pub corners : List ℕ
-corners = 99 ∷ 111 ∷ 114 ∷ 110 ∷ 101 ∷ 114 ∷ 115 ∷ 32 ∷ []
+abbrev pub cornersWord : List ℕ
+cornersWord = 99 ∷ 111 ∷ 114 ∷ 110 ∷ 101 ∷ 114 ∷ 115 ∷ 32 ∷ []
 
-abbrev pub refused : List ℕ
-refused = 114 ∷ 101 ∷ 102 ∷ 117 ∷ 115 ∷ 101 ∷ 100 ∷ 32 ∷ []
+abbrev pub refusedWord : List ℕ
+refusedWord = 114 ∷ 101 ∷ 102 ∷ 117 ∷ 115 ∷ 101 ∷ 100 ∷ 32 ∷ []
 
 -- a word and a number
 abbrev pub heading : List ℕ → ℕ → List ℕ
@@ -77,8 +77,8 @@ heading word n = word ++ (decimal n ++ (newline ∷ []))
 
 -- "prints `corners N`, then a line for each corner"
 unfoldable pub cornersText : List Corner → List ℕ
-cornersText cs = heading corners (length cs) ++ flatMap (λ c. line (columns c)) cs
+cornersText cs = heading cornersWord (length cs) ++ flatMap (λ c. line (columns c)) cs
 
 -- "A refused stream prints `refused N` alone"
 unfoldable pub refusedText : ℕ → List ℕ
-refusedText n = heading refused n
+refusedText n = heading refusedWord n

@@ -1,15 +1,9 @@
--- What the writers do to their buffer, and the promises of the listing.
+-- What the private writers do to their buffer.
 use Prim.Native.Nat.{ℕ, _+_, _*_, _≤_}
 use mathlib.Core.Path.{_≡_}
-use mathlib.Core.Bool.{cond}
 use mathlib.Core.List.{List, [], _∷_, _++_}
 use lib.ListN.{length}
-use lib.Dec.{ltb}
-use Rattle.lists.specs.Buffer.{front, placed}
-use Rattle.corner_list.specs.CornerList.{Slices, cornersOf}
-use Rattle.listing.specs.declared.Listing.{Listing}
-use Rattle.listing.specs.declared.Listing.the-variants.{Text, Refused}
-use Rattle.listing.specs.Text.{cornersText, refusedText}
+use Rattle.lists.specs.Buffer.{placed}
 
 -- the longest text of 512 corners: "corners 512" and a newline, and lines of two numbers of 20 digits, three of 8, and five bytes between and behind
 abbrev pub longest : ℕ
@@ -24,32 +18,3 @@ pub record Wrote (bytes : List ℕ) (at : ℕ) (before : List ℕ) (end : ℕ) (
 -- a column and the byte behind it
 abbrev pub ended : List ℕ → ℕ → List ℕ
 ended column end = column ++ (end ∷ [])
-
--- ---- the promises
-
--- a listing in 01's terms: its text, or the number of its refusal
-pub data Outcome : Type 0 where
-  written : List ℕ → Outcome
-  refused : ℕ → Outcome
-
--- the answer: how long the text is, or the number
-abbrev pub answerOf : Outcome → Listing
-answerOf (written text) = Text (length text)
-answerOf (refused n) = Refused n
-
--- the buffer after it: the text first; unchanged where the listing is refused
-abbrev pub bufferAfter : Outcome → List ℕ → List ℕ
-bufferAfter (written text) buffer = front text buffer
-bufferAfter (refused n) buffer = buffer
-
--- 10: "a list's stated count exceeds its room", which has 512 places
-unfoldable pub listing : Slices → ℕ → Outcome
-listing b count = cond (ltb 512 count) (refused 10) (written (cornersText (cornersOf b count)))
-
-pub record CornersWritten (b : Slices) (count : ℕ) (buffer : List ℕ) (r : Listing) (after : List ℕ) : Type 0 where
-  pub answer : r ≡ answerOf (listing b count)
-  pub text : after ≡ bufferAfter (listing b count) buffer
-
-pub record RefusalWritten (number : ℕ) (buffer : List ℕ) (end : ℕ) (after : List ℕ) : Type 0 where
-  pub long : end ≡ length (refusedText number)
-  pub text : after ≡ front (refusedText number) buffer

@@ -5,8 +5,9 @@ ghost use Prim.Native.Nat.{_+_, _*_, _≤_, _<_};
 ghost use lib.Ieee.{binary32, toBits};
 ghost use lib.ListN.{length};
 ghost use Rattle.corner_list.specs.CornerList.{slices, cornersOf};
-ghost use Rattle.listing.specs.Text.{digitOf, digits, places, decimal, hexadecimal, unitsOf, columns, line, heading, cornersText, refusedText};
-ghost use Rattle.listing.specs.Writing.{longest, Wrote, ended, CornersWritten, RefusalWritten};
+ghost use Rattle.listing.specs.Text.{digitOf, digits, places, decimal, hexadecimal, unitsOf, columns, line, heading, cornersText};
+ghost use Rattle.listing.specs.Writing.{longest, Wrote, ended};
+ghost use Rattle.listing.specs.Answer.{CornersWritten, RefusalWritten};
 
 // The longest text: a heading of 12 bytes and 512 lines of 69.
 pub const LONGEST: usize = 35340;

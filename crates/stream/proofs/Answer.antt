@@ -2,19 +2,19 @@
 use Prim.Native.Nat.{ℕ, _*_, _≤_}
 use native.Mathlib.Nat.{mul-le-mul}
 use native.Mathlib.Omega.{arith}
-use mathlib.Core.Path.{_≡_, refl, sym, ap, _∙_}
+use mathlib.Core.Path.{_≡_, sym, ap, _∙_}
 use mathlib.Core.List.{List}
-use lib.ListN.{length, take}
+use lib.ListN.{take}
 use borrow.Author.Tests.{ne-eqb}
 use Rattle.lists.specs.Tab.{tab}
 use Rattle.lists.specs.Buffer.{front}
 use Rattle.lists.proofs.Tab.{length-tab}
 use Rattle.lists.proofs.Buffer.{front-take}
 use Rattle.stream.specs.declared.Header.{Header}
-use Rattle.stream.specs.declared.FrameStream.{FrameStream}
 use Rattle.stream.specs.declared.FrameStream.the-variants.{Frame, Refused}
 use Rattle.stream.specs.Stream.{accepted, refused, readFrame}
-use Rattle.stream.specs.Reader.{readingOf, bufferAfter, FrameRead, headerAt, pixelCount, pixelAt, Small, Judged}
+use Rattle.stream.specs.Answer.{bufferAfter, FrameRead}
+use Rattle.stream.specs.Parts.{headerAt, pixelCount, pixelAt, Small, Judged}
 
 pub pixels-are : (s : List ℕ) (header : Header) → header ≡ headerAt s → header .width * header .height ≡ pixelCount s
 unfolding headerAt pixelCount

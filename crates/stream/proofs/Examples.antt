@@ -3,8 +3,9 @@ use Prim.Native.Nat.{ℕ}
 use mathlib.Core.Path.{_≡_, refl}
 use mathlib.Core.List.{List, [], _∷_, _++_, map}
 use lib.ListN.{replicate}
-use lib.Ieee.{ofBits, lt}
-use Rattle.stream.specs.Stream.{bodyLength, sidesFault, rangeOutside, radiusOutside, parametersFault, paddingFault, bodyFault, recordFault, Reading, accepted, refused, readRecord, readPixels, readParameters, readFrame}
+use lib.Ieee.{ofBits, lt, le}
+use Rattle.merge.specs.Merge.{isOff, isSized}
+use Rattle.stream.specs.Stream.{bodyLength, accepted, refused, readFrame}
 
 -- sides; parameters with ring, window and merge radius; pixels of one record
 abbrev sides : ℕ → ℕ → List ℕ
@@ -41,7 +42,7 @@ abbrev numbers : List ℕ
 numbers = 7 ∷ 6 ∷ 11 ∷ 7 ∷ 1 ∷ 3 ∷ 5 ∷ 11 ∷ 7 ∷ 7 ∷ 11 ∷ []
 
 pub faults : map readFrame streams ≡ map refused numbers
-unfolding readFrame bodyLength ofBits lt
+unfolding readFrame bodyLength ofBits lt le isOff isSized
 faults = refl
 
 -- a stream of one pixel, and one byte behind it that is not read
@@ -58,5 +59,5 @@ pub one-pixel : readFrame (sides 1 1 ++ good ++ pixel 9 0 ++ (4 ∷ 8 ∷ [])) �
   minimum = 0x0605;
   search = 7;
 } (9 ∷ [])
-unfolding readFrame bodyLength ofBits lt
+unfolding readFrame bodyLength ofBits lt le isOff isSized
 one-pixel = refl

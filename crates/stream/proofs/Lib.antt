@@ -5,4 +5,7 @@ pub mod Pixels
 pub mod Order
 pub mod Answer
 pub mod RoundTrip
+pub mod Accepted
+pub mod Callers
+pub mod Prefix
 pub mod Examples

@@ -2,22 +2,21 @@
 use Prim.Native.Nat.{ℕ, zero, suc, _+_, _-_, _*_, _<_, _≤_}
 use native.Mathlib.Nat.{eq-zero-or-pos}
 use native.Mathlib.Omega.{arith}
-use mathlib.Core.Path.{_≡_, refl, sym, ap, ap₂, _∙_, subst}
+use mathlib.Core.Path.{_≡_, refl, sym, ap, ap₂, _∙_}
 use mathlib.Core.Logic.{⊎-elim}
-use mathlib.Core.Bool.{Bool, true, false, cond, _||_}
+use mathlib.Core.Bool.{cond, _||_}
 use mathlib.Core.List.{List, [], _∷_, _++_}
 use lib.ListN.{length, take, drop, length-drop}
 use lib.Seq.{drop-drop}
 use lib.Dec.{eqb, ltb}
-use borrow.Author.Tests.{eq-eqb, ne-eqb, ltb-false}
+use borrow.Author.Tests.{ne-eqb, ltb-false}
 use Rattle.lists.specs.Tab.{tab}
-use Rattle.lists.specs.Refusals.{lowest}
 use Rattle.lists.proofs.Tests.{or-neither}
 use Rattle.lists.proofs.Refusals.{lowest-none}
 use Rattle.stream.specs.declared.Header.{Header}
-use Rattle.stream.specs.Stream.{u16, bodyLength, bodyOf, behind, headerOf, sidesFault, bodyFault, recordFault, Reading, accepted, refused, unless, readRecord, recordsFor, readPixels, readParameters, readFrame}
-use Rattle.stream.specs.Reader.{due, headerAt, pixelCount, pixelAt, leftAfter, Small, Whole, Judged}
-use Rattle.stream.proofs.Records.{Sound, sound}
+use Rattle.stream.specs.Stream.{u16, bodyLength, bodyOf, behind, headerOf, sidesFault, bodyFault, recordFault, Reading, accepted, refused, readRecord, recordsFor, readPixels, readParameters, readFrame}
+use Rattle.stream.specs.Parts.{due, headerAt, pixelCount, pixelAt, leftAfter, Small, Judged}
+use Rattle.stream.proofs.Records.{sound}
 use Rattle.stream.proofs.Pixels.{one-fewer, pixels-more}
 
 -- ---- a record that is read: its fault, or what follows
@@ -109,7 +108,7 @@ module _ {s : List ℕ} where
   due-end : (i : ℕ) (p : Passed s i) → leftBehind s i ≡ 0 → dueAt (pixels i p) ≡ 4
   due-end i p z = due-pixels i p ∙ rw z
 
-small-sides : (width height : ℕ) → sidesFault width height ≡ 0 → (width ≤ 96) × (height ≤ 96)
+pub small-sides : (width height : ℕ) → sidesFault width height ≡ 0 → (width ≤ 96) × (height ≤ 96)
 unfolding sidesFault
 small-sides width height e =
     let p = or-neither (ltb 96 width) (ltb 96 height) (lowest-none (ltb 96 width || ltb 96 height) 1 [] (omega arith) e .0) in

@@ -8,7 +8,7 @@ use lib.Seq.{ext-getD, getD-take, getD-drop}
 use Rattle.lists.specs.Tab.{tab}
 use Rattle.lists.proofs.Tab.{length-tab, getD-tab, tab-add}
 use Rattle.stream.specs.Stream.{recordsFor}
-use Rattle.stream.specs.Reader.{pixelAt}
+use Rattle.stream.specs.Parts.{pixelAt}
 
 -- a pixel's place is in the stream
 pub pixel-in : (n i long : ℕ) → i < n → 22 + 33 * recordsFor n ≤ long → 23 + i + i / 32 < long

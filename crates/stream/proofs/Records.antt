@@ -2,17 +2,17 @@
 use Prim.Native.Nat.{ℕ, suc, _+_, _-_, _<_, _≤_}
 use native.Mathlib.Numerals.{add-one}
 use native.Mathlib.Omega.{arith}
-use mathlib.Core.Path.{_≡_, refl, sym, ap, _∙_}
+use mathlib.Core.Path.{_≡_, refl, ap, _∙_}
 use mathlib.Core.Bool.{Bool, true, false, not}
-use mathlib.Core.List.{List, [], _∷_, _++_}
+use mathlib.Core.List.{List, [], _∷_}
 use lib.ListN.{length, getD, take, drop, drop-of-length-le, length-drop}
 use lib.Seq.{drop-cons}
 use lib.Dec.{eqb, ltb}
-use borrow.Author.Tests.{lt-ltb, le-ltb, ltb-false}
+use borrow.Author.Tests.{lt-ltb, le-ltb, ltb-false, eqb-true, not-false}
 use Rattle.lists.specs.Refusals.{lowest}
 use Rattle.lists.proofs.Refusals.{lowest-some}
 use Rattle.stream.specs.Stream.{known, bodyLength, bodyOf, bodyFault, recordFault}
-use Rattle.stream.specs.Reader.{kindFault}
+use Rattle.stream.specs.Parts.{kindFault}
 
 -- the conditions that are judged behind those of the kind
 abbrev bodyConditions : ℕ → ℕ → List ℕ → List (Bool × ℕ)
@@ -47,8 +47,9 @@ module _ (due left : ℕ) (s : List ℕ) (at : ℕ) where
       pub fault-body : (n : ℕ) → n ≡ bodyLength due → n ≤ length s - (at + 1) → recordFault due left (drop at s) ≡ bodyFault due left (take n (drop (at + 1) s))
       fault-body n e c = fault-behind ∙ rw (le-ltb (length (drop (suc at) s)) (bodyLength due) (omega (arith, length-drop (suc at) s)), e, add-one)
 
--- ---- a record without fault is whole, and so is its body
+-- ---- a record without fault: its kind is the one due, it is whole, and its body has no fault
 pub record Sound (due left : ℕ) (s : List ℕ) : Type 0 where
+  pub kind : s ≡ due ∷ drop 1 s
   pub long : 1 + bodyLength due ≤ length s
   pub body : bodyFault due left (bodyOf due s) ≡ 0
 
@@ -57,10 +58,14 @@ unfolding recordFault
 sound due left [] e = absurd (let no : ⊥ = omega arith in no)
 sound due left (kind ∷ rest) e =
     let p = parts (not (known kind)) (not (eqb kind due)) (ltb (length rest) (bodyLength due)) (bodyFault due left (take (bodyLength due) rest)) e in
-    record { long = omega (arith, ltb-false (length rest) (bodyLength due) (p .0)); body = p .1 }
+    record {
+      kind = ap (λ (k : ℕ). k ∷ rest) (eqb-true kind due (not-false (eqb kind due) (p .0)));
+      long = omega (arith, ltb-false (length rest) (bodyLength due) (p .1));
+      body = p .2;
+    }
   where
-    parts : (a b l : Bool) (n : ℕ) → lowest ((a, 6) ∷ (b, 11) ∷ (l, 7) ∷ (true, n) ∷ []) ≡ 0 → (l ≡ false) × (n ≡ 0)
+    parts : (a b l : Bool) (n : ℕ) → lowest ((a, 6) ∷ (b, 11) ∷ (l, 7) ∷ (true, n) ∷ []) ≡ 0 → (b ≡ false) × (l ≡ false) × (n ≡ 0)
     parts true b l n e = absurd (let no : ⊥ = omega arith in no)
     parts false true l n e = absurd (let no : ⊥ = omega arith in no)
     parts false false true n e = absurd (let no : ⊥ = omega arith in no)
-    parts false false false n e = (refl, e)
+    parts false false false n e = (refl, refl, e)

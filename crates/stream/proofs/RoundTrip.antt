@@ -1,19 +1,18 @@
 -- The reader takes back what is written for sides, parameters and pixels without fault, whatever stands behind it. Assumes nothing.
-use Prim.Native.Nat.{ℕ, zero, suc, _+_, _-_, _*_, _/_, _%_, _<_, _≤_, min}
+use Prim.Native.Nat.{ℕ, zero, suc, _+_, _-_, _*_, _/_, _%_, _≤_}
 use native.Mathlib.Numerals.{one-add}
 use native.Mathlib.Decide.{decLt}
 use native.Mathlib.Omega.{arith}
 use mathlib.Core.Path.{_≡_, refl, sym, ap, ap₂, _∙_}
-use mathlib.Core.Bool.{Bool, true, false, not}
+use mathlib.Core.Bool.{true, false, not}
 use mathlib.Core.List.{List, [], _∷_, _++_, append-assoc, append-nil}
 use lib.ListN.{length, take, drop, replicate, length-append, length-take, length-drop, length-replicate, take-append-drop, drop-of-length-le}
-use lib.Seq.{take-at, drop-at, take-all, take-append-le}
+use lib.Seq.{take-at, drop-at, take-all}
 use lib.Dec.{eqb}
 use borrow.Author.Tests.{eq-eqb, le-ltb}
 use Rattle.lists.specs.Places.{any}
-use Rattle.lists.specs.Refusals.{lowest}
 use Rattle.stream.specs.declared.Header.{Header}
-use Rattle.stream.specs.Stream.{u16, u32, known, bodyLength, bodyOf, behind, headerOf, sidesFault, parametersFault, paddingFault, bodyFault, recordFault, Reading, accepted, readRecord, recordsFor, readPixels, readParameters, readFrame, bytes16, bytes32, sidesBytes, parametersBytes, pixelBytes, frameBytes}
+use Rattle.stream.specs.Stream.{known, bodyLength, bodyOf, behind, headerOf, sidesFault, parametersFault, paddingFault, bodyFault, recordFault, Reading, accepted, readRecord, recordsFor, readPixels, readParameters, readFrame, sidesBytes, parametersBytes, pixelBytes, frameBytes}
 use Rattle.stream.proofs.Order.{read-sound}
 
 -- ---- a record that is written without fault is read

@@ -1,15 +1,13 @@
 -- The frame stream of document 01 ("The added stream and listing") over a list of bytes: its records, their faults, and what a stream holds.
 use Prim.Native.Nat.{ℕ, zero, suc, _+_, _-_, _*_, _/_, _%_}
-use mathlib.Core.Bool.{Bool, true, false, cond, not, _&&_, _||_}
+use mathlib.Core.Bool.{Bool, true, cond, not, _&&_, _||_}
 use mathlib.Core.List.{List, [], _∷_, _++_}
 use lib.ListN.{length, getD, take, drop, replicate}
 use lib.Dec.{eqb, ltb, leb}
-use lib.IntN.{pos, negsuc}
-use lib.Ieee.{Float, fin, binary32, ofBits, lt}
-use lib.Ieee.Scale.{finite}
-use Rattle.float32.specs.Float32.{zero as zero32}
+use lib.Ieee.{Float, binary32, ofBits}
 use Rattle.lists.specs.Places.{any}
 use Rattle.lists.specs.Refusals.{lowest}
+use Rattle.merge.specs.Merge.{isOff, isSized}
 use Rattle.stream.specs.declared.Header.{Header}
 
 -- ---- numbers at a place of a list of bytes, little-endian
@@ -66,13 +64,13 @@ sidesFault width height = lowest ((ltb 96 width || ltb 96 height, 1) ∷ [])
 unfoldable pub rangeOutside : ℕ → ℕ → ℕ → Bool
 rangeOutside ring window centroid = not (eqb ring 5 || eqb ring 10) || ltb 16 window || ltb 16 centroid
 
--- "Merge radius finite, positive, outside 1/64..4,096"
-unfoldable pub radiusOutside : Float → Bool
-radiusOutside r = finite r && lt zero32 r && (lt r (fin false 1 (negsuc 5)) || lt (fin false 1 (pos 12)) r)
+-- "Merge radius finite, positive, outside 1/64..4,096": neither off nor of a size that the merge takes
+abbrev pub radiusOutside : Float → Bool
+radiusOutside r = not (isOff r) && not (isSized r)
 
 -- 3, then 5
 unfoldable pub parametersFault : ℕ → ℕ → ℕ → ℕ → ℕ
-unfolding rangeOutside radiusOutside
+unfolding rangeOutside
 parametersFault ring window centroid merge =
     lowest ((rangeOutside ring window centroid, 3) ∷ (radiusOutside (ofBits binary32 merge), 5) ∷ [])
 

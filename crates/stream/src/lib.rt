@@ -5,7 +5,8 @@ ghost use lib.ListN.{length, drop};
 ghost use Rattle.lists.specs.Tab.{tab};
 ghost use Rattle.lists.specs.Buffer.{front};
 ghost use Rattle.stream.specs.Stream.{u8, u16, u32, bodyLength, headerOf, sidesFault, parametersFault, paddingFault, bodyFault, recordFault, recordsFor};
-ghost use Rattle.stream.specs.Reader.{FrameRead, due, kindFault, firstFault, rangeFault, radiusFault, pixelCount, pixelAt, leftAfter, Judged};
+ghost use Rattle.stream.specs.Answer.{FrameRead};
+ghost use Rattle.stream.specs.Parts.{due, kindFault, firstFault, rangeFault, radiusFault, pixelCount, pixelAt, leftAfter, Judged};
 
 // Sides and parameters. Threshold and merge radius are the 32 bits that came: a NaN may have any pattern.
 pub struct Header {
@@ -124,17 +125,10 @@ fn radius_fault(bits: u32) -> u8
     ensures { λ r. ⌜ r ≡ radiusFault bits ⌝ }
 {
     let radius = float32::from_bits(bits);
-    if float32::is_finite(radius) {
-        if 0.0 < radius {
-            if radius < 0.015625 {
-                return 5;
-            }
-            if 4096.0 < radius {
-                return 5;
-            }
-        }
+    if merge::is_off(radius) {
+        return 0;
     }
-    0
+    if merge::is_sized(radius) { 0 } else { 5 }
 }
 
 fn parameters_fault(body: &[u8]) -> u8

@@ -2,7 +2,6 @@
 use Prim.Native.Nat.{_-_}
 use native.Mathlib.Omega.{arith}
 use mathlib.Core.Path.{refl, _∙_}
-use lib.ListN.{length}
 use Rattle.corner_list.specs.CornerList.{slices, cornerAt}
 use Rattle.listing.proofs.Appending.{wrote-length}
 use Rattle.listing.proofs.Texts.{Lines, lines-none, lines-next, lines-all}

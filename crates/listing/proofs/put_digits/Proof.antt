@@ -1,5 +1,4 @@
 -- `listing::put_digits` meets its contract. The invariant: the lower digits are written, and the i highest are those of the rest. Assumes nothing.
-use Prim.Native.Nat.{_%_, _<_}
 use native.Mathlib.Nat.{mod-lt}
 use native.Mathlib.Omega.{arith}
 use Rattle.listing.proofs.Appending.{Ahead, ahead-all, ahead-length, ahead-next, ahead-none}

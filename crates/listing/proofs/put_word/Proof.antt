@@ -2,7 +2,6 @@
 use Prim.Native.Nat.{_+_, _-_}
 use native.Mathlib.Nat.{add-zero}
 use native.Mathlib.Omega.{arith}
-use mathlib.Core.Path.{_≡_}
 use lib.ListN.{length, take}
 use Rattle.listing.specs.Writing.{Wrote}
 use Rattle.listing.proofs.Appending.{wrote-length, wrote-none, word-more, word-all}

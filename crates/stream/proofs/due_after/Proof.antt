@@ -1,6 +1,6 @@
 -- `stream::due_after` meets its contract, arm by arm. Assumes nothing.
 use borrow.Author.Tests.{eq-eqb, ne-eqb}
-use Rattle.stream.specs.Reader.{due}
+use Rattle.stream.specs.Parts.{due}
 use Rattle.stream.proofs.due_after.Statement.{statement}
 use Rattle.stream.proofs.due_after.Tie as tie
 

@@ -1,6 +1,6 @@
 -- `stream::first` meets its contract. Assumes nothing.
 use borrow.Author.Tests.{eq-eqb, ne-eqb}
-use Rattle.stream.specs.Reader.{firstFault}
+use Rattle.stream.specs.Parts.{firstFault}
 use Rattle.stream.proofs.first.Statement.{statement}
 use Rattle.stream.proofs.first.Tie as tie
 

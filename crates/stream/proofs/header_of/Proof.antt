@@ -1,6 +1,5 @@
 -- `stream::header_of` meets its contract, field by field. Assumes nothing.
 use native.Mathlib.Omega.{arith}
-use mathlib.Core.Path.{_≡_}
 use borrow.Author.Needs.{needs}
 use Rattle.stream.proofs.header_of.Statement.{statement}
 use Rattle.stream.proofs.header_of.Tie as tie

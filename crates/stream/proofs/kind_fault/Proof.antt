@@ -1,7 +1,7 @@
 -- `stream::kind_fault` meets its contract, arm by arm. Assumes nothing.
 use native.Mathlib.Omega.{arith}
 use borrow.Author.Tests.{le-leb, lt-leb, eq-eqb, ne-eqb}
-use Rattle.stream.specs.Reader.{kindFault}
+use Rattle.stream.specs.Parts.{kindFault}
 use Rattle.stream.proofs.kind_fault.Statement.{statement}
 use Rattle.stream.proofs.kind_fault.Tie as tie
 

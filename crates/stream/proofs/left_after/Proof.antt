@@ -1,9 +1,8 @@
 -- `stream::left_after` meets its contract, arm by arm. Assumes nothing.
 use Prim.Native.Nat.{_-_}
 use native.Mathlib.Omega.{arith}
-use mathlib.Core.Path.{_≡_}
 use borrow.Author.Tests.{ne-eqb}
-use Rattle.stream.specs.Reader.{leftAfter}
+use Rattle.stream.specs.Parts.{leftAfter}
 use borrow.Author.Needs.{needs}
 use Rattle.stream.proofs.left_after.Statement.{statement}
 use Rattle.stream.proofs.left_after.Tie as tie

@@ -1,7 +1,7 @@
 -- `stream::parameters_fault` meets its contract. Assumes nothing.
 use mathlib.Core.Path.{ap, ap₂, _∙_}
 use Rattle.stream.specs.Stream.{u8, u32}
-use Rattle.stream.specs.Reader.{firstFault, radiusFault}
+use Rattle.stream.specs.Parts.{firstFault, radiusFault}
 use Rattle.stream.proofs.Parameters.{parameters-first}
 use borrow.Author.Needs.{needs}
 use Rattle.stream.proofs.parameters_fault.Statement.{statement}

@@ -1,8 +1,8 @@
 -- `stream::pixel_count` meets its contract: the product of two numbers of 16 bits fits. Assumes nothing.
-use Prim.Native.Nat.{_*_, _<_, _≤_}
+use Prim.Native.Nat.{_≤_}
 use native.Mathlib.Nat.{mul-le-mul}
 use native.Mathlib.Omega.{arith}
-use Rattle.stream.specs.Reader.{pixelCount}
+use Rattle.stream.specs.Parts.{pixelCount}
 use borrow.Author.Needs.{needs}
 use Rattle.stream.proofs.pixel_count.Statement.{statement}
 use Rattle.stream.proofs.pixel_count.Tie as tie

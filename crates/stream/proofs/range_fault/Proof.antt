@@ -2,11 +2,11 @@
 use Prim.Native.Nat.{ℕ}
 use mathlib.Core.Path.{_≡_}
 use mathlib.Core.Logic.{_⊎_, inl, inr, ⊎-elim}
-use mathlib.Core.Bool.{Bool, true, _||_}
+use mathlib.Core.Bool.{true, _||_}
 use lib.Dec.{eqb}
 use borrow.Author.Tests.{lt-ltb, le-ltb, ne-eqb}
 use Rattle.stream.specs.Stream.{rangeOutside}
-use Rattle.stream.specs.Reader.{rangeFault}
+use Rattle.stream.specs.Parts.{rangeFault}
 use Rattle.stream.proofs.range_fault.Statement.{statement}
 use Rattle.stream.proofs.range_fault.Tie as tie
 

@@ -1,9 +1,8 @@
 -- `stream::read_frame` meets its contract: the stream is judged whole, and its sides fit the buffer. Assumes nothing.
-use Prim.Native.Nat.{_*_, _≤_}
+use Prim.Native.Nat.{_*_}
 use native.Mathlib.Omega.{arith}
-use mathlib.Core.Path.{_≡_, sym, ap, _∙_}
-use lib.ListN.{length}
-use Rattle.stream.specs.Reader.{headerAt, pixelCount, Whole}
+use mathlib.Core.Path.{_≡_}
+use Rattle.stream.specs.Parts.{headerAt, Whole}
 use Rattle.stream.proofs.Answer.{pixels-are, pixels-fit, refused-read, frame-read}
 use borrow.Author.Needs.{needs}
 use Rattle.stream.proofs.read_frame.Statement.{statement}

@@ -1,9 +1,7 @@
 -- `stream::record_fault` meets its contract, return by return. Assumes nothing.
 use Prim.Native.Nat.{_+_, _-_}
 use native.Mathlib.Omega.{arith}
-use mathlib.Core.Path.{_≡_, sym, ap, _∙_}
-use lib.ListN.{take, drop}
-use Rattle.stream.specs.Stream.{bodyFault}
+use mathlib.Core.Path.{_≡_, sym, _∙_}
 use Rattle.stream.proofs.Records.{fault-end, fault-kind, fault-cut, fault-body}
 use borrow.Author.Needs.{needs}
 use Rattle.stream.proofs.record_fault.Statement.{statement}

@@ -7,7 +7,7 @@ use lib.ListN.{length, set, length-set}
 use Rattle.lists.specs.Tab.{tab}
 use Rattle.lists.specs.Buffer.{front}
 use Rattle.lists.proofs.Buffer.{front-tab}
-use Rattle.stream.specs.Reader.{pixelAt}
+use Rattle.stream.specs.Parts.{pixelAt}
 use Rattle.stream.proofs.Pixels.{pixel-in}
 use borrow.Author.Needs.{needs}
 use Rattle.stream.proofs.store_pixels.Statement.{statement}

@@ -1,4 +1,4 @@
--- What the parts of the reader give, and the promise of `read_frame`.
+-- What the private parts of the reader give.
 use Prim.Native.Nat.{ℕ, _+_, _-_, _*_, _/_, _≤_}
 use mathlib.Core.Path.{_≡_}
 use mathlib.Core.Bool.{not, cond}
@@ -7,30 +7,9 @@ use lib.ListN.{length, take, drop}
 use lib.Dec.{eqb}
 use lib.Ieee.{binary32, ofBits}
 use Rattle.lists.specs.Tab.{tab}
-use Rattle.lists.specs.Buffer.{front}
 use Rattle.lists.specs.Refusals.{lowest}
 use Rattle.stream.specs.declared.Header.{Header}
-use Rattle.stream.specs.declared.FrameStream.{FrameStream}
-use Rattle.stream.specs.declared.FrameStream.the-variants.{Frame, Refused}
-use Rattle.stream.specs.Stream.{u8, u16, known, headerOf, rangeOutside, radiusOutside, Reading, accepted, refused, unless, recordsFor, readFrame}
-
--- ---- the answer
-
--- an answer in 01's terms: the header with the pixels that stand first in the buffer, or the number
-abbrev pub readingOf : FrameStream → List ℕ → Reading
-readingOf (Frame header) buffer = accepted header (take (header .width * header .height) buffer)
-readingOf (Refused n) buffer = refused n
-
--- the buffer after it: the pixels first; unchanged where the stream is refused
-abbrev pub bufferAfter : Reading → List ℕ → List ℕ
-bufferAfter (accepted header pixels) buffer = front pixels buffer
-bufferAfter (refused n) buffer = buffer
-
-pub record FrameRead (input buffer : List ℕ) (answer : FrameStream) (after : List ℕ) : Type 0 where
-  pub reading : readingOf answer after ≡ readFrame input
-  pub pixels : after ≡ bufferAfter (readFrame input) buffer
-
--- ---- the parts
+use Rattle.stream.specs.Stream.{u8, u16, known, headerOf, rangeOutside, radiusOutside, accepted, unless, recordsFor, readFrame}
 
 -- the kind that is due behind one of kind `kind`, 0 at the start, where `left` pixels have not come yet
 unfoldable pub due : ℕ → ℕ → ℕ
