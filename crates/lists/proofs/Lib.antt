@@ -4,3 +4,6 @@ pub mod Places
 pub mod Members
 pub mod Buffer
 pub mod Refusals
+pub mod Scan
+pub mod Parts
+pub mod Rows

@@ -34,6 +34,15 @@ module _ {A : Type 0} where
   all-both P Q [] h k = tt
   all-both P Q (a ∷ l) h k = ((h .0, k .0), all-both P Q l (h .1) (k .1))
 
+  -- those that pass a test
+  pub all-keep : (P : A → Type 0) (f : A → Bool) (l : List A) → All P l → All (λ a. P a × (f a ≡ true)) (keep f l)
+  all-keep P f [] h = tt
+  all-keep P f (a ∷ l) h = pick (f a) refl (all-keep P f l (h .1))
+    where
+      pick : (b : Bool) → f a ≡ b → All (λ a. P a × (f a ≡ true)) (keep f l) → All (λ a. P a × (f a ≡ true)) (cond b (a ∷ keep f l) (keep f l))
+      pick true e k = ((h .0, e), k)
+      pick false e k = k
+
   -- no member passes a test, as a Bool and as a fact of each
   pub none-any : (f : A → Bool) (l : List A) → All (λ a. f a ≡ true → ⊥) l → any f l ≡ false
   none-any f [] h = refl
@@ -111,7 +120,7 @@ at-counted P a (suc n) h k p q =
     ⊎-elim (λ e. subst P e (h .0)) (λ l. at-counted P (suc a) n (h .1) k l (omega arith)) (eq-or-lt-of-le p)
 
 module _ (P : Place → Type 0) where
-  all-row : (y a b : ℕ) → ((x : ℕ) → a ≤ x → x < b → P (record { x = x; y = y })) → All P (row y a b)
+  pub all-row : (y a b : ℕ) → ((x : ℕ) → a ≤ x → x < b → P (record { x = x; y = y })) → All P (row y a b)
   unfolding row range
   all-row y a b f = all-mapped P (λ x. record { x = x; y = y }) (counted a (b - a)) (all-counted (λ x. P (record { x = x; y = y })) a (b - a) (λ k p q. f k p (omega arith)))
 

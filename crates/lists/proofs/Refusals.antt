@@ -22,3 +22,9 @@ pub lowest-some : (cs ds : List (Bool × ℕ)) → (lowest cs ≡ 0 → ⊥) →
 lowest-some [] ds h = absurd (h refl)
 lowest-some ((true, n) ∷ cs) ds h = refl
 lowest-some ((false, n) ∷ cs) ds h = lowest-some cs ds h
+
+-- no number: those behind decide
+pub lowest-past : (cs ds : List (Bool × ℕ)) → All (λ c. 0 < c .1) cs → lowest cs ≡ 0 → lowest (cs ++ ds) ≡ lowest ds
+lowest-past [] ds p e = refl
+lowest-past ((true, n) ∷ cs) ds p e = absurd (let no : ⊥ = omega (arith, p .0) in no)
+lowest-past ((false, n) ∷ cs) ds p e = lowest-past cs ds (p .1) e

@@ -1,0 +1,169 @@
+-- Inputs without a fault, and the answers of peak finding: each from the tests that lead to it, and what a caller learns from it.
+-- Assumes nothing.
+use Prim.Native.Nat.{ℕ, zero, suc, _+_, _-_, _*_, _<_, _≤_}
+use native.Mathlib.Omega.{arith}
+use native.Mathlib.Decide.{decLt}
+use mathlib.Core.Path.{_≡_, refl, sym, ap, _∙_}
+use mathlib.Core.Bool.{Bool, true, false, not, _||_}
+use mathlib.Core.List.{List}
+use lib.ListN.{length, length-map}
+use lib.Dec.{ltb, leb, eqb}
+use lib.Ieee.{Float}
+use borrow.Author.Tests.{lt-ltb, le-ltb, ltb-false, leb-true, leb-false, eq-eqb, eqb-true, not-false}
+use Rattle.lists.specs.Places.{All}
+use Rattle.lists.specs.Refusals.{lowest}
+use Rattle.lists.proofs.Tests.{or-neither}
+use Rattle.lists.proofs.Refusals.{all-clear, lowest-some, lowest-past}
+use Rattle.corner_list.specs.CornerList.{Slices, placesOf, placedCorners}
+use Rattle.corner_list.specs.declared.Corner.{Corner}
+use Rattle.detect.specs.declared.Search.{Search}
+use Rattle.detect.specs.declared.Peaks.{Peaks}
+use Rattle.detect.specs.declared.Peaks.the-variants.{Added, Refused}
+use Rattle.detect.specs.Detect.{searchOf, peaksIn, startAt, startsIn, isRing, conditions, refusalOf, answerOf, bufferOf, numberOf, Found}
+use Rattle.detect.specs.Post.{Searchable, Written}
+
+-- ---- inputs
+
+-- a table of conditions of which none holds
+pub record Clear (conds : List (Bool × ℕ)) : Type 0 where
+  pub numbered : All (λ c. 0 < c .1) conds
+  pub none : lowest conds ≡ 0
+
+-- an input of which none of them holds
+pub record Sound (size w h ring window radius : ℕ) : Type 0 where
+  pub wide : w ≤ 4096
+  pub high : h ≤ 4096
+  pub whole : size ≡ w * h
+  pub ring-is : isRing ring ≡ true
+  pub in-window : window ≤ 16
+  pub in-radius : radius ≤ 16
+
+module _ (size w h ring window radius : ℕ) where
+  pub clear : lowest (conditions size w h ring window radius) ≡ 0 → Clear (conditions size w h ring window radius)
+  unfolding conditions
+  clear e = record { numbered = (omega arith, (omega arith, (omega arith, tt))); none = e }
+
+  pub sound : Clear (conditions size w h ring window radius) → Sound size w h ring window radius
+  unfolding conditions
+  sound c =
+      let none = all-clear (conditions size w h ring window radius) (c .numbered) (c .none) in
+      let sides = or-neither (ltb 4096 w) (ltb 4096 h) (none .0) in
+      let ring-and = or-neither (not (isRing ring)) _ (none .1 .1 .0) in
+      let radii = or-neither (ltb 16 window) (ltb 16 radius) (ring-and .1) in record {
+        wide = ltb-false 4096 w (sides .0);
+        high = ltb-false 4096 h (sides .1);
+        whole = eqb-true size (w * h) (not-false (eqb size (w * h)) (none .1 .0));
+        ring-is = not-false (isRing ring) (ring-and .0);
+        in-window = ltb-false 16 window (radii .0);
+        in-radius = ltb-false 16 radius (radii .1);
+      }
+
+  pub sound-clear : Sound size w h ring window radius → Clear (conditions size w h ring window radius)
+  unfolding conditions
+  sound-clear k =
+      clear
+      (rw (le-ltb 4096 w (k .wide), le-ltb 4096 h (k .high), eq-eqb size (w * h) (k .whole), k .ring-is, le-ltb 16 window (k .in-window), le-ltb 16 radius (k .in-radius)))
+
+ring-small : (ring : ℕ) → isRing ring ≡ true → ring ≤ 10
+ring-small ring e = pick (eqb ring 5) (eqb ring 10) refl refl e
+  where
+    pick : (a b : Bool) → eqb ring 5 ≡ a → eqb ring 10 ≡ b → (a || b) ≡ true → ring ≤ 10
+    pick true b p q e = omega (arith, eqb-true ring 5 p)
+    pick false true p q e = omega (arith, eqb-true ring 10 q)
+    pick false false p q e = let z : _≡_ {A = Bool} false true = e in absurd (let y : _≡_ {A = ℕ} 0 1 = cc in let no : ⊥ = omega arith in no)
+
+-- so its map can be searched
+pub searchable : (m : List Float) (w h ring : ℕ) (t : Float) (window least radius : ℕ) → Clear (conditions (length m) w h ring window radius)
+    → Searchable m (searchOf w h ring t window least radius)
+searchable m w h ring t window least radius e =
+    let k = sound (length m) w h ring window radius e in
+    record { size = k .whole; wide = k .wide; high = k .high; radius = k .in-window; inside = omega arith; narrow = omega (arith, ring-small ring (k .ring-is), k .in-window, k .in-radius) }
+
+-- ---- whether the corners fit a buffer b of so many places, by the test of the peaks' number
+module _ (m : List Float) (s : Search) (b : Slices) (places held : ℕ) (is : places ≡ placesOf b) where
+  pub held-beyond : places < held → placesOf b < held + length (startsIn m s)
+  held-beyond l = omega arith
+
+  module _ (h : held ≤ places) (t : Bool) (e : t ≡ leb (length (peaksIn m s)) (places - held)) where
+    pub fits-behind : t ≡ true → held + length (startsIn m s) ≤ placesOf b
+    fits-behind q = omega (arith, length-map (peaksIn m s) (startAt m (s .w)), leb-true (length (peaksIn m s)) (places - held) (sym e ∙ q))
+
+    pub short-behind : t ≡ false → placesOf b < held + length (startsIn m s)
+    short-behind q = omega (arith, length-map (peaksIn m s) (startAt m (s .w)), leb-false (length (peaksIn m s)) (places - held) (sym e ∙ q))
+
+-- ---- refusals, by the conditions on the input and the buffer's places
+module _ (places held n : ℕ) where
+  pub refusal-input : (cs : List (Bool × ℕ)) → (lowest cs ≡ 0 → ⊥) → refusalOf cs places held n ≡ lowest cs
+  unfolding refusalOf
+  refusal-input cs e = lowest-some cs _ e
+
+  module _ (cs : List (Bool × ℕ)) (c : Clear cs) where
+    pub refusal-short : places < held + n → refusalOf cs places held n ≡ 10
+    unfolding refusalOf
+    refusal-short l = lowest-past cs _ (c .numbered) (c .none) ∙ rw (lt-ltb places (held + n) l)
+
+    pub refusal-none : held + n ≤ places → refusalOf cs places held n ≡ 0
+    unfolding refusalOf
+    refusal-none l = lowest-past cs _ (c .numbered) (c .none) ∙ rw (le-ltb places (held + n) l)
+
+-- ---- answers, by what led to them
+number-is : (k n : ℕ) → numberOf (answerOf k n) ≡ k
+number-is zero n = refl
+number-is (suc k) n = refl
+
+module _ (conds : List (Bool × ℕ)) (cs : List Corner) (held : ℕ) (b : Slices) where
+  found-by : (k : ℕ) → refusalOf conds (placesOf b) held (length cs) ≡ k → (answer : Peaks) (b′ : Slices) → answer ≡ answerOf k (length cs) → b′ ≡ bufferOf k held cs b → Found conds cs held b answer b′
+  found-by k e answer b′ p q = record {
+    answered = p ∙ ap (λ (r : ℕ). answerOf r (length cs)) (sym e);
+    number = ap numberOf p ∙ number-is k (length cs) ∙ sym e;
+    buffer = q ∙ ap (λ (r : ℕ). bufferOf r held cs b) (sym e);
+  }
+
+  pub found-refused : (k : ℕ) → k ≡ lowest conds → (k ≡ 0 → ⊥) → Found conds cs held b (Refused k) b
+  found-refused zero e n = absurd (n refl)
+  found-refused (suc k) e n = found-by (suc k) (refusal-input (placesOf b) held (length cs) conds (λ z. n (e ∙ z)) ∙ sym e) (Refused (suc k)) b refl refl
+
+-- of a map m that was searched with s, where the conditions on the input do not hold
+module _ (m : List Float) (s t : Search) (same : s ≡ t) (conds : List (Bool × ℕ)) (clear : Clear conds) (held : ℕ) (b : Slices) where
+  pub found-short : placesOf b < held + length (startsIn m s) → Found conds (startsIn m t) held b (Refused 10) b
+  found-short l = rw (← same) (found-by conds (startsIn m s) held b 10 (refusal-short (placesOf b) held (length (startsIn m s)) conds clear l) (Refused 10) b refl refl)
+
+  pub found-added : held + length (startsIn m s) ≤ placesOf b → (n : ℕ) (b′ : Slices) → Written (startsIn m s) held b n b′ → Found conds (startsIn m t) held b (Added n) b′
+  found-added l n b′ w = rw (← same) (found-by conds (startsIn m s) held b 0 (refusal-none (placesOf b) held (length (startsIn m s)) conds clear l) (Added n) b′ (ap Added (w .count)) (w .buffer))
+
+-- ---- and what they tell, where the conditions on the input do not hold
+pub record Fitted (cs : List Corner) (held : ℕ) (b : Slices) (n : ℕ) (b′ : Slices) : Type 0 where
+  pub count : n ≡ length cs
+  pub fits : held + n ≤ placesOf b
+  pub buffer : b′ ≡ placedCorners held cs b
+
+pub record Short (cs : List Corner) (held : ℕ) (b : Slices) (k : ℕ) (b′ : Slices) : Type 0 where
+  pub number : k ≡ 10
+  pub short : placesOf b < held + length cs
+  pub buffer : b′ ≡ b
+
+module _ (conds : List (Bool × ℕ)) (clear : Clear conds) (cs : List Corner) (held : ℕ) (b : Slices) (answer : Peaks) (b′ : Slices) (f : Found conds cs held b answer b′) where
+  by-number : (k : ℕ) → refusalOf conds (placesOf b) held (length cs) ≡ k → (answer ≡ answerOf k (length cs)) × (b′ ≡ bufferOf k held cs b)
+  by-number k r = (f .answered ∙ ap (λ (j : ℕ). answerOf j (length cs)) r, f .buffer ∙ ap (λ (j : ℕ). bufferOf j held cs b) r)
+
+  pub added-tells : (n : ℕ) → answer ≡ Added n → Fitted cs held b n b′
+  added-tells n q =
+      elim (decLt (placesOf b) (held + length cs)) [
+        | yes l ↦ let z = sym q ∙ by-number 10 (refusal-short (placesOf b) held (length cs) conds clear l) .0 in absurd (let y : _≡_ {A = ℕ} 0 1 = cc in let no : ⊥ = omega arith in no)
+        | no g ↦
+            let r = by-number 0 (refusal-none (placesOf b) held (length cs) conds clear (omega arith)) in
+            let z = sym q ∙ r .0 in
+            let c : n ≡ length cs = cc in
+            record { count = c; fits = omega arith; buffer = r .1 }
+      ]
+
+  pub refused-tells : (k : ℕ) → answer ≡ Refused k → Short cs held b k b′
+  refused-tells k q =
+      elim (decLt (placesOf b) (held + length cs)) [
+        | yes l ↦
+            let r = by-number 10 (refusal-short (placesOf b) held (length cs) conds clear l) in
+            let z = sym q ∙ r .0 in
+            let c : k ≡ 10 = cc in
+            record { number = c; short = l; buffer = r .1 }
+        | no g ↦ let z = sym q ∙ by-number 0 (refusal-none (placesOf b) held (length cs) conds clear (omega arith)) .0 in absurd (let y : _≡_ {A = ℕ} 0 1 = cc in let no : ⊥ = omega arith in no)
+      ]

@@ -1,0 +1,10 @@
+pub mod Choice
+pub mod Window
+pub mod Agreement
+pub mod Answers
+pub mod Cells
+pub mod Neighbors
+pub mod Rows
+pub mod Scanning
+pub mod Writing
+pub mod Sample

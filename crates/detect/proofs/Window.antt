@@ -1,0 +1,94 @@
+-- Windows: whole inside the border, and what their tests say of the square with its centre. Assumes nothing.
+use Prim.Native.Nat.{ℕ, _+_, _-_, _<_, _≤_, min}
+use native.Mathlib.Omega.{arith}
+use mathlib.Core.Path.{_≡_, refl, sym, ap, _∙_}
+use mathlib.Core.Bool.{Bool, true, false, not, cond, _&&_}
+use mathlib.Core.List.{List, [], _∷_}
+use lib.ListN.{length}
+use lib.Dec.{eqb}
+use lib.Ieee.{Float, lt}
+use borrow.Author.Tests.{eq-eqb, eqb-true, not-false}
+use Rattle.lists.specs.Places.{Place, block, any, keep, count, All}
+use Rattle.lists.proofs.Tests.{and-parts}
+use Rattle.lists.proofs.Scan.{any-kept, count-kept}
+use Rattle.lists.proofs.Parts.{keep-only}
+use Rattle.lists.proofs.Members.{all-map, all-keep, all-block}
+use Rattle.float32.specs.Float32.{zero}
+use Rattle.float32.proofs.Classes.{lt-self}
+use Rattle.detect.specs.Peaks.{same, square, window, beaten, positives, valueAt, largerIn, positiveIn, Inside}
+
+-- ---- tests of places
+
+same-self : (p : Place) → same p p ≡ true
+same-self p = rw (eq-eqb (p .x) (p .x) refl, eq-eqb (p .y) (p .y) refl)
+
+same-place : (p q : Place) → same q p ≡ true → q ≡ p
+same-place p q e =
+    let s = and-parts (eqb (q .x) (p .x)) (eqb (q .y) (p .y)) e in
+    let x = eqb-true (q .x) (p .x) (s .0) in
+    let y = eqb-true (q .y) (p .y) (s .1) in
+    λ i. record { x = x i; y = y i }
+
+same-other : (u v : ℕ) (p : Place) → (u ≡ p .x → v ≡ p .y → ⊥) → same (record { x = u; y = v }) p ≡ false
+same-other u v p n = pick (eqb u (p .x)) (eqb v (p .y)) refl refl
+  where
+    pick : (a b : Bool) → eqb u (p .x) ≡ a → eqb v (p .y) ≡ b → (a && b) ≡ false
+    pick true true e f = absurd (n (eqb-true u (p .x) e) (eqb-true v (p .y) f))
+    pick true false e f = refl
+    pick false b e f = refl
+
+-- ---- a fact of each cell of a map is one of each cell of a window
+pub window-in : (P : Place → Type 0) (w h r : ℕ) (p : Place) → ((q : Place) → q .x < w → q .y < h → P q) → All P (window w h r p)
+unfolding window square
+window-in P w h r p f =
+    all-map (λ q. P q × (not (same q p) ≡ true)) P (λ q k. k .0) (window w h r p)
+    (all-keep P (λ q. not (same q p)) (square w h r p)
+    (all-block P (p .x - r) (min (p .x + r + 1) w) (p .y - r) (min (p .y + r + 1) h) (λ x y a b c d. f (record { x = x; y = y }) (omega arith) (omega arith))))
+
+-- ---- inside the border a window that is no wider is not clipped
+square-whole : (w h border r : ℕ) (p : Place) → r ≤ border → Inside w h border p → square w h r p ≡ block (p .x - r) (p .x + r + 1) (p .y - r) (p .y + r + 1)
+unfolding square
+square-whole w h border r p k i =
+    let ex : min (p .x + r + 1) w ≡ p .x + r + 1 = omega (arith, i .right) in
+    let ey : min (p .y + r + 1) h ≡ p .y + r + 1 = omega (arith, i .bottom) in
+    rw (ex, ey)
+
+module _ (m : List Float) (w h r : ℕ) (p : Place) where
+  -- a centre does not beat itself
+  beaten-square : beaten (largerIn m w) w h r p ≡ any (λ q. lt (valueAt m w p) (valueAt m w q)) (square w h r p)
+  unfolding beaten window
+  beaten-square =
+      any-kept (λ q. largerIn m w q p) (λ q. not (same q p))
+      (λ q e. ap (λ (t : Place). largerIn m w t p) (same-place p q (not-false (same q p) e)) ∙ lt-self (valueAt m w p))
+      (square w h r p)
+
+  -- it is counted once
+  centre-only : p .x < w → p .y < h → keep (λ q. not (not (same q p))) (square w h r p) ≡ p ∷ []
+  unfolding square
+  centre-only px py =
+      keep-only (λ q. not (not (same q p))) (p .x - r) (min (p .x + r + 1) w) (p .y - r) (min (p .y + r + 1) h) (p .x) (p .y)
+      (ap (λ (t : Bool). not (not t)) (same-self p)) (λ u v n. ap (λ (t : Bool). not (not t)) (same-other u v p n))
+      (omega arith) (omega arith) (omega arith) (omega arith)
+
+  positives-square : p .x < w → p .y < h → count (positiveIn m w) (square w h r p) ≡ positives (positiveIn m w) w h r p + cond (positiveIn m w p) 1 0
+  unfolding positives window
+  positives-square px py =
+      count-kept (positiveIn m w) (λ q. not (same q p)) (square w h r p)
+      ∙ ap (λ (n : ℕ). count (positiveIn m w) (window w h r p) + n) (ap (count (positiveIn m w)) (centre-only px py) ∙ one (positiveIn m w) p)
+    where
+      one : (f : Place → Bool) (p : Place) → count f (p ∷ []) ≡ cond (f p) 1 0
+      one f p = unfold count in (pick (f p))
+        where
+          pick : (b : Bool) → length (cond b (p ∷ []) []) ≡ cond b 1 0
+          pick true = refl
+          pick false = refl
+
+-- ---- the tests of a window inside the border, over the whole square, where the centre's value is v
+module _ (m : List Float) (w h border r : ℕ) (p : Place) (v : Float) (k : r ≤ border) (i : Inside w h border p) (e : v ≡ valueAt m w p) where
+  pub beaten-whole : any (λ q. lt v (valueAt m w q)) (block (p .x - r) (p .x + r + 1) (p .y - r) (p .y + r + 1)) ≡ beaten (largerIn m w) w h r p
+  beaten-whole = rw e (sym (beaten-square m w h r p ∙ ap (any (λ q. lt (valueAt m w p) (valueAt m w q))) (square-whole w h border r p k i)))
+
+  pub positives-whole : count (positiveIn m w) (block (p .x - r) (p .x + r + 1) (p .y - r) (p .y + r + 1)) ≡ positives (positiveIn m w) w h r p + cond (lt zero v) 1 0
+  positives-whole =
+      ap (count (positiveIn m w)) (sym (square-whole w h border r p k i)) ∙ positives-square m w h r p (omega (arith, i .right)) (omega (arith, i .bottom))
+      ∙ ap (λ (x : Float). positives (positiveIn m w) w h r p + cond (lt zero x) 1 0) (sym e)

@@ -1,0 +1,91 @@
+-- Peak finding: the corners that a map's peaks start as, the refusals, and what is promised of the answer and the buffer.
+use Prim.Native.Nat.{ℕ, zero, suc, _+_, _*_}
+use mathlib.Core.Path.{_≡_}
+use mathlib.Core.Bool.{Bool, not, _||_}
+use mathlib.Core.List.{List, [], _∷_, _++_, map}
+use lib.ListN.{length}
+use lib.IntN.{pos}
+use lib.Dec.{ltb, eqb}
+use lib.Ieee.{Float, ofInt, binary32}
+use Rattle.lists.specs.Places.{Place}
+use Rattle.lists.specs.Refusals.{lowest}
+use Rattle.float32.specs.Float32.{lift}
+use Rattle.corner_list.specs.CornerList.{Slices, placesOf, placedCorners}
+use Rattle.corner_list.specs.declared.Corner.{Corner}
+use Rattle.detect.specs.declared.Search.{Search}
+use Rattle.detect.specs.declared.Peaks.{Peaks}
+use Rattle.detect.specs.declared.Peaks.the-variants.{Added, Refused}
+use Rattle.detect.specs.Peaks.{Reading, isPeak, peakPlaces, valueAt, computed}
+
+-- ---- what a map is searched with: border = ring + window + refine radius; a threshold that is NaN or negative counts as 0
+abbrev pub searchOf : ℕ → ℕ → ℕ → Float → ℕ → ℕ → ℕ → Search
+searchOf w h ring threshold window least radius =
+    record { w = w; h = h; border = ring + window + radius; window = window; threshold = lift threshold; least = least }
+
+-- the peaks of a map that is read by v
+abbrev pub peaksBy : Reading → Search → List Place
+peaksBy v s = peakPlaces v (s .w) (s .h) (s .border) (s .window) (s .least)
+
+-- the peaks of a list of floats
+abbrev pub readIn : List Float → Search → Reading
+readIn m s = computed m (s .w) (s .threshold)
+
+abbrev pub peakIn : List Float → Search → Place → Bool
+peakIn m s = isPeak (readIn m s) (s .w) (s .h) (s .window) (s .least)
+
+abbrev pub peaksIn : List Float → Search → List Place
+peaksIn m s = peaksBy (readIn m s) s
+
+-- ---- the corner that a peak starts as: its column and row, and the cell's value as strength
+abbrev pub startAt : List Float → ℕ → Place → Corner
+startAt m w p = record { x = ofInt binary32 (pos (p .x)); y = ofInt binary32 (pos (p .y)); strength = valueAt m w p }
+
+abbrev pub startsIn : List Float → Search → List Corner
+startsIn m s = map (startAt m (s .w)) (peaksIn m s)
+
+-- ---- refusals
+
+-- the radius of one of the two rings
+abbrev pub isRing : ℕ → Bool
+isRing radius = eqb radius 5 || eqb radius 10
+
+-- the conditions on the input, a map of `size` cells and the parameters, with their numbers
+unfoldable pub conditions : ℕ → ℕ → ℕ → ℕ → ℕ → ℕ → List (Bool × ℕ)
+conditions size w h ring window radius =
+    (ltb 4096 w || ltb 4096 h, 1)
+    ∷ (not (eqb size (w * h)), 2)
+    ∷ (not (isRing ring) || (ltb 16 window || ltb 16 radius), 3)
+    ∷ []
+
+-- The refusal's number, 0 for none: those conditions, and then 10 where n corners do not fit behind the first `held` of a buffer of
+-- so many places, as where `held` alone exceeds them.
+unfoldable pub refusalOf : List (Bool × ℕ) → ℕ → ℕ → ℕ → ℕ
+refusalOf conds places held n = lowest (conds ++ ((ltb places (held + n), 10) ∷ []))
+
+-- ---- the promise
+
+-- the answer for a number: how many peaks were added, or the refusal
+abbrev pub answerOf : ℕ → ℕ → Peaks
+answerOf zero n = Added n
+answerOf (suc k) n = Refused (suc k)
+
+-- the buffer after: the corners cs behind its first `held`, or as it was
+abbrev pub bufferOf : ℕ → ℕ → List Corner → Slices → Slices
+bufferOf zero held cs b = placedCorners held cs b
+bufferOf (suc k) held cs b = b
+
+-- document 01's number and values of each case
+abbrev pub numberOf : Peaks → ℕ
+numberOf (Added n) = 0
+numberOf (Refused k) = k
+
+abbrev pub valuesOf : Peaks → List ℕ
+valuesOf (Added n) = n ∷ []
+valuesOf (Refused k) = []
+
+-- What peak finding promises, under the conditions conds on the input, of a map whose peaks start as the corners cs and of a buffer b
+-- that holds `held`: the answer, its number, and the buffer after
+pub record Found (conds : List (Bool × ℕ)) (cs : List Corner) (held : ℕ) (b : Slices) (answer : Peaks) (b′ : Slices) : Type 0 where
+  pub answered : answer ≡ answerOf (refusalOf conds (placesOf b) held (length cs)) (length cs)
+  pub number : numberOf answer ≡ refusalOf conds (placesOf b) held (length cs)
+  pub buffer : b′ ≡ bufferOf (refusalOf conds (placesOf b) held (length cs)) held cs b

@@ -1,0 +1,4 @@
+pub mod Peaks
+pub mod Detect
+pub mod Exact
+pub mod Post

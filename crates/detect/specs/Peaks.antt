@@ -1,0 +1,71 @@
+-- Peak choice over a map of w by h, by what is asked of the values at its places (neighbors.rs, detect.rs).
+use Prim.Native.Nat.{ℕ, _+_, _-_, _*_, _<_, _≤_, min}
+use mathlib.Core.Bool.{Bool, not, _&&_}
+use mathlib.Core.List.{List}
+use lib.ListN.{getD}
+use lib.Dec.{leb, eqb}
+use lib.Ieee.{Float, nan, lt, le}
+use Rattle.lists.specs.Places.{Place, block, any, keep, count}
+use Rattle.float32.specs.Float32.{zero}
+
+-- What peak choice asks of a map's values ("reading" is a term of ours).
+pub record Reading : Type 0 where
+  -- the value at p is above the threshold
+  pub above : Place → Bool
+  -- the value at q is larger than that at p
+  pub larger : Place → Place → Bool
+  -- the value at q is above 0
+  pub positive : Place → Bool
+
+abbrev pub same : Place → Place → Bool
+same p q = eqb (p .x) (q .x) && eqb (p .y) (q .y)
+
+-- the square of 2r + 1 cells a side about p, clipped to the map
+unfoldable pub square : ℕ → ℕ → ℕ → Place → List Place
+square w h r p = block (p .x - r) (min (p .x + r + 1) w) (p .y - r) (min (p .y + r + 1) h)
+
+-- the window of radius r about p: the square without its centre
+unfoldable pub window : ℕ → ℕ → ℕ → Place → List Place
+window w h r p = keep (λ q. not (same q p)) (square w h r p)
+
+-- a centre is beaten only by a strictly larger cell of its window
+unfoldable pub beaten : (Place → Place → Bool) → ℕ → ℕ → ℕ → Place → Bool
+beaten larger w h r p = any (λ q. larger q p) (window w h r p)
+
+-- its positive neighbours: the cells of the window that are above 0
+unfoldable pub positives : (Place → Bool) → ℕ → ℕ → ℕ → Place → ℕ
+positives positive w h r p = count positive (window w h r p)
+
+-- a peak is above the threshold, is not beaten, and has at least so many positive neighbours
+unfoldable pub isPeak : Reading → ℕ → ℕ → ℕ → ℕ → Place → Bool
+isPeak v w h r least p = v .above p && (not (beaten (v .larger) w h r p) && leb least (positives (v .positive) w h r p))
+
+-- a place no nearer to an edge than the border
+pub record Inside (w h border : ℕ) (p : Place) : Type 0 where
+  pub left : border ≤ p .x
+  pub right : p .x + border < w
+  pub top : border ≤ p .y
+  pub bottom : p .y + border < h
+
+-- the peaks inside a border, in row order; a side at most twice the border leaves no place for one
+unfoldable pub peakPlaces : Reading → ℕ → ℕ → ℕ → ℕ → ℕ → List Place
+peakPlaces v w h border r least = keep (isPeak v w h r least) (block border (w - border) border (h - border))
+
+-- ---- the reading of a list of floats, a map in row order
+
+abbrev pub valueAt : List Float → ℕ → Place → Float
+valueAt m w p = getD m (p .y * w + p .x) nan
+
+abbrev pub largerIn : List Float → ℕ → Place → Place → Bool
+largerIn m w q p = lt (valueAt m w p) (valueAt m w q)
+
+abbrev pub positiveIn : List Float → ℕ → Place → Bool
+positiveIn m w q = lt zero (valueAt m w q)
+
+-- at or below t
+abbrev pub isLow : Float → Float → Bool
+isLow t v = le v t
+
+-- a cell is dropped if it is at or below the threshold, so a NaN cell passes
+abbrev pub computed : List Float → ℕ → Float → Reading
+computed m w t = record { above = λ p. not (isLow t (valueAt m w p)); larger = largerIn m w; positive = positiveIn m w }

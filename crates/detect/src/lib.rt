@@ -1,0 +1,435 @@
+// Peaks of a response map, added to a buffer of corners.
+use corner_list::Corner;
+ghost use mathlib.Core.Path.{_≡_};
+ghost use mathlib.Core.Bool.{not};
+ghost use Prim.Native.Nat.{_+_, _-_, _<_, _≤_};
+ghost use lib.ListN.{length};
+ghost use lib.Dec.{leb};
+ghost use lib.IntN.{pos};
+ghost use lib.Ieee.{lt, ofInt, binary32};
+ghost use Rattle.lists.specs.Places.{any, count};
+ghost use Rattle.lists.specs.Refusals.{lowest};
+ghost use Rattle.float32.specs.Float32.{zero};
+ghost use Rattle.corner_list.specs.CornerList.{slices, placesOf};
+ghost use Rattle.detect.specs.Peaks.{valueAt, isLow, largerIn, positiveIn, beaten, positives, Inside};
+ghost use Rattle.detect.specs.Detect.{searchOf, peakIn, peaksIn, startAt, startsIn, isRing, conditions, Found};
+ghost use Rattle.detect.specs.Post.{place, Searchable, Below, Skipped, NextPeak, Written};
+
+// What a map is searched with: its sides, the border that no peak lies in, the window's radius, the lifted threshold and the
+// least number of positive neighbours.
+struct Search {
+    w: usize,
+    h: usize,
+    border: usize,
+    window: usize,
+    threshold: f32,
+    least: u32,
+}
+
+// The answer: how many peaks were added to the buffer, or the number of the refusal.
+pub enum Peaks {
+    Added(usize),
+    Refused(u8),
+}
+
+// A place of the map: column x of row y.
+struct Spot {
+    x: usize,
+    y: usize,
+}
+
+// n - r, and 0 where that is negative.
+fn minus(n: usize, r: usize) -> usize
+    ensures { λ a. ⌜ a ≡ n - r ⌝ }
+{
+    if n < r { 0 } else { n - r }
+}
+
+// The value of the cell (x, y).
+fn value_at(map: &[f32], s: Search, x: usize, y: usize) -> f32
+    requires { ⌜ Searchable (now map) s ⌝ }
+    requires { ⌜ Inside (s .w) (s .h) (s .border) (place x y) ⌝ }
+    ensures { λ v. ⌜ v ≡ valueAt (now (map .entry)) (s .w) (place x y) ⌝ }
+{
+    let w = s.w;
+    let at = y * w + x;
+    map[at]
+}
+
+// Whether one of the cells is larger than v.
+fn any_larger(cells: &[f32], v: f32) -> bool
+    ensures { λ b. ⌜ b ≡ any (lt v) (now (cells .entry)) ⌝ }
+{
+    let mut i = 0;
+    while i < cells.len() {
+        if v < cells[i] {
+            return true;
+        }
+        i += 1;
+    }
+    false
+}
+
+// How many of the cells are above 0.
+fn count_positive(cells: &[f32]) -> u32
+    requires { ⌜ length (now cells) ≤ 33 ⌝ }
+    ensures { λ n. ⌜ n ≡ count (lt zero) (now (cells .entry)) ⌝ }
+{
+    let mut n: u32 = 0;
+    let mut i = 0;
+    while i < cells.len() {
+        if 0.0 < cells[i] {
+            n += 1;
+        }
+        i += 1;
+    }
+    n
+}
+
+// Whether no cell of the window about (x, y) is larger than v, the value there. The window is not clipped inside the border, and
+// the centre, which does not beat itself, is not left out.
+fn is_local_max(map: &[f32], s: Search, x: usize, y: usize, v: f32) -> bool
+    requires { ⌜ Searchable (now map) s ⌝ }
+    requires { ⌜ Inside (s .w) (s .h) (s .border) (place x y) ⌝ }
+    requires { ⌜ v ≡ valueAt (now map) (s .w) (place x y) ⌝ }
+    ensures { λ b. ⌜ b ≡ not (beaten (largerIn (now (map .entry)) (s .w)) (s .w) (s .h) (s .window) (place x y)) ⌝ }
+{
+    let w = s.w;
+    let r = s.window;
+    let x0 = x - r;
+    let x1 = x + r + 1;
+    let y1 = y + r + 1;
+    let mut yy = y - r;
+    while yy < y1 {
+        let a = yy * w + x0;
+        let e = yy * w + x1;
+        if any_larger(&map[a..e], v) {
+            return false;
+        }
+        yy += 1;
+    }
+    true
+}
+
+// How many cells of the window about (x, y) are above 0. The centre, whose value is v, is counted with them and taken off.
+fn count_positive_neighbors(map: &[f32], s: Search, x: usize, y: usize, v: f32) -> u32
+    requires { ⌜ Searchable (now map) s ⌝ }
+    requires { ⌜ Inside (s .w) (s .h) (s .border) (place x y) ⌝ }
+    requires { ⌜ v ≡ valueAt (now map) (s .w) (place x y) ⌝ }
+    ensures { λ n. ⌜ n ≡ positives (positiveIn (now (map .entry)) (s .w)) (s .w) (s .h) (s .window) (place x y) ⌝ }
+{
+    let w = s.w;
+    let r = s.window;
+    let x0 = x - r;
+    let x1 = x + r + 1;
+    let y1 = y + r + 1;
+    let mut n: u32 = 0;
+    let mut yy = y - r;
+    while yy < y1 {
+        let a = yy * w + x0;
+        let e = yy * w + x1;
+        n += count_positive(&map[a..e]);
+        yy += 1;
+    }
+    if 0.0 < v { n - 1 } else { n }
+}
+
+// Whether the cell (x, y) is a peak.
+fn is_peak(map: &[f32], s: Search, x: usize, y: usize) -> bool
+    requires { ⌜ Searchable (now map) s ⌝ }
+    requires { ⌜ Inside (s .w) (s .h) (s .border) (place x y) ⌝ }
+    ensures { λ b. ⌜ b ≡ peakIn (now (map .entry)) s (place x y) ⌝ }
+{
+    let v = value_at(map, s, x, y);
+    if v <= s.threshold {
+        return false;
+    }
+    if is_local_max(map, s, x, y, v) {
+        s.least <= count_positive_neighbors(map, s, x, y, v)
+    } else {
+        false
+    }
+}
+
+// How many of the cells are at or below t. The loop has no other way out, so that a compiler compares several cells at a time.
+fn count_low(cells: &[f32], t: f32) -> u32
+    requires { ⌜ length (now cells) ≤ 4096 ⌝ }
+    ensures { λ n. ⌜ n ≡ count (isLow t) (now (cells .entry)) ⌝ }
+{
+    let mut n: u32 = 0;
+    let mut i = 0;
+    while i < cells.len() {
+        if cells[i] <= t {
+            n += 1;
+        }
+        i += 1;
+    }
+    n
+}
+
+// How many cells at the front are at or below t, by whole blocks of 16.
+fn blocks_below(cells: &[f32], t: f32) -> usize
+    ensures { λ n. ⌜ Below (now (cells .entry)) t n ⌝ }
+{
+    let mut i = 0;
+    while 16 <= cells.len() - i {
+        let e = i + 16;
+        if count_low(&cells[i..e], t) != 16 {
+            return i;
+        }
+        i = e;
+    }
+    i
+}
+
+// How many cells at the front are at or below t: all before the first that is not.
+fn cells_below(cells: &[f32], t: f32) -> usize
+    ensures { λ n. ⌜ Below (now (cells .entry)) t n ⌝ }
+{
+    let mut n = blocks_below(cells, t);
+    while n < cells.len() {
+        if cells[n] <= t {
+            n += 1;
+        } else {
+            return n;
+        }
+    }
+    n
+}
+
+// The first column from x on whose cell in row y may be a peak: cells at or below the threshold are passed over, up to the border.
+fn skip(map: &[f32], s: Search, x: usize, y: usize) -> usize
+    requires { ⌜ Searchable (now map) s ⌝ }
+    requires { ⌜ y < s .h - s .border ⌝ }
+    ensures { λ r. ⌜ Skipped (now (map .entry)) s (place x y) (place r y) ⌝ }
+{
+    let w = s.w;
+    let x1 = minus(w, s.border);
+    if x < x1 {
+        let a = y * w + x;
+        let e = y * w + x1;
+        return x + cells_below(&map[a..e], s.threshold);
+    }
+    x
+}
+
+// The place of the first peak from (x, y) on, in row order; past the last row inside the border where there is none.
+fn next_peak(map: &[f32], s: Search, x: usize, y: usize) -> Spot
+    requires { ⌜ Searchable (now map) s ⌝ }
+    requires { ⌜ (s .border ≤ x) × (s .border ≤ y) ⌝ }
+    ensures { λ p. ⌜ NextPeak (now (map .entry)) s (place x y) (place (p .x) (p .y)) ⌝ }
+{
+    let x0 = s.border;
+    let x1 = minus(s.w, s.border);
+    let y1 = minus(s.h, s.border);
+    let mut x = x;
+    let mut y = y;
+    while y < y1 {
+        x = skip(map, s, x, y);
+        if x < x1 {
+            if is_peak(map, s, x, y) {
+                return Spot { x, y };
+            }
+            x += 1;
+        } else {
+            x = x0;
+            y += 1;
+        }
+    }
+    Spot { x, y }
+}
+
+// How many peaks the map has.
+fn count_peaks(map: &[f32], s: Search) -> usize
+    requires { ⌜ Searchable (now map) s ⌝ }
+    ensures { λ n. ⌜ n ≡ length (peaksIn (now (map .entry)) s) ⌝ }
+{
+    let y1 = minus(s.h, s.border);
+    let mut n = 0;
+    let mut p = next_peak(map, s, s.border, s.border);
+    while p.y < y1 {
+        n += 1;
+        p = next_peak(map, s, p.x + 1, p.y);
+    }
+    n
+}
+
+// A column or a row as a coordinate.
+fn coordinate(n: usize) -> f32
+    requires { ⌜ n ≤ 4096 ⌝ }
+    ensures { λ v. ⌜ v ≡ ofInt binary32 (pos n) ⌝ }
+{
+    n as f32
+}
+
+// The corner that a peak starts as.
+fn start_at(map: &[f32], s: Search, x: usize, y: usize) -> Corner
+    requires { ⌜ Searchable (now map) s ⌝ }
+    requires { ⌜ Inside (s .w) (s .h) (s .border) (place x y) ⌝ }
+    ensures { λ c. ⌜ c ≡ startAt (now (map .entry)) (s .w) (place x y) ⌝ }
+{
+    Corner {
+        x: coordinate(x),
+        y: coordinate(y),
+        strength: value_at(map, s, x, y),
+    }
+}
+
+// How many cells inside the border are above the threshold: at least as many as there are peaks.
+fn cells_above(map: &[f32], s: Search) -> usize
+    requires { ⌜ Searchable (now map) s ⌝ }
+    ensures { λ n. ⌜ length (peaksIn (now (map .entry)) s) ≤ n ⌝ }
+{
+    let w = s.w;
+    let t = s.threshold;
+    let x0 = s.border;
+    if w <= 2 * x0 {
+        return 0;
+    }
+    let x1 = w - x0;
+    let y1 = minus(s.h, x0);
+    let mut n = 0;
+    let mut y = x0;
+    while y < y1 {
+        let a = y * w + x0;
+        let e = y * w + x1;
+        n += x1 - x0 - count_low(&map[a..e], t) as usize;
+        y += 1;
+    }
+    n
+}
+
+// Whether the map has at most so many peaks. They are counted only where there are more cells that could be one: cells inside the
+// border, and those of them that are above the threshold.
+fn at_most(map: &[f32], s: Search, free: usize) -> bool
+    requires { ⌜ Searchable (now map) s ⌝ }
+    ensures { λ b. ⌜ b ≡ leb (length (peaksIn (now (map .entry)) s)) free ⌝ }
+{
+    let b = s.border;
+    let w = s.w;
+    let h = s.h;
+    if minus(w, 2 * b) * minus(h, 2 * b) <= free {
+        return true;
+    }
+    if cells_above(map, s) <= free {
+        return true;
+    }
+    count_peaks(map, s) <= free
+}
+
+// Writes the corners that the map's peaks start as behind the first `held` of the buffer, and counts them.
+fn write_peaks(
+    map: &[f32],
+    s: Search,
+    xs: &mut [f32],
+    ys: &mut [f32],
+    strengths: &mut [f32],
+    held: usize,
+) -> usize
+    requires { ⌜ Searchable (now map) s ⌝ }
+    requires { ⌜ held + length (startsIn (now map) s) ≤ placesOf (slices (now xs) (now ys) (now strengths)) ⌝ }
+    ensures { λ n. ⌜ Written (startsIn (now (map .entry)) s) held (slices (now (xs .entry)) (now (ys .entry)) (now (strengths .entry)))
+        n (slices (now (xs .exit)) (now (ys .exit)) (now (strengths .exit))) ⌝ }
+{
+    let y1 = minus(s.h, s.border);
+    let mut n = 0;
+    let mut p = next_peak(map, s, s.border, s.border);
+    while p.y < y1 {
+        let at = held + n;
+        let c = start_at(map, s, p.x, p.y);
+        n += 1;
+        p = next_peak(map, s, p.x + 1, p.y);
+        corner_list::put_corner(xs, ys, strengths, at, c);
+    }
+    n
+}
+
+// Whether there is a ring of this radius.
+fn is_ring(radius: u32) -> bool
+    ensures { λ b. ⌜ b ≡ isRing radius ⌝ }
+{
+    if radius == 5 { true } else { radius == 10 }
+}
+
+// The number of the first condition on the input that holds, 0 for none.
+fn fault(size: usize, w: usize, h: usize, ring: u32, window: u32, radius: u32) -> u8
+    ensures { λ k. ⌜ k ≡ lowest (conditions size w h ring window radius) ⌝ }
+{
+    if 4096 < w {
+        return 1;
+    }
+    if 4096 < h {
+        return 1;
+    }
+    if size != w * h {
+        return 2;
+    }
+    if is_ring(ring) {
+        if 16 < window {
+            return 3;
+        }
+        if 16 < radius { 3 } else { 0 }
+    } else {
+        3
+    }
+}
+
+// What a map is searched with, by the parameters.
+fn search_of(
+    w: usize,
+    h: usize,
+    ring: u32,
+    threshold: f32,
+    window: u32,
+    least: u32,
+    radius: u32,
+) -> Search
+    ensures { λ s. ⌜ s ≡ searchOf w h ring threshold window least radius ⌝ }
+{
+    let border = ring as usize + window as usize + radius as usize;
+    Search {
+        w,
+        h,
+        border,
+        window: window as usize,
+        threshold: float32::lifted(threshold),
+        least,
+    }
+}
+
+// Finds the peaks of a map of w by h, in row order, and adds the corners that they start as to a buffer, behind the first `held`.
+pub fn detect_peaks_from_response_with_refine_radius(
+    map: &[f32],
+    w: usize,
+    h: usize,
+    ring: u32,
+    threshold: f32,
+    window: u32,
+    least: u32,
+    refine_radius: u32,
+    xs: &mut [f32],
+    ys: &mut [f32],
+    strengths: &mut [f32],
+    held: usize,
+) -> Peaks
+    ensures { λ r. ⌜ Found (conditions (length (now (map .entry))) w h ring window «refine_radius»)
+        (startsIn (now (map .entry)) (searchOf w h ring threshold window least «refine_radius»))
+        held (slices (now (xs .entry)) (now (ys .entry)) (now (strengths .entry)))
+        r (slices (now (xs .exit)) (now (ys .exit)) (now (strengths .exit))) ⌝ }
+{
+    let k = fault(map.len(), w, h, ring, window, refine_radius);
+    if k != 0 {
+        return Peaks::Refused(k);
+    }
+    let s = search_of(w, h, ring, threshold, window, least, refine_radius);
+    let places = corner_list::places(xs.len(), ys.len(), strengths.len());
+    if places < held {
+        return Peaks::Refused(10);
+    }
+    if at_most(map, s, places - held) {
+        let n = write_peaks(map, s, xs, ys, strengths, held);
+        Peaks::Added(n)
+    } else {
+        Peaks::Refused(10)
+    }
+}
