@@ -21,11 +21,11 @@ use Rattle.corner_list.proofs.Corners.{with-here, with-there}
 use Rattle.merge.specs.declared.cells.Grid.{Grid}
 use Rattle.merge.specs.Merge.{columnOf, rowOf, adjacent, near, neighbours}
 use Rattle.merge.specs.Search.{joinsAt}
-use Rattle.merge.specs.Index.{empty, pairOf, homeOf, homeAt, Listed, SlotFor, Lists, Indexed}
+use Rattle.merge.specs.Index.{empty, pairOf, mixOf, homeOf, homeAt, Listed, SlotFor, Lists, Indexed}
 
 home-below : (slots x y : ℕ) → 0 < slots → homeOf slots x y < slots
 unfolding homeOf
-home-below slots x y h = mod-lt ((x % 65536 * 40503 + y % 65536 * 51749) / 16) h
+home-below slots x y h = mod-lt (mixOf x y % 4294967296 * (mixOf x y % 4294967296) / 262144) h
 
 pub home-in : (slots x y home : ℕ) → 0 < slots → home ≡ homeOf slots x y → home ≤ slots
 home-in slots x y home h e = omega (arith, home-below slots x y h)

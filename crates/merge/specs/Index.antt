@@ -17,9 +17,13 @@ empty = 4294967295
 abbrev pub pairOf : ℕ → ℕ
 pairOf n = (n + 1) / 2
 
--- the home, among so many slots, of the cells in pair x across and pair y down: any function would do, this one scatters
+-- The home, among so many slots, of the cells in pair x across and pair y down. Any function would do; this one, the middle digits of a
+-- square, scatters rows and boards.
+abbrev pub mixOf : ℕ → ℕ → ℕ
+mixOf x y = x % 65536 * 40503 + y % 65536 * 51749
+
 unfoldable pub homeOf : ℕ → ℕ → ℕ → ℕ
-homeOf slots x y = (x % 65536 * 40503 + y % 65536 * 51749) / 16 % slots
+homeOf slots x y = mixOf x y % 4294967296 * (mixOf x y % 4294967296) / 262144 % slots
 
 -- a corner's home
 abbrev pub homeAt : Grid → ℕ → Corner → ℕ

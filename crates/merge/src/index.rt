@@ -23,7 +23,8 @@ pub(crate) fn home_of(slots: usize, x: usize, y: usize) -> usize
     requires { ⌜ 0 < slots ⌝ }
     ensures { λ r. ⌜ r ≡ homeOf slots x y ⌝ }
 {
-    (x % 65536 * 40503 + y % 65536 * 51749) / 16 % slots
+    let m = (x % 65536 * 40503 + y % 65536 * 51749) % 4294967296;
+    m * m / 262144 % slots
 }
 
 // The pair that a cell number is in.

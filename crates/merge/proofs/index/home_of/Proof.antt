@@ -1,18 +1,30 @@
--- `merge::index::home_of` meets its contract. Assumes nothing.
+-- `merge::index::home_of` meets its contract; the square of a number below 2^32 fits. Assumes nothing.
 use borrow.Author.Needs.{needs}
+use Prim.Native.Nat.{ℕ, _*_, _%_, _<_, _≤_}
+use native.Mathlib.Nat.{mul-le-mul}
+use native.Mathlib.Omega.{arith}
 use mathlib.Core.Path.{refl}
-use Rattle.merge.specs.Index.{homeOf}
+use Rattle.merge.specs.Index.{mixOf, homeOf}
 use Rattle.merge.proofs.index.home_of.Statement.{statement}
 use Rattle.merge.proofs.index.home_of.Tie as tie
 
+square-fits : (n : ℕ) → n % 4294967296 * (n % 4294967296) < 18446744073709551616
+square-fits n =
+    let h : n % 4294967296 ≤ 4294967295 = omega arith in
+    let m : n % 4294967296 * (n % 4294967296) ≤ 4294967295 * 4294967295 = mul-le-mul h h in
+    omega arith
+
+mul-m : tie.Need-mul-m
+mul-m c = search needs
+
+mul-m-2 : tie.Need-mul-m-2
+mul-m-2 c = search needs
+
+add-m : tie.Need-add-m
+add-m c = search needs
+
 mul-result : tie.Need-mul-result
-mul-result c = search needs
-
-mul-result-2 : tie.Need-mul-result-2
-mul-result-2 c = search needs
-
-add-result : tie.Need-add-result
-add-result c = search needs
+mul-result c = record { fits = square-fits (mixOf (c .args .x) (c .args .y)) }
 
 rem-result : tie.Need-rem-result
 rem-result c = search needs
@@ -22,4 +34,4 @@ unfolding homeOf
 returns c = refl
 
 pub home-of-spec : {M : Type 1} → statement M
-home-of-spec = tie.close (tie.spec mul-result mul-result-2 add-result rem-result returns)
+home-of-spec = tie.close (tie.spec mul-m mul-m-2 add-m mul-result rem-result returns)
