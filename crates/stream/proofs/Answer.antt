@@ -1,4 +1,4 @@
--- The answer of `read_frame` from the judged stream, and what a caller learns from it. Assumes nothing.
+-- The answer of `read_frame` from the judged stream. Assumes nothing.
 use Prim.Native.Nat.{ℕ, _*_, _≤_}
 use native.Mathlib.Nat.{mul-le-mul}
 use native.Mathlib.Omega.{arith}

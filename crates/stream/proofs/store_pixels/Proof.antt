@@ -33,9 +33,7 @@ add-pixels-2 : tie.Need-add-pixels-2 Inv-loop μ-loop
 add-pixels-2 c = omega (arith, in-stream c)
 
 shared-slice-read-pixels : tie.Need-shared-slice-read-pixels Inv-loop μ-loop
-shared-slice-read-pixels c =
-    let at = c .before .before in
-    pixel-in (at .before .args .n) (at .loop .i) (length (at .before .args .input .now)) (c .before .loop-test .taken) (at .before .pre .0)
+shared-slice-read-pixels c = omega (arith, in-stream (c .before))
 
 slice-write-pixels : tie.Need-slice-write-pixels Inv-loop μ-loop
 slice-write-pixels c = omega arith
