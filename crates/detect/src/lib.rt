@@ -16,14 +16,14 @@ ghost use Rattle.detect.specs.Detect.{searchOf, peakIn, peaksIn, startAt
 ghost use Rattle.detect.specs.Post.{place, Searchable, Below, Skipped, NextPeak, Written};
 
 // What a map is searched with: its sides, the border that no peak lies in, the window's radius, the lifted threshold and the
-// least number of positive neighbours.
-struct Search {
-    w: usize,
-    h: usize,
-    border: usize,
-    window: usize,
-    threshold: f32,
-    least: u32,
+// least number of positive neighbours. It is public because the promise speaks of it.
+pub struct Search {
+    pub w: usize,
+    pub h: usize,
+    pub border: usize,
+    pub window: usize,
+    pub threshold: f32,
+    pub least: u32,
 }
 
 // The answer: how many peaks were added to the buffer, or the number of the refusal.

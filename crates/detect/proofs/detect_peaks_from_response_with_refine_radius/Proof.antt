@@ -6,7 +6,8 @@ use lib.ListN.{length}
 use lib.Ieee.{Float}
 use borrow.Author.Needs.{needs}
 use Rattle.corner_list.specs.CornerList.{Slices, slices, placesOf}
-use Rattle.detect.specs.Detect.{conditions, startsIn}
+use Rattle.detect.specs.declared.Search.{Search}
+use Rattle.detect.specs.Detect.{searchOf, conditions, startsIn}
 use Rattle.detect.specs.Post.{Searchable}
 use Rattle.detect.proofs.Answers.{Clear, clear, searchable, held-beyond, fits-behind, short-behind, found-refused, found-short, found-added}
 use Rattle.detect.proofs.detect_peaks_from_response_with_refine_radius.Statement.{statement}
@@ -20,6 +21,9 @@ fine c = clear _ _ _ _ _ _ (sym (c .before .fault .ensures) ∙ c .if1 .left)
 
 abbrev map-of : tie.After-search-of → List Float
 map-of c = c .before .before .before .before .before .before .before .args .map .now
+
+abbrev search-of : tie.After-search-of → Search
+search-of c = let a = c .before .before .before .before .before .before .before .args in searchOf (a .w) (a .h) (a .ring) (a .threshold) (a .window) (a .least) (a .refine-radius)
 
 abbrev buffer-of : tie.After-search-of → Slices
 buffer-of c = let a = c .before .before .before .before .before .before .before .args in slices (a .xs .now) (a .ys .now) (a .strengths .now)
@@ -50,7 +54,7 @@ places-requires c κs = search needs
 returns-2 : tie.Need-returns-2
 returns-2 c =
     let search = c .before .before in
-    found-short (map-of search) _ _ (search .search-of .ensures) _ (fine (search .before)) _ _ (held-beyond (map-of search) (search .search-of .result) (buffer-of search) _ _ (c .before .places .ensures) (c .if2 .taken))
+    found-short (map-of search) (search .search-of .result) (search-of search) (search .search-of .ensures) _ (fine (search .before)) _ _ (held-beyond (map-of search) (search .search-of .result) (buffer-of search) _ _ (c .before .places .ensures) (c .if2 .taken))
 
 at-most-requires : tie.Need-at-most-requires
 at-most-requires c κs = can-search (c .before .before)
@@ -72,13 +76,13 @@ returns-3 c =
     let write = c .before .before .before .before .before .before in
     let then = write .before .before .before .before in
     let search = then .before .before .before .before in
-    found-added (map-of search) _ _ (search .search-of .ensures) _ (fine (search .before)) _ _ (fit then) _ _ (write .write-peaks .ensures)
+    found-added (map-of search) (search .search-of .result) (search-of search) (search .search-of .ensures) _ (fine (search .before)) _ (buffer-of search) (fit then) (write .write-peaks .result) _ (write .write-peaks .ensures)
 
 returns-4 : tie.Need-returns-4
 returns-4 c =
     let places = c .before .before .before in
     let search = places .before in
-    found-short (map-of search) _ _ (search .search-of .ensures) _ (fine (search .before)) _ _
+    found-short (map-of search) (search .search-of .result) (search-of search) (search .search-of .ensures) _ (fine (search .before)) _ _
     (short-behind (map-of search) (search .search-of .result) (buffer-of search) _ _ (places .places .ensures) (c .before .before .if2 .left) _ (c .before .at-most .ensures) (c .if3 .left))
 
 pub detect-peaks-from-response-with-refine-radius-spec : {M : Type 1} → statement M
