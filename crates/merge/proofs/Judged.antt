@@ -11,8 +11,8 @@ use Rattle.lists.specs.Places.{any, All}
 use Rattle.lists.proofs.Members.{all-map, none-any}
 use Rattle.lists.proofs.Refusals.{lowest-none}
 use Rattle.corner_list.specs.declared.Corner.{Corner}
-use Rattle.corner_list.specs.CornerList.{Slices, cornersOf}
-use Rattle.merge.specs.Merge.{isOff, isInside, isSized, refusalOf}
+use Rattle.corner_list.specs.CornerList.{Slices, isInside, cornersOf}
+use Rattle.merge.specs.Merge.{isOff, isSized, refusalOf}
 
 abbrev pub isOutside : Corner → Bool
 isOutside c = not (isInside c)

@@ -12,7 +12,7 @@ use Rattle.lists.specs.Places.{any}
 use Rattle.lists.specs.Refusals.{lowest}
 use Rattle.float32.specs.Float32 as float32
 use Rattle.corner_list.specs.declared.Corner.{Corner}
-use Rattle.corner_list.specs.CornerList.{Slices, xOf, yOf, cornersOf, frontCorners}
+use Rattle.corner_list.specs.CornerList.{Slices, largest, isInside, xOf, yOf, cornersOf, frontCorners}
 use Rattle.merge.specs.declared.cells.Grid.{Grid}
 use Rattle.merge.specs.declared.Merged.{Merged}
 use Rattle.merge.specs.declared.Merged.the-variants.{Kept, Refused}
@@ -92,21 +92,9 @@ resultOf radius cs = cond (isOff radius) cs (merged (joins (gridOf radius cs)) [
 
 -- ---- refusals
 
--- a number from lo to hi, both included. A NaN is in no range, and an infinity in none of those below
-abbrev pub between : Float → Float → Float → Bool
-between lo hi v = le lo v && le v hi
-
--- 4,096, the largest side of an image
-abbrev pub largest : Float
-largest = fin false 1 (pos 12)
-
--- a corner whose coordinates are from 0 to 4,096
-unfoldable pub isInside : Corner → Bool
-isInside c = between float32.zero largest (c .x) && between float32.zero largest (c .y)
-
 -- a radius from 1/64 to 4,096
 unfoldable pub isSized : Float → Bool
-isSized radius = between (fin false 1 (negsuc 5)) largest radius
+isSized radius = float32.between (fin false 1 (negsuc 5)) largest radius
 
 -- Document 01's number, 0 for none, of merging the first `count` corners of a buffer of so many places:
 -- 4: a coordinate of the corners that the buffer has is not finite or outside 0..4,096

@@ -35,7 +35,7 @@ fn pair_of(n: usize) -> usize
 }
 
 // A corner's home.
-pub(crate) fn home_at(g: Grid, slots: usize, c: Corner) -> usize
+fn home_at(g: Grid, slots: usize, c: Corner) -> usize
     requires { ⌜ 0 < slots ⌝ }
     ensures { λ r. ⌜ r ≡ homeAt g slots c ⌝ }
 {

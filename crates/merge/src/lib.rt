@@ -1,4 +1,4 @@
-// Merging corners: of those closer than a radius the strongest is kept.
+// Merging corners: of those that are at most a radius apart the strongest is kept.
 mod cells;
 mod index;
 mod search;
@@ -9,9 +9,8 @@ ghost use mathlib.Core.Bool.{not, cond};
 ghost use Prim.Native.Nat.{min};
 ghost use lib.Dec.{ltb};
 ghost use Rattle.lists.specs.Places.{any};
-ghost use Rattle.corner_list.specs.CornerList.{slices, cornersOf, placesOf};
-ghost use Rattle.merge.specs.Merge.{isOff, isSized, isInside, between, refusalOf, Merges};
-use corner_list::Corner;
+ghost use Rattle.corner_list.specs.CornerList.{isInside, slices, cornersOf, placesOf};
+ghost use Rattle.merge.specs.Merge.{isOff, isSized, refusalOf, Merges};
 
 // The answer of merging: how many corners are left, or the number of the refusal.
 pub enum Merged {
@@ -30,29 +29,11 @@ pub fn is_off(radius: f32) -> bool
     }
 }
 
-// Whether lo <= v <= hi.
-fn is_between(lo: f32, hi: f32, v: f32) -> bool
-    ensures { λ r. ⌜ r ≡ between lo hi v ⌝ }
-{
-    if lo <= v { v <= hi } else { false }
-}
-
 // Whether a radius is from 1/64 to 4,096.
 pub fn is_sized(radius: f32) -> bool
     ensures { λ r. ⌜ r ≡ isSized radius ⌝ }
 {
-    is_between(0.015625, 4096.0, radius)
-}
-
-// Whether a corner's coordinates are from 0 to 4,096.
-fn is_inside(c: Corner) -> bool
-    ensures { λ r. ⌜ r ≡ isInside c ⌝ }
-{
-    if is_between(0.0, 4096.0, c.x) {
-        is_between(0.0, 4096.0, c.y)
-    } else {
-        false
-    }
+    float32::is_between(0.015625, 4096.0, radius)
 }
 
 // Whether one of the first n corners of a buffer is not inside.
@@ -60,7 +41,7 @@ fn has_outside(xs: &[f32], ys: &[f32], strengths: &[f32], n: usize) -> bool
     ensures { λ r. ⌜ r ≡ any (λ c. not (isInside c)) (cornersOf (slices (now (xs .entry)) (now (ys .entry)) (now (strengths .entry))) n) ⌝ }
 {
     for i in 0..n {
-        if !is_inside(corner_list::corner_at(xs, ys, strengths, i)) {
+        if !corner_list::is_inside(corner_list::corner_at(xs, ys, strengths, i)) {
             return true;
         }
     }

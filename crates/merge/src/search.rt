@@ -2,7 +2,7 @@
 ghost use mathlib.Core.Path.{_≡_};
 ghost use mathlib.Core.Logic.{_⊎_};
 ghost use mathlib.Core.Bool.{cond, _&&_};
-ghost use Prim.Native.Nat.{_+_, _<_, _≤_};
+ghost use Prim.Native.Nat.{_+_, _^_, _<_, _≤_};
 ghost use lib.ListN.{length};
 ghost use lib.Dec.{ltb};
 ghost use Rattle.corner_list.specs.CornerList.{slices, placesOf};
@@ -81,7 +81,7 @@ fn lowest_of_two(
     most: usize,
     c: Corner,
 ) -> usize
-    requires { ⌜ (0 < length (now table)) × (most ≤ empty) × (x + 1 < 18446744073709551616) ⌝ }
+    requires { ⌜ (0 < length (now table)) × (most ≤ empty) × (x + 1 < 2 ^ 64) ⌝ }
     ensures { λ r. ⌜ Lowers (joinsAt g c (slices (now (xs .entry)) (now (ys .entry)) (now (strengths .entry))))
         (λ i. Listed (now (table .entry)) (homeOf (length (now (table .entry))) x y) i ⊎ Listed (now (table .entry)) (homeOf (length (now (table .entry))) (x + 1) y) i) most r ⌝ }
 {

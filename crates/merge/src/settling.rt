@@ -1,7 +1,7 @@
 // The kept corners stand first in the buffer, and each corner of the list is settled among them.
 ghost use mathlib.Core.Path.{_≡_};
 ghost use mathlib.Core.List.{[]};
-ghost use Prim.Native.Nat.{_+_, _<_, _≤_, max};
+ghost use Prim.Native.Nat.{_+_, _^_, _<_, _≤_, max};
 ghost use lib.ListN.{length};
 ghost use Rattle.corner_list.specs.CornerList.{slices, cornersOf, placesOf};
 ghost use Rattle.merge.specs.Merge.{joins, merged, resultOf};
@@ -12,7 +12,7 @@ use corner_list::Corner;
 
 // How many corners there are when one is put at a place of the first k or right behind them.
 fn count_with(k: usize, at: usize) -> usize
-    requires { ⌜ k + 1 < 18446744073709551616 ⌝ }
+    requires { ⌜ k + 1 < 2 ^ 64 ⌝ }
     ensures { λ r. ⌜ (at ≤ k → r ≡ max k (at + 1)) ⌝ }
 {
     if at < k { k } else { k + 1 }
