@@ -2,6 +2,8 @@ pub mod Numbers
 pub mod Judged
 pub mod First
 pub mod Slots
+pub mod Indexing
+pub mod Nearby
 pub mod Settle
 pub mod Progress
 pub mod Answer

@@ -68,7 +68,8 @@ fn merge_with(
     k
 }
 
-// Merges the first n corners of a buffer in place, by a grid, and returns how many are left.
+// Merges the first n corners of a buffer in place, by a grid, and returns how many are left. The table stands on the stack: 4 KB for a
+// short list, 512 KB for a longer one.
 fn merge_in(xs: &mut [f32], ys: &mut [f32], strengths: &mut [f32], g: Grid, n: usize) -> usize
     requires { ⌜ n ≤ placesOf (slices (now xs) (now ys) (now strengths)) ⌝ }
     ensures { λ k. ⌜ Left (merged (joins g) [] (cornersOf (slices (now (xs .entry)) (now (ys .entry)) (now (strengths .entry))) n))

@@ -1,6 +1,6 @@
 -- `merge::merge_within` meets its contract: refused, or merged. Assumes nothing.
 use borrow.Author.Needs.{needs}
-use Prim.Native.Nat.{_≤_, min}
+use Prim.Native.Nat.{min}
 use native.Mathlib.Omega.{arith}
 use mathlib.Core.Path.{_≡_, sym, ap, _∙_}
 use Rattle.corner_list.specs.CornerList.{slices, placesOf}

@@ -6,7 +6,7 @@ use mathlib.Core.Path.{_≡_, refl, _∙_}
 use lib.ListN.{length}
 use Rattle.corner_list.specs.CornerList.{slices}
 use Rattle.merge.specs.Index.{Indexed}
-use Rattle.merge.proofs.Slots.{indexed-none, indexed-turn, indexed-fewer}
+use Rattle.merge.proofs.Indexing.{indexed-none, indexed-turn, indexed-fewer}
 use Rattle.merge.proofs.index.list_kept.Statement.{statement}
 use Rattle.merge.proofs.index.list_kept.Tie as tie
 

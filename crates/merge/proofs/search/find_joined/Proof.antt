@@ -4,7 +4,7 @@ use native.Mathlib.Omega.{arith}
 use mathlib.Core.Path.{ap}
 use Prim.Native.Nat.{ℕ, _/_}
 use Rattle.merge.proofs.First.{lowers-then, lowers-first}
-use Rattle.merge.proofs.Slots.{all-near}
+use Rattle.merge.proofs.Nearby.{all-near}
 use Rattle.merge.proofs.search.find_joined.Statement.{statement}
 use Rattle.merge.proofs.search.find_joined.Tie as tie
 

@@ -8,7 +8,7 @@ use Rattle.corner_list.specs.CornerList.{slices}
 use Rattle.merge.specs.Merge.{joins}
 use Rattle.merge.specs.Index.{Indexed}
 use Rattle.merge.proofs.Progress.{Progress, progress-none, progress-fits, progress-turn, progress-all, progress-xs, progress-ys, progress-strengths}
-use Rattle.merge.proofs.Slots.{indexed-none}
+use Rattle.merge.proofs.Indexing.{indexed-none}
 use Rattle.merge.proofs.settling.merge_with.Statement.{statement}
 use Rattle.merge.proofs.settling.merge_with.Tie as tie
 

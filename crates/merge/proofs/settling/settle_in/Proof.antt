@@ -2,7 +2,7 @@
 use borrow.Author.Needs.{needs}
 use native.Mathlib.Omega.{arith}
 use Rattle.merge.proofs.Settle.{settled-put}
-use Rattle.merge.proofs.Slots.{indexed-put}
+use Rattle.merge.proofs.Indexing.{indexed-put}
 use Rattle.merge.proofs.settling.settle_in.Statement.{statement}
 use Rattle.merge.proofs.settling.settle_in.Tie as tie
 
