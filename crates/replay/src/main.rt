@@ -1,0 +1,120 @@
+// Replays the oracle's sample (oracle/SAMPLE.md) on the finder's crates: each record's call is made anew, and its answer and every
+// buffer that it borrows are compared bit for bit, NaN matching NaN. The folder `data` holds the sample of seed 1, and the file
+// `stdout` how many records each of its files has and that none differs.
+mod boxes;
+mod buffers;
+mod centroids;
+mod cursor;
+mod levels;
+mod listings;
+mod merges;
+mod numbers;
+mod responses;
+mod streams;
+mod tally;
+
+use cursor::word_at;
+use tally::Tally;
+
+// The longest body.
+const LONGEST: usize = 24019;
+
+// What stands next in a file.
+enum Next {
+    // A record: whether the answer is the same.
+    Record(bool),
+    // The last record, which says how many came before it.
+    Last(u32),
+    // Less than a record.
+    Short,
+}
+
+// Whether a record's answer is the same. One of an unknown kind, or whose fields do not fit its length, is not.
+fn is_same(kind: u8, body: &[u8]) -> bool {
+    match kind {
+        3 => responses::replay(body),
+        5 => centroids::replay(body),
+        6 => boxes::replay(body),
+        7 => levels::replay_building(body),
+        8 => levels::replay_place(body),
+        9 => merges::replay(body),
+        10 => streams::replay(body),
+        11 => listings::replay(body),
+        12 => numbers::replay_float(body),
+        13 => numbers::replay_ring(body),
+        _ => false,
+    }
+}
+
+// Reads a record and replays it.
+fn read(fd: i32) -> Next {
+    let mut head = [0u8; 5];
+    if io::read_full(fd, &mut head) < 5 {
+        return Next::Short;
+    }
+    let kind = head[0];
+    let n = word_at(&head, 1) as usize;
+    if LONGEST < n {
+        return Next::Short;
+    }
+    let mut space = [0u8; LONGEST];
+    let body: &mut [u8] = &mut space;
+    if io::read_full(fd, &mut body[0..n]) < n {
+        return Next::Short;
+    }
+    let body = &body[..];
+    if kind == 0 {
+        return Next::Last(word_at(&body[0..n], 0));
+    }
+    Next::Record(is_same(kind, &body[0..n]))
+}
+
+// Replays the records that are left in a file.
+fn rest(fd: i32) -> Tally {
+    let mut t = Tally::none();
+    for _ in 0..1000000u64 {
+        match read(fd) {
+            Next::Record(is_same) => {
+                t = t.with(is_same);
+            }
+            Next::Last(n) => {
+                return t.ended(t.compared == (n as u64));
+            }
+            Next::Short => {
+                return t.ended(false);
+            }
+        }
+    }
+    t.ended(false)
+}
+
+// Replays a file and prints its line.
+fn replay(name: &[u8]) -> Tally {
+    let fd = os::open_read(name);
+    let t = rest(fd);
+    libc::close(fd);
+    t.print(name);
+    t
+}
+
+// Replays a file of the sample by its place in the list.
+fn replay_file(i: u8) -> Tally {
+    match i {
+        0 => replay(b"responses.bin"),
+        1 => replay(b"centroids.bin"),
+        2 => replay(b"boxes.bin"),
+        3 => replay(b"levels.bin"),
+        4 => replay(b"merges.bin"),
+        5 => replay(b"streams.bin"),
+        6 => replay(b"listings.bin"),
+        _ => replay(b"numbers.bin"),
+    }
+}
+
+fn main() {
+    let mut all = Tally::none();
+    for i in 0..8u8 {
+        all = all.and(replay_file(i));
+    }
+    all.print(b"all");
+}
