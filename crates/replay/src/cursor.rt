@@ -20,6 +20,14 @@ pub(crate) struct Run {
     pub next: Cursor,
 }
 
+// The lengths of a corner buffer's slices, and the fields behind them.
+pub(crate) struct Lengths {
+    pub xs: usize,
+    pub ys: usize,
+    pub strengths: usize,
+    pub next: Cursor,
+}
+
 // ---- bytes of a slice: 0, or empty, where they are not there
 
 fn wide(b: u8) -> u32
@@ -149,6 +157,19 @@ impl Cursor {
     pub(crate) fn floats(self, body: &[u8]) -> Run {
         let n = self.word(body);
         n.next.run(body, 4 * (n.value as usize))
+    }
+
+    pub(crate) fn lengths(self, body: &[u8]) -> Lengths {
+        let xs = self.word(body);
+        let ys = xs.next.word(body);
+        let strengths = ys.next.word(body);
+        let next = strengths.next;
+        Lengths {
+            xs: xs.value as usize,
+            ys: ys.value as usize,
+            strengths: strengths.value as usize,
+            next,
+        }
     }
 
     // ---- fields that are due

@@ -9,6 +9,7 @@ mod levels;
 mod listings;
 mod merges;
 mod numbers;
+mod peaks;
 mod responses;
 mod streams;
 mod tally;
@@ -33,6 +34,7 @@ enum Next {
 fn is_same(kind: u8, body: &[u8]) -> bool {
     match kind {
         3 => responses::replay(body),
+        4 => peaks::replay(body),
         5 => centroids::replay(body),
         6 => boxes::replay(body),
         7 => levels::replay_building(body),
@@ -101,19 +103,20 @@ fn replay(name: &[u8]) -> Tally {
 fn replay_file(i: u8) -> Tally {
     match i {
         0 => replay(b"responses.bin"),
-        1 => replay(b"centroids.bin"),
-        2 => replay(b"boxes.bin"),
-        3 => replay(b"levels.bin"),
-        4 => replay(b"merges.bin"),
-        5 => replay(b"streams.bin"),
-        6 => replay(b"listings.bin"),
+        1 => replay(b"peaks.bin"),
+        2 => replay(b"centroids.bin"),
+        3 => replay(b"boxes.bin"),
+        4 => replay(b"levels.bin"),
+        5 => replay(b"merges.bin"),
+        6 => replay(b"streams.bin"),
+        7 => replay(b"listings.bin"),
         _ => replay(b"numbers.bin"),
     }
 }
 
 fn main() {
     let mut all = Tally::none();
-    for i in 0..8u8 {
+    for i in 0..9u8 {
         all = all.and(replay_file(i));
     }
     all.print(b"all");

@@ -5,10 +5,10 @@ use Rattle.replay.proofs.main.Statement.{statement}
 use Rattle.replay.proofs.main.Tie as tie
 
 abbrev Inv-loop : tie.InvT-loop
-Inv-loop all₀ i₀ t3 all i = i ≤ 8
+Inv-loop all₀ i₀ t3 all i = i ≤ 9
 
 abbrev μ-loop : tie.MeasureT-loop
-μ-loop all₀ i₀ t3 all i = 8 - i
+μ-loop all₀ i₀ t3 all i = 9 - i
 
 none-requires : tie.Need-none-requires Inv-loop μ-loop
 none-requires c κs = search needs
