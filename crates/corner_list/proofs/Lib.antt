@@ -1,3 +1,4 @@
 pub mod Corners
 pub mod Growing
+pub mod Placed
 pub mod Inside
