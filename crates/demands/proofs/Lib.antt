@@ -1,1 +1,6 @@
 pub mod Cases
+pub mod ResponseAccurate
+pub mod ResponsesOrdered
+pub mod Names
+pub mod Added
+pub mod PeaksAlike

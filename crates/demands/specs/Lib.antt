@@ -1,1 +1,5 @@
 pub mod Cases
+pub mod Calls
+pub mod ResponseAccurate
+pub mod ResponsesOrdered
+pub mod PeaksAlike

@@ -1,0 +1,55 @@
+-- What a call of peak finding that added corners left: the names of the computed peaks, and so those of any others exactly when they are
+-- the same. Assumes nothing.
+use Prim.Native.Nat.{ℕ, _<_}
+use native.Mathlib.Nat.{eq-zero-or-pos}
+use native.Mathlib.Omega.{arith}
+use mathlib.Core.Path.{_≡_, refl, sym, ap, _∙_}
+use mathlib.Core.Logic.{_↔_, ⊎-elim}
+use mathlib.Core.Bool.{Bool}
+use mathlib.Core.List.{List, map, map-map}
+use lib.ListN.{length}
+use lib.Ieee.{Float}
+use Rattle.lists.specs.Places.{All}
+use Rattle.lists.specs.Refusals.{lowest}
+use Rattle.lists.proofs.Members.{all-map}
+use Rattle.corner_list.specs.CornerList.{Slices, placesOf}
+use Rattle.corner_list.specs.declared.Corner.{Corner}
+use Rattle.corner_list.proofs.Placed.{corners-placed}
+use Rattle.detect.specs.declared.Peaks.the-variants.{Added}
+use Rattle.detect.specs.Peaks.{Reading}
+use Rattle.detect.specs.Detect.{readIn, peaksIn, peaksBy, startAt, startsIn, conditions, Found}
+use Rattle.detect.proofs.Choice.{peaks-in-map}
+use Rattle.detect.proofs.Answers.{Clear, Fitted, clear, sound, refusal-input, added-tells}
+use Rattle.demands.specs.Calls.{PeakCall, searchIn}
+use Rattle.demands.specs.PeaksAlike.{programList, position, nameOf}
+use Rattle.demands.proofs.Names.{Small, names-only}
+
+-- where corners were added, no condition on the input holds
+unrefused : (conds : List (Bool × ℕ)) (cs : List Corner) (held : ℕ) (b : Slices) (n : ℕ) (b′ : Slices) → Found conds cs held b (Added n) b′ → lowest conds ≡ 0
+unrefused conds cs held b n b′ f =
+    ⊎-elim (λ z. z) (λ l. sym (f .number ∙ refusal-input (placesOf b) held (length cs) conds (λ z. let no : ⊥ = omega arith in no))) (eq-zero-or-pos (lowest conds))
+
+module _ (m : List Float) (w h : ℕ) (p : PeakCall m w h) where
+  no-fault : Clear (conditions (length m) w h (p .ring) (p .window) (p .radius))
+  no-fault = clear (length m) w h (p .ring) (p .window) (p .radius) (unrefused _ _ _ _ _ _ (p .promise))
+
+  fitted : Fitted (startsIn m (searchIn p)) (p .held) (p .before) (p .added) (p .after)
+  fitted = added-tells _ no-fault _ _ _ _ _ (p .promise) (p .added) refl
+
+  added-are : programList p ≡ startsIn m (searchIn p)
+  added-are = rw (fitted .buffer) (corners-placed (p .held) (startsIn m (searchIn p)) (p .before) (omega (arith, fitted .fits)) (p .added) (fitted .count))
+
+  names-are : map position (programList p) ≡ map nameOf (peaksIn m (searchIn p))
+  names-are = ap (map position) added-are ∙ map-map position (startAt m w) (peaksIn m (searchIn p))
+
+  peaks-small : (v : Reading) → All Small (peaksBy v (searchIn p))
+  peaks-small v =
+      let k = sound (length m) w h (p .ring) (p .window) (p .radius) no-fault in
+      all-map (λ q. (q .x < w) × (q .y < h)) Small (λ q i. (omega (arith, i .0, k .wide), omega (arith, i .1, k .high))) (peaksBy v (searchIn p))
+      (peaks-in-map v w h (searchIn p .border) (p .window) (p .least))
+
+  pub named : (v : Reading) → (map position (programList p) ≡ map nameOf (peaksBy v (searchIn p))) ↔ (peaksIn m (searchIn p) ≡ peaksBy v (searchIn p))
+  named v = (
+    λ e. names-only _ _ (peaks-small (readIn m (searchIn p))) (peaks-small v) (sym names-are ∙ e),
+    λ e. names-are ∙ ap (map nameOf) e,
+  )
