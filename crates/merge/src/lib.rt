@@ -86,7 +86,7 @@ fn refusal(
 }
 
 // Merges the first `count` corners of a buffer of at most `places` places.
-fn merge_within(
+pub fn merge_within(
     xs: &mut [f32],
     ys: &mut [f32],
     strengths: &mut [f32],

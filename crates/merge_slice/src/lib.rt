@@ -1,0 +1,69 @@
+// Merging corners that lie in one slice. The core works on three slices of floats, so the corners change places with the elements of
+// three borrowed slices, are merged there, and change places again.
+ghost use mathlib.Core.Path.{_≡_};
+ghost use Prim.Native.Nat.{_≤_, min};
+ghost use lib.ListN.{length, take};
+ghost use Rattle.lists.specs.Buffer.{front};
+ghost use Rattle.corner_list.specs.CornerList.{slices, placesOf, cornersOf, frontCorners};
+ghost use Rattle.merge_slice.specs.MergeSlice.{MergesSlice};
+use corner_list::Corner;
+use merge::Merged;
+
+// The least of a count and the lengths of the four slices.
+fn shared_places(count: usize, corners: usize, xs: usize, ys: usize, strengths: usize) -> usize
+    ensures { λ r. ⌜ r ≡ min count (min corners (min xs (min ys strengths))) ⌝ }
+{
+    corner_list::places(count, corners, corner_list::places(xs, ys, strengths))
+}
+
+// The first n corners and the first n places of a buffer change places.
+fn exchange(
+    corners: &mut [Corner],
+    xs: &mut [f32],
+    ys: &mut [f32],
+    strengths: &mut [f32],
+    n: usize,
+)
+    requires { ⌜ (n ≤ length (now corners)) × (n ≤ placesOf (slices (now xs) (now ys) (now strengths))) ⌝ }
+    ensures { λ _. ⌜ (now (corners .exit) ≡ front (cornersOf (slices (now (xs .entry)) (now (ys .entry)) (now (strengths .entry))) n) (now (corners .entry)))
+        × (slices (now (xs .exit)) (now (ys .exit)) (now (strengths .exit))
+        ≡ frontCorners (take n (now (corners .entry))) (slices (now (xs .entry)) (now (ys .entry)) (now (strengths .entry)))) ⌝ }
+{
+    for i in 0..n {
+        let c = corners[i];
+        corners[i] = Corner {
+            x: xs[i],
+            y: ys[i],
+            strength: strengths[i],
+        };
+        xs[i] = c.x;
+        ys[i] = c.y;
+        strengths[i] = c.strength;
+    }
+}
+
+// Merges the first `count` corners of a slice in place, as `merge_corners_simple` does for three slices. The other slices are scratch: they
+// have what they held again at the end.
+pub fn merge_corner_slice(
+    corners: &mut [Corner],
+    xs: &mut [f32],
+    ys: &mut [f32],
+    strengths: &mut [f32],
+    count: usize,
+    radius: f32,
+) -> Merged
+    ensures { λ r. ⌜ MergesSlice radius count (now (corners .entry)) (slices (now (xs .entry)) (now (ys .entry)) (now (strengths .entry)))
+        r (now (corners .exit)) (slices (now (xs .exit)) (now (ys .exit)) (now (strengths .exit))) ⌝ }
+{
+    let n = shared_places(
+        count,
+        corners.len(),
+        xs.len(),
+        ys.len(),
+        strengths.len(),
+    );
+    exchange(corners, xs, ys, strengths, n);
+    let answer = merge::merge_within(xs, ys, strengths, n, count, radius);
+    exchange(corners, xs, ys, strengths, n);
+    answer
+}
