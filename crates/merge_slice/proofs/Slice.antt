@@ -39,6 +39,7 @@ corners-over us cs b h = slices-alike (over xOf (b .xs)) (over yOf (b .ys)) (ove
     map-drop g zero l = refl
     map-drop g (suc k) [] = refl
     map-drop g (suc k) (c ∷ l) = map-drop g k l
+
     over : (g : Corner → Float) (d : List Float) → front (map g us) (front (map g cs) d) ≡ front (map g (front us cs)) d
     over g d =
         front-over (map g us) (map g cs) d (omega (arith, length-map us g, length-map cs g))
@@ -148,18 +149,23 @@ module _ (radius : Float) (count : ℕ) (cs : List Corner) (scratch : Slices) (n
     where
       own : Merges radius n count inside r b₂
       own = subst (λ (k : ℕ). Merges radius k count inside r b₂) (few count (length cs) (placesOf scratch) (placesOf inside) n is inside-places) (subst (λ (b : Slices). Merges radius (min n (placesOf b)) count b r b₂) (e .1) m)
+
       answered : r ≡ answerOf number (length left)
       answered = own .answered ∙ ap (λ (k : ℕ). answerOf k (length (resultOf radius (cornersOf inside count)))) same-number ∙ same-answer number refl
+
       buffer : b₂ ≡ frontCorners (after number) scratch
       buffer = own .buffer ∙ ap (λ (k : ℕ). bufferOf k (resultOf radius (cornersOf inside count)) inside) same-number ∙ same-buffer number refl
+
       read : cornersOf b₂ n ≡ after number
       read = ap (λ (b : Slices). cornersOf b n) buffer ∙ corners-front (after number) scratch n (sym (after-length number refl))
+
       corners : cs₂ ≡ cornersAfter number left cs
       corners =
           f .0 ∙ ap (front (cornersOf b₂ n)) (e .0)
           ∙ front-again (cornersOf scratch n) (cornersOf b₂ n) cs (omega (arith, corners-length scratch n, corners-length b₂ n))
           ∙ ap (λ (l : List Corner). front l cs) read
           ∙ after-front number refl
+
       given-back : b₃ ≡ scratch
       given-back =
           f .1 ∙ ap (λ (l : List Corner). frontCorners (take n l) b₂) (e .0)

@@ -17,13 +17,7 @@ fn shared_places(count: usize, corners: usize, xs: usize, ys: usize, strengths: 
 }
 
 // The first n corners and the first n places of a buffer change places.
-fn exchange(
-    corners: &mut [Corner],
-    xs: &mut [f32],
-    ys: &mut [f32],
-    strengths: &mut [f32],
-    n: usize,
-)
+fn exchange(corners: &mut [Corner], xs: &mut [f32], ys: &mut [f32], strengths: &mut [f32], n: usize)
     requires { ⌜ (n ≤ length (now corners)) × (n ≤ placesOf (slices (now xs) (now ys) (now strengths))) ⌝ }
     ensures { λ _. ⌜ (now (corners .exit) ≡ front (cornersOf (slices (now (xs .entry)) (now (ys .entry)) (now (strengths .entry))) n) (now (corners .entry)))
         × (slices (now (xs .exit)) (now (ys .exit)) (now (strengths .exit))
@@ -55,13 +49,7 @@ pub fn merge_corner_slice(
     ensures { λ r. ⌜ MergesSlice radius count (now (corners .entry)) (slices (now (xs .entry)) (now (ys .entry)) (now (strengths .entry)))
         r (now (corners .exit)) (slices (now (xs .exit)) (now (ys .exit)) (now (strengths .exit))) ⌝ }
 {
-    let n = shared_places(
-        count,
-        corners.len(),
-        xs.len(),
-        ys.len(),
-        strengths.len(),
-    );
+    let n = shared_places(count, corners.len(), xs.len(), ys.len(), strengths.len());
     exchange(corners, xs, ys, strengths, n);
     let answer = merge::merge_within(xs, ys, strengths, n, count, radius);
     exchange(corners, xs, ys, strengths, n);

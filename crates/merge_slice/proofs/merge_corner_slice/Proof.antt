@@ -167,14 +167,28 @@ module _ {M : Type 1} (𝓤 : URA M) (H : Heap 𝓤) (A : Atoms 𝓤) (W : Given
   to-shared = ((tt, tt, tt, (count, (length L0, (length L1, (length L2, (length L3, tt))))), (vint w64 count ∷ [], (vint w64 (length L0) ∷ [], (vint w64 (length L1) ∷ [], (vint w64 (length L2) ∷ [], (vint w64 (length L3) ∷ [], tt)))))), tt)
 
   abbrev to-ex : ℕ → ℕ → ℕ → ℕ → GName → GName → GName → GName → List Corner → List Float → List Float → List Float → ℕ → Exch 𝓤 H A mem run .Ghost
-  to-ex ν0 ν1 ν2 ν3 δ0 δ1 δ2 δ3 l0 l1 l2 l3 m =
-      (((ν0 ∷ [], (ν1 ∷ [], (ν2 ∷ [], (ν3 ∷ [], tt)))), (fullShare, (fullShare, (fullShare, (fullShare, tt)))), tt,
-      (ref0 δ0 l0, (ref1 δ1 l1, (ref2 δ2 l2, (ref3 δ3 l3, (m, tt))))), (s0 ∷ [], (s1 ∷ [], (s2 ∷ [], (s3 ∷ [], (vint w64 m ∷ [], tt)))))), tt)
+  to-ex ν0 ν1 ν2 ν3 δ0 δ1 δ2 δ3 l0 l1 l2 l3 m = (
+    (
+      (ν0 ∷ [], (ν1 ∷ [], (ν2 ∷ [], (ν3 ∷ [], tt)))),
+      (fullShare, (fullShare, (fullShare, (fullShare, tt)))),
+      tt,
+      (ref0 δ0 l0, (ref1 δ1 l1, (ref2 δ2 l2, (ref3 δ3 l3, (m, tt))))),
+      (s0 ∷ [], (s1 ∷ [], (s2 ∷ [], (s3 ∷ [], (vint w64 m ∷ [], tt))))),
+    ),
+    tt,
+  )
 
   abbrev to-mw : ℕ → ℕ → ℕ → GName → GName → GName → List Float → List Float → List Float → ℕ → Core 𝓤 H A mem run .Ghost
-  to-mw ν1 ν2 ν3 δ1 δ2 δ3 l1 l2 l3 m =
-      (((ν1 ∷ [], (ν2 ∷ [], (ν3 ∷ [], tt))), (fullShare, (fullShare, (fullShare, tt))), tt,
-      (ref1 δ1 l1, (ref2 δ2 l2, (ref3 δ3 l3, (m, (count, (radius, tt)))))), (s1 ∷ [], (s2 ∷ [], (s3 ∷ [], (vint w64 m ∷ [], (vint w64 count ∷ [], (vfloat binary32 radius ∷ [], tt))))))), tt)
+  to-mw ν1 ν2 ν3 δ1 δ2 δ3 l1 l2 l3 m = (
+    (
+      (ν1 ∷ [], (ν2 ∷ [], (ν3 ∷ [], tt))),
+      (fullShare, (fullShare, (fullShare, tt))),
+      tt,
+      (ref1 δ1 l1, (ref2 δ2 l2, (ref3 δ3 l3, (m, (count, (radius, tt)))))),
+      (s1 ∷ [], (s2 ∷ [], (s3 ∷ [], (vint w64 m ∷ [], (vint w64 count ∷ [], (vfloat binary32 radius ∷ [], tt)))))),
+    ),
+    tt,
+  )
 
   goes-shared : ent 𝓤 (sem 𝓤 H A ftrue) (Shared 𝓤 H A mem run .pre to-shared)
   goes-shared =
@@ -399,7 +413,7 @@ module _ {M : Type 1} (𝓤 : URA M) (H : Heap 𝓤) (A : Atoms 𝓤) (W : Given
 
 module _ {M : Type 1} (𝓤 : URA M) (H : Heap 𝓤) (A : Atoms 𝓤) (W : Given 𝓤 H A) (mem : Memory → SProp 𝓤) (run : Routine → Fun 𝓤) where
   slice-walks : (C : Calls 𝓤 H) (Λ : Loops 𝓤 H) → FmC 𝓤 H (W .laws) C → Triple 𝓤 (C #merge-slice·exchange) (Exch 𝓤 H A mem run) → Triple 𝓤 (C #merge·merge-within) (Core 𝓤 H A mem run)
-    → Triple 𝓤 (C #merge-slice·shared-places) (Shared 𝓤 H A mem run)
+      → Triple 𝓤 (C #merge-slice·shared-places) (Shared 𝓤 H A mem run)
       → Walks 𝓤 H A f.ended stayed (WpFn 𝓤 H C Λ code.function) (f.clauses 𝓤 H A mem run)
   slice-walks C Λ fm known-ex known-core known-shared = walked 𝓤 H A f.ended stayed (f.clauses 𝓤 H A mem run) (WpFn 𝓤 H C Λ code.function)
       (λ κs. (slice-vals, (slice-vals, (slice-vals, (slice-vals, (uint-vals w64, (float-vals binary32, tt)))))))
