@@ -1,3 +1,4 @@
 pub mod Turns
 pub mod Slice
 pub mod Again
+pub mod Core

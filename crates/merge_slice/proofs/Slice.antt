@@ -4,21 +4,19 @@ use Prim.Native.Nat.{ℕ, zero, suc, _<_, _≤_, min}
 use native.Mathlib.Decide.{decLt}
 use native.Mathlib.Omega.{arith}
 use mathlib.Core.Path.{_≡_, refl, sym, ap, ap₂, _∙_, subst}
-use mathlib.Core.Bool.{Bool, not, _&&_}
 use mathlib.Core.List.{List, [], _∷_, _++_, map, map-append, append-assoc}
 use lib.Dec.{ltb}
 use borrow.Author.Tests.{lt-ltb, le-ltb}
-use lib.ListN.{length, take, drop, getD, length-map, length-append, length-drop, length-take, List·getD-map}
+use lib.ListN.{length, take, drop, getD, length-map, List·getD-map}
 use lib.Seq.{length-take-le, drop-append-le, ext-getD, getD-take}
-use lib.Ieee.{Float, nan}
-use Rattle.lists.specs.Places.{any}
+use lib.Ieee.{Float}
 use Rattle.lists.specs.Buffer.{front}
 use Rattle.lists.proofs.Buffer.{front-length, front-take, front-same, front-again}
 use Rattle.corner_list.specs.declared.Corner.{Corner}
-use Rattle.corner_list.specs.CornerList.{Slices, slices, isInside, xOf, yOf, strengthOf, placesOf, cornerAt, cornersOf, frontCorners}
+use Rattle.corner_list.specs.CornerList.{Slices, xOf, yOf, strengthOf, placesOf, cornerAt, cornersOf, frontCorners}
 use Rattle.corner_list.proofs.Corners.{slices-alike, same-places, corners-length, corners-at, corners-front, corners-same, corners-again, front-xs, front-ys, front-strengths}
 use Rattle.merge.specs.declared.Merged.{Merged}
-use Rattle.merge.specs.Merge.{isOff, isSized, resultOf, refusalOf, answerOf, bufferOf, Merges}
+use Rattle.merge.specs.Merge.{resultOf, refusalOf, answerOf, bufferOf, Merges}
 use Rattle.merge.proofs.Judged.{judged-fits}
 use Rattle.merge.proofs.Result.{result-length}
 use Rattle.merge_slice.specs.MergeSlice.{columns, sharedPlaces, refusalFor, cornersAfter, MergesSlice}
@@ -32,22 +30,28 @@ front-over us vs d h =
     ∙ sym (append-assoc us (drop (length us) vs) (drop (length vs) d))
     ∙ ap (λ (k : ℕ). us ++ drop (length us) vs ++ drop k d) (sym l)
 
+map-drop : (g : Corner → Float) (k : ℕ) (cs : List Corner) → drop k (map g cs) ≡ map g (drop k cs)
+map-drop g zero cs = refl
+map-drop g (suc k) [] = refl
+map-drop g (suc k) (c ∷ cs) = map-drop g k cs
+
+-- a field of each corner
+map-front : (g : Corner → Float) (us cs : List Corner) → front (map g us) (map g cs) ≡ map g (front us cs)
+map-front g us cs =
+    ap (λ (k : ℕ). map g us ++ drop k (map g cs)) (length-map us g)
+    ∙ ap (λ (l : List Float). map g us ++ l) (map-drop g (length us) cs)
+    ∙ sym (map-append g us (drop (length us) cs))
+
 corners-over : (us cs : List Corner) (b : Slices) → length us ≤ length cs → frontCorners us (frontCorners cs b) ≡ frontCorners (front us cs) b
 corners-over us cs b h = slices-alike (over xOf (b .xs)) (over yOf (b .ys)) (over strengthOf (b .strengths))
   where
-    map-drop : (g : Corner → Float) (k : ℕ) (l : List Corner) → drop k (map g l) ≡ map g (drop k l)
-    map-drop g zero l = refl
-    map-drop g (suc k) [] = refl
-    map-drop g (suc k) (c ∷ l) = map-drop g k l
-
     over : (g : Corner → Float) (d : List Float) → front (map g us) (front (map g cs) d) ≡ front (map g (front us cs)) d
     over g d =
         front-over (map g us) (map g cs) d (omega (arith, length-map us g, length-map cs g))
-        ∙ ap (λ (l : List Float). front l d)
-        (ap (λ (k : ℕ). map g us ++ drop k (map g cs)) (length-map us g) ∙ ap (λ (l : List Float). map g us ++ l) (map-drop g (length us) cs) ∙ sym (map-append g us (drop (length us) cs)))
+        ∙ ap (λ (l : List Float). front l d) (map-front g us cs)
 
--- ---- the first n corners of a slice
-columns-corners : (cs : List Corner) (n : ℕ) → n ≤ length cs → cornersOf (columns cs) n ≡ take n cs
+-- ---- the corners of a slice as three slices hold them: the first n, those that stand first, and how many there are
+pub columns-corners : (cs : List Corner) (n : ℕ) → n ≤ length cs → cornersOf (columns cs) n ≡ take n cs
 columns-corners cs n h =
     ext-getD nowhere (cornersOf (columns cs) n) (take n cs) (corners-length (columns cs) n ∙ sym (length-take-le n cs h))
     (λ i l.
@@ -56,6 +60,12 @@ columns-corners cs n h =
   where
     here : (i : ℕ) → cornerAt (columns cs) i ≡ getD cs i nowhere
     here i = rw (List·getD-map xOf cs i nowhere, List·getD-map yOf cs i nowhere, List·getD-map strengthOf cs i nowhere)
+
+pub columns-front : (us cs : List Corner) → frontCorners us (columns cs) ≡ columns (front us cs)
+columns-front us cs = slices-alike (map-front xOf us cs) (map-front yOf us cs) (map-front strengthOf us cs)
+
+pub columns-places : (cs : List Corner) → placesOf (columns cs) ≡ length cs
+columns-places cs = rw (length-map cs xOf, length-map cs yOf, length-map cs strengthOf) (omega arith)
 
 -- ---- numbers: n corners are exchanged, and the core is told of n places
 few : (count c p k n : ℕ) → n ≡ min count (min c p) → k ≡ p → min n k ≡ n

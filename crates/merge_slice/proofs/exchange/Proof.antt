@@ -1,7 +1,7 @@
 -- `merge_slice::exchange` meets its contract: a walk of its code, by hand, with a loop. The four borrows are opened once, before the loop, and closed
 -- once, after it. In a turn the corner and the three floats at i are taken out of their rows, stored to and put back. The invariant: the lists are those after
 -- i places (proofs/Turns.antt). Numbers of slices: 0 the corners, 1 to 3 the buffer's. Assumes nothing.
-use mathlib.Core.Path.{_≡_, refl, sym, ap, _∙_, subst}
+use mathlib.Core.Path.{_≡_, refl, sym, ap, subst}
 use Prim.Native.Nat.{ℕ, _+_, _-_, _*_, _≤_, _<_, _^_, zero-le}
 use native.Mathlib.Nat.{le-trans, le-antisymm, lt-of-le-of-lt, lt-of-lt-of-le}
 use native.Mathlib.Numerals.{add-one-le, add-one-dec}
@@ -51,7 +51,7 @@ use denote.Triple.Walked.{says, needs, Stays, stay-slice, stay-none, walkOf, All
 use denote.Exit.{yes}
 use Rattle.lists.specs.Tab.{tab}
 use Rattle.corner_list.specs.declared.Corner.{Corner}
-use Rattle.corner_list.specs.CornerList.{Slices, slices, xOf, yOf, strengthOf, placesOf, cornerAt, cornersOf, frontCorners}
+use Rattle.corner_list.specs.CornerList.{Slices, slices, xOf, yOf, strengthOf, placesOf, cornerAt, frontCorners}
 use Rattle.corner_list.proofs.Corners.{in-xs, in-ys, in-strengths, slices-alike}
 use Rattle.corner_list.proofs.Corner as T
 use Rattle.corner_list.proofs.Corner.Laws as T′
@@ -225,14 +225,23 @@ module _ {M : Type 1} (𝓤 : URA M) (H : Heap 𝓤) (A : Atoms 𝓤) (W : Given
       (A0 i, (A1 i, (A2 i, (A3 i, (tt, tt))))) (long0 i, (long1 i, (long2 i, (long3 i, (tt, tt)))))) $ says ! (said i e) $
       nothing ! $ move ! (12 ∷ 0 ∷ []) $ join ! $ move ! (9 ∷ 0 ∷ []) $ join ! $ move ! (6 ∷ 0 ∷ []) $ join ! $ move ! (3 ∷ 0 ∷ []) $ join ! $ frame ! $ nothing ! $
       owned ! usize (Is usize) (uint-makes 𝓤 H A W w64) n _ (refl, n-fits) $ fjoin ! $ move ! (7 ∷ 8 ∷ 0 ∷ []) $ fjoin ! $
-      pureI ! (at-slice f32 (ref3 (A3 i)) (at .1 .1 .1 .0)) (tt, (tt, tt)) (ap (λ (m : ℕ). sliceVal (b3, o3) m ∷ []) (sym (long3 i)), subst (Room f32) (sym (long3 i)) room3) $
-      fjoin ! $ fjoin ! $ move ! (5 ∷ 6 ∷ 0 ∷ []) $ fjoin ! $
-      pureI ! (at-slice f32 (ref2 (A2 i)) (at .1 .1 .0)) (tt, (tt, tt)) (ap (λ (m : ℕ). sliceVal (b2, o2) m ∷ []) (sym (long2 i)), subst (Room f32) (sym (long2 i)) room2) $
-      fjoin ! $ fjoin ! $ move ! (3 ∷ 4 ∷ 0 ∷ []) $ fjoin ! $
+      pureI ! (at-slice f32 (ref3 (A3 i)) (at .1 .1 .1 .0)) (tt, (tt, tt)) (
+        ap (λ (m : ℕ). sliceVal (b3, o3) m ∷ []) (sym (long3 i)),
+        subst (Room f32) (sym (long3 i))
+            room3,
+      ) $ fjoin ! $ fjoin ! $ move ! (5 ∷ 6 ∷ 0 ∷ []) $ fjoin ! $
+      pureI ! (at-slice f32 (ref2 (A2 i)) (at .1 .1 .0)) (tt, (tt, tt)) (
+        ap (λ (m : ℕ). sliceVal (b2, o2) m ∷ []) (sym (long2 i)),
+        subst (Room f32) (sym (long2 i))
+            room2,
+      ) $ fjoin ! $ fjoin ! $ move ! (3 ∷ 4 ∷ 0 ∷ []) $ fjoin ! $
       pureI ! (at-slice f32 (ref1 (A1 i)) (at .1 .0)) (tt, (tt, tt)) (ap (λ (m : ℕ). sliceVal (b1, o1) m ∷ []) (sym (long1 i)), subst (Room f32) (sym (long1 i)) room1) $
       fjoin ! $ fjoin ! $ move ! (1 ∷ 2 ∷ 0 ∷ []) $ fjoin ! $
-      pureI ! (at-slice T.the-row (ref0 (A0 i)) (at .0)) (tt, (tt, tt)) (ap (λ (m : ℕ). sliceVal (b0, o0) m ∷ []) (sym (long0 i)), subst (Room T.the-row) (sym (long0 i)) room0) $
-      fjoin ! $ fjoin ! $ frame ! $ feqI ! (List Val) (vunit ∷ []) (vunit ∷ []) refl $ done !
+      pureI ! (at-slice T.the-row (ref0 (A0 i)) (at .0)) (tt, (tt, tt)) (
+        ap (λ (m : ℕ). sliceVal (b0, o0) m ∷ []) (sym (long0 i)),
+        subst (Room T.the-row) (sym (long0 i))
+            room0,
+      ) $ fjoin ! $ fjoin ! $ frame ! $ feqI ! (List Val) (vunit ∷ []) (vunit ∷ []) refl $ done !
 
   -- ---- one turn: the corner at i, and the corner that is put in its place
   abbrev old-c : Upto → Corner
@@ -353,46 +362,68 @@ module _ {M : Type 1} (𝓤 : URA M) (H : Heap 𝓤) (A : Atoms 𝓤) (W : Given
         first ! $ branches ! (load ! (from ! (stop !)) (look ! 36 refl))
         (λ less. skips ! $ exec ! C Λ En more (anyQ (Turned i)) $
         -- the corner is copied out
-        assigns ! (bin ! (load ! (from ! (stop !)) (look ! 40 refl)) (lit ! tt) (record { fits = off0 i less })) (from ! (stop !)) (init ! 34 refl (tt, record { fits = off0 i less })) $
-        assigns ! (bin ! (load ! (from ! (fld ! refl (stop !))) (look-in ! 50 (sub ! 0 refl (whole !)))) (load ! (from ! (stop !)) (look ! 34 refl)) tt) (from ! (stop !)) (init ! 32 refl (tt, tt)) $
-        rewrite ! 32 (λ (p : ℕ). ‵ (fat fullShare tyPtr l10 0 (vptr b0 p))) (sym (place-is 12 o0 (i .0))) refl $
-        elem-out ! T.the-row (Is T.the-row) (shows 𝓤 H A T.the-row) (LL.vals T.the-type T′.the-laws) (LL.tells T.the-type T′.the-laws) fullShare (A0 i) (i .0) nowhere b0 o0 (in0 i less) (λ is0.
-        assigns ! (of-opd ! (load ! (from ! (hop ! (look ! 34 refl) (stop !))) (look-raw ! 0 refl))) (from ! (stop !)) (init ! 32 refl (tt, (passes _ (c-fits0 i is0), (passes _ (c-fits1 i is0), (passes _ (c-fits2 i is0), tt))))) $
-        assigns ! (of-opd ! (load ! (from ! (stop !)) (look ! 32 refl))) (from ! (stop !)) (init ! 40 refl (tt, (passes _ (c-fits0 i is0), (passes _ (c-fits1 i is0), (passes _ (c-fits2 i is0), tt))))) $
+        assigns ! (bin ! (load ! (from ! (stop !)) (look ! 40 refl)) (lit ! tt) (record { fits = off0 i less })) (from ! (stop !))
+        (init ! 34 refl (tt, record { fits = off0 i less })) $
+        assigns ! (bin ! (load ! (from ! (fld ! refl (stop !))) (look-in ! 50 (sub ! 0 refl (whole !)))) (load ! (from ! (stop !)) (look ! 34 refl)) tt) (from ! (stop !))
+        (init ! 32 refl (tt, tt)) $ rewrite ! 32 (λ (p : ℕ). ‵ (fat fullShare tyPtr l10 0 (vptr b0 p))) (sym (place-is 12 o0 (i .0))) refl $
+        elem-out ! T.the-row (Is T.the-row) (shows 𝓤 H A T.the-row) (LL.vals T.the-type T′.the-laws) (LL.tells T.the-type T′.the-laws) fullShare (A0 i) (i .0) nowhere b0 o0
+        (in0 i less) (λ is0.
+        assigns ! (of-opd ! (load ! (from ! (hop ! (look ! 34 refl) (stop !))) (look-raw ! 0 refl))) (from ! (stop !))
+        (init ! 32 refl (tt, (passes _ (c-fits0 i is0), (passes _ (c-fits1 i is0), (passes _ (c-fits2 i is0), tt))))) $
+        assigns ! (of-opd ! (load ! (from ! (stop !)) (look ! 32 refl))) (from ! (stop !))
+        (init ! 40 refl (tt, (passes _ (c-fits0 i is0), (passes _ (c-fits1 i is0), (passes _ (c-fits2 i is0), tt))))) $
         -- the corner of the buffer is put in its place
-        assigns ! (bin ! (load ! (from ! (stop !)) (look ! 42 refl)) (lit ! tt) (record { fits = off1 i less })) (from ! (stop !)) (store ! 36 refl (tt, record { fits = off1 i less })) $
-        assigns ! (bin ! (load ! (from ! (fld ! refl (stop !))) (look-in ! 50 (sub ! 0 refl (whole !)))) (load ! (from ! (stop !)) (look ! 36 refl)) tt) (from ! (stop !)) (init ! 30 refl (tt, tt)) $
-        rewrite ! 30 (λ (p : ℕ). ‵ (fat fullShare tyPtr l12 0 (vptr b1 p))) (sym (place-is 4 o1 (i .0))) refl $ move ! (3 ∷ []) $
+        assigns ! (bin ! (load ! (from ! (stop !)) (look ! 42 refl)) (lit ! tt) (record { fits = off1 i less })) (from ! (stop !))
+        (store ! 36 refl (tt, record { fits = off1 i less })) $
+        assigns ! (bin ! (load ! (from ! (fld ! refl (stop !))) (look-in ! 50 (sub ! 0 refl (whole !)))) (load ! (from ! (stop !)) (look ! 36 refl)) tt) (from ! (stop !))
+        (init ! 30 refl (tt, tt)) $ rewrite ! 30 (λ (p : ℕ). ‵ (fat fullShare tyPtr l12 0 (vptr b1 p))) (sym (place-is 4 o1 (i .0))) refl $ move ! (3 ∷ []) $
         elem-out ! f32 (Is f32) (shows 𝓤 H A f32) (float-vals binary32) (float-tells binary32) fullShare (A1 i) (i .0) nan b1 o1 (in1 i less) (λ is1.
         assigns ! (of-opd ! (load ! (from ! (hop ! (look ! 32 refl) (stop !))) (look ! 0 refl))) (from ! (stop !)) (init ! 30 refl (tt, passes _ (is1 .1))) $
-        assigns ! (bin ! (load ! (from ! (stop !)) (look ! 44 refl)) (lit ! tt) (record { fits = off2 i less })) (from ! (stop !)) (init ! 28 refl (tt, record { fits = off2 i less })) $
-        assigns ! (bin ! (load ! (from ! (fld ! refl (stop !))) (look-in ! 50 (sub ! 0 refl (whole !)))) (load ! (from ! (stop !)) (look ! 28 refl)) tt) (from ! (stop !)) (init ! 26 refl (tt, tt)) $
-        rewrite ! 26 (λ (p : ℕ). ‵ (fat fullShare tyPtr l15 0 (vptr b2 p))) (sym (place-is 4 o2 (i .0))) refl $ move ! (6 ∷ []) $
+        assigns ! (bin ! (load ! (from ! (stop !)) (look ! 44 refl)) (lit ! tt) (record { fits = off2 i less })) (from ! (stop !))
+        (init ! 28 refl (tt, record { fits = off2 i less })) $
+        assigns ! (bin ! (load ! (from ! (fld ! refl (stop !))) (look-in ! 50 (sub ! 0 refl (whole !)))) (load ! (from ! (stop !)) (look ! 28 refl)) tt) (from ! (stop !))
+        (init ! 26 refl (tt, tt)) $ rewrite ! 26 (λ (p : ℕ). ‵ (fat fullShare tyPtr l15 0 (vptr b2 p))) (sym (place-is 4 o2 (i .0))) refl $ move ! (6 ∷ []) $
         elem-out ! f32 (Is f32) (shows 𝓤 H A f32) (float-vals binary32) (float-tells binary32) fullShare (A2 i) (i .0) nan b2 o2 (in2 i less) (λ is2.
         assigns ! (of-opd ! (load ! (from ! (hop ! (look ! 28 refl) (stop !))) (look ! 0 refl))) (from ! (stop !)) (init ! 26 refl (tt, passes _ (is2 .1))) $
-        assigns ! (bin ! (load ! (from ! (stop !)) (look ! 46 refl)) (lit ! tt) (record { fits = off3 i less })) (from ! (stop !)) (init ! 24 refl (tt, record { fits = off3 i less })) $
-        assigns ! (bin ! (load ! (from ! (fld ! refl (stop !))) (look-in ! 50 (sub ! 0 refl (whole !)))) (load ! (from ! (stop !)) (look ! 24 refl)) tt) (from ! (stop !)) (init ! 22 refl (tt, tt)) $
-        rewrite ! 22 (λ (p : ℕ). ‵ (fat fullShare tyPtr l18 0 (vptr b3 p))) (sym (place-is 4 o3 (i .0))) refl $ move ! (9 ∷ []) $
+        assigns ! (bin ! (load ! (from ! (stop !)) (look ! 46 refl)) (lit ! tt) (record { fits = off3 i less })) (from ! (stop !))
+        (init ! 24 refl (tt, record { fits = off3 i less })) $
+        assigns ! (bin ! (load ! (from ! (fld ! refl (stop !))) (look-in ! 50 (sub ! 0 refl (whole !)))) (load ! (from ! (stop !)) (look ! 24 refl)) tt) (from ! (stop !))
+        (init ! 22 refl (tt, tt)) $ rewrite ! 22 (λ (p : ℕ). ‵ (fat fullShare tyPtr l18 0 (vptr b3 p))) (sym (place-is 4 o3 (i .0))) refl $ move ! (9 ∷ []) $
         elem-out ! f32 (Is f32) (shows 𝓤 H A f32) (float-vals binary32) (float-tells binary32) fullShare (A3 i) (i .0) nan b3 o3 (in3 i less) (λ is3.
         assigns ! (of-opd ! (load ! (from ! (hop ! (look ! 24 refl) (stop !))) (look ! 0 refl))) (from ! (stop !)) (init ! 22 refl (tt, passes _ (is3 .1))) $
-        assigns ! (agg ! (and-then ! (load ! (from ! (stop !)) (look ! 34 refl)) (and-then ! (load ! (from ! (stop !)) (look ! 28 refl)) (and-then ! (load ! (from ! (stop !)) (look ! 22 refl)) (no-more !))))) (from ! (stop !)) (store ! 38 refl (tt, (passes _ (is1 .1), (passes _ (is2 .1), (passes _ (is3 .1), tt))))) $
-        assigns ! (bin ! (load ! (from ! (stop !)) (look ! 48 refl)) (lit ! tt) (record { fits = off0 i less })) (from ! (stop !)) (init ! 20 refl (tt, record { fits = off0 i less })) $
-        assigns ! (bin ! (load ! (from ! (fld ! refl (stop !))) (look-in ! 58 (sub ! 0 refl (whole !)))) (load ! (from ! (stop !)) (look ! 20 refl)) tt) (from ! (stop !)) (init ! 18 refl (tt, tt)) $
-        rewrite ! 18 (λ (p : ℕ). ‵ (fat fullShare tyPtr l21 0 (vptr b0 p))) (sym (place-is 12 o0 (i .0))) refl $
-        assigns ! (of-opd ! (load ! (from ! (stop !)) (look ! 38 refl))) (from ! (hop ! (look ! 18 refl) (stop !))) (store-raw ! 9 refl (tt, (passes _ (is1 .1), (passes _ (is2 .1), (passes _ (is3 .1), tt))))) $
+        assigns ! (agg ! (and-then ! (load ! (from ! (stop !)) (look ! 34 refl)) (and-then ! (load ! (from ! (stop !)) (look ! 28 refl))
+        (and-then ! (load ! (from ! (stop !)) (look ! 22 refl)) (no-more !))))) (from ! (stop !)) (store ! 38 refl (
+          tt,
+          (
+            passes _ (is1 .1),
+            (passes _ (is2 .1), (passes _ (is3 .1), tt)),
+          ),
+        )) $
+        assigns ! (bin ! (load ! (from ! (stop !)) (look ! 48 refl)) (lit ! tt) (record { fits = off0 i less })) (from ! (stop !))
+        (init ! 20 refl (tt, record { fits = off0 i less })) $
+        assigns ! (bin ! (load ! (from ! (fld ! refl (stop !))) (look-in ! 58 (sub ! 0 refl (whole !)))) (load ! (from ! (stop !)) (look ! 20 refl)) tt) (from ! (stop !))
+        (init ! 18 refl (tt, tt)) $ rewrite ! 18 (λ (p : ℕ). ‵ (fat fullShare tyPtr l21 0 (vptr b0 p))) (sym (place-is 12 o0 (i .0))) refl $
+        assigns ! (of-opd ! (load ! (from ! (stop !)) (look ! 38 refl))) (from ! (hop ! (look ! 18 refl) (stop !)))
+        (store-raw ! 9 refl (tt, (passes _ (is1 .1), (passes _ (is2 .1), (passes _ (is3 .1), tt))))) $
         -- its fields are stored in the buffer
-        assigns ! (bin ! (load ! (from ! (stop !)) (look ! 48 refl)) (lit ! tt) (record { fits = off1 i less })) (from ! (stop !)) (store ! 42 refl (tt, record { fits = off1 i less })) $
-        assigns ! (bin ! (load ! (from ! (fld ! refl (stop !))) (look-in ! 56 (sub ! 0 refl (whole !)))) (load ! (from ! (stop !)) (look ! 42 refl)) tt) (from ! (stop !)) (init ! 16 refl (tt, tt)) $
-        rewrite ! 16 (λ (p : ℕ). ‵ (fat fullShare tyPtr l22 0 (vptr b1 p))) (sym (place-is 4 o1 (i .0))) refl $
-        assigns ! (of-opd ! (load ! (from ! (fld ! refl (stop !))) (look-in ! 46 (sub ! 0 refl (whole !))))) (from ! (hop ! (look ! 16 refl) (stop !))) (store ! 6 refl (tt, passes _ (c-fits0 i is0))) $
-        assigns ! (bin ! (load ! (from ! (stop !)) (look ! 48 refl)) (lit ! tt) (record { fits = off2 i less })) (from ! (stop !)) (store ! 20 refl (tt, record { fits = off2 i less })) $
-        assigns ! (bin ! (load ! (from ! (fld ! refl (stop !))) (look-in ! 54 (sub ! 0 refl (whole !)))) (load ! (from ! (stop !)) (look ! 20 refl)) tt) (from ! (stop !)) (init ! 14 refl (tt, tt)) $
-        rewrite ! 14 (λ (p : ℕ). ‵ (fat fullShare tyPtr l23 0 (vptr b2 p))) (sym (place-is 4 o2 (i .0))) refl $
-        assigns ! (of-opd ! (load ! (from ! (fld ! refl (stop !))) (look-in ! 46 (sub ! 1 refl (whole !))))) (from ! (hop ! (look ! 14 refl) (stop !))) (store ! 3 refl (tt, passes _ (c-fits1 i is0))) $
-        assigns ! (bin ! (load ! (from ! (stop !)) (look ! 48 refl)) (lit ! tt) (record { fits = off3 i less })) (from ! (stop !)) (store ! 42 refl (tt, record { fits = off3 i less })) $
-        assigns ! (bin ! (load ! (from ! (fld ! refl (stop !))) (look-in ! 52 (sub ! 0 refl (whole !)))) (load ! (from ! (stop !)) (look ! 42 refl)) tt) (from ! (stop !)) (init ! 12 refl (tt, tt)) $
-        rewrite ! 12 (λ (p : ℕ). ‵ (fat fullShare tyPtr l24 0 (vptr b3 p))) (sym (place-is 4 o3 (i .0))) refl $
-        assigns ! (of-opd ! (load ! (from ! (fld ! refl (stop !))) (look-in ! 46 (sub ! 2 refl (whole !))))) (from ! (hop ! (look ! 12 refl) (stop !))) (store ! 0 refl (tt, passes _ (c-fits2 i is0))) $
+        assigns ! (bin ! (load ! (from ! (stop !)) (look ! 48 refl)) (lit ! tt) (record { fits = off1 i less })) (from ! (stop !))
+        (store ! 42 refl (tt, record { fits = off1 i less })) $
+        assigns ! (bin ! (load ! (from ! (fld ! refl (stop !))) (look-in ! 56 (sub ! 0 refl (whole !)))) (load ! (from ! (stop !)) (look ! 42 refl)) tt) (from ! (stop !))
+        (init ! 16 refl (tt, tt)) $ rewrite ! 16 (λ (p : ℕ). ‵ (fat fullShare tyPtr l22 0 (vptr b1 p))) (sym (place-is 4 o1 (i .0))) refl $
+        assigns ! (of-opd ! (load ! (from ! (fld ! refl (stop !))) (look-in ! 46 (sub ! 0 refl (whole !))))) (from ! (hop ! (look ! 16 refl) (stop !)))
+        (store ! 6 refl (tt, passes _ (c-fits0 i is0))) $
+        assigns ! (bin ! (load ! (from ! (stop !)) (look ! 48 refl)) (lit ! tt) (record { fits = off2 i less })) (from ! (stop !))
+        (store ! 20 refl (tt, record { fits = off2 i less })) $
+        assigns ! (bin ! (load ! (from ! (fld ! refl (stop !))) (look-in ! 54 (sub ! 0 refl (whole !)))) (load ! (from ! (stop !)) (look ! 20 refl)) tt) (from ! (stop !))
+        (init ! 14 refl (tt, tt)) $ rewrite ! 14 (λ (p : ℕ). ‵ (fat fullShare tyPtr l23 0 (vptr b2 p))) (sym (place-is 4 o2 (i .0))) refl $
+        assigns ! (of-opd ! (load ! (from ! (fld ! refl (stop !))) (look-in ! 46 (sub ! 1 refl (whole !))))) (from ! (hop ! (look ! 14 refl) (stop !)))
+        (store ! 3 refl (tt, passes _ (c-fits1 i is0))) $
+        assigns ! (bin ! (load ! (from ! (stop !)) (look ! 48 refl)) (lit ! tt) (record { fits = off3 i less })) (from ! (stop !))
+        (store ! 42 refl (tt, record { fits = off3 i less })) $
+        assigns ! (bin ! (load ! (from ! (fld ! refl (stop !))) (look-in ! 52 (sub ! 0 refl (whole !)))) (load ! (from ! (stop !)) (look ! 42 refl)) tt) (from ! (stop !))
+        (init ! 12 refl (tt, tt)) $ rewrite ! 12 (λ (p : ℕ). ‵ (fat fullShare tyPtr l24 0 (vptr b3 p))) (sym (place-is 4 o3 (i .0))) refl $
+        assigns ! (of-opd ! (load ! (from ! (fld ! refl (stop !))) (look-in ! 46 (sub ! 2 refl (whole !))))) (from ! (hop ! (look ! 12 refl) (stop !)))
+        (store ! 0 refl (tt, passes _ (c-fits2 i is0))) $
         -- the corner and the floats are put back into their rows
         move ! (10 ∷ []) $ drop ! $ owned ! T.the-row (Is T.the-row) ((LL.makes T.the-type T′.the-plain) 𝓤 H A) (new-c i) _ (made i (is1 .1) (is2 .1) (is3 .1)) $
         move ! (10 ∷ 0 ∷ 11 ∷ []) $ elem-put ! T.the-row fullShare (A0 i) (i .0) (new-c i) (mach (new-c i) ∷ []) b0 o0 (in0 i less) $
@@ -406,12 +437,13 @@ module _ {M : Type 1} (𝓤 : URA M) (H : Heap 𝓤) (A : Atoms 𝓤) (W : Given
         owned ! f32 (Is f32) (float-makes 𝓤 H A W binary32) (strengthOf (old-c i)) _ (refl, c-fits2 i is0) $ move ! (4 ∷ 0 ∷ 5 ∷ []) $
         elem-put ! f32 fullShare (A3 i) (i .0) (strengthOf (old-c i)) (vfloat binary32 (strengthOf (old-c i)) ∷ []) b3 o3 (in3 i less) $
         rewrite ! 0 (λ (l : List Float). ‵ (row f32 fullShare l b3 o3)) (turn3 i less) refl $
-        assigns-last ! (bin ! (load ! (from ! (stop !)) (look ! 40 refl)) (lit ! tt) (record { fits = fits (next i less) })) (from ! (stop !)) (store ! 40 refl (tt, record { fits = fits (next i less) })) $
-        forget ! 38 refl $ forget ! 36 refl $ forget ! 34 refl $ forget ! 32 refl $ forget ! 30 refl $ forget ! 28 refl $ forget ! 26 refl $ forget ! 24 refl $
-        forget ! 22 refl $ forget ! 20 refl $ forget ! 18 refl $ forget ! 16 refl $ forget ! 14 refl $ forget ! 12 refl $ forget ! 10 refl $ forget ! 8 refl $
-        forget ! 6 refl $ forget ! 4 refl $
-        keep ! (3 ∷ 2 ∷ 1 ∷ 0 ∷ 4 ∷ 5 ∷ 6 ∷ 7 ∷ 8 ∷ 9 ∷ 10 ∷ 11 ∷ 12 ∷ 13 ∷ 14 ∷ 15 ∷ 16 ∷ 17 ∷ 18 ∷ 19 ∷ 20 ∷ 21 ∷ 22 ∷ 23 ∷ 24 ∷ 25 ∷ 26 ∷ 27 ∷ 28 ∷ 29 ∷ 30 ∷ 31 ∷ 32 ∷ 33 ∷ 34 ∷ 35 ∷ 36 ∷ 37 ∷ 38 ∷ 39 ∷ 40 ∷ 41 ∷ 42 ∷ 43 ∷ 44 ∷ 45 ∷ 46 ∷ 47 ∷ 48 ∷ 49 ∷ 50 ∷ 51 ∷ 52 ∷ 53 ∷ 54 ∷ 55 ∷ 56 ∷ 57 ∷ 58 ∷ 59 ∷ 60 ∷ 61 ∷ 62 ∷ 63 ∷ 64 ∷ 65 ∷ []) $
-        again ! Nearer At i (next i less) (add-one-dec n (i .0) (ltb→lt (i .0) n less)))))))
+        assigns-last ! (bin ! (load ! (from ! (stop !)) (look ! 40 refl)) (lit ! tt) (record { fits = fits (next i less) })) (from ! (stop !))
+        (store ! 40 refl (tt, record { fits = fits (next i less) })) $ forget ! 38 refl $ forget ! 36 refl $ forget ! 34 refl $ forget ! 32 refl $ forget ! 30 refl $
+        forget ! 28 refl $ forget ! 26 refl $ forget ! 24 refl $ forget ! 22 refl $ forget ! 20 refl $ forget ! 18 refl $ forget ! 16 refl $ forget ! 14 refl $
+        forget ! 12 refl $ forget ! 10 refl $ forget ! 8 refl $ forget ! 6 refl $ forget ! 4 refl $
+        keep ! (3 ∷ 2 ∷ 1 ∷ 0 ∷ 4 ∷ 5 ∷ 6 ∷ 7 ∷ 8 ∷ 9 ∷ 10 ∷ 11 ∷ 12 ∷ 13 ∷ 14 ∷ 15 ∷ 16 ∷ 17 ∷ 18 ∷ 19 ∷ 20 ∷ 21 ∷ 22 ∷ 23 ∷ 24 ∷ 25 ∷ 26 ∷ 27 ∷ 28 ∷ 29 ∷ 30 ∷ 31 ∷ 32 ∷
+        33 ∷ 34 ∷ 35 ∷ 36 ∷ 37 ∷ 38 ∷ 39 ∷ 40 ∷ 41 ∷ 42 ∷ 43 ∷ 44 ∷ 45 ∷ 46 ∷ 47 ∷ 48 ∷ 49 ∷ 50 ∷ 51 ∷ 52 ∷ 53 ∷ 54 ∷ 55 ∷ 56 ∷ 57 ∷ 58 ∷ 59 ∷ 60 ∷ 61 ∷ 62 ∷ 63 ∷ 64 ∷ 65 ∷
+        []) $ again ! Nearer At i (next i less) (add-one-dec n (i .0) (ltb→lt (i .0) n less)))))))
         (λ over. jumps ! $ exec ! C Λ En Mir.t-3 (atRet En Post) $
         assigns ! (of-opd ! (unit-lit !)) (from ! (stop !)) (init ! 52 refl (tt, tt)) $ move ! (0 ∷ 54 ∷ 55 ∷ 56 ∷ []) $
         closes-slice ! tt T.the-row L0 (A0 i) (long0 i) b0 o0 $ move ! (3 ∷ 56 ∷ 57 ∷ 58 ∷ []) $ closes-slice ! tt f32 L1 (A1 i) (long1 i) b1 o1 $
@@ -446,7 +478,9 @@ module _ {M : Type 1} (𝓤 : URA M) (H : Heap 𝓤) (A : Atoms 𝓤) (W : Given
       move ! (1 ∷ []) $ split ! $ move ! (1 ∷ []) $ split ! $ move ! (1 ∷ []) $ split ! $ move ! (15 ∷ 16 ∷ 4 ∷ []) $ opens-slice ! tt T.the-row L0 b0 o0 $
       move ! (15 ∷ 16 ∷ 7 ∷ []) $ opens-slice ! tt f32 L1 b1 o1 $ move ! (15 ∷ 16 ∷ 10 ∷ []) $ opens-slice ! tt f32 L2 b2 o2 $ move ! (14 ∷ 15 ∷ 12 ∷ []) $
       opens-slice ! tt f32 L3 b3 o3 $
-      keep ! (12 ∷ 8 ∷ 4 ∷ 0 ∷ 22 ∷ 23 ∷ 24 ∷ 25 ∷ 26 ∷ 27 ∷ 28 ∷ 29 ∷ 30 ∷ 31 ∷ 32 ∷ 33 ∷ 34 ∷ 35 ∷ 36 ∷ 37 ∷ 38 ∷ 39 ∷ 40 ∷ 41 ∷ 42 ∷ 43 ∷ 44 ∷ 45 ∷ 46 ∷ 47 ∷ 48 ∷ 49 ∷ 50 ∷ 51 ∷ 52 ∷ 53 ∷ 54 ∷ 55 ∷ 56 ∷ 57 ∷ 58 ∷ 59 ∷ 60 ∷ 61 ∷ 62 ∷ 63 ∷ 64 ∷ 65 ∷ 66 ∷ 67 ∷ 68 ∷ 69 ∷ 70 ∷ 71 ∷ 13 ∷ 14 ∷ 15 ∷ 9 ∷ 10 ∷ 11 ∷ 5 ∷ 6 ∷ 7 ∷ 1 ∷ 2 ∷ 3 ∷ []) $
+      keep ! (12 ∷ 8 ∷ 4 ∷ 0 ∷ 22 ∷ 23 ∷ 24 ∷ 25 ∷ 26 ∷ 27 ∷ 28 ∷ 29 ∷ 30 ∷ 31 ∷ 32 ∷ 33 ∷ 34 ∷ 35 ∷ 36 ∷ 37 ∷ 38 ∷ 39 ∷ 40 ∷ 41 ∷ 42 ∷ 43 ∷ 44 ∷ 45 ∷ 46 ∷ 47 ∷ 48 ∷ 49 ∷
+      50 ∷ 51 ∷ 52 ∷ 53 ∷ 54 ∷ 55 ∷ 56 ∷ 57 ∷ 58 ∷ 59 ∷ 60 ∷ 61 ∷ 62 ∷ 63 ∷ 64 ∷ 65 ∷ 66 ∷ 67 ∷ 68 ∷ 69 ∷ 70 ∷ 71 ∷ 13 ∷ 14 ∷ 15 ∷ 9 ∷ 10 ∷ 11 ∷ 5 ∷ 6 ∷ 7 ∷ 1 ∷ 2 ∷ 3 ∷
+      []) $
       first ! $ blocks ! $ loops ! 𝓣 Nearer Nearer-wf (At 𝓣 l0 l1 l2 l3 l4 l5 l6 l7 l8 l9 l10 l11 l12 l13 l14 l15 l16 l17 l18 l19 l20 l21 l22 l23 l24)
       (turns 𝓣 l0 l1 l2 l3 l4 l5 l6 l7 l8 l9 l10 l11 l12 l13 l14 l15 l16 l17 l18 l19 l20 l21 l22 l23 l24) (0, zero-le))))))))))))))))))))))))))
 

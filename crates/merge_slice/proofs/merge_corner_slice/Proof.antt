@@ -1,7 +1,7 @@
 -- `merge_slice::merge_corner_slice` meets its contract: a walk of its code, by hand. At each call the slices are lent again, for lifetimes made for the call, and come
 -- back at the lists that the callee left (proofs/Again.antt). Of the callees it knows their contracts alone; what these say together is proofs/Slice.antt's
 -- `slice-merged`. Numbers of slices: 0 the corners, 1 to 3 the scratch. Assumes nothing.
-use mathlib.Core.Path.{_≡_, refl, sym, ap, _∙_, subst}
+use mathlib.Core.Path.{_≡_, refl, ap, _∙_}
 use Prim.Native.Nat.{ℕ, _≤_, _<_, _^_, min}
 use native.Mathlib.Omega.{arith}
 use mathlib.Core.Bool.{true}
@@ -274,142 +274,206 @@ module _ {M : Type 1} (𝓤 : URA M) (H : Heap 𝓤) (A : Atoms 𝓤) (W : Given
         move ! (1 ∷ []) $ fsplit ! $ move ! (1 ∷ []) $ fsplit ! $ move ! (1 ∷ []) $ fsplit ! $ move ! (77 ∷ []) $ split ! $ move ! (1 ∷ []) $ split ! $ move ! (1 ∷ []) $
         split ! $ move ! (1 ∷ []) $ split ! $
         -- how many corners are exchanged
-        assigns ! (of-opd ! (load ! (from ! (fld ! refl (stop !))) (look-in ! 78 (sub ! 1 refl (whole !))))) (from ! (stop !)) (init ! 62 refl (tt, record { fits = room0 .0 })) $
-        assigns ! (of-opd ! (load ! (from ! (fld ! refl (stop !))) (look-in ! 76 (sub ! 1 refl (whole !))))) (from ! (stop !)) (init ! 60 refl (tt, record { fits = room1 .0 })) $
-        assigns ! (of-opd ! (load ! (from ! (fld ! refl (stop !))) (look-in ! 74 (sub ! 1 refl (whole !))))) (from ! (stop !)) (init ! 58 refl (tt, record { fits = room2 .0 })) $
-        assigns ! (of-opd ! (load ! (from ! (fld ! refl (stop !))) (look-in ! 72 (sub ! 1 refl (whole !))))) (from ! (stop !)) (init ! 56 refl (tt, record { fits = room3 .0 })) $
-        nothing ! $ use1 W (raw (Shared 𝓤 H A mem run .pre to-shared)) goes-shared $
-        calls-at ! fm (Shared 𝓤 H A mem run) known-shared to-shared (and-then ! (load ! (from ! (stop !)) (look ! 71 refl)) (and-then ! (load ! (from ! (stop !)) (look ! 63 refl)) (and-then ! (load ! (from ! (stop !)) (look ! 61 refl)) (and-then ! (load ! (from ! (stop !)) (look ! 59 refl)) (and-then ! (load ! (from ! (stop !)) (look ! 57 refl)) (no-more !)))))) (λ w0.
-        use1 W (later (some (λ (r : ℕ). (‵ ftrue ⊛ ‵ (usize .own r (w0 ∷ []))) ⊛ raw (ensured 𝓤 H A sh.ended (sh.clauses 𝓤 H A mem run) tt (count, (length L0, (length L1, (length L2, (length L3, tt))))) tt r)))) (id⊢ 𝓤 _) $
-        await ! tt $ pick ! (λ m. split ! $ move ! (1 ∷ []) $ use1 W (raw (fact 𝓤 (m ≡ shared))) (said m) $ heard ! (m ≡ shared) (λ e0. split ! $ drop ! $
+        assigns ! (of-opd ! (load ! (from ! (fld ! refl (stop !))) (look-in ! 78 (sub ! 1 refl (whole !))))) (from ! (stop !))
+        (init ! 62 refl (tt, record { fits = room0 .0 })) $
+        assigns ! (of-opd ! (load ! (from ! (fld ! refl (stop !))) (look-in ! 76 (sub ! 1 refl (whole !))))) (from ! (stop !))
+        (init ! 60 refl (tt, record { fits = room1 .0 })) $
+        assigns ! (of-opd ! (load ! (from ! (fld ! refl (stop !))) (look-in ! 74 (sub ! 1 refl (whole !))))) (from ! (stop !))
+        (init ! 58 refl (tt, record { fits = room2 .0 })) $
+        assigns ! (of-opd ! (load ! (from ! (fld ! refl (stop !))) (look-in ! 72 (sub ! 1 refl (whole !))))) (from ! (stop !))
+        (init ! 56 refl (tt, record { fits = room3 .0 })) $ nothing ! $ use1 W (raw (Shared 𝓤 H A mem run .pre to-shared)) goes-shared $
+        calls-at ! fm (Shared 𝓤 H A mem run) known-shared to-shared (and-then ! (load ! (from ! (stop !)) (look ! 71 refl))
+        (and-then ! (load ! (from ! (stop !)) (look ! 63 refl)) (and-then ! (load ! (from ! (stop !)) (look ! 61 refl))
+        (and-then ! (load ! (from ! (stop !)) (look ! 59 refl)) (and-then ! (load ! (from ! (stop !)) (look ! 57 refl)) (no-more !)))))) (λ w0.
+        use1 W (later (some (λ (r : ℕ). (‵ ftrue ⊛ ‵ (usize .own r (w0 ∷ []))) ⊛ raw
+        (ensured 𝓤 H A sh.ended (sh.clauses 𝓤 H A mem run) tt (count, (length L0, (length L1, (length L2, (length L3, tt))))) tt r)))) (id⊢ 𝓤 _) $ await ! tt $ pick ! (λ m.
+        split ! $ move ! (1 ∷ []) $ use1 W (raw (fact 𝓤 (m ≡ shared))) (said m) $ heard ! (m ≡ shared) (λ e0. split ! $ drop ! $
         peeks ! usize (Is usize) (shows 𝓤 H A usize) m (w0 ∷ []) (λ is0. land ! (from ! (stop !)) (init ! 67 refl (uint-lawful 𝓤 H A W w64 .typed m _ is0 .0)) $
         rewrite ! 67 (λ (u : Val). ‵ (fat fullShare (tyInt w64) l7 0 u)) (ap only (is0 .0)) refl $
         -- the first exchange
         assigns ! (addr ! (from ! (fld ! refl (hop ! (look-in ! 79 (sub ! 0 refl (whole !))) (stop !))))) (from ! (stop !)) (init ! 53 refl (tt, tt)) $
-        assigns ! (agg ! (and-then ! (load ! (from ! (stop !)) (look ! 53 refl)) (and-then ! (load ! (from ! (fld ! refl (stop !))) (look-in ! 79 (sub ! 1 refl (whole !)))) (no-more !)))) (from ! (stop !)) (init ! 51 refl (tt, (tt, (record { fits = room0 .0 }, tt)))) $
+        assigns ! (agg ! (and-then ! (load ! (from ! (stop !)) (look ! 53 refl)) (and-then ! (load ! (from ! (fld ! refl (stop !))) (look-in ! 79 (sub ! 1 refl (whole !))))
+        (no-more !)))) (from ! (stop !)) (init ! 51 refl (tt, (tt, (record { fits = room0 .0 }, tt)))) $
         assigns ! (addr ! (from ! (fld ! refl (hop ! (look-in ! 77 (sub ! 0 refl (whole !))) (stop !))))) (from ! (stop !)) (init ! 49 refl (tt, tt)) $
-        assigns ! (agg ! (and-then ! (load ! (from ! (stop !)) (look ! 49 refl)) (and-then ! (load ! (from ! (fld ! refl (stop !))) (look-in ! 77 (sub ! 1 refl (whole !)))) (no-more !)))) (from ! (stop !)) (init ! 47 refl (tt, (tt, (record { fits = room1 .0 }, tt)))) $
+        assigns ! (agg ! (and-then ! (load ! (from ! (stop !)) (look ! 49 refl)) (and-then ! (load ! (from ! (fld ! refl (stop !))) (look-in ! 77 (sub ! 1 refl (whole !))))
+        (no-more !)))) (from ! (stop !)) (init ! 47 refl (tt, (tt, (record { fits = room1 .0 }, tt)))) $
         assigns ! (addr ! (from ! (fld ! refl (hop ! (look-in ! 75 (sub ! 0 refl (whole !))) (stop !))))) (from ! (stop !)) (init ! 45 refl (tt, tt)) $
-        assigns ! (agg ! (and-then ! (load ! (from ! (stop !)) (look ! 45 refl)) (and-then ! (load ! (from ! (fld ! refl (stop !))) (look-in ! 75 (sub ! 1 refl (whole !)))) (no-more !)))) (from ! (stop !)) (init ! 43 refl (tt, (tt, (record { fits = room2 .0 }, tt)))) $
+        assigns ! (agg ! (and-then ! (load ! (from ! (stop !)) (look ! 45 refl)) (and-then ! (load ! (from ! (fld ! refl (stop !))) (look-in ! 75 (sub ! 1 refl (whole !))))
+        (no-more !)))) (from ! (stop !)) (init ! 43 refl (tt, (tt, (record { fits = room2 .0 }, tt)))) $
         assigns ! (addr ! (from ! (fld ! refl (hop ! (look-in ! 73 (sub ! 0 refl (whole !))) (stop !))))) (from ! (stop !)) (init ! 41 refl (tt, tt)) $
-        assigns ! (agg ! (and-then ! (load ! (from ! (stop !)) (look ! 41 refl)) (and-then ! (load ! (from ! (fld ! refl (stop !))) (look-in ! 73 (sub ! 1 refl (whole !)))) (no-more !)))) (from ! (stop !)) (init ! 39 refl (tt, (tt, (record { fits = room3 .0 }, tt)))) $
-        lft-new ! tt (λ ν10. move ! (11 ∷ 6 ∷ []) $
-        use2 W (later (some (λ (δ : GName). ‵ (MutSlice (named 0) (ν10 ∷ []) T.the-row .own (ref0 δ L0) (s0 ∷ [])) ⊛ ‵ (Lent0 ν10 δ L0)))) (lends-again T.the-row κ0 q0 γ0 b0 o0 (ν10 ∷ []) 𝓤 H A W (named 0) (named 0) L0 (length L0) refl) $
-        await ! tt $ pick ! (λ δ10. split ! $ lft-new ! tt (λ ν11. move ! (12 ∷ 8 ∷ []) $
-        use2 W (later (some (λ (δ : GName). ‵ (MutSlice (named 1) (ν11 ∷ []) f32 .own (ref1 δ L1) (s1 ∷ [])) ⊛ ‵ (Lent1 ν11 δ L1)))) (lends-again f32 κ1 q1 γ1 b1 o1 (ν11 ∷ []) 𝓤 H A W (named 1) (named 1) L1 (length L1) refl) $
-        await ! tt $ pick ! (λ δ11. split ! $ lft-new ! tt (λ ν12. move ! (13 ∷ 10 ∷ []) $
-        use2 W (later (some (λ (δ : GName). ‵ (MutSlice (named 2) (ν12 ∷ []) f32 .own (ref2 δ L2) (s2 ∷ [])) ⊛ ‵ (Lent2 ν12 δ L2)))) (lends-again f32 κ2 q2 γ2 b2 o2 (ν12 ∷ []) 𝓤 H A W (named 2) (named 2) L2 (length L2) refl) $
-        await ! tt $ pick ! (λ δ12. split ! $ lft-new ! tt (λ ν13. move ! (13 ∷ 11 ∷ []) $
-        use2 W (later (some (λ (δ : GName). ‵ (MutSlice (named 3) (ν13 ∷ []) f32 .own (ref3 δ L3) (s3 ∷ [])) ⊛ ‵ (Lent3 ν13 δ L3)))) (lends-again f32 κ3 q3 γ3 b3 o3 (ν13 ∷ []) 𝓤 H A W (named 3) (named 3) L3 (length L3) refl) $
-        await ! tt $ pick ! (λ δ13. split ! $ move ! (3 ∷ 0 ∷ []) $ join ! $ move ! (5 ∷ 0 ∷ []) $ join ! $ move ! (7 ∷ 0 ∷ []) $ join ! $ move ! (2 ∷ 0 ∷ []) $ join ! $
-        move ! (3 ∷ 0 ∷ []) $ join ! $ move ! (4 ∷ 0 ∷ []) $ join ! $ move ! (5 ∷ 0 ∷ []) $ join ! $
-        use1 W (raw (Exch 𝓤 H A mem run .pre (to-ex ν10 ν11 ν12 ν13 δ10 δ11 δ12 δ13 L0 L1 L2 L3 m))) (goes-ex ν10 ν11 ν12 ν13 δ10 δ11 δ12 δ13 L0 L1 L2 L3 m (is0 .1) (fit-all m e0 L0 L1 L2 L3 refl refl refl refl)) $
-        calls-at ! fm (Exch 𝓤 H A mem run) known-ex (to-ex ν10 ν11 ν12 ν13 δ10 δ11 δ12 δ13 L0 L1 L2 L3 m) (and-then ! (load ! (from ! (stop !)) (look ! 48 refl)) (and-then ! (load ! (from ! (stop !)) (look ! 44 refl)) (and-then ! (load ! (from ! (stop !)) (look ! 40 refl)) (and-then ! (load ! (from ! (stop !)) (look ! 36 refl)) (and-then ! (load ! (from ! (stop !)) (look ! 64 refl)) (no-more !)))))) (λ w1.
-        use1 W (later (some (λ (r : Unit {0}). ((‵ (flft (ν10 ∷ []) fullShare) ⊛ ‵ (flft (ν11 ∷ []) fullShare) ⊛ ‵ (flft (ν12 ∷ []) fullShare) ⊛ ‵ (flft (ν13 ∷ []) fullShare) ⊛ ‵ ftrue) ⊛ ‵ (unit .own r (w1 ∷ []))) ⊛ raw (ensured 𝓤 H A ex.ended (ex.clauses 𝓤 H A mem run) (ν10 ∷ [], (ν11 ∷ [], (ν12 ∷ [], (ν13 ∷ [], tt)))) (ref0 δ10 L0, (ref1 δ11 L1, (ref2 δ12 L2, (ref3 δ13 L3, (m, tt))))) tt r)))) (id⊢ 𝓤 _) $
-        await ! tt $ pick ! (λ r1. split ! $ move ! (1 ∷ []) $
-        use1 W (some (λ (zs : FourLists). ‵ (lasts ex.ended (ν10 ∷ [], (ν11 ∷ [], (ν12 ∷ [], (ν13 ∷ [], tt)))) (ref0 δ10 L0, (ref1 δ11 L1, (ref2 δ12 L2, (ref3 δ13 L3, (m, tt))))) zs) ⊛ raw (fact 𝓤 (Exchanges m L0 (slices L1 L2 L3) (zs .0) (slices (zs .1 .0) (zs .1 .1 .0) (zs .1 .1 .1 .0)))))) (id⊢ 𝓤 _) $
-        pick ! (λ zs1. split ! $ move ! (1 ∷ []) $ heard ! (Exchanges m L0 (slices L1 L2 L3) (zs1 .0) (slices (zs1 .1 .0) (zs1 .1 .1 .0) (zs1 .1 .1 .1 .0))) (λ e1.
-        fsplit ! $ fsplit ! $ move ! (1 ∷ []) $ feqL ! (λ g10. move ! (1 ∷ []) $ fsplit ! $ fsplit ! $ move ! (1 ∷ []) $ feqL ! (λ g11. move ! (1 ∷ []) $ fsplit ! $
-        fsplit ! $ move ! (1 ∷ []) $ feqL ! (λ g12. move ! (1 ∷ []) $ fsplit ! $ fsplit ! $ move ! (1 ∷ []) $ feqL ! (λ g13. move ! (5 ∷ []) $ split ! $ move ! (1 ∷ []) $
+        assigns ! (agg ! (and-then ! (load ! (from ! (stop !)) (look ! 41 refl)) (and-then ! (load ! (from ! (fld ! refl (stop !))) (look-in ! 73 (sub ! 1 refl (whole !))))
+        (no-more !)))) (from ! (stop !)) (init ! 39 refl (tt, (tt, (record { fits = room3 .0 }, tt)))) $ lft-new ! tt (λ ν10. move ! (11 ∷ 6 ∷ []) $
+        use2 W (later (some (λ (δ : GName). ‵ (MutSlice (named 0) (ν10 ∷ []) T.the-row .own (ref0 δ L0) (s0 ∷ [])) ⊛ ‵ (Lent0 ν10 δ L0))))
+        (lends-again T.the-row κ0 q0 γ0 b0 o0 (ν10 ∷ []) 𝓤 H A W (named 0) (named 0) L0 (length L0) refl) $ await ! tt $ pick ! (λ δ10. split ! $ lft-new ! tt (λ ν11.
+        move ! (12 ∷ 8 ∷ []) $
+        use2 W (later (some (λ (δ : GName). ‵ (MutSlice (named 1) (ν11 ∷ []) f32 .own (ref1 δ L1) (s1 ∷ [])) ⊛ ‵ (Lent1 ν11 δ L1))))
+        (lends-again f32 κ1 q1 γ1 b1 o1 (ν11 ∷ []) 𝓤 H A W (named 1) (named 1) L1 (length L1) refl) $ await ! tt $ pick ! (λ δ11. split ! $ lft-new ! tt (λ ν12.
+        move ! (13 ∷ 10 ∷ []) $
+        use2 W (later (some (λ (δ : GName). ‵ (MutSlice (named 2) (ν12 ∷ []) f32 .own (ref2 δ L2) (s2 ∷ [])) ⊛ ‵ (Lent2 ν12 δ L2))))
+        (lends-again f32 κ2 q2 γ2 b2 o2 (ν12 ∷ []) 𝓤 H A W (named 2) (named 2) L2 (length L2) refl) $ await ! tt $ pick ! (λ δ12. split ! $ lft-new ! tt (λ ν13.
+        move ! (13 ∷ 11 ∷ []) $
+        use2 W (later (some (λ (δ : GName). ‵ (MutSlice (named 3) (ν13 ∷ []) f32 .own (ref3 δ L3) (s3 ∷ [])) ⊛ ‵ (Lent3 ν13 δ L3))))
+        (lends-again f32 κ3 q3 γ3 b3 o3 (ν13 ∷ []) 𝓤 H A W (named 3) (named 3) L3 (length L3) refl) $ await ! tt $ pick ! (λ δ13. split ! $ move ! (3 ∷ 0 ∷ []) $ join ! $
+        move ! (5 ∷ 0 ∷ []) $ join ! $ move ! (7 ∷ 0 ∷ []) $ join ! $ move ! (2 ∷ 0 ∷ []) $ join ! $ move ! (3 ∷ 0 ∷ []) $ join ! $ move ! (4 ∷ 0 ∷ []) $ join ! $
+        move ! (5 ∷ 0 ∷ []) $ join ! $
+        use1 W (raw (Exch 𝓤 H A mem run .pre (to-ex ν10 ν11 ν12 ν13 δ10 δ11 δ12 δ13 L0 L1 L2 L3 m)))
+        (goes-ex ν10 ν11 ν12 ν13 δ10 δ11 δ12 δ13 L0 L1 L2 L3 m (is0 .1) (fit-all m e0 L0 L1 L2 L3 refl refl refl refl)) $
+        calls-at ! fm (Exch 𝓤 H A mem run) known-ex (to-ex ν10 ν11 ν12 ν13 δ10 δ11 δ12 δ13 L0 L1 L2 L3 m)
+        (and-then ! (load ! (from ! (stop !)) (look ! 48 refl)) (and-then ! (load ! (from ! (stop !)) (look ! 44 refl))
+        (and-then ! (load ! (from ! (stop !)) (look ! 40 refl)) (and-then ! (load ! (from ! (stop !)) (look ! 36 refl))
+        (and-then ! (load ! (from ! (stop !)) (look ! 64 refl)) (no-more !)))))) (λ w1.
+        use1 W (later (some (λ (r : Unit {0}). ((‵ (flft (ν10 ∷ []) fullShare) ⊛ ‵ (flft (ν11 ∷ []) fullShare) ⊛ ‵ (flft (ν12 ∷ []) fullShare) ⊛ ‵
+        (flft (ν13 ∷ []) fullShare) ⊛ ‵ ftrue) ⊛ ‵ (unit .own r (w1 ∷ []))) ⊛ raw (ensured 𝓤 H A ex.ended (ex.clauses 𝓤 H A mem run) (
+          ν10 ∷ [],
+          (ν11 ∷ [], (ν12 ∷ [], (ν13 ∷ [], tt))),
+        ) (ref0 δ10 L0, (ref1 δ11 L1, (ref2 δ12 L2, (ref3 δ13 L3, (m, tt))))) tt r)))) (id⊢ 𝓤 _) $ await ! tt $ pick ! (λ r1. split ! $
+        move ! (1 ∷ []) $
+        use1 W (some (λ (zs : FourLists). ‵ (lasts ex.ended (ν10 ∷ [], (ν11 ∷ [], (ν12 ∷ [], (ν13 ∷ [], tt))))
+        (ref0 δ10 L0, (ref1 δ11 L1, (ref2 δ12 L2, (ref3 δ13 L3, (m, tt))))) zs) ⊛ raw (fact 𝓤
+        (Exchanges m L0 (slices L1 L2 L3) (zs .0) (slices (zs .1 .0) (zs .1 .1 .0) (zs .1 .1 .1 .0)))))) (id⊢ 𝓤 _) $ pick ! (λ zs1. split ! $ move ! (1 ∷ []) $
+        heard ! (Exchanges m L0 (slices L1 L2 L3) (zs1 .0) (slices (zs1 .1 .0) (zs1 .1 .1 .0) (zs1 .1 .1 .1 .0))) (λ e1. fsplit ! $ fsplit ! $ move ! (1 ∷ []) $
+        feqL ! (λ g10. move ! (1 ∷ []) $ fsplit ! $ fsplit ! $ move ! (1 ∷ []) $ feqL ! (λ g11. move ! (1 ∷ []) $ fsplit ! $ fsplit ! $ move ! (1 ∷ []) $ feqL ! (λ g12.
+        move ! (1 ∷ []) $ fsplit ! $ fsplit ! $ move ! (1 ∷ []) $ feqL ! (λ g13. move ! (5 ∷ []) $ split ! $ move ! (1 ∷ []) $
         peeks ! unit (Is unit) (shows 𝓤 H A unit) r1 (w1 ∷ []) (λ is1. land ! (from ! (stop !)) (init ! 58 refl (nothing-lawful 𝓤 H A W .typed r1 _ is1 .0)) $
         move ! (1 ∷ []) $ split ! $ lft-end ! tt $ move ! (1 ∷ []) $ split ! $ lft-end ! tt $ move ! (1 ∷ []) $ split ! $ lft-end ! tt $ move ! (1 ∷ []) $ split ! $
         lft-end ! tt $ move ! (4 ∷ 14 ∷ 10 ∷ []) $
-        use3 W (later (‵ (MutSlice (named 0) κ0 T.the-row .own (ref0 γ0 (zs1 .0)) (s0 ∷ [])) ⊛ ‵ (flft κ0 q0))) (comes-back T.the-row κ0 q0 γ0 b0 o0 (ν10 ∷ []) 𝓤 H A W (named 0) (named 0) L0 (length L0) refl δ10 (zs1 .0) room0 g10) $
-        await ! tt $ split ! $ move ! (5 ∷ 13 ∷ 10 ∷ []) $
-        use3 W (later (‵ (MutSlice (named 1) κ1 f32 .own (ref1 γ1 (zs1 .1 .0)) (s1 ∷ [])) ⊛ ‵ (flft κ1 q1))) (comes-back f32 κ1 q1 γ1 b1 o1 (ν11 ∷ []) 𝓤 H A W (named 1) (named 1) L1 (length L1) refl δ11 (zs1 .1 .0) room1 g11) $
-        await ! tt $ split ! $ move ! (6 ∷ 12 ∷ 10 ∷ []) $
-        use3 W (later (‵ (MutSlice (named 2) κ2 f32 .own (ref2 γ2 (zs1 .1 .1 .0)) (s2 ∷ [])) ⊛ ‵ (flft κ2 q2))) (comes-back f32 κ2 q2 γ2 b2 o2 (ν12 ∷ []) 𝓤 H A W (named 2) (named 2) L2 (length L2) refl δ12 (zs1 .1 .1 .0) room2 g12) $
-        await ! tt $ split ! $ move ! (6 ∷ 11 ∷ 9 ∷ []) $
-        use3 W (later (‵ (MutSlice (named 3) κ3 f32 .own (ref3 γ3 (zs1 .1 .1 .1 .0)) (s3 ∷ [])) ⊛ ‵ (flft κ3 q3))) (comes-back f32 κ3 q3 γ3 b3 o3 (ν13 ∷ []) 𝓤 H A W (named 3) (named 3) L3 (length L3) refl δ13 (zs1 .1 .1 .1 .0) room3 g13) $
-        await ! tt $ split ! $
+        use3 W (later (‵ (MutSlice (named 0) κ0 T.the-row .own (ref0 γ0 (zs1 .0)) (s0 ∷ [])) ⊛ ‵ (flft κ0 q0)))
+        (comes-back T.the-row κ0 q0 γ0 b0 o0 (ν10 ∷ []) 𝓤 H A W (named 0) (named 0) L0 (length L0) refl δ10 (zs1 .0) room0 g10) $ await ! tt $ split ! $
+        move ! (5 ∷ 13 ∷ 10 ∷ []) $
+        use3 W (later (‵ (MutSlice (named 1) κ1 f32 .own (ref1 γ1 (zs1 .1 .0)) (s1 ∷ [])) ⊛ ‵ (flft κ1 q1)))
+        (comes-back f32 κ1 q1 γ1 b1 o1 (ν11 ∷ []) 𝓤 H A W (named 1) (named 1) L1 (length L1) refl δ11 (zs1 .1 .0) room1 g11) $ await ! tt $ split ! $
+        move ! (6 ∷ 12 ∷ 10 ∷ []) $
+        use3 W (later (‵ (MutSlice (named 2) κ2 f32 .own (ref2 γ2 (zs1 .1 .1 .0)) (s2 ∷ [])) ⊛ ‵ (flft κ2 q2)))
+        (comes-back f32 κ2 q2 γ2 b2 o2 (ν12 ∷ []) 𝓤 H A W (named 2) (named 2) L2 (length L2) refl δ12 (zs1 .1 .1 .0) room2 g12) $ await ! tt $ split ! $
+        move ! (6 ∷ 11 ∷ 9 ∷ []) $
+        use3 W (later (‵ (MutSlice (named 3) κ3 f32 .own (ref3 γ3 (zs1 .1 .1 .1 .0)) (s3 ∷ [])) ⊛ ‵ (flft κ3 q3)))
+        (comes-back f32 κ3 q3 γ3 b3 o3 (ν13 ∷ []) 𝓤 H A W (named 3) (named 3) L3 (length L3) refl δ13 (zs1 .1 .1 .1 .0) room3 g13) $ await ! tt $ split ! $
         -- the core
         assigns ! (addr ! (from ! (fld ! refl (hop ! (look-in ! 80 (sub ! 0 refl (whole !))) (stop !))))) (from ! (stop !)) (init ! 40 refl (tt, tt)) $
-        assigns ! (agg ! (and-then ! (load ! (from ! (stop !)) (look ! 40 refl)) (and-then ! (load ! (from ! (fld ! refl (stop !))) (look-in ! 80 (sub ! 1 refl (whole !)))) (no-more !)))) (from ! (stop !)) (init ! 38 refl (tt, (tt, (record { fits = room1 .0 }, tt)))) $
+        assigns ! (agg ! (and-then ! (load ! (from ! (stop !)) (look ! 40 refl)) (and-then ! (load ! (from ! (fld ! refl (stop !))) (look-in ! 80 (sub ! 1 refl (whole !))))
+        (no-more !)))) (from ! (stop !)) (init ! 38 refl (tt, (tt, (record { fits = room1 .0 }, tt)))) $
         assigns ! (addr ! (from ! (fld ! refl (hop ! (look-in ! 78 (sub ! 0 refl (whole !))) (stop !))))) (from ! (stop !)) (init ! 36 refl (tt, tt)) $
-        assigns ! (agg ! (and-then ! (load ! (from ! (stop !)) (look ! 36 refl)) (and-then ! (load ! (from ! (fld ! refl (stop !))) (look-in ! 78 (sub ! 1 refl (whole !)))) (no-more !)))) (from ! (stop !)) (init ! 34 refl (tt, (tt, (record { fits = room2 .0 }, tt)))) $
+        assigns ! (agg ! (and-then ! (load ! (from ! (stop !)) (look ! 36 refl)) (and-then ! (load ! (from ! (fld ! refl (stop !))) (look-in ! 78 (sub ! 1 refl (whole !))))
+        (no-more !)))) (from ! (stop !)) (init ! 34 refl (tt, (tt, (record { fits = room2 .0 }, tt)))) $
         assigns ! (addr ! (from ! (fld ! refl (hop ! (look-in ! 76 (sub ! 0 refl (whole !))) (stop !))))) (from ! (stop !)) (init ! 32 refl (tt, tt)) $
-        assigns ! (agg ! (and-then ! (load ! (from ! (stop !)) (look ! 32 refl)) (and-then ! (load ! (from ! (fld ! refl (stop !))) (look-in ! 76 (sub ! 1 refl (whole !)))) (no-more !)))) (from ! (stop !)) (init ! 30 refl (tt, (tt, (record { fits = room3 .0 }, tt)))) $
-        lft-new ! tt (λ ν21. move ! (5 ∷ 6 ∷ []) $
-        use2 W (later (some (λ (δ : GName). ‵ (MutSlice (named 0) (ν21 ∷ []) f32 .own (ref1 δ (zs1 .1 .0)) (s1 ∷ [])) ⊛ ‵ (Lent1 ν21 δ (zs1 .1 .0))))) (lends-again f32 κ1 q1 γ1 b1 o1 (ν21 ∷ []) 𝓤 H A W (named 1) (named 0) (zs1 .1 .0) (length L1) g11) $
-        await ! tt $ pick ! (λ δ21. split ! $ lft-new ! tt (λ ν22. move ! (6 ∷ 7 ∷ []) $
-        use2 W (later (some (λ (δ : GName). ‵ (MutSlice (named 1) (ν22 ∷ []) f32 .own (ref2 δ (zs1 .1 .1 .0)) (s2 ∷ [])) ⊛ ‵ (Lent2 ν22 δ (zs1 .1 .1 .0))))) (lends-again f32 κ2 q2 γ2 b2 o2 (ν22 ∷ []) 𝓤 H A W (named 2) (named 1) (zs1 .1 .1 .0) (length L2) g12) $
-        await ! tt $ pick ! (λ δ22. split ! $ lft-new ! tt (λ ν23. move ! (7 ∷ 8 ∷ []) $
-        use2 W (later (some (λ (δ : GName). ‵ (MutSlice (named 2) (ν23 ∷ []) f32 .own (ref3 δ (zs1 .1 .1 .1 .0)) (s3 ∷ [])) ⊛ ‵ (Lent3 ν23 δ (zs1 .1 .1 .1 .0))))) (lends-again f32 κ3 q3 γ3 b3 o3 (ν23 ∷ []) 𝓤 H A W (named 3) (named 2) (zs1 .1 .1 .1 .0) (length L3) g13) $
-        await ! tt $ pick ! (λ δ23. split ! $ move ! (3 ∷ 0 ∷ []) $ join ! $ move ! (5 ∷ 0 ∷ []) $ join ! $ move ! (2 ∷ 0 ∷ []) $ join ! $ move ! (3 ∷ 0 ∷ []) $ join ! $
-        move ! (4 ∷ 0 ∷ []) $ join ! $
-        use1 W (raw (Core 𝓤 H A mem run .pre (to-mw ν21 ν22 ν23 δ21 δ22 δ23 (zs1 .1 .0) (zs1 .1 .1 .0) (zs1 .1 .1 .1 .0) m))) (goes-mw ν21 ν22 ν23 δ21 δ22 δ23 (zs1 .1 .0) (zs1 .1 .1 .0) (zs1 .1 .1 .1 .0) m (is0 .1)) $
-        calls-at ! fm (Core 𝓤 H A mem run) known-core (to-mw ν21 ν22 ν23 δ21 δ22 δ23 (zs1 .1 .0) (zs1 .1 .1 .0) (zs1 .1 .1 .1 .0) m) (and-then ! (load ! (from ! (stop !)) (look ! 36 refl)) (and-then ! (load ! (from ! (stop !)) (look ! 32 refl)) (and-then ! (load ! (from ! (stop !)) (look ! 28 refl)) (and-then ! (load ! (from ! (stop !)) (look ! 68 refl)) (and-then ! (load ! (from ! (stop !)) (look ! 72 refl)) (and-then ! (load ! (from ! (stop !)) (look ! 70 refl)) (no-more !))))))) (λ w2.
-        use1 W (later (some (λ (r : Merged). ((‵ (flft (ν21 ∷ []) fullShare) ⊛ ‵ (flft (ν22 ∷ []) fullShare) ⊛ ‵ (flft (ν23 ∷ []) fullShare) ⊛ ‵ ftrue) ⊛ ‵ (S.the-row .own r (w2 ∷ []))) ⊛ raw (ensured 𝓤 H A mw.ended (mw.clauses 𝓤 H A mem run) (ν21 ∷ [], (ν22 ∷ [], (ν23 ∷ [], tt))) (ref1 δ21 (zs1 .1 .0), (ref2 δ22 (zs1 .1 .1 .0), (ref3 δ23 (zs1 .1 .1 .1 .0), (m, (count, (radius, tt)))))) tt r)))) (id⊢ 𝓤 _) $
-        await ! tt $ pick ! (λ r2. split ! $ move ! (1 ∷ []) $
-        use1 W (some (λ (zs : ThreeLists). ‵ (lasts mw.ended (ν21 ∷ [], (ν22 ∷ [], (ν23 ∷ [], tt))) (ref1 δ21 (zs1 .1 .0), (ref2 δ22 (zs1 .1 .1 .0), (ref3 δ23 (zs1 .1 .1 .1 .0), (m, (count, (radius, tt)))))) zs) ⊛ raw (fact 𝓤 (Merges radius (min m (placesOf (slices (zs1 .1 .0) (zs1 .1 .1 .0) (zs1 .1 .1 .1 .0)))) count (slices (zs1 .1 .0) (zs1 .1 .1 .0) (zs1 .1 .1 .1 .0)) r2 (slices (zs .0) (zs .1 .0) (zs .1 .1 .0)))))) (id⊢ 𝓤 _) $
-        pick ! (λ zs2. split ! $ move ! (1 ∷ []) $
-        heard ! (Merges radius (min m (placesOf (slices (zs1 .1 .0) (zs1 .1 .1 .0) (zs1 .1 .1 .1 .0)))) count (slices (zs1 .1 .0) (zs1 .1 .1 .0) (zs1 .1 .1 .1 .0)) r2 (slices (zs2 .0) (zs2 .1 .0) (zs2 .1 .1 .0))) (λ e2.
-        fsplit ! $ fsplit ! $ move ! (1 ∷ []) $ feqL ! (λ g21. move ! (1 ∷ []) $ fsplit ! $ fsplit ! $ move ! (1 ∷ []) $ feqL ! (λ g22. move ! (1 ∷ []) $ fsplit ! $
-        fsplit ! $ move ! (1 ∷ []) $ feqL ! (λ g23. move ! (4 ∷ []) $ split ! $ move ! (1 ∷ []) $
+        assigns ! (agg ! (and-then ! (load ! (from ! (stop !)) (look ! 32 refl)) (and-then ! (load ! (from ! (fld ! refl (stop !))) (look-in ! 76 (sub ! 1 refl (whole !))))
+        (no-more !)))) (from ! (stop !)) (init ! 30 refl (tt, (tt, (record { fits = room3 .0 }, tt)))) $ lft-new ! tt (λ ν21. move ! (5 ∷ 6 ∷ []) $
+        use2 W (later (some (λ (δ : GName). ‵ (MutSlice (named 0) (ν21 ∷ []) f32 .own (ref1 δ (zs1 .1 .0)) (s1 ∷ [])) ⊛ ‵ (Lent1 ν21 δ (zs1 .1 .0)))))
+        (lends-again f32 κ1 q1 γ1 b1 o1 (ν21 ∷ []) 𝓤 H A W (named 1) (named 0) (zs1 .1 .0) (length L1) g11) $ await ! tt $ pick ! (λ δ21. split ! $ lft-new ! tt (λ ν22.
+        move ! (6 ∷ 7 ∷ []) $
+        use2 W (later (some (λ (δ : GName). ‵ (MutSlice (named 1) (ν22 ∷ []) f32 .own (ref2 δ (zs1 .1 .1 .0)) (s2 ∷ [])) ⊛ ‵ (Lent2 ν22 δ (zs1 .1 .1 .0)))))
+        (lends-again f32 κ2 q2 γ2 b2 o2 (ν22 ∷ []) 𝓤 H A W (named 2) (named 1) (zs1 .1 .1 .0) (length L2) g12) $ await ! tt $ pick ! (λ δ22. split ! $ lft-new ! tt (λ ν23.
+        move ! (7 ∷ 8 ∷ []) $
+        use2 W (later (some (λ (δ : GName). ‵ (MutSlice (named 2) (ν23 ∷ []) f32 .own (ref3 δ (zs1 .1 .1 .1 .0)) (s3 ∷ [])) ⊛ ‵ (Lent3 ν23 δ (zs1 .1 .1 .1 .0)))))
+        (lends-again f32 κ3 q3 γ3 b3 o3 (ν23 ∷ []) 𝓤 H A W (named 3) (named 2) (zs1 .1 .1 .1 .0) (length L3) g13) $ await ! tt $ pick ! (λ δ23. split ! $
+        move ! (3 ∷ 0 ∷ []) $ join ! $ move ! (5 ∷ 0 ∷ []) $ join ! $ move ! (2 ∷ 0 ∷ []) $ join ! $ move ! (3 ∷ 0 ∷ []) $ join ! $ move ! (4 ∷ 0 ∷ []) $ join ! $
+        use1 W (raw (Core 𝓤 H A mem run .pre (to-mw ν21 ν22 ν23 δ21 δ22 δ23 (zs1 .1 .0) (zs1 .1 .1 .0) (zs1 .1 .1 .1 .0) m)))
+        (goes-mw ν21 ν22 ν23 δ21 δ22 δ23 (zs1 .1 .0) (zs1 .1 .1 .0) (zs1 .1 .1 .1 .0) m (is0 .1)) $
+        calls-at ! fm (Core 𝓤 H A mem run) known-core (to-mw ν21 ν22 ν23 δ21 δ22 δ23 (zs1 .1 .0) (zs1 .1 .1 .0) (zs1 .1 .1 .1 .0) m)
+        (and-then ! (load ! (from ! (stop !)) (look ! 36 refl)) (and-then ! (load ! (from ! (stop !)) (look ! 32 refl))
+        (and-then ! (load ! (from ! (stop !)) (look ! 28 refl)) (and-then ! (load ! (from ! (stop !)) (look ! 68 refl))
+        (and-then ! (load ! (from ! (stop !)) (look ! 72 refl)) (and-then ! (load ! (from ! (stop !)) (look ! 70 refl)) (no-more !))))))) (λ w2.
+        use1 W (later (some (λ (r : Merged). ((‵ (flft (ν21 ∷ []) fullShare) ⊛ ‵ (flft (ν22 ∷ []) fullShare) ⊛ ‵ (flft (ν23 ∷ []) fullShare) ⊛ ‵ ftrue) ⊛ ‵
+        (S.the-row .own r (w2 ∷ []))) ⊛ raw (ensured 𝓤 H A mw.ended (mw.clauses 𝓤 H A mem run) (ν21 ∷ [], (ν22 ∷ [], (ν23 ∷ [], tt)))
+        (ref1 δ21 (zs1 .1 .0), (ref2 δ22 (zs1 .1 .1 .0), (ref3 δ23 (zs1 .1 .1 .1 .0), (m, (count, (radius, tt)))))) tt r)))) (id⊢ 𝓤 _) $ await ! tt $ pick ! (λ r2. split ! $
+        move ! (1 ∷ []) $
+        use1 W (some (λ (zs : ThreeLists). ‵ (lasts mw.ended (ν21 ∷ [], (ν22 ∷ [], (ν23 ∷ [], tt)))
+        (ref1 δ21 (zs1 .1 .0), (ref2 δ22 (zs1 .1 .1 .0), (ref3 δ23 (zs1 .1 .1 .1 .0), (m, (count, (radius, tt)))))) zs) ⊛ raw (fact 𝓤
+        (Merges radius (min m (placesOf (slices (zs1 .1 .0) (zs1 .1 .1 .0) (zs1 .1 .1 .1 .0)))) count (slices (zs1 .1 .0) (zs1 .1 .1 .0) (zs1 .1 .1 .1 .0)) r2
+        (slices (zs .0) (zs .1 .0) (zs .1 .1 .0)))))) (id⊢ 𝓤 _) $ pick ! (λ zs2. split ! $ move ! (1 ∷ []) $
+        heard ! (Merges radius (min m (placesOf (slices (zs1 .1 .0) (zs1 .1 .1 .0) (zs1 .1 .1 .1 .0)))) count (slices (zs1 .1 .0) (zs1 .1 .1 .0) (zs1 .1 .1 .1 .0)) r2
+        (slices (zs2 .0) (zs2 .1 .0) (zs2 .1 .1 .0))) (λ e2. fsplit ! $ fsplit ! $ move ! (1 ∷ []) $ feqL ! (λ g21. move ! (1 ∷ []) $ fsplit ! $ fsplit ! $ move ! (1 ∷ []) $
+        feqL ! (λ g22. move ! (1 ∷ []) $ fsplit ! $ fsplit ! $ move ! (1 ∷ []) $ feqL ! (λ g23. move ! (4 ∷ []) $ split ! $ move ! (1 ∷ []) $
         peeks ! S.the-row (Is S.the-row) (shows 𝓤 H A S.the-row) r2 (w2 ∷ []) (λ is2.
         land ! (from ! (stop !)) (init ! 71 refl (EL.lawful S.the-type S′.the-laws 𝓤 H A W tt .typed r2 _ is2 .0)) $ move ! (1 ∷ []) $ split ! $ lft-end ! tt $
         move ! (1 ∷ []) $ split ! $ lft-end ! tt $ move ! (1 ∷ []) $ split ! $ lft-end ! tt $ move ! (3 ∷ 11 ∷ 8 ∷ []) $
-        use3 W (later (‵ (MutSlice (named 1) κ1 f32 .own (ref1 γ1 (zs2 .0)) (s1 ∷ [])) ⊛ ‵ (flft κ1 q1))) (comes-back f32 κ1 q1 γ1 b1 o1 (ν21 ∷ []) 𝓤 H A W (named 1) (named 1) (zs1 .1 .0) (length L1) g11 δ21 (zs2 .0) room1 g21) $
-        await ! tt $ split ! $ move ! (4 ∷ 10 ∷ 8 ∷ []) $
-        use3 W (later (‵ (MutSlice (named 2) κ2 f32 .own (ref2 γ2 (zs2 .1 .0)) (s2 ∷ [])) ⊛ ‵ (flft κ2 q2))) (comes-back f32 κ2 q2 γ2 b2 o2 (ν22 ∷ []) 𝓤 H A W (named 2) (named 2) (zs1 .1 .1 .0) (length L2) g12 δ22 (zs2 .1 .0) room2 g22) $
-        await ! tt $ split ! $ move ! (4 ∷ 9 ∷ 7 ∷ []) $
-        use3 W (later (‵ (MutSlice (named 3) κ3 f32 .own (ref3 γ3 (zs2 .1 .1 .0)) (s3 ∷ [])) ⊛ ‵ (flft κ3 q3))) (comes-back f32 κ3 q3 γ3 b3 o3 (ν23 ∷ []) 𝓤 H A W (named 3) (named 3) (zs1 .1 .1 .1 .0) (length L3) g13 δ23 (zs2 .1 .1 .0) room3 g23) $
-        await ! tt $ split ! $
+        use3 W (later (‵ (MutSlice (named 1) κ1 f32 .own (ref1 γ1 (zs2 .0)) (s1 ∷ [])) ⊛ ‵ (flft κ1 q1)))
+        (comes-back f32 κ1 q1 γ1 b1 o1 (ν21 ∷ []) 𝓤 H A W (named 1) (named 1) (zs1 .1 .0) (length L1) g11 δ21 (zs2 .0) room1 g21) $ await ! tt $ split ! $
+        move ! (4 ∷ 10 ∷ 8 ∷ []) $
+        use3 W (later (‵ (MutSlice (named 2) κ2 f32 .own (ref2 γ2 (zs2 .1 .0)) (s2 ∷ [])) ⊛ ‵ (flft κ2 q2)))
+        (comes-back f32 κ2 q2 γ2 b2 o2 (ν22 ∷ []) 𝓤 H A W (named 2) (named 2) (zs1 .1 .1 .0) (length L2) g12 δ22 (zs2 .1 .0) room2 g22) $ await ! tt $ split ! $
+        move ! (4 ∷ 9 ∷ 7 ∷ []) $
+        use3 W (later (‵ (MutSlice (named 3) κ3 f32 .own (ref3 γ3 (zs2 .1 .1 .0)) (s3 ∷ [])) ⊛ ‵ (flft κ3 q3)))
+        (comes-back f32 κ3 q3 γ3 b3 o3 (ν23 ∷ []) 𝓤 H A W (named 3) (named 3) (zs1 .1 .1 .1 .0) (length L3) g13 δ23 (zs2 .1 .1 .0) room3 g23) $ await ! tt $ split ! $
         -- the second exchange
         assigns ! (addr ! (from ! (fld ! refl (hop ! (look-in ! 85 (sub ! 0 refl (whole !))) (stop !))))) (from ! (stop !)) (init ! 31 refl (tt, tt)) $
-        assigns ! (agg ! (and-then ! (load ! (from ! (stop !)) (look ! 31 refl)) (and-then ! (load ! (from ! (fld ! refl (stop !))) (look-in ! 85 (sub ! 1 refl (whole !)))) (no-more !)))) (from ! (stop !)) (init ! 29 refl (tt, (tt, (record { fits = room0 .0 }, tt)))) $
+        assigns ! (agg ! (and-then ! (load ! (from ! (stop !)) (look ! 31 refl)) (and-then ! (load ! (from ! (fld ! refl (stop !))) (look-in ! 85 (sub ! 1 refl (whole !))))
+        (no-more !)))) (from ! (stop !)) (init ! 29 refl (tt, (tt, (record { fits = room0 .0 }, tt)))) $
         assigns ! (addr ! (from ! (fld ! refl (hop ! (look-in ! 83 (sub ! 0 refl (whole !))) (stop !))))) (from ! (stop !)) (init ! 27 refl (tt, tt)) $
-        assigns ! (agg ! (and-then ! (load ! (from ! (stop !)) (look ! 27 refl)) (and-then ! (load ! (from ! (fld ! refl (stop !))) (look-in ! 83 (sub ! 1 refl (whole !)))) (no-more !)))) (from ! (stop !)) (init ! 25 refl (tt, (tt, (record { fits = room1 .0 }, tt)))) $
+        assigns ! (agg ! (and-then ! (load ! (from ! (stop !)) (look ! 27 refl)) (and-then ! (load ! (from ! (fld ! refl (stop !))) (look-in ! 83 (sub ! 1 refl (whole !))))
+        (no-more !)))) (from ! (stop !)) (init ! 25 refl (tt, (tt, (record { fits = room1 .0 }, tt)))) $
         assigns ! (addr ! (from ! (fld ! refl (hop ! (look-in ! 81 (sub ! 0 refl (whole !))) (stop !))))) (from ! (stop !)) (init ! 23 refl (tt, tt)) $
-        assigns ! (agg ! (and-then ! (load ! (from ! (stop !)) (look ! 23 refl)) (and-then ! (load ! (from ! (fld ! refl (stop !))) (look-in ! 81 (sub ! 1 refl (whole !)))) (no-more !)))) (from ! (stop !)) (init ! 21 refl (tt, (tt, (record { fits = room2 .0 }, tt)))) $
+        assigns ! (agg ! (and-then ! (load ! (from ! (stop !)) (look ! 23 refl)) (and-then ! (load ! (from ! (fld ! refl (stop !))) (look-in ! 81 (sub ! 1 refl (whole !))))
+        (no-more !)))) (from ! (stop !)) (init ! 21 refl (tt, (tt, (record { fits = room2 .0 }, tt)))) $
         assigns ! (addr ! (from ! (fld ! refl (hop ! (look-in ! 79 (sub ! 0 refl (whole !))) (stop !))))) (from ! (stop !)) (init ! 19 refl (tt, tt)) $
-        assigns ! (agg ! (and-then ! (load ! (from ! (stop !)) (look ! 19 refl)) (and-then ! (load ! (from ! (fld ! refl (stop !))) (look-in ! 79 (sub ! 1 refl (whole !)))) (no-more !)))) (from ! (stop !)) (init ! 17 refl (tt, (tt, (record { fits = room3 .0 }, tt)))) $
-        lft-new ! tt (λ ν30. move ! (10 ∷ 11 ∷ []) $
-        use2 W (later (some (λ (δ : GName). ‵ (MutSlice (named 0) (ν30 ∷ []) T.the-row .own (ref0 δ (zs1 .0)) (s0 ∷ [])) ⊛ ‵ (Lent0 ν30 δ (zs1 .0))))) (lends-again T.the-row κ0 q0 γ0 b0 o0 (ν30 ∷ []) 𝓤 H A W (named 0) (named 0) (zs1 .0) (length L0) g10) $
-        await ! tt $ pick ! (λ δ30. split ! $ lft-new ! tt (λ ν31. move ! (8 ∷ 9 ∷ []) $
-        use2 W (later (some (λ (δ : GName). ‵ (MutSlice (named 1) (ν31 ∷ []) f32 .own (ref1 δ (zs2 .0)) (s1 ∷ [])) ⊛ ‵ (Lent1 ν31 δ (zs2 .0))))) (lends-again f32 κ1 q1 γ1 b1 o1 (ν31 ∷ []) 𝓤 H A W (named 1) (named 1) (zs2 .0) (length L1) (g21 ∙ g11)) $
-        await ! tt $ pick ! (λ δ31. split ! $ lft-new ! tt (λ ν32. move ! (9 ∷ 10 ∷ []) $
-        use2 W (later (some (λ (δ : GName). ‵ (MutSlice (named 2) (ν32 ∷ []) f32 .own (ref2 δ (zs2 .1 .0)) (s2 ∷ [])) ⊛ ‵ (Lent2 ν32 δ (zs2 .1 .0))))) (lends-again f32 κ2 q2 γ2 b2 o2 (ν32 ∷ []) 𝓤 H A W (named 2) (named 2) (zs2 .1 .0) (length L2) (g22 ∙ g12)) $
-        await ! tt $ pick ! (λ δ32. split ! $ lft-new ! tt (λ ν33. move ! (10 ∷ 11 ∷ []) $
-        use2 W (later (some (λ (δ : GName). ‵ (MutSlice (named 3) (ν33 ∷ []) f32 .own (ref3 δ (zs2 .1 .1 .0)) (s3 ∷ [])) ⊛ ‵ (Lent3 ν33 δ (zs2 .1 .1 .0))))) (lends-again f32 κ3 q3 γ3 b3 o3 (ν33 ∷ []) 𝓤 H A W (named 3) (named 3) (zs2 .1 .1 .0) (length L3) (g23 ∙ g13)) $
-        await ! tt $ pick ! (λ δ33. split ! $ move ! (3 ∷ 0 ∷ []) $ join ! $ move ! (5 ∷ 0 ∷ []) $ join ! $ move ! (7 ∷ 0 ∷ []) $ join ! $ move ! (2 ∷ 0 ∷ []) $ join ! $
-        move ! (3 ∷ 0 ∷ []) $ join ! $ move ! (4 ∷ 0 ∷ []) $ join ! $ move ! (5 ∷ 0 ∷ []) $ join ! $
-        use1 W (raw (Exch 𝓤 H A mem run .pre (to-ex ν30 ν31 ν32 ν33 δ30 δ31 δ32 δ33 (zs1 .0) (zs2 .0) (zs2 .1 .0) (zs2 .1 .1 .0) m))) (goes-ex ν30 ν31 ν32 ν33 δ30 δ31 δ32 δ33 (zs1 .0) (zs2 .0) (zs2 .1 .0) (zs2 .1 .1 .0) m (is0 .1) (fit-all m e0 (zs1 .0) (zs2 .0) (zs2 .1 .0) (zs2 .1 .1 .0) g10 (g21 ∙ g11) (g22 ∙ g12) (g23 ∙ g13))) $
-        calls-at ! fm (Exch 𝓤 H A mem run) known-ex (to-ex ν30 ν31 ν32 ν33 δ30 δ31 δ32 δ33 (zs1 .0) (zs2 .0) (zs2 .1 .0) (zs2 .1 .1 .0) m) (and-then ! (load ! (from ! (stop !)) (look ! 26 refl)) (and-then ! (load ! (from ! (stop !)) (look ! 22 refl)) (and-then ! (load ! (from ! (stop !)) (look ! 18 refl)) (and-then ! (load ! (from ! (stop !)) (look ! 14 refl)) (and-then ! (load ! (from ! (stop !)) (look ! 70 refl)) (no-more !)))))) (λ w3.
-        use1 W (later (some (λ (r : Unit {0}). ((‵ (flft (ν30 ∷ []) fullShare) ⊛ ‵ (flft (ν31 ∷ []) fullShare) ⊛ ‵ (flft (ν32 ∷ []) fullShare) ⊛ ‵ (flft (ν33 ∷ []) fullShare) ⊛ ‵ ftrue) ⊛ ‵ (unit .own r (w3 ∷ []))) ⊛ raw (ensured 𝓤 H A ex.ended (ex.clauses 𝓤 H A mem run) (ν30 ∷ [], (ν31 ∷ [], (ν32 ∷ [], (ν33 ∷ [], tt)))) (ref0 δ30 (zs1 .0), (ref1 δ31 (zs2 .0), (ref2 δ32 (zs2 .1 .0), (ref3 δ33 (zs2 .1 .1 .0), (m, tt))))) tt r)))) (id⊢ 𝓤 _) $
+        assigns ! (agg ! (and-then ! (load ! (from ! (stop !)) (look ! 19 refl)) (and-then ! (load ! (from ! (fld ! refl (stop !))) (look-in ! 79 (sub ! 1 refl (whole !))))
+        (no-more !)))) (from ! (stop !)) (init ! 17 refl (tt, (tt, (record { fits = room3 .0 }, tt)))) $ lft-new ! tt (λ ν30. move ! (10 ∷ 11 ∷ []) $
+        use2 W (later (some (λ (δ : GName). ‵ (MutSlice (named 0) (ν30 ∷ []) T.the-row .own (ref0 δ (zs1 .0)) (s0 ∷ [])) ⊛ ‵ (Lent0 ν30 δ (zs1 .0)))))
+        (lends-again T.the-row κ0 q0 γ0 b0 o0 (ν30 ∷ []) 𝓤 H A W (named 0) (named 0) (zs1 .0) (length L0) g10) $ await ! tt $ pick ! (λ δ30. split ! $ lft-new ! tt (λ ν31.
+        move ! (8 ∷ 9 ∷ []) $
+        use2 W (later (some (λ (δ : GName). ‵ (MutSlice (named 1) (ν31 ∷ []) f32 .own (ref1 δ (zs2 .0)) (s1 ∷ [])) ⊛ ‵ (Lent1 ν31 δ (zs2 .0)))))
+        (lends-again f32 κ1 q1 γ1 b1 o1 (ν31 ∷ []) 𝓤 H A W (named 1) (named 1) (zs2 .0) (length L1) (g21 ∙ g11)) $ await ! tt $ pick ! (λ δ31. split ! $ lft-new ! tt (λ ν32.
+        move ! (9 ∷ 10 ∷ []) $
+        use2 W (later (some (λ (δ : GName). ‵ (MutSlice (named 2) (ν32 ∷ []) f32 .own (ref2 δ (zs2 .1 .0)) (s2 ∷ [])) ⊛ ‵ (Lent2 ν32 δ (zs2 .1 .0)))))
+        (lends-again f32 κ2 q2 γ2 b2 o2 (ν32 ∷ []) 𝓤 H A W (named 2) (named 2) (zs2 .1 .0) (length L2) (g22 ∙ g12)) $ await ! tt $ pick ! (λ δ32. split ! $
+        lft-new ! tt (λ ν33. move ! (10 ∷ 11 ∷ []) $
+        use2 W (later (some (λ (δ : GName). ‵ (MutSlice (named 3) (ν33 ∷ []) f32 .own (ref3 δ (zs2 .1 .1 .0)) (s3 ∷ [])) ⊛ ‵ (Lent3 ν33 δ (zs2 .1 .1 .0)))))
+        (lends-again f32 κ3 q3 γ3 b3 o3 (ν33 ∷ []) 𝓤 H A W (named 3) (named 3) (zs2 .1 .1 .0) (length L3) (g23 ∙ g13)) $ await ! tt $ pick ! (λ δ33. split ! $
+        move ! (3 ∷ 0 ∷ []) $ join ! $ move ! (5 ∷ 0 ∷ []) $ join ! $ move ! (7 ∷ 0 ∷ []) $ join ! $ move ! (2 ∷ 0 ∷ []) $ join ! $ move ! (3 ∷ 0 ∷ []) $ join ! $
+        move ! (4 ∷ 0 ∷ []) $ join ! $ move ! (5 ∷ 0 ∷ []) $ join ! $
+        use1 W (raw (Exch 𝓤 H A mem run .pre (to-ex ν30 ν31 ν32 ν33 δ30 δ31 δ32 δ33 (zs1 .0) (zs2 .0) (zs2 .1 .0) (zs2 .1 .1 .0) m)))
+        (goes-ex ν30 ν31 ν32 ν33 δ30 δ31 δ32 δ33 (zs1 .0) (zs2 .0) (zs2 .1 .0) (zs2 .1 .1 .0) m (is0 .1)
+        (fit-all m e0 (zs1 .0) (zs2 .0) (zs2 .1 .0) (zs2 .1 .1 .0) g10 (g21 ∙ g11) (g22 ∙ g12) (g23 ∙ g13))) $
+        calls-at ! fm (Exch 𝓤 H A mem run) known-ex (to-ex ν30 ν31 ν32 ν33 δ30 δ31 δ32 δ33 (zs1 .0) (zs2 .0) (zs2 .1 .0) (zs2 .1 .1 .0) m)
+        (and-then ! (load ! (from ! (stop !)) (look ! 26 refl)) (and-then ! (load ! (from ! (stop !)) (look ! 22 refl))
+        (and-then ! (load ! (from ! (stop !)) (look ! 18 refl)) (and-then ! (load ! (from ! (stop !)) (look ! 14 refl))
+        (and-then ! (load ! (from ! (stop !)) (look ! 70 refl)) (no-more !)))))) (λ w3.
+        use1 W (later (some (λ (r : Unit {0}). ((‵ (flft (ν30 ∷ []) fullShare) ⊛ ‵ (flft (ν31 ∷ []) fullShare) ⊛ ‵ (flft (ν32 ∷ []) fullShare) ⊛ ‵
+        (flft (ν33 ∷ []) fullShare) ⊛ ‵ ftrue) ⊛ ‵ (unit .own r (w3 ∷ []))) ⊛ raw (ensured 𝓤 H A ex.ended (ex.clauses 𝓤 H A mem run) (
+          ν30 ∷ [],
+          (ν31 ∷ [], (ν32 ∷ [], (ν33 ∷ [], tt))),
+        ) (ref0 δ30 (zs1 .0), (ref1 δ31 (zs2 .0), (ref2 δ32 (zs2 .1 .0), (ref3 δ33 (zs2 .1 .1 .0), (m, tt))))) tt r)))) (id⊢ 𝓤 _) $
         await ! tt $ pick ! (λ r3. split ! $ move ! (1 ∷ []) $
-        use1 W (some (λ (zs : FourLists). ‵ (lasts ex.ended (ν30 ∷ [], (ν31 ∷ [], (ν32 ∷ [], (ν33 ∷ [], tt)))) (ref0 δ30 (zs1 .0), (ref1 δ31 (zs2 .0), (ref2 δ32 (zs2 .1 .0), (ref3 δ33 (zs2 .1 .1 .0), (m, tt))))) zs) ⊛ raw (fact 𝓤 (Exchanges m (zs1 .0) (slices (zs2 .0) (zs2 .1 .0) (zs2 .1 .1 .0)) (zs .0) (slices (zs .1 .0) (zs .1 .1 .0) (zs .1 .1 .1 .0)))))) (id⊢ 𝓤 _) $
-        pick ! (λ zs3. split ! $ move ! (1 ∷ []) $
+        use1 W (some (λ (zs : FourLists). ‵ (lasts ex.ended (ν30 ∷ [], (ν31 ∷ [], (ν32 ∷ [], (ν33 ∷ [], tt))))
+        (ref0 δ30 (zs1 .0), (ref1 δ31 (zs2 .0), (ref2 δ32 (zs2 .1 .0), (ref3 δ33 (zs2 .1 .1 .0), (m, tt))))) zs) ⊛ raw (fact 𝓤
+        (Exchanges m (zs1 .0) (slices (zs2 .0) (zs2 .1 .0) (zs2 .1 .1 .0)) (zs .0) (slices (zs .1 .0) (zs .1 .1 .0) (zs .1 .1 .1 .0)))))) (id⊢ 𝓤 _) $ pick ! (λ zs3.
+        split ! $ move ! (1 ∷ []) $
         heard ! (Exchanges m (zs1 .0) (slices (zs2 .0) (zs2 .1 .0) (zs2 .1 .1 .0)) (zs3 .0) (slices (zs3 .1 .0) (zs3 .1 .1 .0) (zs3 .1 .1 .1 .0))) (λ e3. fsplit ! $
         fsplit ! $ move ! (1 ∷ []) $ feqL ! (λ g30. move ! (1 ∷ []) $ fsplit ! $ fsplit ! $ move ! (1 ∷ []) $ feqL ! (λ g31. move ! (1 ∷ []) $ fsplit ! $ fsplit ! $
         move ! (1 ∷ []) $ feqL ! (λ g32. move ! (1 ∷ []) $ fsplit ! $ fsplit ! $ move ! (1 ∷ []) $ feqL ! (λ g33. move ! (5 ∷ []) $ split ! $ move ! (1 ∷ []) $
         peeks ! unit (Is unit) (shows 𝓤 H A unit) r3 (w3 ∷ []) (λ is3. land ! (from ! (stop !)) (store ! 64 refl (nothing-lawful 𝓤 H A W .typed r3 _ is3 .0)) $
         move ! (1 ∷ []) $ split ! $ lft-end ! tt $ move ! (1 ∷ []) $ split ! $ lft-end ! tt $ move ! (1 ∷ []) $ split ! $ lft-end ! tt $ move ! (1 ∷ []) $ split ! $
         lft-end ! tt $ move ! (4 ∷ 14 ∷ 10 ∷ []) $
-        use3 W (later (‵ (MutSlice (named 0) κ0 T.the-row .own (ref0 γ0 (zs3 .0)) (s0 ∷ [])) ⊛ ‵ (flft κ0 q0))) (comes-back T.the-row κ0 q0 γ0 b0 o0 (ν30 ∷ []) 𝓤 H A W (named 0) (named 0) (zs1 .0) (length L0) g10 δ30 (zs3 .0) room0 g30) $
-        await ! tt $ split ! $ move ! (5 ∷ 13 ∷ 10 ∷ []) $
-        use3 W (later (‵ (MutSlice (named 1) κ1 f32 .own (ref1 γ1 (zs3 .1 .0)) (s1 ∷ [])) ⊛ ‵ (flft κ1 q1))) (comes-back f32 κ1 q1 γ1 b1 o1 (ν31 ∷ []) 𝓤 H A W (named 1) (named 1) (zs2 .0) (length L1) (g21 ∙ g11) δ31 (zs3 .1 .0) room1 g31) $
-        await ! tt $ split ! $ move ! (6 ∷ 12 ∷ 10 ∷ []) $
-        use3 W (later (‵ (MutSlice (named 2) κ2 f32 .own (ref2 γ2 (zs3 .1 .1 .0)) (s2 ∷ [])) ⊛ ‵ (flft κ2 q2))) (comes-back f32 κ2 q2 γ2 b2 o2 (ν32 ∷ []) 𝓤 H A W (named 2) (named 2) (zs2 .1 .0) (length L2) (g22 ∙ g12) δ32 (zs3 .1 .1 .0) room2 g32) $
-        await ! tt $ split ! $ move ! (6 ∷ 11 ∷ 9 ∷ []) $
-        use3 W (later (‵ (MutSlice (named 3) κ3 f32 .own (ref3 γ3 (zs3 .1 .1 .1 .0)) (s3 ∷ [])) ⊛ ‵ (flft κ3 q3))) (comes-back f32 κ3 q3 γ3 b3 o3 (ν33 ∷ []) 𝓤 H A W (named 3) (named 3) (zs2 .1 .1 .0) (length L3) (g23 ∙ g13) δ33 (zs3 .1 .1 .1 .0) room3 g33) $
-        await ! tt $ split ! $
+        use3 W (later (‵ (MutSlice (named 0) κ0 T.the-row .own (ref0 γ0 (zs3 .0)) (s0 ∷ [])) ⊛ ‵ (flft κ0 q0)))
+        (comes-back T.the-row κ0 q0 γ0 b0 o0 (ν30 ∷ []) 𝓤 H A W (named 0) (named 0) (zs1 .0) (length L0) g10 δ30 (zs3 .0) room0 g30) $ await ! tt $ split ! $
+        move ! (5 ∷ 13 ∷ 10 ∷ []) $
+        use3 W (later (‵ (MutSlice (named 1) κ1 f32 .own (ref1 γ1 (zs3 .1 .0)) (s1 ∷ [])) ⊛ ‵ (flft κ1 q1)))
+        (comes-back f32 κ1 q1 γ1 b1 o1 (ν31 ∷ []) 𝓤 H A W (named 1) (named 1) (zs2 .0) (length L1) (g21 ∙ g11) δ31 (zs3 .1 .0) room1 g31) $ await ! tt $ split ! $
+        move ! (6 ∷ 12 ∷ 10 ∷ []) $
+        use3 W (later (‵ (MutSlice (named 2) κ2 f32 .own (ref2 γ2 (zs3 .1 .1 .0)) (s2 ∷ [])) ⊛ ‵ (flft κ2 q2)))
+        (comes-back f32 κ2 q2 γ2 b2 o2 (ν32 ∷ []) 𝓤 H A W (named 2) (named 2) (zs2 .1 .0) (length L2) (g22 ∙ g12) δ32 (zs3 .1 .1 .0) room2 g32) $ await ! tt $ split ! $
+        move ! (6 ∷ 11 ∷ 9 ∷ []) $
+        use3 W (later (‵ (MutSlice (named 3) κ3 f32 .own (ref3 γ3 (zs3 .1 .1 .1 .0)) (s3 ∷ [])) ⊛ ‵ (flft κ3 q3)))
+        (comes-back f32 κ3 q3 γ3 b3 o3 (ν33 ∷ []) 𝓤 H A W (named 3) (named 3) (zs2 .1 .1 .0) (length L3) (g23 ∙ g13) δ33 (zs3 .1 .1 .1 .0) room3 g33) $ await ! tt $
+        split ! $
         -- the answer
-        assigns ! (of-opd ! (load ! (from ! (stop !)) (look ! 74 refl))) (from ! (stop !)) (init ! 90 refl (EL.lawful S.the-type S′.the-laws 𝓤 H A W tt .typed r2 _ is2 .0)) $
-        returns ! (look ! 90 refl) $ forget ! 90 refl $ forget ! 88 refl $ forget ! 86 refl $ forget ! 84 refl $ forget ! 82 refl $ forget ! 80 refl $ forget ! 78 refl $
-        forget ! 76 refl $ forget ! 74 refl $ forget ! 72 refl $ forget ! 70 refl $ forget ! 68 refl $ forget ! 66 refl $ forget ! 64 refl $ forget ! 62 refl $
-        forget ! 60 refl $ forget ! 58 refl $ forget ! 56 refl $ forget ! 54 refl $ forget ! 52 refl $ forget ! 50 refl $ forget ! 48 refl $ forget ! 46 refl $
-        forget ! 44 refl $ forget ! 42 refl $ forget ! 40 refl $ forget ! 38 refl $ forget ! 36 refl $ forget ! 34 refl $ forget ! 32 refl $ forget ! 30 refl $
-        forget ! 28 refl $ forget ! 26 refl $ forget ! 24 refl $ forget ! 22 refl $ forget ! 20 refl $ move ! (90 ∷ 91 ∷ []) $ free1 ! $ move ! (88 ∷ 89 ∷ []) $ free1 ! $
-        move ! (86 ∷ 87 ∷ []) $ free1 ! $ move ! (84 ∷ 85 ∷ []) $ free1 ! $ move ! (82 ∷ 83 ∷ []) $ free1 ! $ move ! (80 ∷ 81 ∷ []) $ free1 ! $ move ! (78 ∷ 79 ∷ []) $
-        free1 ! $ move ! (76 ∷ 77 ∷ []) $ free1 ! $ move ! (74 ∷ 75 ∷ []) $ free1 ! $ move ! (72 ∷ 73 ∷ []) $ free1 ! $ move ! (70 ∷ 71 ∷ []) $ free1 ! $
-        move ! (68 ∷ 69 ∷ []) $ free1 ! $ move ! (66 ∷ 67 ∷ []) $ free1 ! $ move ! (64 ∷ 65 ∷ []) $ free1 ! $ move ! (62 ∷ 63 ∷ []) $ free1 ! $ move ! (60 ∷ 61 ∷ []) $
-        free1 ! $ move ! (58 ∷ 59 ∷ []) $ free1 ! $ move ! (56 ∷ 57 ∷ []) $ free1 ! $ move ! (54 ∷ 55 ∷ []) $ free1 ! $ move ! (52 ∷ 53 ∷ []) $ free1 ! $
-        move ! (50 ∷ 51 ∷ []) $ free1 ! $ move ! (48 ∷ 49 ∷ []) $ free1 ! $ move ! (46 ∷ 47 ∷ []) $ free1 ! $ move ! (44 ∷ 45 ∷ []) $ free1 ! $ move ! (42 ∷ 43 ∷ []) $
-        free1 ! $ move ! (40 ∷ 41 ∷ []) $ free1 ! $ move ! (38 ∷ 39 ∷ []) $ free1 ! $ move ! (36 ∷ 37 ∷ []) $ free1 ! $ move ! (34 ∷ 35 ∷ []) $ free1 ! $
-        move ! (32 ∷ 33 ∷ []) $ free1 ! $ move ! (30 ∷ 31 ∷ []) $ free1 ! $ move ! (28 ∷ 29 ∷ []) $ free1 ! $ move ! (26 ∷ 27 ∷ []) $ free1 ! $ move ! (24 ∷ 25 ∷ []) $
-        free1 ! $ move ! (22 ∷ 23 ∷ []) $ free1 ! $ move ! (20 ∷ 21 ∷ []) $ free1 ! $ free0 ! $ keep ! (7 ∷ 5 ∷ 3 ∷ 1 ∷ 6 ∷ 4 ∷ 2 ∷ 0 ∷ 12 ∷ []) $
-        by ! (exits r2 w2 (zs3 .0) (zs3 .1 .0) (zs3 .1 .1 .0) (zs3 .1 .1 .1 .0) (slice-merged radius count L0 (slices L1 L2 L3) m e0 _ _ _ r2 _ _ e1 e2 e3) (g30 ∙ g10) (g31 ∙ (g21 ∙ g11)) (g32 ∙ (g22 ∙ g12)) (g33 ∙ (g23 ∙ g13)))))))))))))))))))))))))))))))))))))))))))))))))))))))))))))))))))))))))))))))))))))))))))
+        assigns ! (of-opd ! (load ! (from ! (stop !)) (look ! 74 refl))) (from ! (stop !))
+        (init ! 90 refl (EL.lawful S.the-type S′.the-laws 𝓤 H A W tt .typed r2 _ is2 .0)) $ returns ! (look ! 90 refl) $ forget ! 90 refl $ forget ! 88 refl $
+        forget ! 86 refl $ forget ! 84 refl $ forget ! 82 refl $ forget ! 80 refl $ forget ! 78 refl $ forget ! 76 refl $ forget ! 74 refl $ forget ! 72 refl $
+        forget ! 70 refl $ forget ! 68 refl $ forget ! 66 refl $ forget ! 64 refl $ forget ! 62 refl $ forget ! 60 refl $ forget ! 58 refl $ forget ! 56 refl $
+        forget ! 54 refl $ forget ! 52 refl $ forget ! 50 refl $ forget ! 48 refl $ forget ! 46 refl $ forget ! 44 refl $ forget ! 42 refl $ forget ! 40 refl $
+        forget ! 38 refl $ forget ! 36 refl $ forget ! 34 refl $ forget ! 32 refl $ forget ! 30 refl $ forget ! 28 refl $ forget ! 26 refl $ forget ! 24 refl $
+        forget ! 22 refl $ forget ! 20 refl $ move ! (90 ∷ 91 ∷ []) $ free1 ! $ move ! (88 ∷ 89 ∷ []) $ free1 ! $ move ! (86 ∷ 87 ∷ []) $ free1 ! $ move ! (84 ∷ 85 ∷ []) $
+        free1 ! $ move ! (82 ∷ 83 ∷ []) $ free1 ! $ move ! (80 ∷ 81 ∷ []) $ free1 ! $ move ! (78 ∷ 79 ∷ []) $ free1 ! $ move ! (76 ∷ 77 ∷ []) $ free1 ! $
+        move ! (74 ∷ 75 ∷ []) $ free1 ! $ move ! (72 ∷ 73 ∷ []) $ free1 ! $ move ! (70 ∷ 71 ∷ []) $ free1 ! $ move ! (68 ∷ 69 ∷ []) $ free1 ! $ move ! (66 ∷ 67 ∷ []) $
+        free1 ! $ move ! (64 ∷ 65 ∷ []) $ free1 ! $ move ! (62 ∷ 63 ∷ []) $ free1 ! $ move ! (60 ∷ 61 ∷ []) $ free1 ! $ move ! (58 ∷ 59 ∷ []) $ free1 ! $
+        move ! (56 ∷ 57 ∷ []) $ free1 ! $ move ! (54 ∷ 55 ∷ []) $ free1 ! $ move ! (52 ∷ 53 ∷ []) $ free1 ! $ move ! (50 ∷ 51 ∷ []) $ free1 ! $ move ! (48 ∷ 49 ∷ []) $
+        free1 ! $ move ! (46 ∷ 47 ∷ []) $ free1 ! $ move ! (44 ∷ 45 ∷ []) $ free1 ! $ move ! (42 ∷ 43 ∷ []) $ free1 ! $ move ! (40 ∷ 41 ∷ []) $ free1 ! $
+        move ! (38 ∷ 39 ∷ []) $ free1 ! $ move ! (36 ∷ 37 ∷ []) $ free1 ! $ move ! (34 ∷ 35 ∷ []) $ free1 ! $ move ! (32 ∷ 33 ∷ []) $ free1 ! $ move ! (30 ∷ 31 ∷ []) $
+        free1 ! $ move ! (28 ∷ 29 ∷ []) $ free1 ! $ move ! (26 ∷ 27 ∷ []) $ free1 ! $ move ! (24 ∷ 25 ∷ []) $ free1 ! $ move ! (22 ∷ 23 ∷ []) $ free1 ! $
+        move ! (20 ∷ 21 ∷ []) $ free1 ! $ free0 ! $ keep ! (7 ∷ 5 ∷ 3 ∷ 1 ∷ 6 ∷ 4 ∷ 2 ∷ 0 ∷ 12 ∷ []) $
+        by ! (exits r2 w2 (zs3 .0) (zs3 .1 .0) (zs3 .1 .1 .0) (zs3 .1 .1 .1 .0) (slice-merged radius count L0 (slices L1 L2 L3) m e0 _ _ _ r2 _ _ e1 e2 e3) (g30 ∙ g10)
+        (g31 ∙ (g21 ∙ g11)) (g32 ∙ (g22 ∙ g12)) (g33 ∙ (g23 ∙ g13)))))))))))))))))))))))))))))))))))))))))))))))))))))))))))))))))))))))))))))))))))))))))))
 
 module _ {M : Type 1} (𝓤 : URA M) (H : Heap 𝓤) (A : Atoms 𝓤) (W : Given 𝓤 H A) (mem : Memory → SProp 𝓤) (run : Routine → Fun 𝓤) where
   slice-walks : (C : Calls 𝓤 H) (Λ : Loops 𝓤 H) → FmC 𝓤 H (W .laws) C → Triple 𝓤 (C #merge-slice·exchange) (Exch 𝓤 H A mem run) → Triple 𝓤 (C #merge·merge-within) (Core 𝓤 H A mem run)
