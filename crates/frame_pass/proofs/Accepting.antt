@@ -1,0 +1,128 @@
+-- The centroid accepts each peak of a map, by either choice: its cell is above 0, and lies the centroid's radius and more from the edges. Assumes nothing.
+use Prim.Native.Nat.{ℕ, zero, suc, _*_}
+use native.Mathlib.Nat.{le-trans, mul-comm, zero-mul}
+use native.Mathlib.Omega.{arith}
+use mathlib.Core.Path.{_≡_, refl, sym, ap, _∙_, subst}
+use mathlib.Core.Logic.{inl, inr}
+use mathlib.Core.Bool.{true, not, false≢true}
+use mathlib.Core.List.{List, [], _∷_, map}
+use lib.Dec.{T, lt→ltb}
+use borrow.Author.Tests.{ltb-true}
+use lib.ListN.{length, length-map}
+use lib.IntN.{ℤ, pos, negsuc}
+use lib.Signed.{_<ℤ_}
+use lib.Ieee.{Float, nan, inf, fin, lt, isNan}
+use lib.Ieee.Positive.{num, den}
+use lib.Ieee.Scale.{finite}
+use Rattle.lists.specs.Places.{Place, All}
+use Rattle.lists.proofs.Tests.{to-T, and-parts}
+use Rattle.lists.proofs.Members.{all-map, all-mapped, flatMap-single}
+use Rattle.float32.specs.Float32 as float32
+use Rattle.response.specs.Patch.{View, cols, rows, cells}
+use Rattle.response.specs.Exact.{fifthsIn}
+use Rattle.response.proofs.Outcome.{cols-le, rows-le}
+use Rattle.response.proofs.Map.{cells-length}
+use Rattle.accuracy.specs.Accurate.{Accurate}
+use Rattle.accuracy.proofs.Cells.{map-accurate}
+use Rattle.corner_list.specs.declared.Corner.{Corner}
+use Rattle.detect.specs.Peaks.{Reading, Inside, isPeak, valueAt}
+use Rattle.detect.specs.Detect.{readIn, peaksBy, startAt}
+use Rattle.detect.specs.Exact.{fifthsAbove, exact}
+use Rattle.detect.proofs.Choice.{peak-above, peak-positive, peaks-are}
+use Rattle.center_of_mass.proofs.Peak.{peak-accepted}
+use Rattle.frame_pass.specs.declared.FrameParams.{FrameParams}
+use Rattle.frame_pass.specs.Pass.{Choice, searchOn, computedChoice, exactChoice, localized, cornersIn, lookedAt}
+use Rattle.frame_pass.specs.Theorems.{IsChoice, NoneDropped}
+use Rattle.frame_pass.proofs.Maps.{ranges, Fine, looked-fine, map-usual}
+use Rattle.frame_pass.proofs.Centred.{centred}
+
+-- what is finite is no NaN
+not-nan : (x : Float) → T (finite x) → T (not (isNan x))
+unfolding isNan
+not-nan nan h = absurd h
+not-nan (inf s) h = absurd h
+not-nan (fin s m e) h = tt
+
+-- what is above a threshold is above 0
+fifths-positive : (t : Float) (E : ℤ) → fifthsAbove t E ≡ true → pos 0 <ℤ E
+unfolding fifthsAbove
+fifths-positive t (pos zero) e = absurd (let no : ⊥ = omega (arith, ltb-true (5 * num t) (0 * den t) (and-parts (finite t) _ e .1), zero-mul (den t)) in no)
+fifths-positive t (pos (suc k)) e = record { lt = lt→ltb 0 (suc k) (omega arith) }
+fifths-positive t (negsuc k) e = absurd (false≢true e)
+
+module _ (p : FrameParams) (v : View) where
+  abbrev Inner : Place → Type 0
+  Inner = Inside (cols v) (rows v) (searchOn p v .border)
+
+  -- a place of the map that is inside the border, and whose cell is above 0
+  record Chosen (q : Place) : Type 0 where
+    pub inside : Inner q
+    pub above : T (lt float32.zero (valueAt (cells v) (cols v) q))
+
+  abbrev PeakBy : Reading → Place → Type 0
+  PeakBy u q = Inner q × (isPeak u (cols v) (rows v) (p .window) (p .least) q ≡ true)
+
+  abbrev Exactly : Reading
+  Exactly = exact (λ q. fifthsIn v (q .x) (q .y)) (searchOn p v .threshold)
+
+  abbrev Start : Place → Corner
+  Start = startAt (cells v) (cols v)
+
+  abbrev Centre : Corner → Corner
+  Centre = centred (p .centroid) (cells v) (cols v) (rows v)
+
+  module _ (f : Fine p v) where
+    -- ---- each peak is such a place
+    accurate : (q : Place) → Inner q → Accurate (valueAt (cells v) (cols v) q) (fifthsIn v (q .x) (q .y))
+    accurate q i = map-accurate v (f .bytes) (q .x) (q .y) nan (omega (arith, i .right)) (omega (arith, i .bottom))
+
+    chosen-by : (u : Reading) → ((q : Place) → PeakBy u q → T (lt float32.zero (valueAt (cells v) (cols v) q))) → All Chosen (peaksBy u (searchOn p v))
+    chosen-by u g =
+        all-map (PeakBy u) Chosen (λ q k. record { inside = k .0; above = g q k })
+        (peaksBy u (searchOn p v)) (peaks-are u (cols v) (rows v) (searchOn p v .border) (p .window) (p .least))
+
+    -- a computed one is not at or below its threshold, which is lifted, and is no NaN
+    computed-chosen : All Chosen (computedChoice p v)
+    computed-chosen =
+        chosen-by (readIn (cells v) (searchOn p v))
+        (λ q k. to-T (peak-positive (cells v) (searchOn p v) (p .threshold) refl q (k .1) (not-nan _ (accurate q (k .0) .near .is-finite))))
+
+    -- an exact one has an exact value above 0, and so its cell is above 0
+    exact-chosen : All Chosen (exactChoice p v)
+    exact-chosen =
+        chosen-by Exactly
+        (λ q k. accurate q (k .0) .positive .1 (fifths-positive (searchOn p v .threshold) (fifthsIn v (q .x) (q .y)) (peak-above Exactly (cols v) (rows v) (p .window) (p .least) q (k .1))))
+
+    chosen : (choose : Choice) → IsChoice p choose → All Chosen (choose v)
+    chosen choose (inl e) = subst (λ (c : Choice). All Chosen (c v)) (sym e) computed-chosen
+    chosen choose (inr e) = subst (λ (c : Choice). All Chosen (c v)) (sym e) exact-chosen
+
+    -- ---- each is accepted
+    accepted : (q : Place) → Chosen q → localized p v (Start q) ≡ Centre (Start q) ∷ []
+    unfolding centred
+    accepted q k =
+        let i = k .inside in
+        let a =
+        peak-accepted (p .centroid) (cells v) (cols v) (rows v) (q .x) (q .y) (map-usual p v f) (ranges p (f .fit) .centroid)
+        (le-trans (cols-le v) (f .narrow)) (le-trans (rows-le v) (f .low)) (cells-length v ∙ mul-comm (rows v) (cols v))
+        (omega (arith, i .left)) (omega (arith, i .right)) (omega (arith, i .top)) (omega (arith, i .bottom)) (k .above) in
+        rw (a .3)
+
+-- the corners of a map are its peaks, each at its centre of mass
+pub corners-centred : (p : FrameParams) (v : View) (choose : Choice) → Fine p v → IsChoice p choose
+    → cornersIn p choose v ≡ map (centred (p .centroid) (cells v) (cols v) (rows v)) (map (startAt (cells v) (cols v)) (choose v))
+unfolding cornersIn
+corners-centred p v choose f c =
+    flatMap-single (localized p v) (Centre p v) (map (Start p v) (choose v))
+    (all-mapped (λ s. localized p v s ≡ Centre p v s ∷ []) (Start p v) (choose v)
+    (all-map (Chosen p v) (λ q. localized p v (Start p v q) ≡ Centre p v (Start p v q) ∷ []) (accepted p v f) (choose v) (chosen p v f choose c)))
+
+-- so there are as many corners as peaks
+pub corners-count : (p : FrameParams) (v : View) (choose : Choice) → Fine p v → IsChoice p choose → length (cornersIn p choose v) ≡ length (choose v)
+corners-count p v choose f c =
+    ap length (corners-centred p v choose f c) ∙ length-map (map (Start p v) (choose v)) (Centre p v) ∙ length-map (choose v) (Start p v)
+
+pub none-dropped : (p : FrameParams) (img : List ℕ) (w h : ℕ) (choose : Choice) → NoneDropped p img w h choose
+none-dropped p img w h choose s c =
+    all-map (Fine p) (λ v. length (cornersIn p choose v) ≡ length (choose v)) (λ v f. corners-count p v choose f c)
+    (lookedAt p img w h choose) (looked-fine p img w h choose s)

@@ -1,0 +1,6 @@
+pub mod Lists
+pub mod Maps
+pub mod Centred
+pub mod Accepting
+pub mod Inside
+pub mod Same

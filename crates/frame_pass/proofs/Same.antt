@@ -1,0 +1,53 @@
+-- Two choices that are alike on each map that the second's pass looks at give one pass. Assumes nothing.
+use Prim.Native.Nat.{ℕ, zero, suc}
+use mathlib.Core.Path.{_≡_, refl, ap, _∙_}
+use mathlib.Core.List.{List}
+use Rattle.lists.specs.Places.{flatMap, All}
+use Rattle.lists.proofs.Members.{all-map, flatMap-alike}
+use Rattle.response.specs.Patch.{View}
+use Rattle.corner_list.specs.declared.Corner.{Corner}
+use Rattle.frame_pass.specs.declared.FrameParams.{FrameParams}
+use Rattle.frame_pass.specs.Pass.{Choice, computedChoice, exactChoice, cornersIn, levelsIn, levelView, seedPatch, cornersOn, cornersAbout, seedsOf, foundOf, framePass, mapsOf, lookedAt}
+use Rattle.frame_pass.specs.Theorems.{PassSame}
+use Rattle.frame_pass.proofs.Lists.{all-unflat}
+
+module _ (p : FrameParams) (img : List ℕ) (w h : ℕ) (a b : Choice) where
+  abbrev Alike : View → Type 0
+  Alike v = a v ≡ b v
+
+  map-same : (v : View) → a v ≡ b v → cornersIn p a v ≡ cornersIn p b v
+  unfolding cornersIn
+  map-same v e = rw e
+
+  patch-same : (v : View) → a v ≡ b v → cornersOn p img w h a v ≡ cornersOn p img w h b v
+  patch-same v e = rw (map-same v e)
+
+  about-same : (k : ℕ) (s : Corner) → All Alike (seedPatch p img w h k s) → cornersAbout p img w h a k s ≡ cornersAbout p img w h b k s
+  about-same k s e =
+      flatMap-alike (cornersOn p img w h a) (cornersOn p img w h b) (seedPatch p img w h k s)
+      (all-map Alike (λ v. cornersOn p img w h a v ≡ cornersOn p img w h b v) patch-same (seedPatch p img w h k s) e)
+
+  -- ---- by the number of levels
+  seeds-same : (n : ℕ) → All Alike (mapsOf p img w h b n) → seedsOf p img w h a n ≡ seedsOf p img w h b n
+  unfolding seedsOf mapsOf
+  seeds-same zero e = refl
+  seeds-same (suc zero) e = refl
+  seeds-same (suc (suc k)) e = map-same (levelView p img w h (suc k)) (e .0)
+
+  found-same : (n : ℕ) → All Alike (mapsOf p img w h b n) → foundOf p img w h a n ≡ foundOf p img w h b n
+  unfolding foundOf mapsOf
+  found-same zero e = refl
+  found-same (suc zero) e = map-same (levelView p img w h 0) (e .0)
+  found-same (suc (suc k)) e =
+      let seeds = seedsOf p img w h b (suc (suc k)) in
+      ap (flatMap (cornersAbout p img w h a (suc k))) (seeds-same (suc (suc k)) e)
+      ∙ flatMap-alike (cornersAbout p img w h a (suc k)) (cornersAbout p img w h b (suc k)) seeds
+      (all-map (λ s. All Alike (seedPatch p img w h (suc k) s)) (λ s. cornersAbout p img w h a (suc k) s ≡ cornersAbout p img w h b (suc k) s) (about-same (suc k)) seeds
+      (all-unflat Alike (seedPatch p img w h (suc k)) seeds (e .1)))
+
+  pub choices-same : All (λ (v : View). a v ≡ b v) (lookedAt p img w h b) → framePass p img w h a ≡ framePass p img w h b
+  unfolding framePass lookedAt
+  choices-same e = rw (seeds-same (levelsIn p img w h) e, found-same (levelsIn p img w h) e)
+
+pub pass-same : PassSame
+pass-same p img w h e = choices-same p img w h (computedChoice p) (exactChoice p) e

@@ -1,0 +1,3 @@
+pub mod Parameters
+pub mod Pass
+pub mod Theorems
