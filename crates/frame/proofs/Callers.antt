@@ -1,0 +1,82 @@
+-- What a caller of `find_corners` learns from its answer. Assumes nothing.
+use Prim.Native.Nat.{ℕ, zero, suc, _≤_}
+use native.Mathlib.Nat.{eq-zero-or-pos}
+use native.Mathlib.Omega.{arith}
+use mathlib.Core.Path.{_≡_, refl, sym, ap, _∙_}
+use mathlib.Core.Logic.{⊎-elim}
+use mathlib.Core.Bool.{Bool, false}
+use mathlib.Core.List.{List, [], _∷_, _++_, map}
+use lib.ListN.{length}
+use lib.Dec.{ltb}
+use lib.Seq.{drop-at}
+use lib.Ieee.{Float}
+use borrow.Author.Tests.{ltb-false}
+use Rattle.lists.specs.Buffer.{front}
+use Rattle.lists.specs.Refusals.{lowest}
+use Rattle.lists.proofs.Tests.{or-neither}
+use Rattle.lists.proofs.Refusals.{lowest-none}
+use Rattle.pyramid.specs.Pyramid.{above}
+use Rattle.corner_list.specs.declared.Corner.{Corner}
+use Rattle.corner_list.specs.CornerList.{Slices, slices, xOf, yOf, strengthOf, placesOf, cornersOf, frontCorners}
+use Rattle.corner_list.proofs.Corners.{slices-alike, corners-front}
+use Rattle.merge.proofs.Result.{result-length}
+use Rattle.frame_pass.specs.declared.FrameParams.{FrameParams}
+use Rattle.frame_pass.specs.Pass.{framePass, computedChoice, levelsIn, foundOf}
+use Rattle.frame.specs.declared.FrameAnswer.the-variants.{Corners, Refused}
+use Rattle.frame.specs.Frame.{Buffers, conditions, tooMany, refusalOf, paddedCorners, finished, leaving, answerOf, Frame, frame, frameOf, Found}
+use Rattle.frame.proofs.Refusals.{number-before, number-in-pass}
+
+-- corners that stand first in a buffer are read back
+own-front : (vs r : List Float) → vs ++ r ≡ front vs (vs ++ r)
+own-front vs r = ap (λ (l : List Float). vs ++ l) (sym (drop-at vs r (length vs) refl))
+
+corners-padded : (cs : List Corner) (b : Slices) (n : ℕ) → n ≡ length cs → cornersOf (paddedCorners cs b) n ≡ cs
+corners-padded cs b n e =
+    ap (λ (s : Slices). cornersOf s n) (slices-alike (own-front (map xOf cs) _) (own-front (map yOf cs) _) (own-front (map strengthOf cs) _))
+    ∙ corners-front cs (paddedCorners cs b) n e
+
+-- a finished frame: its corners, by the pass, and the buffers
+pub record Finished (p : FrameParams) (img : List ℕ) (w h : ℕ) (b : Buffers) (n : ℕ) (b′ : Buffers) : Type 0 where
+  pub number : refusalOf p img w h b ≡ 0
+  pub count : n ≡ length (framePass p img w h (computedChoice p) .corners)
+  pub fits : n ≤ placesOf (b .corners)
+  pub corners : cornersOf (b′ .corners) n ≡ framePass p img w h (computedChoice p) .corners
+  pub left : b′ ≡ finished (above img w h (levelsIn p img w h)) (framePass p img w h (computedChoice p)) b
+
+module _ (p : FrameParams) (img : List ℕ) (w h : ℕ) (b : Buffers) where
+  -- no refusal, so no list is too long
+  not-many : refusalOf p img w h b ≡ 0 → tooMany (framePass p img w h (computedChoice p)) b ≡ false
+  not-many e =
+      let before = lowest (conditions p (length img) w h (length (b .map)) (length (b .levels))) in
+      let none : before ≡ 0 =
+      ⊎-elim (λ z. z) (λ l. sym (number-before p img w h b (λ (z : before ≡ 0). let no : ⊥ = omega arith in no)) ∙ e) (eq-zero-or-pos before) in
+      lowest-none (tooMany (framePass p img w h (computedChoice p)) b) 10 [] (omega arith) (sym (number-in-pass p img w h b none) ∙ e) .0
+
+  few : refusalOf p img w h b ≡ 0 → length (framePass p img w h (computedChoice p) .corners) ≤ placesOf (b .corners)
+  unfolding framePass
+  few e =
+      let q = framePass p img w h (computedChoice p) in
+      let l = ltb-false (placesOf (b .corners)) (length (q .found)) (or-neither (ltb (placesOf (b .seeds)) (length (q .seeds))) _ (not-many e) .1) in
+      omega (arith, l, result-length (p .radius) (foundOf p img w h (computedChoice p) (levelsIn p img w h)))
+
+  pub finished-tells : (n : ℕ) (b′ : Buffers) → Found p img w h b (Corners n) b′ → Finished p img w h b n b′
+  unfolding frameOf
+  finished-tells n b′ f =
+      let q = framePass p img w h (computedChoice p) in
+      let none : refusalOf p img w h b ≡ 0 = sym (f .number) in
+      let is : frame (Corners n) b′ ≡ frame (Corners (length (q .corners))) (finished (above img w h (levelsIn p img w h)) q b) =
+      f .is ∙ ap (λ (k : ℕ). frame (answerOf k (length (q .corners))) (leaving k (above img w h (levelsIn p img w h)) q b)) none in
+      let left = ap (λ (z : Frame). z .left) is in
+      let answer : Corners n ≡ Corners (length (q .corners)) = ap (λ (z : Frame). z .answer) is in
+      let count : n ≡ length (q .corners) = cc in
+      record {
+        number = none;
+        count = count;
+        fits = omega (arith, count, few none);
+        corners = ap (λ (z : Buffers). cornersOf (z .corners) n) left ∙ corners-padded (q .corners) (b .corners) n count;
+        left = left;
+      }
+
+  -- a refused one: its number
+  pub refused-tells : (k : ℕ) (b′ : Buffers) → Found p img w h b (Refused k) b′ → refusalOf p img w h b ≡ k
+  refused-tells k b′ f = sym (f .number)

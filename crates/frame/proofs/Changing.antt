@@ -1,0 +1,110 @@
+-- The corners behind the first `held` of a buffer, each replaced by a function of it, one a turn. Assumes nothing.
+use Prim.Native.Nat.{ℕ, _+_, _-_, _<_, _≤_}
+use native.Mathlib.Omega.{arith}
+use native.Mathlib.Numerals.{add-one}
+use mathlib.Core.Path.{_≡_, refl, sym, ap, ap₂, _∙_}
+use mathlib.Core.List.{List, [], _∷_, _++_, map, append-assoc, append-nil}
+use lib.ListN.{length, take, drop, getD, length-append, length-map}
+use lib.Seq.{length-take-le, take-at, drop-at, getD-append-add, getD-drop}
+use lib.Ieee.{Float, nan}
+use Rattle.lists.specs.Tab.{tab}
+use Rattle.lists.specs.Buffer.{placed}
+use Rattle.lists.proofs.Tab.{length-tab}
+use Rattle.lists.proofs.Buffer.{placed-none}
+use Rattle.corner_list.specs.declared.Corner.{Corner}
+use Rattle.corner_list.specs.CornerList.{Slices, xOf, yOf, strengthOf, placesOf, cornerAt, withCorner, placedCorners}
+use Rattle.corner_list.proofs.Corners.{slices-alike}
+use Rattle.corner_list.proofs.Growing.{Growing, growing-put, growing-all, growing-xs, growing-ys, growing-strengths}
+use Rattle.frame.specs.Needs.{Changed}
+
+-- ---- what stands behind elements that were placed, and others placed over them
+module _ {A : Type 0} (held : ℕ) (vs d : List A) (h : held ≤ length d) where
+  begin-length : length (take held d ++ vs) ≡ held + length vs
+  begin-length = length-append (take held d) vs ∙ ap (λ (k : ℕ). k + length vs) (length-take-le held d h)
+
+  placed-behind : (i : ℕ) (z : A) → held + length vs ≤ i → getD (placed held vs d) i z ≡ getD d i z
+  placed-behind i z l =
+      let k = i - (held + length vs) in
+      let e : i ≡ length (take held d ++ vs) + k = omega (arith, begin-length) in
+      let m : held + length vs + k ≡ i = omega arith in
+      ap (λ (j : ℕ). getD (placed held vs d) j z) e
+      ∙ getD-append-add (take held d ++ vs) (drop (held + length vs) d) k z
+      ∙ getD-drop (held + length vs) d k z
+      ∙ ap (λ (j : ℕ). getD d j z) m
+
+  placed-again : (us : List A) → length us ≡ length vs → placed held us (placed held vs d) ≡ placed held us d
+  placed-again us e =
+      let rest = drop (held + length vs) d in
+      ap₂ (λ (a b : List A). a ++ us ++ b)
+      (ap (take held) (append-assoc (take held d) vs rest) ∙ take-at (take held d) (vs ++ rest) held (length-take-le held d h))
+      (drop-at (take held d ++ vs) rest (held + length us) (begin-length ∙ ap (λ (k : ℕ). held + k) (sym e)) ∙ ap (λ (k : ℕ). drop (held + k) d) (sym e))
+
+module _ (held : ℕ) (cs : List Corner) (b : Slices) (h : held ≤ placesOf b) where
+  corner-behind : (i : ℕ) → held + length cs ≤ i → cornerAt (placedCorners held cs b) i ≡ cornerAt b i
+  corner-behind i l = rw (behind xOf (b .xs) (omega arith), behind yOf (b .ys) (omega arith), behind strengthOf (b .strengths) (omega arith))
+    where
+      behind : (g : Corner → Float) (d : List Float) → held ≤ length d → getD (placed held (map g cs) d) i nan ≡ getD d i nan
+      behind g d q = placed-behind held (map g cs) d q i nan (omega (arith, length-map cs g))
+
+  pub corners-over : (ds : List Corner) → length ds ≡ length cs → placedCorners held ds (placedCorners held cs b) ≡ placedCorners held ds b
+  corners-over ds e = slices-alike (over xOf (b .xs) (omega arith)) (over yOf (b .ys) (omega arith)) (over strengthOf (b .strengths) (omega arith))
+    where
+      over : (g : Corner → Float) (d : List Float) → held ≤ length d → placed held (map g ds) (placed held (map g cs) d) ≡ placed held (map g ds) d
+      over g d q = placed-again held (map g cs) d q (map g ds) (length-map ds g ∙ e ∙ sym (length-map cs g))
+
+-- ---- i of the n corners of a buffer b, which was b₀, are replaced
+pub record Changing (f : Corner → Corner) (held n i : ℕ) (b₀ b : Slices) : Type 0 where
+  pub upto : i ≤ n
+  pub is : b ≡ placedCorners held (tab i (λ j. f (cornerAt b₀ (held + j)))) b₀
+
+module _ (f : Corner → Corner) (held n : ℕ) (b₀ : Slices) where
+  pub changing-none : Changing f held n 0 b₀ b₀
+  unfolding tab
+  changing-none = record { upto = omega arith; is = slices-alike (placed-none held (b₀ .xs)) (placed-none held (b₀ .ys)) (placed-none held (b₀ .strengths)) }
+
+  module _ (fits : held + n ≤ placesOf b₀) (i : ℕ) (b : Slices) (at : Changing f held n i b₀ b) where
+    abbrev read : ℕ → Corner
+    read j = f (cornerAt b₀ (held + j))
+
+    -- as a list that is written
+    grown : Growing (tab i read) [] held i b₀ b
+    grown = record {
+      done = tab i read;
+      count = sym (length-tab i read);
+      split = sym (append-nil (tab i read));
+      fits = omega (arith, length-tab i read, at .upto);
+      is = at .is;
+    }
+
+    pub changing-xs : length (b .xs) ≡ length (b₀ .xs)
+    changing-xs = growing-xs (tab i read) [] held i b₀ b grown
+
+    pub changing-ys : length (b .ys) ≡ length (b₀ .ys)
+    changing-ys = growing-ys (tab i read) [] held i b₀ b grown
+
+    pub changing-strengths : length (b .strengths) ≡ length (b₀ .strengths)
+    changing-strengths = growing-strengths (tab i read) [] held i b₀ b grown
+
+    -- one more
+    same-corner : cornerAt b (held + i) ≡ cornerAt b₀ (held + i)
+    same-corner = ap (λ (s : Slices). cornerAt s (held + i)) (at .is) ∙ corner-behind held (tab i read) b₀ (omega arith) (held + i) (omega (arith, length-tab i read))
+
+    growing : i < n → Growing (tab (i + 1) read) (read i ∷ []) held i b₀ b
+    unfolding tab
+    growing l = record {
+      done = tab i read;
+      count = sym (length-tab i read);
+      split = ap (λ (k : ℕ). tab k read) (add-one i);
+      fits = omega (arith, length-tab (i + 1) read);
+      is = at .is;
+    }
+
+    pub changing-put : i < n → (c d : Corner) (b′ : Slices) → c ≡ cornerAt b (held + i) → d ≡ f c → b′ ≡ withCorner (held + i) d b → Changing f held n (i + 1) b₀ b′
+    changing-put l c d b′ p q put =
+        let e : d ≡ read i = q ∙ ap f (p ∙ same-corner) in
+        let next = growing-put (tab (i + 1) read) (read i ∷ []) held i b₀ b (growing l) (read i) [] refl b′ (put ∙ ap (λ (a : Corner). withCorner (held + i) a b) e) in
+        record { upto = omega arith; is = growing-all (tab (i + 1) read) [] held (i + 1) b₀ b′ next refl .1 }
+
+    -- all
+    pub changing-all : n ≤ i → Changed f held n b₀ b
+    changing-all l = let e : i ≡ n = omega (arith, at .upto) in record { is = at .is ∙ ap (λ (k : ℕ). placedCorners held (tab k read) b₀) e }

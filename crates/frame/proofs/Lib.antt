@@ -1,0 +1,11 @@
+pub mod Refusals
+pub mod Wiping
+pub mod Padded
+pub mod Changing
+pub mod Landing
+pub mod Adding
+pub mod Mapped
+pub mod Boxes
+pub mod Levels
+pub mod Entry
+pub mod Callers

@@ -1,0 +1,39 @@
+-- Buffers that are cleared behind a list with which they begin. Assumes nothing.
+use Prim.Native.Nat.{ℕ, _-_, _≤_}
+use native.Mathlib.Omega.{arith}
+use mathlib.Core.Path.{_≡_, refl, sym, ap, _∙_}
+use mathlib.Core.List.{List, [], _++_, map}
+use lib.ListN.{length, replicate, length-map}
+use lib.Ieee.{Float}
+use Rattle.lists.specs.Buffer.{front, wipedFrom}
+use Rattle.lists.proofs.Buffer.{wiped-front}
+use Rattle.float32.specs.Float32.{zero}
+use Rattle.corner_list.specs.declared.Corner.{Corner}
+use Rattle.corner_list.specs.CornerList.{Slices, xOf, yOf, strengthOf, placesOf, frontCorners}
+use Rattle.corner_list.proofs.Corners.{slices-alike}
+use Rattle.frame.specs.Frame.{padded, paddedCorners}
+use Rattle.frame.specs.Needs.{clearedFrom}
+
+-- two buffers with slices of the same lengths
+pub record SameLengths (b b′ : Slices) : Type 0 where
+  pub xs : length (b′ .xs) ≡ length (b .xs)
+  pub ys : length (b′ .ys) ≡ length (b .ys)
+  pub strengths : length (b′ .strengths) ≡ length (b .strengths)
+
+-- ---- one slice
+pub padded-front : (vs d d′ : List Float) (n : ℕ) → n ≡ length vs → length vs ≤ length d → length d′ ≡ length d → wipedFrom n zero (front vs d′) ≡ padded vs d
+padded-front vs d d′ n e h l = wiped-front vs d′ zero n e (rw l h) ∙ ap (λ (k : ℕ). vs ++ replicate (k - length vs) zero) l
+
+pub padded-none : (d d′ : List Float) → length d′ ≡ length d → wipedFrom 0 zero d′ ≡ padded [] d
+padded-none d d′ l = padded-front [] d d′ 0 refl (omega arith) l
+
+-- ---- a buffer of corners
+module _ (b b′ : Slices) (same : SameLengths b b′) where
+  pub cleared-front : (cs : List Corner) (n : ℕ) → n ≡ length cs → n ≤ placesOf b → clearedFrom n (frontCorners cs b′) ≡ paddedCorners cs b
+  cleared-front cs n e h = slices-alike (each xOf (b .xs) (b′ .xs) (omega arith) (same .xs)) (each yOf (b .ys) (b′ .ys) (omega arith) (same .ys)) (each strengthOf (b .strengths) (b′ .strengths) (omega arith) (same .strengths))
+    where
+      each : (g : Corner → Float) (d d′ : List Float) → n ≤ length d → length d′ ≡ length d → wipedFrom n zero (front (map g cs) d′) ≡ padded (map g cs) d
+      each g d d′ k l = padded-front (map g cs) d d′ n (e ∙ sym (length-map cs g)) (omega (arith, length-map cs g)) l
+
+  pub cleared-none : clearedFrom 0 b′ ≡ paddedCorners [] b
+  cleared-none = slices-alike (padded-none (b .xs) (b′ .xs) (same .xs)) (padded-none (b .ys) (b′ .ys) (same .ys)) (padded-none (b .strengths) (b′ .strengths) (same .strengths))

@@ -1,0 +1,136 @@
+-- The refusals of a frame before its pass: what holds where there is none, and that 10 is not among them. Assumes nothing.
+use Prim.Native.Nat.{ℕ, _*_, _<_, _≤_}
+use native.Mathlib.Omega.{arith}
+use mathlib.Core.Path.{_≡_, refl, sym, ap, _∙_}
+use mathlib.Core.Logic.{_⊎_, inl, inr}
+use mathlib.Core.Bool.{Bool, true, false, not, _&&_}
+use mathlib.Core.List.{List, [], _∷_, _++_}
+use lib.ListN.{length}
+use lib.Dec.{ltb, eqb}
+use lib.Ieee.{Float}
+use borrow.Author.Tests.{ltb-false, eqb-true, not-false, lt-ltb, le-ltb, le-leb, eq-eqb, ne-eqb}
+use Rattle.lists.specs.Places.{All}
+use Rattle.lists.specs.Refusals.{lowest}
+use Rattle.lists.proofs.Tests.{or-neither}
+use Rattle.lists.proofs.Refusals.{all-clear, lowest-some, lowest-past}
+use Rattle.accuracy.specs.Accurate.{Bytes}
+use Rattle.pyramid.specs.Pyramid.{levelCount, cellsAbove, capped}
+use Rattle.pyramid.proofs.Cells.{cells-exact}
+use Rattle.pyramid.proofs.Refusals.{Accepted}
+use Rattle.merge.specs.Merge.{isOff, isSized}
+use Rattle.frame_pass.specs.declared.FrameParams.{FrameParams}
+use Rattle.frame_pass.specs.Parameters.{parametersFit}
+use Rattle.frame_pass.specs.Pass.{framePass, computedChoice}
+use Rattle.frame_pass.specs.Theorems.{Sound}
+use Rattle.frame.specs.Frame.{Buffers, conditions, tooMany, refusalOf}
+
+and-all : (b : Bool) → (b && true) ≡ b
+and-all true = refl
+and-all false = refl
+
+-- a number of a table is at most the largest
+lowest-le : (cs : List (Bool × ℕ)) (m : ℕ) → All (λ c. c .1 ≤ m) cs → lowest cs ≤ m
+lowest-le [] m h = omega arith
+lowest-le ((true, n) ∷ cs) m h = h .0
+lowest-le ((false, n) ∷ cs) m h = lowest-le cs m (h .1)
+
+-- a merge radius that is not refused
+radius-fits : (off sized : Bool) → (not off && not sized) ≡ false → (off ≡ true) ⊎ ((off ≡ false) × (sized ≡ true))
+radius-fits true sized e = inl refl
+radius-fits false true e = inr (refl, refl)
+radius-fits false false e = let z : _≡_ {A = Bool} true false = e in absurd (let y : _≡_ {A = ℕ} 0 1 = cc in let no : ⊥ = omega arith in no)
+
+-- no refusal before the pass
+pub record Admitted (p : FrameParams) (pixels w h cells places : ℕ) : Type 0 where
+  pub accepted : Accepted pixels places w h (p .levels) (p .minimum)
+  pub fit : parametersFit p ≡ true
+  pub radius : (isOff (p .radius) ≡ true) ⊎ ((isOff (p .radius) ≡ false) × (isSized (p .radius) ≡ true))
+  pub enough : w * h ≤ cells
+
+module _ (p : FrameParams) (pixels w h cells places : ℕ) where
+  numbered : All (λ c. 0 < c .1) (conditions p pixels w h cells places)
+  unfolding conditions
+  numbered = (omega arith, (omega arith, (omega arith, (omega arith, (omega arith, (omega arith, tt))))))
+
+  pub not-ten : lowest (conditions p pixels w h cells places) < 10
+  unfolding conditions
+  not-ten = let l = lowest-le (conditions p pixels w h cells places) 9 (omega arith, (omega arith, (omega arith, (omega arith, (omega arith, (omega arith, tt)))))) in omega arith
+
+  pub admitted : lowest (conditions p pixels w h cells places) ≡ 0 → Admitted p pixels w h cells places
+  unfolding conditions
+  admitted e =
+      let q = all-clear (conditions p pixels w h cells places) numbered e in
+      let sides = or-neither (ltb 4096 w) (ltb 4096 h) (q .0) in record {
+        accepted =
+            record {
+              image = record { narrow = ltb-false 4096 w (sides .0); low = ltb-false 4096 h (sides .1); sized = eqb-true pixels (w * h) (not-false (eqb pixels (w * h)) (q .1 .0)) };
+              fits = ltb-false _ _ (q .1 .1 .1 .1 .1 .0);
+            };
+        fit = not-false (parametersFit p) (q .1 .1 .0);
+        radius = radius-fits (isOff (p .radius)) (isSized (p .radius)) (q .1 .1 .1 .0);
+        enough = ltb-false cells (w * h) (q .1 .1 .1 .1 .0);
+      }
+
+-- ---- the number by the tests, each with those before it passed
+module _ (p : FrameParams) where
+  module _ (window : p .window ≤ 16) (centroid : p .centroid ≤ 16) (search : p .search ≤ 255) where
+    pub ring-five : p .ring ≡ 5 → true ≡ parametersFit p
+    unfolding parametersFit
+    ring-five e = simp (eq-eqb (p .ring) 5 e, le-leb (p .window) 16 window, le-leb (p .centroid) 16 centroid, le-leb (p .search) 255 search)
+
+    pub ring-other : (p .ring ≡ 5 → ⊥) → eqb (p .ring) 10 ≡ parametersFit p
+    unfolding parametersFit
+    ring-other e = rw (ne-eqb (p .ring) 5 e, le-leb (p .window) 16 window, le-leb (p .centroid) 16 centroid, le-leb (p .search) 255 search) (sym (and-all (eqb (p .ring) 10)))
+
+module _ (p : FrameParams) (pixels w h cells places : ℕ) (wide : w ≤ 4096) (high : h ≤ 4096) (size : pixels ≡ w * h) where
+  pub number-three : (t : Bool) → t ≡ parametersFit p → t ≡ false → 3 ≡ lowest (conditions p pixels w h cells places)
+  unfolding conditions
+  number-three t e z = simp (le-ltb 4096 w wide, le-ltb 4096 h high, eq-eqb pixels (w * h) size, sym e ∙ z)
+
+  module _ (t : Bool) (fit : t ≡ parametersFit p) (fits : t ≡ true) (r : Bool) (outside : r ≡ (not (isOff (p .radius)) && not (isSized (p .radius)))) where
+    pub number-five : r ≡ true → 5 ≡ lowest (conditions p pixels w h cells places)
+    unfolding conditions
+    number-five z = simp (le-ltb 4096 w wide, le-ltb 4096 h high, eq-eqb pixels (w * h) size, sym fit ∙ fits, sym outside ∙ z)
+
+    module _ (inside : r ≡ false) where
+      pub number-eight : cells < w * h → 8 ≡ lowest (conditions p pixels w h cells places)
+      unfolding conditions
+      number-eight l = simp (le-ltb 4096 w wide, le-ltb 4096 h high, eq-eqb pixels (w * h) size, sym fit ∙ fits, sym outside ∙ inside, lt-ltb cells (w * h) l)
+
+      module _ (enough : w * h ≤ cells) (n : ℕ) (above : n ≡ capped (cellsAbove w h (levelCount w h (p .levels) (p .minimum)))) where
+        exactly : n ≡ cellsAbove w h (levelCount w h (p .levels) (p .minimum))
+        exactly = above ∙ cells-exact w h (levelCount w h (p .levels) (p .minimum)) wide high
+
+        pub number-nine : places < n → 9 ≡ lowest (conditions p pixels w h cells places)
+        unfolding conditions
+        number-nine l =
+            simp
+            (le-ltb 4096 w wide, le-ltb 4096 h high, eq-eqb pixels (w * h) size, sym fit ∙ fits, sym outside ∙ inside, le-ltb cells (w * h) enough, lt-ltb places _ (rw exactly at l))
+
+        pub number-zero : n ≤ places → 0 ≡ lowest (conditions p pixels w h cells places)
+        unfolding conditions
+        number-zero l =
+            simp
+            (le-ltb 4096 w wide, le-ltb 4096 h high, eq-eqb pixels (w * h) size, sym fit ∙ fits, sym outside ∙ inside, le-ltb cells (w * h) enough, le-ltb places _ (rw exactly at l))
+
+pub admitted-sound : (p : FrameParams) (img : List ℕ) (w h cells places : ℕ) → Admitted p (length img) w h cells places → Bytes img → Sound p img w h
+admitted-sound p img w h cells places a b =
+    record { fit = a .fit; narrow = a .accepted .image .narrow; low = a .accepted .image .low; sized = a .accepted .image .sized; bytes = b }
+
+-- ---- the number of a frame
+module _ (p : FrameParams) (img : List ℕ) (w h : ℕ) (b : Buffers) where
+  pub number-before : (lowest (conditions p (length img) w h (length (b .map)) (length (b .levels))) ≡ 0 → ⊥)
+      → refusalOf p img w h b ≡ lowest (conditions p (length img) w h (length (b .map)) (length (b .levels)))
+  unfolding refusalOf
+  number-before n = lowest-some (conditions p (length img) w h (length (b .map)) (length (b .levels))) ((tooMany (framePass p img w h (computedChoice p)) b, 10) ∷ []) n
+
+  module _ (none : lowest (conditions p (length img) w h (length (b .map)) (length (b .levels))) ≡ 0) where
+    pub number-in-pass : refusalOf p img w h b ≡ lowest ((tooMany (framePass p img w h (computedChoice p)) b, 10) ∷ [])
+    unfolding refusalOf
+    number-in-pass = lowest-past (conditions p (length img) w h (length (b .map)) (length (b .levels))) ((tooMany (framePass p img w h (computedChoice p)) b, 10) ∷ []) (numbered p (length img) w h (length (b .map)) (length (b .levels))) none
+
+    pub number-ten : tooMany (framePass p img w h (computedChoice p)) b ≡ true → refusalOf p img w h b ≡ 10
+    number-ten e = number-in-pass ∙ ap (λ (t : Bool). lowest ((t, 10) ∷ [])) e
+
+    pub number-none : tooMany (framePass p img w h (computedChoice p)) b ≡ false → refusalOf p img w h b ≡ 0
+    number-none e = number-in-pass ∙ ap (λ (t : Bool). lowest ((t, 10) ∷ [])) e

@@ -1,0 +1,28 @@
+-- `frame::localizing::centre` meets its contract. Assumes nothing.
+use borrow.Author.Needs.{needs}
+use mathlib.Core.Path.{sym, ap, _∙_}
+use Rattle.center_of_mass.specs.declared.Outcome.{Outcome}
+use Rattle.frame_pass.proofs.Centred.{landing, centred}
+use Rattle.frame.proofs.Landing.{not-accepted}
+use Rattle.frame.proofs.localizing.centre.Statement.{statement}
+use Rattle.frame.proofs.localizing.centre.Tie as tie
+
+refine-requires : tie.Need-refine-requires
+refine-requires c κs = search needs
+
+enum-known-o : tie.Need-enum-known-o
+enum-known-o c = search needs
+
+returns : tie.Need-returns
+unfolding centred
+returns c =
+    let corner = c .before .before .before .args .c in
+    not-accepted (c .before .refine .result) corner (c .match .keys2) ∙ ap (λ (o : Outcome). landing o corner) (c .before .refine .ensures .outcome)
+
+returns-2 : tie.Need-returns-2
+unfolding centred
+returns-2 c =
+    ap (λ (o : Outcome). landing o (c .before .before .before .before .before .args .c)) (sym (c .before .o .given .1) ∙ c .before .before .before .refine .ensures .outcome)
+
+pub centre-spec : {M : Type 1} → statement M
+centre-spec = tie.close (tie.spec refine-requires enum-known-o returns returns-2)

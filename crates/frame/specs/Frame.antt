@@ -1,0 +1,111 @@
+-- A frame: the refusals, the answer, and every buffer after it, by one equation with the pass.
+use Prim.Native.Nat.{ℕ, zero, suc, _-_, _*_}
+use mathlib.Core.Path.{_≡_}
+use mathlib.Core.Bool.{Bool, cond, not, _&&_, _||_}
+use mathlib.Core.List.{List, [], _∷_, _++_, map}
+use lib.ListN.{length, replicate}
+use lib.Dec.{ltb, eqb}
+use lib.Ieee.{Float}
+use Rattle.lists.specs.Buffer.{front}
+use Rattle.lists.specs.Refusals.{lowest}
+use Rattle.float32.specs.Float32 as float32
+use Rattle.pyramid.specs.Pyramid.{above}
+use Rattle.pyramid.specs.Refusals.{isLarge, isMisfit, isShort}
+use Rattle.corner_list.specs.CornerList.{Slices, slices, xOf, yOf, strengthOf, placesOf}
+use Rattle.corner_list.specs.declared.Corner.{Corner}
+use Rattle.merge.specs.Merge.{isOff, isSized}
+use Rattle.frame_pass.specs.declared.FrameParams.{FrameParams}
+use Rattle.frame_pass.specs.Parameters.{parametersFit}
+use Rattle.frame_pass.specs.Pass.{Pass, framePass, computedChoice, levelsIn}
+use Rattle.frame.specs.declared.FrameAnswer.{FrameAnswer}
+use Rattle.frame.specs.declared.FrameAnswer.the-variants.{Corners, Refused}
+
+-- the buffers that a frame borrows
+pub record Buffers : Type 0 where
+  pub map : List Float
+  pub levels : List ℕ
+  pub seeds : Slices
+  pub corners : Slices
+
+abbrev pub buffers : List Float → List ℕ → Slices → Slices → Buffers
+buffers m levels seeds corners = record { map = m; levels = levels; seeds = seeds; corners = corners }
+
+-- ---- refusals
+
+-- the conditions on the input, an image of `pixels` pixels, a map buffer and a level buffer of so many places, with their numbers
+unfoldable pub conditions : FrameParams → ℕ → ℕ → ℕ → ℕ → ℕ → List (Bool × ℕ)
+conditions p pixels w h cells places =
+    (isLarge w h, 1)
+    ∷ (isMisfit pixels w h, 2)
+    ∷ (not (parametersFit p), 3)
+    ∷ (not (isOff (p .radius)) && not (isSized (p .radius)), 5)
+    ∷ (ltb cells (w * h), 8)
+    ∷ (isShort places w h (p .levels) (p .minimum), 9)
+    ∷ []
+
+-- 10: the seeds, or the corners before merging, do not fit their buffer
+abbrev pub tooMany : Pass → Buffers → Bool
+tooMany q b = ltb (placesOf (b .seeds)) (length (q .seeds)) || ltb (placesOf (b .corners)) (length (q .found))
+
+-- the lowest number, 0 for none
+unfoldable pub refusalOf : FrameParams → List ℕ → ℕ → ℕ → Buffers → ℕ
+unfolding conditions framePass
+refusalOf p img w h b = lowest (conditions p (length img) w h (length (b .map)) (length (b .levels)) ++ ((tooMany (framePass p img w h (computedChoice p)) b, 10) ∷ []))
+
+-- ---- the buffers after
+
+-- a list first, and zero behind it; zero in every place
+abbrev pub padded : List Float → List Float → List Float
+padded vs d = vs ++ replicate (length d - length vs) float32.zero
+
+abbrev pub paddedCorners : List Corner → Slices → Slices
+paddedCorners cs b = slices (padded (map xOf cs) (b .xs)) (padded (map yOf cs) (b .ys)) (padded (map strengthOf cs) (b .strengths))
+
+-- finished: the map buffer zero, the levels above the base first in theirs and behind them as before, the lists first and zero behind
+abbrev pub finished : List ℕ → Pass → Buffers → Buffers
+finished levels q b = buffers (padded [] (b .map)) (front levels (b .levels)) (paddedCorners (q .seeds) (b .seeds)) (paddedCorners (q .corners) (b .corners))
+
+-- 10: all zero in their whole length
+abbrev pub wiped : Buffers → Buffers
+wiped b = buffers (padded [] (b .map)) (replicate (length (b .levels)) 0) (paddedCorners [] (b .seeds)) (paddedCorners [] (b .corners))
+
+-- any other refusal changes nothing
+abbrev pub leaving : ℕ → List ℕ → Pass → Buffers → Buffers
+leaving zero levels q b = finished levels q b
+leaving (suc n) levels q b = cond (eqb (suc n) 10) (wiped b) b
+
+-- ---- the promise
+
+-- the answer for a number, 0 for none: how many corners there are, or the number
+abbrev pub answerOf : ℕ → ℕ → FrameAnswer
+answerOf zero n = Corners n
+answerOf (suc k) n = Refused (suc k)
+
+-- document 01's number and values of each case
+abbrev pub numberOf : FrameAnswer → ℕ
+numberOf (Corners n) = 0
+numberOf (Refused k) = k
+
+abbrev pub valuesOf : FrameAnswer → List ℕ
+valuesOf (Corners n) = n ∷ []
+valuesOf (Refused k) = []
+
+-- an answer with the buffers that it leaves
+pub record Frame : Type 0 where
+  pub answer : FrameAnswer
+  pub left : Buffers
+
+abbrev pub frame : FrameAnswer → Buffers → Frame
+frame answer left = record { answer = answer; left = left }
+
+unfoldable pub frameOf : FrameParams → List ℕ → ℕ → ℕ → Buffers → Frame
+unfolding refusalOf framePass
+frameOf p img w h b =
+    let q = framePass p img w h (computedChoice p) in
+    let n = refusalOf p img w h b in
+    frame (answerOf n (length (q .corners))) (leaving n (above img w h (levelsIn p img w h)) q b)
+
+-- what `find_corners` promises: answer and buffers by one equation, and the answer's number
+pub record Found (p : FrameParams) (img : List ℕ) (w h : ℕ) (b : Buffers) (answer : FrameAnswer) (b′ : Buffers) : Type 0 where
+  pub is : frame answer b′ ≡ frameOf p img w h b
+  pub number : numberOf answer ≡ refusalOf p img w h b
