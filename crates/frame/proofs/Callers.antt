@@ -80,3 +80,14 @@ module _ (p : FrameParams) (img : List ℕ) (w h : ℕ) (b : Buffers) where
   -- a refused one: its number
   pub refused-tells : (k : ℕ) (b′ : Buffers) → Found p img w h b (Refused k) b′ → refusalOf p img w h b ≡ k
   refused-tells k b′ f = sym (f .number)
+
+  -- which is none of a finished one
+  pub refusal-positive : (k : ℕ) (b′ : Buffers) → Found p img w h b (Refused k) b′ → k ≡ 0 → ⊥
+  unfolding frameOf
+  refusal-positive k b′ f z =
+      let q = framePass p img w h (computedChoice p) in
+      let none : refusalOf p img w h b ≡ 0 = sym (f .number) ∙ z in
+      let is : frame (Refused k) b′ ≡ frame (Corners (length (q .corners))) (finished (above img w h (levelsIn p img w h)) q b) =
+      f .is ∙ ap (λ (k : ℕ). frame (answerOf k (length (q .corners))) (leaving k (above img w h (levelsIn p img w h)) q b)) none in
+      let answer : Refused k ≡ Corners (length (q .corners)) = ap (λ (z : Frame). z .answer) is in
+      let no : _≡_ {A = ℕ} 0 1 = cc in omega arith
