@@ -1,0 +1,94 @@
+-- The text of a frame and of a stream, from the answers of the frame pass, of the reader and of the listing. Assumes nothing.
+use Prim.Native.Nat.{ℕ, zero, suc, _*_, _≤_}
+use native.Mathlib.Omega.{arith}
+use mathlib.Core.Path.{_≡_, refl, sym, ap, _∙_, subst}
+use mathlib.Core.List.{List}
+use lib.ListN.{length, take, drop, length-take, length-append}
+use borrow.Author.Tests.{le-ltb}
+use Rattle.lists.specs.Buffer.{front}
+use Rattle.lists.proofs.Buffer.{front-length}
+use Rattle.corner_list.specs.CornerList.{Slices, cornersOf}
+use Rattle.corner_list.specs.declared.Corner.{Corner}
+use Rattle.frame_pass.specs.declared.FrameParams.{FrameParams}
+use Rattle.frame_pass.specs.Pass.{framePass, computedChoice}
+use Rattle.frame.specs.Frame.{Buffers, refusalOf, Found}
+use Rattle.frame.specs.declared.FrameAnswer.{FrameAnswer}
+use Rattle.frame.specs.declared.FrameAnswer.the-variants.{Corners, Refused}
+use Rattle.frame.proofs.Callers.{Finished, finished-tells, refused-tells, refusal-positive}
+use Rattle.stream.specs.declared.Header.{Header}
+use Rattle.stream.specs.declared.FrameStream.{FrameStream}
+use Rattle.stream.specs.declared.FrameStream.the-variants as stream
+use Rattle.stream.specs.Answer.{FrameRead}
+use Rattle.stream.specs.Stream.{readFrame, refused}
+use Rattle.stream.proofs.Callers.{FrameFound, frame-found, refusal-found}
+use Rattle.listing.specs.declared.Listing.{Listing}
+use Rattle.listing.specs.declared.Listing.the-variants as listing
+use Rattle.listing.specs.Text.{cornersText, refusedText}
+use Rattle.listing.specs.Answer.{listing as listingOf, CornersWritten, RefusalWritten}
+use Rattle.listing.proofs.Texts.{listed}
+use Rattle.finder.specs.Finder.{paramsOf, programBuffers, textOf, frameText, readingText, outputOf, Written}
+
+-- ---- a text that was written lies in the buffer
+pub written-fits : (text buffer : List ℕ) (end : ℕ) (after : List ℕ) → Written text buffer end after → end ≤ length after
+written-fits text buffer end after w = omega (arith, w .ends, ap length (w .holds) ∙ length-append text (drop (length text) buffer))
+
+-- ---- the listing of at most 512 corners
+module _ (b : Slices) (count : ℕ) (before : List ℕ) (r : Listing) (after : List ℕ) (w : CornersWritten b count before r after) where
+  pub list-text : (end : ℕ) → r ≡ listing.Text end → Written (cornersText (cornersOf b count)) before end after
+  list-text end e =
+      let l = listed b count before end after (subst (λ (a : Listing). CornersWritten b count before a after) e w) in
+      record { ends = l .ends; holds = l .text }
+
+  pub list-written : count ≤ 512 → (n : ℕ) → r ≡ listing.Refused n → ⊥
+  unfolding listingOf
+  list-written few n e = let a = rw (le-ltb 512 count few) at (w .answer) in let z = sym a ∙ e in let no : _≡_ {A = ℕ} 0 1 = cc in omega arith
+
+-- ---- the text of a frame
+module _ (h : Header) (pixels : List ℕ) (p : FrameParams) (is : p ≡ paramsOf h) (answer : FrameAnswer) (b′ : Buffers)
+    (f : Found p pixels (h .width) (h .height) programBuffers answer b′) where
+  answered : (a : FrameAnswer) → answer ≡ a → Found (paramsOf h) pixels (h .width) (h .height) programBuffers a b′
+  answered a e = rw (← is, ← e) f
+
+  -- its corners, which are at most 512
+  module _ (n : ℕ) (e : answer ≡ Corners n) where
+    finished : Finished (paramsOf h) pixels (h .width) (h .height) programBuffers n b′
+    finished = finished-tells _ _ _ _ _ n b′ (answered (Corners n) e)
+
+    pub corners-few : n ≤ 512
+    corners-few = omega (arith, finished .fits)
+
+    pub corners-written : (before : List ℕ) (end : ℕ) (after : List ℕ) → Written (cornersText (cornersOf (b′ .corners) n)) before end after → Written (frameText h pixels) before end after
+    unfolding frameText
+    corners-written before end after w = rw (finished .number, ← finished .corners) w
+
+  -- or the refusal
+  pub refusal-written : (n : ℕ) → answer ≡ Refused n → (before : List ℕ) (end : ℕ) (after : List ℕ) → RefusalWritten n before end after → Written (frameText h pixels) before end after
+  unfolding frameText
+  refusal-written n e before end after w =
+      rw (refused-tells _ _ _ _ _ n b′ (answered (Refused n) e)) (of n (refusal-positive _ _ _ _ _ n b′ (answered (Refused n) e)) w)
+    where
+      of : (k : ℕ) → (k ≡ 0 → ⊥) → RefusalWritten k before end after
+          → Written (textOf k (framePass (paramsOf h) pixels (h .width) (h .height) (computedChoice (paramsOf h)) .corners)) before end after
+      of zero z w = absurd (z refl)
+      of (suc k) z w = record { ends = w .long; holds = w .text }
+
+-- ---- the text of a stream
+module _ (input buffer : List ℕ) (answer : FrameStream) (after : List ℕ) (r : FrameRead input buffer answer after) where
+  module _ (h : Header) (e : answer ≡ stream.Frame h) where
+    pub found-frame : FrameFound input buffer h after
+    found-frame = frame-found input buffer h after (subst (λ (a : FrameStream). FrameRead input buffer a after) e r)
+
+    -- the buffer is as long as it was
+    pub pixels-long : length buffer ≡ 9216 → length after ≡ 9216
+    pixels-long l =
+        let n = h .width * h .height in
+        ap length (found-frame .buffer-is) ∙ front-length (take n after) buffer (omega (arith, l, found-frame .fits, length-take n after)) ∙ l
+
+    pub frame-listed : (before : List ℕ) (end : ℕ) (out : List ℕ) → Written (frameText h (take (h .width * h .height) after)) before end out → Written (outputOf input) before end out
+    unfolding outputOf
+    frame-listed before end out w = rw (found-frame .reading) w
+
+  pub refusal-listed : (n : ℕ) → answer ≡ stream.Refused n → (before : List ℕ) (end : ℕ) (out : List ℕ) → RefusalWritten n before end out → Written (outputOf input) before end out
+  unfolding outputOf
+  refusal-listed n e before end out w =
+      rw (refusal-found input buffer n after (subst (λ (a : FrameStream). FrameRead input buffer a after) e r) .0) (record { ends = w .long; holds = w .text })

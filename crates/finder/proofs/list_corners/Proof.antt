@@ -1,0 +1,31 @@
+-- `finder::list_corners` meets its contract, by the laws of `Texts`. Assumes nothing.
+use borrow.Author.Needs.{needs}
+use Rattle.finder.proofs.Texts.{list-text, list-written}
+use Rattle.finder.proofs.list_corners.Statement.{statement}
+use Rattle.finder.proofs.list_corners.Tie as tie
+
+-- from one place of the code back to another
+abbrev at-start : tie.After-enum-told → tie.Start
+at-start c = c .before .before .before .before
+
+abbrev at-write-corners : tie.After-known-told → tie.After-write-corners
+at-write-corners c = c .before .before .before
+
+write-corners-requires : tie.Need-write-corners-requires
+write-corners-requires c κs = search needs
+
+enum-known-listed : tie.Need-enum-known-listed
+enum-known-listed c = search needs
+
+enum-told : tie.Need-enum-told
+enum-told c = search needs
+
+returns : tie.Need-returns
+returns c = absurd (list-written _ _ _ _ _ (c .before .before .write-corners .ensures) (at-start c .pre) _ (c .enum-told .given .1))
+
+returns-2 : tie.Need-returns-2
+returns-2 c = list-text _ _ _ _ _ (at-write-corners c .write-corners .ensures) _ (c .before .listed .given .1)
+
+pub list-corners-spec : {M : Type 1} → statement M
+list-corners-spec =
+    tie.close (tie.spec write-corners-requires enum-known-listed enum-told returns returns-2)

@@ -1,0 +1,63 @@
+-- The program `corners` as a function from its input bytes to its output bytes: reader, frame pass and listing composed.
+use Prim.Native.Nat.{ℕ, zero, suc}
+use mathlib.Core.Path.{_≡_}
+use mathlib.Core.List.{List}
+use lib.ListN.{length, replicate}
+use lib.Ieee.{binary32, ofBits}
+use Rattle.lists.specs.Buffer.{front}
+use Rattle.float32.specs.Float32 as float32
+use Rattle.corner_list.specs.CornerList.{Slices, slices}
+use Rattle.corner_list.specs.declared.Corner.{Corner}
+use Rattle.frame_pass.specs.declared.FrameParams.{FrameParams}
+use Rattle.frame_pass.specs.Pass.{framePass, computedChoice}
+use Rattle.frame.specs.Frame.{Buffers, buffers, refusalOf}
+use Rattle.stream.specs.declared.Header.{Header}
+use Rattle.stream.specs.Stream.{Reading, accepted, refused, readFrame}
+use Rattle.listing.specs.Text.{cornersText, refusedText}
+
+-- the parameters that a header states; the floats are those of its bits, and every NaN pattern is the one NaN
+abbrev pub paramsOf : Header → FrameParams
+paramsOf h =
+    record {
+      ring = h .ring;
+      threshold = ofBits binary32 (h .«threshold_bits»);
+      window = h .window;
+      least = h .least;
+      centroid = h .centroid;
+      radius = ofBits binary32 (h .«merge_bits»);
+      levels = h .levels;
+      minimum = h .minimum;
+      search = h .search;
+    }
+
+-- "`corners` has 512 places for seeds and 512 for corners"; 9,216 map cells and 3,072 level pixels are enough for 96 by 96
+abbrev pub places512 : Slices
+places512 = slices (replicate 512 float32.zero) (replicate 512 float32.zero) (replicate 512 float32.zero)
+
+abbrev pub programBuffers : Buffers
+programBuffers = buffers (replicate 9216 float32.zero) (replicate 3072 0) places512 places512
+
+-- the text for a refusal's number, 0 for none, and the corners
+abbrev pub textOf : ℕ → List Corner → List ℕ
+textOf zero cs = cornersText cs
+textOf (suc n) cs = refusedText (suc n)
+
+-- the listing of a frame
+unfoldable pub frameText : Header → List ℕ → List ℕ
+frameText h pixels =
+    let p = paramsOf h in
+    textOf (refusalOf p pixels (h .width) (h .height) programBuffers) (framePass p pixels (h .width) (h .height) (computedChoice p) .corners)
+
+-- and of what was read
+abbrev pub readingText : Reading → List ℕ
+readingText (accepted h pixels) = frameText h pixels
+readingText (refused n) = refusedText n
+
+-- what `corners` prints for its input
+unfoldable pub outputOf : List ℕ → List ℕ
+outputOf input = readingText (readFrame input)
+
+-- the promise: the text stands first in the buffer, which is as it was behind it, and its length is returned
+pub record Written (text buffer : List ℕ) (end : ℕ) (after : List ℕ) : Type 0 where
+  pub ends : end ≡ length text
+  pub holds : after ≡ front text buffer

@@ -1,0 +1,95 @@
+// From the bytes of a frame stream to the bytes of its listing: reader, frame pass and listing, one after the other.
+use frame::FrameAnswer;
+use frame_pass::FrameParams;
+use listing::LONGEST;
+use listing::Listing;
+use stream::FrameStream;
+use stream::Header;
+ghost use mathlib.Core.Path.{_≡_};
+ghost use Prim.Native.Nat.{_≤_};
+ghost use Rattle.corner_list.specs.CornerList.{slices, cornersOf};
+ghost use Rattle.listing.specs.Text.{cornersText};
+ghost use Rattle.finder.specs.Finder.{paramsOf, frameText, outputOf, Written};
+
+// The parameters that a header states.
+fn params_of(header: Header) -> FrameParams
+    ensures { λ r. ⌜ r ≡ paramsOf header ⌝ }
+{
+    FrameParams {
+        ring: header.ring,
+        threshold: float32::from_bits(header.threshold_bits),
+        window: header.window,
+        least: header.least,
+        centroid: header.centroid,
+        radius: float32::from_bits(header.merge_bits),
+        levels: header.levels,
+        minimum: header.minimum,
+        search: header.search,
+    }
+}
+
+// Writes the text of the first `count` corners of a buffer.
+fn list_corners(
+    xs: &[f32; 512],
+    ys: &[f32; 512],
+    strengths: &[f32; 512],
+    count: usize,
+    out: &mut [u8; LONGEST],
+) -> usize
+    requires { ⌜ count ≤ 512 ⌝ }
+    ensures { λ r. ⌜ Written (cornersText (cornersOf (slices (now (xs .entry)) (now (ys .entry)) (now (strengths .entry))) count)) (now (out .entry)) r (now (out .exit)) ⌝ }
+{
+    let listed = listing::write_corners(xs, ys, strengths, count, out);
+    let Listing::Text(end) = listed else {
+        return 0;
+    };
+    end
+}
+
+// Writes the text of a frame whose pixels are given: its corners, or the refusal.
+fn list_frame(pixels: &[u8], header: Header, out: &mut [u8; LONGEST]) -> usize
+    ensures { λ r. ⌜ Written (frameText header (now (pixels .entry))) (now (out .entry)) r (now (out .exit)) ⌝ }
+{
+    let mut map = [0.0f32; 9216];
+    let mut levels = [0u8; 3072];
+    let mut sx = [0.0f32; 512];
+    let mut sy = [0.0f32; 512];
+    let mut ss = [0.0f32; 512];
+    let mut cx = [0.0f32; 512];
+    let mut cy = [0.0f32; 512];
+    let mut cs = [0.0f32; 512];
+    let answer = frame::find_corners(
+        pixels,
+        header.width,
+        header.height,
+        params_of(header),
+        &mut map,
+        &mut levels,
+        &mut sx,
+        &mut sy,
+        &mut ss,
+        &mut cx,
+        &mut cy,
+        &mut cs,
+    );
+    match answer {
+        FrameAnswer::Corners(count) => list_corners(&cx, &cy, &cs, count, out),
+        FrameAnswer::Refused(number) => listing::write_refusal(number, out),
+    }
+}
+
+// Writes the listing of a frame stream first in a buffer, and returns how long it is.
+pub fn find(input: &[u8], out: &mut [u8; LONGEST]) -> usize
+    ensures { λ r. ⌜ Written (outputOf (now (input .entry))) (now (out .entry)) r (now (out .exit)) ⌝ }
+{
+    let mut pixels = [0u8; 9216];
+    let read = stream::read_frame(input, &mut pixels);
+    match read {
+        FrameStream::Frame(header) => list_frame(
+            &pixels[..header.width * header.height],
+            header,
+            out,
+        ),
+        FrameStream::Refused(number) => listing::write_refusal(number, out),
+    }
+}
