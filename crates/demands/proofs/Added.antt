@@ -1,10 +1,9 @@
 -- What a call of peak finding that added corners left: the names of the computed peaks, and so those of any others exactly when they are
 -- the same. Assumes nothing.
 use Prim.Native.Nat.{ℕ, _<_}
-use native.Mathlib.Nat.{eq-zero-or-pos}
 use native.Mathlib.Omega.{arith}
 use mathlib.Core.Path.{_≡_, refl, sym, ap, _∙_}
-use mathlib.Core.Logic.{_↔_, ⊎-elim}
+use mathlib.Core.Logic.{_↔_}
 use mathlib.Core.Bool.{Bool}
 use mathlib.Core.List.{List, map, map-map}
 use lib.ListN.{length}
@@ -12,22 +11,23 @@ use lib.Ieee.{Float}
 use Rattle.lists.specs.Places.{All}
 use Rattle.lists.specs.Refusals.{lowest}
 use Rattle.lists.proofs.Members.{all-map}
-use Rattle.corner_list.specs.CornerList.{Slices, placesOf}
+use Rattle.corner_list.specs.CornerList.{Slices}
 use Rattle.corner_list.specs.declared.Corner.{Corner}
 use Rattle.corner_list.proofs.Placed.{corners-placed}
 use Rattle.detect.specs.declared.Peaks.the-variants.{Added}
 use Rattle.detect.specs.Peaks.{Reading}
-use Rattle.detect.specs.Detect.{readIn, peaksIn, peaksBy, startAt, startsIn, conditions, Found}
+use Rattle.detect.specs.Detect.{readIn, peaksIn, peaksBy, startAt, startsIn, conditions, refusalOf, Found}
 use Rattle.detect.proofs.Choice.{peaks-in-map}
-use Rattle.detect.proofs.Answers.{Clear, Fitted, clear, sound, refusal-input, added-tells}
+use Rattle.detect.proofs.Answers.{Clear, Fitted, clear, sound, added-tells}
 use Rattle.demands.specs.Calls.{PeakCall, searchIn}
 use Rattle.demands.specs.PeaksAlike.{programList, position, nameOf}
+use Rattle.demands.proofs.Tables.{lowest-before}
 use Rattle.demands.proofs.Names.{Small, names-only}
 
 -- where corners were added, no condition on the input holds
 unrefused : (conds : List (Bool × ℕ)) (cs : List Corner) (held : ℕ) (b : Slices) (n : ℕ) (b′ : Slices) → Found conds cs held b (Added n) b′ → lowest conds ≡ 0
-unrefused conds cs held b n b′ f =
-    ⊎-elim (λ z. z) (λ l. sym (f .number ∙ refusal-input (placesOf b) held (length cs) conds (λ z. let no : ⊥ = omega arith in no))) (eq-zero-or-pos (lowest conds))
+unfolding refusalOf
+unrefused conds cs held b n b′ f = lowest-before conds _ (sym (f .number))
 
 module _ (m : List Float) (w h : ℕ) (p : PeakCall m w h) where
   no-fault : Clear (conditions (length m) w h (p .ring) (p .window) (p .radius))

@@ -3,3 +3,4 @@ pub mod Calls
 pub mod ResponseAccurate
 pub mod ResponsesOrdered
 pub mod PeaksAlike
+pub mod FrameExact
