@@ -2,7 +2,8 @@
 use mathlib.Core.Path.{_≡_, refl, sym, ap, _∙_}
 use mathlib.Core.Bool.{Bool, true, false, cond}
 use mathlib.Core.List.{List}
-use Prim.Native.Nat.{ℕ, zero, suc}
+use Prim.Native.Nat.{ℕ, zero, suc, _<_}
+use native.Mathlib.Omega.{arith}
 use lib.ListN.{length}
 use lib.Ieee.{Float, binary32, div, lt}
 use Rattle.float32.specs.Float32.{zero as zero32}
@@ -10,35 +11,55 @@ use Rattle.center_of_mass.specs.declared.Sums.{Sums}
 use Rattle.center_of_mass.specs.declared.Centre.{Centre}
 use Rattle.center_of_mass.specs.declared.Centre.the-variants.{At, Outside}
 use Rattle.center_of_mass.specs.declared.Outcome.{Outcome}
-use Rattle.center_of_mass.specs.declared.Outcome.the-variants.{Accepted, Rejected, IllConditioned, Refused}
+use Rattle.center_of_mass.specs.declared.Outcome.the-variants.{Accepted, Rejected, OutOfBounds, IllConditioned, Refused}
 use Rattle.center_of_mass.specs.CenterOfMass.{windowSums, refusal, centreOn, meanOf, weighed, outcomeOf, unless, refined, numberOf}
 use Rattle.center_of_mass.specs.Promise.{Refined}
 
--- ---- the number of an outcome that is not refused is 0
-mean-number : (x y : Float) (s : Sums) → numberOf (meanOf x y s) ≡ 0
-mean-number x y s = go (lt zero32 (s .sw))
-  where
-    go : (b : Bool) → numberOf (cond b (Accepted (div binary32 (s .sx) (s .sw)) (div binary32 (s .sy) (s .sw)) (s .sw)) (IllConditioned x y)) ≡ 0
-    go true = refl
-    go false = refl
+-- ---- an outcome that is no refusal, whose number is 0
+abbrev Unrefused : Outcome → Type 0
+Unrefused o = (k : ℕ) → o ≡ Refused k → ⊥
 
-weighed-number : (r : ℕ) (x y : Float) (m : List Float) (w : ℕ) (a b : Centre) → numberOf (weighed r x y m w a b) ≡ 0
-weighed-number r x y m w (At cx) (At cy) = mean-number x y (windowSums r m w cx cy)
-weighed-number r x y m w (At cx) Outside = refl
-weighed-number r x y m w Outside b = refl
+number-none : (o : Outcome) → Unrefused o → numberOf o ≡ 0
+number-none (Accepted x y mass) u = refl
+number-none (Rejected x y) u = refl
+number-none (OutOfBounds x y) u = refl
+number-none (IllConditioned x y) u = refl
+number-none (Refused n) u = absurd (u n refl)
+
+mean-unrefused : (x y : Float) (s : Sums) → Unrefused (meanOf x y s)
+mean-unrefused x y s = go (lt zero32 (s .sw))
+  where
+    go : (b : Bool) → Unrefused (cond b (Accepted (div binary32 (s .sx) (s .sw)) (div binary32 (s .sy) (s .sw)) (s .sw)) (IllConditioned x y))
+    go true k e = let z : _≡_ {A = ℕ} 0 1 = cc in omega arith
+    go false k e = let z : _≡_ {A = ℕ} 0 1 = cc in omega arith
+
+weighed-unrefused : (r : ℕ) (x y : Float) (m : List Float) (w : ℕ) (a b : Centre) → Unrefused (weighed r x y m w a b)
+weighed-unrefused r x y m w (At cx) (At cy) k e = mean-unrefused x y (windowSums r m w cx cy) k e
+weighed-unrefused r x y m w (At cx) Outside k e = let z : _≡_ {A = ℕ} 0 1 = cc in omega arith
+weighed-unrefused r x y m w Outside b k e = let z : _≡_ {A = ℕ} 0 1 = cc in omega arith
 
 module _ (r : ℕ) (x y : Float) (hasMap : Bool) (m : List Float) (w h : ℕ) where
-  number-is : numberOf (refined r x y hasMap m w h) ≡ refusal r x y hasMap (length m) w h
-  unfolding refined outcomeOf
-  number-is = numbered (refusal r x y hasMap (length m) w h) _ (outcome hasMap)
-    where
-      outcome : (b : Bool) → numberOf (cond b (outcomeOf r x y m w h) (Rejected x y)) ≡ 0
-      outcome true = weighed-number r x y m w (centreOn r w x) (centreOn r h y)
-      outcome false = refl
+  outcome-unrefused : (b : Bool) → Unrefused (cond b (outcomeOf r x y m w h) (Rejected x y))
+  unfolding outcomeOf
+  outcome-unrefused true k e = weighed-unrefused r x y m w (centreOn r w x) (centreOn r h y) k e
+  outcome-unrefused false k e = let z : _≡_ {A = ℕ} 0 1 = cc in omega arith
 
-      numbered : (k : ℕ) (o : Outcome) → numberOf o ≡ 0 → numberOf (unless k o) ≡ k
-      numbered zero o e = e
-      numbered (suc k) o e = refl
+  number-is : numberOf (refined r x y hasMap m w h) ≡ refusal r x y hasMap (length m) w h
+  unfolding refined
+  number-is = numbered (refusal r x y hasMap (length m) w h) _ (outcome-unrefused hasMap)
+    where
+      numbered : (k : ℕ) (o : Outcome) → Unrefused o → numberOf (unless k o) ≡ k
+      numbered zero o u = number-none o u
+      numbered (suc k) o u = refl
+
+  -- a refusal has a number
+  pub refused-numbered : (n : ℕ) → refined r x y hasMap m w h ≡ Refused n → 0 < n
+  unfolding refined
+  refused-numbered n e = go (refusal r x y hasMap (length m) w h) e
+    where
+      go : (k : ℕ) → unless k (cond hasMap (outcomeOf r x y m w h) (Rejected x y)) ≡ Refused n → 0 < n
+      go zero e = absurd (outcome-unrefused hasMap n e)
+      go (suc k) e = let z : suc k ≡ n = cc in omega arith
 
   promised : (o : Outcome) → o ≡ refined r x y hasMap m w h → Refined r x y hasMap m w h o
   promised o e = record { outcome = e; number = ap numberOf e ∙ number-is }

@@ -32,6 +32,12 @@ bounds-are (Ends a b) (Ends c d) x0 y0 x1 y1 e = ((cc), (cc))
 bounds-are (Ends a b) Nothing x0 y0 x1 y1 e = absurd (let z : _≡_ {A = ℕ} 0 1 = cc in omega arith)
 bounds-are Nothing t x0 y0 x1 y1 e = absurd (let z : _≡_ {A = ℕ} 0 1 = cc in omega arith)
 
+-- the ends of two axes are no refusal
+bounds-unrefused : (s t : Span) (n : ℕ) → bounds s t ≡ Refused n → ⊥
+bounds-unrefused (Ends x0 x1) (Ends y0 y1) n e = let z : _≡_ {A = ℕ} 0 1 = cc in omega arith
+bounds-unrefused (Ends x0 x1) Nothing n e = let z : _≡_ {A = ℕ} 0 1 = cc in omega arith
+bounds-unrefused Nothing t n e = let z : _≡_ {A = ℕ} 0 1 = cc in omega arith
+
 -- ---- a box
 module _ (c : RoiContext) (s : Corner) where
   module _ (x0 y0 x1 y1 : ℕ) (e : roiOf c s ≡ Bounds x0 y0 x1 y1) where
@@ -56,9 +62,13 @@ module _ (c : RoiContext) (s : Corner) where
     answered = rw (never-refused c s k i)
 
     pub not-refused : (n : ℕ) → roiOf c s ≡ Refused n → ⊥
-    not-refused n e = go (spanOn c (c .width) (s .x)) (spanOn c (c .height) (s .y)) (sym answered ∙ e)
-      where
-        go : (s t : Span) → bounds s t ≡ Refused n → ⊥
-        go (Ends x0 x1) (Ends y0 y1) e = let z : _≡_ {A = ℕ} 0 1 = cc in omega arith
-        go (Ends x0 x1) Nothing e = let z : _≡_ {A = ℕ} 0 1 = cc in omega arith
-        go Nothing t e = let z : _≡_ {A = ℕ} 0 1 = cc in omega arith
+    not-refused n e = bounds-unrefused (spanOn c (c .width) (s .x)) (spanOn c (c .height) (s .y)) n (sym answered ∙ e)
+
+  -- a refusal has a number
+  pub refused-numbered : (n : ℕ) → roiOf c s ≡ Refused n → 0 < n
+  unfolding roiOf
+  refused-numbered n e = go (refusal c s) e
+    where
+      go : (k : ℕ) → unless k (bounds (spanOn c (c .width) (s .x)) (spanOn c (c .height) (s .y))) ≡ Refused n → 0 < n
+      go zero e = absurd (bounds-unrefused (spanOn c (c .width) (s .x)) (spanOn c (c .height) (s .y)) n e)
+      go (suc k) e = let z : suc k ≡ n = cc in omega arith
