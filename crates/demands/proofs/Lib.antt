@@ -6,3 +6,5 @@ pub mod Names
 pub mod Added
 pub mod PeaksAlike
 pub mod FrameExact
+pub mod Faults
+pub mod Total

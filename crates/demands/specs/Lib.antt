@@ -4,3 +4,4 @@ pub mod ResponseAccurate
 pub mod ResponsesOrdered
 pub mod PeaksAlike
 pub mod FrameExact
+pub mod Total

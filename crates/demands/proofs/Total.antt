@@ -1,0 +1,147 @@
+-- Each answer is by its table's number, and a table gives 0 or one of its numbers. Assumes nothing.
+use Prim.Native.Nat.{ℕ, _+_, _*_, min}
+use native.Mathlib.Omega.{arith}
+use mathlib.Core.Path.{_≡_, refl, sym, ap, _∙_}
+use mathlib.Core.Logic.{inl}
+use mathlib.Core.Bool.{Bool, true, false, cond, not, _&&_, _||_}
+use mathlib.Core.List.{List, [], _∷_, _++_}
+use lib.ListN.{length, take}
+use lib.Dec.{ltb, eqb}
+use lib.Ieee.{Float}
+use Rattle.lists.specs.Places.{any}
+use Rattle.response.specs.declared.Patch.{Patch}
+use Rattle.response.specs.declared.Patch.the-variants as patch
+use Rattle.response.specs.Patch as response
+use Rattle.pyramid.specs.declared.Pyramid.{Pyramid}
+use Rattle.pyramid.specs.declared.Pyramid.the-variants as built
+use Rattle.pyramid.specs.declared.LevelAnswer.{LevelAnswer}
+use Rattle.pyramid.specs.declared.LevelAnswer.the-variants as level
+use Rattle.pyramid.specs.Pyramid.{levelCount}
+use Rattle.pyramid.specs.Refusals.{isLarge, isMisfit, isAbsent, isShort, buildRefusal, levelRefusal}
+use Rattle.pyramid.specs.Build as build
+use Rattle.pyramid.specs.Level as lookup
+use Rattle.corner_list.specs.declared.Corner.{Corner}
+use Rattle.corner_list.specs.CornerList.{Slices, isInside, placesOf, cornersOf}
+use Rattle.detect.specs.declared.Peaks.{Peaks}
+use Rattle.detect.specs.declared.Peaks.the-variants as peaks
+use Rattle.detect.specs.Detect as detect
+use Rattle.center_of_mass.specs.declared.Outcome.{Outcome}
+use Rattle.center_of_mass.specs.declared.Outcome.the-variants as outcome
+use Rattle.center_of_mass.specs.CenterOfMass as center
+use Rattle.center_of_mass.specs.Promise.{Refined}
+use Rattle.center_of_mass.proofs.Promised.{refused-numbered}
+use Rattle.multiscale.specs.declared.RoiContext.{RoiContext}
+use Rattle.multiscale.specs.declared.RoiAnswer.{RoiAnswer}
+use Rattle.multiscale.specs.declared.RoiAnswer.the-variants as roi
+use Rattle.multiscale.specs.Multiscale as multiscale
+use Rattle.multiscale.specs.Promise.{Boxed}
+use Rattle.multiscale.proofs.Box as box
+use Rattle.merge.specs.declared.Merged.{Merged}
+use Rattle.merge.specs.declared.Merged.the-variants as merged
+use Rattle.merge.specs.Merge as merge
+use Rattle.merge_slice.specs.MergeSlice.{columns, sharedPlaces}
+use Rattle.frame_pass.specs.declared.FrameParams.{FrameParams}
+use Rattle.frame_pass.specs.Pass.{framePass, computedChoice}
+use Rattle.frame.specs.declared.FrameAnswer.{FrameAnswer}
+use Rattle.frame.specs.declared.FrameAnswer.the-variants as answer
+use Rattle.frame.specs.Frame as frame
+use Rattle.stream.specs.declared.FrameStream.{FrameStream}
+use Rattle.stream.specs.Answer.{readingOf, FrameRead}
+use Rattle.stream.specs.declared.FrameStream.the-variants as stream
+use Rattle.listing.specs.declared.Listing.{Listing}
+use Rattle.listing.specs.declared.Listing.the-variants as listed
+use Rattle.listing.specs.Text.{cornersText}
+use Rattle.listing.specs.Answer as listing
+use Rattle.demands.specs.Calls.{viewOf}
+use Rattle.demands.specs.Total.{OneOf, Refuses, Total}
+use Rattle.demands.proofs.Tables.{numbered-one, refused-one}
+use Rattle.demands.proofs.Faults.{frame-few}
+
+response-refuses : (v : response.View) (radius : ℕ) (d e : List Float) (r : Patch) → response.Patched v radius d e r → Refuses patch.Refused (1 ∷ 2 ∷ 3 ∷ 8 ∷ []) r
+unfolding response.refusalOf
+response-refuses v radius d e r f =
+    refused-one patch.Refused (response.answerOf v) (λ k q. let z : _≡_ {A = ℕ} 0 1 = cc in omega arith) (λ n k q. sym (ap response.numberOf q))
+    ((ltb 4096 (v .w) || ltb 4096 (v .h), 1)
+    ∷ (not (eqb (length (v .img)) (v .w * v .h)), 2)
+    ∷ (not (response.isRing radius), 3)
+    ∷ (ltb (length d) (response.rows v * response.cols v), 8)
+    ∷ [])
+    r (f .answer)
+
+build-refuses : (base : List ℕ) (w h count least : ℕ) (d e : List ℕ) (r : Pyramid) → build.Built base w h count least d r e → Refuses built.Refused (1 ∷ 2 ∷ 9 ∷ []) r
+unfolding buildRefusal
+build-refuses base w h count least d e r f =
+    refused-one built.Refused (build.answerOf (levelCount w h count least)) (λ k q. let z : _≡_ {A = ℕ} 0 1 = cc in omega arith) (λ n k q. sym (ap build.numberOf q))
+    ((isLarge w h, 1) ∷ (isMisfit (length base) w h, 2) ∷ (isShort (length d) w h count least, 9) ∷ []) r (f .answer)
+
+level-refuses : (pixels places w h count least k : ℕ) (r : LevelAnswer) → r ≡ lookup.levelAnswer pixels places w h count least k → Refuses level.Refused (1 ∷ 2 ∷ 3 ∷ 9 ∷ []) r
+unfolding lookup.levelAnswer levelRefusal
+level-refuses pixels places w h count least k r f =
+    refused-one level.Refused (lookup.answerOf w h k) (λ k q. let z : _≡_ {A = ℕ} 0 1 = cc in omega arith) (λ n k q. sym (ap lookup.numberOf q))
+    ((isLarge w h, 1) ∷ (isMisfit pixels w h, 2) ∷ (isAbsent w h count least k, 3) ∷ (isShort places w h count least, 9) ∷ []) r f
+
+peaks-refuse : (size w h ring window radius : ℕ) (cs : List Corner) (held : ℕ) (b b′ : Slices) (r : Peaks)
+    → detect.Found (detect.conditions size w h ring window radius) cs held b r b′ → Refuses peaks.Refused (1 ∷ 2 ∷ 3 ∷ 10 ∷ []) r
+unfolding detect.refusalOf detect.conditions
+peaks-refuse size w h ring window radius cs held b b′ r f =
+    refused-one peaks.Refused (λ n. detect.answerOf n (length cs)) (λ k q. let z : _≡_ {A = ℕ} 0 1 = cc in omega arith) (λ n k q. sym (ap detect.numberOf q))
+    (detect.conditions size w h ring window radius ++ ((ltb (placesOf b) (held + length cs), 10) ∷ [])) r (f .answered)
+
+refine-refuses : (radius : ℕ) (x y : Float) (hasMap : Bool) (m : List Float) (w h : ℕ) (r : Outcome) → Refined radius x y hasMap m w h r
+    → Refuses outcome.Refused (1 ∷ 2 ∷ 3 ∷ 4 ∷ []) r
+unfolding center.refusal
+refine-refuses radius x y hasMap m w h r f k e =
+    numbered-one (center.conditions radius x y hasMap (length m) w h) k (sym (ap center.numberOf e) ∙ f .number)
+    (refused-numbered radius x y hasMap m w h k (sym (f .outcome) ∙ e))
+
+roi-refuses : (c : RoiContext) (s : Corner) (r : RoiAnswer) → Boxed c s r → Refuses roi.Refused (1 ∷ 3 ∷ 4 ∷ []) r
+unfolding multiscale.refusal
+roi-refuses c s r f k e = numbered-one (multiscale.conditions c s) k (sym (ap multiscale.numberOf e) ∙ f .number) (box.refused-numbered c s k (sym (f .answer) ∙ e))
+
+-- the three merge entries
+merge-refuses : (radius : Float) (places count : ℕ) (b : Slices) (n : ℕ) (r : Merged) → r ≡ merge.answerOf (merge.refusalOf radius places count b) n
+    → Refuses merged.Refused (4 ∷ 5 ∷ 10 ∷ []) r
+unfolding merge.refusalOf
+merge-refuses radius places count b n r f =
+    refused-one merged.Refused (λ k. merge.answerOf k n) (λ k q. let z : _≡_ {A = ℕ} 0 1 = cc in omega arith) (λ n k q. cc)
+    ((not (merge.isOff radius) && any (λ c. not (isInside c)) (cornersOf b (min count places)), 4)
+    ∷ (not (merge.isOff radius) && not (merge.isSized radius), 5)
+    ∷ (ltb places count, 10)
+    ∷ [])
+    r f
+
+frame-refuses : (p : FrameParams) (img : List ℕ) (w h : ℕ) (b b′ : frame.Buffers) (r : FrameAnswer) → frame.Found p img w h b r b′
+    → Refuses answer.Refused (1 ∷ 2 ∷ 3 ∷ 5 ∷ 8 ∷ 9 ∷ 10 ∷ []) r
+unfolding frame.frameOf frame.refusalOf frame.conditions
+frame-refuses p img w h b b′ r f =
+    let q = framePass p img w h (computedChoice p) in
+    refused-one answer.Refused (λ n. frame.answerOf n (length (q .corners))) (λ k e. let z : _≡_ {A = ℕ} 0 1 = cc in omega arith) (λ n k e. sym (ap frame.numberOf e))
+    (frame.conditions p (length img) w h (length (b .map)) (length (b .levels)) ++ ((frame.tooMany q b, 10) ∷ []))
+    r (ap (λ (z : frame.Frame). z .answer) (f .is))
+
+stream-refuses : (input pixels pixels′ : List ℕ) (r : FrameStream) → FrameRead input pixels r pixels′ → Refuses stream.Refused (1 ∷ 3 ∷ 5 ∷ 6 ∷ 7 ∷ 11 ∷ []) r
+stream-refuses input pixels pixels′ r f k e = frame-few input k (sym (f .reading) ∙ ap (λ (a : FrameStream). readingOf a pixels′) e)
+
+listing-refuses : (b : Slices) (count : ℕ) (out out′ : List ℕ) (r : Listing) → listing.CornersWritten b count out r out′ → Refuses listed.Refused (10 ∷ []) r
+unfolding listing.listing
+listing-refuses b count out out′ r f k e = go (ltb 512 count) (sym (f .answer) ∙ e)
+  where
+    go : (t : Bool) → listing.answerOf (cond t (listing.refused 10) (listing.written (cornersText (cornersOf b count)))) ≡ listed.Refused k → OneOf k (10 ∷ [])
+    go true e = inl cc
+    go false e = absurd (let z : _≡_ {A = ℕ} 0 1 = cc in omega arith)
+
+pub total : Total
+total = record {
+  «chess_response_u8_patch» = λ img w h ring x0 y0 x1 y1 d e r f. response-refuses (viewOf img w h ring x0 y0 x1 y1) ring d e r f;
+  «build_pyramid» = build-refuses;
+  «level_at» = level-refuses;
+  «detect_peaks_from_response_with_refine_radius» = λ m w h ring t window least radius b b′ held r f. peaks-refuse (length m) w h ring window radius _ held b b′ r f;
+  refine = refine-refuses;
+  «compute_roi» = roi-refuses;
+  «merge_corners_simple» = λ radius count b b′ r f. merge-refuses radius (placesOf b) count b _ r (f .answered);
+  «merge_within» = λ radius places count b b′ r f. merge-refuses radius (min places (placesOf b)) count b _ r (f .answered);
+  «merge_corner_slice» = λ radius count cs cs′ b b′ r f. merge-refuses radius (sharedPlaces cs b) count (columns cs) _ r (f .answered);
+  «find_corners» = frame-refuses;
+  «read_frame» = stream-refuses;
+  «write_corners» = listing-refuses;
+}

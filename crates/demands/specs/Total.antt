@@ -1,0 +1,92 @@
+-- Demand 1: "A frame handed in, with sides, pixels and parameters of any kind, comes back as a finished corner list or as one of eleven
+-- numbered refusals. The conditions of each number are fixed, and so is what every lent room holds afterwards."
+-- Every call of a public function ends, and asks nothing of its caller; its promise has the answer and every buffer afterwards by equations.
+-- Here stand the promises of the functions that refuse, word for word, and the numbers that each can give: 0, which the definitions use for
+-- "none", is no refusal's. Which condition has which number, lowest first, is in the tables that the promises name. No other public function
+-- refuses, and each of these promises one equation over its arguments:
+--   ring            ring_offsets
+--   float32         abs, is_finite, lifted, is_between, from_bits, to_bits, cut_off, round_half_away
+--   corner_list     is_inside, corner_at, put_corner, places
+--   pyramid         level_count, cells_above, level (nothing where `level_at` refuses)
+--   merge           is_off, is_sized
+--   listing         write_refusal (one for its answer, one for its buffer)
+use Prim.Native.Nat.{ℕ, min}
+use mathlib.Core.Path.{_≡_}
+use mathlib.Core.Logic.{_⊎_}
+use mathlib.Core.Bool.{Bool}
+use mathlib.Core.List.{List, [], _∷_}
+use lib.ListN.{length}
+use lib.Ieee.{Float}
+use Rattle.response.specs.declared.Patch.{Patch}
+use Rattle.response.specs.declared.Patch.the-variants as response
+use Rattle.response.specs.Patch.{Patched}
+use Rattle.pyramid.specs.declared.Pyramid.{Pyramid}
+use Rattle.pyramid.specs.declared.Pyramid.the-variants as pyramid
+use Rattle.pyramid.specs.declared.LevelAnswer.{LevelAnswer}
+use Rattle.pyramid.specs.declared.LevelAnswer.the-variants as levels
+use Rattle.pyramid.specs.Build.{Built}
+use Rattle.pyramid.specs.Level.{levelAnswer}
+use Rattle.corner_list.specs.declared.Corner.{Corner}
+use Rattle.corner_list.specs.CornerList.{Slices, placesOf}
+use Rattle.detect.specs.declared.Peaks.{Peaks}
+use Rattle.detect.specs.declared.Peaks.the-variants as peaks
+use Rattle.detect.specs.Detect as detect
+use Rattle.center_of_mass.specs.declared.Outcome.{Outcome}
+use Rattle.center_of_mass.specs.declared.Outcome.the-variants as outcome
+use Rattle.center_of_mass.specs.Promise.{Refined}
+use Rattle.multiscale.specs.declared.RoiContext.{RoiContext}
+use Rattle.multiscale.specs.declared.RoiAnswer.{RoiAnswer}
+use Rattle.multiscale.specs.declared.RoiAnswer.the-variants as roi
+use Rattle.multiscale.specs.Promise.{Boxed}
+use Rattle.merge.specs.declared.Merged.{Merged}
+use Rattle.merge.specs.declared.Merged.the-variants as merge
+use Rattle.merge.specs.Merge.{Merges}
+use Rattle.merge_slice.specs.MergeSlice.{MergesSlice}
+use Rattle.frame_pass.specs.declared.FrameParams.{FrameParams}
+use Rattle.frame.specs.declared.FrameAnswer.{FrameAnswer}
+use Rattle.frame.specs.declared.FrameAnswer.the-variants as frame
+use Rattle.frame.specs.Frame.{Buffers, Found}
+use Rattle.stream.specs.declared.FrameStream.{FrameStream}
+use Rattle.stream.specs.declared.FrameStream.the-variants as stream
+use Rattle.stream.specs.Answer.{FrameRead}
+use Rattle.listing.specs.declared.Listing.{Listing}
+use Rattle.listing.specs.declared.Listing.the-variants as listing
+use Rattle.listing.specs.Answer.{CornersWritten}
+use Rattle.demands.specs.Calls.{viewOf}
+
+-- n is one of a list
+abbrev pub OneOf : ℕ → List ℕ → Type 0
+OneOf n [] = ⊥
+OneOf n (k ∷ ks) = (n ≡ k) ⊎ OneOf n ks
+
+-- an answer that is no refusal, or one with a number of the list
+abbrev pub Refuses : {A : Type 0} → (ℕ → A) → List ℕ → A → Type 0
+Refuses refused numbers answer = (k : ℕ) → answer ≡ refused k → OneOf k numbers
+
+-- a field for each function, by its name
+pub record Total : Type 0 where
+  pub «chess_response_u8_patch» : (img : List ℕ) (w h ring x0 y0 x1 y1 : ℕ) (d e : List Float) (r : Patch) → Patched (viewOf img w h ring x0 y0 x1 y1) ring d e r
+      → Refuses response.Refused (1 ∷ 2 ∷ 3 ∷ 8 ∷ []) r
+  pub «build_pyramid» : (base : List ℕ) (w h count least : ℕ) (d e : List ℕ) (r : Pyramid) → Built base w h count least d r e
+      → Refuses pyramid.Refused (1 ∷ 2 ∷ 9 ∷ []) r
+  pub «level_at» : (pixels places w h count least k : ℕ) (r : LevelAnswer) → r ≡ levelAnswer pixels places w h count least k
+      → Refuses levels.Refused (1 ∷ 2 ∷ 3 ∷ 9 ∷ []) r
+  pub «detect_peaks_from_response_with_refine_radius» : (m : List Float) (w h ring : ℕ) (threshold : Float) (window least radius : ℕ) (b b′ : Slices) (held : ℕ) (r : Peaks)
+      → detect.Found (detect.conditions (length m) w h ring window radius) (detect.startsIn m (detect.searchOf w h ring threshold window least radius)) held b r b′
+      → Refuses peaks.Refused (1 ∷ 2 ∷ 3 ∷ 10 ∷ []) r
+  pub refine : (radius : ℕ) (x y : Float) (hasMap : Bool) (m : List Float) (w h : ℕ) (r : Outcome) → Refined radius x y hasMap m w h r
+      → Refuses outcome.Refused (1 ∷ 2 ∷ 3 ∷ 4 ∷ []) r
+  pub «compute_roi» : (c : RoiContext) (s : Corner) (r : RoiAnswer) → Boxed c s r
+      → Refuses roi.Refused (1 ∷ 3 ∷ 4 ∷ []) r
+  pub «merge_corners_simple» : (radius : Float) (count : ℕ) (b b′ : Slices) (r : Merged) → Merges radius (placesOf b) count b r b′
+      → Refuses merge.Refused (4 ∷ 5 ∷ 10 ∷ []) r
+  pub «merge_within» : (radius : Float) (places count : ℕ) (b b′ : Slices) (r : Merged) → Merges radius (min places (placesOf b)) count b r b′
+      → Refuses merge.Refused (4 ∷ 5 ∷ 10 ∷ []) r
+  pub «merge_corner_slice» : (radius : Float) (count : ℕ) (cs cs′ : List Corner) (b b′ : Slices) (r : Merged) → MergesSlice radius count cs b r cs′ b′
+      → Refuses merge.Refused (4 ∷ 5 ∷ 10 ∷ []) r
+  pub «find_corners» : (p : FrameParams) (img : List ℕ) (w h : ℕ) (b b′ : Buffers) (r : FrameAnswer) → Found p img w h b r b′
+      → Refuses frame.Refused (1 ∷ 2 ∷ 3 ∷ 5 ∷ 8 ∷ 9 ∷ 10 ∷ []) r
+  pub «read_frame» : (input pixels pixels′ : List ℕ) (r : FrameStream) → FrameRead input pixels r pixels′
+      → Refuses stream.Refused (1 ∷ 3 ∷ 5 ∷ 6 ∷ 7 ∷ 11 ∷ []) r
+  pub «write_corners» : (b : Slices) (count : ℕ) (out out′ : List ℕ) (r : Listing) → CornersWritten b count out r out′
+      → Refuses listing.Refused (10 ∷ []) r
