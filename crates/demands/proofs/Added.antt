@@ -19,7 +19,7 @@ use Rattle.detect.specs.Peaks.{Reading}
 use Rattle.detect.specs.Detect.{readIn, peaksIn, peaksBy, startAt, startsIn, conditions, refusalOf, Found}
 use Rattle.detect.proofs.Choice.{peaks-in-map}
 use Rattle.detect.proofs.Answers.{Clear, Fitted, clear, sound, added-tells}
-use Rattle.demands.specs.Calls.{PeakCall, searchIn}
+use Rattle.demands.specs.PeakCall.{PeakCall, searchIn}
 use Rattle.demands.specs.PeaksAlike.{programList, position, nameOf}
 use Rattle.demands.proofs.Tables.{lowest-before}
 use Rattle.demands.proofs.Names.{Small, names-only}

@@ -11,7 +11,7 @@ use borrow.Author.Tests.{eqb-false}
 use Rattle.lists.specs.Places.{any}
 use Rattle.stream.specs.declared.Header.{Header}
 use Rattle.stream.specs.Stream.{u8, u16, u32, known as isKnown, bodyLength, bodyOf, behind, headerOf, rangeOutside, radiusOutside, Reading, accepted, refused, sidesFault, parametersFault, paddingFault, bodyFault, recordFault, readRecord, recordsFor, readPixels, readParameters, readFrame}
-use Rattle.demands.specs.Total.{OneOf, Refuses}
+use Rattle.demands.specs.Numbers.{OneOf, Refuses}
 use Rattle.demands.proofs.Tables.{listed, cond-one, above-zero}
 
 abbrev numbers : List ℕ

@@ -33,7 +33,7 @@ use Rattle.frame_pass.proofs.Inside.{corners-inside, boxes-answered}
 use Rattle.frame.specs.Frame.{conditions, tooMany, refusalOf}
 use Rattle.frame.proofs.Refusals.{admitted, admitted-sound}
 use Rattle.frame.proofs.Callers.{finished-tells}
-use Rattle.demands.specs.Calls.{searchIn}
+use Rattle.demands.specs.PeakCall.{searchIn}
 use Rattle.demands.specs.PeaksAlike.{programList, position, nameOf}
 use Rattle.demands.specs.FrameExact.{FrameCall, mapsIn, Alike, WithoutTie, FrameExact, AlikeByName, MapsSearched, MapsAlike, FrameWithoutTies, FourNever}
 use Rattle.demands.proofs.Tables.{lowest-before}

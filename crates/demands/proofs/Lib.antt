@@ -8,3 +8,4 @@ pub mod PeaksAlike
 pub mod FrameExact
 pub mod Faults
 pub mod Total
+pub mod Program

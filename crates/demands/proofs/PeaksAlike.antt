@@ -10,7 +10,8 @@ use Rattle.float32.specs.Float32.{lift}
 use Rattle.detect.specs.Exact.{exact}
 use Rattle.agreement.specs.Agreement.{CellsAccurate}
 use Rattle.agreement.proofs.Lists as agreement
-use Rattle.demands.specs.Calls.{ResponseCall, mapOf, exactAt, searchIn}
+use Rattle.demands.specs.ResponseCall.{ResponseCall, mapOf, exactAt}
+use Rattle.demands.specs.PeakCall.{searchIn}
 use Rattle.demands.specs.PeaksAlike.{PeaksAlike}
 use Rattle.demands.proofs.ResponseAccurate.{response-accurate}
 use Rattle.demands.proofs.Added.{named}

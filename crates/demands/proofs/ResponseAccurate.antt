@@ -3,7 +3,7 @@ use mathlib.Core.Path.{refl}
 use lib.Ieee.{nan}
 use Rattle.response.specs.declared.Patch.the-variants.{Cells}
 use Rattle.accuracy.proofs.Cells.{patch-accurate}
-use Rattle.demands.specs.Calls.{viewIn}
+use Rattle.demands.specs.ResponseCall.{viewIn}
 use Rattle.demands.specs.ResponseAccurate.{ResponseAccurate}
 
 pub response-accurate : ResponseAccurate

@@ -1,6 +1,6 @@
 -- From `response-accurate`: accurate floats stand in the order of their exact values, whatever maps they stand in. Assumes nothing.
 use Rattle.accuracy.proofs.Judged.{ordered}
-use Rattle.demands.specs.Calls.{computedAt, exactAt}
+use Rattle.demands.specs.ResponseCall.{computedAt, exactAt}
 use Rattle.demands.specs.ResponsesOrdered.{ResponsesOrdered}
 use Rattle.demands.proofs.ResponseAccurate.{response-accurate}
 

@@ -3,14 +3,14 @@ use Prim.Native.Nat.{ℕ, zero, suc, _<_}
 use native.Mathlib.Omega.{arith}
 use mathlib.Core.Path.{_≡_, refl, sym, _∙_, subst}
 use mathlib.Core.Logic.{inl, inr, ⊎-elim}
-use mathlib.Core.Bool.{Bool, true, false, cond, _||_}
+use mathlib.Core.Bool.{Bool, true, false, cond, _&&_}
 use mathlib.Core.List.{List, [], _∷_, _++_, map}
 use lib.Dec.{eqb}
 use borrow.Author.Tests.{eqb-true}
 use Rattle.lists.specs.Places.{any}
 use Rattle.lists.specs.Refusals.{lowest}
-use Rattle.lists.proofs.Tests.{or-either}
-use Rattle.demands.specs.Total.{OneOf, Refuses}
+use Rattle.lists.proofs.Tests.{and-parts, or-either}
+use Rattle.demands.specs.Numbers.{OneOf, Refuses}
 
 -- no number of a table: none of its first part
 pub lowest-before : (cs ds : List (Bool × ℕ)) → lowest (cs ++ ds) ≡ 0 → lowest cs ≡ 0
@@ -24,6 +24,17 @@ lowest-before ((false, n) ∷ cs) ds e = lowest-before cs ds e
 pub listed : (n : ℕ) (ns : List ℕ) → any (eqb n) ns ≡ true → OneOf n ns
 listed n [] e = absurd (let z : _≡_ {A = Bool} false true = e in let y : _≡_ {A = ℕ} 0 1 = cc in omega arith)
 listed n (k ∷ ns) e = ⊎-elim (λ h. inl (eqb-true n k h)) (λ h. inr (listed n ns h)) (or-either (eqb n k) (any (eqb n) ns) e)
+
+-- of another list that has each of its members
+abbrev within : List ℕ → List ℕ → Bool
+within [] ms = true
+within (k ∷ ns) ms = any (eqb k) ms && within ns ms
+
+pub widen : (n : ℕ) (ns ms : List ℕ) → within ns ms ≡ true → OneOf n ns → OneOf n ms
+widen n [] ms e o = absurd o
+widen n (k ∷ ns) ms e o =
+    let both = and-parts (any (eqb k) ms) (within ns ms) e in
+    ⊎-elim (λ same. subst (λ (j : ℕ). OneOf j ms) (sym same) (listed k ms (both .0))) (widen n ns ms (both .1)) o
 
 pub cond-one : (b : Bool) (m n : ℕ) (ns : List ℕ) → OneOf m ns → OneOf n ns → OneOf (cond b m n) ns
 cond-one true m n ns p q = p

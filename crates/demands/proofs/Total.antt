@@ -1,11 +1,11 @@
 -- Each answer is by its table's number, and a table gives 0 or one of its numbers. Assumes nothing.
 use Prim.Native.Nat.{ℕ, _+_, _*_, min}
 use native.Mathlib.Omega.{arith}
-use mathlib.Core.Path.{_≡_, refl, sym, ap, _∙_}
+use mathlib.Core.Path.{_≡_, sym, ap, _∙_}
 use mathlib.Core.Logic.{inl}
 use mathlib.Core.Bool.{Bool, true, false, cond, not, _&&_, _||_}
 use mathlib.Core.List.{List, [], _∷_, _++_}
-use lib.ListN.{length, take}
+use lib.ListN.{length}
 use lib.Dec.{ltb, eqb}
 use lib.Ieee.{Float}
 use Rattle.lists.specs.Places.{any}
@@ -52,8 +52,9 @@ use Rattle.listing.specs.declared.Listing.{Listing}
 use Rattle.listing.specs.declared.Listing.the-variants as listed
 use Rattle.listing.specs.Text.{cornersText}
 use Rattle.listing.specs.Answer as listing
-use Rattle.demands.specs.Calls.{viewOf}
-use Rattle.demands.specs.Total.{OneOf, Refuses, Total}
+use Rattle.demands.specs.ResponseCall.{viewOf}
+use Rattle.demands.specs.Numbers.{OneOf, Refuses}
+use Rattle.demands.specs.Total.{Total}
 use Rattle.demands.proofs.Tables.{numbered-one, refused-one}
 use Rattle.demands.proofs.Faults.{frame-few}
 

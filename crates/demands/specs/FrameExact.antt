@@ -21,7 +21,7 @@ use Rattle.frame_pass.specs.Pass.{Choice, searchOn, computedChoice, exactChoice
 use Rattle.frame_pass.specs.Theorems.{CornersInside, BoxesAnswered}
 use Rattle.frame.specs.declared.FrameAnswer.the-variants.{Corners}
 use Rattle.frame.specs.Frame.{Buffers, Found}
-use Rattle.demands.specs.Calls.{PeakCall, searchIn}
+use Rattle.demands.specs.PeakCall.{PeakCall, searchIn}
 use Rattle.demands.specs.PeaksAlike.{programList, position, nameOf}
 
 -- a call of `find_corners` that finished, with its promise word for word

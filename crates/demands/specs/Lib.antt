@@ -1,7 +1,10 @@
 pub mod Cases
-pub mod Calls
+pub mod ResponseCall
+pub mod PeakCall
 pub mod ResponseAccurate
 pub mod ResponsesOrdered
 pub mod PeaksAlike
 pub mod FrameExact
+pub mod Numbers
 pub mod Total
+pub mod Program

@@ -15,7 +15,8 @@ use Rattle.corner_list.specs.CornerList.{cornerAt}
 use Rattle.corner_list.specs.declared.Corner.{Corner}
 use Rattle.detect.specs.Exact.{exactPeaks}
 use Rattle.agreement.specs.Agreement.{NoTie}
-use Rattle.demands.specs.Calls.{ResponseCall, PeakCall, mapOf, exactAt, searchIn}
+use Rattle.demands.specs.ResponseCall.{ResponseCall, mapOf, exactAt}
+use Rattle.demands.specs.PeakCall.{PeakCall, searchIn}
 
 -- document 01: "The program's list of a map is what peak finding adds to its room", the corners behind those that the buffer held
 abbrev pub programList : {m : List Float} {w h : ℕ} → PeakCall m w h → List Corner

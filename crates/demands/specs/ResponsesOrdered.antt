@@ -3,7 +3,7 @@ use lib.Dec.{T}
 use lib.Signed.{_<ℤ_}
 use lib.Ieee.{lt}
 use Rattle.lists.specs.Places.{Place}
-use Rattle.demands.specs.Calls.{ResponseCall, InMap, computedAt, exactAt}
+use Rattle.demands.specs.ResponseCall.{ResponseCall, InMap, computedAt, exactAt}
 
 abbrev pub ResponsesOrdered : Type 0
 ResponsesOrdered =

@@ -10,9 +10,9 @@
 --   pyramid         level_count, cells_above, level (nothing where `level_at` refuses)
 --   merge           is_off, is_sized
 --   listing         write_refusal (one for its answer, one for its buffer)
+--   finder          find (likewise)
 use Prim.Native.Nat.{ℕ, min}
 use mathlib.Core.Path.{_≡_}
-use mathlib.Core.Logic.{_⊎_}
 use mathlib.Core.Bool.{Bool}
 use mathlib.Core.List.{List, [], _∷_}
 use lib.ListN.{length}
@@ -52,16 +52,8 @@ use Rattle.stream.specs.Answer.{FrameRead}
 use Rattle.listing.specs.declared.Listing.{Listing}
 use Rattle.listing.specs.declared.Listing.the-variants as listing
 use Rattle.listing.specs.Answer.{CornersWritten}
-use Rattle.demands.specs.Calls.{viewOf}
-
--- n is one of a list
-abbrev pub OneOf : ℕ → List ℕ → Type 0
-OneOf n [] = ⊥
-OneOf n (k ∷ ks) = (n ≡ k) ⊎ OneOf n ks
-
--- an answer that is no refusal, or one with a number of the list
-abbrev pub Refuses : {A : Type 0} → (ℕ → A) → List ℕ → A → Type 0
-Refuses refused numbers answer = (k : ℕ) → answer ≡ refused k → OneOf k numbers
+use Rattle.demands.specs.Numbers.{Refuses}
+use Rattle.demands.specs.ResponseCall.{viewOf}
 
 -- a field for each function, by its name
 pub record Total : Type 0 where

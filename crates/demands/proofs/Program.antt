@@ -1,0 +1,87 @@
+-- From the numbers of the reader and of the frame, and from `pass-same` of frame_pass. Assumes nothing.
+use Prim.Native.Nat.{ℕ, zero, suc, _*_, _≤_}
+use native.Mathlib.Nat.{mul-le-mul}
+use native.Mathlib.Omega.{arith}
+use mathlib.Core.Path.{_≡_, refl, sym, ap, _∙_}
+use mathlib.Core.Logic.{_⊎_, inl, inr}
+use mathlib.Core.Bool.{Bool, not, _&&_}
+use mathlib.Core.List.{List, [], _∷_}
+use lib.ListN.{length}
+use borrow.Author.Tests.{le-ltb, eq-eqb}
+use Rattle.lists.specs.Refusals.{lowest}
+use Rattle.pyramid.specs.Pyramid.{levelCount, cellsAbove}
+use Rattle.pyramid.proofs.Cells.{cells-le}
+use Rattle.merge.specs.Merge.{isOff, isSized}
+use Rattle.frame_pass.specs.Parameters.{parametersFit}
+use Rattle.frame_pass.specs.Pass.{Pass, framePass, computedChoice}
+use Rattle.frame_pass.proofs.Same.{pass-same}
+use Rattle.frame.specs.Frame.{conditions, tooMany, refusalOf}
+use Rattle.stream.specs.declared.Header.{Header}
+use Rattle.stream.specs.Stream.{Reading, accepted, refused, readFrame}
+use Rattle.stream.proofs.Order.{small-sides}
+use Rattle.stream.proofs.Accepted.{accepted-good}
+use Rattle.stream.proofs.Prefix.{frame-prefix}
+use Rattle.listing.specs.Text.{cornersText}
+use Rattle.finder.specs.Finder.{paramsOf, programBuffers, textOf, frameText, readingText, outputOf}
+use Rattle.demands.specs.Program.{ProgramReads, Lists, Refusal, ProgramTotal, ProgramExact}
+use Rattle.demands.proofs.Tables.{widen, numbered-one}
+use Rattle.demands.proofs.Faults.{frame-few}
+
+pub program-reads : ProgramReads
+unfolding outputOf
+program-reads input = ap readingText (frame-prefix input)
+
+module _ (input : List ℕ) where
+  -- ---- a frame that was read
+  module _ (h : Header) (pixels : List ℕ) (r : readFrame input ≡ accepted h pixels) where
+    abbrev found : Pass
+    found = framePass (paramsOf h) pixels (h .width) (h .height) (computedChoice (paramsOf h))
+
+    abbrev number : ℕ
+    number = refusalOf (paramsOf h) pixels (h .width) (h .height) programBuffers
+
+    -- what can be refused: the program's buffers are large enough for what the reader accepts
+    abbrev table : List (Bool × ℕ)
+    table =
+        (not (parametersFit (paramsOf h)), 3)
+        ∷ (not (isOff (paramsOf h .radius)) && not (isSized (paramsOf h .radius)), 5)
+        ∷ (tooMany found programBuffers, 10)
+        ∷ []
+
+    number-is : number ≡ lowest table
+    unfolding refusalOf conditions
+    number-is =
+        let good = accepted-good input h pixels r in
+        let small = small-sides (h .width) (h .height) (good .sides) in
+        let most : h .width * h .height ≤ 9216 = omega (arith, mul-le-mul (small .0) (small .1)) in
+        let n = levelCount (h .width) (h .height) (h .levels) (h .minimum) in
+        rw (
+          le-ltb 4096 (h .width) (omega (arith, small .0)),
+          le-ltb 4096 (h .height) (omega (arith, small .1)),
+          eq-eqb (length pixels) (h .width * h .height) (good .long),
+          le-ltb 9216 (h .width * h .height) most,
+          le-ltb 3072 (cellsAbove (h .width) (h .height) n) (omega (arith, cells-le (h .width) (h .height) n, most)),
+        )
+
+    printed : (n : ℕ) → number ≡ n → outputOf input ≡ textOf n (found .corners)
+    unfolding outputOf frameText
+    printed n e = rw (r, e)
+
+    by-number : (n : ℕ) → number ≡ n → Lists input ⊎ Refusal input
+    by-number zero e = inl (record { header = h; pixels = pixels; reading = r; finished = e; prints = printed 0 e })
+    by-number (suc n) e =
+        let one = numbered-one table (suc n) (sym e ∙ number-is) (omega arith) in
+        inr (record { number = suc n; numbered = widen (suc n) (3 ∷ 5 ∷ 10 ∷ []) (1 ∷ 3 ∷ 5 ∷ 6 ∷ 7 ∷ 10 ∷ 11 ∷ []) refl one; prints = printed (suc n) e })
+
+  by-reading : (r : Reading) → readFrame input ≡ r → Lists input ⊎ Refusal input
+  unfolding outputOf
+  by-reading (accepted h pixels) e = by-number h pixels e (number h pixels e) refl
+  by-reading (refused n) e =
+      inr (record { number = n; numbered = widen n (1 ∷ 3 ∷ 5 ∷ 6 ∷ 7 ∷ 11 ∷ []) (1 ∷ 3 ∷ 5 ∷ 6 ∷ 7 ∷ 10 ∷ 11 ∷ []) refl (frame-few input n e); prints = ap readingText e })
+
+pub program-total : ProgramTotal
+program-total input = by-reading input (readFrame input) refl
+
+pub program-exact : ProgramExact
+program-exact input l alike =
+    l .prints ∙ ap (λ (q : Pass). cornersText (q .corners)) (pass-same (paramsOf (l .header)) (l .pixels) (l .header .width) (l .header .height) alike)

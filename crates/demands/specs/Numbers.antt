@@ -1,0 +1,14 @@
+-- The numbers that an answer can refuse with.
+use Prim.Native.Nat.{ℕ}
+use mathlib.Core.Path.{_≡_}
+use mathlib.Core.Logic.{_⊎_}
+use mathlib.Core.List.{List, [], _∷_}
+
+-- n is one of a list
+abbrev pub OneOf : ℕ → List ℕ → Type 0
+OneOf n [] = ⊥
+OneOf n (k ∷ ks) = (n ≡ k) ⊎ OneOf n ks
+
+-- an answer that is no refusal, or one with a number of the list
+abbrev pub Refuses : {A : Type 0} → (ℕ → A) → List ℕ → A → Type 0
+Refuses refused numbers answer = (k : ℕ) → answer ≡ refused k → OneOf k numbers

@@ -1,0 +1,50 @@
+-- Demands 1 and 3 for what the program `corners` prints: `outputOf` of its input bytes, which `find` of finder promises to leave in the buffer
+-- that the program writes out.
+use Prim.Native.Nat.{ℕ}
+use mathlib.Core.Path.{_≡_}
+use mathlib.Core.Logic.{_⊎_}
+use mathlib.Core.List.{List, [], _∷_}
+use lib.ListN.{take}
+use Rattle.lists.specs.Places.{All}
+use Rattle.frame_pass.specs.declared.FrameParams.{FrameParams}
+use Rattle.frame_pass.specs.Pass.{Choice, computedChoice, exactChoice, framePass, lookedAt}
+use Rattle.frame.specs.Frame.{refusalOf}
+use Rattle.stream.specs.declared.Header.{Header}
+use Rattle.stream.specs.Stream.{accepted, readFrame}
+use Rattle.listing.specs.Text.{cornersText, refusedText}
+use Rattle.finder.specs.Finder.{paramsOf, programBuffers, outputOf}
+use Rattle.demands.specs.Numbers.{OneOf}
+use Rattle.demands.specs.FrameExact.{Alike}
+
+-- it reads at most 9,527 bytes: those behind them decide nothing
+abbrev pub ProgramReads : Type 0
+ProgramReads = (input : List ℕ) → outputOf (take 9527 input) ≡ outputOf input
+
+-- the listing of the corners that a pass by a choice of peaks finds in a frame
+abbrev pub textBy : (FrameParams → Choice) → Header → List ℕ → List ℕ
+textBy choose h pixels = cornersText (framePass (paramsOf h) pixels (h .width) (h .height) (choose (paramsOf h)) .corners)
+
+-- the input is a frame stream, and its frame is not refused: the program prints the frame's corners
+pub record Lists (input : List ℕ) : Type 0 where
+  pub header : Header
+  pub pixels : List ℕ
+  pub reading : readFrame input ≡ accepted header pixels
+  pub finished : refusalOf (paramsOf header) pixels (header .width) (header .height) programBuffers ≡ 0
+  pub prints : outputOf input ≡ textBy computedChoice header pixels
+
+-- it prints `refused` and a number. 2, 8 and 9 do not arise, since its buffers are large enough for what the reader accepts, and neither does 4
+pub record Refusal (input : List ℕ) : Type 0 where
+  pub number : ℕ
+  pub numbered : OneOf number (1 ∷ 3 ∷ 5 ∷ 6 ∷ 7 ∷ 10 ∷ 11 ∷ [])
+  pub prints : outputOf input ≡ refusedText number
+
+-- demand 1: "comes back as a finished corner list or as one of eleven numbered refusals"
+abbrev pub ProgramTotal : Type 0
+ProgramTotal = (input : List ℕ) → Lists input ⊎ Refusal input
+
+-- demand 3: "its whole corner list is the one that exact peak choice leads to"
+abbrev pub ProgramExact : Type 0
+ProgramExact =
+    (input : List ℕ) (l : Lists input)
+    → All (Alike (paramsOf (l .header))) (lookedAt (paramsOf (l .header)) (l .pixels) (l .header .width) (l .header .height) (exactChoice (paramsOf (l .header))))
+    → outputOf input ≡ textBy exactChoice (l .header) (l .pixels)
