@@ -1,11 +1,11 @@
--- Laws of buffers: lengths, one list behind or over another, one element stored, and what is wiped behind. Assumes nothing.
-use Prim.Native.Nat.{ℕ, suc, _+_, _-_, _<_, _≤_}
+-- Laws of buffers: lengths, one list behind or over another, one element stored, what is wiped behind, and buffers that were mapped. Assumes nothing.
+use Prim.Native.Nat.{ℕ, zero, suc, _+_, _-_, _<_, _≤_}
 use native.Mathlib.Nat.{add-zero, zero-add}
 use native.Mathlib.Omega.{arith}
-use mathlib.Core.Path.{_≡_, sym, ap, ap₂, _∙_}
-use mathlib.Core.List.{List, [], _∷_, _++_, append-assoc, append-nil}
-use lib.ListN.{length, getD, take, drop, set, replicate, length-append, length-drop, length-take, length-replicate, take-append-drop, List·getD-append, length-set}
-use lib.Seq.{take-append-seam, drop-append-add, drop-drop, drop-cons, set-at, take-at, drop-at, take-suc, length-take-le, getD-take, getD-append-add, getD-drop, set-append-left}
+use mathlib.Core.Path.{_≡_, refl, sym, ap, ap₂, _∙_}
+use mathlib.Core.List.{List, [], _∷_, _++_, map, map-append, append-assoc, append-nil}
+use lib.ListN.{length, getD, take, drop, set, replicate, length-append, length-drop, length-take, length-replicate, length-map, take-append-drop, List·getD-append, length-set}
+use lib.Seq.{take-append-seam, drop-append-add, drop-append-le, drop-drop, drop-cons, set-at, take-at, drop-at, take-suc, length-take-le, getD-take, getD-append-add, getD-drop, set-append-left}
 use borrow.Rule.Slice.PartMut.{putMid}
 use native.Mathlib.Numerals.{add-one}
 use Rattle.lists.specs.Tab.{tab}
@@ -34,6 +34,14 @@ module _ {A : Type 0} where
       ∙ drop-append-add vs (drop (length vs) d) (length us - length vs)
       ∙ drop-drop (length us - length vs) (length vs) d
       ∙ ap (λ (k : ℕ). drop k d) (sym e))
+
+  -- a list over a longer one that stands first
+  pub front-over : (us vs d : List A) → length us ≤ length vs → front us (front vs d) ≡ front (front us vs) d
+  front-over us vs d h =
+      let l : length (front us vs) ≡ length vs = front-length us vs h in
+      ap (λ (t : List A). us ++ t) (drop-append-le (length us) vs (drop (length vs) d) h)
+      ∙ sym (append-assoc us (drop (length us) vs) (drop (length vs) d))
+      ∙ ap (λ (k : ℕ). us ++ drop (length us) vs ++ drop k d) (sym l)
 
   -- what stands behind vs
   pub front-behind : (vs d : List A) (i : ℕ) (z : A) → length vs ≤ i → getD (front vs d) i z ≡ getD d i z
@@ -122,6 +130,15 @@ module _ {A : Type 0} where
       ∙ List·getD-append (take held d) (vs ++ drop (held + length vs) d) z i (rw (length-take-le held d h) l)
       ∙ getD-take held d i z l
 
+  -- one of vs
+  pub placed-at : (held : ℕ) (vs d : List A) (i : ℕ) (z : A) → held ≤ length d → i < length vs → getD (placed held vs d) (held + i) z ≡ getD vs i z
+  placed-at held vs d i z h l =
+      let rest = drop (held + length vs) d in
+      ap (λ (s : List A). getD s (held + i) z) (append-assoc (take held d) vs rest)
+      ∙ ap (λ (n : ℕ). getD (take held d ++ (vs ++ rest)) (n + i) z) (sym (length-take-le held d h))
+      ∙ getD-append-add (take held d) (vs ++ rest) i z
+      ∙ List·getD-append vs rest z i l
+
   pub wiped-length : (n : ℕ) (z : A) (d : List A) → n ≤ length d → length (wipedFrom n z d) ≡ length d
   wiped-length n z d h = simp (length-append, length-take, length-replicate) (omega arith)
 
@@ -130,3 +147,16 @@ module _ {A : Type 0} where
   wiped-front vs d z n e h =
       let k : length (front vs d) - n ≡ length d - length vs = omega (arith, front-length vs d h) in
       ap₂ (λ (a : List A) (k : ℕ). a ++ replicate k z) (front-take vs d n e) k
+
+-- ---- what a function makes of each element
+module _ {A B : Type 0} (g : A → B) where
+  pub map-drop : (k : ℕ) (d : List A) → drop k (map g d) ≡ map g (drop k d)
+  map-drop zero d = refl
+  map-drop (suc k) [] = refl
+  map-drop (suc k) (a ∷ d) = map-drop k d
+
+  pub map-front : (vs d : List A) → front (map g vs) (map g d) ≡ map g (front vs d)
+  map-front vs d =
+      ap (λ (k : ℕ). map g vs ++ drop k (map g d)) (length-map vs g)
+      ∙ ap (λ (l : List B). map g vs ++ l) (map-drop (length vs) d)
+      ∙ sym (map-append g vs (drop (length vs) d))

@@ -52,6 +52,11 @@ module _ {A : Type 0} where
   any-none f [] e = tt
   any-none f (a ∷ l) e = let q = or-neither (f a) (any f l) e in (λ z. false≢true (sym (q .0) ∙ z), any-none f l (q .1))
 
+  -- what every member has
+  pub all-of : (P : A → Type 0) → ((a : A) → P a) → (l : List A) → All P l
+  all-of P f [] = tt
+  all-of P f (a ∷ l) = (f a, all-of P f l)
+
   -- the member at a place
   pub all-at : (P : A → Type 0) (l : List A) → All P l → (i : ℕ) (d : A) → i < length l → P (getD l i d)
   all-at P [] h i d k = absurd (not-suc-le-zero k)
@@ -65,6 +70,16 @@ all-mapped P g (a ∷ l) h = (h .0, all-mapped P g l (h .1))
 pub all-unmapped : {A B : Type 0} (P : B → Type 0) (g : A → B) (l : List A) → All P (map g l) → All (λ a. P (g a)) l
 all-unmapped P g [] h = tt
 all-unmapped P g (a ∷ l) h = (h .0, all-unmapped P g l (h .1))
+
+-- the members of two lists, by what a function makes of them that tells them apart
+pub map-only : {A B : Type 0} (f : A → B) (P : A → Type 0) → ((a b : A) → P a → P b → f a ≡ f b → a ≡ b) → (s t : List A) → All P s → All P t → map f s ≡ map f t → s ≡ t
+map-only f P only [] [] p q e = refl
+map-only f P only [] (b ∷ t) p q e = absurd (let no : ⊥ = omega (arith, ap length e) in no)
+map-only f P only (a ∷ s) [] p q e = absurd (let no : ⊥ = omega (arith, ap length e) in no)
+map-only f P only (a ∷ s) (b ∷ t) p q e =
+    let head : f a ≡ f b = cc in
+    let rest : map f s ≡ map f t = cc in
+    rw (only a b (p .0) (q .0) head, map-only f P only s t (p .1) (q .1) rest)
 
 -- ---- sums of a number of each member
 
@@ -92,6 +107,16 @@ module _ {A B : Type 0} where
   pub flatMap-single : (f : A → List B) (g : A → B) (l : List A) → All (λ a. f a ≡ g a ∷ []) l → flatMap f l ≡ map g l
   flatMap-single f g [] h = refl
   flatMap-single f g (a ∷ l) h = ap₂ (λ (s t : List B). s ++ t) (h .0) (flatMap-single f g l (h .1))
+
+-- a fact of each of their members
+module _ {A B : Type 0} (P : B → Type 0) (f : A → List B) where
+  pub all-flat : (l : List A) → All (λ a. All P (f a)) l → All P (flatMap f l)
+  all-flat [] h = tt
+  all-flat (a ∷ l) h = all-append P (f a) (flatMap f l) (h .0) (all-flat l (h .1))
+
+  pub all-unflat : (l : List A) → All P (flatMap f l) → All (λ a. All P (f a)) l
+  all-unflat [] h = tt
+  all-unflat (a ∷ l) h = (all-left P (f a) (flatMap f l) h, all-unflat l (all-right P (f a) (flatMap f l) h))
 
 -- ---- each element of a list that a function gives
 

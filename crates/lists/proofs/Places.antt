@@ -90,13 +90,6 @@ module _ (f : Place → Bool) (a b d x y : ℕ) (p : x < b) (q : y < d) where
       → keep f (ahead a b d (record { x = x; y = y })) ≡ keep f (ahead a b d (record { x = x + 1; y = y }))
   keep-miss e = rw (ahead-cell a b d x y p q, e)
 
-  pub any-hit : f (record { x = x; y = y }) ≡ true → any f (ahead a b d (record { x = x; y = y })) ≡ true
-  any-hit e = rw (ahead-cell a b d x y p q, e)
-
-  pub any-miss : f (record { x = x; y = y }) ≡ false
-      → any f (ahead a b d (record { x = x; y = y })) ≡ any f (ahead a b d (record { x = x + 1; y = y }))
-  any-miss e = rw (ahead-cell a b d x y p q, e)
-
 -- ---- two lists in a row
 
 module _ {A : Type 0} (f : A → Bool) where

@@ -1,11 +1,14 @@
--- Laws of numbered conditions. Assumes nothing.
-use Prim.Native.Nat.{ℕ, _<_}
+-- Laws of numbered conditions, and what an image or a map is that the first two do not refuse. Assumes nothing.
+use Prim.Native.Nat.{ℕ, _*_, _<_, _≤_}
 use native.Mathlib.Omega.{arith}
 use mathlib.Core.Path.{_≡_, refl}
-use mathlib.Core.Bool.{Bool, true, false, cond}
+use mathlib.Core.Bool.{Bool, true, false}
 use mathlib.Core.List.{List, [], _∷_, _++_}
+use lib.Dec.{ltb, eqb}
+use borrow.Author.Tests.{le-ltb, ltb-false, eq-eqb, eqb-true, not-false}
 use Rattle.lists.specs.Places.{All}
-use Rattle.lists.specs.Refusals.{lowest}
+use Rattle.lists.specs.Refusals.{lowest, isLarge, isMisfit}
+use Rattle.lists.proofs.Tests.{or-neither}
 
 -- no number: the first condition does not hold, and none behind it
 pub lowest-none : (b : Bool) (n : ℕ) (cs : List (Bool × ℕ)) → 0 < n → lowest ((b, n) ∷ cs) ≡ 0 → (b ≡ false) × (lowest cs ≡ 0)
@@ -28,3 +31,29 @@ pub lowest-past : (cs ds : List (Bool × ℕ)) → All (λ c. 0 < c .1) cs → l
 lowest-past [] ds p e = refl
 lowest-past ((true, n) ∷ cs) ds p e = absurd (let no : ⊥ = omega (arith, p .0) in no)
 lowest-past ((false, n) ∷ cs) ds p e = lowest-past cs ds (p .1) e
+
+-- no number is above those of the table
+pub lowest-le : (cs : List (Bool × ℕ)) (m : ℕ) → All (λ c. c .1 ≤ m) cs → lowest cs ≤ m
+lowest-le [] m h = omega arith
+lowest-le ((true, n) ∷ cs) m h = h .0
+lowest-le ((false, n) ∷ cs) m h = lowest-le cs m (h .1)
+
+-- ---- sides up to 4,096, and a slice of width × height
+pub record Sized (size w h : ℕ) : Type 0 where
+  pub narrow : w ≤ 4096
+  pub low : h ≤ 4096
+  pub sized : size ≡ w * h
+
+pub sides-small : (w h : ℕ) → isLarge w h ≡ false → (w ≤ 4096) × (h ≤ 4096)
+sides-small w h e = let o = or-neither (ltb 4096 w) (ltb 4096 h) e in (ltb-false 4096 w (o .0), ltb-false 4096 h (o .1))
+
+pub not-large : (w h : ℕ) → w ≤ 4096 → h ≤ 4096 → isLarge w h ≡ false
+not-large w h p q = rw (le-ltb 4096 w p, le-ltb 4096 h q)
+
+pub sized-of : (size w h : ℕ) → isLarge w h ≡ false → isMisfit size w h ≡ false → Sized size w h
+sized-of size w h p q =
+    let s = sides-small w h p in
+    record { narrow = s .0; low = s .1; sized = eqb-true size (w * h) (not-false (eqb size (w * h)) q) }
+
+pub not-misfit : (size w h : ℕ) → size ≡ w * h → isMisfit size w h ≡ false
+not-misfit size w h e = rw (eq-eqb size (w * h) e)

@@ -7,9 +7,9 @@ use native.Mathlib.Numerals.{add-one}
 use native.Mathlib.Decide.{decLt}
 use native.Mathlib.Omega.{arith}
 use mathlib.Core.Logic.{⊎-elim}
-use lib.ListN.{length, getD, take, drop, set, length-append, List·getD-append, List·getD-eq-default, drop-of-length-le, length-take, length-drop, length-set}
+use lib.ListN.{length, getD, take, drop, set, length-append, List·getD-append, List·getD-eq-default, length-take, length-drop, length-set}
 use borrow.Rule.Slice.PartMut.{putMid}
-use lib.Seq.{take-suc-set, take-all, length-take-le, getD-take, take-append-add, drop-cons, set-at, take-at, drop-at, getD-at, drop-drop, getD-append-add}
+use lib.Seq.{take-suc-set, take-all, length-take-le, getD-take, take-at, drop-at, getD-at, drop-drop, getD-append-add}
 use Rattle.lists.specs.Tab.{tab, grid}
 
 -- what stands for the elements past a list's end does not show before it

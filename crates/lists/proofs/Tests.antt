@@ -1,5 +1,5 @@
 -- Laws of tests, as Bools. Assumes nothing.
-use mathlib.Core.Path.{_≡_, refl, sym, ap, _∙_, subst}
+use mathlib.Core.Path.{_≡_, refl, sym, ap, subst}
 use mathlib.Core.Bool.{Bool, true, false, not, _&&_, _||_, true≢false, false≢true}
 use mathlib.Core.Logic.{_⊎_, inl, inr}
 use lib.Dec.{T}
@@ -33,6 +33,10 @@ and-off a b e = ap (λ (t : Bool). t && b) (sym e)
 pub and-none : (a : Bool) → (a && false) ≡ false
 and-none true = refl
 and-none false = refl
+
+pub and-all : (b : Bool) → (b && true) ≡ b
+and-all true = refl
+and-all false = refl
 
 -- ---- one of two
 pub or-neither : (a b : Bool) → (a || b) ≡ false → (a ≡ false) × (b ≡ false)

@@ -1,9 +1,18 @@
--- Numbered conditions of refusal, "lowest number first".
-use Prim.Native.Nat.{ℕ}
-use mathlib.Core.Bool.{Bool, cond}
+-- Numbered conditions of refusal, "lowest number first", and the two that every image and every map is held to.
+use Prim.Native.Nat.{ℕ, _*_}
+use mathlib.Core.Bool.{Bool, cond, not, _||_}
 use mathlib.Core.List.{List, [], _∷_}
+use lib.Dec.{ltb, eqb}
 
 -- the number of the first condition that holds, and 0 where none does: conditions are listed by rising number
 abbrev pub lowest : List (Bool × ℕ) → ℕ
 lowest [] = 0
 lowest (c ∷ cs) = cond (c .0) (c .1) (lowest cs)
+
+-- 1: "A side above 4,096"
+abbrev pub isLarge : ℕ → ℕ → Bool
+isLarge w h = ltb 4096 w || ltb 4096 h
+
+-- 2: "A slice's length is not width × height"
+abbrev pub isMisfit : ℕ → ℕ → ℕ → Bool
+isMisfit size w h = not (eqb size (w * h))
