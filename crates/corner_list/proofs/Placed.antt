@@ -1,25 +1,17 @@
 -- Corners that were placed behind others are read back. Assumes nothing.
 use Prim.Native.Nat.{ℕ, _+_, _<_, _≤_}
 use native.Mathlib.Omega.{arith}
-use mathlib.Core.Path.{_≡_, sym, ap, _∙_}
-use mathlib.Core.List.{List, _++_, map, append-assoc}
-use lib.ListN.{length, getD, take, drop, length-map, List·getD-append, List·getD-map}
-use lib.Seq.{ext-getD, length-take-le, getD-append-add}
+use mathlib.Core.Path.{_≡_, _∙_}
+use mathlib.Core.List.{List, map}
+use lib.ListN.{length, getD, length-map, List·getD-map}
+use lib.Seq.{ext-getD}
 use lib.Ieee.{Float, nan}
 use Rattle.lists.specs.Tab.{tab}
 use Rattle.lists.specs.Buffer.{placed}
 use Rattle.lists.proofs.Tab.{getD-any, length-tab, getD-tab}
+use Rattle.lists.proofs.Buffer.{placed-at}
 use Rattle.corner_list.specs.declared.Corner.{Corner}
 use Rattle.corner_list.specs.CornerList.{Slices, xOf, yOf, strengthOf, placesOf, cornerAt, placedCorners}
-
--- an element of those placed
-placed-at : {A : Type 0} (held : ℕ) (vs d : List A) (i : ℕ) (z : A) → held ≤ length d → i < length vs → getD (placed held vs d) (held + i) z ≡ getD vs i z
-placed-at {A} held vs d i z h l =
-    let rest = drop (held + length vs) d in
-    ap (λ (s : List A). getD s (held + i) z) (append-assoc (take held d) vs rest)
-    ∙ ap (λ (n : ℕ). getD (take held d ++ (vs ++ rest)) (n + i) z) (sym (length-take-le held d h))
-    ∙ getD-append-add (take held d) (vs ++ rest) i z
-    ∙ List·getD-append vs rest z i l
 
 module _ (held : ℕ) (cs : List Corner) (b : Slices) (h : held ≤ placesOf b) where
   field-placed : (g : Corner → Float) (s : List Float) (i : ℕ) (d : Corner) → held ≤ length s → i < length cs → getD (placed held (map g cs) s) (held + i) nan ≡ g (getD cs i d)

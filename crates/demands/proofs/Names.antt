@@ -1,25 +1,15 @@
 -- Places of a map are known by their names, the column and the row as floats. Assumes nothing.
 use Prim.Native.Nat.{ℕ, _<_}
 use native.Mathlib.Omega.{arith}
-use mathlib.Core.Path.{_≡_, refl, ap}
+use mathlib.Core.Path.{_≡_, ap}
 use mathlib.Core.Bool.{false}
-use mathlib.Core.List.{List, [], _∷_, map}
-use lib.ListN.{length}
+use mathlib.Core.List.{List, map}
 use lib.Ieee.{Float, binary32}
 use Rattle.lists.specs.Places.{Place, All}
+use Rattle.lists.proofs.Members.{map-only}
 use Rattle.float32.proofs.Values.{ofInt-value, value-unique}
 use Rattle.response.specs.Response.{floatOf}
 use Rattle.demands.specs.PeaksAlike.{nameOf}
-
--- the members of two lists, by what a function makes of them that tells them apart
-map-only : {A B : Type 0} (f : A → B) (P : A → Type 0) → ((a b : A) → P a → P b → f a ≡ f b → a ≡ b) → (s t : List A) → All P s → All P t → map f s ≡ map f t → s ≡ t
-map-only f P only [] [] p q e = refl
-map-only f P only [] (b ∷ t) p q e = absurd (let no : ⊥ = omega (arith, ap length e) in no)
-map-only f P only (a ∷ s) [] p q e = absurd (let no : ⊥ = omega (arith, ap length e) in no)
-map-only f P only (a ∷ s) (b ∷ t) p q e =
-    let head : f a ≡ f b = cc in
-    let rest : map f s ≡ map f t = cc in
-    rw (only a b (p .0) (q .0) head, map-only f P only s t (p .1) (q .1) rest)
 
 -- a place of a map whose sides are at most 4096
 abbrev pub Small : Place → Type 0

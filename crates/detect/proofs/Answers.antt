@@ -1,9 +1,11 @@
 -- Inputs without a fault, and the answers of peak finding: each from the tests that lead to it, and what a caller learns from it.
 -- Assumes nothing.
 use Prim.Native.Nat.{ℕ, zero, suc, _+_, _-_, _*_, _<_, _≤_}
+use native.Mathlib.Nat.{eq-zero-or-pos}
 use native.Mathlib.Omega.{arith}
 use native.Mathlib.Decide.{decLt}
 use mathlib.Core.Path.{_≡_, refl, sym, ap, _∙_}
+use mathlib.Core.Logic.{⊎-elim}
 use mathlib.Core.Bool.{Bool, true, false, not, _||_}
 use mathlib.Core.List.{List}
 use lib.ListN.{length, length-map}
@@ -131,7 +133,14 @@ module _ (m : List Float) (s t : Search) (same : s ≡ t) (conds : List (Bool ×
   pub found-added : held + length (startsIn m s) ≤ placesOf b → (n : ℕ) (b′ : Slices) → Written (startsIn m s) held b n b′ → Found conds (startsIn m t) held b (Added n) b′
   found-added l n b′ w = rw (← same) (found-by conds (startsIn m s) held b 0 (refusal-none (placesOf b) held (length (startsIn m s)) conds clear l) (Added n) b′ (ap Added (w .count)) (w .buffer))
 
--- ---- and what they tell, where the conditions on the input do not hold
+-- ---- and what they tell
+
+-- where corners were added, no condition on the input holds
+pub unrefused : (conds : List (Bool × ℕ)) (cs : List Corner) (held : ℕ) (b : Slices) (n : ℕ) (b′ : Slices) → Found conds cs held b (Added n) b′ → lowest conds ≡ 0
+unrefused conds cs held b n b′ f =
+    ⊎-elim (λ z. z) (λ l. sym (f .number ∙ refusal-input (placesOf b) held (length cs) conds (λ z. let no : ⊥ = omega arith in no))) (eq-zero-or-pos (lowest conds))
+
+-- where the conditions on the input do not hold
 pub record Fitted (cs : List Corner) (held : ℕ) (b : Slices) (n : ℕ) (b′ : Slices) : Type 0 where
   pub count : n ≡ length cs
   pub fits : held + n ≤ placesOf b

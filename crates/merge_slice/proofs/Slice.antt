@@ -4,14 +4,14 @@ use Prim.Native.Nat.{ℕ, zero, suc, _<_, _≤_, min}
 use native.Mathlib.Decide.{decLt}
 use native.Mathlib.Omega.{arith}
 use mathlib.Core.Path.{_≡_, refl, sym, ap, ap₂, _∙_, subst}
-use mathlib.Core.List.{List, [], _∷_, _++_, map, map-append, append-assoc}
+use mathlib.Core.List.{List, map}
 use lib.Dec.{ltb}
 use borrow.Author.Tests.{lt-ltb, le-ltb}
-use lib.ListN.{length, take, drop, getD, length-map, List·getD-map}
-use lib.Seq.{length-take-le, drop-append-le, ext-getD, getD-take}
+use lib.ListN.{length, take, getD, length-map, List·getD-map}
+use lib.Seq.{length-take-le, ext-getD, getD-take}
 use lib.Ieee.{Float}
 use Rattle.lists.specs.Buffer.{front}
-use Rattle.lists.proofs.Buffer.{front-length, front-take, front-same, front-again}
+use Rattle.lists.proofs.Buffer.{front-length, front-take, front-same, front-again, front-over, map-front}
 use Rattle.corner_list.specs.declared.Corner.{Corner}
 use Rattle.corner_list.specs.CornerList.{Slices, xOf, yOf, strengthOf, placesOf, cornerAt, cornersOf, frontCorners}
 use Rattle.corner_list.proofs.Corners.{slices-alike, same-places, corners-length, corners-at, corners-front, corners-same, corners-again, front-xs, front-ys, front-strengths}
@@ -22,26 +22,7 @@ use Rattle.merge.proofs.Result.{result-length}
 use Rattle.merge_slice.specs.MergeSlice.{columns, sharedPlaces, refusalFor, cornersAfter, MergesSlice}
 use Rattle.merge_slice.proofs.Turns.{nowhere}
 
--- ---- a list over a longer one that stands first
-front-over : {A : Type 0} (us vs d : List A) → length us ≤ length vs → front us (front vs d) ≡ front (front us vs) d
-front-over us vs d h =
-    let l : length (front us vs) ≡ length vs = front-length us vs h in
-    ap (λ (t : List _). us ++ t) (drop-append-le (length us) vs (drop (length vs) d) h)
-    ∙ sym (append-assoc us (drop (length us) vs) (drop (length vs) d))
-    ∙ ap (λ (k : ℕ). us ++ drop (length us) vs ++ drop k d) (sym l)
-
-map-drop : (g : Corner → Float) (k : ℕ) (cs : List Corner) → drop k (map g cs) ≡ map g (drop k cs)
-map-drop g zero cs = refl
-map-drop g (suc k) [] = refl
-map-drop g (suc k) (c ∷ cs) = map-drop g k cs
-
--- a field of each corner
-map-front : (g : Corner → Float) (us cs : List Corner) → front (map g us) (map g cs) ≡ map g (front us cs)
-map-front g us cs =
-    ap (λ (k : ℕ). map g us ++ drop k (map g cs)) (length-map us g)
-    ∙ ap (λ (l : List Float). map g us ++ l) (map-drop g (length us) cs)
-    ∙ sym (map-append g us (drop (length us) cs))
-
+-- ---- corners over more of them that stand first
 corners-over : (us cs : List Corner) (b : Slices) → length us ≤ length cs → frontCorners us (frontCorners cs b) ≡ frontCorners (front us cs) b
 corners-over us cs b h = slices-alike (over xOf (b .xs)) (over yOf (b .ys)) (over strengthOf (b .strengths))
   where
