@@ -1,20 +1,17 @@
 -- The theorem of `specs/Agreement.antt`, from each place to the lists. Assumes nothing.
-use Prim.Native.Nat.{ℕ, _+_, _-_, _<_, _≤_}
+use Prim.Native.Nat.{ℕ, _-_}
 use native.Mathlib.Omega.{arith}
 use mathlib.Core.Path.{_≡_}
 use mathlib.Core.Logic.{_↔_}
 use mathlib.Core.Bool.{Bool, true, false, cond, false≢true}
 use mathlib.Core.List.{List, [], _∷_}
-use lib.IntN.{ℤ}
-use lib.Ieee.{Float}
 use Rattle.lists.specs.Places.{Place, block, keep, All}
 use Rattle.lists.proofs.Members.{at-block, all-map}
-use Rattle.float32.specs.Value.{IsWhole}
 use Rattle.detect.specs.Peaks.{window, isPeak, peakPlaces, computed, Inside}
 use Rattle.detect.specs.Exact.{exact}
 use Rattle.detect.proofs.Choice.{peaks-are}
 use Rattle.detect.proofs.Agreement as readings
-use Rattle.agreement.specs.Agreement.{Tied, CellsAccurate, NoTie, PeaksAlike}
+use Rattle.agreement.specs.Agreement.{Tied, NoTie, PeaksAlike}
 use Rattle.agreement.proofs.Place.{stands, peak-both}
 
 -- a fact of each member that passes a test

@@ -1,11 +1,11 @@
 -- Integers by their order, and exact values against a whole threshold. Assumes nothing.
-use Prim.Native.Nat.{ℕ, _+_, _*_, _<_, _≤_}
+use Prim.Native.Nat.{ℕ, _*_, _<_, _≤_}
 use native.Mathlib.Nat.{mul-lt-mul-of-pos-right, mul-le-mul-right, mul-assoc, lt-of-not-le}
 use native.Mathlib.Omega.{arith}
 use mathlib.Core.Path.{_≡_, refl, sym, ap, _∙_, subst}
 use mathlib.Core.Logic.{_↔_}
-use mathlib.Core.Bool.{Bool, true, false, _&&_, false≢true}
-use lib.Dec.{T, ltb, ltb→lt, lt→ltb}
+use mathlib.Core.Bool.{true, false, false≢true}
+use lib.Dec.{ltb, ltb→lt, lt→ltb}
 use borrow.Author.Tests.{ltb-true, ltb-false, lt-ltb}
 use lib.IntN.{ℤ, pos, negsuc}
 use lib.Signed.{_<ℤ_, ltZ}

@@ -1,12 +1,11 @@
 -- Laws of a buffer of corners: its slices' lengths, its corners read back, and the corners that stand first. Assumes nothing.
-use Prim.Native.Nat.{ℕ, zero, suc, _+_, _<_, _≤_, min}
+use Prim.Native.Nat.{ℕ, zero, suc, _<_, _≤_}
 use native.Mathlib.Omega.{arith}
 use mathlib.Core.Path.{_≡_, refl, sym, ap, _∙_}
 use mathlib.Core.List.{List, [], _∷_, _++_, map, map-append}
 use lib.ListN.{length, take, drop, getD, set, length-map, List·getD-append, List·getD-map}
 use lib.Seq.{ext-getD, length-take-le, getD-take, getD-set-same, getD-set-other}
 use lib.Ieee.{Float, nan}
-use Rattle.lists.specs.Tab.{tab}
 use Rattle.lists.specs.Buffer.{front}
 use Rattle.lists.proofs.Tab.{getD-any, length-tab, getD-tab}
 use Rattle.lists.proofs.Buffer.{front-length, front-same, front-again, front-behind, front-set, front-next}

@@ -1,7 +1,6 @@
 -- Each case of the table comes out as document 01 says, by computation. Assumes nothing.
 use mathlib.Core.Path.{_≡_, refl}
-use mathlib.Core.List.{List, map}
-use lib.IntN.{ℤ}
+use mathlib.Core.List.{map}
 use lib.Ieee.{mul, le, ofInt}
 use Rattle.multiscale.specs.Multiscale.{roiOf}
 use Rattle.lists.specs.Tab.{tab, grid}

@@ -2,7 +2,6 @@
 use Prim.Native.Nat.{_+_, _*_}
 use native.Mathlib.Nat.{mul-comm}
 use native.Mathlib.Omega.{arith}
-use mathlib.Core.Logic.{_↔_}
 use lib.Ieee.{nan}
 use lib.Seq.{getD-take}
 use Rattle.lists.proofs.Places.{in-map}

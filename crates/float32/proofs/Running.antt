@@ -1,10 +1,10 @@
 -- A running sum of floats that are not negative, against the exact sum: the relative error grows by one part in 2 ^ 24 - 2048 with each addition, up to 2048 of them.
 -- Numbers of units throughout (`Units`). Assumes nothing.
-use mathlib.Core.Path.{_≡_, refl, subst}
+use mathlib.Core.Path.{_≡_, refl}
 use mathlib.Core.List.{List, [], _∷_}
 use lib.ListN.{length}
-use Prim.Native.Nat.{ℕ, zero, suc, _+_, _*_, _^_, _≤_, _<_}
-use native.Mathlib.Nat.{add-zero, zero-add, add-assoc, suc-mul, le-trans, le-of-lt, lt-of-le-of-lt, lt-of-lt-of-le, add-mul, mul-le-mul-right, mul-le-mul-left, mul-suc, mul-lt-mul-of-pos-right}
+use Prim.Native.Nat.{ℕ, suc, _+_, _*_, _^_, _≤_, _<_}
+use native.Mathlib.Nat.{add-zero, zero-add, add-assoc, suc-mul, le-trans, le-of-lt, lt-of-le-of-lt, add-mul, mul-le-mul-left, mul-suc, mul-lt-mul-of-pos-right}
 use native.Mathlib.Omega.{arith}
 use mathlib.Core.Bool.{false}
 use lib.Dec.{lit<, lit≤}
@@ -13,9 +13,7 @@ use lib.Ieee.{Float, binary32, low, add, mul}
 use lib.Ieee.Exact.{HasValue}
 use Rattle.lists.specs.Places.{sumOf, All}
 use Rattle.float32.specs.Float32.{zero as zero32}
-use Rattle.float32.specs.Value.{total}
 use Rattle.float32.proofs.Rounding.{HalfNear}
-use Rattle.float32.proofs.Sums.{total-bound}
 use Rattle.float32.proofs.Units.{Units, rounded, units-near, add-units, scale-units}
 
 -- ---- x is A units, and |A - X| ≤ X c / 16775168
@@ -78,21 +76,6 @@ scale-nearly x y k b v w m =
       units = scale-units binary32 x y k b v w (small-of (k * b) (k * b) 0 (2 ^ low binary32) (pow-pos (low binary32)) (lit≤ tt) n m);
       near = rounded-near (rounded binary32 (k * b)) (k * b) (k * b) 0 (lit< tt) (units-near binary32 (k * b)) n;
     }
-
--- ---- sums of many
-unfoldable pub running : (ℕ → Float) → ℕ → Float
-running t zero = zero32
-running t (suc k) = add binary32 (running t k) (t k)
-
-pub running-nearly : (t : ℕ → Float) (X : ℕ → ℕ) (d H n : ℕ) → n + d ≤ 2048 → n * H ≤ 2 ^ 60 * 2 ^ low binary32 → ((i : ℕ) → i < n → Nearly (t i) (X i) d) → ((i : ℕ) → i < n → X i ≤ H)
-    → (k : ℕ) → k ≤ n → Nearly (running t k) (total X k) (k + d)
-unfolding running total
-running-nearly t X d H n s m v b zero l = record { size = 0; units = (refl, refl); near = omega arith }
-running-nearly t X d H n s m v b (suc k) l =
-    let e : suc (k + d) ≡ suc k + d = omega arith in
-    let sum : total X (suc k) ≤ n * H = le-trans (total-bound X H (suc k) (λ i q. b i (lt-of-lt-of-le q l))) (mul-le-mul-right H l) in
-    subst (λ (c : ℕ). Nearly (add binary32 (running t k) (t k)) (total X k + X k) c) e
-    (add-nearly (running t k) (t k) (total X k) (X k) (k + d) d (omega arith) (omega arith) (le-trans sum m) (running-nearly t X d H n s m v b k (le-of-lt l)) (v k l))
 
 -- ---- the terms of a list, one after the other
 module _ {A : Type 0} (t : A → Float) where

@@ -1,5 +1,4 @@
 -- `stream::left_after` meets its contract, arm by arm. Assumes nothing.
-use Prim.Native.Nat.{_-_}
 use native.Mathlib.Omega.{arith}
 use borrow.Author.Tests.{ne-eqb}
 use Rattle.stream.specs.Parts.{leftAfter}
