@@ -16,6 +16,7 @@ use Rattle.lists.specs.Places.{All}
 use Rattle.lists.specs.Refusals.{lowest}
 use Rattle.lists.proofs.Tests.{or-neither}
 use Rattle.lists.proofs.Refusals.{all-clear, lowest-some, lowest-past}
+use Rattle.ring.proofs.Places.{ring-small}
 use Rattle.corner_list.specs.CornerList.{Slices, placesOf, placedCorners}
 use Rattle.corner_list.specs.declared.Corner.{Corner}
 use Rattle.detect.specs.declared.Search.{Search}
@@ -65,14 +66,6 @@ module _ (size w h ring window radius : ℕ) where
   sound-clear k =
       clear
       (rw (le-ltb 4096 w (k .wide), le-ltb 4096 h (k .high), eq-eqb size (w * h) (k .whole), k .ring-is, le-ltb 16 window (k .in-window), le-ltb 16 radius (k .in-radius)))
-
-ring-small : (ring : ℕ) → isRing ring ≡ true → ring ≤ 10
-ring-small ring e = pick (eqb ring 5) (eqb ring 10) refl refl e
-  where
-    pick : (a b : Bool) → eqb ring 5 ≡ a → eqb ring 10 ≡ b → (a || b) ≡ true → ring ≤ 10
-    pick true b p q e = omega (arith, eqb-true ring 5 p)
-    pick false true p q e = omega (arith, eqb-true ring 10 q)
-    pick false false p q e = let z : _≡_ {A = Bool} false true = e in absurd (let y : _≡_ {A = ℕ} 0 1 = cc in let no : ⊥ = omega arith in no)
 
 -- so its map can be searched
 pub searchable : (m : List Float) (w h ring : ℕ) (t : Float) (window least radius : ℕ) → Clear (conditions (length m) w h ring window radius)

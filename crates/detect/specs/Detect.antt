@@ -10,6 +10,7 @@ use lib.Ieee.{Float, ofInt, binary32}
 use Rattle.lists.specs.Places.{Place}
 use Rattle.lists.specs.Refusals.{lowest}
 use Rattle.float32.specs.Float32.{lift}
+pub use Rattle.ring.specs.Ring.{isRing}
 use Rattle.corner_list.specs.CornerList.{Slices, placesOf, placedCorners}
 use Rattle.corner_list.specs.declared.Corner.{Corner}
 use Rattle.detect.specs.declared.Search.{Search}
@@ -44,10 +45,6 @@ abbrev pub startsIn : List Float → Search → List Corner
 startsIn m s = map (startAt m (s .w)) (peaksIn m s)
 
 -- ---- refusals
-
--- the radius of one of the two rings
-abbrev pub isRing : ℕ → Bool
-isRing radius = eqb radius 5 || eqb radius 10
 
 -- the conditions on the input, a map of `size` cells and the parameters, with their numbers
 unfoldable pub conditions : ℕ → ℕ → ℕ → ℕ → ℕ → ℕ → List (Bool × ℕ)

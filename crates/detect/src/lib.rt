@@ -12,7 +12,7 @@ ghost use Rattle.lists.specs.Refusals.{lowest};
 ghost use Rattle.float32.specs.Float32.{zero};
 ghost use Rattle.corner_list.specs.CornerList.{slices, placesOf};
 ghost use Rattle.detect.specs.Peaks.{valueAt, isLow, largerIn, positiveIn, beaten, positives, Inside};
-ghost use Rattle.detect.specs.Detect.{searchOf, peakIn, peaksIn, startAt, startsIn, isRing, conditions, Found};
+ghost use Rattle.detect.specs.Detect.{searchOf, peakIn, peaksIn, startAt, startsIn, conditions, Found};
 ghost use Rattle.detect.specs.Post.{place, Searchable, Below, Skipped, NextPeak, Written};
 
 // What a map is searched with: its sides, the border that no peak lies in, the window's radius, the lifted threshold and the
@@ -344,13 +344,6 @@ fn write_peaks(
     n
 }
 
-// Whether there is a ring of this radius.
-fn is_ring(radius: u32) -> bool
-    ensures { λ b. ⌜ b ≡ isRing radius ⌝ }
-{
-    if radius == 5 { true } else { radius == 10 }
-}
-
 // The number of the first condition on the input that holds, 0 for none.
 fn fault(size: usize, w: usize, h: usize, ring: u32, window: u32, radius: u32) -> u8
     ensures { λ k. ⌜ k ≡ lowest (conditions size w h ring window radius) ⌝ }
@@ -364,7 +357,7 @@ fn fault(size: usize, w: usize, h: usize, ring: u32, window: u32, radius: u32) -
     if size != w * h {
         return 2;
     }
-    if is_ring(ring) {
+    if ring::is_ring(ring) {
         if 16 < window {
             return 3;
         }

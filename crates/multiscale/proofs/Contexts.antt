@@ -1,6 +1,5 @@
 -- Contexts: what the tests say of the table of refusals, what holds of a context that is not refused, and that a sound one never is. Assumes nothing.
 use mathlib.Core.Path.{_≡_, refl, sym, _∙_}
-use mathlib.Core.Logic.{_⊎_, inl, inr}
 use mathlib.Core.Bool.{Bool, true, false, not, _||_, false≢true, true≢false}
 use Prim.Native.Nat.{ℕ, _*_, _%_, _^_, _≤_, _<_}
 use native.Mathlib.Nat.{mul-le-mul, one-mul}
@@ -8,34 +7,19 @@ use native.Mathlib.Omega.{arith}
 use lib.Dec.{T, ltb, leb, eqb, lit<, le→leb}
 use lib.Pow.{pow-mono, shl-exact}
 use borrow.Author.Tests.{lt-ltb, le-ltb, le-leb, eq-eqb, ltb-false, leb-true, eqb-true}
-use Rattle.lists.proofs.Tests.{and-parts, or-neither, or-right}
+use Rattle.lists.proofs.Tests.{and-parts, or-neither}
 use Rattle.lists.proofs.Refusals.{all-clear}
+use Rattle.ring.proofs.Places.{ring-is, ring-fits, ring-small}
 use Rattle.corner_list.specs.CornerList.{isInside}
 use Rattle.corner_list.specs.declared.Corner.{Corner}
 use Rattle.multiscale.specs.declared.RoiContext.{RoiContext}
 use Rattle.multiscale.specs.Multiscale.{parametersFit, conditions, refusal, border, roiRadius}
 use Rattle.multiscale.specs.Promise.{Sound}
 
--- ---- a ring's radius
-pub ring-fits : (n : ℕ) → (n ≡ 5) ⊎ (n ≡ 10) → (eqb n 5 || eqb n 10) ≡ true
-ring-fits n (inl e) = rw (eq-eqb n 5 e)
-ring-fits n (inr e) = rw (eq-eqb n 10 e) (or-right (eqb n 5))
-
-ring-is : (n : ℕ) → (eqb n 5 || eqb n 10) ≡ true → (n ≡ 5) ⊎ (n ≡ 10)
-ring-is n e = go (eqb n 5) (eqb n 10) refl refl e
-  where
-    go : (a b : Bool) → eqb n 5 ≡ a → eqb n 10 ≡ b → (a || b) ≡ true → (n ≡ 5) ⊎ (n ≡ 10)
-    go true b p q e = inl (eqb-true n 5 p)
-    go false true p q e = inr (eqb-true n 10 q)
-    go false false p q e = absurd (false≢true e)
-
 -- ---- the sizes of a sound context are small
 module _ (c : RoiContext) (s : Sound c) where
-  ring-small : c .ring ≤ 10
-  ring-small = elim (s .ring) [ inl e ↦ omega arith | inr e ↦ omega arith ]
-
   pub border-small : border c ≤ 42
-  border-small = omega (arith, ring-small, s .window, s .centroid)
+  border-small = omega (arith, ring-small (c .ring) (ring-fits (c .ring) (s .ring)), s .window, s .centroid)
 
   search-small : c .search * 2 ^ c .level ≤ 255 * 4096
   search-small = mul-le-mul (s .search) (pow-mono {j = 12} (s .level))

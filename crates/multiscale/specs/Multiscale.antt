@@ -9,6 +9,7 @@ use Rattle.lists.specs.Refusals.{lowest}
 use Rattle.float32.specs.Float32.{roundHalfAway}
 use Rattle.float32.specs.declared.Rounded.{Rounded}
 use Rattle.float32.specs.declared.Rounded.the-variants.{Natural, Negative, Beyond}
+use Rattle.ring.specs.Ring.{isRing}
 use Rattle.corner_list.specs.CornerList.{isInside}
 use Rattle.corner_list.specs.declared.Corner.{Corner}
 use Rattle.multiscale.specs.declared.RoiContext.{RoiContext}
@@ -20,7 +21,7 @@ use Rattle.multiscale.specs.declared.Span.the-variants.{Ends, Nothing}
 -- ---- refusals
 -- window and centroid radius at most 16, search radius at most 255, level at most 12, and a ring of 5 or 10
 unfoldable pub parametersFit : RoiContext → Bool
-parametersFit c = leb (c .window) 16 && (leb (c .centroid) 16 && (leb (c .search) 255 && (leb (c .level) 12 && (eqb (c .ring) 5 || eqb (c .ring) 10))))
+parametersFit c = leb (c .window) 16 && (leb (c .centroid) 16 && (leb (c .search) 255 && (leb (c .level) 12 && isRing (c .ring))))
 
 -- the conditions and their numbers
 abbrev pub conditions : RoiContext → Corner → List (Bool × ℕ)

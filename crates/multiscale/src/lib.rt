@@ -1,8 +1,6 @@
 // The box of the base image in which a corner of a coarser level, the seed, is looked for again: its region of interest (ROI).
 ghost use mathlib.Core.Path.{_≡_};
-ghost use mathlib.Core.Bool.{_||_};
 ghost use Prim.Native.Nat.{_≤_};
-ghost use lib.Dec.{eqb};
 ghost use Rattle.multiscale.specs.Multiscale.{parametersFit, refusal as refusalOf, border as borderOf, roiRadius, spanAbout, spanOn};
 ghost use Rattle.multiscale.specs.Promise.{Sound, Boxed};
 use corner_list::Corner;
@@ -29,15 +27,6 @@ pub enum RoiAnswer {
 enum Span {
     Ends(usize, usize),
     Nothing,
-}
-
-fn is_ring(radius: u32) -> bool
-    ensures { λ r. ⌜ r ≡ (eqb radius 5 || eqb radius 10) ⌝ }
-{
-    if radius == 5 {
-        return true;
-    }
-    radius == 10
 }
 
 // The box about a centre on one axis: r pixels both ways, clipped to the border b.
@@ -82,7 +71,7 @@ impl RoiContext {
         if 12 < self.level {
             return false;
         }
-        is_ring(self.ring)
+        ring::is_ring(self.ring)
     }
 
     // The number of the refusal, 0 for none.

@@ -1,6 +1,6 @@
 -- What no refusal tells of a call, the clipped box in the image, and what each call answers and leaves. Assumes nothing.
 use mathlib.Core.Path.{_≡_, refl, _∙_}
-use mathlib.Core.Logic.{_⊎_, inl, inr, ⊎-elim}
+use mathlib.Core.Logic.{_⊎_}
 use mathlib.Core.Bool.{Bool, true, false, cond, not, _||_}
 use mathlib.Core.List.{List, [], _∷_, _++_}
 use Prim.Native.Nat.{ℕ, zero, suc, _+_, _*_, _≤_}
@@ -12,13 +12,13 @@ use lib.Ieee.{Float}
 use lib.ListN.{length, drop}
 use Rattle.lists.specs.Tab.{grid}
 use Rattle.lists.proofs.Refusals.{lowest-none}
-use Rattle.lists.proofs.Tests.{or-neither, or-either, or-right}
+use Rattle.lists.proofs.Tests.{or-neither}
 use Rattle.lists.proofs.Tab.{length-grid}
-use Rattle.ring.specs.Ring.{ringOf}
-use Rattle.ring.proofs.Places.{radius-is}
+use Rattle.ring.specs.Ring.{ringOf, isRing}
+use Rattle.ring.proofs.Places.{radius-is, ring-is, ring-fits}
 use Rattle.response.specs.Response.{responseAt}
 use Rattle.response.specs.Needs.{Image}
-use Rattle.response.specs.Patch.{View, sideOf, besides, cols, rows, left, top, cells, isRing, refusalOf, refusal, Patched}
+use Rattle.response.specs.Patch.{View, sideOf, besides, cols, rows, left, top, cells, refusalOf, refusal, Patched}
 use Rattle.response.specs.declared.Patch.the-variants.{Cells, Refused}
 
 -- ---- no refusal: an image, one of the two rings, and places enough
@@ -44,18 +44,14 @@ taken pixels w h radius size places e =
       narrow = ltb-false _ _ (sides .0);
       low = ltb-false _ _ (sides .1);
       sized = eqb-true _ _ (not-false _ (q .0));
-      known =
-          ⊎-elim (λ x. inl (eqb-true _ _ x)) (λ x. inr (eqb-true _ _ x)) (or-either (eqb radius 5) (eqb radius 10) (not-false _ (r .0)));
+      known = ring-is radius (not-false _ (r .0));
       enough = ltb-false _ _ (u .0);
     }
 
 -- and where these hold, nothing refuses
 pub allowed : (pixels w h radius size places : ℕ) → Taken pixels w h radius size places → refusalOf pixels w h radius size places ≡ 0
 unfolding refusalOf
-allowed pixels w h radius size places t = rw (le-ltb _ _ (t .narrow), le-ltb _ _ (t .low), eq-eqb _ _ (t .sized), two (t .known), le-ltb _ _ (t .enough))
-  where
-    two : (radius ≡ 5) ⊎ (radius ≡ 10) → isRing radius ≡ true
-    two o = ⊎-elim (λ (x : radius ≡ 5). rw (eq-eqb _ _ x)) (λ (x : radius ≡ 10). rw (eq-eqb _ _ x) (or-right (eqb radius 5))) o
+allowed pixels w h radius size places t = rw (le-ltb _ _ (t .narrow), le-ltb _ _ (t .low), eq-eqb _ _ (t .sized), ring-fits radius (t .known), le-ltb _ _ (t .enough))
 
 pub image : (img : List ℕ) (w h radius size places : ℕ) → Taken (length img) w h radius size places → Image img w h × (ringOf radius .radius ≡ radius)
 image img w h radius size places t = (record { sized = t .sized; narrow = t .narrow; low = t .low }, radius-is radius (t .known))

@@ -9,7 +9,7 @@ use lib.Ieee.{Float}
 use Rattle.lists.specs.Tab.{grid}
 use Rattle.lists.specs.Buffer.{front}
 use Rattle.lists.specs.Refusals.{lowest}
-use Rattle.ring.specs.Ring.{Ring}
+use Rattle.ring.specs.Ring.{Ring, isRing}
 use Rattle.response.specs.Response.{responseAt}
 use Rattle.response.specs.declared.Patch.{Patch}
 use Rattle.response.specs.declared.Patch.the-variants.{Cells, Refused}
@@ -60,10 +60,6 @@ unfoldable pub cells : View → List Float
 cells v = grid (cols v) (rows v) (responseIn v)
 
 -- ---- what a call answers and leaves, for a ring's radius as given and a buffer of so many places
-
--- the radius of one of the two rings
-abbrev pub isRing : ℕ → Bool
-isRing radius = eqb radius 5 || eqb radius 10
 
 -- 1: a side above 4096; 2: not w * h pixels; 3: a ring that is not 5 or 10; 8: fewer places than cells
 unfoldable pub refusalOf : ℕ → ℕ → ℕ → ℕ → ℕ → ℕ → ℕ

@@ -6,7 +6,7 @@ mod numbers; // numbers.rt: differences and bounds of whole numbers
 ghost use mathlib.Core.Path.{_≡_};
 ghost use Prim.Native.Nat.{_*_, _≤_};
 ghost use Rattle.ring.specs.Ring.{ringOf};
-ghost use Rattle.response.specs.Patch.{sideOf, besides, isRing, refusalOf, Patched};
+ghost use Rattle.response.specs.Patch.{sideOf, besides, refusalOf, Patched};
 use numbers::less;
 use numbers::lesser;
 
@@ -24,16 +24,6 @@ fn beside(own: usize, other: usize) -> usize
     if other == 0 { 0 } else { own }
 }
 
-// The radius of one of the two rings.
-fn is_ring(radius: u32) -> bool
-    ensures { λ r. ⌜ r ≡ isRing radius ⌝ }
-{
-    if radius == 5 {
-        return true;
-    }
-    radius == 10
-}
-
 // Why a map of pw by ph cells is refused, or 0.
 fn refusal(pixels: usize, w: usize, h: usize, ring: u32, pw: usize, ph: usize, places: usize) -> u8
     requires { ⌜ (pw ≤ w) × (ph ≤ h) ⌝ }
@@ -48,7 +38,7 @@ fn refusal(pixels: usize, w: usize, h: usize, ring: u32, pw: usize, ph: usize, p
     if pixels != w * h {
         return 2;
     }
-    if !is_ring(ring) {
+    if !ring::is_ring(ring) {
         return 3;
     }
     if places < ph * pw {

@@ -1,15 +1,16 @@
 -- What holds of any ring's places, and of the radius that a number selects. Assumes nothing.
 use mathlib.Core.Path.{_≡_}
-use mathlib.Core.Logic.{_⊎_, ⊎-elim}
+use mathlib.Core.Logic.{_⊎_, inl, inr, ⊎-elim}
 use mathlib.Core.Bool.{Bool, true, false, cond}
 use mathlib.Core.List.{List, map}
 use Prim.Native.Nat.{ℕ, _*_, _≤_}
 use native.Mathlib.Omega.{arith}
 use native.Mathlib.Decide.{decLt}
-use borrow.Author.Tests.{eq-eqb, ne-eqb}
+use borrow.Author.Tests.{eqb-true, eq-eqb, ne-eqb}
 use lib.Dec.{eqb, lit≤}
 use lib.ListN.{length, getD, length-map, List·getD-eq-default}
-use Rattle.ring.specs.Ring.{Ring, ring5, ring10, ringOf, dx, dy, IsRing}
+use Rattle.lists.proofs.Tests.{or-either, or-right}
+use Rattle.ring.specs.Ring.{Ring, ring5, ring10, ringOf, isRing, dx, dy, IsRing}
 
 -- past the sixteenth place a column and a row read 0
 past : (s : List (ℕ × ℕ)) (f : ℕ × ℕ → ℕ) (k : ℕ) → length s ≤ k → getD (map f s) k 0 ≡ 0
@@ -48,3 +49,13 @@ radius-small n = pick (eqb n 10)
 pub radius-is : (n : ℕ) → (n ≡ 5) ⊎ (n ≡ 10) → ringOf n .radius ≡ n
 unfolding ringOf ring5 ring10
 radius-is n o = ⊎-elim (λ (e : n ≡ 5). rw e) (λ (e : n ≡ 10). rw e) o
+
+pub ring-is : (n : ℕ) → isRing n ≡ true → (n ≡ 5) ⊎ (n ≡ 10)
+ring-is n e = ⊎-elim (λ x. inl (eqb-true n 5 x)) (λ x. inr (eqb-true n 10 x)) (or-either (eqb n 5) (eqb n 10) e)
+
+pub ring-fits : (n : ℕ) → (n ≡ 5) ⊎ (n ≡ 10) → isRing n ≡ true
+ring-fits n (inl e) = rw (eq-eqb n 5 e)
+ring-fits n (inr e) = rw (eq-eqb n 10 e) (or-right (eqb n 5))
+
+pub ring-small : (n : ℕ) → isRing n ≡ true → n ≤ 10
+ring-small n e = elim (ring-is n e) [ inl p ↦ omega arith | inr p ↦ omega arith ]

@@ -1,7 +1,7 @@
 -- The rings: the two tables of the detector, and what any ring table must be.
 use Prim.Native.Nat.{ℕ, _+_, _*_, _-_, _<_, _≤_}
 use mathlib.Core.Path.{_≡_}
-use mathlib.Core.Bool.{cond}
+use mathlib.Core.Bool.{Bool, cond, _||_}
 use mathlib.Core.List.{List, [], _∷_, map}
 use lib.Dec.{eqb}
 use lib.ListN.{length, getD}
@@ -32,6 +32,10 @@ ring10 =
 unfoldable pub ringOf : ℕ → Ring
 unfolding ring5 ring10
 ringOf n = cond (eqb n 10) ring10 ring5
+
+-- "A parameter set may say only 5 or 10"
+abbrev pub isRing : ℕ → Bool
+isRing radius = eqb radius 5 || eqb radius 10
 
 -- the columns and the rows of the places, and those of place k
 abbrev pub columns : Ring → List ℕ

@@ -1,6 +1,6 @@
 // The two rings of sixteen sampling places about a centre.
 ghost use mathlib.Core.Path.{_≡_};
-ghost use Rattle.ring.specs.Ring.{ringOf};
+ghost use Rattle.ring.specs.Ring.{ringOf, isRing};
 ghost use Rattle.ring.specs.Offsets.{offsetsOf};
 
 // A ring's radius, and the columns and rows of its places in order, clockwise from the top. Both are counted from the corner of
@@ -36,4 +36,14 @@ pub fn ring_offsets(radius: u32) -> RingOffsets
             rows: ROWS_5,
         },
     }
+}
+
+// Whether a parameter set may say this radius: 5 or 10.
+pub fn is_ring(radius: u32) -> bool
+    ensures { λ r. ⌜ r ≡ isRing radius ⌝ }
+{
+    if radius == 5 {
+        return true;
+    }
+    radius == 10
 }

@@ -7,6 +7,7 @@ use lib.Dec.{eqb, ltb, leb}
 use lib.Ieee.{Float, binary32, ofBits}
 use Rattle.lists.specs.Places.{any}
 use Rattle.lists.specs.Refusals.{lowest}
+use Rattle.ring.specs.Ring.{isRing}
 use Rattle.merge.specs.Merge.{isOff, isSized}
 use Rattle.stream.specs.declared.Header.{Header}
 
@@ -62,7 +63,7 @@ sidesFault width height = lowest ((ltb 96 width || ltb 96 height, 1) ∷ [])
 
 -- "Ring not 5 or 10; window or centroid radius outside 0..16"
 unfoldable pub rangeOutside : ℕ → ℕ → ℕ → Bool
-rangeOutside ring window centroid = not (eqb ring 5 || eqb ring 10) || ltb 16 window || ltb 16 centroid
+rangeOutside ring window centroid = not (isRing ring) || ltb 16 window || ltb 16 centroid
 
 -- "Merge radius finite, positive, outside 1/64..4,096": neither off nor of a size that the merge takes
 abbrev pub radiusOutside : Float → Bool

@@ -107,18 +107,16 @@ fn first(a: u8, b: u8) -> u8
 fn range_fault(ring: u8, window: u8, centroid: u8) -> u8
     ensures { λ r. ⌜ r ≡ rangeFault ring window centroid ⌝ }
 {
-    match ring {
-        5 | 10 => {
-            if 16 < window {
-                return 3;
-            }
-            if 16 < centroid {
-                return 3;
-            }
-            0
-        }
-        _ => 3,
+    if !ring::is_ring(ring as u32) {
+        return 3;
     }
+    if 16 < window {
+        return 3;
+    }
+    if 16 < centroid {
+        return 3;
+    }
+    0
 }
 
 fn radius_fault(bits: u32) -> u8

@@ -1,7 +1,7 @@
--- `response::is_ring` meets its contract. Assumes nothing.
+-- `ring::is_ring` meets its contract. Assumes nothing.
 use borrow.Author.Tests.{eq-eqb, ne-eqb}
-use Rattle.response.proofs.is_ring.Statement.{statement}
-use Rattle.response.proofs.is_ring.Tie as tie
+use Rattle.ring.proofs.is_ring.Statement.{statement}
+use Rattle.ring.proofs.is_ring.Tie as tie
 
 returns : tie.Need-returns
 returns c = rw (eq-eqb _ _ (c .if1 .taken))
