@@ -1,18 +1,17 @@
 -- Merging corners (merge.rs): each corner joins the first of the kept ones that it is near, or is kept itself.
 use Prim.Native.Nat.{ℕ, zero, suc, _+_, min}
 use mathlib.Core.Path.{_≡_}
-use mathlib.Core.Bool.{Bool, false, not, cond, _&&_, _||_}
+use mathlib.Core.Bool.{Bool, false, not, cond, _&&_}
 use mathlib.Core.List.{List, [], _∷_, map}
-use lib.IntN.{pos, negsuc}
+use lib.IntN.{pos}
 use lib.ListN.{length}
 use lib.Dec.{leb, ltb}
 use lib.Ieee.{Float, inf, fin, binary32, lt, le, add, sub, mul, div, toUnsigned}
-use lib.Ieee.Scale.{finite}
 use Rattle.lists.specs.Places.{any}
 use Rattle.lists.specs.Refusals.{lowest}
-use Rattle.float32.specs.Float32 as float32
 use Rattle.corner_list.specs.declared.Corner.{Corner}
-use Rattle.corner_list.specs.CornerList.{Slices, largest, isInside, xOf, yOf, cornersOf, frontCorners}
+use Rattle.corner_list.specs.CornerList.{Slices, isInside, xOf, yOf, cornersOf, frontCorners}
+unfoldable pub use Rattle.merge_radius.specs.MergeRadius.{isOff, isSized}
 use Rattle.merge.specs.declared.cells.Grid.{Grid}
 use Rattle.merge.specs.declared.Merged.{Merged}
 use Rattle.merge.specs.declared.Merged.the-variants.{Kept, Refused}
@@ -82,19 +81,11 @@ abbrev pub merged : (Corner → Corner → Bool) → List Corner → List Corner
 merged j kept [] = kept
 merged j kept (c ∷ cs) = merged j (settle j kept c) cs
 
--- a radius that is off: not finite, or at most 0
-unfoldable pub isOff : Float → Bool
-isOff radius = not (finite radius) || le radius float32.zero
-
 -- what is left of a list of corners; an off radius leaves it as it came
 unfoldable pub resultOf : Float → List Corner → List Corner
 resultOf radius cs = cond (isOff radius) cs (merged (joins (gridOf radius cs)) [] cs)
 
 -- ---- refusals
-
--- a radius from 1/64 to 4,096
-unfoldable pub isSized : Float → Bool
-isSized radius = float32.between (fin false 1 (negsuc 5)) largest radius
 
 -- Document 01's number, 0 for none, of merging the first `count` corners of a buffer of so many places:
 -- 4: a coordinate of the corners that the buffer has is not finite or outside 0..4,096

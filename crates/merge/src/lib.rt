@@ -10,30 +10,12 @@ ghost use Prim.Native.Nat.{min};
 ghost use lib.Dec.{ltb};
 ghost use Rattle.lists.specs.Places.{any};
 ghost use Rattle.corner_list.specs.CornerList.{isInside, slices, cornersOf, placesOf};
-ghost use Rattle.merge.specs.Merge.{isOff, isSized, refusalOf, Merges};
+ghost use Rattle.merge.specs.Merge.{refusalOf, Merges};
 
 // The answer of merging: how many corners are left, or the number of the refusal.
 pub enum Merged {
     Kept(usize),
     Refused(u8),
-}
-
-// Whether a radius is off: not finite, or at most 0.
-pub fn is_off(radius: f32) -> bool
-    ensures { λ r. ⌜ r ≡ isOff radius ⌝ }
-{
-    if float32::is_finite(radius) {
-        radius <= 0.0
-    } else {
-        true
-    }
-}
-
-// Whether a radius is from 1/64 to 4,096.
-pub fn is_sized(radius: f32) -> bool
-    ensures { λ r. ⌜ r ≡ isSized radius ⌝ }
-{
-    float32::is_between(0.015625, 4096.0, radius)
 }
 
 // Whether one of the first n corners of a buffer is not inside.
@@ -73,13 +55,13 @@ fn refusal(
 ) -> u8
     ensures { λ r. ⌜ r ≡ refusalOf radius places count (slices (now (xs .entry)) (now (ys .entry)) (now (strengths .entry))) ⌝ }
 {
-    if is_off(radius) {
+    if merge_radius::is_off(radius) {
         return crowding(places, count);
     }
     if has_outside(xs, ys, strengths, fewer(count, places)) {
         return 4;
     }
-    if is_sized(radius) {
+    if merge_radius::is_sized(radius) {
         return crowding(places, count);
     }
     5

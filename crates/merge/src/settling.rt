@@ -95,7 +95,7 @@ pub(crate) fn merge_list(
     ensures { λ k. ⌜ Left (resultOf radius (cornersOf (slices (now (xs .entry)) (now (ys .entry)) (now (strengths .entry))) n))
         (slices (now (xs .entry)) (now (ys .entry)) (now (strengths .entry))) k (slices (now (xs .exit)) (now (ys .exit)) (now (strengths .exit))) ⌝ }
 {
-    if crate::is_off(radius) {
+    if merge_radius::is_off(radius) {
         return n;
     }
     let g = crate::cells::grid_of(xs, ys, strengths, n, radius);

@@ -4,7 +4,7 @@ use mathlib.Core.Path.{_≡_, refl}
 use mathlib.Core.List.{List, [], _∷_, _++_, map}
 use lib.ListN.{replicate}
 use lib.Ieee.{ofBits, lt, le}
-use Rattle.merge.specs.Merge.{isOff, isSized}
+use Rattle.merge_radius.specs.MergeRadius.{isOff, isSized}
 use Rattle.stream.specs.Stream.{bodyLength, accepted, refused, readFrame}
 
 -- sides; parameters with ring, window and merge radius; pixels of one record

@@ -6,7 +6,7 @@ use mathlib.Core.List.{[], _∷_}
 use lib.Dec.{eqb}
 use lib.Ieee.{Float, binary32, ofBits}
 use Rattle.lists.specs.Refusals.{lowest}
-use Rattle.merge.specs.Merge.{isOff, isSized}
+use Rattle.merge_radius.specs.MergeRadius.{isOff, isSized}
 use Rattle.stream.specs.Stream.{rangeOutside, radiusOutside, parametersFault}
 use Rattle.stream.specs.Parts.{firstFault, rangeFault, radiusFault}
 

@@ -8,7 +8,7 @@ use lib.Ieee.{Float, binary32, ofBits}
 use Rattle.lists.specs.Places.{any}
 use Rattle.lists.specs.Refusals.{lowest}
 use Rattle.ring.specs.Ring.{isRing}
-use Rattle.merge.specs.Merge.{isOff, isSized}
+use Rattle.merge_radius.specs.MergeRadius.{isOff, isSized}
 use Rattle.stream.specs.declared.Header.{Header}
 
 -- ---- numbers at a place of a list of bytes, little-endian

@@ -1,9 +1,9 @@
--- `merge::is_sized` meets its contract. Assumes nothing.
+-- `merge_radius::is_sized` meets its contract. Assumes nothing.
 use borrow.Author.Needs.{needs}
 use lib.Ieee.{ofBits}
-use Rattle.merge.specs.Merge.{isSized}
-use Rattle.merge.proofs.is_sized.Statement.{statement}
-use Rattle.merge.proofs.is_sized.Tie as tie
+use Rattle.merge_radius.specs.MergeRadius.{isSized}
+use Rattle.merge_radius.proofs.is_sized.Statement.{statement}
+use Rattle.merge_radius.proofs.is_sized.Tie as tie
 
 is-between-requires : tie.Need-is-between-requires
 is-between-requires c κs = search needs

@@ -1,12 +1,12 @@
--- `merge::is_off` meets its contract. Assumes nothing.
+-- `merge_radius::is_off` meets its contract. Assumes nothing.
 use borrow.Author.Needs.{needs}
 use mathlib.Core.Path.{sym, ap, _∙_}
 use mathlib.Core.Bool.{Bool, not, _||_}
 use lib.Ieee.{le, ofBits}
 use Rattle.float32.specs.Float32.{zero}
-use Rattle.merge.specs.Merge.{isOff}
-use Rattle.merge.proofs.is_off.Statement.{statement}
-use Rattle.merge.proofs.is_off.Tie as tie
+use Rattle.merge_radius.specs.MergeRadius.{isOff}
+use Rattle.merge_radius.proofs.is_off.Statement.{statement}
+use Rattle.merge_radius.proofs.is_off.Tie as tie
 
 is-finite-requires : tie.Need-is-finite-requires
 is-finite-requires c κs = search needs

@@ -1,0 +1,21 @@
+// The radius within which corners are merged.
+ghost use mathlib.Core.Path.{_≡_};
+ghost use Rattle.merge_radius.specs.MergeRadius.{isOff, isSized};
+
+// Whether a radius is off: not finite, or at most 0.
+pub fn is_off(radius: f32) -> bool
+    ensures { λ r. ⌜ r ≡ isOff radius ⌝ }
+{
+    if float32::is_finite(radius) {
+        radius <= 0.0
+    } else {
+        true
+    }
+}
+
+// Whether a radius is from 1/64 to 4,096.
+pub fn is_sized(radius: f32) -> bool
+    ensures { λ r. ⌜ r ≡ isSized radius ⌝ }
+{
+    float32::is_between(0.015625, 4096.0, radius)
+}
