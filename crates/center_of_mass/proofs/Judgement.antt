@@ -1,21 +1,16 @@
 -- The refusals: what the tests on the way say of the table, and what holds where nothing is refused. Assumes nothing.
-use mathlib.Core.Path.{_≡_, refl, sym}
+use mathlib.Core.Path.{_≡_, sym}
 use mathlib.Core.Logic.{_⊎_, inl, inr}
-use mathlib.Core.Bool.{Bool, true, false, not, _&&_, _||_, true≢false}
+use mathlib.Core.Bool.{Bool, true, false, not, _&&_, true≢false}
 use mathlib.Core.List.{[], _∷_}
 use Prim.Native.Nat.{ℕ, _*_, _≤_, _<_}
-use lib.Dec.{ltb, eqb, lit<}
+use lib.Dec.{ltb, lit<}
 use lib.Ieee.{Float}
-use borrow.Author.Tests.{lt-ltb, le-ltb, eq-eqb, ne-eqb, ltb-false, eqb-true}
+use borrow.Author.Tests.{lt-ltb, le-ltb, eq-eqb, ne-eqb, ltb-false}
 use Rattle.lists.specs.Places.{All}
-use Rattle.lists.specs.Refusals.{lowest}
-use Rattle.lists.proofs.Tests.{or-neither}
-use Rattle.lists.proofs.Refusals.{all-clear}
+use Rattle.lists.specs.Refusals.{lowest, isLarge, isMisfit, Sized}
+use Rattle.lists.proofs.Refusals.{all-clear, sized-of}
 use Rattle.center_of_mass.specs.CenterOfMass.{seedFits, conditions, refusal}
-
-not-not : (b : Bool) → not b ≡ false → b ≡ true
-not-not true e = refl
-not-not false e = absurd (true≢false e)
 
 module _ (r : ℕ) (x y : Float) (cells w h : ℕ) where
   -- ---- a map that is refused
@@ -64,11 +59,9 @@ module _ (r : ℕ) (x y : Float) (cells w h : ℕ) where
     pub radius-small : r ≤ 16
     radius-small = ltb-false 16 r (clear .1 .1 .0)
 
-    pub map-fits : hasMap ≡ true → (w ≤ 4096) × (h ≤ 4096) × (cells ≡ w * h)
+    pub map-fits : hasMap ≡ true → Sized cells w h
     map-fits m = go hasMap m (clear .0) (clear .1 .0)
       where
-        go : (b : Bool) → b ≡ true → (b && (ltb 4096 w || ltb 4096 h)) ≡ false → (b && not (eqb cells (w * h))) ≡ false → (w ≤ 4096) × (h ≤ 4096) × (cells ≡ w * h)
-        go true q s t =
-            let o = or-neither (ltb 4096 w) (ltb 4096 h) s in
-            (ltb-false 4096 w (o .0), ltb-false 4096 h (o .1), eqb-true cells (w * h) (not-not (eqb cells (w * h)) t))
+        go : (b : Bool) → b ≡ true → (b && isLarge w h) ≡ false → (b && isMisfit cells w h) ≡ false → Sized cells w h
+        go true q s t = sized-of cells w h s t
         go false q s t = absurd (true≢false (sym q))

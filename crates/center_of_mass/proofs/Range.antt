@@ -106,7 +106,7 @@ module _ (r : ℕ) (x y : Float) (m : List Float) (w h : ℕ) (cx cy mass : Floa
       judged : (k : ℕ) → refusal r x y hasMap (length m) w h ≡ k → (b : Bool) → hasMap ≡ b → unless k (cond b (outcomeOf r x y m w h) (Rejected x y)) ≡ Accepted cx cy mass → Weighing r x y m w h cx cy mass
       judged zero n true t e =
           let f = map-fits r x y (length m) w h hasMap n t in
-          weighing-at (radius-small r x y (length m) w h hasMap n) (f .0, f .1) (f .2) (centreOn r w x) (centreOn r h y) refl refl e
+          weighing-at (radius-small r x y (length m) w h hasMap n) (f .narrow, f .low) (f .sized) (centreOn r w x) (centreOn r h y) refl refl e
       judged zero n false t e = absurd (let z : _≡_ {A = ℕ} 0 1 = cc in omega arith)
       judged (suc k) n b t e = absurd (let z : _≡_ {A = ℕ} 0 1 = cc in omega arith)
 

@@ -2,12 +2,12 @@
 use Prim.Native.Nat.{ℕ, zero, suc, _+_, _-_, _*_}
 use mathlib.Core.Bool.{Bool, not, _&&_, _||_, cond}
 use mathlib.Core.List.{List, [], _∷_}
-use lib.Dec.{ltb, leb, eqb}
+use lib.Dec.{ltb, leb}
 use lib.ListN.{length, getD}
 use lib.IntN.{pos}
 use lib.Ieee.{Float, nan, binary32, add, mul, div, ofInt, lt, le}
 use Rattle.lists.specs.Places.{Place, block}
-use Rattle.lists.specs.Refusals.{lowest}
+use Rattle.lists.specs.Refusals.{lowest, isLarge, isMisfit}
 use Rattle.float32.specs.Float32.{zero as zero32, abs, lift, roundHalfAway}
 use Rattle.float32.specs.declared.Rounded.{Rounded}
 use Rattle.float32.specs.declared.Rounded.the-variants.{Natural, Negative, Beyond}
@@ -55,8 +55,8 @@ seedFits x = le (abs x) (ofInt binary32 (pos 1000000))
 -- the conditions and their numbers; `cells` is the map's length. 1 and 2 are not judged without a map
 abbrev pub conditions : ℕ → Float → Float → Bool → ℕ → ℕ → ℕ → List (Bool × ℕ)
 conditions r x y hasMap cells w h =
-    (hasMap && (ltb 4096 w || ltb 4096 h), 1)
-    ∷ (hasMap && not (eqb cells (w * h)), 2)
+    (hasMap && isLarge w h, 1)
+    ∷ (hasMap && isMisfit cells w h, 2)
     ∷ (ltb 16 r, 3)
     ∷ (not (seedFits x && seedFits y), 4)
     ∷ []

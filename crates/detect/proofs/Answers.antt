@@ -6,16 +6,16 @@ use native.Mathlib.Omega.{arith}
 use native.Mathlib.Decide.{decLt}
 use mathlib.Core.Path.{_≡_, refl, sym, ap, _∙_}
 use mathlib.Core.Logic.{⊎-elim}
-use mathlib.Core.Bool.{Bool, true, false, not, _||_}
+use mathlib.Core.Bool.{Bool, true, false, not}
 use mathlib.Core.List.{List}
 use lib.ListN.{length, length-map}
-use lib.Dec.{ltb, leb, eqb}
+use lib.Dec.{ltb, leb}
 use lib.Ieee.{Float}
-use borrow.Author.Tests.{lt-ltb, le-ltb, ltb-false, leb-true, leb-false, eq-eqb, eqb-true, not-false}
+use borrow.Author.Tests.{lt-ltb, le-ltb, ltb-false, leb-true, leb-false, eq-eqb, not-false}
 use Rattle.lists.specs.Places.{All}
 use Rattle.lists.specs.Refusals.{lowest}
 use Rattle.lists.proofs.Tests.{or-neither}
-use Rattle.lists.proofs.Refusals.{all-clear, lowest-some, lowest-past}
+use Rattle.lists.proofs.Refusals.{all-clear, lowest-some, lowest-past, sized-of}
 use Rattle.ring.proofs.Places.{ring-small}
 use Rattle.corner_list.specs.CornerList.{Slices, placesOf, placedCorners}
 use Rattle.corner_list.specs.declared.Corner.{Corner}
@@ -50,12 +50,12 @@ module _ (size w h ring window radius : ℕ) where
   unfolding conditions
   sound c =
       let none = all-clear (conditions size w h ring window radius) (c .numbered) (c .none) in
-      let sides = or-neither (ltb 4096 w) (ltb 4096 h) (none .0) in
+      let image = sized-of size w h (none .0) (none .1 .0) in
       let ring-and = or-neither (not (isRing ring)) _ (none .1 .1 .0) in
       let radii = or-neither (ltb 16 window) (ltb 16 radius) (ring-and .1) in record {
-        wide = ltb-false 4096 w (sides .0);
-        high = ltb-false 4096 h (sides .1);
-        whole = eqb-true size (w * h) (not-false (eqb size (w * h)) (none .1 .0));
+        wide = image .narrow;
+        high = image .low;
+        whole = image .sized;
         ring-is = not-false (isRing ring) (ring-and .0);
         in-window = ltb-false 16 window (radii .0);
         in-radius = ltb-false 16 radius (radii .1);

@@ -1,14 +1,14 @@
 -- Peak finding: the corners that a map's peaks start as, the refusals, and what is promised of the answer and the buffer.
-use Prim.Native.Nat.{ℕ, zero, suc, _+_, _*_}
+use Prim.Native.Nat.{ℕ, zero, suc, _+_}
 use mathlib.Core.Path.{_≡_}
 use mathlib.Core.Bool.{Bool, not, _||_}
 use mathlib.Core.List.{List, [], _∷_, _++_, map}
 use lib.ListN.{length}
 use lib.IntN.{pos}
-use lib.Dec.{ltb, eqb}
+use lib.Dec.{ltb}
 use lib.Ieee.{Float, ofInt, binary32}
 use Rattle.lists.specs.Places.{Place}
-use Rattle.lists.specs.Refusals.{lowest}
+use Rattle.lists.specs.Refusals.{lowest, isLarge, isMisfit}
 use Rattle.float32.specs.Float32.{lift}
 pub use Rattle.ring.specs.Ring.{isRing}
 use Rattle.corner_list.specs.CornerList.{Slices, placesOf, placedCorners}
@@ -49,8 +49,8 @@ startsIn m s = map (startAt m (s .w)) (peaksIn m s)
 -- the conditions on the input, a map of `size` cells and the parameters, with their numbers
 unfoldable pub conditions : ℕ → ℕ → ℕ → ℕ → ℕ → ℕ → List (Bool × ℕ)
 conditions size w h ring window radius =
-    (ltb 4096 w || ltb 4096 h, 1)
-    ∷ (not (eqb size (w * h)), 2)
+    (isLarge w h, 1)
+    ∷ (isMisfit size w h, 2)
     ∷ (not (isRing ring) || (ltb 16 window || ltb 16 radius), 3)
     ∷ []
 

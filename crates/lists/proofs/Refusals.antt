@@ -5,9 +5,9 @@ use mathlib.Core.Path.{_≡_, refl}
 use mathlib.Core.Bool.{Bool, true, false}
 use mathlib.Core.List.{List, [], _∷_, _++_}
 use lib.Dec.{ltb, eqb}
-use borrow.Author.Tests.{le-ltb, ltb-false, eq-eqb, eqb-true, not-false}
+use borrow.Author.Tests.{ltb-false, eqb-true, not-false}
 use Rattle.lists.specs.Places.{All}
-use Rattle.lists.specs.Refusals.{lowest, isLarge, isMisfit}
+use Rattle.lists.specs.Refusals.{lowest, isLarge, isMisfit, Sized}
 use Rattle.lists.proofs.Tests.{or-neither}
 
 -- no number: the first condition does not hold, and none behind it
@@ -38,22 +38,18 @@ lowest-le [] m h = omega arith
 lowest-le ((true, n) ∷ cs) m h = h .0
 lowest-le ((false, n) ∷ cs) m h = lowest-le cs m (h .1)
 
--- ---- sides up to 4,096, and a slice of width × height
-pub record Sized (size w h : ℕ) : Type 0 where
-  pub narrow : w ≤ 4096
-  pub low : h ≤ 4096
-  pub sized : size ≡ w * h
-
+-- ---- the first two conditions do not hold: sides up to 4,096, and a slice of width × height
 pub sides-small : (w h : ℕ) → isLarge w h ≡ false → (w ≤ 4096) × (h ≤ 4096)
 sides-small w h e = let o = or-neither (ltb 4096 w) (ltb 4096 h) e in (ltb-false 4096 w (o .0), ltb-false 4096 h (o .1))
-
-pub not-large : (w h : ℕ) → w ≤ 4096 → h ≤ 4096 → isLarge w h ≡ false
-not-large w h p q = rw (le-ltb 4096 w p, le-ltb 4096 h q)
 
 pub sized-of : (size w h : ℕ) → isLarge w h ≡ false → isMisfit size w h ≡ false → Sized size w h
 sized-of size w h p q =
     let s = sides-small w h p in
     record { narrow = s .0; low = s .1; sized = eqb-true size (w * h) (not-false (eqb size (w * h)) q) }
 
-pub not-misfit : (size w h : ℕ) → size ≡ w * h → isMisfit size w h ≡ false
-not-misfit size w h e = rw (eq-eqb size (w * h) e)
+-- a table that begins with them, and gives no number
+pub sized-none : (size w h : ℕ) (cs : List (Bool × ℕ)) → lowest ((isLarge w h, 1) ∷ (isMisfit size w h, 2) ∷ cs) ≡ 0 → Sized size w h × (lowest cs ≡ 0)
+sized-none size w h cs e =
+    let p = lowest-none (isLarge w h) 1 ((isMisfit size w h, 2) ∷ cs) (omega arith) e in
+    let q = lowest-none (isMisfit size w h) 2 cs (omega arith) (p .1) in
+    (sized-of size w h (p .0) (q .0), q .1)

@@ -1,5 +1,6 @@
 -- Numbered conditions of refusal, "lowest number first", and the two that every image and every map is held to.
-use Prim.Native.Nat.{ℕ, _*_}
+use Prim.Native.Nat.{ℕ, _*_, _≤_}
+use mathlib.Core.Path.{_≡_}
 use mathlib.Core.Bool.{Bool, cond, not, _||_}
 use mathlib.Core.List.{List, [], _∷_}
 use lib.Dec.{ltb, eqb}
@@ -16,3 +17,9 @@ isLarge w h = ltb 4096 w || ltb 4096 h
 -- 2: "A slice's length is not width × height"
 abbrev pub isMisfit : ℕ → ℕ → ℕ → Bool
 isMisfit size w h = not (eqb size (w * h))
+
+-- neither: an image or a map of w by h
+pub record Sized (size w h : ℕ) : Type 0 where
+  pub narrow : w ≤ 4096
+  pub low : h ≤ 4096
+  pub sized : size ≡ w * h

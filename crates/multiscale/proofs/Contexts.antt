@@ -1,14 +1,14 @@
 -- Contexts: what the tests say of the table of refusals, what holds of a context that is not refused, and that a sound one never is. Assumes nothing.
-use mathlib.Core.Path.{_≡_, refl, sym, _∙_}
-use mathlib.Core.Bool.{Bool, true, false, not, _||_, false≢true, true≢false}
-use Prim.Native.Nat.{ℕ, _*_, _%_, _^_, _≤_, _<_}
+use mathlib.Core.Path.{_≡_, sym, _∙_}
+use mathlib.Core.Bool.{true, false}
+use Prim.Native.Nat.{_*_, _%_, _^_, _≤_, _<_}
 use native.Mathlib.Nat.{mul-le-mul, one-mul}
 use native.Mathlib.Omega.{arith}
-use lib.Dec.{T, ltb, leb, eqb, lit<, le→leb}
+use lib.Dec.{T, leb, lit<, le→leb}
 use lib.Pow.{pow-mono, shl-exact}
-use borrow.Author.Tests.{lt-ltb, le-ltb, le-leb, eq-eqb, ltb-false, leb-true, eqb-true}
-use Rattle.lists.proofs.Tests.{and-parts, or-neither}
-use Rattle.lists.proofs.Refusals.{all-clear}
+use borrow.Author.Tests.{lt-ltb, le-ltb, le-leb, leb-true, not-false}
+use Rattle.lists.proofs.Tests.{and-parts}
+use Rattle.lists.proofs.Refusals.{all-clear, sides-small}
 use Rattle.ring.proofs.Places.{ring-is, ring-fits, ring-small}
 use Rattle.corner_list.specs.CornerList.{isInside}
 use Rattle.corner_list.specs.declared.Corner.{Corner}
@@ -71,24 +71,20 @@ module _ (c : RoiContext) (s : Corner) where
   unfolding refusal parametersFit
   sound e =
       let clear = all-clear (conditions c s) (lit< tt, (lit< tt, (lit< tt, tt))) e in
-      let sides = or-neither (ltb 4096 (c .width)) (ltb 4096 (c .height)) (clear .0) in
-      let p = and-parts (leb (c .window) 16) _ (not-not (parametersFit c) (clear .1 .0)) in
+      let sides = sides-small (c .width) (c .height) (clear .0) in
+      let p = and-parts (leb (c .window) 16) _ (not-false (parametersFit c) (clear .1 .0)) in
       let q = and-parts (leb (c .centroid) 16) _ (p .1) in
       let r = and-parts (leb (c .search) 255) _ (q .1) in
       let t = and-parts (leb (c .level) 12) _ (r .1) in
       record {
-        width = ltb-false 4096 (c .width) (sides .0);
-        height = ltb-false 4096 (c .height) (sides .1);
+        width = sides .0;
+        height = sides .1;
         ring = ring-is (c .ring) (t .1);
         window = leb-true (c .window) 16 (p .0);
         centroid = leb-true (c .centroid) 16 (q .0);
         search = leb-true (c .search) 255 (r .0);
         level = leb-true (c .level) 12 (t .0);
       }
-    where
-      not-not : (b : Bool) → not b ≡ false → b ≡ true
-      not-not true e = refl
-      not-not false e = absurd (true≢false e)
 
   -- a sound context refuses no seed that is inside
   pub never-refused : Sound c → isInside s ≡ true → refusal c s ≡ 0

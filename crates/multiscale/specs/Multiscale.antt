@@ -2,10 +2,10 @@
 use Prim.Native.Nat.{ℕ, zero, suc, _+_, _-_, _*_, _^_, min, max}
 use mathlib.Core.Bool.{Bool, cond, not, _&&_, _||_}
 use mathlib.Core.List.{List, [], _∷_}
-use lib.Dec.{leb, ltb, eqb}
+use lib.Dec.{leb, ltb}
 use lib.IntN.{pos}
 use lib.Ieee.{Float, binary32, mul, ofInt}
-use Rattle.lists.specs.Refusals.{lowest}
+use Rattle.lists.specs.Refusals.{lowest, isLarge}
 use Rattle.float32.specs.Float32.{roundHalfAway}
 use Rattle.float32.specs.declared.Rounded.{Rounded}
 use Rattle.float32.specs.declared.Rounded.the-variants.{Natural, Negative, Beyond}
@@ -26,7 +26,7 @@ parametersFit c = leb (c .window) 16 && (leb (c .centroid) 16 && (leb (c .search
 -- the conditions and their numbers
 abbrev pub conditions : RoiContext → Corner → List (Bool × ℕ)
 conditions c s =
-    (ltb 4096 (c .width) || ltb 4096 (c .height), 1)
+    (isLarge (c .width) (c .height), 1)
     ∷ (not (parametersFit c), 3)
     ∷ (not (isInside s), 4)
     ∷ []

@@ -7,6 +7,7 @@ use mathlib.Core.List.{List}
 use lib.ListN.{length, drop}
 use borrow.Author.Tests.{ne-eqb}
 use Rattle.lists.specs.Buffer.{front, placed}
+use Rattle.lists.specs.Refusals.{Sized}
 use Rattle.lists.proofs.Buffer.{front-more}
 use Rattle.pyramid.specs.Pyramid.{halved, levelSide, levelPixels, levelCount, cellsAbove, capped, above}
 use Rattle.pyramid.specs.Refusals.{buildRefusal}
@@ -15,7 +16,6 @@ use Rattle.pyramid.specs.Needs.{holderOf, Halving, LevelHalved, Filled}
 use Rattle.pyramid.specs.declared.Pyramid.the-variants.{Levels, Refused}
 use Rattle.pyramid.proofs.Sides.{side-base, side-next}
 use Rattle.pyramid.proofs.Cells.{cells-next, above-last, length-above, cells-exact}
-use Rattle.pyramid.proofs.Refusals.{Sized}
 use Rattle.pyramid.proofs.Above.{cells-step, cells-mono, level-inside, part-is, level-built}
 use Rattle.pyramid.proofs.Halving.{halved-take}
 

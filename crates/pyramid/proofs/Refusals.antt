@@ -1,37 +1,22 @@
 -- Which pyramids are refused, and which levels: the tables by the tests, and what holds where nothing refuses. Assumes nothing.
-use Prim.Native.Nat.{ℕ, _*_, _<_, _≤_}
+use Prim.Native.Nat.{ℕ, _<_, _≤_}
 use native.Mathlib.Omega.{arith}
 use mathlib.Core.Path.{_≡_, sym, _∙_}
 use mathlib.Core.Bool.{Bool, true, false}
 use mathlib.Core.List.{List, [], _∷_}
-use lib.Dec.{ltb, eqb}
-use borrow.Author.Tests.{lt-ltb, le-ltb, le-leb, lt-leb, eq-eqb, ltb-false, leb-false, eqb-true, not-false}
-use Rattle.lists.specs.Refusals.{lowest}
-use Rattle.lists.proofs.Refusals.{all-clear}
-use Rattle.lists.proofs.Tests.{or-neither}
+use borrow.Author.Tests.{lt-ltb, le-ltb, le-leb, lt-leb, eq-eqb, ltb-false, leb-false}
+use Rattle.lists.specs.Refusals.{lowest, Sized}
+use Rattle.lists.proofs.Refusals.{lowest-none, sized-none}
 use Rattle.pyramid.specs.Pyramid.{levelCount, cellsAbove}
 use Rattle.pyramid.specs.Refusals.{isLarge, isMisfit, isAbsent, isShort, imageRefusal, buildRefusal, levelRefusal}
-
--- nothing refuses the base: an image of w by h with sides up to 4,096
-pub record Sized (pixels w h : ℕ) : Type 0 where
-  pub narrow : w ≤ 4096
-  pub low : h ≤ 4096
-  pub sized : pixels ≡ w * h
 
 -- nothing refuses to build: `places` in the level buffer are enough
 pub record Accepted (pixels places w h count least : ℕ) : Type 0 where
   pub image : Sized pixels w h
   pub fits : cellsAbove w h (levelCount w h count least) ≤ places
 
-sized-of : (pixels w h : ℕ) → isLarge w h ≡ false → isMisfit pixels w h ≡ false → Sized pixels w h
-sized-of pixels w h p q =
-    let o = or-neither (ltb 4096 w) (ltb 4096 h) p in
-    record { narrow = ltb-false 4096 w (o .0); low = ltb-false 4096 h (o .1); sized = eqb-true pixels (w * h) (not-false (eqb pixels (w * h)) q) }
-
 pub image-none : (pixels w h n : ℕ) → n ≡ imageRefusal pixels w h → n ≡ 0 → Sized pixels w h
-image-none pixels w h n e z =
-    let q = all-clear ((isLarge w h, 1) ∷ (isMisfit pixels w h, 2) ∷ []) (omega arith, (omega arith, tt)) (sym e ∙ z) in
-    sized-of pixels w h (q .0) (q .1 .0)
+image-none pixels w h n e z = sized-none pixels w h [] (sym e ∙ z) .0
 
 -- one of the two holds: what stands behind them does not count
 image-first : (a b : Bool) (n : ℕ) (cs : List (Bool × ℕ)) → n ≡ lowest ((a, 1) ∷ (b, 2) ∷ []) → (n ≡ 0 → ⊥) → lowest ((a, 1) ∷ (b, 2) ∷ cs) ≡ n
@@ -56,8 +41,8 @@ module _ (pixels places w h count least : ℕ) where
   pub accepted : buildRefusal pixels places w h count least ≡ 0 → Accepted pixels places w h count least
   unfolding buildRefusal
   accepted e =
-      let q = all-clear ((isLarge w h, 1) ∷ (isMisfit pixels w h, 2) ∷ (isShort places w h count least, 9) ∷ []) (omega arith, (omega arith, (omega arith, tt))) e in
-      record { image = sized-of pixels w h (q .0) (q .1 .0); fits = ltb-false _ _ (q .1 .1 .0) }
+      let q = sized-none pixels w h ((isShort places w h count least, 9) ∷ []) e in
+      record { image = q .0; fits = ltb-false _ _ (lowest-none (isShort places w h count least) 9 [] (omega arith) (q .1) .0) }
 
   -- ---- level k
   module _ (k : ℕ) where
@@ -80,6 +65,6 @@ module _ (pixels places w h count least : ℕ) where
     pub level-accepted : levelRefusal pixels places w h count least k ≡ 0 → Accepted pixels places w h count least × (k < levelCount w h count least)
     unfolding levelRefusal
     level-accepted e =
-        let q = all-clear ((isLarge w h, 1) ∷ (isMisfit pixels w h, 2) ∷ (isAbsent w h count least k, 3) ∷ (isShort places w h count least, 9) ∷ [])
-        (omega arith, (omega arith, (omega arith, (omega arith, tt)))) e in
-        (record { image = sized-of pixels w h (q .0) (q .1 .0); fits = ltb-false _ _ (q .1 .1 .1 .0) }, leb-false _ _ (q .1 .1 .0))
+        let q = sized-none pixels w h ((isAbsent w h count least k, 3) ∷ (isShort places w h count least, 9) ∷ []) e in
+        let r = lowest-none (isAbsent w h count least k) 3 ((isShort places w h count least, 9) ∷ []) (omega arith) (q .1) in
+        (record { image = q .0; fits = ltb-false _ _ (lowest-none (isShort places w h count least) 9 [] (omega arith) (r .1) .0) }, leb-false _ _ (r .0))

@@ -1,18 +1,11 @@
 -- Why a pyramid is not built and a level not handed out: document 01's numbers 1, 2, 3 and 9.
-use Prim.Native.Nat.{ℕ, _*_}
-use mathlib.Core.Bool.{Bool, not, _||_}
+use Prim.Native.Nat.{ℕ}
+use mathlib.Core.Bool.{Bool}
 use mathlib.Core.List.{[], _∷_}
-use lib.Dec.{ltb, leb, eqb}
+use lib.Dec.{ltb, leb}
 use Rattle.lists.specs.Refusals.{lowest}
+pub use Rattle.lists.specs.Refusals.{isLarge, isMisfit}
 use Rattle.pyramid.specs.Pyramid.{levelCount, cellsAbove}
-
--- 1: a side above 4,096
-abbrev pub isLarge : ℕ → ℕ → Bool
-isLarge w h = ltb 4096 w || ltb 4096 h
-
--- 2: the base's length is not width × height
-abbrev pub isMisfit : ℕ → ℕ → ℕ → Bool
-isMisfit pixels w h = not (eqb pixels (w * h))
 
 -- 3: level k is not built
 abbrev pub isAbsent : ℕ → ℕ → ℕ → ℕ → ℕ → Bool

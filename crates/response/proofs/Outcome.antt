@@ -1,23 +1,22 @@
 -- What no refusal tells of a call, the clipped box in the image, and what each call answers and leaves. Assumes nothing.
 use mathlib.Core.Path.{_≡_, refl, _∙_}
 use mathlib.Core.Logic.{_⊎_}
-use mathlib.Core.Bool.{Bool, true, false, cond, not, _||_}
+use mathlib.Core.Bool.{Bool, true, false, cond, not}
 use mathlib.Core.List.{List, [], _∷_, _++_}
 use Prim.Native.Nat.{ℕ, zero, suc, _+_, _*_, _≤_}
 use native.Mathlib.Nat.{mul-le-mul, mul-comm, le-trans, le-of-eq}
 use native.Mathlib.Omega.{arith}
-use borrow.Author.Tests.{eqb-true, ltb-false, not-false, eq-eqb, le-ltb}
+use borrow.Author.Tests.{ltb-false, not-false, eq-eqb, le-ltb}
 use lib.Dec.{eqb, ltb, eqb·suc-zero}
 use lib.Ieee.{Float}
 use lib.ListN.{length, drop}
 use Rattle.lists.specs.Tab.{grid}
-use Rattle.lists.proofs.Refusals.{lowest-none}
-use Rattle.lists.proofs.Tests.{or-neither}
+use Rattle.lists.specs.Refusals.{Sized}
+use Rattle.lists.proofs.Refusals.{lowest-none, sized-none}
 use Rattle.lists.proofs.Tab.{length-grid}
 use Rattle.ring.specs.Ring.{ringOf, isRing}
 use Rattle.ring.proofs.Places.{radius-is, ring-is, ring-fits}
 use Rattle.response.specs.Response.{responseAt}
-use Rattle.response.specs.Needs.{Image}
 use Rattle.response.specs.Patch.{View, sideOf, besides, cols, rows, left, top, cells, refusalOf, refusal, Patched}
 use Rattle.response.specs.declared.Patch.the-variants.{Cells, Refused}
 
@@ -33,19 +32,15 @@ pub taken : (pixels w h radius size places : ℕ) → refusalOf pixels w h radiu
 unfolding refusalOf
 taken pixels w h radius size places e =
     let last : List (Bool × ℕ) = (ltb places size, 8) ∷ [] in
-    let third : List (Bool × ℕ) = (not (isRing radius), 3) ∷ last in
-    let second : List (Bool × ℕ) = (not (eqb pixels (w * h)), 2) ∷ third in
-    let p = lowest-none (ltb 4096 w || ltb 4096 h) 1 second (omega arith) e in
-    let q = lowest-none (not (eqb pixels (w * h))) 2 third (omega arith) (p .1) in
-    let r = lowest-none (not (isRing radius)) 3 last (omega arith) (q .1) in
-    let u = lowest-none (ltb places size) 8 [] (omega arith) (r .1) in
-    let sides = or-neither (ltb 4096 w) (ltb 4096 h) (p .0) in
+    let p = sized-none pixels w h ((not (isRing radius), 3) ∷ last) e in
+    let q = lowest-none (not (isRing radius)) 3 last (omega arith) (p .1) in
+    let r = lowest-none (ltb places size) 8 [] (omega arith) (q .1) in
     record {
-      narrow = ltb-false _ _ (sides .0);
-      low = ltb-false _ _ (sides .1);
-      sized = eqb-true _ _ (not-false _ (q .0));
-      known = ring-is radius (not-false _ (r .0));
-      enough = ltb-false _ _ (u .0);
+      narrow = p .0 .narrow;
+      low = p .0 .low;
+      sized = p .0 .sized;
+      known = ring-is radius (not-false _ (q .0));
+      enough = ltb-false _ _ (r .0);
     }
 
 -- and where these hold, nothing refuses
@@ -53,8 +48,8 @@ pub allowed : (pixels w h radius size places : ℕ) → Taken pixels w h radius 
 unfolding refusalOf
 allowed pixels w h radius size places t = rw (le-ltb _ _ (t .narrow), le-ltb _ _ (t .low), eq-eqb _ _ (t .sized), ring-fits radius (t .known), le-ltb _ _ (t .enough))
 
-pub image : (img : List ℕ) (w h radius size places : ℕ) → Taken (length img) w h radius size places → Image img w h × (ringOf radius .radius ≡ radius)
-image img w h radius size places t = (record { sized = t .sized; narrow = t .narrow; low = t .low }, radius-is radius (t .known))
+pub image : (pixels w h radius size places : ℕ) → Taken pixels w h radius size places → Sized pixels w h × (ringOf radius .radius ≡ radius)
+image pixels w h radius size places t = (record { sized = t .sized; narrow = t .narrow; low = t .low }, radius-is radius (t .known))
 
 -- ---- the clipped box lies in the image
 besides-le : (own other : ℕ) → besides own other ≤ own

@@ -5,14 +5,9 @@ use mathlib.Core.List.{List}
 use Prim.Native.Nat.{ℕ, _+_, _*_, _<_, _≤_}
 use lib.ListN.{length}
 use Rattle.lists.specs.Tab.{tab}
+use Rattle.lists.specs.Refusals.{Sized}
 use Rattle.ring.specs.Ring.{Ring, dx, dy, IsRing}
 use Rattle.response.specs.Response.{inside, samples, srOf, drOf, ringSumOf, crossOf}
-
--- an image of w by h pixels
-pub record Image (img : List ℕ) (w h : ℕ) : Type 0 where
-  pub sized : length img ≡ w * h
-  pub narrow : w ≤ 4096
-  pub low : h ≤ 4096
 
 -- how far place k of a ring lies, in an image w wide, behind the corner of the ring's square
 abbrev pub offsetAt : Ring → ℕ → ℕ → ℕ
@@ -20,7 +15,7 @@ offsetAt t w k = dy t k * w + dx t k
 
 -- an image, and a ring of that radius with its places' offsets in the image
 pub record Framed (img : List ℕ) (w h : ℕ) (t : Ring) (radius : ℕ) (off : List ℕ) : Type 0 where
-  pub image : Image img w h
+  pub image : Sized (length img) w h
   pub is-ring : IsRing t
   pub own-radius : t .radius ≡ radius
   pub offsets : off ≡ tab 16 (offsetAt t w)

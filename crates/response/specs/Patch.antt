@@ -1,14 +1,14 @@
 -- The response map of a box of an image: the clipped box, the refusals, the answer and the buffer.
 use Prim.Native.Nat.{ℕ, zero, suc, _+_, _*_, _-_, min}
 use mathlib.Core.Path.{_≡_}
-use mathlib.Core.Bool.{Bool, cond, not, _||_}
+use mathlib.Core.Bool.{cond, not}
 use mathlib.Core.List.{List, [], _∷_}
 use lib.Dec.{ltb, eqb}
 use lib.ListN.{length}
 use lib.Ieee.{Float}
 use Rattle.lists.specs.Tab.{grid}
 use Rattle.lists.specs.Buffer.{front}
-use Rattle.lists.specs.Refusals.{lowest}
+use Rattle.lists.specs.Refusals.{lowest, isLarge, isMisfit}
 use Rattle.ring.specs.Ring.{Ring, isRing}
 use Rattle.response.specs.Response.{responseAt}
 use Rattle.response.specs.declared.Patch.{Patch}
@@ -64,7 +64,7 @@ cells v = grid (cols v) (rows v) (responseIn v)
 -- 1: a side above 4096; 2: not w * h pixels; 3: a ring that is not 5 or 10; 8: fewer places than cells
 unfoldable pub refusalOf : ℕ → ℕ → ℕ → ℕ → ℕ → ℕ → ℕ
 refusalOf pixels w h radius size places =
-    lowest ((ltb 4096 w || ltb 4096 h, 1) ∷ (not (eqb pixels (w * h)), 2) ∷ (not (isRing radius), 3) ∷ (ltb places size, 8) ∷ [])
+    lowest ((isLarge w h, 1) ∷ (isMisfit pixels w h, 2) ∷ (not (isRing radius), 3) ∷ (ltb places size, 8) ∷ [])
 
 abbrev pub refusal : View → ℕ → ℕ → ℕ
 refusal v radius places = refusalOf (length (v .img)) (v .w) (v .h) radius (rows v * cols v) places

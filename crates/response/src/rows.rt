@@ -4,9 +4,10 @@ ghost use mathlib.Core.List.{_++_};
 ghost use Prim.Native.Nat.{ℕ, _+_, _*_, _<_, _≤_};
 ghost use lib.ListN.{length, drop};
 ghost use Rattle.lists.specs.Tab.{tab, grid};
+ghost use Rattle.lists.specs.Refusals.{Sized};
 ghost use Rattle.ring.specs.Ring.{ringOf};
 ghost use Rattle.response.specs.Response.{response, responseAt};
-ghost use Rattle.response.specs.Needs.{Image, Framed, Inner, Span, offsetAt};
+ghost use Rattle.response.specs.Needs.{Framed, Inner, Span, offsetAt};
 use crate::cell::cell_sums;
 use crate::cell::value;
 use crate::numbers::greater;
@@ -145,7 +146,7 @@ pub(crate) fn fill(
     ph: usize,
     map: &mut [f32],
 )
-    requires { ⌜ Image (now img) w h × (ringOf ring .radius ≡ ring) ⌝ }
+    requires { ⌜ Sized (length (now img)) w h × (ringOf ring .radius ≡ ring) ⌝ }
     requires { ⌜ (x + pw ≤ w) × (y + ph ≤ h) × (ph * pw ≤ length (now map)) ⌝ }
     ensures { λ _. ⌜ now (map .exit) ≡ grid pw ph (λ i j. responseAt (now (img .entry)) w h (ringOf ring) (x + i) (y + j)) ++ drop (ph * pw) (now (map .entry)) ⌝ }
 {

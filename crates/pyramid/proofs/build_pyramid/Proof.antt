@@ -3,8 +3,9 @@ use native.Mathlib.Omega.{arith}
 use mathlib.Core.Path.{_≡_}
 use lib.ListN.{length}
 use borrow.Author.Needs.{needs}
+use Rattle.lists.specs.Refusals.{Sized}
 use Rattle.pyramid.specs.Pyramid.{levelCount, cellsAbove}
-use Rattle.pyramid.proofs.Refusals.{Sized, Accepted, image-none, build-image, build-short, accepts}
+use Rattle.pyramid.proofs.Refusals.{Accepted, image-none, build-image, build-short, accepts}
 use Rattle.pyramid.proofs.Building.{built-refused, built-filled, cells-known}
 use Rattle.pyramid.proofs.build_pyramid.Statement.{statement}
 use Rattle.pyramid.proofs.build_pyramid.Tie as tie

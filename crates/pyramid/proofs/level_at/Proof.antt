@@ -2,10 +2,11 @@
 use Prim.Native.Nat.{_<_}
 use native.Mathlib.Omega.{arith}
 use mathlib.Core.Path.{_≡_, _∙_}
+use Rattle.lists.specs.Refusals.{Sized}
 use Rattle.pyramid.specs.Pyramid.{levelCount, cellsAbove}
 use Rattle.pyramid.proofs.Sides.{count-few}
 use Rattle.pyramid.proofs.Cells.{cells-exact}
-use Rattle.pyramid.proofs.Refusals.{Sized, image-none, level-image, level-absent, level-short, level-accepts}
+use Rattle.pyramid.proofs.Refusals.{image-none, level-image, level-absent, level-short, level-accepts}
 use Rattle.pyramid.proofs.Building.{cells-known}
 use Rattle.pyramid.proofs.Lookup.{answer-refused, answer-level}
 use borrow.Author.Needs.{needs}

@@ -19,7 +19,7 @@ centre-of-mass-requires : tie.Need-centre-of-mass-requires
 centre-of-mass-requires c κs =
     let e = sym (c .before .before .refusal .ensures) ∙ c .before .if1 .left in
     let m = map-fits _ _ _ _ _ _ _ e (c .if2 .taken) in
-    (radius-small _ _ _ _ _ _ _ e, m .0, m .1, m .2)
+    (radius-small _ _ _ _ _ _ _ e, m .narrow, m .low, m .sized)
 
 returns-2 : tie.Need-returns-2
 returns-2 c = weighed-map _ _ _ _ _ _ _ _ (c .before .before .before .refusal .ensures) _ (c .before .before .if1 .left) (c .before .if2 .taken) (c .centre-of-mass .ensures)
