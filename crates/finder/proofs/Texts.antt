@@ -5,13 +5,11 @@ use mathlib.Core.Path.{_≡_, refl, sym, ap, _∙_, subst}
 use mathlib.Core.List.{List}
 use lib.ListN.{length, take, drop, length-take, length-append}
 use borrow.Author.Tests.{le-ltb}
-use Rattle.lists.specs.Buffer.{front}
 use Rattle.lists.proofs.Buffer.{front-length}
 use Rattle.corner_list.specs.CornerList.{Slices, cornersOf}
-use Rattle.corner_list.specs.declared.Corner.{Corner}
 use Rattle.frame_pass.specs.declared.FrameParams.{FrameParams}
 use Rattle.frame_pass.specs.Pass.{framePass, computedChoice}
-use Rattle.frame.specs.Frame.{Buffers, refusalOf, Found}
+use Rattle.frame.specs.Frame.{Buffers, Found}
 use Rattle.frame.specs.declared.FrameAnswer.{FrameAnswer}
 use Rattle.frame.specs.declared.FrameAnswer.the-variants.{Corners, Refused}
 use Rattle.frame.proofs.Callers.{Finished, finished-tells, refused-tells, refusal-positive}
@@ -19,14 +17,13 @@ use Rattle.stream.specs.declared.Header.{Header}
 use Rattle.stream.specs.declared.FrameStream.{FrameStream}
 use Rattle.stream.specs.declared.FrameStream.the-variants as stream
 use Rattle.stream.specs.Answer.{FrameRead}
-use Rattle.stream.specs.Stream.{readFrame, refused}
 use Rattle.stream.proofs.Callers.{FrameFound, frame-found, refusal-found}
 use Rattle.listing.specs.declared.Listing.{Listing}
 use Rattle.listing.specs.declared.Listing.the-variants as listing
-use Rattle.listing.specs.Text.{cornersText, refusedText}
+use Rattle.listing.specs.Text.{cornersText}
 use Rattle.listing.specs.Answer.{listing as listingOf, CornersWritten, RefusalWritten}
 use Rattle.listing.proofs.Texts.{listed}
-use Rattle.finder.specs.Finder.{paramsOf, programBuffers, textOf, frameText, readingText, outputOf, Written}
+use Rattle.finder.specs.Finder.{paramsOf, programBuffers, textOf, frameText, outputOf, Written}
 
 -- ---- a text that was written lies in the buffer
 pub written-fits : (text buffer : List ℕ) (end : ℕ) (after : List ℕ) → Written text buffer end after → end ≤ length after

@@ -1,11 +1,11 @@
 -- What a caller of `find_corners` learns from its answer. Assumes nothing.
-use Prim.Native.Nat.{ℕ, zero, suc, _≤_}
+use Prim.Native.Nat.{ℕ, _≤_}
 use native.Mathlib.Nat.{eq-zero-or-pos}
 use native.Mathlib.Omega.{arith}
 use mathlib.Core.Path.{_≡_, refl, sym, ap, _∙_}
 use mathlib.Core.Logic.{⊎-elim}
-use mathlib.Core.Bool.{Bool, false}
-use mathlib.Core.List.{List, [], _∷_, _++_, map}
+use mathlib.Core.Bool.{false}
+use mathlib.Core.List.{List, [], _++_, map}
 use lib.ListN.{length}
 use lib.Dec.{ltb}
 use lib.Seq.{drop-at}
@@ -17,7 +17,7 @@ use Rattle.lists.proofs.Tests.{or-neither}
 use Rattle.lists.proofs.Refusals.{lowest-none}
 use Rattle.pyramid.specs.Pyramid.{above}
 use Rattle.corner_list.specs.declared.Corner.{Corner}
-use Rattle.corner_list.specs.CornerList.{Slices, slices, xOf, yOf, strengthOf, placesOf, cornersOf, frontCorners}
+use Rattle.corner_list.specs.CornerList.{Slices, xOf, yOf, strengthOf, placesOf, cornersOf}
 use Rattle.corner_list.proofs.Corners.{slices-alike, corners-front}
 use Rattle.merge.proofs.Result.{result-length}
 use Rattle.frame_pass.specs.declared.FrameParams.{FrameParams}

@@ -1,12 +1,11 @@
 -- The answers of a frame, each with its buffers, from what led to it. Assumes nothing.
-use Prim.Native.Nat.{ℕ, zero, suc, _*_, _<_, _≤_}
+use Prim.Native.Nat.{ℕ, zero, suc, _≤_}
 use native.Mathlib.Omega.{arith}
 use mathlib.Core.Path.{_≡_, refl, sym, ap, ap₂, _∙_}
-use mathlib.Core.Logic.{_⊎_, ⊎-elim}
-use mathlib.Core.Bool.{Bool, true, false, _||_}
+use mathlib.Core.Logic.{⊎-elim}
+use mathlib.Core.Bool.{true, false}
 use mathlib.Core.List.{List, []}
 use lib.ListN.{length, replicate}
-use lib.Dec.{ltb}
 use lib.Ieee.{Float}
 use borrow.Author.Tests.{le-ltb, ne-eqb}
 use Rattle.lists.specs.Places.{All}
@@ -18,7 +17,6 @@ use Rattle.pyramid.specs.declared.Pyramid.{Pyramid}
 use Rattle.pyramid.specs.declared.Pyramid.the-variants as pyramid
 use Rattle.pyramid.proofs.Refusals.{Accepted}
 use Rattle.pyramid.proofs.Levels.{builds}
-use Rattle.corner_list.specs.declared.Corner.{Corner}
 use Rattle.corner_list.specs.CornerList.{Slices, placesOf, isInside, cornersOf, frontCorners}
 use Rattle.corner_list.proofs.Corners.{corners-front, front-xs, front-ys, front-strengths, same-places}
 use Rattle.merge.specs.declared.Merged.{Merged}

@@ -1,17 +1,15 @@
 -- The search of the levels: the last one as a box, and the two lists from what was added. Assumes nothing.
-use Prim.Native.Nat.{ℕ, zero, suc, _+_, _-_, _*_, _<_, _≤_}
+use Prim.Native.Nat.{ℕ, zero, suc, _-_, _*_, _<_, _≤_}
 use native.Mathlib.Nat.{mul-le-mul, eq-zero-or-pos}
 use native.Mathlib.Omega.{arith}
 use mathlib.Core.Path.{_≡_, refl, sym, ap, _∙_}
 use mathlib.Core.Logic.{⊎-elim}
-use mathlib.Core.Bool.{Bool, true, _||_}
+use mathlib.Core.Bool.{true, _||_}
 use mathlib.Core.List.{List, [], map}
 use lib.ListN.{length}
 use lib.Dec.{ltb}
-use lib.Ieee.{Float}
 use borrow.Author.Tests.{lt-ltb}
 use Rattle.lists.specs.Places.{flatMap}
-use Rattle.lists.specs.Buffer.{front, placed}
 use Rattle.lists.proofs.Buffer.{placed-first}
 use Rattle.lists.proofs.Tests.{or-right}
 use Rattle.ring.specs.Ring.{ringOf}
@@ -23,7 +21,7 @@ use Rattle.pyramid.specs.declared.LevelAnswer.the-variants as level
 use Rattle.pyramid.proofs.Sides.{side-le}
 use Rattle.pyramid.proofs.Levels.{level-place, level-found, levels-few}
 use Rattle.corner_list.specs.declared.Corner.{Corner}
-use Rattle.corner_list.specs.CornerList.{Slices, slices, xOf, yOf, strengthOf, placesOf, cornersOf, frontCorners, placedCorners}
+use Rattle.corner_list.specs.CornerList.{Slices, xOf, yOf, strengthOf, placesOf, cornersOf, frontCorners, placedCorners}
 use Rattle.corner_list.proofs.Corners.{slices-alike, corners-front}
 use Rattle.detect.specs.declared.Peaks.{Peaks}
 use Rattle.detect.specs.declared.Peaks.the-variants.{Added, Refused}

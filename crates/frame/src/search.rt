@@ -1,5 +1,4 @@
 // The search of the levels: maps, peaks and centroids, on the last level and in the boxes of its seeds.
-ghost use mathlib.Core.Path.{_≡_};
 ghost use Prim.Native.Nat.{_<_, _≤_};
 ghost use lib.ListN.{length};
 ghost use Rattle.lists.specs.Places.{flatMap};

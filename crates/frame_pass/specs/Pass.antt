@@ -3,7 +3,7 @@ use Prim.Native.Nat.{ℕ, zero, suc}
 use mathlib.Core.Bool.{true}
 use mathlib.Core.List.{List, [], _∷_, map}
 use lib.IntN.{pos}
-use lib.Ieee.{Float, binary32, add, ofInt}
+use lib.Ieee.{binary32, add, ofInt}
 use Rattle.lists.specs.Places.{Place, flatMap}
 use Rattle.ring.specs.Ring.{ringOf}
 use Rattle.response.specs.Patch.{View, whole, cols, rows, cells}

@@ -1,11 +1,9 @@
 -- `frame::find_corners` meets its contract, by the laws of `Entry`. Assumes nothing.
 use Prim.Native.Nat.{ℕ}
-use native.Mathlib.Omega.{arith}
-use mathlib.Core.Path.{_≡_, refl, sym, ap, _∙_}
-use mathlib.Core.List.{List}
+use mathlib.Core.Path.{sym, ap, _∙_}
 use lib.ListN.{length, replicate}
 use borrow.Author.Needs.{needs}
-use Rattle.pyramid.proofs.Levels.{Complete, built}
+use Rattle.pyramid.proofs.Levels.{built}
 use Rattle.frame_pass.specs.Pass.{computedChoice}
 use Rattle.frame_pass.proofs.Inside.{corners-inside}
 use Rattle.frame.proofs.Refusals.{admitted, admitted-sound}

@@ -1,5 +1,5 @@
 -- `frame::is_radius_outside` meets its contract: each return computes by the tests that led there. Assumes nothing.
-use mathlib.Core.Path.{_≡_, sym, _∙_}
+use mathlib.Core.Path.{sym, _∙_}
 use borrow.Author.Needs.{needs}
 use Rattle.frame.proofs.is_radius_outside.Statement.{statement}
 use Rattle.frame.proofs.is_radius_outside.Tie as tie

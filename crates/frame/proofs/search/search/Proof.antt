@@ -1,6 +1,5 @@
 -- `frame::search::search` meets its contract, by the laws of `Levels`. Assumes nothing.
-use native.Mathlib.Omega.{arith}
-use mathlib.Core.Path.{_≡_, refl, sym}
+use mathlib.Core.Path.{refl}
 use borrow.Author.Needs.{needs}
 use Rattle.frame.proofs.Levels.{ready-kept, never-absent, last-level, search-none, search-one, search-one-short, seeds-short, search-many, search-many-short}
 use Rattle.frame.proofs.search.search.Statement.{statement}
