@@ -10,7 +10,7 @@ use lib.ListN.{length, take}
 use lib.Seq.{length-take-le}
 use lib.Ieee.{Float}
 use Rattle.lists.proofs.Tests.{and-parts}
-use Rattle.ring.specs.Ring.{ringOf}
+use Rattle.ring.specs.Ring.{ringOf, isRing}
 use Rattle.response.specs.Patch.{View, rows, cols, Patched}
 use Rattle.response.specs.declared.Patch.{Patch}
 use Rattle.response.specs.declared.Patch.the-variants as patch
@@ -20,7 +20,7 @@ use Rattle.corner_list.specs.declared.Corner.{Corner}
 use Rattle.corner_list.specs.CornerList.{Slices, placesOf}
 use Rattle.detect.specs.declared.Peaks.{Peaks}
 use Rattle.detect.specs.declared.Peaks.the-variants.{Added, Refused}
-use Rattle.detect.specs.Detect.{searchOf, startsIn, isRing, conditions, Found}
+use Rattle.detect.specs.Detect.{searchOf, startsIn, conditions, Found}
 use Rattle.detect.proofs.Answers.{Clear, sound-clear, added-tells, refused-tells}
 use Rattle.frame_pass.specs.declared.FrameParams.{FrameParams}
 use Rattle.frame_pass.specs.Parameters.{parametersFit}

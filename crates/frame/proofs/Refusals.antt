@@ -4,35 +4,24 @@ use native.Mathlib.Omega.{arith}
 use mathlib.Core.Path.{_≡_, refl, sym, ap, _∙_}
 use mathlib.Core.Logic.{_⊎_, inl, inr}
 use mathlib.Core.Bool.{Bool, true, false, not, _&&_}
-use mathlib.Core.List.{List, [], _∷_, _++_}
+use mathlib.Core.List.{List, [], _∷_}
 use lib.ListN.{length}
-use lib.Dec.{ltb, eqb}
-use lib.Ieee.{Float}
-use borrow.Author.Tests.{ltb-false, eqb-true, not-false, lt-ltb, le-ltb, le-leb, eq-eqb, ne-eqb}
+use borrow.Author.Tests.{ltb-false, not-false, lt-ltb, le-ltb, le-leb, eq-eqb}
 use Rattle.lists.specs.Places.{All}
 use Rattle.lists.specs.Refusals.{lowest}
-use Rattle.lists.proofs.Tests.{or-neither}
-use Rattle.lists.proofs.Refusals.{all-clear, lowest-some, lowest-past}
+use Rattle.lists.proofs.Tests.{and-all}
+use Rattle.lists.proofs.Refusals.{all-clear, lowest-some, lowest-past, lowest-le, sized-of}
+use Rattle.ring.specs.Ring.{isRing}
 use Rattle.accuracy.specs.Accurate.{Bytes}
 use Rattle.pyramid.specs.Pyramid.{levelCount, cellsAbove, capped}
 use Rattle.pyramid.proofs.Cells.{cells-exact}
 use Rattle.pyramid.proofs.Refusals.{Accepted}
-use Rattle.merge.specs.Merge.{isOff, isSized}
+use Rattle.merge_radius.specs.MergeRadius.{isOff, isSized}
 use Rattle.frame_pass.specs.declared.FrameParams.{FrameParams}
 use Rattle.frame_pass.specs.Parameters.{parametersFit}
 use Rattle.frame_pass.specs.Pass.{framePass, computedChoice}
 use Rattle.frame_pass.specs.Theorems.{Sound}
 use Rattle.frame.specs.Frame.{Buffers, conditions, tooMany, refusalOf}
-
-and-all : (b : Bool) → (b && true) ≡ b
-and-all true = refl
-and-all false = refl
-
--- a number of a table is at most the largest
-lowest-le : (cs : List (Bool × ℕ)) (m : ℕ) → All (λ c. c .1 ≤ m) cs → lowest cs ≤ m
-lowest-le [] m h = omega arith
-lowest-le ((true, n) ∷ cs) m h = h .0
-lowest-le ((false, n) ∷ cs) m h = lowest-le cs m (h .1)
 
 -- a merge radius that is not refused
 radius-fits : (off sized : Bool) → (not off && not sized) ≡ false → (off ≡ true) ⊎ ((off ≡ false) × (sized ≡ true))
@@ -59,28 +48,17 @@ module _ (p : FrameParams) (pixels w h cells places : ℕ) where
   pub admitted : lowest (conditions p pixels w h cells places) ≡ 0 → Admitted p pixels w h cells places
   unfolding conditions
   admitted e =
-      let q = all-clear (conditions p pixels w h cells places) numbered e in
-      let sides = or-neither (ltb 4096 w) (ltb 4096 h) (q .0) in record {
-        accepted =
-            record {
-              image = record { narrow = ltb-false 4096 w (sides .0); low = ltb-false 4096 h (sides .1); sized = eqb-true pixels (w * h) (not-false (eqb pixels (w * h)) (q .1 .0)) };
-              fits = ltb-false _ _ (q .1 .1 .1 .1 .1 .0);
-            };
+      let q = all-clear (conditions p pixels w h cells places) numbered e in record {
+        accepted = record { image = sized-of pixels w h (q .0) (q .1 .0); fits = ltb-false _ _ (q .1 .1 .1 .1 .1 .0) };
         fit = not-false (parametersFit p) (q .1 .1 .0);
         radius = radius-fits (isOff (p .radius)) (isSized (p .radius)) (q .1 .1 .1 .0);
         enough = ltb-false cells (w * h) (q .1 .1 .1 .1 .0);
       }
 
 -- ---- the number by the tests, each with those before it passed
-module _ (p : FrameParams) where
-  module _ (window : p .window ≤ 16) (centroid : p .centroid ≤ 16) (search : p .search ≤ 255) where
-    pub ring-five : p .ring ≡ 5 → true ≡ parametersFit p
-    unfolding parametersFit
-    ring-five e = simp (eq-eqb (p .ring) 5 e, le-leb (p .window) 16 window, le-leb (p .centroid) 16 centroid, le-leb (p .search) 255 search)
-
-    pub ring-other : (p .ring ≡ 5 → ⊥) → eqb (p .ring) 10 ≡ parametersFit p
-    unfolding parametersFit
-    ring-other e = rw (ne-eqb (p .ring) 5 e, le-leb (p .window) 16 window, le-leb (p .centroid) 16 centroid, le-leb (p .search) 255 search) (sym (and-all (eqb (p .ring) 10)))
+pub ring-decides : (p : FrameParams) → p .window ≤ 16 → p .centroid ≤ 16 → p .search ≤ 255 → isRing (p .ring) ≡ parametersFit p
+unfolding parametersFit
+ring-decides p window centroid search = rw (le-leb (p .window) 16 window, le-leb (p .centroid) 16 centroid, le-leb (p .search) 255 search) (sym (and-all (isRing (p .ring))))
 
 module _ (p : FrameParams) (pixels w h cells places : ℕ) (wide : w ≤ 4096) (high : h ≤ 4096) (size : pixels ≡ w * h) where
   pub number-three : (t : Bool) → t ≡ parametersFit p → t ≡ false → 3 ≡ lowest (conditions p pixels w h cells places)

@@ -7,13 +7,13 @@ use lib.ListN.{length, replicate}
 use lib.Dec.{ltb, eqb}
 use lib.Ieee.{Float}
 use Rattle.lists.specs.Buffer.{front}
-use Rattle.lists.specs.Refusals.{lowest}
+use Rattle.lists.specs.Refusals.{lowest, isLarge, isMisfit}
 use Rattle.float32.specs.Float32 as float32
 use Rattle.pyramid.specs.Pyramid.{above}
-use Rattle.pyramid.specs.Refusals.{isLarge, isMisfit, isShort}
+use Rattle.pyramid.specs.Refusals.{isShort}
 use Rattle.corner_list.specs.CornerList.{Slices, slices, xOf, yOf, strengthOf, placesOf}
 use Rattle.corner_list.specs.declared.Corner.{Corner}
-use Rattle.merge.specs.Merge.{isOff, isSized}
+use Rattle.merge_radius.specs.MergeRadius.{isOff, isSized}
 use Rattle.frame_pass.specs.declared.FrameParams.{FrameParams}
 use Rattle.frame_pass.specs.Parameters.{parametersFit}
 use Rattle.frame_pass.specs.Pass.{Pass, framePass, computedChoice, levelsIn}

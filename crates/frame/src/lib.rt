@@ -7,7 +7,7 @@ ghost use mathlib.Core.Path.{_≡_};
 ghost use mathlib.Core.Bool.{not, _&&_};
 ghost use Rattle.lists.specs.Refusals.{lowest};
 ghost use Rattle.corner_list.specs.CornerList.{slices};
-ghost use Rattle.merge.specs.Merge.{isOff, isSized};
+ghost use Rattle.merge_radius.specs.MergeRadius.{isOff, isSized};
 ghost use Rattle.frame_pass.specs.Parameters.{parametersFit};
 ghost use Rattle.frame.specs.Frame.{conditions, buffers, Found};
 use crate::search::Lists;
@@ -34,20 +34,21 @@ fn parameters_fit(p: FrameParams) -> bool
     if 255 < p.search {
         return false;
     }
-    if p.ring == 5 {
-        return true;
-    }
-    p.ring == 10
+    ring::is_ring(p.ring)
 }
 
 // Whether a merge radius is neither off nor in its range.
 fn is_radius_outside(radius: f32) -> bool
     ensures { λ r. ⌜ r ≡ (not (isOff radius) && not (isSized radius)) ⌝ }
 {
-    if merge::is_off(radius) {
+    if merge_radius::is_off(radius) {
         return false;
     }
-    if merge::is_sized(radius) { false } else { true }
+    if merge_radius::is_sized(radius) {
+        false
+    } else {
+        true
+    }
 }
 
 // The number of the refusal before the pass, 0 for none.

@@ -7,7 +7,7 @@ use mathlib.Core.Bool.{true}
 use mathlib.Core.List.{List, map}
 use lib.Ieee.{Float}
 use Rattle.lists.specs.Places.{All}
-use Rattle.lists.proofs.Members.{all-map, all-mapped}
+use Rattle.lists.proofs.Members.{all-map, all-mapped, all-flat, all-of}
 use Rattle.ring.specs.Ring.{ringOf}
 use Rattle.pyramid.proofs.Sides.{count-few}
 use Rattle.response.specs.Patch.{View, cols, rows, cells}
@@ -29,7 +29,6 @@ use Rattle.multiscale.proofs.Box.{box-inside, not-refused}
 use Rattle.frame_pass.specs.declared.FrameParams.{FrameParams}
 use Rattle.frame_pass.specs.Pass.{Choice, landed, moved, localized, cornersIn, levelsIn, levelView, contextAt, patchOf, seedPatch, cornersOn, cornersAbout, seedsOf, foundOf, framePass}
 use Rattle.frame_pass.specs.Theorems.{Sound, CornersInside, BoxesAnswered}
-use Rattle.frame_pass.proofs.Lists.{all-flat, all-of}
 use Rattle.frame_pass.proofs.Maps.{ranges, Fine, map-usual, fine-box, fine-level}
 
 abbrev Taken : Corner → Type 0

@@ -10,8 +10,8 @@ use lib.Ieee.{binary32, fits, le}
 use borrow.Author.Tests.{leb-true, eqb-true}
 use Rattle.lists.specs.Places.{All}
 use Rattle.lists.proofs.Tests.{and-parts, or-either}
-use Rattle.lists.proofs.Members.{all-map}
-use Rattle.ring.specs.Ring.{ringOf}
+use Rattle.lists.proofs.Members.{all-map, all-flat, all-of}
+use Rattle.ring.specs.Ring.{ringOf, isRing}
 use Rattle.response.specs.Response.{floatOf}
 use Rattle.response.specs.Patch.{View, cells}
 use Rattle.accuracy.specs.Accurate.{Bytes}
@@ -20,7 +20,6 @@ use Rattle.pyramid.specs.Pyramid.{levelSide, levelPixels}
 use Rattle.pyramid.proofs.Sides.{side-le}
 use Rattle.pyramid.proofs.Cells.{length-level}
 use Rattle.pyramid.proofs.Levels.{level-bytes}
-use Rattle.detect.specs.Detect.{isRing}
 use Rattle.center_of_mass.specs.Range.{Usual}
 use Rattle.multiscale.specs.declared.RoiAnswer.{RoiAnswer}
 use Rattle.multiscale.specs.declared.RoiAnswer.the-variants as roi
@@ -29,7 +28,6 @@ use Rattle.frame_pass.specs.declared.FrameParams.{FrameParams}
 use Rattle.frame_pass.specs.Parameters.{parametersFit}
 use Rattle.frame_pass.specs.Pass.{Choice, levelsIn, levelView, contextAt, patchOf, seedPatch, seedsOf, mapsOf, lookedAt}
 use Rattle.frame_pass.specs.Theorems.{Sound}
-use Rattle.frame_pass.proofs.Lists.{all-flat, all-of}
 
 -- ---- parameters in their ranges
 pub record Ranges (p : FrameParams) : Type 0 where

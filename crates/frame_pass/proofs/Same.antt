@@ -3,13 +3,12 @@ use Prim.Native.Nat.{ℕ, zero, suc}
 use mathlib.Core.Path.{_≡_, refl, ap, _∙_}
 use mathlib.Core.List.{List}
 use Rattle.lists.specs.Places.{flatMap, All}
-use Rattle.lists.proofs.Members.{all-map, flatMap-alike}
+use Rattle.lists.proofs.Members.{all-map, flatMap-alike, all-unflat}
 use Rattle.response.specs.Patch.{View}
 use Rattle.corner_list.specs.declared.Corner.{Corner}
 use Rattle.frame_pass.specs.declared.FrameParams.{FrameParams}
 use Rattle.frame_pass.specs.Pass.{Choice, computedChoice, exactChoice, cornersIn, levelsIn, levelView, seedPatch, cornersOn, cornersAbout, seedsOf, foundOf, framePass, mapsOf, lookedAt}
 use Rattle.frame_pass.specs.Theorems.{PassSame}
-use Rattle.frame_pass.proofs.Lists.{all-unflat}
 
 module _ (p : FrameParams) (img : List ℕ) (w h : ℕ) (a b : Choice) where
   abbrev Alike : View → Type 0

@@ -1,7 +1,7 @@
 -- Which parameters of a frame are in their ranges ("From the input", number 3).
 use mathlib.Core.Bool.{Bool, _&&_}
 use lib.Dec.{leb}
-use Rattle.detect.specs.Detect.{isRing}
+use Rattle.ring.specs.Ring.{isRing}
 use Rattle.frame_pass.specs.declared.FrameParams.{FrameParams}
 
 -- a ring of 5 or 10, window and centroid radius at most 16, search radius at most 255
