@@ -19,7 +19,8 @@ use Rattle.response.proofs.Map.{cells-length}
 use Rattle.accuracy.proofs.Cells.{map-accurate}
 use Rattle.agreement.proofs.Lists.{peaks-alike}
 use Rattle.detect.specs.declared.Search.{Search}
-use Rattle.detect.specs.Detect.{isRing, peaksIn}
+use Rattle.ring.specs.Ring.{isRing}
+use Rattle.detect.specs.Detect.{peaksIn}
 use Rattle.detect.specs.Detect as detect
 use Rattle.detect.specs.Exact.{exact, exactPeaks}
 use Rattle.detect.proofs.Answers.{sound-clear}

@@ -3,12 +3,14 @@ use Prim.Native.Nat.{ℕ, _+_, _*_, min}
 use native.Mathlib.Omega.{arith}
 use mathlib.Core.Path.{_≡_, sym, ap, _∙_}
 use mathlib.Core.Logic.{inl}
-use mathlib.Core.Bool.{Bool, true, false, cond, not, _&&_, _||_}
+use mathlib.Core.Bool.{Bool, true, false, cond, not, _&&_}
 use mathlib.Core.List.{List, [], _∷_, _++_}
 use lib.ListN.{length}
-use lib.Dec.{ltb, eqb}
+use lib.Dec.{ltb}
 use lib.Ieee.{Float}
 use Rattle.lists.specs.Places.{any}
+use Rattle.lists.specs.Refusals.{isLarge, isMisfit}
+use Rattle.ring.specs.Ring.{isRing}
 use Rattle.response.specs.declared.Patch.{Patch}
 use Rattle.response.specs.declared.Patch.the-variants as patch
 use Rattle.response.specs.Patch as response
@@ -17,7 +19,7 @@ use Rattle.pyramid.specs.declared.Pyramid.the-variants as built
 use Rattle.pyramid.specs.declared.LevelAnswer.{LevelAnswer}
 use Rattle.pyramid.specs.declared.LevelAnswer.the-variants as level
 use Rattle.pyramid.specs.Pyramid.{levelCount}
-use Rattle.pyramid.specs.Refusals.{isLarge, isMisfit, isAbsent, isShort, buildRefusal, levelRefusal}
+use Rattle.pyramid.specs.Refusals.{isAbsent, isShort, buildRefusal, levelRefusal}
 use Rattle.pyramid.specs.Build as build
 use Rattle.pyramid.specs.Level as lookup
 use Rattle.corner_list.specs.declared.Corner.{Corner}
@@ -62,9 +64,9 @@ response-refuses : (v : response.View) (radius : ℕ) (d e : List Float) (r : Pa
 unfolding response.refusalOf
 response-refuses v radius d e r f =
     refused-one patch.Refused (response.answerOf v) (λ k q. let z : _≡_ {A = ℕ} 0 1 = cc in omega arith) (λ n k q. sym (ap response.numberOf q))
-    ((ltb 4096 (v .w) || ltb 4096 (v .h), 1)
-    ∷ (not (eqb (length (v .img)) (v .w * v .h)), 2)
-    ∷ (not (response.isRing radius), 3)
+    ((isLarge (v .w) (v .h), 1)
+    ∷ (isMisfit (length (v .img)) (v .w) (v .h), 2)
+    ∷ (not (isRing radius), 3)
     ∷ (ltb (length d) (response.rows v * response.cols v), 8)
     ∷ [])
     r (f .answer)
