@@ -1,4 +1,4 @@
--- `corners::main` is safe and ends: what is written is the text that `find` left. Assumes the C functions that read and write.
+-- `corners::main` is safe and ends. Assumes the contracts of the C functions that read and write.
 use mathlib.Core.Path.{sym}
 use lib.Seq.{length-take-le}
 use borrow.Author.Needs.{needs}
