@@ -9,8 +9,9 @@ use lib.Dec.{ltb, eqb}
 use lib.Ieee.{binary32, ofBits}
 use borrow.Author.Tests.{eqb-false}
 use Rattle.lists.specs.Places.{any}
+use Rattle.merge_radius.specs.MergeRadius.{radiusOutside}
 use Rattle.stream.specs.declared.Header.{Header}
-use Rattle.stream.specs.Stream.{u8, u16, u32, known as isKnown, bodyLength, bodyOf, behind, headerOf, rangeOutside, radiusOutside, Reading, accepted, refused, sidesFault, parametersFault, paddingFault, bodyFault, recordFault, readRecord, recordsFor, readPixels, readParameters, readFrame}
+use Rattle.stream.specs.Stream.{u8, u16, u32, known as isKnown, bodyLength, bodyOf, behind, headerOf, rangeOutside, Reading, accepted, refused, sidesFault, parametersFault, paddingFault, bodyFault, recordFault, readRecord, recordsFor, readPixels, readParameters, readFrame}
 use Rattle.demands.specs.Numbers.{OneOf, Refuses}
 use Rattle.demands.proofs.Tables.{listed, cond-one, above-zero}
 

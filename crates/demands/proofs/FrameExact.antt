@@ -25,14 +25,14 @@ use Rattle.detect.specs.Detect as detect
 use Rattle.detect.specs.Exact.{exact, exactPeaks}
 use Rattle.detect.proofs.Answers.{sound-clear}
 use Rattle.frame_pass.specs.declared.FrameParams.{FrameParams}
-use Rattle.frame_pass.specs.Parameters.{parametersFit}
+use Rattle.frame_pass.specs.Refusals.{parametersFit, conditions}
 use Rattle.frame_pass.specs.Pass.{Pass, searchOn, computedChoice, exactChoice, framePass}
 use Rattle.frame_pass.specs.Theorems.{Sound}
+use Rattle.frame_pass.proofs.Refusals.{admitted, admitted-sound}
 use Rattle.frame_pass.proofs.Maps.{ranges, Fine, looked-fine}
 use Rattle.frame_pass.proofs.Same.{pass-same}
 use Rattle.frame_pass.proofs.Inside.{corners-inside, boxes-answered}
-use Rattle.frame.specs.Frame.{conditions, tooMany, refusalOf}
-use Rattle.frame.proofs.Refusals.{admitted, admitted-sound}
+use Rattle.frame.specs.Frame.{tooMany, refusalOf}
 use Rattle.frame.proofs.Callers.{finished-tells}
 use Rattle.demands.specs.PeakCall.{searchIn}
 use Rattle.demands.specs.PeaksAlike.{programList, position, nameOf}

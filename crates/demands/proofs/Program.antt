@@ -11,11 +11,11 @@ use borrow.Author.Tests.{le-ltb, eq-eqb}
 use Rattle.lists.specs.Refusals.{lowest}
 use Rattle.pyramid.specs.Pyramid.{levelCount, cellsAbove}
 use Rattle.pyramid.proofs.Cells.{cells-le}
-use Rattle.merge.specs.Merge.{isOff, isSized}
-use Rattle.frame_pass.specs.Parameters.{parametersFit}
+use Rattle.merge_radius.specs.MergeRadius.{radiusOutside}
+use Rattle.frame_pass.specs.Refusals.{parametersFit, conditions}
 use Rattle.frame_pass.specs.Pass.{Pass, framePass, computedChoice}
 use Rattle.frame_pass.proofs.Same.{pass-same}
-use Rattle.frame.specs.Frame.{conditions, tooMany, refusalOf}
+use Rattle.frame.specs.Frame.{tooMany, refusalOf}
 use Rattle.stream.specs.declared.Header.{Header}
 use Rattle.stream.specs.Stream.{Reading, accepted, refused, readFrame}
 use Rattle.stream.proofs.Order.{small-sides}
@@ -44,7 +44,7 @@ module _ (input : List ℕ) where
     abbrev table : List (Bool × ℕ)
     table =
         (not (parametersFit (paramsOf h)), 3)
-        ∷ (not (isOff (paramsOf h .radius)) && not (isSized (paramsOf h .radius)), 5)
+        ∷ (radiusOutside (paramsOf h .radius), 5)
         ∷ (tooMany found programBuffers, 10)
         ∷ []
 

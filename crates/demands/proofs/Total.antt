@@ -38,11 +38,13 @@ use Rattle.multiscale.specs.declared.RoiAnswer.the-variants as roi
 use Rattle.multiscale.specs.Multiscale as multiscale
 use Rattle.multiscale.specs.Promise.{Boxed}
 use Rattle.multiscale.proofs.Box as box
+use Rattle.merge_radius.specs.MergeRadius.{isOff, radiusOutside}
 use Rattle.merge.specs.declared.Merged.{Merged}
 use Rattle.merge.specs.declared.Merged.the-variants as merged
 use Rattle.merge.specs.Merge as merge
 use Rattle.merge_slice.specs.MergeSlice.{columns, sharedPlaces}
 use Rattle.frame_pass.specs.declared.FrameParams.{FrameParams}
+use Rattle.frame_pass.specs.Refusals.{conditions}
 use Rattle.frame_pass.specs.Pass.{framePass, computedChoice}
 use Rattle.frame.specs.declared.FrameAnswer.{FrameAnswer}
 use Rattle.frame.specs.declared.FrameAnswer.the-variants as answer
@@ -107,19 +109,19 @@ merge-refuses : (radius : Float) (places count : ℕ) (b : Slices) (n : ℕ) (r 
 unfolding merge.refusalOf
 merge-refuses radius places count b n r f =
     refused-one merged.Refused (λ k. merge.answerOf k n) (λ k q. let z : _≡_ {A = ℕ} 0 1 = cc in omega arith) (λ n k q. cc)
-    ((not (merge.isOff radius) && any (λ c. not (isInside c)) (cornersOf b (min count places)), 4)
-    ∷ (not (merge.isOff radius) && not (merge.isSized radius), 5)
+    ((not (isOff radius) && any (λ c. not (isInside c)) (cornersOf b (min count places)), 4)
+    ∷ (radiusOutside radius, 5)
     ∷ (ltb places count, 10)
     ∷ [])
     r f
 
 frame-refuses : (p : FrameParams) (img : List ℕ) (w h : ℕ) (b b′ : frame.Buffers) (r : FrameAnswer) → frame.Found p img w h b r b′
     → Refuses answer.Refused (1 ∷ 2 ∷ 3 ∷ 5 ∷ 8 ∷ 9 ∷ 10 ∷ []) r
-unfolding frame.frameOf frame.refusalOf frame.conditions
+unfolding frame.frameOf frame.refusalOf conditions
 frame-refuses p img w h b b′ r f =
     let q = framePass p img w h (computedChoice p) in
     refused-one answer.Refused (λ n. frame.answerOf n (length (q .corners))) (λ k e. let z : _≡_ {A = ℕ} 0 1 = cc in omega arith) (λ n k e. sym (ap frame.numberOf e))
-    (frame.conditions p (length img) w h (length (b .map)) (length (b .levels)) ++ ((frame.tooMany q b, 10) ∷ []))
+    (conditions p (length img) w h (length (b .map)) (length (b .levels)) ++ ((frame.tooMany q b, 10) ∷ []))
     r (ap (λ (z : frame.Frame). z .answer) (f .is))
 
 stream-refuses : (input pixels pixels′ : List ℕ) (r : FrameStream) → FrameRead input pixels r pixels′ → Refuses stream.Refused (1 ∷ 3 ∷ 5 ∷ 6 ∷ 7 ∷ 11 ∷ []) r

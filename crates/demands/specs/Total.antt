@@ -4,11 +4,13 @@
 -- Here stand the promises of the functions that refuse, word for word, and the numbers that each can give: 0, which the definitions use for
 -- "none", is no refusal's. Which condition has which number, lowest first, is in the tables that the promises name. No other public function
 -- refuses, and each of these promises one equation over its arguments:
---   ring            ring_offsets
+--   ring            ring_offsets, is_ring
 --   float32         abs, is_finite, lifted, is_between, from_bits, to_bits, cut_off, round_half_away
 --   corner_list     is_inside, corner_at, put_corner, places
 --   pyramid         level_count, cells_above, level (nothing where `level_at` refuses)
---   merge           is_off, is_sized
+--   merge_radius    is_off, is_sized, is_outside
+--   clearing        clear, clear_bytes, clear_list
+--   frame_pass      refusal (the number before the pass)
 --   listing         write_refusal (one for its answer, one for its buffer)
 --   finder          find (likewise)
 use Prim.Native.Nat.{ℕ, min}

@@ -23,8 +23,9 @@ use Rattle.merge.proofs.Result.{result-length}
 use Rattle.frame_pass.specs.declared.FrameParams.{FrameParams}
 use Rattle.frame_pass.specs.Pass.{framePass, computedChoice, levelsIn, foundOf}
 use Rattle.frame.specs.declared.FrameAnswer.the-variants.{Corners, Refused}
-use Rattle.frame.specs.Frame.{Buffers, conditions, tooMany, refusalOf, paddedCorners, finished, leaving, answerOf, Frame, frame, frameOf, Found}
-use Rattle.frame.proofs.Refusals.{number-before, number-in-pass}
+use Rattle.frame_pass.specs.Refusals.{conditions}
+use Rattle.frame.specs.Frame.{Buffers, tooMany, refusalOf, paddedCorners, finished, leaving, answerOf, Frame, frame, frameOf, Found}
+use Rattle.frame.proofs.Numbers.{number-before, number-in-pass}
 
 -- corners that stand first in a buffer are read back
 own-front : (vs r : List Float) → vs ++ r ≡ front vs (vs ++ r)

@@ -31,9 +31,12 @@ use Rattle.frame.specs.declared.FrameAnswer.{FrameAnswer}
 use Rattle.frame.specs.declared.FrameAnswer.the-variants.{Corners, Refused}
 use Rattle.frame.specs.declared.search.Lists.{Lists}
 use Rattle.frame.specs.declared.search.Lists.the-variants.{Found as Both, Short}
-use Rattle.frame.specs.Frame.{Buffers, buffers, conditions, tooMany, refusalOf, paddedCorners, padded, finished, wiped, leaving, answerOf, numberOf, frame, frameOf, Found}
-use Rattle.frame.specs.Needs.{clearedFrom, Searched}
-use Rattle.frame.proofs.Refusals.{Admitted, not-ten, number-before, number-ten, number-none}
+use Rattle.frame_pass.specs.Refusals.{conditions}
+use Rattle.frame.specs.Frame.{Buffers, buffers, tooMany, refusalOf, paddedCorners, padded, finished, wiped, leaving, answerOf, numberOf, frame, frameOf, Found}
+use Rattle.clearing.specs.Clearing.{clearedFrom}
+use Rattle.frame.specs.Needs.{Searched}
+use Rattle.frame_pass.proofs.Refusals.{Admitted, not-ten}
+use Rattle.frame.proofs.Numbers.{number-before, number-ten, number-none}
 use Rattle.frame.proofs.Padded.{SameLengths, cleared-front, cleared-none}
 
 number-is : (k n : ℕ) → numberOf (answerOf k n) ≡ k

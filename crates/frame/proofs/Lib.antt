@@ -1,5 +1,4 @@
-pub mod Refusals
-pub mod Wiping
+pub mod Numbers
 pub mod Padded
 pub mod Changing
 pub mod Landing

@@ -23,7 +23,7 @@ use Rattle.detect.specs.declared.Peaks.the-variants.{Added, Refused}
 use Rattle.detect.specs.Detect.{searchOf, startsIn, conditions, Found}
 use Rattle.detect.proofs.Answers.{Clear, sound-clear, added-tells, refused-tells}
 use Rattle.frame_pass.specs.declared.FrameParams.{FrameParams}
-use Rattle.frame_pass.specs.Parameters.{parametersFit}
+use Rattle.frame_pass.specs.Refusals.{parametersFit}
 use Rattle.frame_pass.specs.Pass.{computedChoice, cornersIn}
 use Rattle.frame_pass.proofs.Maps.{Fine, ranges, fine-box}
 use Rattle.frame_pass.proofs.Centred.{centred}

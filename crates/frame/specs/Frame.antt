@@ -1,21 +1,19 @@
 -- A frame: the refusals, the answer, and every buffer after it, by one equation with the pass.
-use Prim.Native.Nat.{ℕ, zero, suc, _-_, _*_}
+use Prim.Native.Nat.{ℕ, zero, suc, _-_}
 use mathlib.Core.Path.{_≡_}
-use mathlib.Core.Bool.{Bool, cond, not, _&&_, _||_}
+use mathlib.Core.Bool.{Bool, cond, _||_}
 use mathlib.Core.List.{List, [], _∷_, _++_, map}
 use lib.ListN.{length, replicate}
 use lib.Dec.{ltb, eqb}
 use lib.Ieee.{Float}
 use Rattle.lists.specs.Buffer.{front}
-use Rattle.lists.specs.Refusals.{lowest, isLarge, isMisfit}
+use Rattle.lists.specs.Refusals.{lowest}
 use Rattle.float32.specs.Float32 as float32
 use Rattle.pyramid.specs.Pyramid.{above}
-use Rattle.pyramid.specs.Refusals.{isShort}
 use Rattle.corner_list.specs.CornerList.{Slices, slices, xOf, yOf, strengthOf, placesOf}
 use Rattle.corner_list.specs.declared.Corner.{Corner}
-use Rattle.merge_radius.specs.MergeRadius.{isOff, isSized}
 use Rattle.frame_pass.specs.declared.FrameParams.{FrameParams}
-use Rattle.frame_pass.specs.Parameters.{parametersFit}
+use Rattle.frame_pass.specs.Refusals.{conditions}
 use Rattle.frame_pass.specs.Pass.{Pass, framePass, computedChoice, levelsIn}
 use Rattle.frame.specs.declared.FrameAnswer.{FrameAnswer}
 use Rattle.frame.specs.declared.FrameAnswer.the-variants.{Corners, Refused}
@@ -31,17 +29,6 @@ abbrev pub buffers : List Float → List ℕ → Slices → Slices → Buffers
 buffers m levels seeds corners = record { map = m; levels = levels; seeds = seeds; corners = corners }
 
 -- ---- refusals
-
--- the conditions on the input, an image of `pixels` pixels, a map buffer and a level buffer of so many places, with their numbers
-unfoldable pub conditions : FrameParams → ℕ → ℕ → ℕ → ℕ → ℕ → List (Bool × ℕ)
-conditions p pixels w h cells places =
-    (isLarge w h, 1)
-    ∷ (isMisfit pixels w h, 2)
-    ∷ (not (parametersFit p), 3)
-    ∷ (not (isOff (p .radius)) && not (isSized (p .radius)), 5)
-    ∷ (ltb cells (w * h), 8)
-    ∷ (isShort places w h (p .levels) (p .minimum), 9)
-    ∷ []
 
 -- 10: the seeds, or the corners before merging, do not fit their buffer
 abbrev pub tooMany : Pass → Buffers → Bool

@@ -6,10 +6,8 @@ use mathlib.Core.List.{List}
 use lib.Dec.{ltb}
 use lib.ListN.{length}
 use Rattle.lists.specs.Tab.{tab}
-use Rattle.lists.specs.Buffer.{wipedFrom}
-use Rattle.float32.specs.Float32.{zero}
 use Rattle.pyramid.proofs.Levels.{Complete}
-use Rattle.corner_list.specs.CornerList.{Slices, slices, placesOf, cornerAt, frontCorners, placedCorners}
+use Rattle.corner_list.specs.CornerList.{Slices, placesOf, cornerAt, frontCorners, placedCorners}
 use Rattle.corner_list.specs.declared.Corner.{Corner}
 use Rattle.detect.specs.declared.Peaks.{Peaks}
 use Rattle.detect.specs.declared.Peaks.the-variants.{Added, Refused}
@@ -29,10 +27,6 @@ pub record Ready (p : FrameParams) (img : List ℕ) (w h places : ℕ) : Type 0 
 pub record BuiltLevels (p : FrameParams) (img : List ℕ) (w h n : ℕ) (levels : List ℕ) : Type 0 where
   pub before : List ℕ
   pub complete : Complete img w h (p .levels) (p .minimum) before levels n
-
--- a buffer of corners, zero from place n on
-abbrev pub clearedFrom : ℕ → Slices → Slices
-clearedFrom n b = slices (wipedFrom n zero (b .xs)) (wipedFrom n zero (b .ys)) (wipedFrom n zero (b .strengths))
 
 -- ---- corners changed in their places
 

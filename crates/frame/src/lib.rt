@@ -1,15 +1,9 @@
 // The frame pass: from an image and its parameters to the list of its corners, over borrowed buffers.
-mod clearing;
 mod localizing;
 mod search;
 
-ghost use mathlib.Core.Path.{_≡_};
-ghost use mathlib.Core.Bool.{not, _&&_};
-ghost use Rattle.lists.specs.Refusals.{lowest};
 ghost use Rattle.corner_list.specs.CornerList.{slices};
-ghost use Rattle.merge_radius.specs.MergeRadius.{isOff, isSized};
-ghost use Rattle.frame_pass.specs.Parameters.{parametersFit};
-ghost use Rattle.frame.specs.Frame.{conditions, buffers, Found};
+ghost use Rattle.frame.specs.Frame.{buffers, Found};
 use crate::search::Lists;
 use frame_pass::FrameParams;
 use merge::Merged;
@@ -19,64 +13,6 @@ use pyramid::Pyramid;
 pub enum FrameAnswer {
     Corners(usize),
     Refused(u8),
-}
-
-// Whether the parameters that have a range are in it.
-fn parameters_fit(p: FrameParams) -> bool
-    ensures { λ r. ⌜ r ≡ parametersFit p ⌝ }
-{
-    if 16 < p.window {
-        return false;
-    }
-    if 16 < p.centroid {
-        return false;
-    }
-    if 255 < p.search {
-        return false;
-    }
-    ring::is_ring(p.ring)
-}
-
-// Whether a merge radius is neither off nor in its range.
-fn is_radius_outside(radius: f32) -> bool
-    ensures { λ r. ⌜ r ≡ (not (isOff radius) && not (isSized radius)) ⌝ }
-{
-    if merge_radius::is_off(radius) {
-        return false;
-    }
-    if merge_radius::is_sized(radius) {
-        false
-    } else {
-        true
-    }
-}
-
-// The number of the refusal before the pass, 0 for none.
-fn refusal(pixels: usize, w: usize, h: usize, p: FrameParams, cells: usize, places: usize) -> u8
-    ensures { λ r. ⌜ r ≡ lowest (conditions p pixels w h cells places) ⌝ }
-{
-    if 4096 < w {
-        return 1;
-    }
-    if 4096 < h {
-        return 1;
-    }
-    if pixels != w * h {
-        return 2;
-    }
-    if !parameters_fit(p) {
-        return 3;
-    }
-    if is_radius_outside(p.radius) {
-        return 5;
-    }
-    if cells < w * h {
-        return 8;
-    }
-    if places < pyramid::cells_above(w, h, p.levels, p.minimum) {
-        return 9;
-    }
-    0
 }
 
 // Finds the corners of an image of w by h pixels: they stand first in the corner buffer, the seeds of the last level first in
@@ -100,7 +36,7 @@ pub fn find_corners(
         r
         (buffers (now (map .exit)) (now (levels .exit)) (slices (now (sx .exit)) (now (sy .exit)) (now (ss .exit))) (slices (now (cx .exit)) (now (cy .exit)) (now (cs .exit)))) ⌝ }
 {
-    let number = refusal(img.len(), w, h, p, map.len(), levels.len());
+    let number = frame_pass::refusal(img.len(), w, h, p, map.len(), levels.len());
     if number != 0 {
         return FrameAnswer::Refused(number);
     }

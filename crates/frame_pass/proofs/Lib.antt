@@ -1,3 +1,4 @@
+pub mod Refusals
 pub mod Maps
 pub mod Centred
 pub mod Accepting

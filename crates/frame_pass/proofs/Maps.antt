@@ -25,7 +25,7 @@ use Rattle.multiscale.specs.declared.RoiAnswer.{RoiAnswer}
 use Rattle.multiscale.specs.declared.RoiAnswer.the-variants as roi
 use Rattle.multiscale.specs.Multiscale.{roiOf}
 use Rattle.frame_pass.specs.declared.FrameParams.{FrameParams}
-use Rattle.frame_pass.specs.Parameters.{parametersFit}
+use Rattle.frame_pass.specs.Refusals.{parametersFit}
 use Rattle.frame_pass.specs.Pass.{Choice, levelsIn, levelView, contextAt, patchOf, seedPatch, seedsOf, mapsOf, lookedAt}
 use Rattle.frame_pass.specs.Theorems.{Sound}
 

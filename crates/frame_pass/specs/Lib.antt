@@ -1,3 +1,3 @@
-pub mod Parameters
+pub mod Refusals
 pub mod Pass
 pub mod Theorems

@@ -13,7 +13,7 @@ use Rattle.corner_list.specs.declared.Corner.{Corner}
 use Rattle.multiscale.specs.declared.RoiAnswer.the-variants.{Refused}
 use Rattle.multiscale.specs.Multiscale.{roiOf}
 use Rattle.frame_pass.specs.declared.FrameParams.{FrameParams}
-use Rattle.frame_pass.specs.Parameters.{parametersFit}
+use Rattle.frame_pass.specs.Refusals.{parametersFit}
 use Rattle.frame_pass.specs.Pass.{Choice, computedChoice, exactChoice, cornersIn, levelsIn, contextAt, framePass, lookedAt}
 
 -- an image of w by h bytes, and parameters in their ranges

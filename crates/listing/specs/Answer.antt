@@ -2,10 +2,11 @@
 use Prim.Native.Nat.{ℕ}
 use mathlib.Core.Path.{_≡_}
 use mathlib.Core.Bool.{cond}
-use mathlib.Core.List.{List}
+use mathlib.Core.List.{List, [], _∷_}
 use lib.ListN.{length}
 use lib.Dec.{ltb}
 use Rattle.lists.specs.Buffer.{front}
+use Rattle.lists.specs.Refusals.{lowest}
 use Rattle.corner_list.specs.CornerList.{Slices, cornersOf}
 use Rattle.listing.specs.declared.Listing.{Listing}
 use Rattle.listing.specs.declared.Listing.the-variants.{Text, Refused}
@@ -21,6 +22,15 @@ abbrev pub answerOf : Outcome → Listing
 answerOf (written text) = Text (length text)
 answerOf (refused n) = Refused n
 
+-- document 01's number and values of each case
+abbrev pub numberOf : Listing → ℕ
+numberOf (Text n) = 0
+numberOf (Refused k) = k
+
+abbrev pub valuesOf : Listing → List ℕ
+valuesOf (Text n) = n ∷ []
+valuesOf (Refused k) = []
+
 -- the buffer after it: the text first; unchanged where the listing is refused
 abbrev pub bufferAfter : Outcome → List ℕ → List ℕ
 bufferAfter (written text) buffer = front text buffer
@@ -32,6 +42,7 @@ listing b count = cond (ltb 512 count) (refused 10) (written (cornersText (corne
 
 pub record CornersWritten (b : Slices) (count : ℕ) (buffer : List ℕ) (r : Listing) (after : List ℕ) : Type 0 where
   pub answer : r ≡ answerOf (listing b count)
+  pub number : numberOf r ≡ lowest ((ltb 512 count, 10) ∷ [])
   pub text : after ≡ bufferAfter (listing b count) buffer
 
 pub record RefusalWritten (number : ℕ) (buffer : List ℕ) (end : ℕ) (after : List ℕ) : Type 0 where

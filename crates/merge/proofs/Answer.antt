@@ -12,7 +12,8 @@ use Rattle.corner_list.proofs.Corners.{corners-length, corners-same}
 use Rattle.merge.specs.declared.cells.Grid.{Grid}
 use Rattle.merge.specs.declared.Merged.{Merged}
 use Rattle.merge.specs.declared.Merged.the-variants.{Kept, Refused}
-use Rattle.merge.specs.Merge.{gridOf, joins, merged, isOff, resultOf, refusalOf, answerOf, bufferOf, Merges}
+use Rattle.merge_radius.specs.MergeRadius.{isOff}
+use Rattle.merge.specs.Merge.{gridOf, joins, merged, resultOf, refusalOf, answerOf, bufferOf, Merges}
 use Rattle.merge.specs.Search.{Left}
 
 -- ---- what is left of a list: all of it, as it came, or what merging leaves
@@ -31,23 +32,25 @@ left-on radius b n g k b′ e is l = subst (λ (cs : List Corner). Left cs b k b
 
 -- ---- the answer, for a buffer of which `held` places count
 module _ (radius : Float) (places held count : ℕ) (b : Slices) (is : held ≡ places) where
-  number : refusalOf radius held count b ≡ refusalOf radius places count b
-  number = ap (λ (n : ℕ). refusalOf radius n count b) is
+  same-number : refusalOf radius held count b ≡ refusalOf radius places count b
+  same-number = ap (λ (n : ℕ). refusalOf radius n count b) is
 
   pub merges-refused : (k : ℕ) → k ≡ refusalOf radius held count b → (k ≡ 0 → ⊥) → Merges radius places count b (Refused k) b
-  merges-refused k e h = go k h (e ∙ number)
+  merges-refused k e h = go k h (e ∙ same-number)
     where
       go : (k : ℕ) → (k ≡ 0 → ⊥) → k ≡ refusalOf radius places count b → Merges radius places count b (Refused k) b
       go zero h e = absurd (h refl)
       go (suc k) h e = record {
         answered = ap (λ (m : ℕ). answerOf m (length (resultOf radius (cornersOf b count)))) e;
+        number = e;
         buffer = ap (λ (m : ℕ). bufferOf m (resultOf radius (cornersOf b count)) b) e;
       }
 
   pub merges-kept : (k n : ℕ) (b′ : Slices) → k ≡ refusalOf radius held count b → k ≡ 0 → Left (resultOf radius (cornersOf b count)) b n b′ → Merges radius places count b (Kept n) b′
   merges-kept k n b′ e z l =
-      let f : zero ≡ refusalOf radius places count b = sym z ∙ e ∙ number in record {
+      let f : zero ≡ refusalOf radius places count b = sym z ∙ e ∙ same-number in record {
         answered = ap Kept (l .count) ∙ ap (λ (m : ℕ). answerOf m (length (resultOf radius (cornersOf b count)))) f;
+        number = f;
         buffer = l .buffer ∙ ap (λ (m : ℕ). bufferOf m (resultOf radius (cornersOf b count)) b) f;
       }
 

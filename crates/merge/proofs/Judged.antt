@@ -12,7 +12,8 @@ use Rattle.lists.proofs.Members.{all-map, none-any}
 use Rattle.lists.proofs.Refusals.{lowest-none}
 use Rattle.corner_list.specs.declared.Corner.{Corner}
 use Rattle.corner_list.specs.CornerList.{Slices, isInside, cornersOf}
-use Rattle.merge.specs.Merge.{isOff, isSized, refusalOf}
+use Rattle.merge_radius.specs.MergeRadius.{isOff, isSized}
+use Rattle.merge.specs.Merge.{refusalOf}
 
 abbrev pub isOutside : Corner → Bool
 isOutside c = not (isInside c)

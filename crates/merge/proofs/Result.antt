@@ -11,7 +11,8 @@ use Rattle.corner_list.specs.declared.Corner.{Corner}
 use Rattle.corner_list.specs.CornerList.{Slices, cornersOf, frontCorners}
 use Rattle.merge.specs.declared.Merged.{Merged}
 use Rattle.merge.specs.declared.Merged.the-variants.{Kept}
-use Rattle.merge.specs.Merge.{gridOf, joins, stronger, settle, merged, isOff, resultOf, refusalOf, answerOf, bufferOf, Merges}
+use Rattle.merge_radius.specs.MergeRadius.{isOff}
+use Rattle.merge.specs.Merge.{gridOf, joins, stronger, settle, merged, resultOf, refusalOf, answerOf, bufferOf, Merges}
 use Rattle.merge.proofs.Settle.{settle-one}
 
 -- ---- no corner is added

@@ -11,7 +11,7 @@ use Rattle.lists.specs.Places.{any}
 use Rattle.lists.specs.Refusals.{lowest}
 use Rattle.corner_list.specs.declared.Corner.{Corner}
 use Rattle.corner_list.specs.CornerList.{Slices, isInside, xOf, yOf, cornersOf, frontCorners}
-unfoldable pub use Rattle.merge_radius.specs.MergeRadius.{isOff, isSized}
+use Rattle.merge_radius.specs.MergeRadius.{isOff, radiusOutside}
 use Rattle.merge.specs.declared.cells.Grid.{Grid}
 use Rattle.merge.specs.declared.Merged.{Merged}
 use Rattle.merge.specs.declared.Merged.the-variants.{Kept, Refused}
@@ -96,7 +96,7 @@ unfoldable pub refusalOf : Float → ℕ → ℕ → Slices → ℕ
 refusalOf radius places count b =
     lowest
     ((not (isOff radius) && any (λ c. not (isInside c)) (cornersOf b (min count places)), 4)
-    ∷ (not (isOff radius) && not (isSized radius), 5)
+    ∷ (radiusOutside radius, 5)
     ∷ (ltb places count, 10)
     ∷ [])
 
@@ -107,12 +107,22 @@ abbrev pub answerOf : ℕ → ℕ → Merged
 answerOf zero n = Kept n
 answerOf (suc k) n = Refused (suc k)
 
+-- document 01's number and values of each case
+abbrev pub numberOf : Merged → ℕ
+numberOf (Kept n) = 0
+numberOf (Refused k) = k
+
+abbrev pub valuesOf : Merged → List ℕ
+valuesOf (Kept n) = n ∷ []
+valuesOf (Refused k) = []
+
 -- the buffer after: what is left first, and behind it as it was; where refused, as it was
 abbrev pub bufferOf : ℕ → List Corner → Slices → Slices
 bufferOf zero left b = frontCorners left b
 bufferOf (suc k) left b = b
 
--- What merging the first `count` corners of a buffer of so many places promises of the answer and of the buffer after
+-- What merging the first `count` corners of a buffer of so many places promises of the answer, its number and the buffer after
 pub record Merges (radius : Float) (places count : ℕ) (b : Slices) (answer : Merged) (b′ : Slices) : Type 0 where
   pub answered : answer ≡ answerOf (refusalOf radius places count b) (length (resultOf radius (cornersOf b count)))
+  pub number : numberOf answer ≡ refusalOf radius places count b
   pub buffer : b′ ≡ bufferOf (refusalOf radius places count b) (resultOf radius (cornersOf b count)) b

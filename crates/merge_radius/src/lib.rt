@@ -1,6 +1,6 @@
 // The radius within which corners are merged.
 ghost use mathlib.Core.Path.{_≡_};
-ghost use Rattle.merge_radius.specs.MergeRadius.{isOff, isSized};
+ghost use Rattle.merge_radius.specs.MergeRadius.{isOff, isSized, radiusOutside};
 
 // Whether a radius is off: not finite, or at most 0.
 pub fn is_off(radius: f32) -> bool
@@ -18,4 +18,14 @@ pub fn is_sized(radius: f32) -> bool
     ensures { λ r. ⌜ r ≡ isSized radius ⌝ }
 {
     float32::is_between(0.015625, 4096.0, radius)
+}
+
+// Whether a radius is neither off nor in its range.
+pub fn is_outside(radius: f32) -> bool
+    ensures { λ r. ⌜ r ≡ radiusOutside radius ⌝ }
+{
+    if is_off(radius) {
+        return false;
+    }
+    if is_sized(radius) { false } else { true }
 }

@@ -34,6 +34,7 @@ module _ (radius : Float) (count : ℕ) (cs : List Corner) where
       → Merges radius (placesOf (columns cs)) count (columns cs) answer (columns cs′)
   as-core scratch scratch′ answer cs′ h m = record {
     answered = m .answered ∙ ap (λ (p : ℕ). answerOf (refusalOf radius p count (columns cs)) (length (resultOf radius (take count cs)))) places ∙ same-answer number refl;
+    number = m .number ∙ ap (λ (p : ℕ). refusalOf radius p count (columns cs)) places;
     buffer = ap columns (m .corners ∙ ap (λ (p : ℕ). cornersAfter (refusalOf radius p count (columns cs)) (resultOf radius (take count cs)) cs) places) ∙ same-buffer number refl;
   }
     where

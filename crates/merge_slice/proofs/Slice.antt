@@ -136,7 +136,7 @@ module _ (radius : Float) (count : ℕ) (cs : List Corner) (scratch : Slices) (n
       → Merges radius (min n (placesOf b₁)) count b₁ r b₂
       → (cs₂ ≡ front (cornersOf b₂ n) cs₁) × (b₃ ≡ frontCorners (take n cs₁) b₂)
       → MergesSlice radius count cs scratch r cs₂ b₃
-  slice-merged cs₁ b₁ b₂ r cs₂ b₃ e m f = record { answered = answered; corners = corners; given-back = given-back }
+  slice-merged cs₁ b₁ b₂ r cs₂ b₃ e m f = record { answered = answered; number = own .number ∙ same-number; corners = corners; given-back = given-back }
     where
       own : Merges radius n count inside r b₂
       own = subst (λ (k : ℕ). Merges radius k count inside r b₂) (few count (length cs) (placesOf scratch) (placesOf inside) n is inside-places) (subst (λ (b : Slices). Merges radius (min n (placesOf b)) count b r b₂) (e .1) m)

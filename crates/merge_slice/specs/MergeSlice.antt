@@ -8,7 +8,7 @@ use Rattle.lists.specs.Buffer.{front}
 use Rattle.corner_list.specs.declared.Corner.{Corner}
 use Rattle.corner_list.specs.CornerList.{Slices, slices, placesOf, xOf, yOf, strengthOf}
 use Rattle.merge.specs.declared.Merged.{Merged}
-use Rattle.merge.specs.Merge.{resultOf, refusalOf, answerOf}
+use Rattle.merge.specs.Merge.{resultOf, refusalOf, answerOf, numberOf}
 
 -- the corners of a slice as three slices hold them
 abbrev pub columns : List Corner → Slices
@@ -27,8 +27,9 @@ abbrev pub cornersAfter : ℕ → List Corner → List Corner → List Corner
 cornersAfter zero left cs = front left cs
 cornersAfter (suc k) left cs = cs
 
--- What merging the first `count` corners of a slice promises of the answer, of the corners after and of the scratch after
+-- What merging the first `count` corners of a slice promises of the answer and its number, of the corners after and of the scratch after
 pub record MergesSlice (radius : Float) (count : ℕ) (cs : List Corner) (scratch : Slices) (answer : Merged) (cs′ : List Corner) (scratch′ : Slices) : Type 0 where
   pub answered : answer ≡ answerOf (refusalFor radius count cs scratch) (length (resultOf radius (take count cs)))
+  pub number : numberOf answer ≡ refusalFor radius count cs scratch
   pub corners : cs′ ≡ cornersAfter (refusalFor radius count cs scratch) (resultOf radius (take count cs)) cs
   pub given-back : scratch′ ≡ scratch

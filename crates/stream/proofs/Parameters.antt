@@ -6,8 +6,8 @@ use mathlib.Core.List.{[], _∷_}
 use lib.Dec.{eqb}
 use lib.Ieee.{Float, binary32, ofBits}
 use Rattle.lists.specs.Refusals.{lowest}
-use Rattle.merge_radius.specs.MergeRadius.{isOff, isSized}
-use Rattle.stream.specs.Stream.{rangeOutside, radiusOutside, parametersFault}
+use Rattle.merge_radius.specs.MergeRadius.{radiusOutside}
+use Rattle.stream.specs.Stream.{rangeOutside, parametersFault}
 use Rattle.stream.specs.Parts.{firstFault, rangeFault, radiusFault}
 
 -- the range before the radius
@@ -20,13 +20,8 @@ parameters-first ring window centroid merge =
     pick true b = refl
     pick false b = refl
 
--- the radius of a pattern, by the tests on it
-module _ (bits : ℕ) (r : Float) (e : r ≡ ofBits binary32 bits) where
-  pub radius-off : isOff r ≡ true → 0 ≡ radiusFault bits
-  unfolding radiusFault
-  radius-off o = rw (sym e, o)
-
-  pub radius-judged : (b : Bool) → isOff r ≡ false → isSized r ≡ b → cond b 0 5 ≡ radiusFault bits
-  unfolding radiusFault
-  radius-judged true o z = rw (sym e, o, z)
-  radius-judged false o z = rw (sym e, o, z)
+-- the radius of a pattern, by the test on it
+pub radius-judged : (bits : ℕ) (r : Float) → r ≡ ofBits binary32 bits → (b : Bool) → radiusOutside r ≡ b → cond b 5 0 ≡ radiusFault bits
+unfolding radiusFault
+radius-judged bits r e true z = rw (sym e, z)
+radius-judged bits r e false z = rw (sym e, z)

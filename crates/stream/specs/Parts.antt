@@ -8,8 +8,9 @@ use lib.Dec.{eqb}
 use lib.Ieee.{binary32, ofBits}
 use Rattle.lists.specs.Tab.{tab}
 use Rattle.lists.specs.Refusals.{lowest}
+use Rattle.merge_radius.specs.MergeRadius.{radiusOutside}
 use Rattle.stream.specs.declared.Header.{Header}
-use Rattle.stream.specs.Stream.{u8, u16, known, headerOf, rangeOutside, radiusOutside, accepted, unless, recordsFor, readFrame}
+use Rattle.stream.specs.Stream.{u8, u16, known, headerOf, rangeOutside, accepted, unless, recordsFor, readFrame}
 
 -- the kind that is due behind one of kind `kind`, 0 at the start, where `left` pixels have not come yet
 unfoldable pub due : ℕ → ℕ → ℕ

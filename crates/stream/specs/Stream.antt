@@ -8,7 +8,7 @@ use lib.Ieee.{Float, binary32, ofBits}
 use Rattle.lists.specs.Places.{any}
 use Rattle.lists.specs.Refusals.{lowest}
 use Rattle.ring.specs.Ring.{isRing}
-use Rattle.merge_radius.specs.MergeRadius.{isOff, isSized}
+use Rattle.merge_radius.specs.MergeRadius.{radiusOutside}
 use Rattle.stream.specs.declared.Header.{Header}
 
 -- ---- numbers at a place of a list of bytes, little-endian
@@ -64,10 +64,6 @@ sidesFault width height = lowest ((ltb 96 width || ltb 96 height, 1) ∷ [])
 -- "Ring not 5 or 10; window or centroid radius outside 0..16"
 unfoldable pub rangeOutside : ℕ → ℕ → ℕ → Bool
 rangeOutside ring window centroid = not (isRing ring) || ltb 16 window || ltb 16 centroid
-
--- "Merge radius finite, positive, outside 1/64..4,096": neither off nor of a size that the merge takes
-abbrev pub radiusOutside : Float → Bool
-radiusOutside r = not (isOff r) && not (isSized r)
 
 -- 3, then 5
 unfoldable pub parametersFault : ℕ → ℕ → ℕ → ℕ → ℕ

@@ -123,10 +123,11 @@ fn radius_fault(bits: u32) -> u8
     ensures { λ r. ⌜ r ≡ radiusFault bits ⌝ }
 {
     let radius = float32::from_bits(bits);
-    if merge_radius::is_off(radius) {
-        return 0;
+    if merge_radius::is_outside(radius) {
+        5
+    } else {
+        0
     }
-    if merge_radius::is_sized(radius) { 0 } else { 5 }
 }
 
 fn parameters_fault(body: &[u8]) -> u8

@@ -6,7 +6,7 @@ use borrow.Author.Needs.{needs}
 use Rattle.pyramid.proofs.Levels.{built}
 use Rattle.frame_pass.specs.Pass.{computedChoice}
 use Rattle.frame_pass.proofs.Inside.{corners-inside}
-use Rattle.frame.proofs.Refusals.{admitted, admitted-sound}
+use Rattle.frame_pass.proofs.Refusals.{admitted, admitted-sound}
 use Rattle.frame.proofs.Padded.{padded-none}
 use Rattle.frame.proofs.Entry.{found-refused, build-free, entry-short, merge-free, merge-kept, entry-done}
 use Rattle.frame.proofs.find_corners.Statement.{statement}

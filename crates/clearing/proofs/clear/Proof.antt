@@ -1,11 +1,11 @@
--- `frame::clearing::clear` meets its contract. Assumes nothing.
+-- `clearing::clear` meets its contract. Assumes nothing.
 use Prim.Native.Nat.{_-_}
 use native.Mathlib.Omega.{arith}
 use lib.Ieee.{ofBits}
 use Rattle.float32.specs.Float32.{zero}
-use Rattle.frame.proofs.Wiping.{Wiping, wiping-none, wiping-set, wiping-all}
-use Rattle.frame.proofs.clearing.clear.Statement.{statement}
-use Rattle.frame.proofs.clearing.clear.Tie as tie
+use Rattle.clearing.proofs.Wiping.{Wiping, wiping-none, wiping-set, wiping-all}
+use Rattle.clearing.proofs.clear.Statement.{statement}
+use Rattle.clearing.proofs.clear.Tie as tie
 
 abbrev Inv-loop : tie.InvT-loop
 Inv-loop d₀ n i₀ i-end d i = Wiping n i zero d₀ d

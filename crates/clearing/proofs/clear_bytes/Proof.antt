@@ -1,10 +1,10 @@
--- `frame::clearing::clear_bytes` meets its contract. Assumes nothing.
+-- `clearing::clear_bytes` meets its contract. Assumes nothing.
 use Prim.Native.Nat.{ℕ, _-_}
 use native.Mathlib.Omega.{arith}
 use mathlib.Core.Path.{_∙_}
-use Rattle.frame.proofs.Wiping.{Wiping, wiping-none, wiping-set, wiping-all, wiped-whole}
-use Rattle.frame.proofs.clearing.clear_bytes.Statement.{statement}
-use Rattle.frame.proofs.clearing.clear_bytes.Tie as tie
+use Rattle.clearing.proofs.Wiping.{Wiping, wiping-none, wiping-set, wiping-all, wiped-whole}
+use Rattle.clearing.proofs.clear_bytes.Statement.{statement}
+use Rattle.clearing.proofs.clear_bytes.Tie as tie
 
 abbrev Inv-loop : tie.InvT-loop
 Inv-loop d₀ i₀ i-end d i = Wiping {A = ℕ} 0 i 0 d₀ d

@@ -1,13 +1,13 @@
--- `frame::refusal` meets its contract: each return computes by the tests that led there. Assumes nothing.
+-- `frame_pass::refusal` meets its contract: each return computes by the tests that led there. Assumes nothing.
 use Prim.Native.Nat.{_*_, _≤_}
 use native.Mathlib.Nat.{mul-le-mul}
 use native.Mathlib.Omega.{arith}
 use borrow.Author.Needs.{needs}
 use borrow.Author.Tests.{lt-ltb, le-ltb, ne-eqb, not-true, not-false}
-use Rattle.frame.specs.Frame.{conditions}
-use Rattle.frame.proofs.Refusals.{number-three, number-five, number-eight, number-nine, number-zero}
-use Rattle.frame.proofs.refusal.Statement.{statement}
-use Rattle.frame.proofs.refusal.Tie as tie
+use Rattle.frame_pass.specs.Refusals.{conditions}
+use Rattle.frame_pass.proofs.Refusals.{number-three, number-five, number-eight, number-nine, number-zero}
+use Rattle.frame_pass.proofs.refusal.Statement.{statement}
+use Rattle.frame_pass.proofs.refusal.Tie as tie
 
 -- from one place of the code back to another
 abbrev at-else1 : tie.Then4 → tie.Else1
@@ -58,8 +58,8 @@ at-parameters-fit-from-Then7 c = c .before .before .before .before .before .befo
 abbrev at-else4-from-Then7 : tie.Then7 → tie.Else4
 at-else4-from-Then7 c = c .before .before .before .before .before
 
-abbrev at-is-radius-outside : tie.Then7 → tie.After-is-radius-outside
-at-is-radius-outside c = c .before .before .before .before
+abbrev at-is-outside : tie.Then7 → tie.After-is-outside
+at-is-outside c = c .before .before .before .before
 
 abbrev at-else5 : tie.Then7 → tie.Else5
 at-else5 c = c .before .before .before
@@ -79,8 +79,8 @@ at-parameters-fit-from-Else7 c = c .before .before .before .before .before .befo
 abbrev at-else4-from-Else7 : tie.Else7 → tie.Else4
 at-else4-from-Else7 c = c .before .before .before .before .before
 
-abbrev at-is-radius-outside-from-Else7 : tie.Else7 → tie.After-is-radius-outside
-at-is-radius-outside-from-Else7 c = c .before .before .before .before
+abbrev at-is-outside-from-Else7 : tie.Else7 → tie.After-is-outside
+at-is-outside-from-Else7 c = c .before .before .before .before
 
 abbrev at-else5-from-Else7 : tie.Else7 → tie.Else5
 at-else5-from-Else7 c = c .before .before .before
@@ -106,26 +106,26 @@ parameters-fit-requires c κs = search needs
 returns-4 : tie.Need-returns-4
 returns-4 c = number-three _ _ _ _ _ _ (at-else1 c .if1 .left) (at-else2 c .if2 .left) (c .before .before .if3 .left) _ (c .before .parameters-fit .ensures) (not-true _ (c .if4 .taken))
 
-is-radius-outside-requires : tie.Need-is-radius-outside-requires
-is-radius-outside-requires c κs = search needs
+is-outside-requires : tie.Need-is-outside-requires
+is-outside-requires c κs = search needs
 
 returns-5 : tie.Need-returns-5
-returns-5 c = number-five _ _ _ _ _ _ (at-else1-from-Then5 c .if1 .left) (at-else2-from-Then5 c .if2 .left) (at-else3 c .if3 .left) _ (at-parameters-fit c .parameters-fit .ensures) (not-false _ (c .before .before .if4 .left)) _ (c .before .is-radius-outside .ensures) (c .if5 .taken)
+returns-5 c = number-five _ _ _ _ _ _ (at-else1-from-Then5 c .if1 .left) (at-else2-from-Then5 c .if2 .left) (at-else3 c .if3 .left) _ (at-parameters-fit c .parameters-fit .ensures) (not-false _ (c .before .before .if4 .left)) _ (c .before .is-outside .ensures) (c .if5 .taken)
 
 mul-if6 : tie.Need-mul-if6
 mul-if6 c = search needs
 
 returns-6 : tie.Need-returns-6
-returns-6 c = number-eight _ _ _ _ _ _ (at-else1-from-Then6 c .if1 .left) (at-else2-from-Then6 c .if2 .left) (at-else3-from-Then6 c .if3 .left) _ (at-parameters-fit-from-Then6 c .parameters-fit .ensures) (not-false _ (at-else4 c .if4 .left)) _ (c .before .before .is-radius-outside .ensures) (c .before .if5 .left) (c .if6 .taken)
+returns-6 c = number-eight _ _ _ _ _ _ (at-else1-from-Then6 c .if1 .left) (at-else2-from-Then6 c .if2 .left) (at-else3-from-Then6 c .if3 .left) _ (at-parameters-fit-from-Then6 c .parameters-fit .ensures) (not-false _ (at-else4 c .if4 .left)) _ (c .before .before .is-outside .ensures) (c .before .if5 .left) (c .if6 .taken)
 
 cells-above-requires : tie.Need-cells-above-requires
 cells-above-requires c κs = search needs
 
 returns-7 : tie.Need-returns-7
-returns-7 c = number-nine _ _ _ _ _ _ (at-else1-from-Then7 c .if1 .left) (at-else2-from-Then7 c .if2 .left) (at-else3-from-Then7 c .if3 .left) _ (at-parameters-fit-from-Then7 c .parameters-fit .ensures) (not-false _ (at-else4-from-Then7 c .if4 .left)) _ (at-is-radius-outside c .is-radius-outside .ensures) (at-else5 c .if5 .left) (c .before .before .if6 .left) _ (c .before .cells-above .ensures) (c .if7 .taken)
+returns-7 c = number-nine _ _ _ _ _ _ (at-else1-from-Then7 c .if1 .left) (at-else2-from-Then7 c .if2 .left) (at-else3-from-Then7 c .if3 .left) _ (at-parameters-fit-from-Then7 c .parameters-fit .ensures) (not-false _ (at-else4-from-Then7 c .if4 .left)) _ (at-is-outside c .is-outside .ensures) (at-else5 c .if5 .left) (c .before .before .if6 .left) _ (c .before .cells-above .ensures) (c .if7 .taken)
 
 returns-8 : tie.Need-returns-8
-returns-8 c = number-zero _ _ _ _ _ _ (at-else1-from-Else7 c .if1 .left) (at-else2-from-Else7 c .if2 .left) (at-else3-from-Else7 c .if3 .left) _ (at-parameters-fit-from-Else7 c .parameters-fit .ensures) (not-false _ (at-else4-from-Else7 c .if4 .left)) _ (at-is-radius-outside-from-Else7 c .is-radius-outside .ensures) (at-else5-from-Else7 c .if5 .left) (c .before .before .if6 .left) _ (c .before .cells-above .ensures) (c .if7 .left)
+returns-8 c = number-zero _ _ _ _ _ _ (at-else1-from-Else7 c .if1 .left) (at-else2-from-Else7 c .if2 .left) (at-else3-from-Else7 c .if3 .left) _ (at-parameters-fit-from-Else7 c .parameters-fit .ensures) (not-false _ (at-else4-from-Else7 c .if4 .left)) _ (at-is-outside-from-Else7 c .is-outside .ensures) (at-else5-from-Else7 c .if5 .left) (c .before .before .if6 .left) _ (c .before .cells-above .ensures) (c .if7 .left)
 
 pub refusal-spec : {M : Type 1} → statement M
 refusal-spec =
@@ -137,7 +137,7 @@ refusal-spec =
     returns-3
     parameters-fit-requires
     returns-4
-    is-radius-outside-requires
+    is-outside-requires
     returns-5
     mul-if6
     returns-6

@@ -1,27 +1,25 @@
 -- The refusals of a frame before its pass: what holds where there is none, and that 10 is not among them. Assumes nothing.
 use Prim.Native.Nat.{ℕ, _*_, _<_, _≤_}
 use native.Mathlib.Omega.{arith}
-use mathlib.Core.Path.{_≡_, refl, sym, ap, _∙_}
+use mathlib.Core.Path.{_≡_, refl, sym, _∙_}
 use mathlib.Core.Logic.{_⊎_, inl, inr}
 use mathlib.Core.Bool.{Bool, true, false, not, _&&_}
-use mathlib.Core.List.{List, [], _∷_}
+use mathlib.Core.List.{List}
 use lib.ListN.{length}
 use borrow.Author.Tests.{ltb-false, not-false, lt-ltb, le-ltb, le-leb, eq-eqb}
 use Rattle.lists.specs.Places.{All}
 use Rattle.lists.specs.Refusals.{lowest}
 use Rattle.lists.proofs.Tests.{and-all}
-use Rattle.lists.proofs.Refusals.{all-clear, lowest-some, lowest-past, lowest-le, sized-of}
+use Rattle.lists.proofs.Refusals.{all-clear, lowest-le, sized-of}
 use Rattle.ring.specs.Ring.{isRing}
 use Rattle.accuracy.specs.Accurate.{Bytes}
 use Rattle.pyramid.specs.Pyramid.{levelCount, cellsAbove, capped}
 use Rattle.pyramid.proofs.Cells.{cells-exact}
 use Rattle.pyramid.proofs.Refusals.{Accepted}
-use Rattle.merge_radius.specs.MergeRadius.{isOff, isSized}
+use Rattle.merge_radius.specs.MergeRadius.{isOff, isSized, radiusOutside}
 use Rattle.frame_pass.specs.declared.FrameParams.{FrameParams}
-use Rattle.frame_pass.specs.Parameters.{parametersFit}
-use Rattle.frame_pass.specs.Pass.{framePass, computedChoice}
+use Rattle.frame_pass.specs.Refusals.{parametersFit, conditions}
 use Rattle.frame_pass.specs.Theorems.{Sound}
-use Rattle.frame.specs.Frame.{Buffers, conditions, tooMany, refusalOf}
 
 -- a merge radius that is not refused
 radius-fits : (off sized : Bool) → (not off && not sized) ≡ false → (off ≡ true) ⊎ ((off ≡ false) × (sized ≡ true))
@@ -37,7 +35,7 @@ pub record Admitted (p : FrameParams) (pixels w h cells places : ℕ) : Type 0 w
   pub enough : w * h ≤ cells
 
 module _ (p : FrameParams) (pixels w h cells places : ℕ) where
-  numbered : All (λ c. 0 < c .1) (conditions p pixels w h cells places)
+  pub numbered : All (λ c. 0 < c .1) (conditions p pixels w h cells places)
   unfolding conditions
   numbered = (omega arith, (omega arith, (omega arith, (omega arith, (omega arith, (omega arith, tt))))))
 
@@ -65,7 +63,7 @@ module _ (p : FrameParams) (pixels w h cells places : ℕ) (wide : w ≤ 4096) (
   unfolding conditions
   number-three t e z = simp (le-ltb 4096 w wide, le-ltb 4096 h high, eq-eqb pixels (w * h) size, sym e ∙ z)
 
-  module _ (t : Bool) (fit : t ≡ parametersFit p) (fits : t ≡ true) (r : Bool) (outside : r ≡ (not (isOff (p .radius)) && not (isSized (p .radius)))) where
+  module _ (t : Bool) (fit : t ≡ parametersFit p) (fits : t ≡ true) (r : Bool) (outside : r ≡ radiusOutside (p .radius)) where
     pub number-five : r ≡ true → 5 ≡ lowest (conditions p pixels w h cells places)
     unfolding conditions
     number-five z = simp (le-ltb 4096 w wide, le-ltb 4096 h high, eq-eqb pixels (w * h) size, sym fit ∙ fits, sym outside ∙ z)
@@ -94,21 +92,3 @@ module _ (p : FrameParams) (pixels w h cells places : ℕ) (wide : w ≤ 4096) (
 pub admitted-sound : (p : FrameParams) (img : List ℕ) (w h cells places : ℕ) → Admitted p (length img) w h cells places → Bytes img → Sound p img w h
 admitted-sound p img w h cells places a b =
     record { fit = a .fit; narrow = a .accepted .image .narrow; low = a .accepted .image .low; sized = a .accepted .image .sized; bytes = b }
-
--- ---- the number of a frame
-module _ (p : FrameParams) (img : List ℕ) (w h : ℕ) (b : Buffers) where
-  pub number-before : (lowest (conditions p (length img) w h (length (b .map)) (length (b .levels))) ≡ 0 → ⊥)
-      → refusalOf p img w h b ≡ lowest (conditions p (length img) w h (length (b .map)) (length (b .levels)))
-  unfolding refusalOf
-  number-before n = lowest-some (conditions p (length img) w h (length (b .map)) (length (b .levels))) ((tooMany (framePass p img w h (computedChoice p)) b, 10) ∷ []) n
-
-  module _ (none : lowest (conditions p (length img) w h (length (b .map)) (length (b .levels))) ≡ 0) where
-    pub number-in-pass : refusalOf p img w h b ≡ lowest ((tooMany (framePass p img w h (computedChoice p)) b, 10) ∷ [])
-    unfolding refusalOf
-    number-in-pass = lowest-past (conditions p (length img) w h (length (b .map)) (length (b .levels))) ((tooMany (framePass p img w h (computedChoice p)) b, 10) ∷ []) (numbered p (length img) w h (length (b .map)) (length (b .levels))) none
-
-    pub number-ten : tooMany (framePass p img w h (computedChoice p)) b ≡ true → refusalOf p img w h b ≡ 10
-    number-ten e = number-in-pass ∙ ap (λ (t : Bool). lowest ((t, 10) ∷ [])) e
-
-    pub number-none : tooMany (framePass p img w h (computedChoice p)) b ≡ false → refusalOf p img w h b ≡ 0
-    number-none e = number-in-pass ∙ ap (λ (t : Bool). lowest ((t, 10) ∷ [])) e

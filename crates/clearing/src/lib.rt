@@ -4,10 +4,10 @@ ghost use lib.ListN.{length, replicate};
 ghost use Rattle.lists.specs.Buffer.{wipedFrom};
 ghost use Rattle.float32.specs.Float32.{zero};
 ghost use Rattle.corner_list.specs.CornerList.{slices};
-ghost use Rattle.frame.specs.Needs.{clearedFrom};
+ghost use Rattle.clearing.specs.Clearing.{clearedFrom};
 
 // Sets a buffer's places from n on to 0.
-pub(crate) fn clear(d: &mut [f32], n: usize)
+pub fn clear(d: &mut [f32], n: usize)
     ensures { λ _. ⌜ now (d .exit) ≡ wipedFrom n zero (now (d .entry)) ⌝ }
 {
     for i in n..d.len() {
@@ -16,7 +16,7 @@ pub(crate) fn clear(d: &mut [f32], n: usize)
 }
 
 // Sets all of a buffer to 0.
-pub(crate) fn clear_bytes(d: &mut [u8])
+pub fn clear_bytes(d: &mut [u8])
     ensures { λ _. ⌜ now (d .exit) ≡ replicate (length (now (d .entry))) 0 ⌝ }
 {
     for i in 0..d.len() {
@@ -25,7 +25,7 @@ pub(crate) fn clear_bytes(d: &mut [u8])
 }
 
 // Sets the places of a buffer of corners from n on to 0.
-pub(crate) fn clear_list(xs: &mut [f32], ys: &mut [f32], strengths: &mut [f32], n: usize)
+pub fn clear_list(xs: &mut [f32], ys: &mut [f32], strengths: &mut [f32], n: usize)
     ensures { λ _. ⌜ slices (now (xs .exit)) (now (ys .exit)) (now (strengths .exit)) ≡ clearedFrom n (slices (now (xs .entry)) (now (ys .entry)) (now (strengths .entry))) ⌝ }
 {
     clear(xs, n);

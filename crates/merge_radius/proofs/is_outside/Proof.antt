@@ -1,8 +1,8 @@
--- `frame::is_radius_outside` meets its contract: each return computes by the tests that led there. Assumes nothing.
+-- `merge_radius::is_outside` meets its contract: each return computes by the tests that led there. Assumes nothing.
 use mathlib.Core.Path.{sym, _∙_}
 use borrow.Author.Needs.{needs}
-use Rattle.frame.proofs.is_radius_outside.Statement.{statement}
-use Rattle.frame.proofs.is_radius_outside.Tie as tie
+use Rattle.merge_radius.proofs.is_outside.Statement.{statement}
+use Rattle.merge_radius.proofs.is_outside.Tie as tie
 
 is-off-requires : tie.Need-is-off-requires
 is-off-requires c κs = search needs
@@ -19,6 +19,6 @@ returns-2 c = simp (sym (c .before .before .before .is-off .ensures) ∙ c .befo
 returns-3 : tie.Need-returns-3
 returns-3 c = simp (sym (c .before .before .before .is-off .ensures) ∙ c .before .before .if1 .left, sym (c .before .is-sized .ensures) ∙ c .if2 .left)
 
-pub is-radius-outside-spec : {M : Type 1} → statement M
-is-radius-outside-spec =
+pub is-outside-spec : {M : Type 1} → statement M
+is-outside-spec =
     tie.close (tie.spec is-off-requires returns is-sized-requires returns-2 returns-3)

@@ -1,12 +1,12 @@
--- `frame::parameters_fit` meets its contract: each return computes by the tests that led there. Assumes nothing.
+-- `frame_pass::parameters_fit` meets its contract: each return computes by the tests that led there. Assumes nothing.
 use mathlib.Core.Path.{_∙_}
 use borrow.Author.Needs.{needs}
 use borrow.Author.Tests.{lt-leb, le-leb}
 use Rattle.lists.proofs.Tests.{and-none}
-use Rattle.frame_pass.specs.Parameters.{parametersFit}
-use Rattle.frame.proofs.Refusals.{ring-decides}
-use Rattle.frame.proofs.parameters_fit.Statement.{statement}
-use Rattle.frame.proofs.parameters_fit.Tie as tie
+use Rattle.frame_pass.specs.Refusals.{parametersFit}
+use Rattle.frame_pass.proofs.Refusals.{ring-decides}
+use Rattle.frame_pass.proofs.parameters_fit.Statement.{statement}
+use Rattle.frame_pass.proofs.parameters_fit.Tie as tie
 
 returns : tie.Need-returns
 unfolding parametersFit

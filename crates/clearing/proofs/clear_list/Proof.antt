@@ -1,8 +1,8 @@
--- `frame::clearing::clear_list` meets its contract. Assumes nothing.
+-- `clearing::clear_list` meets its contract. Assumes nothing.
 use borrow.Author.Needs.{needs}
 use Rattle.corner_list.proofs.Corners.{slices-alike}
-use Rattle.frame.proofs.clearing.clear_list.Statement.{statement}
-use Rattle.frame.proofs.clearing.clear_list.Tie as tie
+use Rattle.clearing.proofs.clear_list.Statement.{statement}
+use Rattle.clearing.proofs.clear_list.Tie as tie
 
 clear-requires : tie.Need-clear-requires
 clear-requires c κs = search needs
