@@ -34,6 +34,15 @@ pub(crate) fn fill_bytes(d: &mut [u8]) {
     }
 }
 
+// The most places that a slice of a list buffer has, and such a slice, filled by the rule.
+pub(crate) const LIST: usize = 120;
+
+pub(crate) fn list() -> [f32; LIST] {
+    let mut d = [0.0f32; LIST];
+    fill_floats(&mut d);
+    d
+}
+
 // The bits of float i of a field, or those by the rule behind it.
 fn bits_before(field: &[u8], i: usize) -> u32 {
     if i < field.len() / 4 {
@@ -134,6 +143,13 @@ impl Cursor {
     // The same where all was filled by the rule.
     pub(crate) fn due_floats(self, body: &[u8], after: &[f32], n: usize) -> Cursor {
         self.due_floats_over(body, part(body, 0, 0), after, n)
+    }
+
+    // Past what is due in the whole of a list buffer's slices.
+    pub(crate) fn due_list(self, body: &[u8], xs: &[f32], ys: &[f32], strengths: &[f32]) -> Cursor {
+        self.due_floats(body, xs, xs.len())
+            .due_floats(body, ys, ys.len())
+            .due_floats(body, strengths, strengths.len())
     }
 
     // Past what is due in a byte buffer of n places.

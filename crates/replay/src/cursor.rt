@@ -20,7 +20,13 @@ pub(crate) struct Run {
     pub next: Cursor,
 }
 
-// The lengths of a corner buffer's slices, and the fields behind them.
+// The length of a buffer, and the fields behind it.
+pub(crate) struct Length {
+    pub n: usize,
+    pub next: Cursor,
+}
+
+// The lengths of a list buffer's slices, and the fields behind them.
 pub(crate) struct Lengths {
     pub xs: usize,
     pub ys: usize,
@@ -159,15 +165,34 @@ impl Cursor {
         n.next.run(body, 4 * (n.value as usize))
     }
 
-    pub(crate) fn lengths(self, body: &[u8]) -> Lengths {
-        let xs = self.word(body);
-        let ys = xs.next.word(body);
-        let strengths = ys.next.word(body);
+    // A buffer's length; no longer good where it is above a limit, and then cut down to that.
+    pub(crate) fn length(self, body: &[u8], limit: usize) -> Length
+        ensures { λ r. ⌜ r .n ≤ limit ⌝ }
+    {
+        let length = self.word(body);
+        let n = length.value as usize;
+        let next = length.next;
+        if limit < n {
+            return Length {
+                n: limit,
+                next: next.and(false),
+            };
+        }
+        Length { n, next }
+    }
+
+    // The same for a list buffer.
+    pub(crate) fn lengths(self, body: &[u8], limit: usize) -> Lengths
+        ensures { λ r. ⌜ (r .xs ≤ limit) × (r .ys ≤ limit) × (r .strengths ≤ limit) ⌝ }
+    {
+        let xs = self.length(body, limit);
+        let ys = xs.next.length(body, limit);
+        let strengths = ys.next.length(body, limit);
         let next = strengths.next;
         Lengths {
-            xs: xs.value as usize,
-            ys: ys.value as usize,
-            strengths: strengths.value as usize,
+            xs: xs.n,
+            ys: ys.n,
+            strengths: strengths.n,
             next,
         }
     }

@@ -36,6 +36,7 @@ fn is_due(
     due_text(c, body, &text, length).is_done(body)
 }
 
-fn due_text(c: Cursor, body: &[u8], text: &[u8; LONGEST], n: usize) -> Cursor {
+// Past the text that is due: the first n bytes of a buffer that was filled by the rule.
+pub(crate) fn due_text(c: Cursor, body: &[u8], text: &[u8; LONGEST], n: usize) -> Cursor {
     c.due_front(body, text).and(c.bytes(body).length == n)
 }

@@ -5,7 +5,9 @@ mod boxes;
 mod buffers;
 mod centroids;
 mod cursor;
+mod frames;
 mod levels;
+mod library;
 mod listings;
 mod merges;
 mod numbers;
@@ -33,6 +35,8 @@ enum Next {
 // Whether a record's answer is the same. One of an unknown kind, or whose fields do not fit its length, is not.
 fn is_same(kind: u8, body: &[u8]) -> bool {
     match kind {
+        1 => frames::replay(body),
+        2 => library::replay(body),
         3 => responses::replay(body),
         4 => peaks::replay(body),
         5 => centroids::replay(body),
@@ -99,25 +103,36 @@ fn replay(name: &[u8]) -> Tally {
     t
 }
 
-// Replays a file of the sample by its place in the list.
-fn replay_file(i: u8) -> Tally {
-    match i {
-        0 => replay(b"responses.bin"),
-        1 => replay(b"peaks.bin"),
-        2 => replay(b"centroids.bin"),
-        3 => replay(b"boxes.bin"),
-        4 => replay(b"levels.bin"),
-        5 => replay(b"merges.bin"),
-        6 => replay(b"streams.bin"),
-        7 => replay(b"listings.bin"),
-        _ => replay(b"numbers.bin"),
-    }
+// The frames of the program and of the library.
+fn replay_frames() -> Tally {
+    replay(b"frames.bin").and(replay(b"library.bin"))
+}
+
+// Calls on one map.
+fn replay_maps() -> Tally {
+    replay(b"responses.bin")
+        .and(replay(b"peaks.bin"))
+        .and(replay(b"centroids.bin"))
+}
+
+// Calls about levels, and merges.
+fn replay_levels() -> Tally {
+    replay(b"boxes.bin")
+        .and(replay(b"levels.bin"))
+        .and(replay(b"merges.bin"))
+}
+
+// The formats, and the functions of a number.
+fn replay_formats() -> Tally {
+    replay(b"streams.bin")
+        .and(replay(b"listings.bin"))
+        .and(replay(b"numbers.bin"))
 }
 
 fn main() {
-    let mut all = Tally::none();
-    for i in 0..9u8 {
-        all = all.and(replay_file(i));
-    }
-    all.print(b"all");
+    replay_frames()
+        .and(replay_maps())
+        .and(replay_levels())
+        .and(replay_formats())
+        .print(b"all");
 }
