@@ -20,18 +20,23 @@ pub(crate) fn replay(body: &[u8]) -> bool {
     }
     let mut map = [0.0f32; CELLS];
     read_floats(cells.of(body), &mut map);
+    let outcome = outcome_of(body, has_map.value == 1, &map[0..n], w.value, h.value);
+    due_outcome(cells.next, body, outcome).is_done(body)
+}
+
+// The outcome for the seed that the body gives.
+fn outcome_of(body: &[u8], has_map: bool, map: &[f32], w: u32, h: u32) -> Outcome {
     let refiner = CenterOfMassRefiner {
         radius: word(body, 0),
     };
-    let outcome = refiner.refine(
+    refiner.refine(
         float(body, 1),
         float(body, 2),
-        has_map.value == 1,
-        &map[0..n],
-        w.value as usize,
-        h.value as usize,
-    );
-    due_outcome(cells.next, body, outcome).is_done(body)
+        has_map,
+        map,
+        w as usize,
+        h as usize,
+    )
 }
 
 fn due_outcome(c: Cursor, body: &[u8], outcome: Outcome) -> Cursor {

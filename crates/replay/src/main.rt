@@ -52,6 +52,22 @@ fn is_same(kind: u8, body: &[u8]) -> bool {
     }
 }
 
+// What a record is, replayed.
+fn replay_record(kind: u8, body: &[u8]) -> Next {
+    if kind == 0 {
+        return Next::Last(word_at(body, 0));
+    }
+    Next::Record(is_same(kind, body))
+}
+
+// Reads a body as long as a buffer, and replays its record.
+fn read_body(fd: i32, kind: u8, body: &mut [u8]) -> Next {
+    if io::read_full(fd, body) < body.len() {
+        return Next::Short;
+    }
+    replay_record(kind, body)
+}
+
 // Reads a record and replays it.
 fn read(fd: i32) -> Next {
     let mut head = [0u8; 5];
@@ -63,16 +79,8 @@ fn read(fd: i32) -> Next {
     if LONGEST < n {
         return Next::Short;
     }
-    let mut space = [0u8; LONGEST];
-    let body: &mut [u8] = &mut space;
-    if io::read_full(fd, &mut body[0..n]) < n {
-        return Next::Short;
-    }
-    let body = &body[..];
-    if kind == 0 {
-        return Next::Last(word_at(&body[0..n], 0));
-    }
-    Next::Record(is_same(kind, &body[0..n]))
+    let mut body = [0u8; LONGEST];
+    read_body(fd, kind, &mut body[0..n])
 }
 
 // Replays the records that are left in a file.
