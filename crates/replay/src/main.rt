@@ -1,6 +1,6 @@
-// Replays the oracle's sample (oracle/SAMPLE.md) on the finder's crates: each record's call is made anew, and its answer and every
-// buffer that it borrows are compared bit for bit, NaN matching NaN. The folder `data` holds the sample of seed 1, and the file
-// `stdout` how many records each of its files has and that none differs.
+// Replays the oracle's sample (oracle/SAMPLE.md) on the finder's crates, from whole frames to single functions: each record's call
+// is made anew, and its answer and every buffer that it borrows are compared bit for bit, NaN matching NaN. The folder `data` holds
+// the sample of seed 1, and the file `stdout` how many records each of its files has and that none differs.
 mod boxes;
 mod buffers;
 mod centroids;
