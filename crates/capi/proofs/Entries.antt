@@ -22,6 +22,10 @@ use Rattle.center_of_mass.specs.CenterOfMass as center_of_mass
 use Rattle.center_of_mass.specs.Promise.{Refined}
 use Rattle.capi.specs.declared.centroid.Seed.{Seed}
 use Rattle.capi.specs.Centroid.{three, located, Located}
+use Rattle.frame_pass.specs.declared.FrameParams.{FrameParams}
+use Rattle.frame.specs.declared.FrameAnswer.{FrameAnswer}
+use Rattle.frame.specs.Frame as frame
+use Rattle.capi.specs.Finding.{cornersIn, countOf, CornersFound}
 use Rattle.capi.specs.Results.{resultOr}
 use Rattle.capi.specs.Patch.{widthOf, heightOf, Responded}
 use Rattle.capi.specs.Peaks.{addedOf, PeaksFound}
@@ -103,3 +107,24 @@ module _ (img : List ℕ) (w h count minimum : ℕ) (levels : List ℕ) (built :
 module _ (radius : ℕ) (m : List Float) (w h : ℕ) (before : Seed) (o : Outcome) (r : ℕ) (after : List Float) where
   pub seed-located : Refined radius (before .x) (before .y) true m w h o → r ≡ center_of_mass.numberOf o → after ≡ located o (three before) → Located radius m w h before r after
   seed-located p n e = record { number = n ∙ p .number; values = e ∙ ap (λ (q : Outcome). located q (three before)) (p .outcome) }
+
+-- ---- a frame
+module _ (p : FrameParams) (img : List ℕ) (w h : ℕ) (b : frame.Buffers) (count : ℕ) (a : FrameAnswer) (r : ℕ) (b′ : frame.Buffers) (count′ : ℕ) where
+  answered : frame.Found p img w h b a b′ → a ≡ frame.answerOf (frame.refusalOf p img w h b) (length (cornersIn p img w h))
+  unfolding frame.frameOf
+  answered f = ap (λ (o : frame.Frame). o .answer) (f .is)
+
+  pub corners-found : frame.Found p img w h b a b′ → r ≡ frame.numberOf a → count′ ≡ countOf a count → CornersFound p img w h b count r b′ count′
+  corners-found f n x =
+      let number = frame.refusalOf p img w h b in record {
+        answer = subst (λ (o : FrameAnswer). frame.Found p img w h b o b′) (answer (λ k. frame.answerOf k (length (cornersIn p img w h))) frame.numberOf again a number (answered f) r n) f;
+        count-is = result (λ k. frame.answerOf k (length (cornersIn p img w h))) frame.numberOf again a number (answered f) r n countOf (length (cornersIn p img w h)) count count′ each x;
+      }
+    where
+      again : (k : ℕ) → frame.numberOf (frame.answerOf k (length (cornersIn p img w h))) ≡ k
+      again zero = refl
+      again (suc k) = refl
+
+      each : (k : ℕ) → countOf (frame.answerOf k (length (cornersIn p img w h))) count ≡ resultOr k (length (cornersIn p img w h)) count
+      each zero = refl
+      each (suc k) = refl

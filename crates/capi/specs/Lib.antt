@@ -4,3 +4,4 @@ pub mod Peaks
 pub mod Merging
 pub mod Levels
 pub mod Centroid
+pub mod Finding

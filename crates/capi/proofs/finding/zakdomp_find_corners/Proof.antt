@@ -1,0 +1,58 @@
+-- `capi::zakdomp_find_corners` meets its contract: the answer of the function that it calls, taken apart. Assumes nothing.
+use borrow.Author.Needs.{needs}
+use Rattle.capi.proofs.Entries.{corners-found}
+use Rattle.capi.proofs.finding.zakdomp_find_corners.Statement.{statement}
+use Rattle.capi.proofs.finding.zakdomp_find_corners.Tie as tie
+
+find-corners-requires : tie.Need-find-corners-requires
+find-corners-requires c κs = search needs
+
+count-of-requires : tie.Need-count-of-requires
+count-of-requires c κs = search needs
+
+number-of-requires : tie.Need-number-of-requires
+number-of-requires c κs = search needs
+
+same-length : tie.Need-same-length
+same-length c = search needs
+
+same-length-2 : tie.Need-same-length-2
+same-length-2 c = search needs
+
+same-length-3 : tie.Need-same-length-3
+same-length-3 c = search needs
+
+same-length-4 : tie.Need-same-length-4
+same-length-4 c = search needs
+
+same-length-5 : tie.Need-same-length-5
+same-length-5 c = search needs
+
+same-length-6 : tie.Need-same-length-6
+same-length-6 c = search needs
+
+same-length-7 : tie.Need-same-length-7
+same-length-7 c = search needs
+
+same-length-8 : tie.Need-same-length-8
+same-length-8 c = search needs
+
+returns : tie.Need-returns
+returns c = corners-found _ _ _ _ _ _ _ _ _ _ (c .before .before .before .before .before .before .before .before .before .before .before .before .before .before .before .before .before .before .before .find-corners .ensures) (c .number-of .ensures) (c .before .count-of .ensures)
+
+pub zakdomp-find-corners-spec : {M : Type 1} → statement M
+zakdomp-find-corners-spec =
+    tie.close
+    (tie.spec
+    find-corners-requires
+    count-of-requires
+    number-of-requires
+    same-length
+    same-length-2
+    same-length-3
+    same-length-4
+    same-length-5
+    same-length-6
+    same-length-7
+    same-length-8
+    returns)
