@@ -1,0 +1,100 @@
+/* Zakdomp: the corners of a chessboard in a grey image. Link libcapi.a, which `rt staticlib capi` writes.
+ *
+ * Every function is proved to end and to do what is said here, for every value of its numbers. What C has to see to:
+ *   - a slice is a pointer and a length, in elements; the pointer is to that many elements, and is not NULL even where the length is 0;
+ *   - no two buffers and no places for results overlap, and an image or a map that is read overlaps none of them;
+ *   - some 600 KB of stack are free.
+ * Nothing is kept between calls, so calls may run at the same time on other buffers. No function allocates.
+ *
+ * Each function returns 0, or the number of a refusal, the lowest that applies. A refusal leaves every buffer and every place for a
+ * result as it was; the one exception is ZAKDOMP_LIST_SHORT from zakdomp_find_corners. What lies in a buffer behind a result stays as it
+ * was; zakdomp_find_corners alone clears it.
+ *
+ * Corners are held in three slices: columns, rows and strengths. The shortest of the three says how many places there are. */
+#ifndef ZAKDOMP_H
+#define ZAKDOMP_H
+
+#include <stddef.h>
+#include <stdint.h>
+
+#ifdef __cplusplus
+extern "C" {
+#endif
+
+enum {
+    ZAKDOMP_DONE = 0,
+    ZAKDOMP_SIDE = 1,         /* a side is above 4096 */
+    ZAKDOMP_LENGTH = 2,       /* the length of an image or of a map is not width * height */
+    ZAKDOMP_PARAMETER = 3,    /* ring not 5 or 10, window or centroid radius above 16, or search radius above 255 */
+    ZAKDOMP_COORDINATE = 4,   /* a corner to be merged is not within 0..4096, or a seed not within 1000000 either way */
+    ZAKDOMP_MERGE_RADIUS = 5, /* the merge radius is finite and positive, but not within 1/64..4096 */
+    ZAKDOMP_MAP_SHORT = 8,    /* the map buffer is too short */
+    ZAKDOMP_LEVELS_SHORT = 9, /* the level buffer is too short */
+    ZAKDOMP_LIST_SHORT = 10   /* the corners do not fit their buffer */
+};
+
+/* The corners of an image of w by h pixels, in row order.
+ *   ring         5 or 10: the ring's radius
+ *   threshold    a peak's response is above it; NaN and negative numbers count as 0
+ *   window       0..16: no cell this near has a larger response than a peak
+ *   least        so many cells of the window have a response above 0
+ *   centroid     0..16: a peak moves to the centre of mass of the cells this near
+ *   radius       1/64..4096: of corners this near to each other the strongest is kept; 0, negative or not finite: all are kept
+ *   level_count  1: the image itself; more: seeds are found on the last of so many half-size levels, and looked for about their place
+ *                in the image; 0: no corners
+ *   minimum      no level has a side below it
+ *   search       0..255: how far about a seed, in pixels of its level
+ * Buffers:
+ *   map          at least w * h floats; all 0 at the end
+ *   levels       at least zakdomp_level_bytes(w, h, level_count, minimum) bytes; the levels stand first in it
+ *   sx, sy, ss   a place for each seed; the seeds stand first, and 0 behind them
+ *   cx, cy, cs   a place for each corner before merging; the corners stand first, and 0 behind them
+ *   count        the number of corners
+ * Refusals: 1, 2, 3, 5, 8, 9, 10. After 10 all buffers are 0 in their whole length, and count is as it was. */
+uint8_t zakdomp_find_corners(const uint8_t *img, size_t img_length, size_t w, size_t h, uint32_t ring, float threshold, uint32_t window,
+                             uint32_t least, uint32_t centroid, float radius, uint32_t level_count, size_t minimum, uint32_t search,
+                             float *map, size_t map_length, uint8_t *levels, size_t levels_length, float *sx, size_t sx_length, float *sy,
+                             size_t sy_length, float *ss, size_t ss_length, float *cx, size_t cx_length, float *cy, size_t cy_length,
+                             float *cs, size_t cs_length, size_t *count);
+
+/* The responses of the cells in the columns x0 up to, not including, x1 of the rows y0 up to y1. The box is clipped to the image.
+ *   map            at least as many floats as the clipped box has cells; they stand first in it, in row order
+ *   width, height  the sides of the clipped box, both 0 where it is empty
+ * Refusals: 1, 2, 3, 8. */
+uint8_t zakdomp_response(const uint8_t *img, size_t img_length, size_t w, size_t h, uint32_t ring, size_t x0, size_t y0, size_t x1,
+                         size_t y1, float *map, size_t map_length, size_t *width, size_t *height);
+
+/* The peaks of a map of w by h responses, put behind the first `held` corners of a buffer, in row order. The parameters are those of
+ * zakdomp_find_corners; no peak lies within ring + window + centroid of the map's edge.
+ *   added  the number of peaks
+ * Refusals: 1, 2, 3, 10. */
+uint8_t zakdomp_peaks(const float *map, size_t map_length, size_t w, size_t h, uint32_t ring, float threshold, uint32_t window,
+                      uint32_t least, uint32_t centroid, float *xs, size_t xs_length, float *ys, size_t ys_length, float *strengths,
+                      size_t strengths_length, size_t held, size_t *added);
+
+/* The centre of mass of the positive cells of a map within `radius` columns and rows of a seed.
+ *   x, y  the seed, and then the centre of mass; the seed stays where the cells do not all lie in the map or none is positive
+ *   mass  the sum of the cells; 0 where the seed stays
+ * Refusals: 1, 2, 3, 4. */
+uint8_t zakdomp_centroid(const float *map, size_t map_length, size_t w, size_t h, uint32_t radius, float *x, float *y, float *mass);
+
+/* Merges the first `count` corners of a buffer in place: of corners within `radius` of each other the strongest is kept.
+ *   kept  the number of corners that are left
+ * Refusals: 4, 5, 10. */
+uint8_t zakdomp_merge(float *xs, size_t xs_length, float *ys, size_t ys_length, float *strengths, size_t strengths_length, size_t count,
+                      float radius, size_t *kept);
+
+/* How many bytes the level buffer of an image of w by h pixels needs. */
+size_t zakdomp_level_bytes(size_t w, size_t h, uint32_t level_count, size_t minimum);
+
+/* The half-size levels of an image, one behind the other, first in `levels`.
+ *   built  the number of levels, the image included
+ * Refusals: 1, 2, 9. */
+uint8_t zakdomp_levels(const uint8_t *img, size_t img_length, size_t w, size_t h, uint32_t level_count, size_t minimum, uint8_t *levels,
+                       size_t levels_length, size_t *built);
+
+#ifdef __cplusplus
+}
+#endif
+
+#endif

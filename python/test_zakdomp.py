@@ -1,0 +1,67 @@
+"""The module over the shared object: python3 -m unittest test_zakdomp"""
+import random
+import unittest
+
+import zakdomp
+
+SIDE = 11
+PLAIN = dict(window=0, least_neighbours=0, centroid_radius=0, search_radius=0)
+
+
+def whole_case():
+    """Document 01's whole case: one corner in the middle of 11 by 11 pixels."""
+    image = bytearray(SIDE * SIDE)
+    for dx, dy in ((0, -5), (2, -5), (3, -3), (5, -2), (0, 5), (-2, 5), (-3, 3), (-5, 2)):
+        image[(5 + dy) * SIDE + 5 + dx] = 255
+    for dx, dy in ((0, 0), (0, -1), (0, 1), (1, 0), (-1, 0)):
+        image[(5 + dy) * SIDE + 5 + dx] = 128
+    return image
+
+
+class Finding(unittest.TestCase):
+    def refused(self, number, *arguments, **named):
+        with self.assertRaises(zakdomp.Refusal) as caught:
+            zakdomp.find_corners(*arguments, **named)
+        self.assertEqual(caught.exception.number, number)
+        return str(caught.exception)
+
+    def test_the_whole_case(self):
+        for image in (whole_case(), bytes(whole_case()), memoryview(whole_case())):
+            self.assertEqual(zakdomp.find_corners(image, SIDE, SIDE, **PLAIN), [(5.0, 5.0, 2032.0)])
+
+    def test_a_board_on_one_and_three_levels(self):
+        image = bytes(20 if (x // 48 + y // 48) % 2 == 0 else 220 for y in range(288) for x in range(384))
+        for levels in (1, 3):
+            corners = zakdomp.find_corners(image, 384, 288, threshold=30, levels=levels, minimum_side=20)
+            self.assertEqual(len(corners), 7 * 5)
+            self.assertTrue(all(c.strength > 30 for c in corners))
+
+    def test_more_corners_than_places_at_first(self):
+        image = random.Random(1).randbytes(512 * 512)
+        dense = dict(window=1, least_neighbours=0, merge_radius=0)
+        found = zakdomp.find_corners(image, 512, 512, **dense)
+        self.assertGreater(len(found), 1024)
+        self.refused(10, image, 512, 512, most=1000, **dense)
+        self.assertEqual(zakdomp.find_corners(image, 512, 512, most=len(found), **dense), found)
+
+    def test_refusals(self):
+        image = whole_case()
+        self.assertEqual(self.refused(1, image, 4097, 11), "a side is above 4096 (number 1)")
+        self.refused(2, image, 11, 10)
+        self.refused(3, image, 11, 11, ring=6)
+        self.refused(5, image, 11, 11, merge_radius=5000.0)
+
+    def test_numbers_that_no_type_holds(self):
+        for named in (dict(ring=5 + (1 << 32)), dict(levels=-1), dict(minimum_side=1 << 64)):
+            with self.assertRaises(ValueError):
+                zakdomp.find_corners(whole_case(), SIDE, SIDE, **named)
+
+    def test_the_response_of_a_box(self):
+        found = zakdomp.response(whole_case(), SIDE, SIDE, x0=4, x1=6, y0=5)
+        self.assertEqual((found.width, found.height, len(found.cells)), (2, 6, 12))
+        self.assertEqual(found.cells[:2], [0.0, 2032.0])
+        self.assertEqual(zakdomp.response(whole_case(), SIDE, SIDE, x0=4, x1=4), (0, 0, []))
+
+
+if __name__ == "__main__":
+    unittest.main()

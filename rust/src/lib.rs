@@ -1,0 +1,156 @@
+//! The corners of a chessboard in a grey image.
+//!
+//! A [`Finder`] owns the buffers that the library works in and uses them again. What the library refuses comes back as a [`Refusal`].
+mod library;
+mod refusal;
+
+pub use refusal::Refusal;
+
+/// A corner, in pixels, and the response at its peak.
+#[derive(Clone, Copy, Debug, PartialEq)]
+pub struct Corner {
+    pub x: f32,
+    pub y: f32,
+    pub strength: f32,
+}
+
+/// What is looked for.
+#[derive(Clone, Copy, Debug, PartialEq)]
+pub struct Params {
+    /// The ring's radius, 5 or 10.
+    pub ring: u32,
+    /// A peak's response is above it.
+    pub threshold: f32,
+    /// No cell this near, 0 to 16, has a larger response than a peak.
+    pub window: u32,
+    /// So many cells of the window have a response above 0.
+    pub least_neighbours: u32,
+    /// A peak moves to the centre of mass of the cells this near, 0 to 16.
+    pub centroid_radius: u32,
+    /// Of corners this near to each other, 1/64 to 4096, the strongest is kept; 0: all are kept.
+    pub merge_radius: f32,
+    /// On how many half-size levels seeds are looked for; 1: the image itself.
+    pub levels: u32,
+    /// No level has a side below it.
+    pub minimum_side: usize,
+    /// How far about a seed, 0 to 255, in pixels of its level.
+    pub search_radius: u32,
+}
+
+impl Default for Params {
+    /// The original's defaults, on one level.
+    fn default() -> Self {
+        Self {
+            ring: 5,
+            threshold: 0.0,
+            window: 2,
+            least_neighbours: 2,
+            centroid_radius: 2,
+            merge_radius: 3.0,
+            levels: 1,
+            minimum_side: 1,
+            search_radius: 3,
+        }
+    }
+}
+
+/// The responses of a box, in row order.
+#[derive(Clone, Debug, PartialEq)]
+pub struct ResponseMap {
+    pub width: usize,
+    pub height: usize,
+    pub cells: Vec<f32>,
+}
+
+/// The largest side of an image; the library refuses larger ones.
+const LARGEST_SIDE: usize = 4096;
+
+/// Columns, rows and strengths.
+#[derive(Clone, Debug, Default)]
+struct Lists([Vec<f32>; 3]);
+
+impl Lists {
+    fn resize(&mut self, places: usize) {
+        self.0.iter_mut().for_each(|list| list.resize(places, 0.0));
+    }
+}
+
+/// Finds corners, in buffers that it owns.
+#[derive(Clone, Debug)]
+pub struct Finder {
+    map: Vec<f32>,
+    levels: Vec<u8>,
+    seeds: Lists,
+    corners: Lists,
+    places: usize,
+    most: usize,
+}
+
+impl Default for Finder {
+    fn default() -> Self {
+        Self::new()
+    }
+}
+
+impl Finder {
+    /// Takes any number of corners up to 4,194,304, before merging.
+    pub fn new() -> Self {
+        Self::with_most(1 << 22)
+    }
+
+    /// Takes at most so many corners, before merging: an image with more is refused.
+    pub fn with_most(most: usize) -> Self {
+        let lists = Lists::default;
+        Self { map: vec![], levels: vec![], seeds: lists(), corners: lists(), places: most.min(1024), most }
+    }
+
+    /// The corners of an image of `width` by `height` pixels in row order.
+    pub fn find(
+        &mut self,
+        image: &[u8],
+        width: usize,
+        height: usize,
+        params: &Params,
+    ) -> Result<Vec<Corner>, Refusal> {
+        if width <= LARGEST_SIDE && height <= LARGEST_SIDE {
+            self.map.resize(self.map.len().max(width * height), 0.0);
+            let bytes = library::level_bytes(width, height, params);
+            self.levels.resize(self.levels.len().max(bytes), 0);
+        }
+        loop {
+            self.seeds.resize(self.places);
+            self.corners.resize(self.places);
+            let map = &mut self.map;
+            let (seeds, corners) = (&mut self.seeds.0, &mut self.corners.0);
+            match library::find_corners(image, width, height, params, map, &mut self.levels, seeds, corners) {
+                Ok(count) => return Ok(self.list(count)),
+                Err(Refusal::ListShort) if self.places < self.most => {
+                    self.places = (self.places * 4).min(self.most);
+                }
+                Err(refusal) => return Err(refusal),
+            }
+        }
+    }
+
+    fn list(&self, count: usize) -> Vec<Corner> {
+        let [x, y, strength] = &self.corners.0;
+        (0..count).map(|i| Corner { x: x[i], y: y[i], strength: strength[i] }).collect()
+    }
+}
+
+/// The responses of the columns `across` of the rows `down` of an image, clipped to it, by a ring of radius 5 or 10.
+pub fn response(
+    image: &[u8],
+    width: usize,
+    height: usize,
+    ring: u32,
+    across: std::ops::Range<usize>,
+    down: std::ops::Range<usize>,
+) -> Result<ResponseMap, Refusal> {
+    let side = |range: &std::ops::Range<usize>, n: usize| range.end.min(n).saturating_sub(range.start);
+    let small = width <= LARGEST_SIDE && height <= LARGEST_SIDE;
+    let mut cells = vec![0.0; if small { side(&across, width) * side(&down, height) } else { 0 }];
+    let (w, h) = library::response(image, width, height, ring, across, down, &mut cells)?;
+    cells.truncate(w * h);
+    Ok(ResponseMap { width: w, height: h, cells })
+}

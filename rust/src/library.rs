@@ -1,0 +1,72 @@
+//! The functions of libcapi.a that this crate calls, over slices.
+use crate::{Params, Refusal};
+use std::ops::Range;
+
+#[rustfmt::skip]
+extern "C" {
+    fn zakdomp_find_corners(
+        img: *const u8, img_length: usize, w: usize, h: usize,
+        ring: u32, threshold: f32, window: u32, least: u32, centroid: u32, radius: f32, level_count: u32, minimum: usize, search: u32,
+        map: *mut f32, map_length: usize, levels: *mut u8, levels_length: usize,
+        sx: *mut f32, sx_length: usize, sy: *mut f32, sy_length: usize, ss: *mut f32, ss_length: usize,
+        cx: *mut f32, cx_length: usize, cy: *mut f32, cy_length: usize, cs: *mut f32, cs_length: usize,
+        count: *mut usize,
+    ) -> u8;
+    fn zakdomp_response(
+        img: *const u8, img_length: usize, w: usize, h: usize, ring: u32, x0: usize, y0: usize, x1: usize, y1: usize,
+        map: *mut f32, map_length: usize, width: *mut usize, height: *mut usize,
+    ) -> u8;
+    fn zakdomp_level_bytes(w: usize, h: usize, level_count: u32, minimum: usize) -> usize;
+}
+
+/// The results, unless the number is one of a refusal.
+fn unless_refused<T>(number: u8, results: T) -> Result<T, Refusal> {
+    if number == 0 {
+        Ok(results)
+    } else {
+        Err(Refusal::of(number))
+    }
+}
+
+pub(crate) fn level_bytes(width: usize, height: usize, p: &Params) -> usize {
+    // SAFETY: numbers only.
+    unsafe { zakdomp_level_bytes(width, height, p.levels, p.minimum_side) }
+}
+
+#[allow(clippy::too_many_arguments)]
+#[rustfmt::skip]
+pub(crate) fn find_corners(
+    image: &[u8], width: usize, height: usize, p: &Params,
+    map: &mut [f32], levels: &mut [u8], seeds: &mut [Vec<f32>; 3], corners: &mut [Vec<f32>; 3],
+) -> Result<usize, Refusal> {
+    let mut count = 0;
+    let [sx, sy, ss] = seeds;
+    let [cx, cy, cs] = corners;
+    // SAFETY: every slice is whole, none overlaps another, and the call keeps none. It is proved to stay within their lengths.
+    let number = unsafe {
+        zakdomp_find_corners(
+            image.as_ptr(), image.len(), width, height,
+            p.ring, p.threshold, p.window, p.least_neighbours, p.centroid_radius, p.merge_radius, p.levels, p.minimum_side, p.search_radius,
+            map.as_mut_ptr(), map.len(), levels.as_mut_ptr(), levels.len(),
+            sx.as_mut_ptr(), sx.len(), sy.as_mut_ptr(), sy.len(), ss.as_mut_ptr(), ss.len(),
+            cx.as_mut_ptr(), cx.len(), cy.as_mut_ptr(), cy.len(), cs.as_mut_ptr(), cs.len(),
+            &mut count,
+        )
+    };
+    unless_refused(number, count)
+}
+
+#[rustfmt::skip]
+pub(crate) fn response(
+    image: &[u8], width: usize, height: usize, ring: u32, across: Range<usize>, down: Range<usize>, map: &mut [f32],
+) -> Result<(usize, usize), Refusal> {
+    let (mut w, mut h) = (0, 0);
+    // SAFETY: as above.
+    let number = unsafe {
+        zakdomp_response(
+            image.as_ptr(), image.len(), width, height, ring, across.start, down.start, across.end, down.end,
+            map.as_mut_ptr(), map.len(), &mut w, &mut h,
+        )
+    };
+    unless_refused(number, (w, h))
+}

@@ -1,0 +1,69 @@
+//! Why a call is refused.
+
+/// Why a call is refused: the numbers of include/zakdomp.h.
+#[derive(Clone, Copy, Debug, Eq, Hash, PartialEq)]
+#[non_exhaustive]
+pub enum Refusal {
+    Side,
+    Length,
+    Parameter,
+    Coordinate,
+    MergeRadius,
+    MapShort,
+    LevelsShort,
+    ListShort,
+    /// A number that this crate does not know.
+    Other(u8),
+}
+
+impl Refusal {
+    pub(crate) fn of(number: u8) -> Self {
+        match number {
+            1 => Self::Side,
+            2 => Self::Length,
+            3 => Self::Parameter,
+            4 => Self::Coordinate,
+            5 => Self::MergeRadius,
+            8 => Self::MapShort,
+            9 => Self::LevelsShort,
+            10 => Self::ListShort,
+            _ => Self::Other(number),
+        }
+    }
+
+    /// Its number.
+    pub fn number(self) -> u8 {
+        match self {
+            Self::Side => 1,
+            Self::Length => 2,
+            Self::Parameter => 3,
+            Self::Coordinate => 4,
+            Self::MergeRadius => 5,
+            Self::MapShort => 8,
+            Self::LevelsShort => 9,
+            Self::ListShort => 10,
+            Self::Other(number) => number,
+        }
+    }
+}
+
+impl std::fmt::Display for Refusal {
+    fn fmt(&self, f: &mut std::fmt::Formatter<'_>) -> std::fmt::Result {
+        let text = match self {
+            Self::Side => "a side is above 4096",
+            Self::Length => "the number of pixels is not width times height",
+            Self::Parameter => {
+                "the ring is not 5 or 10, or a window, centroid or search radius is out of range"
+            }
+            Self::Coordinate => "a coordinate is out of range",
+            Self::MergeRadius => "the merge radius is not within 1/64 to 4096",
+            Self::MapShort => "the map buffer is too short",
+            Self::LevelsShort => "the level buffer is too short",
+            Self::ListShort => "there are more corners than places for them",
+            Self::Other(_) => "refused",
+        };
+        write!(f, "{text} (number {})", self.number())
+    }
+}
+
+impl std::error::Error for Refusal {}

@@ -1,0 +1,100 @@
+//! The crate over the linked library.
+use zakdomp::{response, Corner, Finder, Params, Refusal};
+
+const SIDE: usize = 11;
+
+/// Document 01's whole case: one corner in the middle of 11 by 11 pixels.
+fn whole_case() -> Vec<u8> {
+    let bright = [(0, -5), (2, -5), (3, -3), (5, -2), (0, 5), (-2, 5), (-3, 3), (-5, 2)];
+    let cross = [(0, 0), (0, -1), (0, 1), (1, 0), (-1, 0)];
+    let mut image = vec![0; SIDE * SIDE];
+    let mut put = |(dx, dy): (isize, isize), grey| image[((5 + dy) * 11 + 5 + dx) as usize] = grey;
+    bright.into_iter().for_each(|at| put(at, 255));
+    cross.into_iter().for_each(|at| put(at, 128));
+    image
+}
+
+const PLAIN: Params = Params {
+    ring: 5,
+    threshold: 0.0,
+    window: 0,
+    least_neighbours: 0,
+    centroid_radius: 0,
+    merge_radius: 3.0,
+    levels: 1,
+    minimum_side: 1,
+    search_radius: 0,
+};
+
+/// Squares of 48 pixels.
+fn board(width: usize, height: usize) -> Vec<u8> {
+    let grey = |i: usize| if (i % width / 48 + i / width / 48).is_multiple_of(2) { 20 } else { 220 };
+    (0..width * height).map(grey).collect()
+}
+
+/// Pixels in no order.
+fn noise(pixels: usize) -> Vec<u8> {
+    let mut state = 1u32;
+    let mut next = || {
+        state ^= state << 13;
+        state ^= state >> 17;
+        state ^= state << 5;
+        (state >> 24) as u8
+    };
+    (0..pixels).map(|_| next()).collect()
+}
+
+#[test]
+fn the_whole_case() {
+    let found = Finder::new().find(&whole_case(), SIDE, SIDE, &PLAIN);
+    assert_eq!(found, Ok(vec![Corner { x: 5.0, y: 5.0, strength: 2032.0 }]));
+}
+
+#[test]
+fn a_board_on_one_and_three_levels() {
+    let image = board(384, 288);
+    let mut finder = Finder::new();
+    for levels in [1, 3] {
+        let params = Params { threshold: 30.0, levels, minimum_side: 20, ..Params::default() };
+        let corners = finder.find(&image, 384, 288, &params).unwrap();
+        assert_eq!(corners.len(), 7 * 5);
+        let off = |v: f32| ((v + 0.5) / 48.0).round() * 48.0 - (v + 0.5);
+        assert!(corners.iter().all(|c| off(c.x).abs() < 0.5 && off(c.y).abs() < 0.5 && c.strength > 30.0));
+    }
+}
+
+#[test]
+fn more_corners_than_places_at_first() {
+    let image = noise(512 * 512);
+    let params = Params { merge_radius: 0.0, window: 1, least_neighbours: 0, ..Params::default() };
+    let found = Finder::new().find(&image, 512, 512, &params).unwrap();
+    assert!(found.len() > 1024, "{}", found.len());
+    assert_eq!(Finder::with_most(1000).find(&image, 512, 512, &params), Err(Refusal::ListShort));
+    assert_eq!(Finder::with_most(found.len()).find(&image, 512, 512, &params), Ok(found));
+}
+
+#[test]
+fn refusals() {
+    let image = whole_case();
+    let find = |w, h, params: Params| Finder::new().find(&image, w, h, &params).unwrap_err();
+    assert_eq!(find(4097, 11, PLAIN), Refusal::Side);
+    assert_eq!(find(usize::MAX, usize::MAX, PLAIN), Refusal::Side);
+    assert_eq!(find(11, 10, PLAIN), Refusal::Length);
+    assert_eq!(find(11, 11, Params { ring: 6, ..PLAIN }), Refusal::Parameter);
+    assert_eq!(find(11, 11, Params { search_radius: 256, ..PLAIN }), Refusal::Parameter);
+    assert_eq!(find(11, 11, Params { merge_radius: 5000.0, ..PLAIN }), Refusal::MergeRadius);
+    let text = find(4097, 11, PLAIN).to_string();
+    assert_eq!(text, "a side is above 4096 (number 1)");
+}
+
+#[test]
+fn responses_of_boxes() {
+    let image = whole_case();
+    let map = response(&image, SIDE, SIDE, 5, 4..6, 5..99).unwrap();
+    assert_eq!((map.width, map.height, map.cells.len()), (2, 6, 12));
+    assert_eq!(map.cells[..2], [0.0, 2032.0]);
+    let empty = response(&image, SIDE, SIDE, 5, 4..4, 0..usize::MAX).unwrap();
+    assert_eq!((empty.width, empty.height, empty.cells.len()), (0, 0, 0));
+    assert_eq!(response(&image, SIDE, SIDE, 7, 0..1, 0..1), Err(Refusal::Parameter));
+    assert_eq!(response(&image, 5000, 1, 5, 0..5000, 0..1), Err(Refusal::Side));
+}
