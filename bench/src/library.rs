@@ -1,0 +1,168 @@
+//! Ours and the C, over slices.
+use oracle::params::Params;
+use oracle::Corner;
+
+#[rustfmt::skip]
+extern "C" {
+    fn zakdomp_find_corners(
+        img: *const u8, img_length: usize, w: usize, h: usize,
+        ring: u32, threshold: f32, window: u32, least: u32, centroid: u32, radius: f32, level_count: u32, minimum: usize, search: u32,
+        map: *mut f32, map_length: usize, levels: *mut u8, levels_length: usize,
+        sx: *mut f32, sx_length: usize, sy: *mut f32, sy_length: usize, ss: *mut f32, ss_length: usize,
+        cx: *mut f32, cx_length: usize, cy: *mut f32, cy_length: usize, cs: *mut f32, cs_length: usize,
+        count: *mut usize,
+    ) -> u8;
+    fn zakdomp_response(
+        img: *const u8, img_length: usize, w: usize, h: usize, ring: u32, x0: usize, y0: usize, x1: usize, y1: usize,
+        map: *mut f32, map_length: usize, width: *mut usize, height: *mut usize,
+    ) -> u8;
+    fn zakdomp_peaks(
+        map: *const f32, map_length: usize, w: usize, h: usize, ring: u32, threshold: f32, window: u32, least: u32, centroid: u32,
+        xs: *mut f32, xs_length: usize, ys: *mut f32, ys_length: usize, strengths: *mut f32, strengths_length: usize,
+        held: usize, added: *mut usize,
+    ) -> u8;
+    fn zakdomp_centroid(
+        map: *const f32, map_length: usize, w: usize, h: usize, radius: u32, x: *mut f32, y: *mut f32, mass: *mut f32,
+    ) -> u8;
+    fn zakdomp_merge(
+        xs: *mut f32, xs_length: usize, ys: *mut f32, ys_length: usize, strengths: *mut f32, strengths_length: usize,
+        count: usize, radius: f32, kept: *mut usize,
+    ) -> u8;
+    fn zakdomp_levels(
+        img: *const u8, img_length: usize, w: usize, h: usize, level_count: u32, minimum: usize,
+        levels: *mut u8, levels_length: usize, built: *mut usize,
+    ) -> u8;
+    fn response_in_c(img: *const u8, w: usize, h: usize, ring: i32, map: *mut f32);
+}
+
+/// Columns, rows and strengths.
+#[derive(Clone)]
+pub struct List(pub [Vec<f32>; 3]);
+
+impl List {
+    pub fn of(corners: &[Corner]) -> Self {
+        let field = |f: fn(&Corner) -> f32| corners.iter().map(f).collect();
+        Self([field(|c| c.x), field(|c| c.y), field(|c| c.strength)])
+    }
+
+    pub fn empty(places: usize) -> Self {
+        Self([(); 3].map(|()| vec![0.0; places]))
+    }
+
+    /// The bits of the first `n`.
+    pub fn bits(&self, n: usize) -> Vec<[u32; 3]> {
+        (0..n).map(|i| [0, 1, 2].map(|k| self.0[k][i].to_bits())).collect()
+    }
+
+    pub fn copy_from(&mut self, other: &List) {
+        for k in 0..3 {
+            self.0[k][..other.0[k].len()].copy_from_slice(&other.0[k]);
+        }
+    }
+}
+
+/// The bits of a list of the original's.
+pub fn bits(corners: &[Corner]) -> Vec<[u32; 3]> {
+    List::of(corners).bits(corners.len())
+}
+
+// In each of these: SAFETY: every slice is whole, none overlaps another, and the call keeps none.
+
+pub fn response(pixels: &[u8], w: usize, h: usize, ring: u32, map: &mut [f32]) {
+    let (mut width, mut height) = (0, 0);
+    #[rustfmt::skip]
+    let number = unsafe {
+        zakdomp_response(pixels.as_ptr(), pixels.len(), w, h, ring, 0, 0, w, h, map.as_mut_ptr(), map.len(), &mut width, &mut height)
+    };
+    assert_eq!((number, width, height), (0, w, h));
+}
+
+/// The same in C; the sides are above twice the ring.
+pub fn c_response(pixels: &[u8], w: usize, h: usize, ring: u32, map: &mut [f32]) {
+    assert!(pixels.len() == w * h && map.len() >= w * h && w.min(h) > 2 * ring as usize);
+    unsafe { response_in_c(pixels.as_ptr(), w, h, ring as i32, map.as_mut_ptr()) }
+}
+
+pub fn peaks(map: &[f32], w: usize, h: usize, p: &Params, list: &mut List) -> usize {
+    let mut added = 0;
+    let [x, y, s] = &mut list.0;
+    #[rustfmt::skip]
+    let number = unsafe {
+        zakdomp_peaks(
+            map.as_ptr(), map.len(), w, h, p.ring, p.threshold, p.window, p.least, p.centroid,
+            x.as_mut_ptr(), x.len(), y.as_mut_ptr(), y.len(), s.as_mut_ptr(), s.len(), 0, &mut added,
+        )
+    };
+    assert_eq!(number, 0);
+    added
+}
+
+pub fn centroids(map: &[f32], w: usize, h: usize, radius: u32, list: &mut List) {
+    let [x, y, _] = &mut list.0;
+    for i in 0..x.len() {
+        let mut mass = 0.0;
+        let number = unsafe {
+            zakdomp_centroid(map.as_ptr(), map.len(), w, h, radius, &mut x[i], &mut y[i], &mut mass)
+        };
+        assert!(number == 0 && mass > 0.0);
+    }
+}
+
+pub fn merge(list: &mut List, count: usize, radius: f32) -> usize {
+    let mut kept = 0;
+    let [x, y, s] = &mut list.0;
+    #[rustfmt::skip]
+    let number = unsafe {
+        zakdomp_merge(
+            x.as_mut_ptr(), x.len(), y.as_mut_ptr(), y.len(), s.as_mut_ptr(), s.len(), count, radius, &mut kept,
+        )
+    };
+    assert_eq!(number, 0);
+    kept
+}
+
+pub fn levels(pixels: &[u8], w: usize, h: usize, p: &Params, levels: &mut [u8]) -> usize {
+    let mut built = 0;
+    #[rustfmt::skip]
+    let number = unsafe {
+        zakdomp_levels(
+            pixels.as_ptr(), pixels.len(), w, h, p.levels, p.minimum as usize, levels.as_mut_ptr(), levels.len(), &mut built,
+        )
+    };
+    assert_eq!(number, 0);
+    built
+}
+
+/// The buffers of a frame.
+pub struct Buffers {
+    pub map: Vec<f32>,
+    pub levels: Vec<u8>,
+    pub seeds: List,
+    pub corners: List,
+}
+
+impl Buffers {
+    pub fn new(cells: usize, places: usize) -> Self {
+        let list = || List::empty(places);
+        Self { map: vec![0.0; cells], levels: vec![0; cells], seeds: list(), corners: list() }
+    }
+}
+
+#[rustfmt::skip]
+pub fn frame(pixels: &[u8], w: usize, h: usize, p: &Params, b: &mut Buffers) -> usize {
+    let mut count = 0;
+    let [sx, sy, ss] = &mut b.seeds.0;
+    let [cx, cy, cs] = &mut b.corners.0;
+    let number = unsafe {
+        zakdomp_find_corners(
+            pixels.as_ptr(), pixels.len(), w, h,
+            p.ring, p.threshold, p.window, p.least, p.centroid, p.merge, p.levels, p.minimum as usize, p.search,
+            b.map.as_mut_ptr(), b.map.len(), b.levels.as_mut_ptr(), b.levels.len(),
+            sx.as_mut_ptr(), sx.len(), sy.as_mut_ptr(), sy.len(), ss.as_mut_ptr(), ss.len(),
+            cx.as_mut_ptr(), cx.len(), cy.as_mut_ptr(), cy.len(), cs.as_mut_ptr(), cs.len(),
+            &mut count,
+        )
+    };
+    assert_eq!(number, 0);
+    count
+}

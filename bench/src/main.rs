@@ -1,0 +1,91 @@
+//! bench [ROUNDS]: a table of times, the original Rust against ours, and for the response against C too.
+//! bench count LEVELS: calls `original_frame` and `our_frame` once each on a small frame, for a profiler that counts instructions.
+mod interleaved;
+mod library;
+mod stages;
+
+use library::Buffers;
+use oracle::frame::corners_of;
+use oracle::params::Params;
+use oracle::timing::{Subject, ORIGINAL};
+use stages::{with_ring, Row};
+use std::hint::black_box;
+
+const SIDES: [(usize, usize); 4] = [(96, 96), (640, 480), (1024, 1024), (4096, 4096)];
+
+fn print(row: &Row) {
+    let t = &row.times;
+    let ratio = |a: f64, b: f64| format!("{:.2}", a / b);
+    let c = t.get(2).map_or(("".into(), "".into()), |c| (format!("{c:.4}"), ratio(*c, t[0])));
+    println!(
+        "| {} | {} | {:.4} | {:.4} | {} | {} | {} |",
+        row.stage,
+        row.input,
+        t[0],
+        t[1],
+        ratio(t[1], t[0]),
+        c.0,
+        c.1
+    );
+}
+
+fn table(rounds: usize) {
+    println!("| stage | input | Rust, ms | ours, ms | ours / Rust | C, ms | C / Rust |");
+    println!("|---|---|---|---|---|---|---|");
+    let fewer = |width: usize| if width >= 4096 { rounds.div_ceil(4) } else { rounds };
+    let subjects: Vec<Subject> = SIDES.iter().map(|&(w, h)| Subject::board(w, h)).collect();
+    let wide: Vec<Subject> = SIDES.iter().map(|&(w, h)| with_ring(Subject::board(w, h), 10)).collect();
+    for s in subjects.iter().chain(&wide) {
+        print(&stages::response(s, fewer(s.width)));
+    }
+    for s in subjects.iter().chain(&wide) {
+        print(&stages::peaks(s, fewer(s.width), stages::places(s), ""));
+    }
+    for s in subjects.iter().chain(&wide) {
+        print(&stages::peaks(s, fewer(s.width), s.peaks.len(), ", no place to spare"));
+    }
+    for s in &subjects {
+        print(&stages::centroids(s, fewer(s.width)));
+    }
+    for s in &subjects {
+        print(&stages::merging(&s.found, 3.0, rounds, "of a board"));
+    }
+    print(&stages::merging(&stages::random_corners(30_000), 3.0, rounds, "anywhere on 4096 x 4096"));
+    for s in &subjects {
+        print(&stages::levels(s, fewer(s.width), 3));
+    }
+    for s in subjects.iter().chain(&wide) {
+        for levels in [1, 3] {
+            print(&stages::frame(s, fewer(s.width), levels));
+        }
+    }
+}
+
+#[no_mangle]
+#[inline(never)]
+extern "C" fn original_frame(s: &Subject, p: &Params) -> usize {
+    black_box(corners_of(s.image(), p, &ORIGINAL)).len()
+}
+
+#[no_mangle]
+#[inline(never)]
+extern "C" fn our_frame(s: &Subject, p: &Params, b: &mut Buffers) -> usize {
+    black_box(library::frame(&s.pixels, s.width, s.height, p, b))
+}
+
+fn count(levels: u32) {
+    let s = Subject::board(96, 96);
+    let p = Params { levels, ..s.params };
+    let mut buffers = Buffers::new(s.pixels.len(), stages::places(&s));
+    assert_eq!(original_frame(&s, &p), our_frame(&s, &p, &mut buffers));
+}
+
+fn main() {
+    let words: Vec<String> = std::env::args().skip(1).collect();
+    let number = |i: usize| words.get(i).map(|word| word.parse().expect("a number"));
+    if words.first().is_some_and(|word| word == "count") {
+        count(number(1).map_or(1, |n: usize| n as u32));
+    } else {
+        table(number(0).unwrap_or(25));
+    }
+}

@@ -1,0 +1,149 @@
+//! The stages of one frame and the whole frame: the original and ours, compared bit for bit, then timed in turn.
+use crate::interleaved::{best, Call};
+use crate::library::{self, bits, Buffers, List};
+use oracle::frame::{by_orchestrator, corners_of};
+use oracle::generate::Rng;
+use oracle::image::Image;
+use oracle::params::Params;
+use oracle::pyramid::{levels_of, pixels_above};
+use oracle::timing::{Subject, ORIGINAL};
+use oracle::{merge, Corner};
+
+/// One line of the table: what, on what, and the times of the original, of ours and of the C, in milliseconds.
+pub struct Row {
+    pub stage: &'static str,
+    pub input: String,
+    pub times: Vec<f64>,
+}
+
+fn row(stage: &'static str, input: String, rounds: usize, mut calls: Vec<Call>) -> Row {
+    let times = best(rounds, &mut calls);
+    Row { stage, input, times }
+}
+
+/// A subject with another ring.
+pub fn with_ring(mut s: Subject, ring: u32) -> Subject {
+    s.params.ring = ring;
+    s.map = s.response();
+    s.peaks = s.find_peaks();
+    s.found = s.localize();
+    s
+}
+
+fn sides(s: &Subject) -> String {
+    format!("{} x {}, ring {}", s.width, s.height, s.params.ring)
+}
+
+/// A place for a corner for every eighth pixel: enough that no peaks are counted before they are written.
+pub fn places(s: &Subject) -> usize {
+    s.pixels.len() / 8
+}
+
+pub fn response(s: &Subject, rounds: usize) -> Row {
+    let (w, h, ring) = (s.width, s.height, s.params.ring);
+    let (mut ours, mut c) = (vec![1.0; w * h], vec![1.0; w * h]);
+    library::response(&s.pixels, w, h, ring, &mut ours);
+    library::c_response(&s.pixels, w, h, ring, &mut c);
+    let same = |map: &[f32]| map.iter().zip(s.map.data()).all(|(a, b)| a.to_bits() == b.to_bits());
+    assert!(same(&ours) && same(&c));
+    let calls: Vec<Call> = vec![
+        Box::new(|| s.response().width()),
+        Box::new(|| {
+            library::response(&s.pixels, w, h, ring, &mut ours);
+            0
+        }),
+        Box::new(|| {
+            library::c_response(&s.pixels, w, h, ring, &mut c);
+            0
+        }),
+    ];
+    row("response", sides(s), rounds, calls)
+}
+
+pub fn peaks(s: &Subject, rounds: usize, places: usize, how: &str) -> Row {
+    let (w, h) = (s.width, s.height);
+    let mut list = List::empty(places);
+    let n = library::peaks(s.map.data(), w, h, &s.params, &mut list);
+    assert_eq!(list.bits(n), bits(&s.peaks));
+    let calls: Vec<Call> = vec![
+        Box::new(|| s.find_peaks().len()),
+        Box::new(|| library::peaks(s.map.data(), w, h, &s.params, &mut list)),
+    ];
+    row("peaks", format!("{}, {} peaks{how}", sides(s), s.peaks.len()), rounds, calls)
+}
+
+/// Both copy the list of peaks first.
+pub fn centroids(s: &Subject, rounds: usize) -> Row {
+    let (w, h, radius) = (s.width, s.height, s.params.centroid);
+    let before = List::of(&s.peaks);
+    let mut list = before.clone();
+    library::centroids(s.map.data(), w, h, radius, &mut list);
+    assert_eq!(list.bits(s.peaks.len()), bits(&s.localize()));
+    let calls: Vec<Call> = vec![
+        Box::new(|| s.localize().len()),
+        Box::new(|| {
+            list.copy_from(&before);
+            library::centroids(s.map.data(), w, h, radius, &mut list);
+            0
+        }),
+    ];
+    row("centroids", format!("{}, {} peaks, radius {radius}", sides(s), s.peaks.len()), rounds, calls)
+}
+
+/// Both copy the list first.
+pub fn merging(corners: &[Corner], radius: f32, rounds: usize, what: &str) -> Row {
+    let before = List::of(corners);
+    let mut list = before.clone();
+    let n = library::merge(&mut list, corners.len(), radius);
+    assert_eq!(list.bits(n), bits(&merge::original(corners, radius)));
+    let calls: Vec<Call> = vec![
+        Box::new(|| merge::original(corners, radius).len()),
+        Box::new(|| {
+            list.copy_from(&before);
+            library::merge(&mut list, corners.len(), radius)
+        }),
+    ];
+    row("merge", format!("{} corners, {what}, radius {radius}", corners.len()), rounds, calls)
+}
+
+/// Points anywhere on 4096 x 4096.
+pub fn random_corners(n: usize) -> Vec<Corner> {
+    let mut rng = Rng::new(7);
+    let mut number = |most: f64| (rng.unit() * most) as f32;
+    (0..n).map(|_| Corner::new(number(4095.0), number(4095.0), number(1000.0))).collect()
+}
+
+pub fn levels(s: &Subject, rounds: usize, count: u32) -> Row {
+    let p = Params { levels: count, ..s.params };
+    let mut ours = vec![0; s.pixels.len()];
+    let mut scratch = box_image_pyramid::PyramidBuffers::new();
+    let theirs = levels_of(s.image(), &p, &mut scratch);
+    assert_eq!(library::levels(&s.pixels, s.width, s.height, &p, &mut ours), theirs.levels.len());
+    let above = pixels_above(&theirs);
+    assert_eq!(ours[..above.len()], above);
+    let input = format!("{} x {}, {} levels", s.width, s.height, theirs.levels.len());
+    let calls: Vec<Call> = vec![
+        Box::new(|| s.pyramid(count)),
+        Box::new(|| library::levels(&s.pixels, s.width, s.height, &p, &mut ours)),
+    ];
+    row("levels", input, rounds, calls)
+}
+
+/// The original's time is the lesser of two: its functions one after the other, and its own orchestrator.
+pub fn frame(s: &Subject, rounds: usize, count: u32) -> Row {
+    let p = Params { levels: count, ..s.params };
+    let mut buffers = Buffers::new(s.pixels.len(), places(s));
+    let image = Image { pixels: &s.pixels, width: s.width, height: s.height };
+    let n = library::frame(&s.pixels, s.width, s.height, &p, &mut buffers);
+    assert_eq!(buffers.corners.bits(n), bits(&corners_of(image, &p, &ORIGINAL)));
+    assert_eq!(n, by_orchestrator(image, &p).len());
+    let calls: Vec<Call> = vec![
+        Box::new(|| corners_of(image, &p, &ORIGINAL).len()),
+        Box::new(|| library::frame(&s.pixels, s.width, s.height, &p, &mut buffers)),
+        Box::new(|| by_orchestrator(image, &p).len()),
+    ];
+    let named = if count == 1 { "1 level".into() } else { format!("{count} levels") };
+    let mut found = row("whole frame", format!("{}, {named}, {n} corners", sides(s)), rounds, calls);
+    found.times[0] = found.times[0].min(found.times.pop().expect("three times"));
+    found
+}
