@@ -75,11 +75,29 @@ static void stages(const uint8_t *img) {
     expect(zakdomp_levels(img, CELLS, SIDE, SIDE, 9, 0, levels, 29, &n) == ZAKDOMP_LEVELS_SHORT && n == 4, "a byte short");
 }
 
+static void streams(const uint8_t *img) {
+    static const uint8_t head[] = {1, 11, 0, 11, 0, 2, 5, 0, 0, 0, 0, 0, 0, 0, 0, 0, 0x40, 0x40, 1, 1, 0, 0};
+    static const char listing[] = "corners 1\n1280 1280 40a00000 40a00000 44fe0000\n";
+    static uint8_t input[sizeof head + 4 * 33 + 1], output[ZAKDOMP_LONGEST];
+    memcpy(input, head, sizeof head);
+    for (int k = 0; k < 4; k++) {
+        uint8_t *record = input + sizeof head + 33 * k;
+        record[0] = 3;
+        memcpy(record + 1, img + 32 * k, k < 3 ? 32 : CELLS - 96);
+    }
+    input[sizeof input - 1] = 4;
+    size_t length = zakdomp_corners(input, sizeof input, output);
+    expect(length == sizeof listing - 1 && memcmp(output, listing, length) == 0, "the listing of a stream");
+    length = zakdomp_corners(input, sizeof input - 1, output);
+    expect(length == 10 && memcmp(output, "refused 7\n", length) == 0, "a stream cut short");
+}
+
 int main(void) {
     uint8_t img[CELLS];
     whole_case(img);
     frames(img);
     stages(img);
+    streams(img);
     printf("C: %d passed, %d failed\n", passed, failed);
     return failed != 0;
 }

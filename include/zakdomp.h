@@ -6,7 +6,7 @@
  *   - some 600 KB of stack are free.
  * Nothing is kept between calls, so calls may run at the same time on other buffers. No function allocates.
  *
- * Each function returns 0, or the number of a refusal, the lowest that applies. A refusal leaves every buffer and every place for a
+ * Each function but the last and zakdomp_level_bytes returns 0, or the number of a refusal, the lowest that applies. A refusal leaves every buffer and every place for a
  * result as it was; the one exception is ZAKDOMP_LIST_SHORT from zakdomp_find_corners. What lies in a buffer behind a result stays as it
  * was; zakdomp_find_corners alone clears it.
  *
@@ -92,6 +92,11 @@ size_t zakdomp_level_bytes(size_t w, size_t h, uint32_t level_count, size_t mini
  * Refusals: 1, 2, 9. */
 uint8_t zakdomp_levels(const uint8_t *img, size_t img_length, size_t w, size_t h, uint32_t level_count, size_t minimum, uint8_t *levels,
                        size_t levels_length, size_t *built);
+
+/* What the program `corners` prints for a frame stream of at most 96 by 96 pixels, refused streams included, first in `output`, which has
+ * ZAKDOMP_LONGEST bytes. Returns the length of the text. */
+#define ZAKDOMP_LONGEST 35340
+size_t zakdomp_corners(const uint8_t *input, size_t input_length, uint8_t *output);
 
 #ifdef __cplusplus
 }

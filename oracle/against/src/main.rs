@@ -4,18 +4,17 @@ use std::path::Path;
 use std::process::ExitCode;
 
 extern "C" {
-    /// Reads a stream and writes what `corners` prints for it; the text's length.
-    fn zakdomp_corners(input: *const u8, input_length: usize, output: *mut u8, output_length: usize)
-        -> usize;
+    /// Reads a stream and writes what `corners` prints for it into LONGEST bytes; the text's length.
+    fn zakdomp_corners(input: *const u8, input_length: usize, output: *mut u8) -> usize;
 }
 
-/// More than the listing of 512 corners takes: 12 bytes and at most 39 for each.
-const LONGEST: usize = 32 * 1024;
+/// ZAKDOMP_LONGEST of include/zakdomp.h.
+const LONGEST: usize = 35_340;
 
 fn answer(stream: &[u8]) -> Vec<u8> {
     let mut output = vec![0; LONGEST];
-    // SAFETY: both slices are whole and apart, and the call keeps neither.
-    let length = unsafe { zakdomp_corners(stream.as_ptr(), stream.len(), output.as_mut_ptr(), output.len()) };
+    // SAFETY: both slices are whole and apart, the second has LONGEST bytes, and the call keeps neither.
+    let length = unsafe { zakdomp_corners(stream.as_ptr(), stream.len(), output.as_mut_ptr()) };
     output.truncate(length);
     output
 }

@@ -1,0 +1,11 @@
+// What the program `corners` prints for a stream.
+use listing::LONGEST;
+ghost use Rattle.finder.specs.Finder.{outputOf, Written};
+
+// Writes the listing of a frame stream first in `output`, and returns its length.
+#[no_mangle]
+pub extern "C" fn zakdomp_corners(input: &[u8], output: &mut [u8; LONGEST]) -> usize
+    ensures { λ r. ⌜ Written (outputOf (now (input .entry))) (now (output .entry)) r (now (output .exit)) ⌝ }
+{
+    finder::find(input, output)
+}
