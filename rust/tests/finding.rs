@@ -28,7 +28,7 @@ const PLAIN: Params = Params {
 
 /// Squares of 48 pixels.
 fn board(width: usize, height: usize) -> Vec<u8> {
-    let grey = |i: usize| if (i % width / 48 + i / width / 48).is_multiple_of(2) { 20 } else { 220 };
+    let grey = |i: usize| if (i % width / 48 + i / width / 48) % 2 == 0 { 20 } else { 220 };
     (0..width * height).map(grey).collect()
 }
 
