@@ -6,9 +6,9 @@
  *   - some 600 KB of stack are free.
  * Nothing is kept between calls, so calls may run at the same time on other buffers. No function allocates.
  *
- * Each function but the last and zakdomp_level_bytes returns 0, or the number of a refusal, the lowest that applies. A refusal leaves every buffer and every place for a
- * result as it was; the one exception is ZAKDOMP_LIST_SHORT from zakdomp_find_corners. What lies in a buffer behind a result stays as it
- * was; zakdomp_find_corners alone clears it.
+ * Each function but the last and zakdomp_level_bytes returns 0, or the number of a refusal, the lowest that applies. A refusal leaves every
+ * buffer and every place for a result as it was; the one exception is ZAKDOMP_LIST_SHORT from zakdomp_find_corners. What lies in a buffer
+ * behind a result stays as it was; zakdomp_find_corners alone clears it.
  *
  * Corners are held in three slices: columns, rows and strengths. The shortest of the three says how many places there are. */
 #ifndef ZAKDOMP_H

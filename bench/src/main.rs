@@ -39,20 +39,19 @@ fn table(rounds: usize) {
         print(&stages::response(s, fewer(s.width)));
     }
     for s in subjects.iter().chain(&wide) {
-        print(&stages::peaks(s, fewer(s.width), stages::places(s), ""));
-    }
-    for s in subjects.iter().chain(&wide) {
-        print(&stages::peaks(s, fewer(s.width), s.peaks.len(), ", no place to spare"));
+        print(&stages::peaks(s, rounds, stages::places(s), ""));
+        print(&stages::peaks(s, rounds, s.pixels.len(), ", a place for every cell"));
+        print(&stages::peaks(s, rounds, s.peaks.len(), ", no place to spare"));
     }
     for s in &subjects {
-        print(&stages::centroids(s, fewer(s.width)));
+        print(&stages::centroids(s, rounds));
     }
     for s in &subjects {
         print(&stages::merging(&s.found, 3.0, rounds, "of a board"));
     }
     print(&stages::merging(&stages::random_corners(30_000), 3.0, rounds, "anywhere on 4096 x 4096"));
     for s in &subjects {
-        print(&stages::levels(s, fewer(s.width), 3));
+        print(&stages::levels(s, rounds, 3));
     }
     for s in subjects.iter().chain(&wide) {
         for levels in [1, 3] {
