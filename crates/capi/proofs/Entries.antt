@@ -73,13 +73,13 @@ module _ (conds : List (Bool × ℕ)) (cs : List Corner) (held : ℕ) (b : Slice
 
 -- ---- merging
 module _ (radius : Float) (count : ℕ) (b : Slices) (kept : ℕ) (a : Merged) (r : ℕ) (b′ : Slices) (kept′ : ℕ) where
-  pub corners-merged : merge.Merges radius (placesOf b) count b a b′ → r ≡ merging.numberOf a → kept′ ≡ merging.keptOf a kept → merging.CornersMerged radius count b kept r b′ kept′
+  pub corners-merged : merge.Merges radius (placesOf b) count b a b′ → r ≡ merge.numberOf a → kept′ ≡ merging.keptOf a kept → merging.CornersMerged radius count b kept r b′ kept′
   corners-merged m n x = let number = merge.refusalOf radius (placesOf b) count b in record {
-    answer = subst (λ (o : Merged). merge.Merges radius (placesOf b) count b o b′) (answer (λ k. merge.answerOf k (length (merge.resultOf radius (cornersOf b count)))) merging.numberOf again a number (m .answered) r n) m;
-    kept-is = result (λ k. merge.answerOf k (length (merge.resultOf radius (cornersOf b count)))) merging.numberOf again a number (m .answered) r n merging.keptOf (length (merge.resultOf radius (cornersOf b count))) kept kept′ each x;
+    answer = subst (λ (o : Merged). merge.Merges radius (placesOf b) count b o b′) (answer (λ k. merge.answerOf k (length (merge.resultOf radius (cornersOf b count)))) merge.numberOf again a number (m .answered) r n) m;
+    kept-is = result (λ k. merge.answerOf k (length (merge.resultOf radius (cornersOf b count)))) merge.numberOf again a number (m .answered) r n merging.keptOf (length (merge.resultOf radius (cornersOf b count))) kept kept′ each x;
   }
     where
-      again : (k : ℕ) → merging.numberOf (merge.answerOf k (length (merge.resultOf radius (cornersOf b count)))) ≡ k
+      again : (k : ℕ) → merge.numberOf (merge.answerOf k (length (merge.resultOf radius (cornersOf b count)))) ≡ k
       again zero = refl
       again (suc k) = refl
 

@@ -9,11 +9,6 @@ use Rattle.merge.specs.declared.Merged.the-variants.{Kept, Refused}
 use Rattle.merge.specs.Merge.{answerOf, resultOf, Merges}
 use Rattle.capi.specs.Results.{resultOr}
 
--- document 01's number of each case
-abbrev pub numberOf : Merged → ℕ
-numberOf (Kept n) = 0
-numberOf (Refused k) = k
-
 -- the corners that an answer counts, or what was there before
 abbrev pub keptOf : Merged → ℕ → ℕ
 keptOf (Kept n) before = n

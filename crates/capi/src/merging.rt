@@ -2,7 +2,8 @@
 use merge::Merged;
 ghost use mathlib.Core.Path.{_≡_};
 ghost use Rattle.corner_list.specs.CornerList.{slices};
-ghost use Rattle.capi.specs.Merging.{numberOf, keptOf, CornersMerged};
+ghost use Rattle.merge.specs.Merge.{numberOf};
+ghost use Rattle.capi.specs.Merging.{keptOf, CornersMerged};
 
 // The number of an answer, 0 where corners were merged.
 fn number_of(a: Merged) -> u8
