@@ -1,7 +1,10 @@
-//! Holds another implementation of `corners` to the oracle, stream by stream.
+//! Holds another implementation of `corners` to the oracle, stream by stream, and one of the library's frame, buffer by buffer.
 use crate::generate::frames::{damaged_stream, random_stream};
+use crate::generate::refused_frames::Case as Frame;
 use crate::generate::{hunted, refused_streams};
 use crate::program::corners;
+use crate::sample::library::{due, put, random, Left};
+use crate::sample::File;
 use crate::stream::write;
 use crate::tally::Tally;
 use std::fs;
@@ -54,4 +57,29 @@ fn keep(folder: &Path, case: &Case, due: &[u8], got: &[u8]) {
         let file = folder.join(format!("{}.{ending}", case.name));
         fs::write(file, bytes).expect("a file for a differing stream");
     }
+}
+
+/// Runs `answer` on `count` random frames of the library. Of a differing one two files of one record (SAMPLE.md, kind 2) are left in
+/// `folder`: NAME.due.bin with what the oracle leaves, for a replay, and NAME.got.bin.
+pub fn run_library(count: u64, seed: u64, folder: &Path, mut answer: impl FnMut(&Frame) -> Left) -> Tally {
+    let record = |case: &Frame, left: &Left| {
+        let mut file = File::new("library.bin");
+        put(&mut file, case, left);
+        file.finished()
+    };
+    let mut tally = Tally::default();
+    for number in 0..count {
+        let case = random(seed, number);
+        let (due, got) = (record(&case, &due(&case)), record(&case, &answer(&case)));
+        let name = format!("library-{seed}-{number}");
+        if got != due {
+            fs::create_dir_all(folder).expect("a folder for differing frames");
+            for (ending, bytes) in [("due", &due), ("got", &got)] {
+                let file = folder.join(format!("{name}.{ending}.bin"));
+                fs::write(file, bytes).expect("a file for a differing frame");
+            }
+        }
+        tally.check(&name, got == due);
+    }
+    tally
 }

@@ -30,6 +30,11 @@ impl Tally {
         self.check(&format!("{name}: got {got:?}, due {due:?}"), holds);
     }
 
+    /// Both counts together.
+    pub fn and(self, other: Self) -> Self {
+        Self { passed: self.passed + other.passed, failed: self.failed + other.failed }
+    }
+
     /// Prints 'N passed, M failed', the last line.
     pub fn finish(self) -> ExitCode {
         println!("{} passed, {} failed", self.passed, self.failed);

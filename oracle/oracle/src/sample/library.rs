@@ -15,12 +15,26 @@ use box_image_pyramid::PyramidBuffers;
 const SUBJECT: u64 = 102;
 const RANDOM: u64 = 200;
 
-fn put(file: &mut File, case: &Case) {
+/// What a call leaves: the number of the refusal, 0 for none, how many corners there are, and every buffer.
+pub struct Left {
+    pub number: u32,
+    pub count: usize,
+    pub buffers: Buffers,
+}
+
+/// What the oracle leaves of a frame, in buffers that hold the sample's rule before.
+pub fn due(case: &Case) -> Left {
+    let mut buffers = Buffers::before(&case.sizes);
+    let image = Image { pixels: &case.pixels, width: case.width, height: case.height };
+    let answer = find_corners(image, &case.params, &mut buffers, LARGEST_SIDE);
+    Left { number: number_of(&answer), count: answer.unwrap_or(0), buffers }
+}
+
+/// Writes a frame as given, and what is left of it.
+pub fn put(file: &mut File, case: &Case, left: &Left) {
     let p = &case.params;
     let before = Buffers::before(&case.sizes);
-    let mut after = before.clone();
-    let image = Image { pixels: &case.pixels, width: case.width, height: case.height };
-    let answer = find_corners(image, p, &mut after, LARGEST_SIDE);
+    let after = &left.buffers;
     let mut body = Body::default();
     body.words(&[case.width, case.height, p.ring as usize]).float(p.threshold);
     body.words(&[p.window as usize, p.least as usize, p.centroid as usize]).float(p.merge);
@@ -28,7 +42,7 @@ fn put(file: &mut File, case: &Case) {
     body.bytes(&case.pixels);
     body.words(&[case.sizes.map, case.sizes.levels]);
     body.words(&case.sizes.seeds).words(&case.sizes.corners);
-    body.words(&[number_of(&answer) as usize, answer.unwrap_or(0)]);
+    body.words(&[left.number as usize, left.count]);
     body.float_buffer(&before.map, &after.map);
     body.byte_buffer(&before.levels, &after.levels);
     for (before, after) in [(&before.seeds, &after.seeds), (&before.corners, &after.corners)] {
@@ -36,7 +50,7 @@ fn put(file: &mut File, case: &Case) {
         body.float_buffer(&before.y, &after.y);
         body.float_buffer(&before.strength, &after.strength);
     }
-    file.record(kind::LIBRARY_FRAME, number_of(&answer), &body);
+    file.record(kind::LIBRARY_FRAME, left.number, &body);
 }
 
 /// The buffers that a frame just needs.
@@ -73,7 +87,9 @@ fn varied(rng: &mut Rng, needed: Sizes) -> Sizes {
     sizes
 }
 
-fn random(rng: &mut Rng) -> Case {
+/// The random frame of a number.
+pub fn random(seed: u64, case: u64) -> Case {
+    let rng = &mut Rng::of_case(seed, SUBJECT, case);
     let shape = if rng.once_in(10) { Shape::Thin } else { Shape::Small };
     let upload = frame(rng, shape);
     Case {
@@ -97,18 +113,14 @@ fn long(rng: &mut Rng, width: usize, height: usize, levels: u32) -> Case {
 
 pub fn file(seed: u64) -> File {
     let mut file = File::new("library.bin");
-    for case in refused_frames::cases() {
-        put(&mut file, &case);
-    }
-    for case in 0..RANDOM {
-        put(&mut file, &random(&mut Rng::of_case(seed, SUBJECT, case)));
-    }
+    let mut add = |case: Case| put(&mut file, &case, &due(&case));
+    refused_frames::cases().into_iter().for_each(&mut add);
+    (0..RANDOM).map(|case| random(seed, case)).for_each(&mut add);
     let mut rng = Rng::of_case(seed, SUBJECT, RANDOM);
     for (width, height, levels) in
         [(4096, 1, 3), (1, 4096, 3), (4096, 2, 2), (300, 13, 1), (13, 300, 1), (200, 28, 2)]
     {
-        let case = long(&mut rng, width, height, levels);
-        put(&mut file, &case);
+        add(long(&mut rng, width, height, levels));
     }
     file
 }
