@@ -30,7 +30,7 @@ buffers m levels seeds corners = record { map = m; levels = levels; seeds = seed
 
 -- ---- refusals
 
--- 10: the seeds, or the corners before merging, do not fit their buffer
+-- 10: the seeds, or the corners before merging, do not fit their buffer; they are as many as their peaks (`NoneDropped` of frame_pass)
 abbrev pub tooMany : Pass → Buffers → Bool
 tooMany q b = ltb (placesOf (b .seeds)) (length (q .seeds)) || ltb (placesOf (b .corners)) (length (q .found))
 
