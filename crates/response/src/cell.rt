@@ -22,11 +22,18 @@ fn wide(b: u8) -> u16
     b as u16
 }
 
+// |a - b| of two bytes, as a byte: sixteen of them fill a vector.
+fn byte_gap(a: u8, b: u8) -> u8
+    ensures { λ r. ⌜ r ≡ dist a b ⌝ }
+{
+    if a < b { b - a } else { a - b }
+}
+
 // |a - b| of two samples.
 fn across(a: u8, b: u8) -> u16
     ensures { λ r. ⌜ (r ≡ dist a b) × (r < 256) ⌝ }
 {
-    gap(wide(a), wide(b))
+    wide(byte_gap(a, b))
 }
 
 // |(a + b) - (c + d)| of four samples.

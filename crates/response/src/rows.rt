@@ -1,7 +1,7 @@
 // Runs, rows and boxes of cells.
 ghost use mathlib.Core.Path.{_≡_};
 ghost use mathlib.Core.List.{_++_};
-ghost use Prim.Native.Nat.{ℕ, _+_, _*_, _<_, _≤_};
+ghost use Prim.Native.Nat.{ℕ, _+_, _*_, _/_, _<_, _≤_};
 ghost use lib.ListN.{length, drop};
 ghost use Rattle.lists.specs.Tab.{tab, grid};
 ghost use Rattle.lists.specs.Refusals.{Sized};
@@ -99,6 +99,39 @@ fn reach(w: usize, h: usize, radius: usize, x0: usize, y: usize, n: usize) -> St
     Stretch { from, to }
 }
 
+// The largest multiple of 8 up to n.
+fn whole(n: usize) -> usize
+    ensures { λ r. ⌜ r ≡ n / 8 * 8 ⌝ }
+{
+    n / 8 * 8
+}
+
+// How many of n cells a run takes that has no cells before it: a multiple of 8, for the vectors' sake, or all where they are fewer than 8.
+fn first_run(n: usize) -> usize
+    requires { ⌜ 0 < n ⌝ }
+    ensures { λ r. ⌜ (0 < r) × (r ≤ n) ⌝ }
+{
+    if n < 8 { n } else { whole(n) }
+}
+
+// The end of the next run of the cells from `from` up to `to`, of which those before i are done.
+fn run_end(from: usize, i: usize, to: usize) -> usize
+    requires { ⌜ (from ≤ i) × (i < to) ⌝ }
+    ensures { λ r. ⌜ (i < r) × (r ≤ to) × (r ≤ i + 32) ⌝ }
+{
+    let n = lesser(32, to - i);
+    if i == from { i + first_run(n) } else { i + n }
+}
+
+// Its beginning: it takes so many cells again that its length is a multiple of 8, where there are so many.
+fn run_begin(from: usize, i: usize, e: usize) -> usize
+    requires { ⌜ (from ≤ i) × (i < e) × (e ≤ i + 32) ⌝ }
+    ensures { λ r. ⌜ (from ≤ r) × (r ≤ i) × (e ≤ r + 32) ⌝ }
+{
+    let n = whole(e - i + 7);
+    if e - from < n { i } else { e - n }
+}
+
 // The responses of the cells of row y from column x0 on, as many as out has places.
 fn row(
     img: &[u8],
@@ -124,8 +157,9 @@ fn row(
         i += 1;
     }
     while i < to {
-        let e = i + lesser(32, to - i);
-        run(img, w, h, radius, off, x0 + i, y, &mut out[i..e]);
+        let e = run_end(from, i, to);
+        let a = run_begin(from, i, e);
+        run(img, w, h, radius, off, x0 + a, y, &mut out[a..e]);
         i = e;
     }
     while i < n {

@@ -7,8 +7,9 @@ use lib.Ieee.{ofBits}
 use lib.ListN.{length, take, drop}
 use Rattle.ring.specs.Ring.{ringOf}
 use Rattle.response.specs.Response.{responseAt}
-use Rattle.lists.proofs.Tab.{Prefix, prefix-none, prefix-set, prefix-put, prefix-all, part-length}
+use Rattle.lists.proofs.Tab.{Prefix, prefix-none, prefix-set, prefix-all}
 use Rattle.response.proofs.Inside.{at-outside, inner-run, run-found}
+use Rattle.response.proofs.Overlap.{part-length-to, prefix-over}
 use Rattle.response.proofs.rows.row.Statement.{statement}
 use Rattle.response.proofs.rows.row.Tie as tie
 
@@ -58,14 +59,11 @@ loop-again c = (
 loop2-holds : tie.Need-loop2-holds Inv-loop μ-loop Inv-loop2 μ-loop2 Inv-loop3 μ-loop3
 loop2-holds c = search needs
 
-sub-lesser : tie.Need-sub-lesser Inv-loop μ-loop Inv-loop2 μ-loop2 Inv-loop3 μ-loop3
-sub-lesser c = search needs
+run-end-requires : tie.Need-run-end-requires Inv-loop μ-loop Inv-loop2 μ-loop2 Inv-loop3 μ-loop3
+run-end-requires c κs = search needs
 
-lesser-requires : tie.Need-lesser-requires Inv-loop μ-loop Inv-loop2 μ-loop2 Inv-loop3 μ-loop3
-lesser-requires c κs = search needs
-
-add-e : tie.Need-add-e Inv-loop μ-loop Inv-loop2 μ-loop2 Inv-loop3 μ-loop3
-add-e c = search needs
+run-begin-requires : tie.Need-run-begin-requires Inv-loop μ-loop Inv-loop2 μ-loop2 Inv-loop3 μ-loop3
+run-begin-requires c κs = search needs
 
 add-run : tie.Need-add-run Inv-loop μ-loop Inv-loop2 μ-loop2 Inv-loop3 μ-loop3
 add-run c = search needs
@@ -82,22 +80,23 @@ part-run-start c = search needs
 part-run-end : tie.Need-part-run-end Inv-loop μ-loop Inv-loop2 μ-loop2 Inv-loop3 μ-loop3
 part-run-end c = search needs
 
--- where the next run's length is known: the run ends inside the span, and its part of the row is that long
-run-end : (c : tie.After-lesser Inv-loop μ-loop Inv-loop2 μ-loop2 Inv-loop3 μ-loop3) → c .before .before .loop2 .i + c .lesser .result ≤ c .before .before .before .before .before .reach .result .to
-run-end c = rw (c .lesser .ensures) (omega (arith, c .before .before .loop2))
-
-run-length : (c : tie.After-lesser Inv-loop μ-loop Inv-loop2 μ-loop2 Inv-loop3 μ-loop3) → length (take (c .before .before .loop2 .i + c .lesser .result - c .before .before .loop2 .i) (drop (c .before .before .loop2 .i) (c .before .before .loop2 .out))) ≡ c .lesser .result
-run-length c = part-length (c .before .before .loop2 .i) (c .lesser .result) (c .before .before .loop2 .out) (omega (arith, run-end c, c .before .before .before .before .before .reach .ensures .ends, c .before .before .loop2 .inv .0 .long))
+-- where the next run is known: its part of the row is as long as the run
+run-length : (c : tie.After-run-begin Inv-loop μ-loop Inv-loop2 μ-loop2 Inv-loop3 μ-loop3) → length (take (c .before .run-end .result - c .run-begin .result) (drop (c .run-begin .result) (c .before .before .before .loop2 .out))) ≡ c .before .run-end .result - c .run-begin .result
+run-length c = part-length-to _ _ _ (omega (arith, c .before .run-end .ensures, c .before .before .before .before .before .before .reach .ensures .ends, c .before .before .before .loop2 .inv .0 .long))
 
 run-requires : tie.Need-run-requires Inv-loop μ-loop Inv-loop2 μ-loop2 Inv-loop3 μ-loop3
 run-requires c κs =
-    let part = run-length (c .before) in (
-      c .before .before .before .before .before .before .before .before .before .pre .0,
+    let part = run-length (c .before) in
+    let b = c .before .run-begin .ensures in
+    let e = c .before .before .run-end .ensures in
+    let span = c .before .before .before .before .before .before .before .reach .ensures in
+    let pre = c .before .before .before .before .before .before .before .before .before .before .pre in (
+      pre .0,
       (
-        rw part (omega (arith, c .before .lesser .ensures)),
+        rw part (omega arith),
         (
-          (λ p l. inner-run _ _ _ _ _ _ _ _ _ (c .before .before .before .before .before .before .reach .ensures) _ _ (c .before .before .before .loop2 .inv .1) (run-end (c .before)) p (rw part at l)),
-          rw part (omega (arith, run-end (c .before), c .before .before .before .before .before .before .reach .ensures .ends, c .before .before .before .before .before .before .before .before .before .pre .1 .0)),
+          (λ p l. inner-run _ _ _ _ _ _ _ _ _ span _ _ (b .0) (omega arith) p (rw part at l)),
+          rw part (omega (arith, span .ends, pre .1 .0)),
         ),
       ),
     )
@@ -107,13 +106,17 @@ loop2-less c = search needs
 
 loop2-again : tie.Need-loop2-again Inv-loop μ-loop Inv-loop2 μ-loop2 Inv-loop3 μ-loop3
 loop2-again c =
-    let p = c .before .before .before .before in (
-      prefix-put _ _ _ _ _ _ _ (c .before .before .before .before .before .before .loop2 .inv .0) (omega (arith, run-end p, c .before .before .before .before .before .before .before .before .before .reach .ensures .ends))
-          (run-found _ _ _ _ _ _ _ _ _ (c .before .before .before .before .before .before .before .before .before .reach .ensures) _ _ (c .before .before .before .before .before .before .loop2 .inv .1) (rw (run-length p) (run-end p)) _ _
-          (c .before .before .before .before .before .before .before .before .before .before .before .before .pre .0 .own-radius) (c .before .before .run .ensures))
-          (run-length p),
-      omega (arith, c .before .before .before .before .before .before .loop2),
-      run-end p,
+    let p = c .before .before .before .before in
+    let part = run-length p in
+    let b = p .run-begin .ensures in
+    let e = p .before .run-end .ensures in
+    let span = p .before .before .before .before .before .before .reach .ensures in (
+      prefix-over _ _ _ _ _ (p .before .before .before .loop2 .inv .0) (b .1) _ _ _ (omega arith) (omega (arith, span .ends))
+          (run-found _ _ _ _ _ _ _ _ _ span _ _ (b .0) (rw part (omega arith)) _ _
+          (p .before .before .before .before .before .before .before .before .before .pre .0 .own-radius) (c .before .before .run .ensures))
+          part,
+      omega (arith, p .before .before .before .loop2 .inv),
+      e .1,
     )
 
 loop3-holds : tie.Need-loop3-holds Inv-loop μ-loop Inv-loop2 μ-loop2 Inv-loop3 μ-loop3
@@ -163,9 +166,8 @@ row-spec =
     loop-less
     loop-again
     loop2-holds
-    sub-lesser
-    lesser-requires
-    add-e
+    run-end-requires
+    run-begin-requires
     add-run
     mul-run
     sub-run
