@@ -1,11 +1,8 @@
--- Rows and columns of an image as indices, and how far a ring's places lie apart in it. Assumes nothing.
+-- Rows and columns of an image as indices. Assumes nothing.
 use mathlib.Core.Path.{_≡_, ap}
 use Prim.Native.Nat.{ℕ, _+_, _*_, _-_, _≤_}
 use native.Mathlib.Nat.{mul-le-mul, add-mul, one-mul}
 use native.Mathlib.Omega.{arith}
-use Rattle.ring.specs.Ring.{Ring, dy, IsRing}
-use Rattle.ring.proofs.Places.{dx-le, dy-le}
-use Rattle.response.specs.Needs.{offsetAt}
 
 pub area-le : (w h : ℕ) → w ≤ 4096 → h ≤ 4096 → w * h ≤ 16777216
 area-le w h p q = mul-le-mul {n₂ = 4096} {m₂ = 4096} p q
@@ -23,10 +20,6 @@ row-below w y = omega (arith, add-mul y 1 w, one-mul w)
 pub place-add : (w x y a b : ℕ) → y * w + x + (b * w + a) ≡ (y + b) * w + (x + a)
 place-add w x y a b = omega (arith, add-mul y b w)
 
--- the offsets of a ring of a radius up to 10
-module _ (t : Ring) (is : IsRing t) (small : t .radius ≤ 10) (w k : ℕ) (narrow : w ≤ 4096) where
-  pub rows-small : dy t k * w ≤ 81920
-  rows-small = mul-le-mul {n₂ = 20} {m₂ = 4096} (omega (arith, dy-le t is k)) narrow
-
-  pub offset-small : offsetAt t w k ≤ 81940
-  offset-small = omega (arith, rows-small, dx-le t is k)
+-- so many rows as a byte can tell
+pub rows-small : (n w : ℕ) → n ≤ 255 → w ≤ 4096 → n * w ≤ 1044480
+rows-small n w p q = mul-le-mul {n₂ = 255} {m₂ = 4096} p q

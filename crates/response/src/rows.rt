@@ -14,11 +14,12 @@ use crate::numbers::greater;
 use crate::numbers::less;
 use crate::numbers::lesser;
 
-// A byte as an index.
-fn index(b: u8) -> usize
-    ensures { λ r. ⌜ r ≡ b ⌝ }
+// How far so many rows and columns are, in an image w wide.
+fn offset(rows: u8, columns: u8, w: usize) -> usize
+    requires { ⌜ w ≤ 4096 ⌝ }
+    ensures { λ r. ⌜ r ≡ rows * w + columns ⌝ }
 {
-    b as usize
+    (rows as usize) * w + (columns as usize)
 }
 
 // How far each place of the ring lies behind the corner of the ring's square, in an image w wide.
@@ -32,7 +33,7 @@ fn offsets(ring: u32, w: usize) -> [usize; 16]
     let mut off = [0usize; 16];
     let mut k = 0usize;
     while k < 16 {
-        off[k] = index(rows[k]) * w + index(columns[k]);
+        off[k] = offset(rows[k], columns[k], w);
         k += 1;
     }
     off

@@ -1,15 +1,11 @@
 -- `response::rows::offsets` meets its contract. The loop fills the offsets from the front. Assumes nothing.
-use mathlib.Core.Path.{_≡_, refl, ap}
+use mathlib.Core.Path.{_≡_, refl, ap, _∙_}
 use Prim.Native.Nat.{_-_, _≤_}
-use native.Mathlib.Omega.{arith}
 use borrow.Author.Needs.{needs}
 use Rattle.lists.proofs.Tab.{Prefix, prefix-none, prefix-set, prefix-all}
 use Rattle.ring.specs.Ring.{ringOf, columns as columnsOf, rows as rowsOf}
 use Rattle.ring.specs.declared.RingOffsets.{RingOffsets}
-use Rattle.ring.proofs.Table.{ringOf-is}
-use Rattle.ring.proofs.Places.{radius-small}
 use Rattle.response.specs.Needs.{offsetAt}
-use Rattle.response.proofs.Indices.{rows-small, offset-small}
 use Rattle.response.proofs.rows.offsets.Statement.{statement}
 use Rattle.response.proofs.rows.offsets.Tie as tie
 
@@ -27,26 +23,17 @@ loop-holds c =
     let t = c .before .before .ring-offsets .ensures in
     (search needs, prefix-none _ _ _ refl, ap (λ (t : RingOffsets). t .columns) t, ap (λ (t : RingOffsets). t .rows) t)
 
-array-read-index : tie.Need-array-read-index Inv-loop μ-loop
-array-read-index c = search needs
+array-read-offset : tie.Need-array-read-offset Inv-loop μ-loop
+array-read-offset c = search needs
 
-index-requires : tie.Need-index-requires Inv-loop μ-loop
-index-requires c κs = search needs
+array-read-offset-2 : tie.Need-array-read-offset-2 Inv-loop μ-loop
+array-read-offset-2 c = search needs
+
+offset-requires : tie.Need-offset-requires Inv-loop μ-loop
+offset-requires c κs = search needs
 
 mul-off : tie.Need-mul-off Inv-loop μ-loop
-mul-off c = rw (c .index .ensures, c .before .before .loop .inv .3) (omega (arith, rows-small (ringOf (c .before .before .before .before .before .before .args .ring)) (ringOf-is _) (radius-small _) (c .before .before .before .before .before .before .args .w) (c .before .before .loop .k) (c .before .before .before .before .before .before .pre)))
-
-array-read-index-2 : tie.Need-array-read-index-2 Inv-loop μ-loop
-array-read-index-2 c = search needs
-
-index-requires-2 : tie.Need-index-requires-2 Inv-loop μ-loop
-index-requires-2 c κs = search needs
-
-add-off : tie.Need-add-off Inv-loop μ-loop
-add-off c = rw (c .before .index .ensures, c .index2 .ensures, c .before .before .before .loop .inv .2, c .before .before .before .loop .inv .3) (omega (arith, offset-small (ringOf (c .before .before .before .before .before .before .before .args .ring)) (ringOf-is _) (radius-small _) (c .before .before .before .before .before .before .before .args .w) (c .before .before .before .loop .k) (c .before .before .before .before .before .before .before .pre)))
-
-mul-off-2 : tie.Need-mul-off-2 Inv-loop μ-loop
-mul-off-2 c = search needs
+mul-off c = search needs
 
 array-write-off : tie.Need-array-write-off Inv-loop μ-loop
 array-write-off c = search needs
@@ -59,8 +46,8 @@ loop-less c = search needs
 
 loop-again : tie.Need-loop-again Inv-loop μ-loop
 loop-again c =
-    let i = c .before .before .before .loop .inv in
-    (search needs, prefix-set _ _ _ _ _ (i .1) (search needs) (rw (c .before .index .ensures, c .index2 .ensures, i .2, i .3)), i .2, i .3)
+    let i = c .before .before .loop .inv in
+    (search needs, prefix-set _ _ _ _ _ (i .1) (search needs) (c .offset .ensures ∙ rw (i .2, i .3)), i .2, i .3)
 
 returns : tie.Need-returns Inv-loop μ-loop
 returns c = prefix-all _ _ _ _ _ (c .before .loop .inv .1) (search needs) refl
@@ -73,13 +60,10 @@ offsets-spec =
     μ-loop
     ring-offsets-requires
     loop-holds
-    array-read-index
-    index-requires
+    array-read-offset
+    array-read-offset-2
+    offset-requires
     mul-off
-    array-read-index-2
-    index-requires-2
-    add-off
-    mul-off-2
     array-write-off
     add-k
     loop-less
