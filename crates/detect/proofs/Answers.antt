@@ -7,11 +7,11 @@ use native.Mathlib.Decide.{decLt}
 use mathlib.Core.Path.{_≡_, refl, sym, ap, _∙_}
 use mathlib.Core.Logic.{⊎-elim}
 use mathlib.Core.Bool.{Bool, true, false, not}
-use mathlib.Core.List.{List}
+use mathlib.Core.List.{List, []}
 use lib.ListN.{length, length-map}
-use lib.Dec.{ltb, leb}
+use lib.Dec.{ltb}
 use lib.Ieee.{Float}
-use borrow.Author.Tests.{lt-ltb, le-ltb, ltb-false, leb-true, leb-false, eq-eqb, not-false}
+use borrow.Author.Tests.{lt-ltb, le-ltb, ltb-true, ltb-false, eq-eqb, not-false}
 use Rattle.lists.specs.Places.{All}
 use Rattle.lists.specs.Refusals.{lowest}
 use Rattle.lists.proofs.Tests.{or-neither}
@@ -23,7 +23,7 @@ use Rattle.detect.specs.declared.Search.{Search}
 use Rattle.detect.specs.declared.Peaks.{Peaks}
 use Rattle.detect.specs.declared.Peaks.the-variants.{Added, Refused}
 use Rattle.detect.specs.Detect.{searchOf, peaksIn, startAt, startsIn, isRing, conditions, refusalOf, answerOf, bufferOf, numberOf, Found}
-use Rattle.detect.specs.Post.{Searchable, Written}
+use Rattle.detect.specs.Post.{Searchable}
 
 -- ---- inputs
 
@@ -75,16 +75,12 @@ searchable m w h ring t window least radius e =
     record { size = k .whole; wide = k .wide; high = k .high; radius = k .in-window; inside = omega arith; narrow = omega (arith, ring-small ring (k .ring-is), k .in-window, k .in-radius) }
 
 -- ---- whether the corners fit a buffer b of so many places, by the test of the peaks' number
-module _ (m : List Float) (s : Search) (b : Slices) (places held : ℕ) (is : places ≡ placesOf b) where
-  pub held-beyond : places < held → placesOf b < held + length (startsIn m s)
-  held-beyond l = omega arith
+module _ (m : List Float) (s : Search) (b : Slices) (places held : ℕ) (is : places ≡ placesOf b) (t : Bool) (e : t ≡ ltb places (held + length (peaksIn m s))) where
+  pub fits-behind : t ≡ false → held + length (startsIn m s) ≤ placesOf b
+  fits-behind q = omega (arith, length-map (peaksIn m s) (startAt m (s .w)), ltb-false places (held + length (peaksIn m s)) (sym e ∙ q))
 
-  module _ (h : held ≤ places) (t : Bool) (e : t ≡ leb (length (peaksIn m s)) (places - held)) where
-    pub fits-behind : t ≡ true → held + length (startsIn m s) ≤ placesOf b
-    fits-behind q = omega (arith, length-map (peaksIn m s) (startAt m (s .w)), leb-true (length (peaksIn m s)) (places - held) (sym e ∙ q))
-
-    pub short-behind : t ≡ false → placesOf b < held + length (startsIn m s)
-    short-behind q = omega (arith, length-map (peaksIn m s) (startAt m (s .w)), leb-false (length (peaksIn m s)) (places - held) (sym e ∙ q))
+  pub short-behind : t ≡ true → placesOf b < held + length (startsIn m s)
+  short-behind q = omega (arith, length-map (peaksIn m s) (startAt m (s .w)), ltb-true places (held + length (peaksIn m s)) (sym e ∙ q))
 
 -- ---- refusals, by the conditions on the input and the buffer's places
 module _ (places held n : ℕ) where
@@ -118,13 +114,26 @@ module _ (conds : List (Bool × ℕ)) (cs : List Corner) (held : ℕ) (b : Slice
   found-refused zero e n = absurd (n refl)
   found-refused (suc k) e n = found-by (suc k) (refusal-input (placesOf b) held (length cs) conds (λ z. n (e ∙ z)) ∙ sym e) (Refused (suc k)) b refl refl
 
--- of a map m that was searched with s, where the conditions on the input do not hold
-module _ (m : List Float) (s t : Search) (same : s ≡ t) (conds : List (Bool × ℕ)) (clear : Clear conds) (held : ℕ) (b : Slices) where
-  pub found-short : placesOf b < held + length (startsIn m s) → Found conds (startsIn m t) held b (Refused 10) b
-  found-short l = rw (← same) (found-by conds (startsIn m s) held b 10 (refusal-short (placesOf b) held (length (startsIn m s)) conds clear l) (Refused 10) b refl refl)
+-- where there are no conditions
+module _ (cs : List Corner) (held : ℕ) (b : Slices) where
+  none : Clear []
+  none = record { numbered = tt; none = refl }
 
-  pub found-added : held + length (startsIn m s) ≤ placesOf b → (n : ℕ) (b′ : Slices) → Written (startsIn m s) held b n b′ → Found conds (startsIn m t) held b (Added n) b′
-  found-added l n b′ w = rw (← same) (found-by conds (startsIn m s) held b 0 (refusal-none (placesOf b) held (length (startsIn m s)) conds clear l) (Added n) b′ (ap Added (w .count)) (w .buffer))
+  pub found-short : placesOf b < held + length cs → Found [] cs held b (Refused 10) b
+  found-short l = found-by [] cs held b 10 (refusal-short (placesOf b) held (length cs) [] none l) (Refused 10) b refl refl
+
+  pub found-added : held + length cs ≤ placesOf b → (n : ℕ) (b′ : Slices) → n ≡ length cs → b′ ≡ placedCorners held cs b → Found [] cs held b (Added n) b′
+  found-added l n b′ e w = found-by [] cs held b 0 (refusal-none (placesOf b) held (length cs) [] none l) (Added n) b′ (ap Added e) w
+
+-- and where they do not hold
+pub found-clear : (m : List Float) (s t : Search) → s ≡ t → (conds : List (Bool × ℕ)) → Clear conds → (held : ℕ) (b : Slices) (answer : Peaks) (b′ : Slices)
+    → Found [] (startsIn m s) held b answer b′ → Found conds (startsIn m t) held b answer b′
+found-clear m s t same conds clear held b answer b′ f =
+    rw (← same)
+    (found-by conds (startsIn m s) held b (refusalOf [] (placesOf b) held (length (startsIn m s))) (past (placesOf b) (length (startsIn m s))) answer b′ (f .answered) (f .buffer))
+  where
+    past : (places n : ℕ) → refusalOf conds places held n ≡ refusalOf [] places held n
+    past places n = unfold refusalOf in (lowest-past conds _ (clear .numbered) (clear .none))
 
 -- ---- and what they tell
 

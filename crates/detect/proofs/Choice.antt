@@ -12,7 +12,7 @@ use borrow.Author.Tests.{not-true, leb-true}
 use Rattle.lists.specs.Places.{Place, block, keep, count, All}
 use Rattle.lists.proofs.Tests.{and-parts}
 use Rattle.lists.proofs.Places.{block-end, block-thin, keep-le, length-block}
-use Rattle.lists.proofs.Members.{Implies, all-map, all-keep, all-block, keep-fewer}
+use Rattle.lists.proofs.Members.{all-map, all-keep, all-block}
 use Rattle.float32.specs.Float32.{lift}
 use Rattle.float32.proofs.Classes.{above-lifted}
 use Rattle.detect.specs.declared.Search.{Search}
@@ -88,13 +88,6 @@ module _ (v : Reading) (w h border r least : ℕ) where
       let b : h - border - border ≡ h - 2 * border = omega arith in
       let c : (h - border - border) * (w - border - border) ≡ (w - 2 * border) * (h - 2 * border) = ap₂ (λ (x y : ℕ). x * y) b a ∙ mul-comm (h - 2 * border) (w - 2 * border) in
       omega (arith, keep-le (isPeak v w h r least) (block border (w - border) border (h - border)), length-block border (w - border) border (h - border))
-
-  -- nor than cells above the threshold there
-  pub peaks-above : length (peakPlaces v w h border r least) ≤ count (v .above) (block border (w - border) border (h - border))
-  unfolding peakPlaces count
-  peaks-above =
-      keep-fewer (isPeak v w h r least) (v .above) (block border (w - border) border (h - border))
-      (all-block (Implies (isPeak v w h r least) (v .above)) border (w - border) border (h - border) (λ x y _ _ _ _. peak-above v w h r least (place x y)))
 
   -- each lies inside the border, and is one
   pub peaks-are : All (λ p. Inside w h border p × (isPeak v w h r least p ≡ true)) (peakPlaces v w h border r least)

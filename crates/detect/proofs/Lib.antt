@@ -6,5 +6,6 @@ pub mod Cells
 pub mod Neighbors
 pub mod Rows
 pub mod Scanning
+pub mod Table
 pub mod Writing
 pub mod Sample

@@ -10,7 +10,7 @@ use lib.Seq.{getD-take, getD-drop}
 use lib.Ieee.{Float, nan, le}
 use borrow.Author.Count as passed
 use Rattle.lists.specs.Places.{count}
-use Rattle.lists.proofs.Scan.{count-rest, count-every}
+use Rattle.lists.proofs.Scan.{count-every}
 use Rattle.lists.proofs.Parts.{keep-skip}
 use Rattle.lists.proofs.Rows.{rowPart}
 use Rattle.detect.specs.declared.Search.{Search}
@@ -47,19 +47,6 @@ module _ (cells : List Float) (t : Float) where
                 ap (λ (j : ℕ). le (getD cells j nan) t) (sym z) ∙ ap (λ (x : Float). le x t) (sym (part-at cells i e (k - i) (omega arith)))
                 ∙ count-every (isLow t) (take (e - i) (drop i cells)) (k - i) nan (sym p ∙ q ∙ sym long) (rw long (omega arith))
           ]
-
--- ---- of a row of a map, those at or below t and the others
-module _ (m : List Float) (t : Float) (w y a b n : ℕ) (p : a ≤ b) (h : y * w + b ≤ length m) (e : n ≡ count (isLow t) (rowPart m w y a b)) where
-  row-rest : n + count (λ v. not (isLow t v)) (rowPart m w y a b) ≡ b - a
-  row-rest =
-      let long : length (rowPart m w y a b) ≡ b - a = simp (length-take, length-drop) (omega arith) in
-      rw e (count-rest (isLow t) (rowPart m w y a b) ∙ long)
-
-  pub row-low : n ≤ b - a
-  row-low = omega (arith, row-rest)
-
-  pub row-others : b - a - n ≡ count (λ v. not (isLow t v)) (rowPart m w y a b)
-  row-others = omega (arith, row-rest)
 
 -- ---- along a row
 module _ (m : List Float) (s : Search) (x y : ℕ) where

@@ -1,24 +1,22 @@
 -- The search for the next peak: places that were passed over are no peaks. Assumes nothing.
-use Prim.Native.Nat.{ℕ, suc, _+_, _-_, _<_, _≤_}
+use Prim.Native.Nat.{ℕ, _+_, _-_, _<_, _≤_}
 use native.Mathlib.Omega.{arith}
 use mathlib.Core.Path.{_≡_, refl, sym, ap, _∙_}
 use mathlib.Core.Bool.{Bool, true, false}
 use mathlib.Core.List.{List, [], _∷_}
-use lib.ListN.{length}
 use lib.Ieee.{Float}
 use Rattle.lists.specs.Places.{Place, keep}
 use Rattle.lists.proofs.Places.{keep-hit, keep-miss, ahead-start, ahead-row, ahead-end}
 use Rattle.detect.specs.declared.Search.{Search}
 use Rattle.detect.specs.Peaks.{peakPlaces, Inside}
 use Rattle.detect.specs.Detect.{peakIn, peaksIn}
-use Rattle.detect.specs.Post.{place, Searchable, aheadIn, Skipped, NextPeak}
-use Rattle.detect.proofs.Cells.{peaks-few}
+use Rattle.detect.specs.Post.{place, behind, peaksFrom, Skipped, NextPeak}
 
 -- from p on, the places before q are no peaks, and q lies behind the border's left and upper part
 pub record Passed (m : List Float) (s : Search) (p q : Place) : Type 0 where
   pub left : s .border ≤ q .x
   pub top : s .border ≤ q .y
-  pub same-ahead : keep (peakIn m s) (aheadIn s p) ≡ keep (peakIn m s) (aheadIn s q)
+  pub same-ahead : peaksFrom m s p ≡ peaksFrom m s q
 
 pub passed-none : (m : List Float) (s : Search) (p : Place) → s .border ≤ p .x → s .border ≤ p .y → Passed m s p p
 passed-none m s p l t = record { left = l; top = t; same-ahead = refl }
@@ -57,45 +55,28 @@ module _ (m : List Float) (s : Search) (p : Place) (x y : ℕ) (a : Passed m s p
 
 -- ---- one peak after the other
 
--- n peaks stand before p, which is the next one or lies behind the last row
-pub record Counting (m : List Float) (s : Search) (n : ℕ) (p : Place) : Type 0 where
-  pub sum : n + length (keep (peakIn m s) (aheadIn s p)) ≡ length (peaksIn m s)
-  pub is-peak : p .y < s .h - s .border → Inside (s .w) (s .h) (s .border) p × (peakIn m s p ≡ true)
+pub peaks-start : (m : List Float) (s : Search) → peaksIn m s ≡ peaksFrom m s (place (s .border) (s .border))
+unfolding peakPlaces
+peaks-start m s = ap (keep (peakIn m s)) (ahead-start (s .border) (s .w - s .border) (s .border) (s .h - s .border))
 
-module _ (m : List Float) (s : Search) where
-  pub peaks-first : (p : Place) → NextPeak m s (place (s .border) (s .border)) p → peaksIn m s ≡ keep (peakIn m s) (aheadIn s p)
-  unfolding peakPlaces
-  peaks-first p a = ap (keep (peakIn m s)) (ahead-start (s .border) (s .w - s .border) (s .border) (s .h - s .border)) ∙ a .same-ahead
+peaks-end : (m : List Float) (s : Search) (p : Place) → s .h - s .border ≤ p .y → peaksFrom m s p ≡ []
+peaks-end m s p l = ap (keep (peakIn m s)) (ahead-end (s .border) (s .w - s .border) (s .h - s .border) (p .x) (p .y) l)
 
-  module _ (p : Place) (i : Inside (s .w) (s .h) (s .border) p) (e : peakIn m s p ≡ true) where
-    pub peaks-here : keep (peakIn m s) (aheadIn s p) ≡ p ∷ keep (peakIn m s) (aheadIn s (place (p .x + 1) (p .y)))
-    peaks-here = keep-hit (peakIn m s) (s .border) (s .w - s .border) (s .h - s .border) (p .x) (p .y) (omega (arith, i .right)) (omega (arith, i .bottom)) e
+-- q is the next from p on
+module _ (m : List Float) (s : Search) (p q : Place) (a : NextPeak m s p q) where
+  pub next-none : s .h - s .border ≤ q .y → peaksFrom m s p ≡ []
+  next-none l = a .same-ahead ∙ peaks-end m s q l
 
-    pub peaks-next : (q : Place) → NextPeak m s (place (p .x + 1) (p .y)) q → keep (peakIn m s) (aheadIn s p) ≡ p ∷ keep (peakIn m s) (aheadIn s q)
-    peaks-next q a = peaks-here ∙ ap (λ (l : List Place). p ∷ l) (a .same-ahead)
+  -- past the last row one place is like another
+  pub next-past : (r : Place) → s .h - s .border ≤ q .y → s .h - s .border ≤ r .y → NextPeak m s p r
+  next-past r l k = record { same-ahead = next-none l ∙ sym (peaks-end m s r k); is-peak = λ o. absurd (let no : ⊥ = omega arith in no) }
 
-  pub peaks-end : (p : Place) → s .h - s .border ≤ p .y → keep (peakIn m s) (aheadIn s p) ≡ []
-  peaks-end p l = ap (keep (peakIn m s)) (ahead-end (s .border) (s .w - s .border) (s .h - s .border) (p .x) (p .y) l)
+  module _ (l : q .y < s .h - s .border) where
+    pub next-inside : Inside (s .w) (s .h) (s .border) q
+    next-inside = a .is-peak l .0
 
-  pub counting-first : (p : Place) → NextPeak m s (place (s .border) (s .border)) p → Counting m s 0 p
-  counting-first p a = record { sum = omega (arith, ap length (peaks-first p a)); is-peak = a .is-peak }
-
-  module _ (n : ℕ) (p : Place) (a : Counting m s n p) where
-    pub counting-few : Searchable m s → n ≤ 16777216
-    counting-few k = omega (arith, a .sum, peaks-few m s k)
-
-    pub counting-inside : p .y < s .h - s .border → Inside (s .w) (s .h) (s .border) p
-    counting-inside l = a .is-peak l .0
-
-    pub counting-all : s .h - s .border ≤ p .y → n ≡ length (peaksIn m s)
-    counting-all l = omega (arith, a .sum, ap length (peaks-end p l))
-
-    module _ (q : Place) (l : p .y < s .h - s .border) (b : NextPeak m s (place (p .x + 1) (p .y)) q) where
-      one-less : length (keep (peakIn m s) (aheadIn s p)) ≡ suc (length (keep (peakIn m s) (aheadIn s q)))
-      one-less = ap length (peaks-next p (a .is-peak l .0) (a .is-peak l .1) q b)
-
-      pub counting-next : Counting m s (n + 1) q
-      counting-next = record { sum = omega (arith, a .sum, one-less); is-peak = b .is-peak }
-
-      pub counting-less : length (keep (peakIn m s) (aheadIn s q)) < length (keep (peakIn m s) (aheadIn s p))
-      counting-less = omega (arith, one-less)
+    pub next-first : peaksFrom m s p ≡ q ∷ peaksFrom m s (behind q)
+    next-first =
+        let i = next-inside in
+        a .same-ahead
+        ∙ keep-hit (peakIn m s) (s .border) (s .w - s .border) (s .h - s .border) (q .x) (q .y) (omega (arith, i .right)) (omega (arith, i .bottom)) (a .is-peak l .1)

@@ -1,10 +1,10 @@
 // Peaks of a response map, added to a buffer of corners.
-use corner_list::Corner;
 ghost use mathlib.Core.Path.{_≡_};
 ghost use mathlib.Core.Bool.{not};
-ghost use Prim.Native.Nat.{_+_, _-_, _<_, _≤_};
+ghost use mathlib.Core.List.{[]};
+ghost use Prim.Native.Nat.{_+_, _-_, _*_, _<_, _≤_};
 ghost use lib.ListN.{length};
-ghost use lib.Dec.{leb};
+ghost use lib.Dec.{ltb};
 ghost use lib.IntN.{pos};
 ghost use lib.Ieee.{lt, ofInt, binary32};
 ghost use Rattle.lists.specs.Places.{any, count};
@@ -12,8 +12,8 @@ ghost use Rattle.lists.specs.Refusals.{lowest};
 ghost use Rattle.float32.specs.Float32.{zero};
 ghost use Rattle.corner_list.specs.CornerList.{slices, placesOf};
 ghost use Rattle.detect.specs.Peaks.{valueAt, isLow, largerIn, positiveIn, beaten, positives, Inside};
-ghost use Rattle.detect.specs.Detect.{searchOf, peakIn, peaksIn, startAt, startsIn, conditions, Found};
-ghost use Rattle.detect.specs.Post.{place, Searchable, Below, Skipped, NextPeak, Written};
+ghost use Rattle.detect.specs.Detect.{searchOf, peakIn, peaksIn, startsIn, conditions, Found};
+ghost use Rattle.detect.specs.Post.{place, placeOf, Searchable, Below, Skipped, NextPeak, Numbered, Listed, Standing, NextListed};
 
 // What a map is searched with: its sides, the border that no peak lies in, the window's radius, the lifted threshold and the
 // least number of positive neighbours. It is public because the promise speaks of it.
@@ -239,21 +239,6 @@ fn next_peak(map: &[f32], s: Search, x: usize, y: usize) -> Spot
     Spot { x, y }
 }
 
-// How many peaks the map has.
-fn count_peaks(map: &[f32], s: Search) -> usize
-    requires { ⌜ Searchable (now map) s ⌝ }
-    ensures { λ n. ⌜ n ≡ length (peaksIn (now (map .entry)) s) ⌝ }
-{
-    let y1 = minus(s.h, s.border);
-    let mut n = 0;
-    let mut p = next_peak(map, s, s.border, s.border);
-    while p.y < y1 {
-        n += 1;
-        p = next_peak(map, s, p.x + 1, p.y);
-    }
-    n
-}
-
 // A column or a row as a coordinate.
 fn coordinate(n: usize) -> f32
     requires { ⌜ n ≤ 4096 ⌝ }
@@ -262,86 +247,139 @@ fn coordinate(n: usize) -> f32
     n as f32
 }
 
-// The corner that a peak starts as.
-fn start_at(map: &[f32], s: Search, x: usize, y: usize) -> Corner
-    requires { ⌜ Searchable (now map) s ⌝ }
-    requires { ⌜ Inside (s .w) (s .h) (s .border) (place x y) ⌝ }
-    ensures { λ c. ⌜ c ≡ startAt (now (map .entry)) (s .w) (place x y) ⌝ }
+// The place that a number of a table stands for.
+fn spot_of(a: u32) -> Spot
+    ensures { λ p. ⌜ place (p .x) (p .y) ≡ placeOf a ⌝ }
 {
-    Corner {
-        x: coordinate(x),
-        y: coordinate(y),
-        strength: value_at(map, s, x, y),
+    Spot {
+        x: (a % 4096) as usize,
+        y: (a / 4096) as usize,
     }
 }
 
-// How many cells inside the border are above the threshold: at least as many as there are peaks.
-fn cells_above(map: &[f32], s: Search) -> usize
-    requires { ⌜ Searchable (now map) s ⌝ }
-    ensures { λ n. ⌜ length (peaksIn (now (map .entry)) s) ≤ n ⌝ }
+// The number of the place (x, y) of a table; from row y1 on, that of a place past the last row of any map.
+fn number_of(x: usize, y: usize, y1: usize) -> u32
+    requires { ⌜ (y < y1 → (x < 4096) × (y < 4096)) ⌝ }
+    ensures { λ a. ⌜ Numbered x y y1 a ⌝ }
 {
-    let w = s.w;
-    let t = s.threshold;
-    let x0 = s.border;
-    if w <= 2 * x0 {
-        return 0;
+    if y < y1 {
+        (y * 4096 + x) as u32
+    } else {
+        16777216
     }
-    let x1 = w - x0;
-    let y1 = minus(s.h, x0);
+}
+
+// Lists the first peaks in a table, as many as it has places for, and behind the last of them that no more comes. Returns how many places are taken.
+fn list_peaks(map: &[f32], s: Search, table: &mut [u32]) -> usize
+    requires { ⌜ Searchable (now map) s ⌝ }
+    ensures { λ n. ⌜ Listed (now (map .entry)) s (now (table .exit)) n ⌝ }
+{
+    let y1 = minus(s.h, s.border);
+    let mut x = s.border;
+    let mut y = s.border;
     let mut n = 0;
-    let mut y = x0;
-    while y < y1 {
-        let a = y * w + x0;
-        let e = y * w + x1;
-        n += x1 - x0 - count_low(&map[a..e], t) as usize;
-        y += 1;
+    while n < table.len() {
+        let p = next_peak(map, s, x, y);
+        table[n] = number_of(p.x, p.y, y1);
+        n += 1;
+        if y1 <= p.y {
+            return n;
+        }
+        x = p.x + 1;
+        y = p.y;
     }
     n
 }
 
-// Whether the map has at most so many peaks. They are counted only where there are more cells that could be one: cells inside the
-// border, and those of them that are above the threshold.
-fn at_most(map: &[f32], s: Search, free: usize) -> bool
+// The place of peak number i, which is the first from (x, y) on: from the table where it is one of its first n.
+fn peak_at(map: &[f32], s: Search, table: &[u32], n: usize, i: usize, x: usize, y: usize) -> Spot
     requires { ⌜ Searchable (now map) s ⌝ }
-    ensures { λ b. ⌜ b ≡ leb (length (peaksIn (now (map .entry)) s)) free ⌝ }
+    requires { ⌜ Listed (now map) s (now table) n ⌝ }
+    requires { ⌜ Standing s (now table) n i (place x y) ⌝ }
+    ensures { λ p. ⌜ NextListed (now (map .entry)) s (now (table .entry)) n i (place x y) (place (p .x) (p .y)) ⌝ }
 {
-    let b = s.border;
-    let w = s.w;
-    let h = s.h;
-    if minus(w, 2 * b) * minus(h, 2 * b) <= free {
-        return true;
+    if i < n {
+        return spot_of(table[i]);
     }
-    if cells_above(map, s) <= free {
-        return true;
-    }
-    count_peaks(map, s) <= free
+    next_peak(map, s, x, y)
 }
 
-// Writes the corners that the map's peaks start as behind the first `held` of the buffer, and counts them.
-fn write_peaks(
+// How many cells lie inside the border.
+fn cells_inside(s: Search) -> usize
+    requires { ⌜ (s .w ≤ 4096) × (s .h ≤ 4096) ⌝ }
+    requires { ⌜ s .border ≤ 42 ⌝ }
+    ensures { λ n. ⌜ n ≡ (s .w - 2 * s .border) * (s .h - 2 * s .border) ⌝ }
+{
+    let b = 2 * s.border;
+    minus(s.w, b) * minus(s.h, b)
+}
+
+// Whether the peaks are too many for a buffer of so many places, of which `held` are taken. They are counted only where there are
+// more cells that could be one.
+fn are_too_many(map: &[f32], s: Search, table: &[u32], n: usize, places: usize, held: usize) -> bool
+    requires { ⌜ Searchable (now map) s ⌝ }
+    requires { ⌜ Listed (now map) s (now table) n ⌝ }
+    ensures { λ b. ⌜ b ≡ ltb places (held + length (peaksIn (now (map .entry)) s)) ⌝ }
+{
+    if places < held {
+        return true;
+    }
+    let free = places - held;
+    if cells_inside(s) <= free {
+        return false;
+    }
+    let y1 = minus(s.h, s.border);
+    let mut x = s.border;
+    let mut y = s.border;
+    let mut i = 0;
+    while i <= free {
+        let p = peak_at(map, s, table, n, i, x, y);
+        if y1 <= p.y {
+            return false;
+        }
+        i += 1;
+        x = p.x + 1;
+        y = p.y;
+    }
+    true
+}
+
+// Adds the peaks to a buffer, behind the first `held`, with a table for the places of the first of them.
+fn add_peaks(
     map: &[f32],
     s: Search,
+    table: &mut [u32],
     xs: &mut [f32],
     ys: &mut [f32],
     strengths: &mut [f32],
     held: usize,
-) -> usize
+) -> Peaks
     requires { ⌜ Searchable (now map) s ⌝ }
-    requires { ⌜ held + length (startsIn (now map) s) ≤ placesOf (slices (now xs) (now ys) (now strengths)) ⌝ }
-    ensures { λ n. ⌜ Written (startsIn (now (map .entry)) s) held (slices (now (xs .entry)) (now (ys .entry)) (now (strengths .entry)))
-        n (slices (now (xs .exit)) (now (ys .exit)) (now (strengths .exit))) ⌝ }
+    ensures { λ r. ⌜ Found [] (startsIn (now (map .entry)) s) held (slices (now (xs .entry)) (now (ys .entry)) (now (strengths .entry)))
+        r (slices (now (xs .exit)) (now (ys .exit)) (now (strengths .exit))) ⌝ }
 {
-    let y1 = minus(s.h, s.border);
-    let mut n = 0;
-    let mut p = next_peak(map, s, s.border, s.border);
-    while p.y < y1 {
-        let at = held + n;
-        let c = start_at(map, s, p.x, p.y);
-        n += 1;
-        p = next_peak(map, s, p.x + 1, p.y);
-        corner_list::put_corner(xs, ys, strengths, at, c);
+    let n = list_peaks(map, s, table);
+    let places = corner_list::places(xs.len(), ys.len(), strengths.len());
+    if are_too_many(map, s, table, n, places, held) {
+        return Peaks::Refused(10);
     }
-    n
+    let y1 = minus(s.h, s.border);
+    let mut x = s.border;
+    let mut y = s.border;
+    let mut i = 0;
+    loop {
+        let p = peak_at(map, s, table, n, i, x, y);
+        if y1 <= p.y {
+            return Peaks::Added(i);
+        }
+        let at = held + i;
+        xs[at] = coordinate(p.x);
+        ys[at] = coordinate(p.y);
+        strengths[at] = value_at(map, s, p.x, p.y);
+        i += 1;
+        x = p.x + 1;
+        y = p.y;
+    }
 }
 
 // The number of the first condition on the input that holds, 0 for none.
@@ -415,14 +453,10 @@ pub fn detect_peaks_from_response_with_refine_radius(
         return Peaks::Refused(k);
     }
     let s = search_of(w, h, ring, threshold, window, least, refine_radius);
-    let places = corner_list::places(xs.len(), ys.len(), strengths.len());
-    if places < held {
-        return Peaks::Refused(10);
+    if map.len() < 65536 {
+        let mut table = [0u32; 512];
+        return add_peaks(map, s, &mut table, xs, ys, strengths, held);
     }
-    if at_most(map, s, places - held) {
-        let n = write_peaks(map, s, xs, ys, strengths, held);
-        Peaks::Added(n)
-    } else {
-        Peaks::Refused(10)
-    }
+    let mut table = [0u32; 32768];
+    add_peaks(map, s, &mut table, xs, ys, strengths, held)
 }

@@ -1,0 +1,36 @@
+-- `detect::peak_at` meets its contract: the table has what the search would find. Assumes nothing.
+use borrow.Author.Needs.{needs}
+use Rattle.detect.proofs.Table.{next-taken, next-searched}
+use Rattle.detect.proofs.peak_at.Statement.{statement}
+use Rattle.detect.proofs.peak_at.Tie as tie
+
+mul-spot-of : tie.Need-mul-spot-of
+mul-spot-of c = search needs
+
+shared-slice-read-spot-of : tie.Need-shared-slice-read-spot-of
+shared-slice-read-spot-of c = search needs
+
+spot-of-requires : tie.Need-spot-of-requires
+spot-of-requires c κs = search needs
+
+returns : tie.Need-returns
+returns c =
+    let start = c .before .before .before .before .before in
+    next-taken _ _ _ _ _ _ (start .pre .1 .0) (start .pre .1 .1) (c .before .before .if1 .taken) _ (c .spot-of .ensures)
+
+next-peak-requires : tie.Need-next-peak-requires
+next-peak-requires c κs = search needs
+
+returns-2 : tie.Need-returns-2
+returns-2 c = next-searched _ _ _ _ _ _ (c .before .if1 .left) _ (c .next-peak .ensures)
+
+pub peak-at-spec : {M : Type 1} → statement M
+peak-at-spec =
+    tie.close
+    (tie.spec
+    mul-spot-of
+    shared-slice-read-spot-of
+    spot-of-requires
+    returns
+    next-peak-requires
+    returns-2)
