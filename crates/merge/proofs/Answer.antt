@@ -9,11 +9,13 @@ use lib.Ieee.{Float}
 use Rattle.corner_list.specs.declared.Corner.{Corner}
 use Rattle.corner_list.specs.CornerList.{Slices, placesOf, cornersOf}
 use Rattle.corner_list.proofs.Corners.{corners-length, corners-same}
-use Rattle.merge.specs.declared.cells.Grid.{Grid}
+use Rattle.merge_grid.specs.declared.Grid.{Grid}
 use Rattle.merge.specs.declared.Merged.{Merged}
 use Rattle.merge.specs.declared.Merged.the-variants.{Kept, Refused}
 use Rattle.merge_radius.specs.MergeRadius.{isOff}
-use Rattle.merge.specs.Merge.{gridOf, joins, merged, resultOf, refusalOf, answerOf, bufferOf, Merges}
+use Rattle.merge_refusal.specs.MergeRefusal.{refusalOf}
+use Rattle.merge_grid.specs.MergeGrid.{gridOf, joins}
+use Rattle.merge.specs.Merge.{merged, resultOf, answerOf, bufferOf, Merges}
 use Rattle.merge.specs.Search.{Left}
 
 -- ---- what is left of a list: all of it, as it came, or what merging leaves

@@ -8,7 +8,8 @@ use lib.Ieee.{Float, fin, lt, le, add, sub, mul, div, toUnsigned}
 use Rattle.float32.specs.Float32.{zero}
 use Rattle.corner_list.specs.declared.Corner.{Corner}
 use Rattle.merge_radius.specs.MergeRadius.{isOff}
-use Rattle.merge.specs.Merge.{gridOf, near, neighbours, merged, resultOf}
+use Rattle.merge_grid.specs.MergeGrid.{gridOf, near, neighbours}
+use Rattle.merge.specs.Merge.{merged, resultOf}
 
 module _ (s t u : Float) where
   abbrev first : Corner

@@ -11,8 +11,8 @@ use borrow.Author.Count.{below-more}
 use Rattle.corner_list.specs.declared.Corner.{Corner}
 use Rattle.corner_list.specs.CornerList.{Slices, placesOf, cornerAt, withCorner}
 use Rattle.corner_list.proofs.Corners.{with-here, with-there}
-use Rattle.merge.specs.declared.cells.Grid.{Grid}
-use Rattle.merge.specs.Merge.{rowOf}
+use Rattle.merge_grid.specs.declared.Grid.{Grid}
+use Rattle.merge_grid.specs.MergeGrid.{rowOf}
 use Rattle.merge.specs.Index.{empty, homeAt, Listed, Lists, Indexed}
 
 pub indexed-none : (g : Grid) (floor : ℕ) (table : List ℕ) (b : Slices) → 0 < length table → Indexed g floor table b 0

@@ -1,5 +1,3 @@
-pub mod Numbers
-pub mod Judged
 pub mod First
 pub mod Slots
 pub mod Indexing

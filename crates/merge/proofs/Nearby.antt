@@ -7,35 +7,16 @@ use mathlib.Core.Logic.{_⊎_, inl, inr, ⊎-elim}
 use mathlib.Core.Bool.{true}
 use mathlib.Core.List.{List}
 use lib.ListN.{length}
-use lib.Dec.{leb}
-use borrow.Author.Tests.{leb-true}
-use Rattle.lists.proofs.Tests.{and-parts}
 use Rattle.corner_list.specs.declared.Corner.{Corner}
 use Rattle.corner_list.specs.CornerList.{Slices, cornerAt}
-use Rattle.merge.specs.declared.cells.Grid.{Grid}
-use Rattle.merge.specs.Merge.{columnOf, rowOf, adjacent, near, neighbours}
+use Rattle.merge_grid.specs.declared.Grid.{Grid}
+use Rattle.merge_grid.specs.MergeGrid.{columnOf, rowOf}
+use Rattle.merge_grid.proofs.Joined.{Beside, joined-cells}
 use Rattle.merge.specs.Search.{joinsAt}
 use Rattle.merge.specs.Index.{empty, pairOf, homeOf, Listed, Indexed}
 
-pairs-near : (a n : ℕ) → adjacent a n ≡ true → (pairOf n ≡ a / 2) ⊎ (pairOf n ≡ a / 2 + 1)
-pairs-near a n e =
-    let w = and-parts (leb a (n + 1)) (leb n (a + 1)) e in
-    let up = leb-true a (n + 1) (w .0) in
-    let down = leb-true n (a + 1) (w .1) in
-    elim (decLt (a / 2) (pairOf n)) [ yes l ↦ inr (omega arith) | no l ↦ inl (omega arith) ]
-
-pairs-both : (g : Grid) (c o : Corner) → neighbours g c o ≡ true
-    → ((pairOf (columnOf g o) ≡ columnOf g c / 2) ⊎ (pairOf (columnOf g o) ≡ columnOf g c / 2 + 1)) × ((pairOf (rowOf g o) ≡ rowOf g c / 2) ⊎ (pairOf (rowOf g o) ≡ rowOf g c / 2 + 1))
-unfolding neighbours
-pairs-both g c o e =
-    let w = and-parts (adjacent (columnOf g c) (columnOf g o)) (adjacent (rowOf g c) (rowOf g o)) e in
-    (pairs-near (columnOf g c) (columnOf g o) (w .0), pairs-near (rowOf g c) (rowOf g o) (w .1))
-
-row-near : (g : Grid) (c o : Corner) → neighbours g c o ≡ true → rowOf g c ≤ rowOf g o + 1
-unfolding neighbours
-row-near g c o e =
-    let w = and-parts (adjacent (columnOf g c) (columnOf g o)) (adjacent (rowOf g c) (rowOf g o)) e in
-    leb-true (rowOf g c) (rowOf g o + 1) (and-parts (leb (rowOf g c) (rowOf g o + 1)) (leb (rowOf g o) (rowOf g c + 1)) (w .1) .0)
+pairs-near : (a n : ℕ) → Beside a n → (pairOf n ≡ a / 2) ⊎ (pairOf n ≡ a / 2 + 1)
+pairs-near a n w = elim (decLt (a / 2) (pairOf n)) [ yes l ↦ inr (omega arith) | no l ↦ inl (omega arith) ]
 
 module _ (g : Grid) (floor : ℕ) (table : List ℕ) (b : Slices) (k : ℕ) (index : Indexed g floor table b k) (c : Corner) (x y : ℕ)
     (ex : x ≡ columnOf g c / 2) (ey : y ≡ rowOf g c / 2) where
@@ -45,19 +26,20 @@ module _ (g : Grid) (floor : ℕ) (table : List ℕ) (b : Slices) (k : ℕ) (ind
   pub all-near : k ≤ empty → floor ≤ rowOf g c → (i : ℕ) → i < k → joinsAt g c b i ≡ true → (At x y i ⊎ At (x + 1) y i) ⊎ (At x (y + 1) i ⊎ At (x + 1) (y + 1) i)
   all-near small low i l t =
       let o = cornerAt b i in
-      let n = and-parts (near g c o) (neighbours g c o) t .1 in
-      ⊎-elim (λ far. absurd (let no : ⊥ = omega (arith, row-near g c o n) in no)) (by-pairs o n) (index .each i l (omega arith))
+      let beside = joined-cells g c o t in
+      ⊎-elim (λ far. absurd (let no : ⊥ = omega (arith, beside .1 .up) in no)) (by-pairs o beside) (index .each i l (omega arith))
     where
       next : (m n : ℕ) → m ≡ n → n + 1 ≡ m + 1
       next m n e = ap (λ (q : ℕ). q + 1) (sym e)
 
-      by-pairs : (o : Corner) → neighbours g c o ≡ true → At (pairOf (columnOf g o)) (pairOf (rowOf g o)) i → (At x y i ⊎ At (x + 1) y i) ⊎ (At x (y + 1) i ⊎ At (x + 1) (y + 1) i)
-      by-pairs o n d =
+      by-pairs : (o : Corner) → Beside (columnOf g c) (columnOf g o) × Beside (rowOf g c) (rowOf g o) → At (pairOf (columnOf g o)) (pairOf (rowOf g o)) i → (At x y i ⊎ At (x + 1) y i) ⊎ (At x (y + 1) i ⊎ At (x + 1) (y + 1) i)
+      by-pairs o beside d =
           let u : ℕ = pairOf (columnOf g o) in
           let v : ℕ = pairOf (rowOf g o) in
-          let w = pairs-both g c o n in
+          let across = pairs-near (columnOf g c) (columnOf g o) (beside .0) in
+          let down = pairs-near (rowOf g c) (rowOf g o) (beside .1) in
           let to : (m n : ℕ) → u ≡ m → v ≡ n → At m n i = λ m n p q. subst (λ (m : ℕ). At m n i) p (subst (λ (n : ℕ). At u n i) q d) in
           ⊎-elim
-          (λ p. ⊎-elim (λ q. inl (inl (to x y (p ∙ sym ex) (q ∙ sym ey)))) (λ q. inr (inl (to x (y + 1) (p ∙ sym ex) (q ∙ next y _ ey)))) (w .1))
-          (λ p. ⊎-elim (λ q. inl (inr (to (x + 1) y (p ∙ next x _ ex) (q ∙ sym ey)))) (λ q. inr (inr (to (x + 1) (y + 1) (p ∙ next x _ ex) (q ∙ next y _ ey)))) (w .1))
-          (w .0)
+          (λ p. ⊎-elim (λ q. inl (inl (to x y (p ∙ sym ex) (q ∙ sym ey)))) (λ q. inr (inl (to x (y + 1) (p ∙ sym ex) (q ∙ next y _ ey)))) down)
+          (λ p. ⊎-elim (λ q. inl (inr (to (x + 1) y (p ∙ next x _ ex) (q ∙ sym ey)))) (λ q. inr (inr (to (x + 1) (y + 1) (p ∙ next x _ ex) (q ∙ next y _ ey)))) down)
+          across

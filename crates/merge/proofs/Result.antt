@@ -12,7 +12,9 @@ use Rattle.corner_list.specs.CornerList.{Slices, cornersOf, frontCorners}
 use Rattle.merge.specs.declared.Merged.{Merged}
 use Rattle.merge.specs.declared.Merged.the-variants.{Kept}
 use Rattle.merge_radius.specs.MergeRadius.{isOff}
-use Rattle.merge.specs.Merge.{gridOf, joins, stronger, settle, merged, resultOf, refusalOf, answerOf, bufferOf, Merges}
+use Rattle.merge_refusal.specs.MergeRefusal.{refusalOf}
+use Rattle.merge_grid.specs.MergeGrid.{gridOf, joins}
+use Rattle.merge.specs.Merge.{stronger, settle, merged, resultOf, answerOf, bufferOf, Merges}
 use Rattle.merge.proofs.Settle.{settle-one}
 
 -- ---- no corner is added

@@ -6,8 +6,8 @@ use mathlib.Core.List.{List}
 use lib.ListN.{length, getD}
 use Rattle.corner_list.specs.declared.Corner.{Corner}
 use Rattle.corner_list.specs.CornerList.{Slices, cornerAt}
-use Rattle.merge.specs.declared.cells.Grid.{Grid}
-use Rattle.merge.specs.Merge.{columnOf, rowOf}
+use Rattle.merge_grid.specs.declared.Grid.{Grid}
+use Rattle.merge_grid.specs.MergeGrid.{columnOf, rowOf}
 
 -- what an empty slot holds; no place that is listed is as large
 abbrev pub empty : ℕ

@@ -1,14 +1,17 @@
 -- What the private functions that search the kept corners and settle one among them promise.
-use Prim.Native.Nat.{ℕ, _+_, _<_, _≤_, max}
+use Prim.Native.Nat.{ℕ, _+_, _<_, _≤_}
 use mathlib.Core.Path.{_≡_}
 use mathlib.Core.Logic.{_⊎_}
-use mathlib.Core.Bool.{Bool, true}
+use mathlib.Core.Bool.{Bool, true, cond}
 use mathlib.Core.List.{List}
 use lib.ListN.{length}
+use lib.Dec.{eqb}
 use Rattle.corner_list.specs.declared.Corner.{Corner}
-use Rattle.corner_list.specs.CornerList.{Slices, cornerAt, cornersOf, withCorner, frontCorners}
-use Rattle.merge.specs.declared.cells.Grid.{Grid}
-use Rattle.merge.specs.Merge.{joins, settle}
+use Rattle.corner_list.specs.CornerList.{Slices, placesOf, cornerAt, cornersOf, withCorner, frontCorners}
+use Rattle.merge_grid.specs.declared.Grid.{Grid}
+use Rattle.merge_grid.specs.MergeGrid.{joins}
+use Rattle.merge.specs.Merge.{settle}
+use Rattle.merge.specs.Index.{empty}
 
 -- whether c joins the corner at a place of a buffer
 abbrev pub joinsAt : Grid → Corner → Slices → ℕ → Bool
@@ -31,11 +34,15 @@ pub record Settled (j : Corner → Corner → Bool) (k : ℕ) (c : Corner) (b : 
   pub count : n ≡ length (settle j (cornersOf b k) c)
   pub buffer : b′ ≡ frontCorners (settle j (cornersOf b k) c) b
 
--- Place r is the one that c takes among the first k corners of a buffer: put there, k itself included, it is settled among them. Beyond k it
--- takes none: they are settled as they are.
+-- how many corners are kept when one takes place r: one more than the k before if that is right behind them
+abbrev pub countWith : ℕ → ℕ → ℕ
+countWith k r = cond (eqb r k) (k + 1) k
+
+-- Place r is the one that c takes among the first k corners of a buffer: put there, it is settled among them. Where it is dropped, r is no
+-- place of the buffer, nor one that is listed.
 pub record Takes (j : Corner → Corner → Bool) (k : ℕ) (c : Corner) (b : Slices) (r : ℕ) : Type 0 where
-  pub put : r ≤ k → Settled j k c b (max k (r + 1)) (withCorner r c b)
-  pub dropped : k < r → Settled j k c b k b
+  pub settled : Settled j k c b (countWith k r) (withCorner r c b)
+  pub known : (r < placesOf b) ⊎ (empty ≤ r)
 
 -- n corners are now first in a buffer: what is left of a list
 pub record Left (left : List Corner) (b : Slices) (n : ℕ) (b′ : Slices) : Type 0 where

@@ -9,10 +9,10 @@ ghost use mathlib.Core.Logic.{_⊎_};
 ghost use Prim.Native.Nat.{_+_, _<_, _≤_};
 ghost use lib.ListN.{length};
 ghost use lib.Dec.{leb};
-ghost use Rattle.corner_list.specs.CornerList.{slices, withCorner};
-ghost use Rattle.merge.specs.Merge.{rowOf};
+ghost use Rattle.corner_list.specs.CornerList.{slices};
+ghost use Rattle.merge_grid.specs.MergeGrid.{rowOf};
 ghost use Rattle.merge.specs.Index.{pairOf, homeOf, homeAt, SlotFor, Lists, Indexed};
-use crate::cells::Grid;
+use merge_grid::Grid;
 use corner_list::Corner;
 
 // What an empty slot holds.
@@ -39,8 +39,8 @@ fn home_at(g: Grid, slots: usize, c: Corner) -> usize
     requires { ⌜ 0 < slots ⌝ }
     ensures { λ r. ⌜ r ≡ homeAt g slots c ⌝ }
 {
-    let x = pair_of(crate::cells::column_of(g, c));
-    let y = pair_of(crate::cells::row_of(g, c));
+    let x = pair_of(merge_grid::column_of(g, c));
+    let y = pair_of(merge_grid::row_of(g, c));
     home_of(slots, x, y)
 }
 
@@ -61,8 +61,8 @@ fn slot_for(table: &[u32], home: usize, place: usize) -> usize
     table.len()
 }
 
-// Lists the place of c.
-fn list_place(table: &mut [u32], g: Grid, place: usize, c: Corner)
+// Lists the place of c, if it is one that a slot can hold.
+pub(crate) fn list_place(table: &mut [u32], g: Grid, place: usize, c: Corner)
     requires { ⌜ 0 < length (now table) ⌝ }
     ensures { λ _. ⌜ Lists (now (table .entry)) (homeAt g (length (now (table .entry))) c) place (now (table .exit)) ⌝ }
 {
@@ -72,24 +72,6 @@ fn list_place(table: &mut [u32], g: Grid, place: usize, c: Corner)
             table[p] = place as u32;
         }
     }
-}
-
-// Puts c at a place of a buffer, and lists it.
-pub(crate) fn put_listed(
-    xs: &mut [f32],
-    ys: &mut [f32],
-    strengths: &mut [f32],
-    table: &mut [u32],
-    g: Grid,
-    at: usize,
-    c: Corner,
-)
-    requires { ⌜ 0 < length (now table) ⌝ }
-    ensures { λ _. ⌜ slices (now (xs .exit)) (now (ys .exit)) (now (strengths .exit)) ≡ withCorner at c (slices (now (xs .entry)) (now (ys .entry)) (now (strengths .entry))) ⌝ }
-    ensures { λ _. ⌜ Lists (now (table .entry)) (homeAt g (length (now (table .entry))) c) at (now (table .exit)) ⌝ }
-{
-    corner_list::put_corner(xs, ys, strengths, at, c);
-    list_place(table, g, at, c);
 }
 
 // Whether row `row` is the one above `floor`, or below.
@@ -112,7 +94,7 @@ fn list_near(table: &mut [u32], g: Grid, floor: usize, place: usize, c: Corner)
     ensures { λ _. ⌜ ((rowOf g c + 1 < floor) × (now (table .exit) ≡ now (table .entry)))
         ⊎ Lists (now (table .entry)) (homeAt g (length (now (table .entry))) c) place (now (table .exit)) ⌝ }
 {
-    if reaches(floor, crate::cells::row_of(g, c)) {
+    if reaches(floor, merge_grid::row_of(g, c)) {
         list_place(table, g, place, c);
     }
 }
@@ -145,8 +127,10 @@ fn list_kept(
 fn lowest_row(xs: &[f32], ys: &[f32], strengths: &[f32], g: Grid, from: usize, n: usize) -> usize {
     let mut low = 18446744073709551615;
     for i in from..n {
-        let c = corner_list::corner_at(xs, ys, strengths, i);
-        low = crate::fewer(crate::cells::row_of(g, c), low);
+        let row = merge_grid::row_of(g, corner_list::corner_at(xs, ys, strengths, i));
+        if row < low {
+            low = row;
+        }
     }
     low
 }

@@ -1,23 +1,32 @@
 // The first of the kept corners that a corner joins, and the place that it takes.
 ghost use mathlib.Core.Path.{_≡_};
 ghost use mathlib.Core.Logic.{_⊎_};
-ghost use mathlib.Core.Bool.{cond, _&&_};
+ghost use mathlib.Core.Bool.{true, cond, _&&_};
 ghost use Prim.Native.Nat.{_+_, _^_, _<_, _≤_};
 ghost use lib.ListN.{length};
 ghost use lib.Dec.{ltb};
-ghost use Rattle.corner_list.specs.CornerList.{slices, placesOf};
-ghost use Rattle.merge.specs.Merge.{joins};
+ghost use Rattle.corner_list.specs.CornerList.{slices, cornerAt, placesOf};
+ghost use Rattle.merge_grid.specs.MergeGrid.{joins};
 ghost use Rattle.merge.specs.Search.{joinsAt, IsFirst, Lowers, Takes};
 ghost use Rattle.merge.specs.Index.{empty, homeOf, Listed, Indexed};
-use crate::cells::Grid;
+use merge_grid::Grid;
 use corner_list::Corner;
+
+// What stands for no place: a buffer that has it does not exist, and no slot holds it.
+const NOWHERE: usize = 18446744073709551615;
+
+// A corner, and the place that it takes among the kept ones.
+pub(crate) struct Placement {
+    pub at: usize,
+    pub corner: Corner,
+}
 
 // The lowest of the first k places of a buffer whose corner c joins, or k: looks at each.
 fn first_joined(xs: &[f32], ys: &[f32], strengths: &[f32], g: Grid, k: usize, c: Corner) -> usize
     ensures { λ r. ⌜ IsFirst (joinsAt g c (slices (now (xs .entry)) (now (ys .entry)) (now (strengths .entry)))) k r ⌝ }
 {
     for i in 0..k {
-        if crate::cells::is_joined(g, c, corner_list::corner_at(xs, ys, strengths, i)) {
+        if merge_grid::is_joined(g, c, corner_list::corner_at(xs, ys, strengths, i)) {
             return i;
         }
     }
@@ -37,7 +46,7 @@ fn lower_of(
     ensures { λ r. ⌜ r ≡ cond (ltb i low && joinsAt g c (slices (now (xs .entry)) (now (ys .entry)) (now (strengths .entry))) i) i low ⌝ }
 {
     if i < low {
-        if crate::cells::is_joined(g, c, corner_list::corner_at(xs, ys, strengths, i)) {
+        if merge_grid::is_joined(g, c, corner_list::corner_at(xs, ys, strengths, i)) {
             return i;
         }
     }
@@ -108,6 +117,17 @@ fn lowest_of_two(
     )
 }
 
+// Whether the index tells of a row, and of k places.
+fn is_told(floor: usize, row: usize, k: usize) -> bool
+    ensures { λ r. ⌜ (r ≡ true → (floor ≤ row) × (k ≤ empty)) ⌝ }
+{
+    if row < floor {
+        false
+    } else {
+        k <= crate::index::EMPTY as usize
+    }
+}
+
 // The lowest of the first k places of a buffer whose corner c joins, or k: looks at those that the index lists near c.
 fn find_joined(
     xs: &[f32],
@@ -122,22 +142,19 @@ fn find_joined(
     requires { ⌜ Indexed g floor (now table) (slices (now xs) (now ys) (now strengths)) k ⌝ }
     ensures { λ r. ⌜ IsFirst (joinsAt g c (slices (now (xs .entry)) (now (ys .entry)) (now (strengths .entry)))) k r ⌝ }
 {
-    let row = crate::cells::row_of(g, c);
-    if row < floor {
-        return first_joined(xs, ys, strengths, g, k, c);
+    let row = merge_grid::row_of(g, c);
+    if is_told(floor, row, k) {
+        let x = merge_grid::column_of(g, c) / 2;
+        let y = row / 2;
+        let low = lowest_of_two(xs, ys, strengths, table, g, x, y, k, c);
+        return lowest_of_two(xs, ys, strengths, table, g, x, y + 1, low, c);
     }
-    if (crate::index::EMPTY as usize) < k {
-        return first_joined(xs, ys, strengths, g, k, c);
-    }
-    let x = crate::cells::column_of(g, c) / 2;
-    let y = row / 2;
-    let low = lowest_of_two(xs, ys, strengths, table, g, x, y, k, c);
-    lowest_of_two(xs, ys, strengths, table, g, x, y + 1, low, c)
+    first_joined(xs, ys, strengths, g, k, c)
 }
 
 // The place that c takes among the first k of a buffer: that of the first that it joins, if it is stronger; k, if it joins none;
-// and k + 1, which is none, if it is dropped.
-pub(crate) fn place_for(
+// and NOWHERE, if it is dropped.
+fn place_for(
     xs: &[f32],
     ys: &[f32],
     strengths: &[f32],
@@ -159,5 +176,28 @@ pub(crate) fn place_for(
     if o.strength < c.strength {
         return i;
     }
-    k + 1
+    NOWHERE
+}
+
+// The corner at place i of a buffer, and the place that it takes among the first k.
+pub(crate) fn placement_of(
+    xs: &[f32],
+    ys: &[f32],
+    strengths: &[f32],
+    table: &[u32],
+    g: Grid,
+    floor: usize,
+    k: usize,
+    i: usize,
+) -> Placement
+    requires { ⌜ k < placesOf (slices (now xs) (now ys) (now strengths)) ⌝ }
+    requires { ⌜ Indexed g floor (now table) (slices (now xs) (now ys) (now strengths)) k ⌝ }
+    ensures { λ p. ⌜ p .corner ≡ cornerAt (slices (now (xs .entry)) (now (ys .entry)) (now (strengths .entry))) i ⌝ }
+    ensures { λ p. ⌜ Takes (joins g) k (p .corner) (slices (now (xs .entry)) (now (ys .entry)) (now (strengths .entry))) (p .at) ⌝ }
+{
+    let corner = corner_list::corner_at(xs, ys, strengths, i);
+    Placement {
+        at: place_for(xs, ys, strengths, table, g, floor, k, corner),
+        corner,
+    }
 }

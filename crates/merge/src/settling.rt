@@ -1,24 +1,24 @@
 // The kept corners stand first in the buffer, and each corner of the list is settled among them.
 ghost use mathlib.Core.Path.{_≡_};
 ghost use mathlib.Core.List.{[]};
-ghost use Prim.Native.Nat.{_+_, _^_, _<_, _≤_, max};
+ghost use Prim.Native.Nat.{_+_, _^_, _<_, _≤_};
 ghost use lib.ListN.{length};
-ghost use Rattle.corner_list.specs.CornerList.{slices, cornersOf, placesOf};
-ghost use Rattle.merge.specs.Merge.{joins, merged, resultOf};
-ghost use Rattle.merge.specs.Search.{Settled, Left};
+ghost use Rattle.corner_list.specs.CornerList.{slices, cornerAt, cornersOf, placesOf};
+ghost use Rattle.merge_grid.specs.MergeGrid.{joins};
+ghost use Rattle.merge.specs.Merge.{merged, resultOf};
+ghost use Rattle.merge.specs.Search.{countWith, Settled, Left};
 ghost use Rattle.merge.specs.Index.{Indexed};
-use crate::cells::Grid;
-use corner_list::Corner;
+use merge_grid::Grid;
 
-// How many corners there are when one is put at a place of the first k or right behind them.
+// How many corners are kept when one takes a place among the first k, or right behind them, or none.
 fn count_with(k: usize, at: usize) -> usize
     requires { ⌜ k + 1 < 2 ^ 64 ⌝ }
-    ensures { λ r. ⌜ (at ≤ k → r ≡ max k (at + 1)) ⌝ }
+    ensures { λ r. ⌜ r ≡ countWith k at ⌝ }
 {
-    if at < k { k } else { k + 1 }
+    if at == k { k + 1 } else { k }
 }
 
-// Settles c among the first k corners of a buffer, which are indexed, and returns how many there are then.
+// Settles the corner at place i among the first k corners of a buffer, which are indexed, and returns how many there are then.
 fn settle_in(
     xs: &mut [f32],
     ys: &mut [f32],
@@ -27,21 +27,19 @@ fn settle_in(
     g: Grid,
     floor: usize,
     k: usize,
-    c: Corner,
+    i: usize,
 ) -> usize
     requires { ⌜ k < placesOf (slices (now xs) (now ys) (now strengths)) ⌝ }
     requires { ⌜ Indexed g floor (now table) (slices (now xs) (now ys) (now strengths)) k ⌝ }
-    ensures { λ n. ⌜ Settled (joins g) k c (slices (now (xs .entry)) (now (ys .entry)) (now (strengths .entry))) n
+    ensures { λ n. ⌜ Settled (joins g) k (cornerAt (slices (now (xs .entry)) (now (ys .entry)) (now (strengths .entry))) i)
+        (slices (now (xs .entry)) (now (ys .entry)) (now (strengths .entry))) n
         (slices (now (xs .exit)) (now (ys .exit)) (now (strengths .exit))) ⌝ }
     ensures { λ n. ⌜ Indexed g floor (now (table .exit)) (slices (now (xs .exit)) (now (ys .exit)) (now (strengths .exit))) n ⌝ }
 {
-    let at = crate::search::place_for(xs, ys, strengths, table, g, floor, k, c);
-    if k < at {
-        return k;
-    }
-    let n = count_with(k, at);
-    crate::index::put_listed(xs, ys, strengths, table, g, at, c);
-    n
+    let p = crate::search::placement_of(xs, ys, strengths, table, g, floor, k, i);
+    corner_list::put_corner(xs, ys, strengths, p.at, p.corner);
+    crate::index::list_place(table, g, p.at, p.corner);
+    count_with(k, p.at)
 }
 
 // Merges the first n corners of a buffer in place, with a table for their index, and returns how many are left.
@@ -62,8 +60,7 @@ fn merge_with(
     let mut floor = 0;
     for i in 0..n {
         floor = crate::index::refresh(xs, ys, strengths, table, g, floor, k, i, n);
-        let c = corner_list::corner_at(xs, ys, strengths, i);
-        k = settle_in(xs, ys, strengths, table, g, floor, k, c);
+        k = settle_in(xs, ys, strengths, table, g, floor, k, i);
     }
     k
 }
@@ -98,6 +95,6 @@ pub(crate) fn merge_list(
     if merge_radius::is_off(radius) {
         return n;
     }
-    let g = crate::cells::grid_of(xs, ys, strengths, n, radius);
+    let g = merge_grid::grid_of(xs, ys, strengths, n, radius);
     merge_in(xs, ys, strengths, g, n)
 }

@@ -4,7 +4,7 @@ use Prim.Native.Nat.{min}
 use native.Mathlib.Omega.{arith}
 use mathlib.Core.Path.{_≡_, sym, ap, _∙_}
 use Rattle.corner_list.specs.CornerList.{slices, placesOf}
-use Rattle.merge.proofs.Judged.{judged-fits}
+use Rattle.merge_refusal.proofs.Judged.{judged-fits}
 use Rattle.merge.proofs.Answer.{merges-refused, merges-kept}
 use Rattle.merge.proofs.merge_within.Statement.{statement}
 use Rattle.merge.proofs.merge_within.Tie as tie

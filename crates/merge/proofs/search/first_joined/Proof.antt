@@ -6,7 +6,7 @@ use native.Mathlib.Omega.{arith}
 use mathlib.Core.Path.{_≡_, sym, ap, _∙_}
 use mathlib.Core.Bool.{true, false≢true}
 use Rattle.corner_list.specs.CornerList.{slices}
-use Rattle.merge.specs.Merge.{joins}
+use Rattle.merge_grid.specs.MergeGrid.{joins}
 use Rattle.merge.specs.Search.{joinsAt}
 use Rattle.merge.proofs.search.first_joined.Statement.{statement}
 use Rattle.merge.proofs.search.first_joined.Tie as tie

@@ -2,7 +2,7 @@
 use borrow.Author.Needs.{needs}
 use mathlib.Core.Path.{_≡_, sym, ap, _∙_}
 use Rattle.corner_list.specs.CornerList.{slices}
-use Rattle.merge.specs.Merge.{joins}
+use Rattle.merge_grid.specs.MergeGrid.{joins}
 use Rattle.merge.specs.Search.{joinsAt}
 use Rattle.merge.proofs.First.{lower-here, lower-not, lower-past}
 use Rattle.merge.proofs.search.lower_of.Statement.{statement}
