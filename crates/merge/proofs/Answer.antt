@@ -32,25 +32,19 @@ left-on radius b n g k b′ e is l = subst (λ (cs : List Corner). Left cs b k b
     same : merged (joins g) [] (cornersOf b n) ≡ resultOf radius (cornersOf b n)
     same = unfold resultOf in (rw (e, is))
 
--- ---- the answer, for a buffer of which `held` places count
-module _ (radius : Float) (places held count : ℕ) (b : Slices) (is : held ≡ places) where
-  same-number : refusalOf radius held count b ≡ refusalOf radius places count b
-  same-number = ap (λ (n : ℕ). refusalOf radius n count b) is
+-- ---- the answer
+module _ (radius : Float) (places count : ℕ) (b : Slices) where
+  pub merges-refused : (k : ℕ) → k ≡ refusalOf radius places count b → (k ≡ 0 → ⊥) → Merges radius places count b (Refused k) b
+  merges-refused zero e h = absurd (h refl)
+  merges-refused (suc k) e h = record {
+    answered = ap (λ (m : ℕ). answerOf m (length (resultOf radius (cornersOf b count)))) e;
+    number = e;
+    buffer = ap (λ (m : ℕ). bufferOf m (resultOf radius (cornersOf b count)) b) e;
+  }
 
-  pub merges-refused : (k : ℕ) → k ≡ refusalOf radius held count b → (k ≡ 0 → ⊥) → Merges radius places count b (Refused k) b
-  merges-refused k e h = go k h (e ∙ same-number)
-    where
-      go : (k : ℕ) → (k ≡ 0 → ⊥) → k ≡ refusalOf radius places count b → Merges radius places count b (Refused k) b
-      go zero h e = absurd (h refl)
-      go (suc k) h e = record {
-        answered = ap (λ (m : ℕ). answerOf m (length (resultOf radius (cornersOf b count)))) e;
-        number = e;
-        buffer = ap (λ (m : ℕ). bufferOf m (resultOf radius (cornersOf b count)) b) e;
-      }
-
-  pub merges-kept : (k n : ℕ) (b′ : Slices) → k ≡ refusalOf radius held count b → k ≡ 0 → Left (resultOf radius (cornersOf b count)) b n b′ → Merges radius places count b (Kept n) b′
+  pub merges-kept : (k n : ℕ) (b′ : Slices) → k ≡ refusalOf radius places count b → k ≡ 0 → Left (resultOf radius (cornersOf b count)) b n b′ → Merges radius places count b (Kept n) b′
   merges-kept k n b′ e z l =
-      let f : zero ≡ refusalOf radius places count b = sym z ∙ e ∙ same-number in record {
+      let f : zero ≡ refusalOf radius places count b = sym z ∙ e in record {
         answered = ap Kept (l .count) ∙ ap (λ (m : ℕ). answerOf m (length (resultOf radius (cornersOf b count)))) f;
         number = f;
         buffer = l .buffer ∙ ap (λ (m : ℕ). bufferOf m (resultOf radius (cornersOf b count)) b) f;

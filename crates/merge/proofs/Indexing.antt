@@ -1,18 +1,22 @@
 -- The kept corners stay indexed when one is put and listed, in the place of one of them or behind them; and the index made anew, corner by corner.
 -- Assumes nothing.
 use Prim.Native.Nat.{ℕ, _+_, _<_, _≤_}
+use native.Mathlib.Nat.{eq-or-lt-of-le}
 use native.Mathlib.Decide.{ℕ-discrete}
 use native.Mathlib.Omega.{arith}
 use mathlib.Core.Path.{_≡_, sym, ap, ap₂, _∙_, subst}
 use mathlib.Core.Logic.{_⊎_, inl, inr, ⊎-elim}
+use mathlib.Core.Bool.{Bool, cond}
 use mathlib.Core.List.{List}
 use lib.ListN.{length}
 use borrow.Author.Count.{below-more}
+use borrow.Author.Tests.{eq-eqb, ne-eqb}
 use Rattle.corner_list.specs.declared.Corner.{Corner}
 use Rattle.corner_list.specs.CornerList.{Slices, placesOf, cornerAt, withCorner}
 use Rattle.corner_list.proofs.Corners.{with-here, with-there}
 use Rattle.merge_grid.specs.declared.Grid.{Grid}
 use Rattle.merge_grid.specs.MergeGrid.{rowOf}
+use Rattle.merge.specs.Search.{countWith}
 use Rattle.merge.specs.Index.{empty, homeAt, Listed, Lists, Indexed}
 
 pub indexed-none : (g : Grid) (floor : ℕ) (table : List ℕ) (b : Slices) → 0 < length table → Indexed g floor table b 0
@@ -28,18 +32,31 @@ module _ (g : Grid) (floor : ℕ) where
   again table home at table′ lists o i small =
       ⊎-elim inl (λ d. inr (subst (λ (m : ℕ). Listed table′ (homeAt g m o) i) (sym (lists .long)) (lists .still (homeAt g (length table) o) i small d)))
 
-  pub indexed-put : (table : List ℕ) (b : Slices) (k : ℕ) → Indexed g floor table b k → (at : ℕ) (c : Corner) → at < placesOf b
+  -- a corner put in the place that it takes, and listed
+  pub indexed-put : (table : List ℕ) (b : Slices) (k : ℕ) → Indexed g floor table b k → (at : ℕ) (c : Corner) → (at < placesOf b) ⊎ (empty ≤ at)
       → (table′ : List ℕ) (b′ : Slices) → b′ ≡ withCorner at c b → Lists table (homeAt g (length table) c) at table′
-      → (n : ℕ) → ((i : ℕ) → i < n → (i ≡ at → ⊥) → i < k) → Indexed g floor table′ b′ n
-  indexed-put table b k index at c fit table′ b′ put lists n old = record { some = omega (arith, lists .long, index .some); each = each }
+      → (n : ℕ) → n ≡ countWith k at → Indexed g floor table′ b′ n
+  indexed-put table b k index at c known table′ b′ put lists n e = record { some = omega (arith, lists .long, index .some); each = each }
     where
+      old : (i : ℕ) → i < n → (i ≡ at → ⊥) → i < k
+      old i l d =
+          elim (ℕ-discrete at k) [
+            | yes q ↦
+                let m : n ≡ k + 1 = e ∙ ap (λ (t : Bool). cond t (k + 1) k) (eq-eqb at k q) in
+                ⊎-elim (λ (p : i ≡ k). absurd (d (p ∙ sym q))) (λ l. l) (eq-or-lt-of-le (omega arith))
+            | no q ↦ let m : n ≡ k = e ∙ ap (λ (t : Bool). cond t (k + 1) k) (ne-eqb at k q) in omega arith
+          ]
+
+      here : at < empty → InIndex (length table′) table′ (cornerAt b′ at) at
+      here small =
+          let fit : at < placesOf b = ⊎-elim (λ l. l) (λ (far : empty ≤ at). absurd (let no : ⊥ = omega arith in no)) known in
+          subst (λ (o : Corner). InIndex (length table′) table′ o at) (sym (ap (λ (s : Slices). cornerAt s at) put ∙ with-here b at c fit))
+          (inr (subst (λ (m : ℕ). Listed table′ (homeAt g m c) at) (sym (lists .long)) (lists .listed small)))
+
       each : (i : ℕ) → i < n → i < empty → InIndex (length table′) table′ (cornerAt b′ i) i
       each i l small =
           elim (ℕ-discrete i at) [
-            | yes e ↦
-                subst (λ (m : ℕ). InIndex (length table′) table′ (cornerAt b′ m) m) (sym e)
-                (subst (λ (o : Corner). InIndex (length table′) table′ o at) (sym (ap (λ (s : Slices). cornerAt s at) put ∙ with-here b at c fit))
-                (inr (subst (λ (m : ℕ). Listed table′ (homeAt g m c) at) (sym (lists .long)) (lists .listed (omega arith)))))
+            | yes e ↦ subst (λ (m : ℕ). InIndex (length table′) table′ (cornerAt b′ m) m) (sym e) (here (omega arith))
             | no e ↦
                 subst (λ (o : Corner). InIndex (length table′) table′ o i) (sym (ap (λ (s : Slices). cornerAt s i) put ∙ with-there b at c i e))
                 (again table (homeAt g (length table) c) at table′ lists (cornerAt b i) i small (index .each i (old i l e) small))

@@ -52,8 +52,9 @@ module _ (j : Corner → Corner → Bool) (n : ℕ) (b₀ : Slices) where
         let g : cornerAt b₀ i ≡ c = sym (corners-behind (at .kept) b₀ i (omega (arith, at .count, at .few))) ∙ ap (λ (s : Slices). cornerAt s i) (sym (at .is)) ∙ sym e in
         rw (add-one, drop-cons Given i c (omega (arith, corners-length b₀ n)), corners-at b₀ n i c h, g)
 
-    pub progress-turn : (c : Corner) (k′ : ℕ) (b′ : Slices) → i < n → c ≡ cornerAt b i → Settled j k c b k′ b′ → Progress b′ k′ (i + 1)
-    progress-turn c k′ b′ h e s =
+    pub progress-turn : (k′ : ℕ) (b′ : Slices) → i < n → Settled j k (cornerAt b i) b k′ b′ → Progress b′ k′ (i + 1)
+    progress-turn k′ b′ h s =
+        let c : Corner = cornerAt b i in
         let next : List Corner = settle j (at .kept) c in
         let l : settle j (cornersOf b k) c ≡ next = ap (λ (l : List Corner). settle j l c) kept-is in
         record {
@@ -61,7 +62,7 @@ module _ (j : Corner → Corner → Bool) (n : ℕ) (b₀ : Slices) where
           count = s .count ∙ ap length l;
           few = omega (arith, s .count ∙ ap length l, settle-one j c (at .kept), at .count, at .few);
           upto = omega arith;
-          rest = ap (merged j (at .kept)) (sym (given c h e)) ∙ at .rest;
+          rest = ap (merged j (at .kept)) (sym (given c h refl)) ∙ at .rest;
           is =
               s .buffer
               ∙ ap (λ (l : List Corner). frontCorners l b) l

@@ -1,19 +1,22 @@
 -- A corner settled among the kept ones: as a list by the first that it joins, its length, and in the buffer. Assumes nothing.
-use Prim.Native.Nat.{ℕ, zero, suc, _+_, _<_, _≤_, max}
+use Prim.Native.Nat.{ℕ, zero, suc, _+_, _<_, _≤_}
 use native.Mathlib.Nat.{not-suc-le-zero}
 use native.Mathlib.Omega.{arith}
-use mathlib.Core.Path.{_≡_, refl, sym, ap, _∙_}
+use mathlib.Core.Path.{_≡_, refl, sym, ap, _∙_, subst}
+use mathlib.Core.Logic.{inl, inr}
 use mathlib.Core.Bool.{Bool, true, false, cond}
 use mathlib.Core.List.{List, [], _∷_, _++_}
 use lib.ListN.{length, getD, set, length-set, length-append}
-use lib.Seq.{set-getD}
+use lib.Seq.{set-getD, set-out}
+use borrow.Author.Tests.{eq-eqb, ne-eqb}
 use lib.Ieee.{lt}
 use Rattle.lists.proofs.Tests.{is-false}
 use Rattle.corner_list.specs.declared.Corner.{Corner}
 use Rattle.corner_list.specs.CornerList.{Slices, placesOf, cornerAt, cornersOf, withCorner, frontCorners}
-use Rattle.corner_list.proofs.Corners.{corners-length, corners-at, corners-same, corners-set, corners-next}
+use Rattle.corner_list.proofs.Corners.{slices-alike, corners-length, corners-at, corners-same, corners-set, corners-next}
 use Rattle.merge.specs.Merge.{stronger, settle}
-use Rattle.merge.specs.Search.{IsFirst, Settled, Takes}
+use Rattle.merge.specs.Search.{IsFirst, countWith, Settled, Takes}
+use Rattle.merge.specs.Index.{empty}
 
 -- ---- lists
 
@@ -75,11 +78,11 @@ module _ (j : Corner → Corner → Bool) (k : ℕ) (c : Corner) (b : Slices) (f
   takes-new h =
       let e : settle j Kept c ≡ Kept ++ (c ∷ []) = settle-none j c c Kept (λ m l. none m (omega (arith, many))) in
       record {
-        put = λ _. record {
-          count = omega (arith, many, ap length e ∙ length-append Kept (c ∷ []));
+        settled = record {
+          count = ap (λ (t : Bool). cond t (k + 1) k) (eq-eqb k k refl) ∙ sym (ap length e ∙ length-append Kept (c ∷ []) ∙ ap (λ (n : ℕ). n + 1) many);
           buffer = ap (withCorner k c) starts ∙ corners-next Kept b k c (sym many) fit ∙ ap (λ (l : List Corner). frontCorners l b) (sym e);
         };
-        dropped = λ l. absurd (let no : ⊥ = omega arith in no);
+        known = inl fit;
       }
 
   module _ (h : i < k) (o : Corner) (is : o ≡ cornerAt b i) where
@@ -92,26 +95,38 @@ module _ (j : Corner → Corner → Bool) (k : ℕ) (c : Corner) (b : Slices) (f
         ∙ ap (λ (p : Corner). set Kept i (stronger c p)) here
         ∙ ap (λ (u : Bool). set Kept i (cond u c o)) e
 
+    -- a place that is not k: as many corners as before
+    as-many : (r : ℕ) → (r ≡ k → ⊥) → countWith k r ≡ length Kept
+    as-many r n = ap (λ (t : Bool). cond t (k + 1) k) (ne-eqb r k n) ∙ sym many
+
     pub takes-stronger : lt (o .strength) (c .strength) ≡ true → Takes j k c b i
     takes-stronger t =
         let e : settle j Kept c ≡ set Kept i c = there true t in
         record {
-          put = λ _. record {
-            count = omega (arith, many, ap length e ∙ length-set Kept i c);
+          settled = record {
+            count = as-many i (λ (q : i ≡ k). let no : ⊥ = omega arith in no) ∙ sym (ap length e ∙ length-set Kept i c);
             buffer = ap (withCorner i c) starts ∙ corners-set Kept b i c (omega (arith, many)) ∙ ap (λ (l : List Corner). frontCorners l b) (sym e);
           };
-          dropped = λ l. absurd (let no : ⊥ = omega arith in no);
+          known = inl (omega arith);
         }
 
-    pub takes-none : lt (o .strength) (c .strength) ≡ false → Takes j k c b (k + 1)
-    takes-none t =
+    -- it is dropped: r is past the end of each slice
+    pub takes-none : (r : ℕ) → length (b .xs) ≤ r → length (b .ys) ≤ r → length (b .strengths) ≤ r → empty ≤ r
+        → lt (o .strength) (c .strength) ≡ false → Takes j k c b r
+    takes-none r p q s far t =
         let e : settle j Kept c ≡ Kept = there false t ∙ ap (set Kept i) (sym here) ∙ set-getD Kept i c in
         record {
-          put = λ l. absurd (let no : ⊥ = omega arith in no);
-          dropped = λ _. record { count = omega (arith, many, ap length e); buffer = starts ∙ ap (λ (l : List Corner). frontCorners l b) (sym e) };
+          settled = record {
+            count = as-many r (λ (q : r ≡ k). let no : ⊥ = omega arith in no) ∙ sym (ap length e);
+            buffer =
+                slices-alike (set-out (b .xs) r (c .x) p) (set-out (b .ys) r (c .y) q) (set-out (b .strengths) r (c .strength) s)
+                ∙ starts
+                ∙ ap (λ (l : List Corner). frontCorners l b) (sym e);
+          };
+          known = inr far;
         }
 
--- ---- c put in the place that it takes
-pub settled-put : (j : Corner → Corner → Bool) (k : ℕ) (c : Corner) (b : Slices) (r n : ℕ) (b′ : Slices) → Takes j k c b r → r ≤ k → n ≡ max k (r + 1) → b′ ≡ withCorner r c b → Settled j k c b n b′
-settled-put j k c b r n b′ t h e put =
-    let s = t .put h in record { count = e ∙ s .count; buffer = put ∙ s .buffer }
+-- ---- the corner at place i put in the place that it takes
+pub settled-put : (j : Corner → Corner → Bool) (k : ℕ) (c o : Corner) (b : Slices) (r n : ℕ) (b′ : Slices) → c ≡ o → Takes j k c b r → n ≡ countWith k r → b′ ≡ withCorner r c b → Settled j k o b n b′
+settled-put j k c o b r n b′ is t e put =
+    subst (λ (c : Corner). Settled j k c b n b′) is (record { count = e ∙ t .settled .count; buffer = put ∙ t .settled .buffer })

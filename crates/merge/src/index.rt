@@ -12,8 +12,8 @@ ghost use lib.Dec.{leb};
 ghost use Rattle.corner_list.specs.CornerList.{slices};
 ghost use Rattle.merge_grid.specs.MergeGrid.{rowOf};
 ghost use Rattle.merge.specs.Index.{pairOf, homeOf, homeAt, SlotFor, Lists, Indexed};
-use merge_grid::Grid;
 use corner_list::Corner;
+use merge_grid::Grid;
 
 // What an empty slot holds.
 pub(crate) const EMPTY: u32 = 4294967295;

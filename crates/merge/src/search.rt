@@ -9,8 +9,8 @@ ghost use Rattle.corner_list.specs.CornerList.{slices, cornerAt, placesOf};
 ghost use Rattle.merge_grid.specs.MergeGrid.{joins};
 ghost use Rattle.merge.specs.Search.{joinsAt, IsFirst, Lowers, Takes};
 ghost use Rattle.merge.specs.Index.{empty, homeOf, Listed, Indexed};
-use merge_grid::Grid;
 use corner_list::Corner;
+use merge_grid::Grid;
 
 // What stands for no place: a buffer that has it does not exist, and no slot holds it.
 const NOWHERE: usize = 18446744073709551615;

@@ -1,28 +1,14 @@
 -- `merge::merge_within` meets its contract: refused, or merged. Assumes nothing.
 use borrow.Author.Needs.{needs}
-use Prim.Native.Nat.{min}
 use native.Mathlib.Omega.{arith}
-use mathlib.Core.Path.{_≡_, sym, ap, _∙_}
-use Rattle.corner_list.specs.CornerList.{slices, placesOf}
+use mathlib.Core.Path.{sym, _∙_}
 use Rattle.merge_refusal.proofs.Judged.{judged-fits}
 use Rattle.merge.proofs.Answer.{merges-refused, merges-kept}
 use Rattle.merge.proofs.merge_within.Statement.{statement}
 use Rattle.merge.proofs.merge_within.Tie as tie
 
-places-requires : tie.Need-places-requires
-places-requires c κs = search needs
-
-fewer-requires : tie.Need-fewer-requires
-fewer-requires c κs = search needs
-
 refusal-requires : tie.Need-refusal-requires
 refusal-requires c κs = search needs
-
--- the places that count
-held : (c : tie.After-fewer)
-    → let a = c .before .before .before .before .before .args in
-    c .fewer .result ≡ min (a .places) (placesOf (slices (a .xs .now) (a .ys .now) (a .strengths .now)))
-held c = c .fewer .ensures ∙ ap (min _) (c .before .places .ensures)
 
 same-length : tie.Need-same-length
 same-length c = search needs
@@ -34,13 +20,12 @@ same-length-3 : tie.Need-same-length-3
 same-length-3 c = search needs
 
 returns : tie.Need-returns
-returns c =
-    merges-refused _ _ _ _ _ (held (c .before .before .before .before .before)) _ (c .before .refusal .ensures) (c .if1 .taken)
+returns c = merges-refused _ _ _ _ _ (c .before .refusal .ensures) (c .if1 .taken)
 
 merge-list-requires : tie.Need-merge-list-requires
 merge-list-requires c κs =
     let judged = c .before .before .before in
-    omega (arith, held (judged .before .before .before .before .before), judged-fits _ _ _ _ (sym (judged .before .refusal .ensures) ∙ judged .if1 .left))
+    omega (arith, judged-fits _ _ _ _ (sym (judged .before .refusal .ensures) ∙ judged .if1 .left))
 
 same-length-4 : tie.Need-same-length-4
 same-length-4 c = search needs
@@ -55,14 +40,12 @@ returns-2 : tie.Need-returns-2
 returns-2 c =
     let done = c .before .before .before .before .before .before in
     let judged = done .before .before .before .before in
-    merges-kept _ _ _ _ _ (held (judged .before .before .before .before .before)) _ _ _ (judged .before .refusal .ensures) (judged .if1 .left) (done .merge-list .ensures)
+    merges-kept _ _ _ _ _ _ _ (judged .before .refusal .ensures) (judged .if1 .left) (done .merge-list .ensures)
 
 pub merge-within-spec : {M : Type 1} → statement M
 merge-within-spec =
     tie.close
     (tie.spec
-    places-requires
-    fewer-requires
     refusal-requires
     same-length
     same-length-2
