@@ -23,7 +23,7 @@ use Rattle.merge.specs.declared.Merged.{Merged}
 use Rattle.merge.specs.declared.Merged.the-variants.{Kept}
 use Rattle.merge.specs.declared.Merged.the-variants as merged
 use Rattle.merge.specs.Merge as merge
-use Rattle.merge.proofs.Judged.{judged-none-off, judged-none-on}
+use Rattle.merge_refusal.proofs.Judged.{judged-none-off, judged-none-on}
 use Rattle.merge.proofs.Result.{result-length, merges-done}
 use Rattle.frame_pass.specs.declared.FrameParams.{FrameParams}
 use Rattle.frame_pass.specs.Pass.{Pass, framePass, computedChoice, levelsIn, seedsOf, foundOf}

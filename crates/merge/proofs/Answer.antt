@@ -7,7 +7,7 @@ use mathlib.Core.List.{List, []}
 use lib.ListN.{length}
 use lib.Ieee.{Float}
 use Rattle.corner_list.specs.declared.Corner.{Corner}
-use Rattle.corner_list.specs.CornerList.{Slices, placesOf, cornersOf}
+use Rattle.corner_list.specs.CornerList.{Slices, slices, placesOf, cornersOf}
 use Rattle.corner_list.proofs.Corners.{corners-length, corners-same}
 use Rattle.merge_grid.specs.declared.Grid.{Grid}
 use Rattle.merge.specs.declared.Merged.{Merged}
@@ -25,12 +25,12 @@ left-off radius b n e h = subst (λ (cs : List Corner). Left cs b n b) same (rec
     same : cornersOf b n ≡ resultOf radius (cornersOf b n)
     same = unfold resultOf in (rw e)
 
-pub left-on : (radius : Float) (b : Slices) (n : ℕ) (g : Grid) (k : ℕ) (b′ : Slices) → isOff radius ≡ false → g ≡ gridOf radius (cornersOf b n)
+pub left-on : (radius : Float) (b : Slices) (n : ℕ) (g : Grid) (k : ℕ) (b′ : Slices) → isOff radius ≡ false → ((strengths : List Float) → g ≡ gridOf radius (cornersOf (slices (b .xs) (b .ys) strengths) n))
     → Left (merged (joins g) [] (cornersOf b n)) b k b′ → Left (resultOf radius (cornersOf b n)) b k b′
 left-on radius b n g k b′ e is l = subst (λ (cs : List Corner). Left cs b k b′) same l
   where
     same : merged (joins g) [] (cornersOf b n) ≡ resultOf radius (cornersOf b n)
-    same = unfold resultOf in (rw (e, is))
+    same = unfold resultOf in (rw (e, is (b .strengths)))
 
 -- ---- the answer
 module _ (radius : Float) (places count : ℕ) (b : Slices) where

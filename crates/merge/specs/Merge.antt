@@ -8,7 +8,7 @@ use lib.Ieee.{Float, lt}
 use Rattle.corner_list.specs.declared.Corner.{Corner}
 use Rattle.corner_list.specs.CornerList.{Slices, cornersOf, frontCorners}
 use Rattle.merge_radius.specs.MergeRadius.{isOff}
-use Rattle.merge_refusal.specs.MergeRefusal.{refusalOf}
+unfoldable pub use Rattle.merge_refusal.specs.MergeRefusal.{refusalOf}
 use Rattle.merge_grid.specs.MergeGrid.{joins, gridOf}
 use Rattle.merge.specs.declared.Merged.{Merged}
 use Rattle.merge.specs.declared.Merged.the-variants.{Kept, Refused}

@@ -3,11 +3,10 @@ ghost use mathlib.Core.Path.{_≡_};
 ghost use mathlib.Core.List.{[]};
 ghost use Prim.Native.Nat.{_+_, _^_, _<_, _≤_};
 ghost use lib.ListN.{length};
-ghost use Rattle.corner_list.specs.CornerList.{slices, cornerAt, cornersOf, placesOf};
+ghost use Rattle.corner_list.specs.CornerList.{slices, cornersOf, placesOf};
 ghost use Rattle.merge_grid.specs.MergeGrid.{joins};
 ghost use Rattle.merge.specs.Merge.{merged, resultOf};
-ghost use Rattle.merge.specs.Search.{countWith, Settled, Left};
-ghost use Rattle.merge.specs.Index.{Indexed};
+ghost use Rattle.merge.specs.Search.{countWith, Left};
 use merge_grid::Grid;
 
 // How many corners are kept when one takes a place among the first k, or right behind them, or none.
@@ -16,30 +15,6 @@ fn count_with(k: usize, at: usize) -> usize
     ensures { λ r. ⌜ r ≡ countWith k at ⌝ }
 {
     if at == k { k + 1 } else { k }
-}
-
-// Settles the corner at place i among the first k corners of a buffer, which are indexed, and returns how many there are then.
-fn settle_in(
-    xs: &mut [f32],
-    ys: &mut [f32],
-    strengths: &mut [f32],
-    table: &mut [u32],
-    g: Grid,
-    floor: usize,
-    k: usize,
-    i: usize,
-) -> usize
-    requires { ⌜ k < placesOf (slices (now xs) (now ys) (now strengths)) ⌝ }
-    requires { ⌜ Indexed g floor (now table) (slices (now xs) (now ys) (now strengths)) k ⌝ }
-    ensures { λ n. ⌜ Settled (joins g) k (cornerAt (slices (now (xs .entry)) (now (ys .entry)) (now (strengths .entry))) i)
-        (slices (now (xs .entry)) (now (ys .entry)) (now (strengths .entry))) n
-        (slices (now (xs .exit)) (now (ys .exit)) (now (strengths .exit))) ⌝ }
-    ensures { λ n. ⌜ Indexed g floor (now (table .exit)) (slices (now (xs .exit)) (now (ys .exit)) (now (strengths .exit))) n ⌝ }
-{
-    let p = crate::search::placement_of(xs, ys, strengths, table, g, floor, k, i);
-    corner_list::put_corner(xs, ys, strengths, p.at, p.corner);
-    crate::index::list_place(table, g, p.at, p.corner);
-    count_with(k, p.at)
 }
 
 // Merges the first n corners of a buffer in place, with a table for their index, and returns how many are left.
@@ -60,27 +35,16 @@ fn merge_with(
     let mut floor = 0;
     for i in 0..n {
         floor = crate::index::refresh(xs, ys, strengths, table, g, floor, k, i, n);
-        k = settle_in(xs, ys, strengths, table, g, floor, k, i);
+        let p = crate::search::placement_of(xs, ys, strengths, table, g, floor, k, i);
+        corner_list::put_corner(xs, ys, strengths, p.at, p.corner);
+        crate::index::list_place(table, g, p.at, p.corner);
+        k = count_with(k, p.at);
     }
     k
 }
 
-// Merges the first n corners of a buffer in place, by a grid, and returns how many are left. The table stands on the stack: 4 KB for a
-// short list, 512 KB for a longer one.
-fn merge_in(xs: &mut [f32], ys: &mut [f32], strengths: &mut [f32], g: Grid, n: usize) -> usize
-    requires { ⌜ n ≤ placesOf (slices (now xs) (now ys) (now strengths)) ⌝ }
-    ensures { λ k. ⌜ Left (merged (joins g) [] (cornersOf (slices (now (xs .entry)) (now (ys .entry)) (now (strengths .entry))) n))
-        (slices (now (xs .entry)) (now (ys .entry)) (now (strengths .entry))) k (slices (now (xs .exit)) (now (ys .exit)) (now (strengths .exit))) ⌝ }
-{
-    if n <= 256 {
-        let mut table = [crate::index::EMPTY; 1024];
-        return merge_with(xs, ys, strengths, &mut table, g, n);
-    }
-    let mut table = [crate::index::EMPTY; 131072];
-    merge_with(xs, ys, strengths, &mut table, g, n)
-}
-
-// Merges the first n corners of a buffer in place, and returns how many are left. It judges nothing.
+// Merges the first n corners of a buffer in place, and returns how many are left. It judges nothing. The table stands on the stack: 4 KB for
+// a short list, 512 KB for a longer one.
 pub(crate) fn merge_list(
     xs: &mut [f32],
     ys: &mut [f32],
@@ -95,6 +59,11 @@ pub(crate) fn merge_list(
     if merge_radius::is_off(radius) {
         return n;
     }
-    let g = merge_grid::grid_of(xs, ys, strengths, n, radius);
-    merge_in(xs, ys, strengths, g, n)
+    let g = merge_grid::grid_of(xs, ys, n, radius);
+    if n <= 256 {
+        let mut table = [crate::index::EMPTY; 1024];
+        return merge_with(xs, ys, strengths, &mut table, g, n);
+    }
+    let mut table = [crate::index::EMPTY; 131072];
+    merge_with(xs, ys, strengths, &mut table, g, n)
 }

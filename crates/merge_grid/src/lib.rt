@@ -2,10 +2,10 @@
 // stored; the cell numbers decide.
 ghost use mathlib.Core.Path.{_≡_};
 ghost use mathlib.Core.Bool.{false};
-ghost use mathlib.Core.List.{[], _∷_};
+ghost use mathlib.Core.List.{List, [], _∷_};
 ghost use Prim.Native.Nat.{min};
 ghost use lib.ListN.{getD};
-ghost use lib.Ieee.{nan, inf};
+ghost use lib.Ieee.{Float, nan, inf};
 ghost use Rattle.lists.specs.Tab.{tab};
 ghost use Rattle.corner_list.specs.CornerList.{slices, cornersOf};
 ghost use Rattle.merge_grid.specs.MergeGrid.{cellOf, columnOf, rowOf, adjacent, neighbours, joins, leastFrom, gridOf};
@@ -45,9 +45,9 @@ fn least(vs: &[f32], n: usize) -> f32
     m
 }
 
-// The grid of a radius and the first n corners of a buffer.
-pub fn grid_of(xs: &[f32], ys: &[f32], strengths: &[f32], n: usize, radius: f32) -> Grid
-    ensures { λ g. ⌜ g ≡ gridOf radius (cornersOf (slices (now (xs .entry)) (now (ys .entry)) (now (strengths .entry))) n) ⌝ }
+// The grid of a radius and the first n corners of a buffer, whatever their strengths.
+pub fn grid_of(xs: &[f32], ys: &[f32], n: usize, radius: f32) -> Grid
+    ensures { λ g. ⌜ ((strengths : List Float) → g ≡ gridOf radius (cornersOf (slices (now (xs .entry)) (now (ys .entry)) strengths) n)) ⌝ }
 {
     Grid {
         left: least(xs, n),

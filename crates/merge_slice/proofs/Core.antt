@@ -9,7 +9,7 @@ use Rattle.corner_list.specs.declared.Corner.{Corner}
 use Rattle.corner_list.specs.CornerList.{Slices, placesOf, cornersOf, frontCorners}
 use Rattle.merge.specs.declared.Merged.{Merged}
 use Rattle.merge.specs.Merge.{resultOf, refusalOf, answerOf, bufferOf, Merges}
-use Rattle.merge.proofs.Judged.{judged-fits}
+use Rattle.merge_refusal.proofs.Judged.{judged-fits}
 use Rattle.merge_slice.specs.MergeSlice.{columns, sharedPlaces, cornersAfter, MergesSlice}
 use Rattle.merge_slice.proofs.Slice.{columns-corners, columns-front, columns-places}
 

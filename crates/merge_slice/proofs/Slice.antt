@@ -17,7 +17,7 @@ use Rattle.corner_list.specs.CornerList.{Slices, xOf, yOf, strengthOf, placesOf
 use Rattle.corner_list.proofs.Corners.{slices-alike, same-places, corners-length, corners-at, corners-front, corners-same, corners-again, front-xs, front-ys, front-strengths}
 use Rattle.merge.specs.declared.Merged.{Merged}
 use Rattle.merge.specs.Merge.{resultOf, refusalOf, answerOf, bufferOf, Merges}
-use Rattle.merge.proofs.Judged.{judged-fits}
+use Rattle.merge_refusal.proofs.Judged.{judged-fits}
 use Rattle.merge.proofs.Result.{result-length}
 use Rattle.merge_slice.specs.MergeSlice.{columns, sharedPlaces, refusalFor, cornersAfter, MergesSlice}
 use Rattle.merge_slice.proofs.Turns.{nowhere}

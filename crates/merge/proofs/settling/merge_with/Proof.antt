@@ -8,7 +8,8 @@ use Rattle.corner_list.specs.CornerList.{slices}
 use Rattle.merge_grid.specs.MergeGrid.{joins}
 use Rattle.merge.specs.Index.{Indexed}
 use Rattle.merge.proofs.Progress.{Progress, progress-none, progress-fits, progress-turn, progress-all, progress-xs, progress-ys, progress-strengths}
-use Rattle.merge.proofs.Indexing.{indexed-none}
+use Rattle.merge.proofs.Settle.{settled-put}
+use Rattle.merge.proofs.Indexing.{indexed-none, indexed-put}
 use Rattle.merge.proofs.settling.merge_with.Statement.{statement}
 use Rattle.merge.proofs.settling.merge_with.Tie as tie
 
@@ -25,29 +26,43 @@ loop-holds c = (progress-none _ _ _, indexed-none _ _ _ _ (c .before .before .be
 refresh-requires : tie.Need-refresh-requires Inv-loop μ-loop
 refresh-requires c κs = c .before .before .before .before .before .loop .inv .1
 
-settle-in-requires : tie.Need-settle-in-requires Inv-loop μ-loop
-settle-in-requires c κs =
+placement-of-requires : tie.Need-placement-of-requires Inv-loop μ-loop
+placement-of-requires c κs =
     let fresh = c .before .before .before .before .before .before in
     let turn = fresh .before .before .before .before .before in
     (progress-fits _ _ _ (turn .before .before .before .before .before .before .pre .0) _ _ _ (turn .before .loop .inv .0) (turn .loop-test .taken), fresh .refresh .ensures)
 
+put-corner-requires : tie.Need-put-corner-requires Inv-loop μ-loop
+put-corner-requires c κs = tt
+
+list-place-requires : tie.Need-list-place-requires Inv-loop μ-loop
+list-place-requires c κs = c .before .before .before .before .before .before .before .before .before .before .before .before .before .before .before .before .before .before .refresh .ensures .some
+
+count-with-requires : tie.Need-count-with-requires Inv-loop μ-loop
+count-with-requires c κs =
+    let turn = c .before .before .before .before .before .before .before .before .before .before .before .before .before .before .before .before .before .before .before .before .before .before .before .before .before .before in
+    omega (arith, turn .loop-test .taken, turn .before .loop .inv .0 .few, turn .before .before .before .before .before .before .fits .n)
+
 add-i : tie.Need-add-i Inv-loop μ-loop
 add-i c =
-    let turn = c .before .before .before .before .before .before .before .before .before .before .before .before .before .before .before .before .before .before .before .before in
+    let turn = c .before .before .before .before .before .before .before .before .before .before .before .before .before .before .before .before .before .before .before .before .before .before .before .before .before .before .before in
     omega (arith, turn .loop-test .taken, turn .before .before .before .before .before .before .fits .n)
 
 loop-less : tie.Need-loop-less Inv-loop μ-loop
-loop-less c = omega arith
+loop-less c = omega (arith, c .before .before .before .before .before .before .before .before .before .before .before .before .before .before .before .before .before .before .before .before .before .before .before .before .before .before .before .loop-test .taken)
 
 loop-again : tie.Need-loop-again Inv-loop μ-loop
 loop-again c =
-    let settled = c .before .before .before .before .before .before .before .before in
-    let fresh = settled .before .before .before .before .before .before .before in
+    let listed = c .before .before .before in
+    let put = listed .before .before .before .before .before .before .before .before in
+    let found = put .before .before .before .before in
+    let fresh = found .before .before .before .before .before .before .before in
     let turn = fresh .before .before .before .before .before in
     let inv = turn .before .loop .inv in (
-      progress-turn _ _ _ (turn .before .before .before .before .before .before .pre .0) _ _ _ (inv .0) _ _ (turn .loop-test .taken) (settled .settle-in .ensures .0),
-      settled .settle-in .ensures .1,
-      settled .settle-in .kept .1 .1 .1 .0 ∙ fresh .refresh .kept .1 .1 .1 .0 ∙ inv .2,
+      progress-turn _ _ _ (turn .before .before .before .before .before .before .pre .0) _ _ _ (inv .0) _ _ (turn .loop-test .taken)
+          (settled-put _ _ _ _ _ _ _ _ (found .placement-of .ensures .0) (found .placement-of .ensures .1) (c .count-with .ensures) (put .put-corner .ensures)),
+      indexed-put _ _ _ _ _ (fresh .refresh .ensures) _ _ (found .placement-of .ensures .1 .known) _ _ (put .put-corner .ensures) (listed .list-place .ensures) _ (c .count-with .ensures),
+      listed .list-place .ensures .long ∙ fresh .refresh .kept .1 .1 .1 .0 ∙ inv .2,
     )
 
 same-length : tie.Need-same-length Inv-loop μ-loop
@@ -77,7 +92,10 @@ merge-with-spec =
     μ-loop
     loop-holds
     refresh-requires
-    settle-in-requires
+    placement-of-requires
+    put-corner-requires
+    list-place-requires
+    count-with-requires
     add-i
     loop-less
     loop-again
