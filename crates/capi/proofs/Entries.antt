@@ -14,8 +14,8 @@ use Rattle.detect.specs.Detect as detect
 use Rattle.merge.specs.declared.Merged.{Merged}
 use Rattle.merge.specs.Merge as merge
 use Rattle.pyramid.specs.declared.Pyramid.{Pyramid}
-use Rattle.pyramid.specs.Pyramid.{levelCount}
-use Rattle.pyramid.specs.Refusals.{buildRefusal}
+use Rattle.pyramid_levels.specs.Levels.{levelCount}
+use Rattle.pyramid_levels.specs.Refusals.{buildRefusal}
 use Rattle.pyramid.specs.Build as pyramid
 use Rattle.center_of_mass.specs.declared.Outcome.{Outcome}
 use Rattle.center_of_mass.specs.CenterOfMass as center_of_mass

@@ -4,7 +4,7 @@ use mathlib.Core.Path.{_≡_}
 use mathlib.Core.List.{List}
 use Rattle.pyramid.specs.declared.Pyramid.{Pyramid}
 use Rattle.pyramid.specs.declared.Pyramid.the-variants.{Levels, Refused}
-use Rattle.pyramid.specs.Pyramid.{levelCount}
+use Rattle.pyramid_levels.specs.Levels.{levelCount}
 use Rattle.pyramid.specs.Build.{answerOf, Built}
 use Rattle.capi.specs.Results.{resultOr}
 

@@ -1,7 +1,7 @@
 // The half-size levels of an image.
 use pyramid::Pyramid;
 ghost use mathlib.Core.Path.{_≡_};
-ghost use Rattle.pyramid.specs.Pyramid.{levelCount, cellsAbove, capped};
+ghost use Rattle.pyramid_levels.specs.Levels.{levelCount, cellsAbove, capped};
 ghost use Rattle.pyramid.specs.Build.{numberOf};
 ghost use Rattle.capi.specs.Levels.{builtOf, LevelsBuilt};
 
@@ -30,7 +30,7 @@ fn built_of(a: Pyramid, before: usize) -> usize
 pub extern "C" fn zakdomp_level_bytes(w: usize, h: usize, count: u32, minimum: usize) -> usize
     ensures { λ r. ⌜ r ≡ capped (cellsAbove w h (levelCount w h count minimum)) ⌝ }
 {
-    pyramid::cells_above(w, h, count, minimum)
+    pyramid_levels::cells_above(w, h, count, minimum)
 }
 
 // Builds the levels above an image first in `levels`, and puts their number, the image included, into `built`.

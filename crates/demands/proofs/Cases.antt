@@ -4,7 +4,8 @@ use mathlib.Core.List.{map}
 use lib.Ieee.{mul, le, ofInt}
 use Rattle.multiscale.specs.Multiscale.{roiOf}
 use Rattle.lists.specs.Tab.{tab, grid}
-use Rattle.pyramid.specs.Pyramid.{halfPixel, halved, halvings, levelCount}
+use Rattle.pyramid_levels.specs.Levels.{halvings, levelCount}
+use Rattle.pyramid.specs.Pyramid.{halfPixel, halved}
 use Rattle.ring.specs.Ring.{ring5}
 use Rattle.response.specs.Response.{samples}
 use Rattle.response.specs.Exact.{fifthsAt}

@@ -9,8 +9,8 @@ use mathlib.Core.List.{List, [], _∷_}
 use lib.ListN.{length}
 use borrow.Author.Tests.{le-ltb, eq-eqb}
 use Rattle.lists.specs.Refusals.{lowest}
-use Rattle.pyramid.specs.Pyramid.{levelCount, cellsAbove}
-use Rattle.pyramid.proofs.Cells.{cells-le}
+use Rattle.pyramid_levels.specs.Levels.{levelCount, cellsAbove}
+use Rattle.pyramid_levels.proofs.Cells.{cells-le}
 use Rattle.merge_radius.specs.MergeRadius.{radiusOutside}
 use Rattle.frame_pass.specs.Refusals.{parametersFit, conditions}
 use Rattle.frame_pass.specs.Pass.{Pass, framePass, computedChoice}

@@ -16,12 +16,12 @@ use Rattle.response.specs.declared.Patch.the-variants as patch
 use Rattle.response.specs.Patch as response
 use Rattle.pyramid.specs.declared.Pyramid.{Pyramid}
 use Rattle.pyramid.specs.declared.Pyramid.the-variants as built
-use Rattle.pyramid.specs.declared.LevelAnswer.{LevelAnswer}
-use Rattle.pyramid.specs.declared.LevelAnswer.the-variants as level
-use Rattle.pyramid.specs.Pyramid.{levelCount}
-use Rattle.pyramid.specs.Refusals.{isAbsent, isShort, buildRefusal, levelRefusal}
+use Rattle.pyramid_levels.specs.declared.LevelAnswer.{LevelAnswer}
+use Rattle.pyramid_levels.specs.declared.LevelAnswer.the-variants as level
+use Rattle.pyramid_levels.specs.Levels.{levelCount}
+use Rattle.pyramid_levels.specs.Refusals.{isAbsent, isShort, buildRefusal, levelRefusal}
 use Rattle.pyramid.specs.Build as build
-use Rattle.pyramid.specs.Level as lookup
+use Rattle.pyramid_levels.specs.Level as lookup
 use Rattle.corner_list.specs.declared.Corner.{Corner}
 use Rattle.corner_list.specs.CornerList.{Slices, isInside, placesOf, cornersOf}
 use Rattle.detect.specs.declared.Peaks.{Peaks}

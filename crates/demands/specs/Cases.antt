@@ -9,7 +9,8 @@ use Rattle.float32.specs.Float32 as float32
 use Rattle.corner_list.specs.declared.Corner.{Corner}
 use Rattle.multiscale.specs.declared.RoiContext.{RoiContext}
 use Rattle.multiscale.specs.Multiscale.{roiOf, numberOf, valuesOf}
-use Rattle.pyramid.specs.Pyramid.{halved, levelSide, levelCount}
+use Rattle.pyramid_levels.specs.Levels.{levelSide, levelCount}
+use Rattle.pyramid.specs.Pyramid.{halved}
 use Rattle.ring.specs.Ring.{ring5}
 use Rattle.response.specs.Exact.{fifthsAt}
 

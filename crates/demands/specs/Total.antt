@@ -7,7 +7,8 @@
 --   ring            ring_offsets, is_ring
 --   float32         abs, is_finite, lifted, is_between, from_bits, to_bits, cut_off, round_half_away
 --   corner_list     is_inside, corner_at, put_corner, places
---   pyramid         level_count, cells_above, level (nothing where `level_at` refuses)
+--   pyramid_levels  level_count, cells_before, cells_above, build_fault and level_fault (the number alone)
+--   pyramid         level (nothing where `level_at` refuses)
 --   merge_radius    is_off, is_sized, is_outside
 --   clearing        clear, clear_bytes, clear_list
 --   frame_pass      refusal (the number before the pass)
@@ -25,10 +26,10 @@ use Rattle.response.specs.declared.Patch.the-variants as response
 use Rattle.response.specs.Patch.{Patched}
 use Rattle.pyramid.specs.declared.Pyramid.{Pyramid}
 use Rattle.pyramid.specs.declared.Pyramid.the-variants as pyramid
-use Rattle.pyramid.specs.declared.LevelAnswer.{LevelAnswer}
-use Rattle.pyramid.specs.declared.LevelAnswer.the-variants as levels
+use Rattle.pyramid_levels.specs.declared.LevelAnswer.{LevelAnswer}
+use Rattle.pyramid_levels.specs.declared.LevelAnswer.the-variants as levels
 use Rattle.pyramid.specs.Build.{Built}
-use Rattle.pyramid.specs.Level.{levelAnswer}
+use Rattle.pyramid_levels.specs.Level.{levelAnswer}
 use Rattle.corner_list.specs.declared.Corner.{Corner}
 use Rattle.corner_list.specs.CornerList.{Slices, placesOf}
 use Rattle.detect.specs.declared.Peaks.{Peaks}

@@ -15,7 +15,7 @@ use Rattle.pyramid.specs.Pyramid.{above}
 use Rattle.pyramid.specs.Build.{Built}
 use Rattle.pyramid.specs.declared.Pyramid.{Pyramid}
 use Rattle.pyramid.specs.declared.Pyramid.the-variants as pyramid
-use Rattle.pyramid.proofs.Refusals.{Accepted}
+use Rattle.pyramid_levels.proofs.Refusals.{Accepted}
 use Rattle.pyramid.proofs.Levels.{builds}
 use Rattle.corner_list.specs.CornerList.{Slices, placesOf, isInside, cornersOf, frontCorners}
 use Rattle.corner_list.proofs.Corners.{corners-front, front-xs, front-ys, front-strengths, same-places}

@@ -14,11 +14,12 @@ use Rattle.lists.proofs.Buffer.{placed-first}
 use Rattle.lists.proofs.Tests.{or-right}
 use Rattle.ring.specs.Ring.{ringOf}
 use Rattle.response.specs.Patch.{View}
-use Rattle.pyramid.specs.Level.{levelAnswer, levelIn}
-use Rattle.pyramid.specs.Pyramid.{levelSide}
-use Rattle.pyramid.specs.declared.LevelAnswer.{LevelAnswer}
-use Rattle.pyramid.specs.declared.LevelAnswer.the-variants as level
-use Rattle.pyramid.proofs.Sides.{side-le}
+use Rattle.pyramid_levels.specs.Level.{levelAnswer}
+use Rattle.pyramid.specs.Level.{levelIn}
+use Rattle.pyramid_levels.specs.Levels.{levelSide}
+use Rattle.pyramid_levels.specs.declared.LevelAnswer.{LevelAnswer}
+use Rattle.pyramid_levels.specs.declared.LevelAnswer.the-variants as level
+use Rattle.pyramid_levels.proofs.Sides.{side-le}
 use Rattle.pyramid.proofs.Levels.{level-place, level-found, levels-few}
 use Rattle.corner_list.specs.declared.Corner.{Corner}
 use Rattle.corner_list.specs.CornerList.{Slices, xOf, yOf, strengthOf, placesOf, cornersOf, frontCorners, placedCorners}

@@ -11,7 +11,7 @@ use detect::Peaks;
 use frame_pass::FrameParams;
 use multiscale::RoiAnswer;
 use multiscale::RoiContext;
-use pyramid::LevelAnswer;
+use pyramid_levels::LevelAnswer;
 use response::Patch;
 
 // The columns x0 up to, not including, x1 of the rows y0 up to y1.
@@ -193,7 +193,7 @@ pub(crate) fn search<'a>(
         return Lists::Found(0, 0);
     }
     let k = n - 1;
-    let a = pyramid::level_at(img.len(), levels.len(), w, h, p.levels, p.minimum, k);
+    let a = pyramid_levels::level_at(img.len(), levels.len(), w, h, p.levels, p.minimum, k);
     let LevelAnswer::Level {
         from: _,
         width: lw,

@@ -9,7 +9,7 @@ use lib.Ieee.{Float}
 use Rattle.lists.specs.Places.{All}
 use Rattle.lists.proofs.Members.{all-map, all-mapped, all-flat, all-of}
 use Rattle.ring.specs.Ring.{ringOf}
-use Rattle.pyramid.proofs.Sides.{count-few}
+use Rattle.pyramid_levels.proofs.Sides.{count-few}
 use Rattle.response.specs.Patch.{View, cols, rows, cells}
 use Rattle.response.proofs.Outcome.{cols-le, rows-le}
 use Rattle.response.proofs.Map.{box-cols, box-rows}

@@ -16,9 +16,10 @@ use Rattle.response.specs.Response.{floatOf}
 use Rattle.response.specs.Patch.{View, cells}
 use Rattle.accuracy.specs.Accurate.{Bytes}
 use Rattle.accuracy.proofs.Cells.{map-small}
-use Rattle.pyramid.specs.Pyramid.{levelSide, levelPixels}
-use Rattle.pyramid.proofs.Sides.{side-le}
-use Rattle.pyramid.proofs.Cells.{length-level}
+use Rattle.pyramid_levels.specs.Levels.{levelSide}
+use Rattle.pyramid.specs.Pyramid.{levelPixels}
+use Rattle.pyramid_levels.proofs.Sides.{side-le}
+use Rattle.pyramid.proofs.Lengths.{length-level}
 use Rattle.pyramid.proofs.Levels.{level-bytes}
 use Rattle.center_of_mass.specs.Range.{Usual}
 use Rattle.multiscale.specs.declared.RoiAnswer.{RoiAnswer}

@@ -13,9 +13,9 @@ use Rattle.lists.proofs.Tests.{and-all}
 use Rattle.lists.proofs.Refusals.{all-clear, lowest-le, sized-of}
 use Rattle.ring.specs.Ring.{isRing}
 use Rattle.accuracy.specs.Accurate.{Bytes}
-use Rattle.pyramid.specs.Pyramid.{levelCount, cellsAbove, capped}
-use Rattle.pyramid.proofs.Cells.{cells-exact}
-use Rattle.pyramid.proofs.Refusals.{Accepted}
+use Rattle.pyramid_levels.specs.Levels.{levelCount, cellsAbove, capped}
+use Rattle.pyramid_levels.proofs.Cells.{cells-exact}
+use Rattle.pyramid_levels.proofs.Refusals.{Accepted}
 use Rattle.merge_radius.specs.MergeRadius.{isOff, isSized, radiusOutside}
 use Rattle.frame_pass.specs.declared.FrameParams.{FrameParams}
 use Rattle.frame_pass.specs.Refusals.{parametersFit, conditions}

@@ -8,7 +8,8 @@ use Rattle.lists.specs.Places.{Place, flatMap}
 use Rattle.ring.specs.Ring.{ringOf}
 use Rattle.response.specs.Patch.{View, whole, cols, rows, cells}
 use Rattle.response.specs.Exact.{fifthsIn}
-use Rattle.pyramid.specs.Pyramid.{levelSide, levelPixels, levelCount}
+use Rattle.pyramid_levels.specs.Levels.{levelSide, levelCount}
+use Rattle.pyramid.specs.Pyramid.{levelPixels}
 use Rattle.corner_list.specs.declared.Corner.{Corner}
 use Rattle.detect.specs.declared.Search.{Search}
 use Rattle.detect.specs.Detect.{searchOf, peaksIn, startAt}

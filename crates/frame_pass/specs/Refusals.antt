@@ -5,7 +5,7 @@ use mathlib.Core.List.{List, [], _∷_}
 use lib.Dec.{leb, ltb}
 use Rattle.lists.specs.Refusals.{isLarge, isMisfit}
 use Rattle.ring.specs.Ring.{isRing}
-use Rattle.pyramid.specs.Refusals.{isShort}
+use Rattle.pyramid_levels.specs.Refusals.{isShort}
 use Rattle.merge_radius.specs.MergeRadius.{radiusOutside}
 use Rattle.frame_pass.specs.declared.FrameParams.{FrameParams}
 

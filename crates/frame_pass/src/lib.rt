@@ -56,7 +56,7 @@ pub fn refusal(pixels: usize, w: usize, h: usize, p: FrameParams, cells: usize, 
     if cells < w * h {
         return 8;
     }
-    if places < pyramid::cells_above(w, h, p.levels, p.minimum) {
+    if places < pyramid_levels::cells_above(w, h, p.levels, p.minimum) {
         return 9;
     }
     0

@@ -8,28 +8,12 @@ use mathlib.Core.List.{List, _++_, append-assoc}
 use lib.ListN.{length, take, drop}
 use lib.Seq.{take-all, take-at, drop-at}
 use Rattle.lists.specs.Buffer.{front}
-use Rattle.pyramid.specs.Pyramid.{levelPixels, levelCells, cellsAbove, above}
+use Rattle.pyramid_levels.specs.Levels.{levelCells, cellsAbove}
+use Rattle.pyramid_levels.proofs.Cells.{cells-base, cells-mono}
+use Rattle.pyramid.specs.Pyramid.{levelPixels, above}
 use Rattle.pyramid.specs.Level.{levelPart}
 use Rattle.pyramid.specs.Needs.{holderOf}
-use Rattle.pyramid.proofs.Cells.{cells-base, length-higher, length-above}
-
--- ---- where the levels begin and end
-
--- level k ends where the next one begins
-pub cells-step : (w h k : ℕ) → (k ≡ 0 → ⊥) → cellsAbove w h (suc k) ≡ cellsAbove w h k + levelCells w h k
-unfolding cellsAbove
-cells-step w h zero z = absurd (z refl)
-cells-step w h (suc k) z = refl
-
-cells-up : (w h n : ℕ) → cellsAbove w h n ≤ cellsAbove w h (suc n)
-unfolding cellsAbove
-cells-up w h zero = omega arith
-cells-up w h (suc n) = omega arith
-
-pub cells-mono : (w h k n : ℕ) → k ≤ n → cellsAbove w h k ≤ cellsAbove w h n
-cells-mono w h k zero l = let z : k ≡ 0 = omega arith in rw z (omega arith)
-cells-mono w h k (suc n) l =
-    ⊎-elim (λ (e : k ≡ suc n). rw e (omega arith)) (λ (m : k < suc n). omega (arith, cells-mono w h k n (le-of-suc-le-suc m), cells-up w h n)) (eq-or-lt-of-le l)
+use Rattle.pyramid.proofs.Lengths.{length-higher, length-above}
 
 -- level k lies in the slice that holds it
 pub level-inside : (base s : List ℕ) (w h n k : ℕ) → length base ≡ w * h → cellsAbove w h n ≤ length s → k < n → cellsAbove w h k + levelCells w h k ≤ length (holderOf base s k)

@@ -7,16 +7,17 @@ use mathlib.Core.List.{List}
 use lib.ListN.{length, drop}
 use borrow.Author.Tests.{ne-eqb}
 use Rattle.lists.specs.Buffer.{front, placed}
-use Rattle.lists.specs.Refusals.{Sized}
 use Rattle.lists.proofs.Buffer.{front-more}
-use Rattle.pyramid.specs.Pyramid.{halved, levelSide, levelPixels, levelCount, cellsAbove, capped, above}
-use Rattle.pyramid.specs.Refusals.{buildRefusal}
+use Rattle.pyramid_levels.specs.Levels.{levelSide, levelCount, cellsAbove}
+use Rattle.pyramid_levels.specs.Refusals.{buildRefusal}
+use Rattle.pyramid_levels.proofs.Sides.{side-base, side-next}
+use Rattle.pyramid_levels.proofs.Cells.{cells-next, cells-step, cells-mono}
+use Rattle.pyramid.specs.Pyramid.{halved, levelPixels, above}
 use Rattle.pyramid.specs.Build.{Built}
 use Rattle.pyramid.specs.Needs.{holderOf, Halving, LevelHalved, Filled}
 use Rattle.pyramid.specs.declared.Pyramid.the-variants.{Levels, Refused}
-use Rattle.pyramid.proofs.Sides.{side-base, side-next}
-use Rattle.pyramid.proofs.Cells.{cells-next, above-last, length-above, cells-exact}
-use Rattle.pyramid.proofs.Above.{cells-step, cells-mono, level-inside, part-is, level-built}
+use Rattle.pyramid.proofs.Lengths.{above-last, length-above}
+use Rattle.pyramid.proofs.Above.{level-inside, part-is, level-built}
 use Rattle.pyramid.proofs.Halving.{halved-take}
 
 -- ---- level by level: level k, of a by b, is the last one built
@@ -89,7 +90,3 @@ module _ (base : List ℕ) (w h count least : ℕ) (d : List ℕ) where
   pub built-filled : (n : ℕ) (s : List ℕ) → buildRefusal (length base) (length d) w h count least ≡ 0 → n ≡ levelCount w h count least → Filled base w h n d s
       → Built base w h count least d (Levels n) s
   built-filled n s e q f = record { answer = rw (e, q); buffer = f .is ∙ rw q }
-
--- what a usize holds of the pixels above an image that is not refused
-pub cells-known : (pixels w h count least n r : ℕ) → Sized pixels w h → n ≡ levelCount w h count least → r ≡ capped (cellsAbove w h n) → r ≡ cellsAbove w h (levelCount w h count least)
-cells-known pixels w h count least n r i q e = e ∙ cells-exact w h n (i .narrow) (i .low) ∙ ap (cellsAbove w h) q

@@ -1,5 +1,5 @@
 -- What a caller of the pyramid can use: an answer taken apart, a level looked up in the buffer that was built, and its bytes. The laws of
--- sides and of lengths stand in Sides and Cells. Assumes nothing.
+-- lengths stand in Lengths. Assumes nothing.
 use Prim.Native.Nat.{ℕ, zero, suc, _*_, _/_, _<_, _≤_}
 use native.Mathlib.Omega.{arith}
 use mathlib.Core.Path.{_≡_, refl, sym, ap, _∙_}
@@ -9,18 +9,20 @@ use borrow.Author.Tests.{ne-eqb}
 use Rattle.lists.specs.Buffer.{front}
 use Rattle.lists.proofs.Tab.{getD-grid-any}
 use Rattle.lists.proofs.Buffer.{front-length}
-use Rattle.pyramid.specs.Pyramid.{boxOf, halfPixel, halved, levelSide, levelPixels, levelCount, cellsAbove, above}
-use Rattle.pyramid.specs.Refusals.{buildRefusal, levelRefusal}
+use Rattle.pyramid_levels.specs.Levels.{levelSide, levelCount, cellsAbove}
+use Rattle.pyramid_levels.specs.Refusals.{buildRefusal, levelRefusal}
+use Rattle.pyramid_levels.specs.Level.{levelAnswer}
+use Rattle.pyramid_levels.specs.declared.LevelAnswer.the-variants.{Level}
+use Rattle.pyramid_levels.proofs.Sides.{side-le, count-few}
+use Rattle.pyramid_levels.proofs.Refusals.{Accepted, accepts, accepted, level-accepts}
+use Rattle.pyramid_levels.proofs.Answers.{answer-level}
+use Rattle.pyramid.specs.Pyramid.{boxOf, halfPixel, halved, levelPixels, above}
 use Rattle.pyramid.specs.Build.{answerOf, numberOf, Built}
-use Rattle.pyramid.specs.Level.{levelAnswer, levelIn}
+use Rattle.pyramid.specs.Level.{levelIn}
 use Rattle.pyramid.specs.declared.Pyramid.{Pyramid}
 use Rattle.pyramid.specs.declared.Pyramid.the-variants.{Levels, Refused}
-use Rattle.pyramid.specs.declared.LevelAnswer.the-variants.{Level}
-use Rattle.pyramid.proofs.Sides.{side-le, count-few}
-use Rattle.pyramid.proofs.Cells.{length-above, length-level}
-use Rattle.pyramid.proofs.Refusals.{Accepted, accepts, accepted, level-accepts}
+use Rattle.pyramid.proofs.Lengths.{length-above, length-level}
 use Rattle.pyramid.proofs.Above.{level-built}
-use Rattle.pyramid.proofs.Lookup.{answer-level}
 
 -- the level buffer d after a pyramid of n levels was built over a base of w by h
 pub record Complete (base : List ℕ) (w h count least : ℕ) (d e : List ℕ) (n : ℕ) : Type 0 where

@@ -6,8 +6,9 @@ use mathlib.Core.List.{List}
 use lib.Dec.{eqb}
 use lib.ListN.{length}
 use Rattle.lists.specs.Buffer.{front}
-use Rattle.pyramid.specs.Pyramid.{levelCount, above}
-use Rattle.pyramid.specs.Refusals.{buildRefusal}
+use Rattle.pyramid_levels.specs.Levels.{levelCount}
+use Rattle.pyramid_levels.specs.Refusals.{buildRefusal}
+use Rattle.pyramid.specs.Pyramid.{above}
 use Rattle.pyramid.specs.declared.Pyramid.{Pyramid}
 use Rattle.pyramid.specs.declared.Pyramid.the-variants.{Levels, Refused}
 

@@ -1,5 +1,4 @@
 pub mod Pyramid
-pub mod Refusals
 pub mod Build
 pub mod Level
 pub mod Needs

@@ -3,7 +3,7 @@ ghost use mathlib.Core.Path.{_≡_};
 ghost use Prim.Native.Nat.{ℕ, _+_, _*_, _/_, _<_, _≤_, min};
 ghost use lib.ListN.{length, getD};
 ghost use Rattle.lists.specs.Tab.{tab};
-ghost use Rattle.pyramid.specs.Pyramid.{cellsAbove};
+ghost use Rattle.pyramid_levels.specs.Levels.{cellsAbove};
 ghost use Rattle.pyramid.specs.Needs.{holderOf, Halving, Summed, RowHalved, LevelHalved, Filled};
 
 fn lesser(a: usize, b: usize) -> usize
@@ -19,7 +19,7 @@ fn wide(b: u8) -> u16
 }
 
 // The slice that level k lies in.
-pub(crate) fn holder<'a>(base: &'a [u8], levels: &'a [u8], k: usize) -> &'a [u8]
+fn holder<'a>(base: &'a [u8], levels: &'a [u8], k: usize) -> &'a [u8]
     ensures { λ r. ⌜ now r ≡ holderOf (now (base .entry)) (now (levels .entry)) k ⌝ }
 {
     if k == 0 {

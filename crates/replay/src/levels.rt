@@ -5,8 +5,8 @@ use crate::cursor::Cursor;
 use crate::cursor::count;
 use crate::cursor::part;
 use crate::cursor::word;
-use pyramid::LevelAnswer;
 use pyramid::Pyramid;
+use pyramid_levels::LevelAnswer;
 
 // The longest base whose levels are looked up, and the longest level buffer.
 const PIXELS: usize = 40000;
@@ -106,12 +106,12 @@ impl Question {
         if 4096 < self.height {
             return 0;
         }
-        pyramid::level_count(self.width, self.height, self.count, self.minimum)
+        pyramid_levels::level_count(self.width, self.height, self.count, self.minimum)
     }
 
     // Where the level lies, for a base and a level buffer of these lengths.
     fn place(self, pixels: usize, places: usize) -> LevelAnswer {
-        pyramid::level_at(
+        pyramid_levels::level_at(
             pixels,
             places,
             self.width,

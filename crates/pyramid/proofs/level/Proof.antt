@@ -1,90 +1,80 @@
--- `pyramid::level` meets its contract: the answer of `level_at` says which part of which slice is handed back. Assumes nothing.
-use Prim.Native.Nat.{_+_, _*_, _^_, _<_, _≤_}
+-- `pyramid::level` meets its contract: nothing where the level is refused, the base, or the part of the buffer where the level lies. Assumes
+-- nothing.
 use native.Mathlib.Omega.{arith}
-use mathlib.Core.Path.{sym, _∙_}
+use mathlib.Core.Path.{_≡_, sym, _∙_}
 use lib.ListN.{length}
-use Rattle.pyramid.proofs.Halving.{holder-short}
-use Rattle.pyramid.proofs.Lookup.{Placed, refused-empty, level-placed, placed-inside, placed-part}
 use borrow.Author.Needs.{needs}
+use Rattle.pyramid_levels.specs.Refusals.{levelRefusal}
+use Rattle.pyramid_levels.proofs.Refusals.{level-few}
+use Rattle.pyramid.proofs.Lookup.{Between, level-refused, level-base, level-between, level-higher}
 use Rattle.pyramid.proofs.level.Statement.{statement}
 use Rattle.pyramid.proofs.level.Tie as tie
 
-level-at-requires : tie.Need-level-at-requires
-level-at-requires c κs = search needs
+level-fault-requires : tie.Need-level-fault-requires
+level-fault-requires c κs = search needs
 
-enum-known-a : tie.Need-enum-known-a
-enum-known-a c = search needs
-
-enum-told : tie.Need-enum-told
-enum-told c = search needs
-
-sub-result : tie.Need-sub-result
-sub-result c = search needs
-
-part-result-start : tie.Need-part-result-start
-part-result-start c = search needs
-
-part-result-end : tie.Need-part-result-end
-part-result-end c = search needs
+slice-aggregate-result : tie.Need-slice-aggregate-result
+slice-aggregate-result c = search needs
 
 returns : tie.Need-returns
-returns c = refused-empty (c .before .before .before .before .before .before .args .base .now) (c .before .before .before .before .before .before .args .levels .now) _ _ _ _ _ _ (sym (c .before .before .before .level-at .ensures) ∙ c .before .enum-told .given .1)
-
-holder-requires : tie.Need-holder-requires
-holder-requires c κs = search needs
+returns c =
+    let a = c .before .before .before .before .before .args in
+    level-refused (a .base .now) (a .levels .now) _ _ _ _ _ _ (c .before .before .level-fault .ensures) (c .before .if1 .taken)
 
 -- the entry
-abbrev start : tie.After-holder → tie.Start
-start c = c .before .before .before .before .before .before .before
+abbrev start : tie.Else1 → tie.Start
+start c = c .before .before .before .before
 
--- where the level lies
-place : (c : tie.After-holder) → Placed (length (start c .args .base .now)) (length (start c .args .levels .now)) (start c .args .width) (start c .args .height) (start c .args .num-levels) (start c .args .min-size) (start c .args .k) (c .before .before .a .given .0 .0) (c .before .before .a .given .0 .1 .0) (c .before .before .a .given .0 .1 .1 .0)
-place c = level-placed _ _ _ _ _ _ _ _ _ _ (sym (c .before .before .before .before .level-at .ensures) ∙ c .before .before .a .given .1)
-
-inside : (c : tie.After-holder) → c .before .before .a .given .0 .0 + c .before .before .a .given .0 .1 .0 * c .before .before .a .given .0 .1 .1 .0 ≤ length (c .holder .result .now)
-inside c =
-    let a = start c .args in
-    rw (c .holder .ensures) (placed-inside (a .base .now) (a .levels .now) _ _ _ _ _ _ _ _ (place c))
-
-short : (c : tie.After-holder) → length (c .holder .result .now) < 2 ^ 64
-short c =
-    let a = start c .args in
-    let g = start c .good in
-    rw (c .holder .ensures) (holder-short (a .base .now) (a .levels .now) (a .k) (2 ^ 64) (g .0 .0) (g .1 .0 .0))
-
-mul-end : tie.Need-mul-end
-mul-end c = record { fits = omega (arith, inside c, short c) }
-
-add-end : tie.Need-add-end
-add-end c = record { fits = omega (arith, inside c, short c) }
-
-sub-result-2 : tie.Need-sub-result-2
-sub-result-2 c = search needs
-
-part-result-start-2 : tie.Need-part-result-start-2
-part-result-start-2 c = search needs
-
-part-result-end-2 : tie.Need-part-result-end-2
-part-result-end-2 c = inside c
+-- nothing refuses the level
+free : (c : tie.Else1) → levelRefusal (length (start c .args .base .now)) (length (start c .args .levels .now)) (start c .args .width) (start c .args .height) (start c .args .num-levels) (start c .args .min-size) (start c .args .k) ≡ 0
+free c = sym (c .before .level-fault .ensures) ∙ c .if1 .left
 
 returns-2 : tie.Need-returns-2
-returns-2 c = let a = c .before .before .before .before .before .before .before .before .args in placed-part (a .base .now) (a .levels .now) _ _ _ _ _ _ _ _ (place (c .before)) _ (c .before .holder .ensures)
+returns-2 c = let a = start (c .before) .args in level-base (a .base .now) (a .levels .now) _ _ _ _ _ (free (c .before)) (c .if2 .taken)
+
+cells-before-requires : tie.Need-cells-before-requires
+cells-before-requires c κs = search needs
+
+add-cells-before : tie.Need-add-cells-before
+add-cells-before c = record { fits = omega (arith, level-few _ _ _ _ _ _ _ (free (c .before .before))) }
+
+cells-before-requires-2 : tie.Need-cells-before-requires-2
+cells-before-requires-2 c κs = search needs
+
+-- where the level begins and ends
+between : (c : tie.After-cells-before2) → Between (start (c .before .before .before) .args .levels .now) (start (c .before .before .before) .args .width) (start (c .before .before .before) .args .height) (start (c .before .before .before) .args .k) (c .before .cells-before .result) (c .cells-before2 .result)
+between c =
+    let p = c .before .before .before in
+    let a = start p .args in
+    level-between (a .base .now) (a .levels .now) _ _ _ _ _ (free p) _ _ (c .before .before .if2 .left) (c .before .cells-before .ensures) (c .cells-before2 .ensures)
+
+sub-result : tie.Need-sub-result
+sub-result c = omega (arith, between c .ends)
+
+part-result-start : tie.Need-part-result-start
+part-result-start c = omega (arith, between c .ends)
+
+part-result-end : tie.Need-part-result-end
+part-result-end c = between c .fits
+
+returns-3 : tie.Need-returns-3
+returns-3 c =
+    let q = c .before .before .before in
+    let a = start (q .before) .args in
+    level-higher (a .base .now) (a .levels .now) _ _ _ _ _ (free (q .before)) _ _ (q .if2 .left) (between (c .before))
 
 pub level-spec : {M : Type 1} → statement M
 level-spec =
     tie.close
     (tie.spec
-    level-at-requires
-    enum-known-a
-    enum-told
+    level-fault-requires
+    slice-aggregate-result
+    returns
+    returns-2
+    cells-before-requires
+    add-cells-before
+    cells-before-requires-2
     sub-result
     part-result-start
     part-result-end
-    returns
-    holder-requires
-    mul-end
-    add-end
-    sub-result-2
-    part-result-start-2
-    part-result-end-2
-    returns-2)
+    returns-3)

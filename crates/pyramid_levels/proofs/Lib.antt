@@ -1,0 +1,4 @@
+pub mod Sides
+pub mod Cells
+pub mod Refusals
+pub mod Answers

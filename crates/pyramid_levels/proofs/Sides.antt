@@ -1,0 +1,138 @@
+-- Laws of the levels' sides and of how many levels there are. Assumes nothing.
+use Prim.Native.Nat.{ℕ, zero, suc, _+_, _-_, _/_, _^_, _<_, _≤_}
+use native.Mathlib.Nat.{div-div-eq-div-mul, div-one, div-le-self, div-eq-of-lt, pow-suc, mul-comm, le-of-suc-le-suc, pos-of-ne-zero}
+use native.Mathlib.Decide.{decLt}
+use native.Mathlib.Numerals.{one-add}
+use native.Mathlib.Omega.{arith}
+use mathlib.Core.Path.{_≡_, refl, sym, ap, _∙_}
+use mathlib.Core.Bool.{Bool, true, false, cond, _||_}
+use lib.Dec.{ltb, eqb}
+use borrow.Author.Tests.{ltb-false, eqb-false}
+use Rattle.lists.proofs.Tests.{or-neither}
+use Rattle.pyramid_levels.specs.Levels.{levelSide, isBelow, isTooSmall, halvings, levelCount}
+
+-- ---- sides
+
+-- level 0 has the base's sides, and each level half those of the level below it
+pub side-base : (side : ℕ) → side ≡ levelSide side 0
+side-base side = sym (div-one side)
+
+pub side-next : (side k s : ℕ) → s ≡ levelSide side k → s / 2 ≡ levelSide side (suc k)
+side-next side k s e = ap (λ (n : ℕ). n / 2) e ∙ div-div-eq-div-mul side (2 ^ k) 2 ∙ ap (λ (n : ℕ). side / n) (sym (pow-suc 2 k))
+
+pub side-le : (side k : ℕ) → levelSide side k ≤ side
+side-le side k = div-le-self side (2 ^ k)
+
+-- ---- how many levels
+
+-- N levels in all, of which n are counted, the last of them of w by h: no more where the next is too small or the count is reached, else one more
+module _ (N n most w h least : ℕ) (e : N ≡ n + halvings (most - n) w h least) where
+  pub counted-stop : isTooSmall (w / 2) (h / 2) least ≡ true → n ≡ N
+  counted-stop t = omega (arith, stop (most - n))
+    where
+      stop : (k : ℕ) → halvings k w h least ≡ 0
+      stop zero = unfold halvings in refl
+      stop (suc k) = unfold halvings in (rw t)
+
+  pub counted-all : most ≤ n → n ≡ N
+  unfolding halvings
+  counted-all p = let z : most - n ≡ 0 = omega arith in let q : N ≡ n + 0 = rw z at e in omega arith
+
+  pub counted-more : n < most → isTooSmall (w / 2) (h / 2) least ≡ false → N ≡ n + 1 + halvings (most - (n + 1)) (w / 2) (h / 2) least
+  unfolding halvings
+  counted-more p t =
+      let z : most - n ≡ suc (most - (n + 1)) = omega arith in
+      let q : N ≡ n + suc (halvings (most - (n + 1)) (w / 2) (h / 2) least) = rw (z, t) at e in
+      omega arith
+
+pub count-none : (w h n least : ℕ) → n ≡ 0 → levelCount w h n least ≡ 0
+unfolding levelCount
+count-none w h n least e = rw e
+
+pub count-below : (w h n least : ℕ) → isBelow w h least ≡ true → levelCount w h n least ≡ 0
+unfolding levelCount
+count-below w h zero least e = refl
+count-below w h (suc n) least e = rw e
+
+-- the base, and the levels above it
+pub count-some : (w h n least : ℕ) → (n ≡ 0 → ⊥) → isBelow w h least ≡ false → levelCount w h n least ≡ 1 + halvings (n - 1) w h least
+unfolding levelCount
+count-some w h zero least z e = absurd (z refl)
+count-some w h (suc n) least z e = let p : suc n - 1 ≡ n = omega arith in rw (e, p, one-add)
+
+-- ---- a level that is built
+
+-- no side is below the minimum size, and none of a level above the base is 0
+pub record Standing (w h least k : ℕ) : Type 0 where
+  pub cols : least ≤ levelSide w k
+  pub rows : least ≤ levelSide h k
+  pub some-cols : (k ≡ 0 → ⊥) → 0 < levelSide w k
+  pub some-rows : (k ≡ 0 → ⊥) → 0 < levelSide h k
+
+half-side : (side k : ℕ) → levelSide (side / 2) k ≡ levelSide side (suc k)
+half-side side k = div-div-eq-div-mul side 2 (2 ^ k) ∙ ap (λ (n : ℕ). side / n) (mul-comm 2 (2 ^ k) ∙ sym (pow-suc 2 k))
+
+-- each level above one of w by h
+halving-large : (n w h least k : ℕ) → k < halvings n w h least → isTooSmall (levelSide w (suc k)) (levelSide h (suc k)) least ≡ false
+unfolding halvings
+halving-large zero w h least k l = absurd (let none : ⊥ = omega arith in none)
+halving-large (suc n) w h least k l = go (isTooSmall (w / 2) (h / 2) least) refl (halving-large n (w / 2) (h / 2) least) k l
+  where
+    go : (t : Bool) → isTooSmall (w / 2) (h / 2) least ≡ t
+        → ((k : ℕ) → k < halvings n (w / 2) (h / 2) least → isTooSmall (levelSide (w / 2) (suc k)) (levelSide (h / 2) (suc k)) least ≡ false)
+        → (k : ℕ) → k < cond t 0 (suc (halvings n (w / 2) (h / 2) least)) → isTooSmall (levelSide w (suc k)) (levelSide h (suc k)) least ≡ false
+    go true e f k l = absurd (let none : ⊥ = omega arith in none)
+    go false e f zero l = e
+    go false e f (suc k) l = rw (half-side w (suc k), half-side h (suc k)) at (f k (le-of-suc-le-suc l))
+
+below-none : (w h least : ℕ) → isBelow w h least ≡ false → (least ≤ w) × (least ≤ h)
+below-none w h least e = let p = or-neither (ltb w least) (ltb h least) e in (ltb-false w least (p .0), ltb-false h least (p .1))
+
+pub built-level : (w h count least k : ℕ) → k < levelCount w h count least → Standing w h least k
+unfolding levelCount
+built-level w h zero least k l = absurd (let none : ⊥ = omega arith in none)
+built-level w h (suc n) least k l = go (isBelow w h least) refl k l
+  where
+    go : (t : Bool) → isBelow w h least ≡ t → (k : ℕ) → k < cond t 0 (suc (halvings n w h least)) → Standing w h least k
+    go true e k l = absurd (let none : ⊥ = omega arith in none)
+    go false e zero l =
+        let p = below-none w h least e in
+        record { cols = rw (← side-base w) (p .0); rows = rw (← side-base h) (p .1); some-cols = λ z. absurd (z refl); some-rows = λ z. absurd (z refl) }
+    go false e (suc k) l =
+        let a = levelSide w (suc k) in
+        let b = levelSide h (suc k) in
+        let p = or-neither (eqb a 0 || eqb b 0) (isBelow a b least) (halving-large n w h least k (le-of-suc-le-suc l)) in
+        let q = or-neither (eqb a 0) (eqb b 0) (p .0) in
+        let r = below-none a b least (p .1) in
+        record { cols = r .0; rows = r .1; some-cols = λ z. pos-of-ne-zero (eqb-false a 0 (q .0)); some-rows = λ z. pos-of-ne-zero (eqb-false b 0 (q .1)) }
+
+-- a side below 2^s makes at most s levels
+pub count-le : (w h count least s : ℕ) → 0 < s → w < 2 ^ s → levelCount w h count least ≤ s
+count-le w h count least s p l =
+    elim (decLt s (levelCount w h count least)) [
+      | yes m ↦ absurd (let e : levelSide w s ≡ 0 = div-eq-of-lt l in let none : ⊥ = omega (arith, built-level w h count least s m .some-cols (λ z. omega arith)) in none)
+      | no g ↦ omega arith
+    ]
+
+-- up to sides of 4,096 there are at most 13
+pub count-few : (w h count least : ℕ) → w ≤ 4096 → levelCount w h count least ≤ 13
+count-few w h count least l = count-le w h count least 13 (omega arith) (omega arith)
+
+-- and never more than asked for
+halvings-le : (n w h least : ℕ) → halvings n w h least ≤ n
+unfolding halvings
+halvings-le zero w h least = omega arith
+halvings-le (suc n) w h least = pick (isTooSmall (w / 2) (h / 2) least) (halvings-le n (w / 2) (h / 2) least)
+  where
+    pick : (t : Bool) → halvings n (w / 2) (h / 2) least ≤ n → cond t 0 (suc (halvings n (w / 2) (h / 2) least)) ≤ suc n
+    pick true l = omega arith
+    pick false l = omega arith
+
+pub count-le-count : (w h count least : ℕ) → levelCount w h count least ≤ count
+unfolding levelCount
+count-le-count w h zero least = omega arith
+count-le-count w h (suc n) least = pick (isBelow w h least)
+  where
+    pick : (t : Bool) → cond t 0 (suc (halvings n w h least)) ≤ suc n
+    pick true = omega arith
+    pick false = omega (arith, halvings-le n w h least)

@@ -1,0 +1,45 @@
+-- The levels of a pyramid by document 01: their sides, how many of them there are, and how many pixels they have.
+use Prim.Native.Nat.{ℕ, zero, suc, _+_, _-_, _*_, _/_, _^_, min}
+use mathlib.Core.Bool.{Bool, cond, _||_}
+use lib.Dec.{ltb, eqb}
+
+-- a side of level k, whose scale is 2^-k
+abbrev pub levelSide : ℕ → ℕ → ℕ
+levelSide side k = side / 2 ^ k
+
+-- ---- how many levels there are
+
+-- whether a side is below the minimum size
+abbrev pub isBelow : ℕ → ℕ → ℕ → Bool
+isBelow w h least = ltb w least || ltb h least
+
+-- whether a new level of w by h is not built: a side is 0 or below the minimum size
+abbrev pub isTooSmall : ℕ → ℕ → ℕ → Bool
+isTooSmall w h least = eqb w 0 || eqb h 0 || isBelow w h least
+
+-- how many levels stand above one of w by h, at most n: halving goes on until the count is reached or a new level is too small
+unfoldable pub halvings : ℕ → ℕ → ℕ → ℕ → ℕ
+halvings zero w h least = 0
+halvings (suc n) w h least = cond (isTooSmall (w / 2) (h / 2) least) 0 (suc (halvings n (w / 2) (h / 2) least))
+
+-- no levels if the level count is 0 or a base side is below the minimum size; otherwise the base is level 0, with those above it
+unfoldable pub levelCount : ℕ → ℕ → ℕ → ℕ → ℕ
+unfolding halvings
+levelCount w h zero least = 0
+levelCount w h (suc n) least = cond (isBelow w h least) 0 (suc (halvings n w h least))
+
+-- ---- how many pixels they have
+
+-- how many pixels level k has
+abbrev pub levelCells : ℕ → ℕ → ℕ → ℕ
+levelCells w h k = levelSide w k * levelSide h k
+
+-- how many pixels levels 1 .. n - 1 have; level n begins behind them
+unfoldable pub cellsAbove : ℕ → ℕ → ℕ → ℕ
+cellsAbove w h zero = 0
+cellsAbove w h (suc zero) = 0
+cellsAbove w h (suc (suc k)) = cellsAbove w h (suc k) + levelCells w h (suc k)
+
+-- a number as a usize holds it: the largest one where it is larger
+abbrev pub capped : ℕ → ℕ
+capped n = min n (2 ^ 64 - 1)

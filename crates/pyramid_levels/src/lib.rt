@@ -1,0 +1,144 @@
+// The levels of an image pyramid: how many there are, how many pixels they have, and where each lies.
+mod count; // count.rt: which levels are built, and capped sums
+
+ghost use mathlib.Core.Path.{_≡_};
+ghost use Rattle.pyramid_levels.specs.Levels.{levelCount, cellsAbove, capped};
+ghost use Rattle.pyramid_levels.specs.Refusals.{imageRefusal, buildRefusal, levelRefusal};
+ghost use Rattle.pyramid_levels.specs.Level.{levelAnswer};
+
+// Where a level begins, in the base or in the level buffer, and its sides, or the number of a refusal.
+pub enum LevelAnswer {
+    Level {
+        from: usize,
+        width: usize,
+        height: usize,
+    },
+    Refused(u8),
+}
+
+// How many levels a pyramid over a base of these sides has: at most num_levels, the base included, and none with a side below min_size.
+pub fn level_count(width: usize, height: usize, num_levels: u32, min_size: usize) -> usize
+    ensures { λ r. ⌜ r ≡ levelCount width height «num_levels» «min_size» ⌝ }
+{
+    let most = num_levels as usize;
+    if most == 0 {
+        return 0;
+    }
+    if count::is_below(width, height, min_size) {
+        return 0;
+    }
+    let mut w = width;
+    let mut h = height;
+    let mut n = 1usize;
+    while n < most {
+        w = w / 2;
+        h = h / 2;
+        if count::is_too_small(w, h, min_size) {
+            return n;
+        }
+        n += 1;
+    }
+    n
+}
+
+// How many pixels levels 1 .. n - 1 have, behind which level n begins; the largest usize where there are more.
+pub fn cells_before(width: usize, height: usize, n: usize) -> usize
+    ensures { λ r. ⌜ r ≡ capped (cellsAbove width height n) ⌝ }
+{
+    let mut w = width;
+    let mut h = height;
+    let mut sum = 0usize;
+    let mut k = 0usize;
+    while k + 1 < n {
+        w = w / 2;
+        h = h / 2;
+        sum = count::capped_sum(sum, count::capped_product(w, h));
+        k += 1;
+    }
+    sum
+}
+
+// How many pixels the levels above the base have, which is what the level buffer must hold; the largest usize where there are more.
+pub fn cells_above(width: usize, height: usize, num_levels: u32, min_size: usize) -> usize
+    ensures { λ r. ⌜ r ≡ capped (cellsAbove width height (levelCount width height «num_levels» «min_size»)) ⌝ }
+{
+    cells_before(
+        width,
+        height,
+        level_count(width, height, num_levels, min_size),
+    )
+}
+
+// Why a base of w by h that has so many pixels is refused, or `none` where it is not.
+fn image_fault(pixels: usize, w: usize, h: usize, none: u8) -> u8
+    ensures { λ r. ⌜ r ≡ imageRefusal pixels w h none ⌝ }
+{
+    if 4096 < w {
+        return 1;
+    }
+    if 4096 < h {
+        return 1;
+    }
+    if pixels != w * h {
+        return 2;
+    }
+    none
+}
+
+// Why no pyramid is built over a base of so many pixels into a level buffer of so many places, or 0.
+pub fn build_fault(
+    pixels: usize,
+    places: usize,
+    width: usize,
+    height: usize,
+    num_levels: u32,
+    min_size: usize,
+) -> u8
+    ensures { λ r. ⌜ r ≡ buildRefusal pixels places width height «num_levels» «min_size» ⌝ }
+{
+    if places < cells_above(width, height, num_levels, min_size) {
+        return image_fault(pixels, width, height, 9);
+    }
+    image_fault(pixels, width, height, 0)
+}
+
+// Why level k over such a base is not handed out, or 0.
+pub fn level_fault(
+    pixels: usize,
+    places: usize,
+    width: usize,
+    height: usize,
+    num_levels: u32,
+    min_size: usize,
+    k: usize,
+) -> u8
+    ensures { λ r. ⌜ r ≡ levelRefusal pixels places width height «num_levels» «min_size» k ⌝ }
+{
+    if k < level_count(width, height, num_levels, min_size) {
+        return build_fault(pixels, places, width, height, num_levels, min_size);
+    }
+    image_fault(pixels, width, height, 3)
+}
+
+// Where level k lies and its sides, for a base of so many pixels and a level buffer of so many places.
+pub fn level_at(
+    pixels: usize,
+    places: usize,
+    width: usize,
+    height: usize,
+    num_levels: u32,
+    min_size: usize,
+    k: usize,
+) -> LevelAnswer
+    ensures { λ r. ⌜ r ≡ levelAnswer pixels places width height «num_levels» «min_size» k ⌝ }
+{
+    let no = level_fault(pixels, places, width, height, num_levels, min_size, k);
+    if no != 0 {
+        return LevelAnswer::Refused(no);
+    }
+    LevelAnswer::Level {
+        from: cells_before(width, height, k),
+        width: width >> k,
+        height: height >> k,
+    }
+}
