@@ -12,12 +12,6 @@ fn lesser(a: usize, b: usize) -> usize
     if a < b { a } else { b }
 }
 
-fn wide(b: u8) -> u16
-    ensures { λ r. ⌜ (r ≡ b) × (r ≤ 255) ⌝ }
-{
-    b as u16
-}
-
 // The slice that level k lies in.
 fn holder<'a>(base: &'a [u8], levels: &'a [u8], k: usize) -> &'a [u8]
     ensures { λ r. ⌜ now r ≡ holderOf (now (base .entry)) (now (levels .entry)) k ⌝ }
@@ -35,25 +29,11 @@ fn column_sums(pixels: &[u8], top: usize, low: usize, n: usize, sums: &mut [u16;
 {
     let mut i = 0usize;
     while i < n {
-        sums[i] = wide(pixels[top + i]) + wide(pixels[low + i]);
+        let a = top + i;
+        let b = low + i;
+        sums[i] = pixels[a] as u16 + pixels[b] as u16;
         i += 1;
     }
-}
-
-// The same of level k, whichever slice it lies in.
-fn level_sums<'a>(
-    base: &'a [u8],
-    levels: &'a [u8],
-    k: usize,
-    top: usize,
-    low: usize,
-    n: usize,
-    sums: &mut [u16; 128],
-)
-    requires { ⌜ (n ≤ 128) × (top + n ≤ length (holderOf (now base) (now levels) k)) × (low + n ≤ length (holderOf (now base) (now levels) k)) × (length (now sums) ≡ 128) ⌝ }
-    ensures { λ _. ⌜ Summed (holderOf (now (base .entry)) (now (levels .entry)) k) top low n (now (sums .exit)) ⌝ }
-{
-    column_sums(holder(base, levels, k), top, low, n, sums);
 }
 
 // The half-size pixels of pairs of columns, by their sums.
@@ -65,7 +45,9 @@ fn pair_means(sums: &[u16; 128], out: &mut [u8])
     let n = out.len();
     let mut i = 0usize;
     while i < n {
-        out[i] = ((sums[2 * i] + sums[2 * i + 1] + 2) / 4) as u8;
+        let a = 2 * i;
+        let b = a + 1;
+        out[i] = ((sums[a] + sums[b] + 2) / 4) as u8;
         i += 1;
     }
 }
@@ -83,7 +65,7 @@ fn halve_rows(base: &[u8], k: usize, from: usize, w: usize, levels: &mut [u8], t
     while x < n {
         let m = lesser(64, n - x);
         let top = from + 2 * x;
-        level_sums(base, levels, k, top, top + w, 2 * m, &mut sums);
+        column_sums(holder(base, levels, k), top, top + w, 2 * m, &mut sums);
         let a = to + x;
         let e = a + m;
         pair_means(&sums, &mut levels[a..e]);

@@ -1,7 +1,7 @@
 -- `pyramid::halve::column_sums` meets its contract: the places passed hold their columns' sums. Assumes nothing.
 use Prim.Native.Nat.{ℕ, _+_, _-_, _<_, _≤_}
 use native.Mathlib.Omega.{arith}
-use mathlib.Core.Path.{_≡_, ap₂}
+use mathlib.Core.Path.{_≡_, refl}
 use lib.ListN.{getD}
 use borrow.Author.Needs.{needs}
 use Rattle.lists.proofs.Tab.{Prefix, prefix-none, prefix-set, prefix-at}
@@ -9,34 +9,38 @@ use Rattle.pyramid.proofs.halve.column_sums.Statement.{statement}
 use Rattle.pyramid.proofs.halve.column_sums.Tie as tie
 
 abbrev Inv-loop : tie.InvT-loop
-Inv-loop pixels top low n sums₀ i₀ sums i = (i ≤ n) × Prefix 128 (λ j. getD pixels (top + j) 0 + getD pixels (low + j) 0) i sums
+Inv-loop pixels top low n sums₀ i₀ sums i =
+    (i ≤ n) × Prefix 128 (λ j. getD pixels (top + j) 0 + getD pixels (low + j) 0) i sums × (0 < i → (j : ℕ) → getD pixels j 0 ≤ 255)
 
 abbrev μ-loop : tie.MeasureT-loop
 μ-loop pixels top low n sums₀ i₀ sums i = n - i
 
 loop-holds : tie.Need-loop-holds Inv-loop μ-loop
-loop-holds c = (search needs, prefix-none _ _ _ (c .before .pre .3))
+loop-holds c = (search needs, prefix-none _ _ _ (c .pre .3), λ z. absurd (let no : ⊥ = omega arith in no))
 
-add-wide : tie.Need-add-wide Inv-loop μ-loop
-add-wide c = search needs
+add-a : tie.Need-add-a Inv-loop μ-loop
+add-a c = search needs
 
-shared-slice-read-wide : tie.Need-shared-slice-read-wide Inv-loop μ-loop
-shared-slice-read-wide c = search needs
+add-b : tie.Need-add-b Inv-loop μ-loop
+add-b c = search needs
 
-wide-requires : tie.Need-wide-requires Inv-loop μ-loop
-wide-requires c κs = search needs
+shared-slice-read-sums : tie.Need-shared-slice-read-sums Inv-loop μ-loop
+shared-slice-read-sums c = search needs
 
-add-wide-2 : tie.Need-add-wide-2 Inv-loop μ-loop
-add-wide-2 c = search needs
+cast-sums : tie.Need-cast-sums Inv-loop μ-loop
+cast-sums c = omega (arith, c .shared-slice-known .given (c .before .before .before .args .top + c .before .before .loop .i))
 
-shared-slice-read-wide-2 : tie.Need-shared-slice-read-wide-2 Inv-loop μ-loop
-shared-slice-read-wide-2 c = search needs
+shared-slice-read-sums-2 : tie.Need-shared-slice-read-sums-2 Inv-loop μ-loop
+shared-slice-read-sums-2 c = search needs
 
-wide-requires-2 : tie.Need-wide-requires-2 Inv-loop μ-loop
-wide-requires-2 c κs = search needs
+cast-sums-2 : tie.Need-cast-sums-2 Inv-loop μ-loop
+cast-sums-2 c = omega (arith, c .shared-slice-known2 .given (c .before .before .before .before .args .low + c .before .before .before .loop .i))
 
 add-sums : tie.Need-add-sums Inv-loop μ-loop
-add-sums c = search needs
+add-sums c =
+    let a = c .before .before .before .before .args in
+    let i = c .before .before .before .loop .i in
+    omega (arith, c .shared-slice-known2 .given (a .top + i), c .shared-slice-known2 .given (a .low + i))
 
 mul-sums : tie.Need-mul-sums Inv-loop μ-loop
 mul-sums c = search needs
@@ -51,11 +55,11 @@ loop-less : tie.Need-loop-less Inv-loop μ-loop
 loop-less c = search needs
 
 loop-again : tie.Need-loop-again Inv-loop μ-loop
-loop-again c = (search needs, prefix-set _ _ _ _ _ (c .before .before .before .before .before .loop .inv .1) (search needs) (ap₂ (λ (a b : ℕ). a + b) (c .before .before .wide .ensures .0) (c .wide2 .ensures .0)))
+loop-again c = (search needs, prefix-set _ _ _ _ _ (c .before .before .before .loop .inv .1) (search needs) refl, λ z j. omega (arith, c .shared-slice-known2 .given j))
 
 -- the entry
 abbrev start : tie.After-loop Inv-loop μ-loop → tie.Start Inv-loop μ-loop
-start c = c .before .before .before
+start c = c .before .before
 
 -- each of the sums passed
 sum-at : (c : tie.After-loop Inv-loop μ-loop) (i : ℕ) → i < start c .args .n → getD (c .before .loop .sums) i 0 ≡ getD (start c .args .pixels .now) (start c .args .top + i) 0 + getD (start c .args .pixels .now) (start c .args .low + i) 0
@@ -67,12 +71,9 @@ returns c =
       long = c .before .loop .inv .1 .long;
       each = sum-at c;
       small =
-          λ i h. omega (
-            arith,
-            sum-at c i h,
-            c .before .before .shared-slice-known .given (c .before .before .before .args .top + i),
-            c .before .before .shared-slice-known .given (c .before .before .before .args .low + i),
-          );
+          λ i h.
+          let known = c .before .loop .inv .2 (omega arith) in
+          omega (arith, sum-at c i h, known (start c .args .top + i), known (start c .args .low + i));
     }
 
 pub column-sums-spec : {M : Type 1} → statement M
@@ -82,12 +83,12 @@ column-sums-spec =
     Inv-loop
     μ-loop
     loop-holds
-    add-wide
-    shared-slice-read-wide
-    wide-requires
-    add-wide-2
-    shared-slice-read-wide-2
-    wide-requires-2
+    add-a
+    add-b
+    shared-slice-read-sums
+    cast-sums
+    shared-slice-read-sums-2
+    cast-sums-2
     add-sums
     mul-sums
     element-write-sums

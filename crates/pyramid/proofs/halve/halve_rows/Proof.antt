@@ -46,15 +46,19 @@ mul-top c = search needs
 add-top : tie.Need-add-top Inv-loop μ-loop
 add-top c = record { fits = omega (arith, short c, inside c) }
 
-add-level-sums : tie.Need-add-level-sums Inv-loop μ-loop
-add-level-sums c = record { fits = omega (arith, short (c .before), inside (c .before)) }
+holder-requires : tie.Need-holder-requires Inv-loop μ-loop
+holder-requires c κs = search needs
 
-mul-level-sums : tie.Need-mul-level-sums Inv-loop μ-loop
-mul-level-sums c = search needs
+add-column-sums : tie.Need-add-column-sums Inv-loop μ-loop
+add-column-sums c = record { fits = omega (arith, short (c .before .before), inside (c .before .before)) }
 
-level-sums-requires : tie.Need-level-sums-requires Inv-loop μ-loop
-level-sums-requires c κs =
-    let p = c .before .before in (omega (arith, p .lesser .ensures), omega (arith, inside p), inside p, p .before .before .loop .inv .3)
+mul-column-sums : tie.Need-mul-column-sums Inv-loop μ-loop
+mul-column-sums c = search needs
+
+column-sums-requires : tie.Need-column-sums-requires Inv-loop μ-loop
+column-sums-requires c κs =
+    let p = c .before .before .before in
+    rw (c .before .holder .ensures) (omega (arith, p .lesser .ensures), omega (arith, inside p), inside p, p .before .before .loop .inv .3)
 
 add-a : tie.Need-add-a Inv-loop μ-loop
 add-a c = search needs
@@ -69,7 +73,7 @@ part-pair-means-start : tie.Need-part-pair-means-start Inv-loop μ-loop
 part-pair-means-start c = search needs
 
 part-pair-means-end : tie.Need-part-pair-means-end Inv-loop μ-loop
-part-pair-means-end c = let p = c .before .before .before .before in omega (arith, ends p, p .before .before .loop .inv .0, start p .pre .fits)
+part-pair-means-end c = let p = c .before .before .before .before .before in omega (arith, ends p, p .before .before .loop .inv .0, start p .pre .fits)
 
 -- the part of the buffer that the block's pixels go to
 part : (c : tie.After-lesser Inv-loop μ-loop) → length (take (start c .args .to + c .before .before .loop .x + c .lesser .result - (start c .args .to + c .before .before .loop .x)) (drop (start c .args .to + c .before .before .loop .x) (c .before .before .loop .levels))) ≡ c .lesser .result
@@ -77,7 +81,7 @@ part c = part-length (start c .args .to + c .before .before .loop .x) (c .lesser
 
 pair-means-requires : tie.Need-pair-means-requires Inv-loop μ-loop
 pair-means-requires c κs =
-    let p = c .before .before .before .before .before in (rw (part p) (omega (arith, p .lesser .ensures)), λ i l. c .before .before .level-sums .ensures .small i (rw (part p) at l))
+    let p = c .before .before .before .before .before .before in (rw (part p) (omega (arith, p .lesser .ensures)), λ i l. c .before .before .column-sums .ensures .small i (rw (part p) at l))
 
 add-x : tie.Need-add-x Inv-loop μ-loop
 add-x c = search needs
@@ -87,11 +91,12 @@ loop-less c = search needs
 
 loop-again : tie.Need-loop-again Inv-loop μ-loop
 loop-again c =
-    let p = c .before .before .before .before .before .before .before .before in (
+    let p = c .before .before .before .before .before .before .before .before .before in
+    let s = c .before .before .before .before .before in (
       search needs,
       ends p,
-      row-put _ _ _ _ _ _ (start p .pre) _ _ _ _ _ _ (p .before .before .loop .inv .2) (ends p) (c .before .before .before .before .before .level-sums .ensures) (c .before .before .pair-means .ensures) (part p),
-      c .before .before .before .before .before .level-sums .ensures .long,
+      row-put _ _ _ _ _ _ (start p .pre) _ _ _ _ _ _ (p .before .before .loop .inv .2) (ends p) (rw (s .before .before .holder .ensures) at (s .column-sums .ensures)) (c .before .before .pair-means .ensures) (part p),
+      s .column-sums .ensures .long,
     )
 
 same-length : tie.Need-same-length Inv-loop μ-loop
@@ -111,9 +116,10 @@ halve-rows-spec =
     lesser-requires
     mul-top
     add-top
-    add-level-sums
-    mul-level-sums
-    level-sums-requires
+    holder-requires
+    add-column-sums
+    mul-column-sums
+    column-sums-requires
     add-a
     add-e
     sub-pair-means

@@ -17,23 +17,20 @@ abbrev μ-loop : tie.MeasureT-loop
 loop-holds : tie.Need-loop-holds Inv-loop μ-loop
 loop-holds c = (search needs, prefix-none _ _ _ refl)
 
+mul-a : tie.Need-mul-a Inv-loop μ-loop
+mul-a c = search needs
+
+add-b : tie.Need-add-b Inv-loop μ-loop
+add-b c = search needs
+
 mul-out : tie.Need-mul-out Inv-loop μ-loop
 mul-out c = search needs
-
-mul-out-2 : tie.Need-mul-out-2 Inv-loop μ-loop
-mul-out-2 c = search needs
 
 element-copy-out-out : tie.Need-element-copy-out-out Inv-loop μ-loop
 element-copy-out-out c = search needs
 
-mul-out-3 : tie.Need-mul-out-3 Inv-loop μ-loop
-mul-out-3 c = search needs
-
-add-out : tie.Need-add-out Inv-loop μ-loop
-add-out c = search needs
-
-mul-out-4 : tie.Need-mul-out-4 Inv-loop μ-loop
-mul-out-4 c = search needs
+mul-out-2 : tie.Need-mul-out-2 Inv-loop μ-loop
+mul-out-2 c = search needs
 
 element-copy-out-out-2 : tie.Need-element-copy-out-out-2 Inv-loop μ-loop
 element-copy-out-out-2 c = search needs
@@ -42,11 +39,11 @@ element-copy-out-out-2 c = search needs
 pair : (c : tie.In-loop Inv-loop μ-loop) → getD (c .before .before .args .sums .now) (2 * c .before .loop .i) 0 + getD (c .before .before .args .sums .now) (2 * c .before .loop .i + 1) 0 ≤ 1020
 pair c = omega (arith, c .before .before .pre .1 (2 * c .before .loop .i) (omega arith), c .before .before .pre .1 (2 * c .before .loop .i + 1) (omega arith))
 
+add-out : tie.Need-add-out Inv-loop μ-loop
+add-out c = omega (arith, pair (c .before .before))
+
 add-out-2 : tie.Need-add-out-2 Inv-loop μ-loop
 add-out-2 c = omega (arith, pair (c .before .before))
-
-add-out-3 : tie.Need-add-out-3 Inv-loop μ-loop
-add-out-3 c = omega (arith, pair (c .before .before))
 
 cast-out : tie.Need-cast-out Inv-loop μ-loop
 cast-out c = omega (arith, pair (c .before .before))
@@ -76,15 +73,14 @@ pair-means-spec =
     Inv-loop
     μ-loop
     loop-holds
+    mul-a
+    add-b
     mul-out
-    mul-out-2
     element-copy-out-out
-    mul-out-3
-    add-out
-    mul-out-4
+    mul-out-2
     element-copy-out-out-2
+    add-out
     add-out-2
-    add-out-3
     cast-out
     slice-write-out
     add-i
