@@ -1,4 +1,4 @@
-/* A smoke test of zakdomp.h over libcapi.a. Prints 'N passed, M failed' and returns 0 if none failed. */
+/* A smoke test of zakdomp.h over libzakdomp.a. Prints 'N passed, M failed' and returns 0 if none failed. */
 #include "zakdomp.h"
 
 #include <stdio.h>

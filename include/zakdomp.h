@@ -1,4 +1,4 @@
-/* Zakdomp: the corners of a chessboard in a grey image. Link libcapi.a, which `rt staticlib capi` writes.
+/* Zakdomp: the corners of a chessboard in a grey image. Link libzakdomp.a, which `library` writes.
  *
  * Every function is proved to end and to do what is said here, for every value of its numbers. What C has to see to:
  *   - a slice is a pointer and a length, in elements; the pointer is to that many elements, and is not NULL even where the length is 0;

@@ -1,4 +1,4 @@
-//! The functions of libcapi.a that this crate calls, over slices.
+//! The functions of libzakdomp.a that this crate calls, over slices.
 use crate::{Params, Refusal};
 use std::ops::Range;
 

@@ -10,7 +10,7 @@ use Rattle.frame_pass.specs.Pass.{framePass, computedChoice}
 use Rattle.frame.specs.declared.FrameAnswer.{FrameAnswer}
 use Rattle.frame.specs.declared.FrameAnswer.the-variants.{Corners, Refused}
 use Rattle.frame.specs.Frame.{Buffers, answerOf, Found}
-use Rattle.capi.specs.Results.{resultOr}
+use Rattle.capi_stages.specs.Results.{resultOr}
 
 -- the parameters, in the order in which they are given
 abbrev pub params : ℕ → Float → ℕ → ℕ → ℕ → Float → ℕ → ℕ → ℕ → FrameParams

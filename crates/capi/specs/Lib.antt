@@ -1,7 +1,1 @@
-pub mod Results
-pub mod Patch
-pub mod Peaks
-pub mod Merging
-pub mod Levels
-pub mod Centroid
 pub mod Finding

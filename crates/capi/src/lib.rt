@@ -1,9 +1,4 @@
-// The corner finder for C: each function takes numbers, slices as pointer and length, and places for its results. It returns 0, or the
-// number of a refusal, which leaves the results as they were. include/zakdomp.h declares them.
-mod centroid; // zakdomp_centroid: the centre of mass about a seed
+// The corner finder for C, as a whole: functions that take numbers, slices as pointer and length, and places for their results.
+// `capi_stages` has its stages. include/zakdomp.h declares them.
 mod corners; // zakdomp_corners: what the program `corners` prints
 mod finding; // zakdomp_find_corners: the corners of an image
-mod levels; // zakdomp_levels, zakdomp_level_bytes: the half-size levels of an image
-mod merging; // zakdomp_merge: corners merged in place
-mod patch; // zakdomp_response: the responses of a box
-mod peaks; // zakdomp_peaks: the peaks of a response map

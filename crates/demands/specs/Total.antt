@@ -14,7 +14,7 @@
 --   frame_pass      refusal (the number before the pass)
 --   listing         write_refusal (one for its answer, one for its buffer)
 --   finder          find (likewise)
--- The functions of `capi`, for C, hand on these promises and return the number.
+-- The functions of `capi` and `capi_stages`, for C, hand on these promises and return the number.
 use Prim.Native.Nat.{ℕ, min}
 use mathlib.Core.Path.{_≡_}
 use mathlib.Core.Bool.{Bool}

@@ -1,0 +1,38 @@
+-- `capi_stages::zakdomp_merge` meets its contract: the answer of the function that it calls, taken apart. Assumes nothing.
+use borrow.Author.Needs.{needs}
+use Rattle.capi_stages.proofs.Entries.{corners-merged}
+use Rattle.capi_stages.proofs.merging.zakdomp_merge.Statement.{statement}
+use Rattle.capi_stages.proofs.merging.zakdomp_merge.Tie as tie
+
+merge-corners-simple-requires : tie.Need-merge-corners-simple-requires
+merge-corners-simple-requires c κs = search needs
+
+kept-of-requires : tie.Need-kept-of-requires
+kept-of-requires c κs = search needs
+
+number-of-requires : tie.Need-number-of-requires
+number-of-requires c κs = search needs
+
+same-length : tie.Need-same-length
+same-length c = search needs
+
+same-length-2 : tie.Need-same-length-2
+same-length-2 c = search needs
+
+same-length-3 : tie.Need-same-length-3
+same-length-3 c = search needs
+
+returns : tie.Need-returns
+returns c = corners-merged _ _ _ _ _ _ _ _ (c .before .before .before .before .before .before .before .before .before .merge-corners-simple .ensures) (c .number-of .ensures) (c .before .kept-of .ensures)
+
+pub zakdomp-merge-spec : {M : Type 1} → statement M
+zakdomp-merge-spec =
+    tie.close
+    (tie.spec
+    merge-corners-simple-requires
+    kept-of-requires
+    number-of-requires
+    same-length
+    same-length-2
+    same-length-3
+    returns)

@@ -1,0 +1,39 @@
+-- `capi_stages::zakdomp_peaks` meets its contract: the answer of the function that it calls, taken apart. Assumes nothing.
+use borrow.Author.Needs.{needs}
+use Rattle.capi_stages.proofs.Entries.{peaks-found}
+use Rattle.capi_stages.proofs.peaks.zakdomp_peaks.Statement.{statement}
+use Rattle.capi_stages.proofs.peaks.zakdomp_peaks.Tie as tie
+
+detect-peaks-from-response-with-refine-radius-requires :
+    tie.Need-detect-peaks-from-response-with-refine-radius-requires
+detect-peaks-from-response-with-refine-radius-requires c κs = search needs
+
+added-of-requires : tie.Need-added-of-requires
+added-of-requires c κs = search needs
+
+number-of-requires : tie.Need-number-of-requires
+number-of-requires c κs = search needs
+
+same-length : tie.Need-same-length
+same-length c = search needs
+
+same-length-2 : tie.Need-same-length-2
+same-length-2 c = search needs
+
+same-length-3 : tie.Need-same-length-3
+same-length-3 c = search needs
+
+returns : tie.Need-returns
+returns c = peaks-found _ _ _ _ _ _ _ _ _ (c .before .before .before .before .before .before .before .before .before .detect-peaks-from-response-with-refine-radius .ensures) (c .number-of .ensures) (c .before .added-of .ensures)
+
+pub zakdomp-peaks-spec : {M : Type 1} → statement M
+zakdomp-peaks-spec =
+    tie.close
+    (tie.spec
+    detect-peaks-from-response-with-refine-radius-requires
+    added-of-requires
+    number-of-requires
+    same-length
+    same-length-2
+    same-length-3
+    returns)

@@ -1,0 +1,6 @@
+pub mod Results
+pub mod Patch
+pub mod Peaks
+pub mod Merging
+pub mod Levels
+pub mod Centroid

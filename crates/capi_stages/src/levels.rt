@@ -1,0 +1,53 @@
+// The half-size levels of an image.
+use pyramid::Pyramid;
+ghost use mathlib.Core.Path.{_≡_};
+ghost use Rattle.pyramid_levels.specs.Levels.{levelCount, cellsAbove, capped};
+ghost use Rattle.pyramid.specs.Build.{numberOf};
+ghost use Rattle.capi_stages.specs.Levels.{builtOf, LevelsBuilt};
+
+// The number of an answer, 0 where levels were built.
+fn number_of(a: Pyramid) -> u8
+    ensures { λ r. ⌜ r ≡ numberOf a ⌝ }
+{
+    match a {
+        Pyramid::Levels(_) => 0,
+        Pyramid::Refused(n) => n,
+    }
+}
+
+// How many levels there are, or `before` where refused.
+fn built_of(a: Pyramid, before: usize) -> usize
+    ensures { λ r. ⌜ r ≡ builtOf a before ⌝ }
+{
+    match a {
+        Pyramid::Levels(n) => n,
+        Pyramid::Refused(_) => before,
+    }
+}
+
+// How many bytes the level buffer of such an image needs; the largest number where there are more.
+#[no_mangle]
+pub extern "C" fn zakdomp_level_bytes(w: usize, h: usize, count: u32, minimum: usize) -> usize
+    ensures { λ r. ⌜ r ≡ capped (cellsAbove w h (levelCount w h count minimum)) ⌝ }
+{
+    pyramid_levels::cells_above(w, h, count, minimum)
+}
+
+// Builds the levels above an image first in `levels`, and puts their number, the image included, into `built`.
+#[no_mangle]
+pub extern "C" fn zakdomp_levels(
+    img: &[u8],
+    w: usize,
+    h: usize,
+    count: u32,
+    minimum: usize,
+    levels: &mut [u8],
+    built: &mut usize,
+) -> u8
+    ensures { λ r. ⌜ LevelsBuilt (now (img .entry)) w h count minimum (now (levels .entry)) (now (built .entry))
+        r (now (levels .exit)) (now (built .exit)) ⌝ }
+{
+    let a = pyramid::build_pyramid(img, w, h, count, minimum, levels);
+    *built = built_of(a, *built);
+    number_of(a)
+}

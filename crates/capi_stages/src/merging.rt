@@ -1,0 +1,44 @@
+// Corners merged in place.
+use merge::Merged;
+ghost use mathlib.Core.Path.{_≡_};
+ghost use Rattle.corner_list.specs.CornerList.{slices};
+ghost use Rattle.merge.specs.Merge.{numberOf};
+ghost use Rattle.capi_stages.specs.Merging.{keptOf, CornersMerged};
+
+// The number of an answer, 0 where corners were merged.
+fn number_of(a: Merged) -> u8
+    ensures { λ r. ⌜ r ≡ numberOf a ⌝ }
+{
+    match a {
+        Merged::Kept(_) => 0,
+        Merged::Refused(n) => n,
+    }
+}
+
+// How many corners are left, or `before` where refused.
+fn kept_of(a: Merged, before: usize) -> usize
+    ensures { λ r. ⌜ r ≡ keptOf a before ⌝ }
+{
+    match a {
+        Merged::Kept(n) => n,
+        Merged::Refused(_) => before,
+    }
+}
+
+// Merges the first `count` corners of a buffer in place, and puts the number of those that are left into `kept`.
+#[no_mangle]
+pub extern "C" fn zakdomp_merge(
+    xs: &mut [f32],
+    ys: &mut [f32],
+    strengths: &mut [f32],
+    count: usize,
+    radius: f32,
+    kept: &mut usize,
+) -> u8
+    ensures { λ r. ⌜ CornersMerged radius count (slices (now (xs .entry)) (now (ys .entry)) (now (strengths .entry))) (now (kept .entry))
+        r (slices (now (xs .exit)) (now (ys .exit)) (now (strengths .exit))) (now (kept .exit)) ⌝ }
+{
+    let a = merge::merge_corners_simple(xs, ys, strengths, count, radius);
+    *kept = kept_of(a, *kept);
+    number_of(a)
+}

@@ -1,0 +1,67 @@
+// The peaks of a response map.
+use detect::Peaks;
+ghost use mathlib.Core.Path.{_≡_};
+ghost use lib.ListN.{length};
+ghost use Rattle.corner_list.specs.CornerList.{slices};
+ghost use Rattle.detect.specs.Detect.{searchOf, startsIn, conditions, numberOf};
+ghost use Rattle.capi_stages.specs.Peaks.{addedOf, PeaksFound};
+
+// The number of an answer, 0 where peaks were added.
+fn number_of(a: Peaks) -> u8
+    ensures { λ r. ⌜ r ≡ numberOf a ⌝ }
+{
+    match a {
+        Peaks::Added(_) => 0,
+        Peaks::Refused(n) => n,
+    }
+}
+
+// How many peaks were added, or `before` where refused.
+fn added_of(a: Peaks, before: usize) -> usize
+    ensures { λ r. ⌜ r ≡ addedOf a before ⌝ }
+{
+    match a {
+        Peaks::Added(n) => n,
+        Peaks::Refused(_) => before,
+    }
+}
+
+// Puts the peaks of a map behind the first `held` corners of a buffer, and their number into `added`.
+#[no_mangle]
+pub extern "C" fn zakdomp_peaks(
+    map: &[f32],
+    w: usize,
+    h: usize,
+    ring: u32,
+    threshold: f32,
+    window: u32,
+    least: u32,
+    centroid: u32,
+    xs: &mut [f32],
+    ys: &mut [f32],
+    strengths: &mut [f32],
+    held: usize,
+    added: &mut usize,
+) -> u8
+    ensures { λ r. ⌜ PeaksFound (conditions (length (now (map .entry))) w h ring window centroid)
+        (startsIn (now (map .entry)) (searchOf w h ring threshold window least centroid))
+        held (slices (now (xs .entry)) (now (ys .entry)) (now (strengths .entry))) (now (added .entry))
+        r (slices (now (xs .exit)) (now (ys .exit)) (now (strengths .exit))) (now (added .exit)) ⌝ }
+{
+    let a = detect::detect_peaks_from_response_with_refine_radius(
+        map,
+        w,
+        h,
+        ring,
+        threshold,
+        window,
+        least,
+        centroid,
+        xs,
+        ys,
+        strengths,
+        held,
+    );
+    *added = added_of(a, *added);
+    number_of(a)
+}
