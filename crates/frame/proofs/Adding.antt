@@ -1,8 +1,10 @@
--- Lists of corners added to a buffer: from what was found, changed in their places, and one behind the other. Assumes nothing.
-use Prim.Native.Nat.{ℕ, zero, suc, _+_, _-_, _<_, _≤_}
+-- Lists of corners added to a buffer: those of a box, changed in their places, and one behind the other. Assumes nothing.
+use Prim.Native.Nat.{ℕ, _+_, _-_, _*_, _<_, _≤_}
+use native.Mathlib.Nat.{le-trans}
 use native.Mathlib.Omega.{arith}
 use native.Mathlib.Numerals.{add-one}
-use mathlib.Core.Path.{_≡_, refl, sym, ap, ap₂, subst, _∙_}
+use mathlib.Core.Path.{_≡_, refl, sym, ap, subst, _∙_}
+use mathlib.Core.Bool.{true}
 use mathlib.Core.List.{List, [], _∷_, _++_, map, map-append, append-nil}
 use lib.ListN.{length, length-append, length-map}
 use lib.Ieee.{Float}
@@ -10,21 +12,28 @@ use Rattle.lists.specs.Tab.{tab}
 use Rattle.lists.specs.Places.{flatMap}
 use Rattle.lists.specs.Buffer.{placed}
 use Rattle.lists.proofs.Tab.{tab-add}
+use Rattle.lists.proofs.Tests.{and-parts}
 use Rattle.lists.proofs.Buffer.{placed-none, placed-more}
 use Rattle.lists.proofs.Members.{flatMap-append}
+use Rattle.ring.specs.Ring.{ringOf, isRing}
+use Rattle.response.specs.Patch.{View, rows, cols}
+use Rattle.response.proofs.Outcome.{area-in}
 use Rattle.corner_list.specs.declared.Corner.{Corner}
-use Rattle.corner_list.specs.CornerList.{Slices, xOf, yOf, strengthOf, placesOf, cornerAt, placedCorners}
-use Rattle.corner_list.proofs.Corners.{slices-alike, same-places}
-use Rattle.corner_list.proofs.Growing.{Growing, growing-xs, growing-ys, growing-strengths}
-use Rattle.corner_list.proofs.Placed.{corners-placed}
+use Rattle.corner_list.specs.CornerList.{Slices, xOf, yOf, strengthOf, placesOf, placedCorners}
+use Rattle.corner_list.proofs.Corners.{slices-alike}
 use Rattle.detect.specs.declared.Peaks.{Peaks}
 use Rattle.detect.specs.declared.Peaks.the-variants.{Added, Refused}
-use Rattle.frame.specs.Needs.{Changed, Adds}
-use Rattle.frame.proofs.Changing.{corners-over}
-
--- ---- an answer is one of the two
-both : {n k : ℕ} {A : Type 0} → Added n ≡ Refused k → A
-both e = let z : _≡_ {A = ℕ} 0 1 = cc in absurd (omega arith)
+use Rattle.detect.proofs.Answers.{Clear, added-tells, refused-tells}
+use Rattle.frame_pass.specs.declared.FrameParams.{FrameParams}
+use Rattle.frame_pass.specs.Refusals.{parametersFit}
+use Rattle.frame_pass.specs.Pass.{computedChoice, cornersIn}
+use Rattle.frame_pass.proofs.Maps.{ranges}
+use Rattle.patch_corners.specs.PatchCorners.{patchConditions, AddedCorners}
+use Rattle.patch_corners.specs.Needs.{Changed}
+use Rattle.patch_corners.proofs.Changing.{placed-places, changed-fits, changed-placed}
+use Rattle.patch_corners.proofs.Centring.{both}
+use Rattle.patch_corners.proofs.Patches.{patch-clear}
+use Rattle.frame.specs.Needs.{Ready, Adds, addedOf}
 
 module _ (cs : List Corner) (held : ℕ) (b : Slices) where
   -- corners that fit
@@ -48,45 +57,56 @@ module _ (cs : List Corner) (held : ℕ) (b : Slices) where
   pub adds-to : (ds : List Corner) (answer : Peaks) (b′ : Slices) → cs ≡ ds → Adds cs held b answer b′ → Adds ds held b answer b′
   adds-to ds answer b′ e a = subst (λ (l : List Corner). Adds l held b answer b′) e a
 
-  -- the buffer has as many places as before
-  module _ (h : held + length cs ≤ placesOf b) where
-    grown : Growing cs [] held (length cs) b (placedCorners held cs b)
-    grown = record { done = cs; count = refl; split = sym (append-nil cs); fits = h; is = refl }
-
-    pub placed-places : placesOf (placedCorners held cs b) ≡ placesOf b
-    placed-places =
-        same-places (placedCorners held cs b) b
-        (growing-xs cs [] held (length cs) b (placedCorners held cs b) grown)
-        (growing-ys cs [] held (length cs) b (placedCorners held cs b) grown)
-        (growing-strengths cs [] held (length cs) b (placedCorners held cs b) grown)
-
 -- ---- corners that were added, each replaced by a function of it
-map-tab : (f : Corner → Corner) (n : ℕ) (g : ℕ → Corner) → tab n (λ i. f (g i)) ≡ map f (tab n g)
-unfolding tab
-map-tab f zero g = refl
-map-tab f (suc n) g = ap (λ (l : List Corner). l ++ (f (g n) ∷ [])) (map-tab f n g) ∙ sym (map-append f (tab n g) (g n ∷ []))
-
 module _ (f : Corner → Corner) (cs : List Corner) (held : ℕ) (b : Slices) (answer : Peaks) (b′ : Slices) (a : Adds cs held b answer b′) where
-  pub changed-not : (k : ℕ) → answer ≡ Refused k → Adds (map f cs) held b answer b′
-  changed-not k e = adds-not (map f cs) held b answer k b′ e (omega (arith, a .refused k e, length-map cs f))
+  pub changed : (n : ℕ) → n ≡ addedOf answer → (b″ : Slices) → Changed f held n b′ b″ → Adds (map f cs) held b answer b″
+  changed n is b″ c = of answer refl
+    where
+      of : (r : Peaks) → answer ≡ r → Adds (map f cs) held b answer b″
+      of (Added m) e =
+          let t = a .added m e in
+          let here : Changed f held m b′ b″ = rw (sym (is ∙ ap addedOf e)) c in
+          rw e (adds (map f cs) held b m b″ (t .0 ∙ sym (length-map cs f)) (t .1) (changed-placed f cs held b b′ m (t .0) (t .1) (t .2) b″ here))
+      of (Refused k) e = adds-not (map f cs) held b answer k b″ e (omega (arith, a .refused k e, length-map cs f))
 
-  module _ (n : ℕ) (e : answer ≡ Added n) where
-    -- they have their places in the buffer as it is now
-    pub changed-fits : held + n ≤ placesOf b′
-    changed-fits =
-        let t = a .added n e in
-        let h : held + length cs ≤ placesOf b = omega (arith, t .0, t .1) in
-        omega (arith, t .1, ap placesOf (t .2), placed-places cs held b h)
+-- ---- the corners of a box of an image
+abbrev pub boxIn : FrameParams → List ℕ → ℕ → ℕ → ℕ → ℕ → ℕ → ℕ → View
+boxIn p img w h x0 y0 x1 y1 = record { img = img; w = w; h = h; ring = ringOf (p .ring); x0 = x0; y0 = y0; x1 = x1; y1 = y1 }
 
-    pub changed : (b″ : Slices) → Changed f held n b′ b″ → Adds (map f cs) held b (Added n) b″
-    changed b″ c =
-        let t = a .added n e in
-        let h : held ≤ placesOf b = omega (arith, t .1) in
-        let read : Slices → ℕ → Corner = λ s i. cornerAt s (held + i) in
-        let list : tab n (λ i. f (read b′ i)) ≡ map f cs =
-        map-tab f n (read b′) ∙ ap (λ (s : Slices). map f (tab n (read s))) (t .2) ∙ ap (map f) (corners-placed held cs b h n (t .0)) in
-        adds (map f cs) held b n b″ (t .0 ∙ sym (length-map cs f)) (t .1)
-        (c .is ∙ ap₂ (λ (l : List Corner) (s : Slices). placedCorners held l s) list (t .2) ∙ corners-over held cs b h (map f cs) (length-map cs f))
+-- the ring of parameters in their ranges
+ring-is : (p : FrameParams) → parametersFit p ≡ true → isRing (p .ring) ≡ true
+unfolding parametersFit
+ring-is p e = and-parts (isRing (p .ring)) _ e .0
+
+module _ (p : FrameParams) (img : List ℕ) (w h x0 y0 x1 y1 : ℕ) (d : List Float) (ready : Ready p img w h (length d)) (held : ℕ) (b : Slices) (answer : Peaks) (d′ : List Float) (b′ : Slices)
+    (patched : AddedCorners p (boxIn p img w h x0 y0 x1 y1) held d b answer d′ b′) where
+  unrefused : Clear (patchConditions p (boxIn p img w h x0 y0 x1 y1) (length d))
+  unrefused =
+      let r = ranges p (ready .sound .fit) in
+      patch-clear p (boxIn p img w h x0 y0 x1 y1) (length d)
+      (record {
+        wide = ready .sound .narrow;
+        high = ready .sound .low;
+        whole = ready .sound .sized;
+        ring-is = ring-is p (ready .sound .fit);
+        in-window = r .window;
+        in-radius = r .centroid;
+      })
+      (le-trans (area-in (boxIn p img w h x0 y0 x1 y1)) (ready .enough))
+
+  pub box-adds : Adds (cornersIn p (computedChoice p) (boxIn p img w h x0 y0 x1 y1)) held b answer b′
+  box-adds = record {
+    added = λ n q. let t = added-tells _ unrefused _ held b answer b′ (patched .found) n q in (t .count, t .fits, t .buffer);
+    refused = λ k q. refused-tells _ unrefused _ held b answer b′ (patched .found) k q .short;
+  }
+
+  -- they have their places in the buffer as it is now
+  pub box-fits : held ≤ placesOf b → (n : ℕ) → n ≡ addedOf answer → held + n ≤ placesOf b′
+  box-fits l n is = of answer refl
+    where
+      of : (r : Peaks) → answer ≡ r → held + n ≤ placesOf b′
+      of (Added m) e = let t = box-adds .added m e in rw (is ∙ ap addedOf e) (changed-fits (λ (z : Corner). z) (cornersIn p (computedChoice p) (boxIn p img w h x0 y0 x1 y1)) held b b′ m (t .0) (t .1) (t .2))
+      of (Refused k) e = rw (is ∙ ap addedOf e, refused-tells _ unrefused _ held b answer b′ (patched .found) k e .buffer) (omega arith)
 
 -- ---- one list behind another: cs stand first in b, which was b₀
 module _ (cs : List Corner) (held : ℕ) (b₀ b : Slices) (a : Adds cs 0 b₀ (Added held) b) where

@@ -1,5 +1,5 @@
 -- The corners of a seed's box: those of the box's map, moved by its corner. Assumes nothing.
-use Prim.Native.Nat.{ℕ, _+_, _≤_}
+use Prim.Native.Nat.{ℕ, _≤_}
 use native.Mathlib.Omega.{arith}
 use mathlib.Core.Path.{_≡_, refl, sym, ap, _∙_}
 use mathlib.Core.Logic.{inl, inr}
@@ -7,12 +7,10 @@ use mathlib.Core.List.{List, [], _∷_, map, append-nil}
 use types.Run.{OneOf}
 use denote.Enum.Declared.{tagOf}
 use Rattle.lists.specs.Places.{flatMap}
-use Rattle.ring.specs.Ring.{ringOf}
-use Rattle.response.specs.Patch.{View}
 use Rattle.corner_list.specs.declared.Corner.{Corner}
 use Rattle.corner_list.specs.CornerList.{Slices, placesOf}
 use Rattle.detect.specs.declared.Peaks.{Peaks}
-use Rattle.detect.specs.declared.Peaks.the-variants.{Added, Refused}
+use Rattle.detect.specs.declared.Peaks.the-variants.{Added}
 use Rattle.multiscale.proofs.RoiAnswer.{the-type as answer-type}
 use Rattle.multiscale.specs.declared.RoiAnswer.{RoiAnswer}
 use Rattle.multiscale.specs.declared.RoiAnswer.the-variants as roi
@@ -21,8 +19,9 @@ use Rattle.multiscale.proofs.Box.{box-inside}
 use Rattle.frame_pass.specs.declared.FrameParams.{FrameParams}
 use Rattle.frame_pass.specs.Pass.{Choice, moved, contextAt, patchOf, cornersIn, cornersOn, cornersAbout}
 use Rattle.frame_pass.specs.Theorems.{Sound}
-use Rattle.frame.specs.Needs.{Changed, Adds}
-use Rattle.frame.proofs.Adding.{adds-none, adds-to, changed, changed-not, changed-fits}
+use Rattle.patch_corners.specs.Needs.{Changed}
+use Rattle.frame.specs.Needs.{Adds, addedOf}
+use Rattle.frame.proofs.Adding.{adds-none, adds-to, boxIn, changed}
 
 -- the corner of a seed's box
 pub corner-small : (p : FrameParams) (img : List ℕ) (w h k : ℕ) (s : Corner) (a : RoiAnswer) → Boxed (contextAt p img w h k) s a
@@ -46,21 +45,11 @@ module _ (p : FrameParams) (img : List ℕ) (w h : ℕ) (choose : Choice) (k : �
 
   -- ---- a box
   module _ (x0 y0 x1 y1 : ℕ) (q : a ≡ roi.Bounds x0 y0 x1 y1) where
-    abbrev There : View
-    There = record { img = img; w = w; h = h; ring = ringOf (p .ring); x0 = x0; y0 = y0; x1 = x1; y1 = y1 }
-
-    about : map (moved x0 y0) (cornersIn p choose There) ≡ cornersAbout p img w h choose k s
+    about : map (moved x0 y0) (cornersIn p choose (boxIn p img w h x0 y0 x1 y1)) ≡ cornersAbout p img w h choose k s
     about =
-        sym (append-nil (map (moved x0 y0) (cornersIn p choose There)))
+        sym (append-nil (map (moved x0 y0) (cornersIn p choose (boxIn p img w h x0 y0 x1 y1))))
         ∙ ap (λ (r : RoiAnswer). flatMap (cornersOn p img w h choose) (patchOf p img w h r)) (sym q ∙ boxed .answer)
 
-    module _ (held : ℕ) (b : Slices) (answer : Peaks) (b′ : Slices) (d : Adds (cornersIn p choose There) held b answer b′) where
-      pub about-not : (j : ℕ) → answer ≡ Refused j → Adds (cornersAbout p img w h choose k s) held b answer b′
-      about-not j z = adds-to _ held b _ answer b′ about (changed-not (moved x0 y0) (cornersIn p choose There) held b answer b′ d j z)
-
-      module _ (n : ℕ) (z : answer ≡ Added n) where
-        pub about-fit : held + n ≤ placesOf b′
-        about-fit = changed-fits (moved x0 y0) (cornersIn p choose There) held b answer b′ d n z
-
-        pub about-added : (b″ : Slices) → Changed (moved x0 y0) held n b′ b″ → Adds (cornersAbout p img w h choose k s) held b (Added n) b″
-        about-added b″ c = adds-to _ held b _ (Added n) b″ about (changed (moved x0 y0) (cornersIn p choose There) held b answer b′ d n z b″ c)
+    pub about-moved : (held : ℕ) (b : Slices) (answer : Peaks) (b′ : Slices) → Adds (cornersIn p choose (boxIn p img w h x0 y0 x1 y1)) held b answer b′
+        → (n : ℕ) → n ≡ addedOf answer → (b″ : Slices) → Changed (moved x0 y0) held n b′ b″ → Adds (cornersAbout p img w h choose k s) held b answer b″
+    about-moved held b answer b′ d n is b″ c = adds-to _ held b _ answer b″ about (changed (moved x0 y0) _ held b answer b′ d n is b″ c)

@@ -3,14 +3,16 @@ use Prim.Native.Nat.{ℕ, zero, suc, _≤_}
 use native.Mathlib.Omega.{arith}
 use mathlib.Core.Path.{_≡_, refl, sym, ap, ap₂, _∙_}
 use mathlib.Core.Logic.{⊎-elim}
-use mathlib.Core.Bool.{true, false}
-use mathlib.Core.List.{List, []}
+use mathlib.Core.Bool.{Bool, true, false, cond}
+use mathlib.Core.List.{List, [], _∷_}
 use lib.ListN.{length, replicate}
 use lib.Ieee.{Float}
 use borrow.Author.Tests.{le-ltb, ne-eqb}
 use Rattle.lists.specs.Places.{All}
-use Rattle.lists.specs.Buffer.{front}
+use Rattle.lists.specs.Tab.{tab}
+use Rattle.lists.specs.Buffer.{front, wipedFrom}
 use Rattle.lists.specs.Refusals.{lowest}
+use Rattle.float32.specs.Float32 as float32
 use Rattle.pyramid.specs.Pyramid.{above}
 use Rattle.pyramid.specs.Build.{Built}
 use Rattle.pyramid.specs.declared.Pyramid.{Pyramid}
@@ -18,7 +20,8 @@ use Rattle.pyramid.specs.declared.Pyramid.the-variants as pyramid
 use Rattle.pyramid_levels.proofs.Refusals.{Accepted}
 use Rattle.pyramid.proofs.Levels.{builds}
 use Rattle.corner_list.specs.CornerList.{Slices, placesOf, isInside, cornersOf, frontCorners}
-use Rattle.corner_list.proofs.Corners.{corners-front, front-xs, front-ys, front-strengths, same-places}
+use Rattle.corner_list.specs.declared.Corner.{Corner}
+use Rattle.corner_list.proofs.Corners.{corners-front, same-places}
 use Rattle.merge.specs.declared.Merged.{Merged}
 use Rattle.merge.specs.declared.Merged.the-variants.{Kept}
 use Rattle.merge.specs.declared.Merged.the-variants as merged
@@ -30,14 +33,13 @@ use Rattle.frame_pass.specs.Pass.{Pass, framePass, computedChoice, levelsIn, se
 use Rattle.frame.specs.declared.FrameAnswer.{FrameAnswer}
 use Rattle.frame.specs.declared.FrameAnswer.the-variants.{Corners, Refused}
 use Rattle.frame.specs.declared.search.Lists.{Lists}
-use Rattle.frame.specs.declared.search.Lists.the-variants.{Found as Both, Short}
 use Rattle.frame_pass.specs.Refusals.{conditions}
 use Rattle.frame.specs.Frame.{Buffers, buffers, tooMany, refusalOf, paddedCorners, padded, finished, wiped, leaving, answerOf, numberOf, frame, frameOf, Found}
 use Rattle.clearing.specs.Clearing.{clearedFrom}
-use Rattle.frame.specs.Needs.{Searched}
+use Rattle.frame.specs.Needs.{Searched, Merging}
 use Rattle.frame_pass.proofs.Refusals.{Admitted, not-ten}
 use Rattle.frame.proofs.Numbers.{number-before, number-ten, number-none}
-use Rattle.frame.proofs.Padded.{SameLengths, cleared-front, cleared-none}
+use Rattle.frame.proofs.Padded.{SameLengths, padded-none, cleared-front, cleared-none}
 
 number-is : (k n : ℕ) → numberOf (answerOf k n) ≡ k
 number-is zero n = refl
@@ -81,6 +83,18 @@ build-free img w h count least d r e b a x q =
     let z = sym (builds img w h count least d r e b a) ∙ q in
     let no : _≡_ {A = ℕ} 0 1 = cc in omega arith
 
+-- ---- merging nothing leaves nothing
+none-left : (radius : Float) → merge.resultOf radius [] ≡ []
+none-left radius = nil (merge.resultOf radius []) (result-length radius [])
+  where
+    nil : (l : List Corner) → length l ≤ 0 → l ≡ []
+    nil [] h = refl
+    nil (x ∷ l) h = absurd (let no : ⊥ = omega arith in no)
+
+none-read : (c : Slices) → cornersOf c 0 ≡ []
+unfolding tab
+none-read c = refl
+
 -- ---- after the search of n levels, which answered `answer` and left s′ and c′
 module _ (p : FrameParams) (img : List ℕ) (w h : ℕ) (m : List Float) (levels : List ℕ) (s c : Slices) (n : ℕ) (counted : n ≡ levelsIn p img w h)
     (answer : Lists) (s′ c′ : Slices)
@@ -97,51 +111,84 @@ module _ (p : FrameParams) (img : List ℕ) (w h : ℕ) (m : List Float) (levels
   unfolding framePass
   corners-are = ap (λ (k : ℕ). merge.resultOf (p .radius) (foundOf p img w h (computedChoice p) k)) (sym counted)
 
-  module _ (none : lowest (conditions p (length img) w h (length m) (length levels)) ≡ 0) where
-    -- a list did not fit, and every buffer was cleared
-    pub entry-short : answer ≡ Short → SameLengths s s′ → SameLengths c c′ → (m′ : List Float) (levels′ : List ℕ) (s″ c″ : Slices) → m′ ≡ padded [] m
-        → levels′ ≡ replicate (length levels) 0 → s″ ≡ clearedFrom 0 s′ → c″ ≡ clearedFrom 0 c′ → Found p img w h (buffers m levels s c) (Refused 10) (buffers m′ levels′ s″ c″)
-    entry-short e ls lc m′ levels′ s″ c″ em el es ec =
-        found-short p img w h (buffers m levels s c) none (rw (seeds-are, found-are) (found .short e)) (buffers m′ levels′ s″ c″)
-        (rw (em, el, es ∙ cleared-none s s′ ls, ec ∙ cleared-none c c′ lc))
+  -- the corners that are merged: those found, or none
+  found-read : answer .fit ≡ true → cornersOf c′ (answer .corners) ≡ foundOf p img w h (computedChoice p) n
+  found-read e = let q = found .both e in rw (q .5) (corners-front (foundOf p img w h (computedChoice p) n) c (answer .corners) (q .3))
 
-    module _ (a k : ℕ) (both : answer ≡ Both a k) where
-      -- merging is not refused
-      pub merge-free : Admitted p (length img) w h (length m) (length levels) → All (λ z. isInside z ≡ true) (framePass p img w h (computedChoice p) .found)
-          → merge.refusalOf (p .radius) (placesOf c′) k c′ ≡ 0
-      merge-free ad inside =
-          let q = found .both a k both in
-          let fits : k ≤ placesOf c′ = rw (q .5) (omega (arith, q .4, sym (places-kept (q .3) (q .4)))) in
-          let read : cornersOf c′ k ≡ foundOf p img w h (computedChoice p) n = rw (q .5) (corners-front (foundOf p img w h (computedChoice p) n) c k (q .3)) in
-          ⊎-elim (λ off. judged-none-off (p .radius) (placesOf c′) k c′ fits off)
-          (λ on. judged-none-on (p .radius) (placesOf c′) k c′ fits (on .0) (on .1) (rw (read, ← found-are) inside)) (ad .radius)
-        where
-          places-kept : k ≡ length (foundOf p img w h (computedChoice p) n) → k ≤ placesOf c → placesOf (frontCorners (foundOf p img w h (computedChoice p) n) c) ≡ placesOf c
-          places-kept e l =
-              let f = foundOf p img w h (computedChoice p) n in
-              same-places (frontCorners f c) c (front-xs f c k e l) (front-ys f c k e l) (front-strengths f c k e l)
+  short-read : answer .fit ≡ false → cornersOf c′ (answer .corners) ≡ []
+  short-read e = ap (cornersOf c′) (found .short e .1) ∙ none-read c′
 
-      pub merge-kept : (kept : Merged) (c″ : Slices) → merge.Merges (p .radius) (placesOf c′) k c′ kept c″ → merge.refusalOf (p .radius) (placesOf c′) k c′ ≡ 0
-          → (x : ℕ) → kept ≡ merged.Refused x → ⊥
-      merge-kept kept c″ merges free x e =
-          let z = sym (merges-done (p .radius) (placesOf c′) k c′ c″ kept (cornersOf c′ k) refl free merges .0) ∙ e in
-          let no : _≡_ {A = ℕ} 0 1 = cc in omega arith
+  module _ (same : SameLengths s s′) (same′ : SameLengths c c′) where
+    places-kept : placesOf c′ ≡ placesOf c
+    places-kept = same-places c′ c (same′ .xs) (same′ .ys) (same′ .strengths)
 
-      -- both lists stand in their buffers, the corners were merged, and the buffers cleared behind
-      pub entry-done : (kept : Merged) (c″ : Slices) → merge.Merges (p .radius) (placesOf c′) k c′ kept c″ → merge.refusalOf (p .radius) (placesOf c′) k c′ ≡ 0
-          → (j : ℕ) → kept ≡ Kept j → (m′ : List Float) (levels′ : List ℕ) (s″ c‴ : Slices) → m′ ≡ padded [] m → levels′ ≡ front (above img w h n) levels → s″ ≡ clearedFrom a s′ → c‴ ≡ clearedFrom j c″
-          → Found p img w h (buffers m levels s c) (Corners j) (buffers m′ levels′ s″ c‴)
-      entry-done kept c″ merged free j is m′ levels′ s″ c‴ em el es ec =
-          let q = found .both a k both in
-          let seeds = seedsOf p img w h (computedChoice p) n in
-          let all = foundOf p img w h (computedChoice p) n in
-          let left = merge.resultOf (p .radius) all in
-          let done = merges-done (p .radius) (placesOf c′) k c′ c″ kept all (rw (q .5) (corners-front all c k (q .3))) free merged in
-          let count : j ≡ length left = let e = sym is ∙ done .0 in cc in
-          let same : SameLengths c c′ = rw (q .5) (record { xs = front-xs all c k (q .3) (q .4); ys = front-ys all c k (q .3) (q .4); strengths = front-strengths all c k (q .3) (q .4) }) in
-          let es′ : s″ ≡ paddedCorners seeds s = es ∙ ap (clearedFrom a) (q .2) ∙ cleared-front s s (record { xs = refl; ys = refl; strengths = refl }) seeds a (q .0) (q .1) in
-          let ec′ : c‴ ≡ paddedCorners left c = ec ∙ ap (clearedFrom j) (done .1) ∙ cleared-front c c′ same left j count (omega (arith, count, result-length (p .radius) all, q .3, q .4)) in
-          found-done p img w h (buffers m levels s c) none
-          (rw (seeds-are, found-are, le-ltb (placesOf s) (length seeds) (omega (arith, q .0, q .1)), le-ltb (placesOf c) (length all) (omega (arith, q .3, q .4))))
-          j (buffers m′ levels′ s″ c‴) (rw corners-are count)
-          (rw (em, el, es′, ec′, seeds-are, corners-are, ← counted))
+    -- merging is not refused
+    pub merge-free : Admitted p (length img) w h (length m) (length levels) → All (λ z. isInside z ≡ true) (framePass p img w h (computedChoice p) .found)
+        → merge.refusalOf (p .radius) (placesOf c′) (answer .corners) c′ ≡ 0
+    merge-free ad inside = of (answer .fit) refl
+      where
+        free : answer .corners ≤ placesOf c′ → All (λ z. isInside z ≡ true) (cornersOf c′ (answer .corners)) → merge.refusalOf (p .radius) (placesOf c′) (answer .corners) c′ ≡ 0
+        free fits all =
+            ⊎-elim (λ off. judged-none-off (p .radius) (placesOf c′) (answer .corners) c′ fits off)
+            (λ on. judged-none-on (p .radius) (placesOf c′) (answer .corners) c′ fits (on .0) (on .1) all) (ad .radius)
+
+        of : (fit : Bool) → answer .fit ≡ fit → merge.refusalOf (p .radius) (placesOf c′) (answer .corners) c′ ≡ 0
+        of true e = free (omega (arith, found .both e .4, places-kept)) (rw (found-read e, ← found-are) inside)
+        of false e = free (omega (arith, found .short e .1)) (rw (short-read e) tt)
+
+    -- the buffers are cleared behind what they hold, and the corners merged
+    pub entry-closed : lowest (conditions p (length img) w h (length m) (length levels)) ≡ 0
+        → (m₁ : List Float) → length m₁ ≡ length m → (levels₁ : List ℕ) → levels₁ ≡ front (above img w h n) levels → length levels₁ ≡ length levels
+        → (m′ : List Float) → m′ ≡ wipedFrom 0 float32.zero m₁ → (levels′ : List ℕ) → levels′ ≡ cond (answer .fit) levels₁ (replicate (length levels₁) 0)
+        → (s″ : Slices) → s″ ≡ clearedFrom (answer .seeds) s′ → (k : ℕ) (c″ : Slices) → Merging (p .radius) (answer .corners) c′ k c″
+        → (r : FrameAnswer) → r ≡ cond (answer .fit) (Corners k) (Refused 10) → Found p img w h (buffers m levels s c) r (buffers m′ levels′ s″ c″)
+    entry-closed none m₁ em levels₁ el ll m′ wm levels′ wl s″ ws k c″ merged r is = of (answer .fit) refl
+      where
+        cleared : (cs : List Corner) → cornersOf c′ (answer .corners) ≡ cs → length (merge.resultOf (p .radius) cs) ≤ placesOf c
+            → (k ≡ length (merge.resultOf (p .radius) cs)) × (c″ ≡ paddedCorners (merge.resultOf (p .radius) cs) c)
+        cleared cs e fits =
+            let left = merge.resultOf (p .radius) cs in
+            let count : k ≡ length left = merged .count ∙ ap (λ (l : List Corner). length (merge.resultOf (p .radius) l)) e in
+            (count, merged .is ∙ ap (λ (l : List Corner). clearedFrom k (frontCorners (merge.resultOf (p .radius) l) c′)) e ∙ cleared-front c c′ same′ left k count (omega (arith, count, fits)))
+
+        wiped-map : m′ ≡ padded [] m
+        wiped-map = wm ∙ padded-none m m₁ em
+
+        of : (fit : Bool) → answer .fit ≡ fit → Found p img w h (buffers m levels s c) r (buffers m′ levels′ s″ c″)
+        of true e =
+            let q = found .both e in
+            let seeds = seedsOf p img w h (computedChoice p) n in
+            let all = foundOf p img w h (computedChoice p) n in
+            let done = cleared all (found-read e) (omega (arith, result-length (p .radius) all, q .3, q .4)) in
+            let es : s″ ≡ paddedCorners seeds s = ws ∙ ap (clearedFrom (answer .seeds)) (q .2) ∙ cleared-front s s (record { xs = refl; ys = refl; strengths = refl }) seeds (answer .seeds) (q .0) (q .1) in
+            let levels-left : levels′ ≡ front (above img w h n) levels = wl ∙ rw e el in
+            let answered : r ≡ Corners k = is ∙ rw e in
+            rw answered
+            (found-done p img w h (buffers m levels s c) none
+            (rw (seeds-are, found-are, le-ltb (placesOf s) (length seeds) (omega (arith, q .0, q .1)), le-ltb (placesOf c) (length all) (omega (arith, q .3, q .4))))
+            k (buffers m′ levels′ s″ c″) (rw corners-are (done .0))
+            (rw (wiped-map, levels-left, es, done .1, seeds-are, corners-are, ← counted)))
+        of false e =
+            let q = found .short e in
+            let left : merge.resultOf (p .radius) [] ≡ [] = none-left (p .radius) in
+            let done = cleared [] (short-read e) (omega (arith, ap length left)) in
+            let es : s″ ≡ paddedCorners [] s = ws ∙ ap (λ (j : ℕ). clearedFrom j s′) (q .0) ∙ cleared-none s s′ same in
+            let ec : c″ ≡ paddedCorners [] c = done .1 ∙ ap (λ (l : List Corner). paddedCorners l c) left in
+            let levels-left : levels′ ≡ replicate (length levels) 0 = wl ∙ rw e (ap (λ (j : ℕ). replicate j 0) ll) in
+            let answered : r ≡ Refused 10 = is ∙ rw e in
+            rw answered
+            (found-short p img w h (buffers m levels s c) none (rw (seeds-are, found-are) (q .2)) (buffers m′ levels′ s″ c″)
+            (rw (wiped-map, levels-left, es, ec)))
+
+-- ---- merging, where it is not refused
+module _ (radius : Float) (n : ℕ) (c : Slices) (free : merge.refusalOf radius (placesOf c) n c ≡ 0) (kept : Merged) (c′ : Slices) (merges : merge.Merges radius (placesOf c) n c kept c′) where
+  pub merge-kept : (x : ℕ) → kept ≡ merged.Refused x → ⊥
+  merge-kept x e =
+      let z = sym (merges-done radius (placesOf c) n c c′ kept (cornersOf c n) refl free merges .0) ∙ e in
+      let no : _≡_ {A = ℕ} 0 1 = cc in omega arith
+
+  pub merge-done : (k : ℕ) → kept ≡ Kept k → (c″ : Slices) → c″ ≡ clearedFrom k c′ → Merging radius n c k c″
+  merge-done k e c″ is =
+      let done = merges-done radius (placesOf c) n c c′ kept (cornersOf c n) refl free merges in
+      let z = sym e ∙ done .0 in
+      record { count = (cc); is = is ∙ ap (clearedFrom k) (done .1) }

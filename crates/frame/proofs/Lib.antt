@@ -1,9 +1,6 @@
 pub mod Numbers
 pub mod Padded
-pub mod Changing
-pub mod Landing
 pub mod Adding
-pub mod Mapped
 pub mod Boxes
 pub mod Levels
 pub mod Entry

@@ -1,22 +1,21 @@
 -- What the private functions of the pass ask and promise.
 use Prim.Native.Nat.{ℕ, _+_, _*_, _<_, _≤_}
 use mathlib.Core.Path.{_≡_}
-use mathlib.Core.Bool.{true, _||_}
+use mathlib.Core.Bool.{true, false, _||_}
 use mathlib.Core.List.{List}
 use lib.Dec.{ltb}
 use lib.ListN.{length}
-use Rattle.lists.specs.Tab.{tab}
+use lib.Ieee.{Float}
 use Rattle.pyramid.proofs.Levels.{Complete}
-use Rattle.corner_list.specs.CornerList.{Slices, placesOf, cornerAt, frontCorners, placedCorners}
+use Rattle.corner_list.specs.CornerList.{Slices, placesOf, cornersOf, frontCorners, placedCorners}
 use Rattle.corner_list.specs.declared.Corner.{Corner}
 use Rattle.detect.specs.declared.Peaks.{Peaks}
 use Rattle.detect.specs.declared.Peaks.the-variants.{Added, Refused}
 use Rattle.frame_pass.specs.declared.FrameParams.{FrameParams}
 use Rattle.frame_pass.specs.Theorems.{Sound}
-pub use Rattle.frame_pass.proofs.Centred.{landing}
-unfoldable pub use Rattle.frame_pass.proofs.Centred.{centred}
+use Rattle.merge.specs.Merge.{resultOf}
+use Rattle.clearing.specs.Clearing.{clearedFrom}
 use Rattle.frame.specs.declared.search.Lists.{Lists}
-use Rattle.frame.specs.declared.search.Lists.the-variants.{Found, Short}
 
 -- an image and parameters that no rule refuses, and a map buffer with a place for each pixel
 pub record Ready (p : FrameParams) (img : List ℕ) (w h places : ℕ) : Type 0 where
@@ -28,12 +27,6 @@ pub record BuiltLevels (p : FrameParams) (img : List ℕ) (w h n : ℕ) (levels 
   pub before : List ℕ
   pub complete : Complete img w h (p .levels) (p .minimum) before levels n
 
--- ---- corners changed in their places
-
--- the n corners behind the first `held` of a buffer, each replaced by f of it
-pub record Changed (f : Corner → Corner) (held n : ℕ) (b b′ : Slices) : Type 0 where
-  pub is : b′ ≡ placedCorners held (tab n (λ i. f (cornerAt b (held + i)))) b
-
 -- ---- lists added
 
 -- the corners cs behind the first `held` of a buffer, and their number; or a refusal where they do not fit, and then the buffer holds anything
@@ -42,8 +35,25 @@ pub record Adds (cs : List Corner) (held : ℕ) (b : Slices) (answer : Peaks) (b
   pub added : (n : ℕ) → answer ≡ Added n → (n ≡ length cs) × (held + n ≤ placesOf b) × (b′ ≡ placedCorners held cs b)
   pub refused : (k : ℕ) → answer ≡ Refused k → placesOf b < held + length cs
 
--- both lists stand first in their buffers; or one of them does not fit
+-- how many corners were added
+abbrev pub addedOf : Peaks → ℕ
+addedOf (Added n) = n
+addedOf (Refused k) = 0
+
+-- the two lists, by the answers of adding the seeds and the corners
+abbrev pub listsOf : Peaks → Peaks → Lists
+listsOf (Added m) (Added n) = record { fit = true; seeds = m; corners = n }
+listsOf (Added m) (Refused k) = record { fit = false; seeds = 0; corners = 0 }
+listsOf (Refused k) g = record { fit = false; seeds = 0; corners = 0 }
+
+-- both lists stand first in their buffers; or one of them does not fit, and then both hold anything of their lengths
 pub record Searched (seeds found : List Corner) (s c : Slices) (answer : Lists) (s′ c′ : Slices) : Type 0 where
-  pub both : (m n : ℕ) → answer ≡ Found m n
-      → (m ≡ length seeds) × (m ≤ placesOf s) × (s′ ≡ frontCorners seeds s) × (n ≡ length found) × (n ≤ placesOf c) × (c′ ≡ frontCorners found c)
-  pub short : answer ≡ Short → (ltb (placesOf s) (length seeds) || ltb (placesOf c) (length found)) ≡ true
+  pub both : answer .fit ≡ true
+      → (answer .seeds ≡ length seeds) × (answer .seeds ≤ placesOf s) × (s′ ≡ frontCorners seeds s)
+      × (answer .corners ≡ length found) × (answer .corners ≤ placesOf c) × (c′ ≡ frontCorners found c)
+  pub short : answer .fit ≡ false → (answer .seeds ≡ 0) × (answer .corners ≡ 0) × ((ltb (placesOf s) (length seeds) || ltb (placesOf c) (length found)) ≡ true)
+
+-- ---- the first n corners of a buffer merged, k of them left, and zero behind those
+pub record Merging (radius : Float) (n : ℕ) (c : Slices) (k : ℕ) (c′ : Slices) : Type 0 where
+  pub count : k ≡ length (resultOf radius (cornersOf c n))
+  pub is : c′ ≡ clearedFrom k (frontCorners (resultOf radius (cornersOf c n)) c)

@@ -1,18 +1,32 @@
 // The frame pass: from an image and its parameters to the list of its corners, over borrowed buffers.
-mod localizing;
+mod closing;
 mod search;
+mod shifting;
 
+ghost use lib.ListN.{length};
+ghost use Rattle.pyramid_levels.proofs.Refusals.{Accepted};
+ghost use Rattle.pyramid.proofs.Levels.{Complete};
 ghost use Rattle.corner_list.specs.CornerList.{slices};
 ghost use Rattle.frame.specs.Frame.{buffers, Found};
-use crate::search::Lists;
 use frame_pass::FrameParams;
-use merge::Merged;
 use pyramid::Pyramid;
 
 // How many corners stand in the corner buffer, or the number of the refusal.
 pub enum FrameAnswer {
     Corners(usize),
     Refused(u8),
+}
+
+// Builds the levels above the base first in their buffer, and counts all of them.
+fn build(img: &[u8], w: usize, h: usize, p: FrameParams, levels: &mut [u8]) -> usize
+    requires { ⌜ Accepted (length (now img)) (length (now levels)) w h (p .levels) (p .minimum) ⌝ }
+    ensures { λ n. ⌜ Complete (now (img .entry)) w h (p .levels) (p .minimum) (now (levels .entry)) (now (levels .exit)) n ⌝ }
+{
+    let built = pyramid::build_pyramid(img, w, h, p.levels, p.minimum, levels);
+    let Pyramid::Levels(n) = built else {
+        return 0;
+    };
+    n
 }
 
 // Finds the corners of an image of w by h pixels: they stand first in the corner buffer, the seeds of the last level first in
@@ -40,23 +54,11 @@ pub fn find_corners(
     if number != 0 {
         return FrameAnswer::Refused(number);
     }
-    let built = pyramid::build_pyramid(img, w, h, p.levels, p.minimum, levels);
-    let Pyramid::Levels(n) = built else {
-        return FrameAnswer::Refused(9);
-    };
+    let n = build(img, w, h, p, levels);
     let found = search::search(img, w, h, p, n, levels, map, sx, sy, ss, cx, cy, cs);
     clearing::clear(map, 0);
-    let Lists::Found(seeds, corners) = found else {
-        clearing::clear_bytes(levels);
-        clearing::clear_list(sx, sy, ss, 0);
-        clearing::clear_list(cx, cy, cs, 0);
-        return FrameAnswer::Refused(10);
-    };
-    let merged = merge::merge_corners_simple(cx, cy, cs, corners, p.radius);
-    let Merged::Kept(k) = merged else {
-        return FrameAnswer::Refused(4);
-    };
-    clearing::clear_list(sx, sy, ss, seeds);
-    clearing::clear_list(cx, cy, cs, k);
-    FrameAnswer::Corners(k)
+    closing::clear_levels(levels, found.fit);
+    clearing::clear_list(sx, sy, ss, found.seeds);
+    let k = closing::finish_corners(cx, cy, cs, found.corners, p.radius);
+    closing::answer_of(found.fit, k)
 }

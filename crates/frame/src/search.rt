@@ -1,78 +1,44 @@
-// The search of the levels: maps, peaks and centroids, on the last level and in the boxes of its seeds.
+// The search of the levels: the corners of the last one, and those in the boxes of its seeds.
 ghost use Prim.Native.Nat.{_<_, _≤_};
+ghost use mathlib.Core.Path.{_≡_};
+ghost use mathlib.Core.List.{[]};
 ghost use lib.ListN.{length};
 ghost use Rattle.lists.specs.Places.{flatMap};
-ghost use Rattle.ring.specs.Ring.{ringOf};
 ghost use Rattle.corner_list.specs.CornerList.{slices, placesOf, cornersOf};
-ghost use Rattle.frame_pass.specs.Pass.{computedChoice, cornersIn, cornersAbout, seedsOf, foundOf};
-ghost use Rattle.frame.specs.Needs.{Ready, BuiltLevels, Adds, Searched};
+ghost use Rattle.multiscale.specs.Promise.{Boxed};
+ghost use Rattle.frame_pass.specs.Pass.{computedChoice, contextAt, cornersAbout, seedsOf, foundOf};
+ghost use Rattle.frame.specs.Needs.{Ready, BuiltLevels, Adds, addedOf, listsOf, Searched};
 use corner_list::Corner;
 use detect::Peaks;
 use frame_pass::FrameParams;
 use multiscale::RoiAnswer;
 use multiscale::RoiContext;
-use pyramid_levels::LevelAnswer;
-use response::Patch;
 
-// The columns x0 up to, not including, x1 of the rows y0 up to y1.
-struct Area {
-    x0: usize,
-    y0: usize,
-    x1: usize,
-    y1: usize,
+// The box of a seed of level k.
+fn box_of(w: usize, h: usize, p: FrameParams, k: usize, seed: Corner) -> RoiAnswer
+    requires { ⌜ k ≤ 12 ⌝ }
+    ensures { λ r. ⌜ Boxed (contextAt p [] w h k) seed r ⌝ }
+{
+    let context = RoiContext {
+        width: w,
+        height: h,
+        ring: p.ring,
+        window: p.window,
+        centroid: p.centroid,
+        search: p.search,
+        level: k as u32,
+    };
+    context.compute_roi(seed)
 }
 
-// Adds the corners of a box's map behind the first `held` of a buffer.
-fn add_corners(
-    img: &[u8],
-    w: usize,
-    h: usize,
-    p: FrameParams,
-    a: Area,
-    map: &mut [f32],
-    xs: &mut [f32],
-    ys: &mut [f32],
-    strengths: &mut [f32],
-    held: usize,
-) -> Peaks
-    requires { ⌜ Ready p (now img) w h (length (now map)) ⌝ }
-    ensures { λ r. ⌜ Adds (cornersIn p (computedChoice p) (record { img = now (img .entry); w = w; h = h; ring = ringOf (p .ring); x0 = a .x0; y0 = a .y0; x1 = a .x1; y1 = a .y1 }))
-        held (slices (now (xs .entry)) (now (ys .entry)) (now (strengths .entry))) r (slices (now (xs .exit)) (now (ys .exit)) (now (strengths .exit))) ⌝ }
+// How many corners were added, none where that was refused.
+fn added(f: Peaks) -> usize
+    ensures { λ n. ⌜ n ≡ addedOf f ⌝ }
 {
-    let m = response::chess_response_u8_patch(img, w, h, p.ring, a.x0, a.y0, a.x1, a.y1, map);
-    let Patch::Cells { w: pw, h: ph } = m else {
-        return Peaks::Refused(8);
-    };
-    let cells = ph * pw;
-    let f = detect::detect_peaks_from_response_with_refine_radius(
-        &map[..cells],
-        pw,
-        ph,
-        p.ring,
-        p.threshold,
-        p.window,
-        p.least,
-        p.centroid,
-        xs,
-        ys,
-        strengths,
-        held,
-    );
     let Peaks::Added(n) = f else {
-        return f;
+        return 0;
     };
-    crate::localizing::centre_all(
-        &map[..cells],
-        pw,
-        ph,
-        p.centroid,
-        xs,
-        ys,
-        strengths,
-        held,
-        n,
-    );
-    Peaks::Added(n)
+    n
 }
 
 // Adds the corners of the box of a seed of level k behind the first `held` of a buffer.
@@ -94,36 +60,27 @@ fn add_patch(
     ensures { λ r. ⌜ Adds (cornersAbout p (now (img .entry)) w h (computedChoice p) k seed)
         held (slices (now (xs .entry)) (now (ys .entry)) (now (strengths .entry))) r (slices (now (xs .exit)) (now (ys .exit)) (now (strengths .exit))) ⌝ }
 {
-    let context = RoiContext {
-        width: w,
-        height: h,
-        ring: p.ring,
-        window: p.window,
-        centroid: p.centroid,
-        search: p.search,
-        level: k as u32,
-    };
-    let b = context.compute_roi(seed);
+    let b = box_of(w, h, p, k, seed);
     let RoiAnswer::Bounds(x0, y0, x1, y1) = b else {
         return Peaks::Added(0);
     };
-    let f = add_corners(
+    let f = patch_corners::add_patch_corners(
         img,
         w,
         h,
         p,
-        Area { x0, y0, x1, y1 },
+        x0,
+        y0,
+        x1,
+        y1,
         map,
         xs,
         ys,
         strengths,
         held,
     );
-    let Peaks::Added(n) = f else {
-        return f;
-    };
-    crate::localizing::shift_all(x0, y0, xs, ys, strengths, held, n);
-    Peaks::Added(n)
+    crate::shifting::shift_all(x0, y0, xs, ys, strengths, held, added(f));
+    f
 }
 
 // Puts the corners of the boxes of the first n seeds, which are of level k, first in a buffer.
@@ -161,10 +118,65 @@ fn add_patches(
     Peaks::Added(held)
 }
 
-// How many seeds and corners stand first in their buffers, or that a list does not fit.
-pub(crate) enum Lists {
-    Found(usize, usize),
-    Short,
+// Whether both lists fit their buffers, and how many seeds and corners stand first in them; none where one does not fit.
+pub(crate) struct Lists {
+    pub fit: bool,
+    pub seeds: usize,
+    pub corners: usize,
+}
+
+// The two lists, by the answers of adding the seeds and the corners.
+fn lists_of(f: Peaks, g: Peaks) -> Lists
+    ensures { λ r. ⌜ r ≡ listsOf f g ⌝ }
+{
+    let none = Lists {
+        fit: false,
+        seeds: 0,
+        corners: 0,
+    };
+    let Peaks::Added(seeds) = f else {
+        return none;
+    };
+    let Peaks::Added(corners) = g else {
+        return none;
+    };
+    Lists {
+        fit: true,
+        seeds,
+        corners,
+    }
+}
+
+// Puts the seeds of more than one level, and the corners of their boxes, first in their buffers.
+fn search_boxes<'a>(
+    img: &'a [u8],
+    w: usize,
+    h: usize,
+    p: FrameParams,
+    n: usize,
+    levels: &'a [u8],
+    map: &mut [f32],
+    sx: &mut [f32],
+    sy: &mut [f32],
+    ss: &mut [f32],
+    cx: &mut [f32],
+    cy: &mut [f32],
+    cs: &mut [f32],
+) -> Lists
+    requires { ⌜ Ready p (now img) w h (length (now map)) ⌝ }
+    requires { ⌜ BuiltLevels p (now img) w h n (now levels) ⌝ }
+    requires { ⌜ 1 < n ⌝ }
+    ensures { λ r. ⌜ Searched (seedsOf p (now (img .entry)) w h (computedChoice p) n) (foundOf p (now (img .entry)) w h (computedChoice p) n)
+        (slices (now (sx .entry)) (now (sy .entry)) (now (ss .entry))) (slices (now (cx .entry)) (now (cy .entry)) (now (cs .entry))) r
+        (slices (now (sx .exit)) (now (sy .exit)) (now (ss .exit))) (slices (now (cx .exit)) (now (cy .exit)) (now (cs .exit))) ⌝ }
+{
+    let k = n - 1;
+    let last = pyramid::level(img, levels, w, h, p.levels, p.minimum, k);
+    let lw = w >> k;
+    let lh = h >> k;
+    let f = patch_corners::add_patch_corners(last, lw, lh, p, 0, 0, lw, lh, map, sx, sy, ss, 0);
+    let g = add_patches(img, w, h, p, k, sx, sy, ss, added(f), map, cx, cy, cs);
+    lists_of(f, g)
 }
 
 // Puts the seeds and the corners before merging, of n levels that were built, first in their buffers.
@@ -190,39 +202,11 @@ pub(crate) fn search<'a>(
         (slices (now (sx .exit)) (now (sy .exit)) (now (ss .exit))) (slices (now (cx .exit)) (now (cy .exit)) (now (cs .exit))) ⌝ }
 {
     if n == 0 {
-        return Lists::Found(0, 0);
+        return lists_of(Peaks::Added(0), Peaks::Added(0));
     }
-    let k = n - 1;
-    let a = pyramid_levels::level_at(img.len(), levels.len(), w, h, p.levels, p.minimum, k);
-    let LevelAnswer::Level {
-        from: _,
-        width: lw,
-        height: lh,
-    } = a
-    else {
-        return Lists::Short;
-    };
-    let last = pyramid::level(img, levels, w, h, p.levels, p.minimum, k);
-    let whole = Area {
-        x0: 0,
-        y0: 0,
-        x1: lw,
-        y1: lh,
-    };
-    if k == 0 {
-        let f = add_corners(last, lw, lh, p, whole, map, cx, cy, cs, 0);
-        let Peaks::Added(count) = f else {
-            return Lists::Short;
-        };
-        return Lists::Found(0, count);
+    if n == 1 {
+        let f = patch_corners::add_patch_corners(img, w, h, p, 0, 0, w, h, map, cx, cy, cs, 0);
+        return lists_of(Peaks::Added(0), f);
     }
-    let f = add_corners(last, lw, lh, p, whole, map, sx, sy, ss, 0);
-    let Peaks::Added(seeds) = f else {
-        return Lists::Short;
-    };
-    let g = add_patches(img, w, h, p, k, sx, sy, ss, seeds, map, cx, cy, cs);
-    let Peaks::Added(count) = g else {
-        return Lists::Short;
-    };
-    Lists::Found(seeds, count)
+    search_boxes(img, w, h, p, n, levels, map, sx, sy, ss, cx, cy, cs)
 }

@@ -1,9 +1,9 @@
 -- The corners behind the first `held` of a buffer, each replaced by a function of it, one a turn. Assumes nothing.
-use Prim.Native.Nat.{ℕ, _+_, _-_, _<_, _≤_}
+use Prim.Native.Nat.{ℕ, zero, suc, _+_, _-_, _<_, _≤_}
 use native.Mathlib.Omega.{arith}
 use native.Mathlib.Numerals.{add-one}
 use mathlib.Core.Path.{_≡_, refl, sym, ap, ap₂, _∙_}
-use mathlib.Core.List.{List, [], _∷_, _++_, map, append-assoc, append-nil}
+use mathlib.Core.List.{List, [], _∷_, _++_, map, map-append, append-assoc, append-nil}
 use lib.ListN.{length, take, drop, getD, length-append, length-map}
 use lib.Seq.{length-take-le, take-at, drop-at, getD-append-add, getD-drop}
 use lib.Ieee.{Float, nan}
@@ -13,9 +13,10 @@ use Rattle.lists.proofs.Tab.{length-tab}
 use Rattle.lists.proofs.Buffer.{placed-none}
 use Rattle.corner_list.specs.declared.Corner.{Corner}
 use Rattle.corner_list.specs.CornerList.{Slices, xOf, yOf, strengthOf, placesOf, cornerAt, withCorner, placedCorners}
-use Rattle.corner_list.proofs.Corners.{slices-alike}
+use Rattle.corner_list.proofs.Corners.{slices-alike, same-places}
 use Rattle.corner_list.proofs.Growing.{Growing, growing-put, growing-all, growing-xs, growing-ys, growing-strengths}
-use Rattle.frame.specs.Needs.{Changed}
+use Rattle.corner_list.proofs.Placed.{corners-placed}
+use Rattle.patch_corners.specs.Needs.{Changed}
 
 -- ---- what stands behind elements that were placed, and others placed over them
 module _ {A : Type 0} (held : ℕ) (vs d : List A) (h : held ≤ length d) where
@@ -108,3 +109,34 @@ module _ (f : Corner → Corner) (held n : ℕ) (b₀ : Slices) where
     -- all
     pub changing-all : n ≤ i → Changed f held n b₀ b
     changing-all l = let e : i ≡ n = omega (arith, at .upto) in record { is = at .is ∙ ap (λ (k : ℕ). placedCorners held (tab k read) b₀) e }
+
+-- ---- corners that were placed, each then replaced by a function of it
+map-tab : (f : Corner → Corner) (n : ℕ) (g : ℕ → Corner) → tab n (λ i. f (g i)) ≡ map f (tab n g)
+unfolding tab
+map-tab f zero g = refl
+map-tab f (suc n) g = ap (λ (l : List Corner). l ++ (f (g n) ∷ [])) (map-tab f n g) ∙ sym (map-append f (tab n g) (g n ∷ []))
+
+-- the buffer has as many places as before
+module _ (cs : List Corner) (held : ℕ) (b : Slices) (h : held + length cs ≤ placesOf b) where
+  placed-grown : Growing cs [] held (length cs) b (placedCorners held cs b)
+  placed-grown = record { done = cs; count = refl; split = sym (append-nil cs); fits = h; is = refl }
+
+  pub placed-places : placesOf (placedCorners held cs b) ≡ placesOf b
+  placed-places =
+      same-places (placedCorners held cs b) b
+      (growing-xs cs [] held (length cs) b (placedCorners held cs b) placed-grown)
+      (growing-ys cs [] held (length cs) b (placedCorners held cs b) placed-grown)
+      (growing-strengths cs [] held (length cs) b (placedCorners held cs b) placed-grown)
+
+module _ (f : Corner → Corner) (cs : List Corner) (held : ℕ) (b b′ : Slices) (n : ℕ) (e : n ≡ length cs) (fits : held + n ≤ placesOf b) (is : b′ ≡ placedCorners held cs b) where
+  -- they have their places in the buffer as it is now
+  pub changed-fits : held + n ≤ placesOf b′
+  changed-fits = let h : held + length cs ≤ placesOf b = omega (arith, e, fits) in omega (arith, fits, ap placesOf is, placed-places cs held b h)
+
+  pub changed-placed : (b″ : Slices) → Changed f held n b′ b″ → b″ ≡ placedCorners held (map f cs) b
+  changed-placed b″ c =
+      let h : held ≤ placesOf b = omega (arith, fits) in
+      let read : Slices → ℕ → Corner = λ s i. cornerAt s (held + i) in
+      let list : tab n (λ i. f (read b′ i)) ≡ map f cs =
+      map-tab f n (read b′) ∙ ap (λ (s : Slices). map f (tab n (read s))) is ∙ ap (map f) (corners-placed held cs b h n e) in
+      c .is ∙ ap₂ (λ (l : List Corner) (s : Slices). placedCorners held l s) list is ∙ corners-over held cs b h (map f cs) (length-map cs f)

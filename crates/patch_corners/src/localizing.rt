@@ -1,9 +1,8 @@
-// Corners of a buffer changed in their places: to the centre of mass, and by a box's corner.
+// Corners of a buffer put at their centres of mass, in their places.
 ghost use mathlib.Core.Path.{_≡_};
 ghost use Prim.Native.Nat.{_+_, _≤_};
 ghost use Rattle.corner_list.specs.CornerList.{slices, placesOf};
-ghost use Rattle.frame_pass.specs.Pass.{moved};
-ghost use Rattle.frame.specs.Needs.{centred, Changed};
+ghost use Rattle.patch_corners.specs.Needs.{centred, Changed};
 use center_of_mass::CenterOfMassRefiner;
 use center_of_mass::Outcome;
 use corner_list::Corner;
@@ -43,38 +42,5 @@ pub(crate) fn centre_all(
     for i in 0..n {
         let c = corner_list::corner_at(xs, ys, strengths, held + i);
         corner_list::put_corner(xs, ys, strengths, held + i, centre(c, radius, map, w, h));
-    }
-}
-
-// A corner moved by a box's corner.
-fn shift(c: Corner, x0: usize, y0: usize) -> Corner
-    requires { ⌜ (x0 ≤ 4096) × (y0 ≤ 4096) ⌝ }
-    ensures { λ r. ⌜ r ≡ moved x0 y0 c ⌝ }
-{
-    Corner {
-        x: c.x + x0 as f32,
-        y: c.y + y0 as f32,
-        strength: c.strength,
-    }
-}
-
-// Moves the n corners behind the first `held` of a buffer by a box's corner.
-pub(crate) fn shift_all(
-    x0: usize,
-    y0: usize,
-    xs: &mut [f32],
-    ys: &mut [f32],
-    strengths: &mut [f32],
-    held: usize,
-    n: usize,
-)
-    requires { ⌜ held + n ≤ placesOf (slices (now xs) (now ys) (now strengths)) ⌝ }
-    requires { ⌜ (x0 ≤ 4096) × (y0 ≤ 4096) ⌝ }
-    ensures { λ _. ⌜ Changed (moved x0 y0) held n (slices (now (xs .entry)) (now (ys .entry)) (now (strengths .entry)))
-        (slices (now (xs .exit)) (now (ys .exit)) (now (strengths .exit))) ⌝ }
-{
-    for i in 0..n {
-        let c = corner_list::corner_at(xs, ys, strengths, held + i);
-        corner_list::put_corner(xs, ys, strengths, held + i, shift(c, x0, y0));
     }
 }

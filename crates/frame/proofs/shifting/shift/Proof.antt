@@ -1,10 +1,10 @@
--- `frame::localizing::shift` meets its contract: an `f32` holds every whole number up to 4,096. Assumes nothing.
+-- `frame::shifting::shift` meets its contract: an `f32` holds every whole number up to 4,096. Assumes nothing.
 use borrow.Author.Needs.{needs}
 use native.Mathlib.Omega.{arith}
 use lib.Dec.{le→leb}
 use lib.Ieee.{inFloat}
-use Rattle.frame.proofs.localizing.shift.Statement.{statement}
-use Rattle.frame.proofs.localizing.shift.Tie as tie
+use Rattle.frame.proofs.shifting.shift.Statement.{statement}
+use Rattle.frame.proofs.shifting.shift.Tie as tie
 
 int-to-float-t4 : tie.Need-int-to-float-t4
 unfolding inFloat

@@ -1,11 +1,11 @@
--- `frame::localizing::centre` meets its contract. Assumes nothing.
+-- `patch_corners::localizing::centre` meets its contract. Assumes nothing.
 use borrow.Author.Needs.{needs}
 use mathlib.Core.Path.{sym, ap, _∙_}
 use Rattle.center_of_mass.specs.declared.Outcome.{Outcome}
 use Rattle.frame_pass.proofs.Centred.{landing, centred}
-use Rattle.frame.proofs.Landing.{not-accepted}
-use Rattle.frame.proofs.localizing.centre.Statement.{statement}
-use Rattle.frame.proofs.localizing.centre.Tie as tie
+use Rattle.patch_corners.proofs.Landing.{not-accepted}
+use Rattle.patch_corners.proofs.localizing.centre.Statement.{statement}
+use Rattle.patch_corners.proofs.localizing.centre.Tie as tie
 
 refine-requires : tie.Need-refine-requires
 refine-requires c κs = search needs

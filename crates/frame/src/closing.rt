@@ -1,0 +1,50 @@
+// The end of a frame: the corners merged, and buffers cleared behind what they hold.
+ghost use mathlib.Core.Path.{_≡_};
+ghost use mathlib.Core.Bool.{cond};
+ghost use lib.ListN.{length, replicate};
+ghost use Rattle.corner_list.specs.CornerList.{slices, placesOf};
+ghost use Rattle.merge.specs.Merge.{refusalOf};
+ghost use Rattle.frame.specs.declared.FrameAnswer.the-variants.{Corners, Refused};
+ghost use Rattle.frame.specs.Needs.{Merging};
+use crate::FrameAnswer;
+use merge::Merged;
+
+// Merges the first n corners of a buffer, clears what stands behind those that are left, and counts them.
+pub(crate) fn finish_corners(
+    cx: &mut [f32],
+    cy: &mut [f32],
+    cs: &mut [f32],
+    n: usize,
+    radius: f32,
+) -> usize
+    requires { ⌜ refusalOf radius (placesOf (slices (now cx) (now cy) (now cs))) n (slices (now cx) (now cy) (now cs)) ≡ 0 ⌝ }
+    ensures { λ k. ⌜ Merging radius n (slices (now (cx .entry)) (now (cy .entry)) (now (cs .entry))) k (slices (now (cx .exit)) (now (cy .exit)) (now (cs .exit))) ⌝ }
+{
+    let merged = merge::merge_corners_simple(cx, cy, cs, n, radius);
+    let Merged::Kept(k) = merged else {
+        return 0;
+    };
+    clearing::clear_list(cx, cy, cs, k);
+    k
+}
+
+// Clears the level buffer where a list does not fit.
+pub(crate) fn clear_levels(levels: &mut [u8], fit: bool)
+    ensures { λ _. ⌜ now (levels .exit) ≡ cond fit (now (levels .entry)) (replicate (length (now (levels .entry))) 0) ⌝ }
+{
+    if fit {
+        return;
+    }
+    clearing::clear_bytes(levels);
+}
+
+// The answer of k corners, or that a list does not fit.
+pub(crate) fn answer_of(fit: bool, k: usize) -> FrameAnswer
+    ensures { λ r. ⌜ r ≡ cond fit (Corners k) (Refused 10) ⌝ }
+{
+    if fit {
+        FrameAnswer::Corners(k)
+    } else {
+        FrameAnswer::Refused(10)
+    }
+}

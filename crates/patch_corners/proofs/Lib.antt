@@ -1,0 +1,4 @@
+pub mod Changing
+pub mod Landing
+pub mod Centring
+pub mod Patches

@@ -1,0 +1,179 @@
+-- The corners of a box, from what led to them: a fault of the input, a map buffer that is short, or the map, whose peaks were added at their
+-- centres of mass. Assumes nothing.
+use Prim.Native.Nat.{ℕ, zero, suc, _*_, _<_, _≤_}
+use native.Mathlib.Nat.{mul-comm, mul-le-mul}
+use native.Mathlib.Omega.{arith}
+use native.Mathlib.Decide.{decLt}
+use mathlib.Core.Path.{_≡_, refl, sym, ap, _∙_}
+use mathlib.Core.Logic.{inl}
+use mathlib.Core.Bool.{Bool, true, cond}
+use mathlib.Core.List.{List, [], _∷_, _++_}
+use lib.Dec.{eqb, ltb}
+use lib.ListN.{length, take}
+use lib.Seq.{length-take-le}
+use lib.Ieee.{Float}
+use borrow.Author.Tests.{lt-ltb, le-ltb, ne-eqb}
+use Rattle.lists.specs.Buffer.{front}
+use Rattle.lists.specs.Refusals.{lowest}
+use Rattle.lists.proofs.Refusals.{lowest-some, lowest-past}
+use Rattle.ring.specs.Ring.{ringOf, isRing}
+use Rattle.ring.proofs.Places.{ring-is}
+use Rattle.response.specs.Patch.{View, rows, cols, cells, Patched}
+use Rattle.response.specs.declared.Patch.{Patch}
+use Rattle.response.specs.declared.Patch.the-variants as patch
+use Rattle.response.proofs.Outcome.{cols-le, rows-le, allowed}
+use Rattle.response.proofs.Map.{Filled, filled, refused, never-refused, same-length, front-is}
+use Rattle.accuracy.specs.Accurate.{Bytes}
+use Rattle.corner_list.specs.declared.Corner.{Corner}
+use Rattle.corner_list.specs.CornerList.{Slices}
+use Rattle.detect.specs.declared.Peaks.{Peaks}
+use Rattle.detect.specs.declared.Peaks.the-variants.{Refused}
+use Rattle.detect.specs.Detect.{conditions, Found}
+use Rattle.detect.proofs.Answers.{Clear, Sound, clear, sound, sound-clear, found-refused}
+use Rattle.frame_pass.specs.declared.FrameParams.{FrameParams}
+use Rattle.frame_pass.specs.Refusals.{parametersFit}
+use Rattle.frame_pass.specs.Pass.{computedChoice, cornersIn}
+use Rattle.frame_pass.proofs.Refusals.{ring-decides}
+use Rattle.frame_pass.proofs.Maps.{Fine}
+use Rattle.frame_pass.proofs.Accepting.{corners-centred}
+use Rattle.patch_corners.specs.PatchCorners.{patchConditions, AddedCorners}
+use Rattle.patch_corners.specs.Needs.{centresIn}
+use Rattle.patch_corners.proofs.Centring.{found-to}
+
+module _ (p : FrameParams) (v : View) where
+  -- the conditions on image and parameters
+  abbrev pub inputConditions : List (Bool × ℕ)
+  inputConditions = conditions (length (v .img)) (v .w) (v .h) (p .ring) (p .window) (p .centroid)
+
+  -- a table that begins with them
+  input-first : (places : ℕ) → (lowest inputConditions ≡ 0 → ⊥) → lowest (patchConditions p v places) ≡ lowest inputConditions
+  unfolding patchConditions
+  input-first places e = lowest-some inputConditions _ e
+
+  input-past : (places : ℕ) → Clear inputConditions → lowest (patchConditions p v places) ≡ lowest ((ltb places (rows v * cols v), 8) ∷ [])
+  unfolding patchConditions
+  input-past places c = lowest-past inputConditions _ (c .numbered) (c .none)
+
+  module _ (held : ℕ) (d : List Float) (b : Slices) where
+    -- ---- refused: both buffers are as they were
+    refused-by : (k : ℕ) → lowest (patchConditions p v (length d)) ≡ k → (k ≡ 0 → ⊥) → AddedCorners p v held d b (Refused k) d b
+    refused-by k e n = record {
+      found = found-refused (patchConditions p v (length d)) (cornersIn p (computedChoice p) v) held b k (sym e) n;
+      map = rw (e, ne-eqb k 0 n);
+    }
+
+    pub when-fault : (k : ℕ) → k ≡ lowest inputConditions → (k ≡ 0 → ⊥) → AddedCorners p v held d b (Refused k) d b
+    when-fault k e n = refused-by k (input-first (length d) (λ z. n (e ∙ z)) ∙ sym e) n
+
+    module _ (none : lowest inputConditions ≡ 0) (e : List Float) (m : Patch) (patched : Patched v (p .ring) d e m) where
+      input-sound : Sound (length (v .img)) (v .w) (v .h) (p .ring) (p .window) (p .centroid)
+      input-sound = sound _ _ _ _ _ _ (clear _ _ _ _ _ _ none)
+
+      -- no map: only its buffer can be short
+      pub when-short : (k : ℕ) → m ≡ patch.Refused k → AddedCorners p v held d b (Refused 8) e b
+      when-short k q =
+          elim (decLt (length d) (rows v * cols v)) [
+            | yes l ↦
+                rw (refused v (p .ring) d e m patched k q .1)
+                (refused-by 8 (input-past (length d) (clear _ _ _ _ _ _ none) ∙ rw (lt-ltb (length d) (rows v * cols v) l)) (λ z. let no : ⊥ = omega arith in no))
+            | no g ↦
+                absurd
+                (never-refused v (p .ring) d e m patched
+                (allowed (length (v .img)) (v .w) (v .h) (p .ring) (rows v * cols v) (length d)
+                (record {
+                  narrow = input-sound .wide;
+                  low = input-sound .high;
+                  sized = input-sound .whole;
+                  known = ring-is (p .ring) (input-sound .ring-is);
+                  enough = omega arith;
+                }))
+                k q)
+          ]
+
+-- no condition holds where image and parameters are sound and the map buffer has places enough
+pub patch-clear : (p : FrameParams) (v : View) (places : ℕ) → Sound (length (v .img)) (v .w) (v .h) (p .ring) (p .window) (p .centroid) → rows v * cols v ≤ places
+    → Clear (patchConditions p v places)
+patch-clear p v places s l = record {
+  numbered = unfold patchConditions conditions in (omega arith, (omega arith, (omega arith, (omega arith, tt))));
+  none = input-past p v places (sound-clear _ _ _ _ _ _ s) ∙ rw (le-ltb places (rows v * cols v) l);
+}
+
+-- ---- the buffer e after the map of v, pw by ph, was made in d
+pub record Made (p : FrameParams) (v : View) (d e : List Float) (pw ph : ℕ) : Type 0 where
+  pub sound : Sound (length (v .img)) (v .w) (v .h) (p .ring) (p .window) (p .centroid)
+  pub holds : Filled v d e pw ph
+
+pub is-made : (p : FrameParams) (v : View) (d : List Float) → lowest (inputConditions p v) ≡ 0 → (e : List Float) (m : Patch) → Patched v (p .ring) d e m
+    → (pw ph : ℕ) → m ≡ patch.Cells pw ph → Made p v d e pw ph
+is-made p v d none e m patched pw ph q =
+    record { sound = sound _ _ _ _ _ _ (clear _ _ _ _ _ _ none); holds = filled v (p .ring) d e m patched pw ph q }
+
+module _ (p : FrameParams) (v : View) (d e : List Float) (pw ph : ℕ) (made : Made p v d e pw ph) where
+  wide : pw ≤ 4096
+  wide = omega (arith, made .holds .cols-are, cols-le v, made .sound .wide)
+
+  high : ph ≤ 4096
+  high = omega (arith, made .holds .rows-are, rows-le v, made .sound .high)
+
+  pub map-small : ph * pw ≤ 4096 * 4096
+  map-small = mul-le-mul high wide
+
+  pub map-within : ph * pw ≤ length e
+  map-within = omega (arith, made .holds .enough, same-length v d e pw ph (made .holds))
+
+  pub map-length : ph * pw ≡ length (take (ph * pw) e)
+  map-length = sym (length-take-le (ph * pw) e map-within)
+
+  -- the map is searched
+  searched : Clear (conditions (length (take (ph * pw) e)) pw ph (p .ring) (p .window) (p .centroid))
+  searched =
+      sound-clear (length (take (ph * pw) e)) pw ph (p .ring) (p .window) (p .centroid)
+      (record {
+        wide = wide;
+        high = high;
+        whole = sym map-length ∙ mul-comm ph pw;
+        ring-is = made .sound .ring-is;
+        in-window = made .sound .in-window;
+        in-radius = made .sound .in-radius;
+      })
+
+  module _ (bytes : Bytes (v .img)) (ring : v .ring ≡ ringOf (p .ring)) where
+    -- the parameters with another search radius, on which no map depends
+    abbrev plain : FrameParams
+    plain = record {
+      ring = p .ring;
+      threshold = p .threshold;
+      window = p .window;
+      least = p .least;
+      centroid = p .centroid;
+      radius = p .radius;
+      levels = p .levels;
+      minimum = p .minimum;
+      search = 0;
+    }
+
+    fine : Fine plain v
+    fine = record {
+      fit = sym (ring-decides plain (made .sound .in-window) (made .sound .in-radius) (omega arith)) ∙ made .sound .ring-is;
+      bytes = bytes;
+      ring = ring;
+      narrow = made .sound .wide;
+      low = made .sound .high;
+    }
+
+    -- its peaks at their centres of mass are the box's corners
+    centres : centresIn p (take (ph * pw) e) pw ph ≡ cornersIn p (computedChoice p) v
+    unfolding cornersIn
+    centres =
+        rw (front-is v d e pw ph (made .holds), made .holds .cols-are, made .holds .rows-are)
+        (sym (corners-centred plain v (computedChoice p) fine (inl refl)))
+
+    pub when-made : (held : ℕ) (b : Slices) (answer : Peaks) (b′ : Slices)
+        → Found (conditions (length (take (ph * pw) e)) pw ph (p .ring) (p .window) (p .centroid)) (centresIn p (take (ph * pw) e) pw ph) held b answer b′
+        → AddedCorners p v held d b answer e b′
+    when-made held b answer b′ f =
+        let taken = patch-clear p v (length d) (made .sound) (rw (← made .holds .cols-are, ← made .holds .rows-are) (made .holds .enough)) in
+        record {
+          found = found-to _ (patchConditions p v (length d)) searched taken _ _ centres held b answer b′ f;
+          map = made .holds .fills ∙ rw (taken .none);
+        }

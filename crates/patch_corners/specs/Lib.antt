@@ -1,0 +1,2 @@
+pub mod PatchCorners
+pub mod Needs
