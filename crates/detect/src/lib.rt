@@ -257,7 +257,7 @@ fn spot_of(a: u32) -> Spot
     }
 }
 
-// The number of the place (x, y) of a table; from row y1 on, that of a place past the last row of any map.
+// The number that stands for the place (x, y) in a table; from row y1 on, one for a place past the last row of any map.
 fn number_of(x: usize, y: usize, y1: usize) -> u32
     requires { ⌜ (y < y1 → (x < 4096) × (y < 4096)) ⌝ }
     ensures { λ a. ⌜ Numbered x y y1 a ⌝ }
@@ -269,7 +269,8 @@ fn number_of(x: usize, y: usize, y1: usize) -> u32
     }
 }
 
-// Lists the first peaks in a table, as many as it has places for, and behind the last of them that no more comes. Returns how many places are taken.
+// Lists the first peaks in a table, as many as it has places for, and behind the last peak of the map a place past its last row.
+// Returns how many places are listed.
 fn list_peaks(map: &[f32], s: Search, table: &mut [u32]) -> usize
     requires { ⌜ Searchable (now map) s ⌝ }
     ensures { λ n. ⌜ Listed (now (map .entry)) s (now (table .exit)) n ⌝ }
@@ -291,7 +292,7 @@ fn list_peaks(map: &[f32], s: Search, table: &mut [u32]) -> usize
     n
 }
 
-// The place of peak number i, which is the first from (x, y) on: from the table where it is one of its first n.
+// The first peak from (x, y) on, which is at place i of the table, where that is one of the n listed.
 fn peak_at(map: &[f32], s: Search, table: &[u32], n: usize, i: usize, x: usize, y: usize) -> Spot
     requires { ⌜ Searchable (now map) s ⌝ }
     requires { ⌜ Listed (now map) s (now table) n ⌝ }
@@ -344,7 +345,8 @@ fn are_too_many(map: &[f32], s: Search, table: &[u32], n: usize, places: usize, 
     true
 }
 
-// Adds the peaks to a buffer, behind the first `held`, with a table for the places of the first of them.
+// Adds the corners that the peaks start as to a buffer, behind the first `held`. They are searched for once where the table has a place for
+// each; past its last place the search is done again to write them.
 fn add_peaks(
     map: &[f32],
     s: Search,
@@ -429,6 +431,7 @@ fn search_of(
 }
 
 // Finds the peaks of a map of w by h, in row order, and adds the corners that they start as to a buffer, behind the first `held`.
+// The table of the first peaks stands on the stack: 2 KB for a map of fewer than 65,536 cells, 128 KB for a larger one.
 pub fn detect_peaks_from_response_with_refine_radius(
     map: &[f32],
     w: usize,

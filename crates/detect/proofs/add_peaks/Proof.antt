@@ -1,5 +1,5 @@
 -- `detect::add_peaks` meets its contract: the corners of the peaks passed stand in the buffer, and those ahead are left. Assumes nothing.
-use Prim.Native.Nat.{_+_, _<_}
+use Prim.Native.Nat.{_+_, _<_, _≤_}
 use native.Mathlib.Omega.{arith}
 use lib.ListN.{length}
 use borrow.Author.Needs.{needs}
@@ -33,6 +33,9 @@ turn c = c .before .before .before .before
 inside : (c : tie.Else2 Inv-loop μ-loop)
     → let s = start (turn c) .args .s in let p = c .before .before .peak-at .result in Inside (s .w) (s .h) (s .border) (place (p .x) (p .y))
 inside c = next-inside _ _ _ _ (c .before .before .peak-at .ensures .next) (omega arith)
+
+small : (c : tie.Else2 Inv-loop μ-loop) → let p = c .before .before .peak-at .result in (p .x ≤ 4096) × (p .y ≤ 4096)
+small c = let k = start (turn c) .pre in (omega (arith, inside c .right, k .wide), omega (arith, inside c .bottom, k .high))
 
 space : (c : tie.Else2 Inv-loop μ-loop) → let at = turn c .loop in start (turn c) .args .held + at .i < placesOf (slices (at .xs) (at .ys) (at .strengths))
 space c = writing-place _ _ _ _ _ _ _ _ _ (turn c .loop .inv) _ (c .before .before .peak-at .ensures) (omega arith)
@@ -89,7 +92,7 @@ add-at : tie.Need-add-at Inv-loop μ-loop
 add-at c = omega (arith, space₀ c, start (turn c) .good)
 
 coordinate-requires : tie.Need-coordinate-requires Inv-loop μ-loop
-coordinate-requires c κs = omega (arith, inside c .right, start (turn c) .pre .wide)
+coordinate-requires c κs = omega (arith, small c)
 
 mul-xs : tie.Need-mul-xs Inv-loop μ-loop
 mul-xs c = omega (arith, space₀ (c .before), start (turn (c .before)) .good)
@@ -98,7 +101,7 @@ slice-write-xs : tie.Need-slice-write-xs Inv-loop μ-loop
 slice-write-xs c = omega (arith, space (c .before))
 
 coordinate-requires-2 : tie.Need-coordinate-requires-2 Inv-loop μ-loop
-coordinate-requires-2 c κs = omega (arith, inside (c .before) .bottom, start (turn (c .before)) .pre .high)
+coordinate-requires-2 c κs = omega (arith, small (c .before))
 
 mul-ys : tie.Need-mul-ys Inv-loop μ-loop
 mul-ys c = omega (arith, space₀ (c .before .before), start (turn (c .before .before)) .good)
@@ -119,7 +122,7 @@ add-i : tie.Need-add-i Inv-loop μ-loop
 add-i c = omega (arith, space₀ (c .before .before .before), start (turn (c .before .before .before)) .good)
 
 add-x : tie.Need-add-x Inv-loop μ-loop
-add-x c = omega (arith, inside (c .before .before .before .before) .right, start (turn (c .before .before .before .before)) .pre .wide)
+add-x c = omega (arith, small (c .before .before .before .before))
 
 loop-less : tie.Need-loop-less Inv-loop μ-loop
 loop-less c =
