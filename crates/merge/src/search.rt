@@ -12,7 +12,7 @@ ghost use Rattle.merge.specs.Index.{empty, homeOf, Listed, Indexed};
 use corner_list::Corner;
 use merge_grid::Grid;
 
-// What stands for no place: a buffer that has it does not exist, and no slot holds it.
+// What stands for no place: no buffer has it, and no slot holds it.
 const NOWHERE: usize = 18446744073709551615;
 
 // A corner, and the place that it takes among the kept ones.
@@ -117,8 +117,8 @@ fn lowest_of_two(
     )
 }
 
-// Whether the index tells of a row, and of k places.
-fn is_told(floor: usize, row: usize, k: usize) -> bool
+// Whether the index holds for corners of a row and for the first k places.
+fn index_holds(floor: usize, row: usize, k: usize) -> bool
     ensures { λ r. ⌜ (r ≡ true → (floor ≤ row) × (k ≤ empty)) ⌝ }
 {
     if row < floor {
@@ -143,7 +143,7 @@ fn find_joined(
     ensures { λ r. ⌜ IsFirst (joinsAt g c (slices (now (xs .entry)) (now (ys .entry)) (now (strengths .entry)))) k r ⌝ }
 {
     let row = merge_grid::row_of(g, c);
-    if is_told(floor, row, k) {
+    if index_holds(floor, row, k) {
         let x = merge_grid::column_of(g, c) / 2;
         let y = row / 2;
         let low = lowest_of_two(xs, ys, strengths, table, g, x, y, k, c);

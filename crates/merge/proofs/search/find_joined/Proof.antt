@@ -11,32 +11,32 @@ use Rattle.merge.proofs.search.find_joined.Tie as tie
 row-of-requires : tie.Need-row-of-requires
 row-of-requires c κs = search needs
 
-is-told-requires : tie.Need-is-told-requires
-is-told-requires c κs = search needs
+index-holds-requires : tie.Need-index-holds-requires
+index-holds-requires c κs = search needs
 
 column-of-requires : tie.Need-column-of-requires
 column-of-requires c κs = search needs
 
 lowest-of-two-requires : tie.Need-lowest-of-two-requires
 lowest-of-two-requires c κs =
-    let told = c .before in
-    let small = told .before .is-told .ensures (told .if1 .taken) .1 in search needs
+    let holds = c .before in
+    let small = holds .before .index-holds .ensures (holds .if1 .taken) .1 in search needs
 
 add-lowest-of-two : tie.Need-add-lowest-of-two
 add-lowest-of-two c = search needs
 
 lowest-of-two-requires-2 : tie.Need-lowest-of-two-requires-2
 lowest-of-two-requires-2 c κs =
-    let told = c .before .before in
-    let small = told .before .is-told .ensures (told .if1 .taken) .1 in search needs
+    let holds = c .before .before in
+    let small = holds .before .index-holds .ensures (holds .if1 .taken) .1 in search needs
 
 returns : tie.Need-returns
 returns c =
     let cells = c .before .before in
-    let told = cells .before .before .is-told .ensures (cells .before .if1 .taken) in
+    let holds = cells .before .before .index-holds .ensures (cells .before .if1 .taken) in
     let row = cells .before .before .before .row-of .ensures in
     lowers-first _ _ _ _ (lowers-then _ _ _ _ _ _ (c .before .lowest-of-two .ensures) (c .lowest-of-two2 .ensures))
-    (all-near _ _ _ _ _ (cells .before .before .before .before .before .before .before .before .pre) _ _ _ (ap (λ (n : ℕ). n / 2) (cells .column-of .ensures)) (ap (λ (n : ℕ). n / 2) row) (told .1) (omega (arith, row, told .0)))
+    (all-near _ _ _ _ _ (cells .before .before .before .before .before .before .before .before .pre) _ _ _ (ap (λ (n : ℕ). n / 2) (cells .column-of .ensures)) (ap (λ (n : ℕ). n / 2) row) (holds .1) (omega (arith, row, holds .0)))
 
 first-joined-requires : tie.Need-first-joined-requires
 first-joined-requires c κs = search needs
@@ -49,7 +49,7 @@ find-joined-spec =
     tie.close
     (tie.spec
     row-of-requires
-    is-told-requires
+    index-holds-requires
     column-of-requires
     lowest-of-two-requires
     add-lowest-of-two

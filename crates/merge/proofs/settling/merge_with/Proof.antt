@@ -1,5 +1,4 @@
 -- `merge::settling::merge_with` meets its contract: each turn is one of `Progress`, and the kept corners stay indexed. Assumes nothing.
-use borrow.Author.Needs.{needs}
 use Prim.Native.Nat.{_-_}
 use native.Mathlib.Omega.{arith}
 use mathlib.Core.Path.{_≡_, refl, _∙_}
