@@ -26,6 +26,9 @@ at-else2-from-Then5 c = c .before .before .before .before .before
 abbrev at-else3 : tie.Then5 → tie.Else3
 at-else3 c = c .before .before .before .before
 
+abbrev at-start : tie.Then5 → tie.Start
+at-start c = c .before .before .before .before .before .before .before
+
 abbrev at-else1-from-Then6 : tie.Then6 → tie.Else1
 at-else1-from-Then6 c = c .before .before .before .before .before .before .before .before
 
@@ -38,6 +41,9 @@ at-else3-from-Then6 c = c .before .before .before .before .before .before
 abbrev at-else4 : tie.Then6 → tie.Else4
 at-else4 c = c .before .before .before .before
 
+abbrev at-start-from-Then6 : tie.Then6 → tie.Start
+at-start-from-Then6 c = c .before .before .before .before .before .before .before .before .before
+
 abbrev at-else1-from-Else6 : tie.Else6 → tie.Else1
 at-else1-from-Else6 c = c .before .before .before .before .before .before .before .before
 
@@ -49,6 +55,9 @@ at-else3-from-Else6 c = c .before .before .before .before .before .before
 
 abbrev at-else4-from-Else6 : tie.Else6 → tie.Else4
 at-else4-from-Else6 c = c .before .before .before .before
+
+abbrev at-start-from-Else6 : tie.Else6 → tie.Start
+at-start-from-Else6 c = c .before .before .before .before .before .before .before .before .before
 
 returns : tie.Need-returns
 unfolding conditions
@@ -71,18 +80,18 @@ returns-4 c = simp (le-ltb _ _ (at-else1 c .if1 .left), le-ltb _ _ (at-else2 c .
 
 returns-5 : tie.Need-returns-5
 unfolding conditions
-returns-5 c = simp (le-ltb _ _ (at-else1-from-Then5 c .if1 .left), le-ltb _ _ (at-else2-from-Then5 c .if2 .left), eq-eqb _ _ (at-else3 c .if3 .left), le-ltb _ _ (c .before .before .if4 .left), lt-ltb _ _ (c .if5 .taken), or-right)
+returns-5 c = simp (le-ltb _ _ (at-else1-from-Then5 c .if1 .left), le-ltb _ _ (at-else2-from-Then5 c .if2 .left), eq-eqb _ _ (at-else3 c .if3 .left), le-ltb _ _ (c .before .before .if4 .left), lt-ltb 16 (at-start c .args .p .centroid) (omega (arith, c .if5 .taken)), or-right)
 
 is-ring-requires : tie.Need-is-ring-requires
 is-ring-requires c κs = search needs
 
 returns-6 : tie.Need-returns-6
 unfolding conditions
-returns-6 c = simp (le-ltb _ _ (at-else1-from-Then6 c .if1 .left), le-ltb _ _ (at-else2-from-Then6 c .if2 .left), eq-eqb _ _ (at-else3-from-Then6 c .if3 .left), le-ltb _ _ (at-else4 c .if4 .left), le-ltb _ _ (c .before .before .if5 .left), sym (c .before .is-ring .ensures) ∙ c .if6 .taken)
+returns-6 c = simp (le-ltb _ _ (at-else1-from-Then6 c .if1 .left), le-ltb _ _ (at-else2-from-Then6 c .if2 .left), eq-eqb _ _ (at-else3-from-Then6 c .if3 .left), le-ltb _ _ (at-else4 c .if4 .left), le-ltb 16 (at-start-from-Then6 c .args .p .centroid) (omega (arith, c .before .before .if5 .left)), sym (c .before .is-ring .ensures) ∙ c .if6 .taken)
 
 returns-7 : tie.Need-returns-7
 unfolding conditions
-returns-7 c = simp (le-ltb _ _ (at-else1-from-Else6 c .if1 .left), le-ltb _ _ (at-else2-from-Else6 c .if2 .left), eq-eqb _ _ (at-else3-from-Else6 c .if3 .left), le-ltb _ _ (at-else4-from-Else6 c .if4 .left), le-ltb _ _ (c .before .before .if5 .left), sym (c .before .is-ring .ensures) ∙ c .if6 .left)
+returns-7 c = simp (le-ltb _ _ (at-else1-from-Else6 c .if1 .left), le-ltb _ _ (at-else2-from-Else6 c .if2 .left), eq-eqb _ _ (at-else3-from-Else6 c .if3 .left), le-ltb _ _ (at-else4-from-Else6 c .if4 .left), le-ltb 16 (at-start-from-Else6 c .args .p .centroid) (omega (arith, c .before .before .if5 .left)), sym (c .before .is-ring .ensures) ∙ c .if6 .left)
 
 pub fault-spec : {M : Type 1} → statement M
 fault-spec =
