@@ -34,7 +34,7 @@ fn sides(s: &Subject) -> String {
     format!("{} x {}, ring {}", s.width, s.height, s.params.ring)
 }
 
-/// A place for a corner for every eighth pixel: enough that no peaks are counted before they are written.
+/// A place for a corner for every eighth pixel.
 pub fn places(s: &Subject) -> usize {
     s.pixels.len() / 8
 }

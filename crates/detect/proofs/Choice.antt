@@ -9,7 +9,7 @@ use lib.ListN.{length}
 use lib.Dec.{T, leb}
 use lib.Ieee.{Float, le, isNan}
 use borrow.Author.Tests.{not-true, leb-true}
-use Rattle.lists.specs.Places.{Place, block, keep, count, All}
+use Rattle.lists.specs.Places.{Place, block, keep, All}
 use Rattle.lists.proofs.Tests.{and-parts}
 use Rattle.lists.proofs.Places.{block-end, block-thin, keep-le, length-block}
 use Rattle.lists.proofs.Members.{all-map, all-keep, all-block}

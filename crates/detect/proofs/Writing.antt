@@ -1,13 +1,12 @@
 -- The corners that the peaks start as, put into the buffer one after the other. Assumes nothing.
 use Prim.Native.Nat.{ℕ, _+_, _-_, _<_, _≤_}
 use native.Mathlib.Omega.{arith}
-use mathlib.Core.Path.{_≡_, sym, ap, _∙_}
+use mathlib.Core.Path.{_≡_, ap}
 use mathlib.Core.List.{List, [], _∷_, map}
 use lib.ListN.{length}
 use lib.Ieee.{Float}
 use Rattle.lists.specs.Places.{Place}
 use Rattle.corner_list.specs.CornerList.{Slices, placesOf, withCorner}
-use Rattle.corner_list.specs.declared.Corner.{Corner}
 use Rattle.corner_list.proofs.Corners.{same-places}
 use Rattle.corner_list.proofs.Growing.{Growing, growing-none, growing-to, growing-room, growing-put, growing-all, growing-xs, growing-ys, growing-strengths}
 use Rattle.detect.specs.declared.Search.{Search}

@@ -10,7 +10,7 @@ ghost use lib.Ieee.{lt, ofInt, binary32};
 ghost use Rattle.lists.specs.Places.{any, count};
 ghost use Rattle.lists.specs.Refusals.{lowest};
 ghost use Rattle.float32.specs.Float32.{zero};
-ghost use Rattle.corner_list.specs.CornerList.{slices, placesOf};
+ghost use Rattle.corner_list.specs.CornerList.{slices};
 ghost use Rattle.detect.specs.Peaks.{valueAt, isLow, largerIn, positiveIn, beaten, positives, Inside};
 ghost use Rattle.detect.specs.Detect.{searchOf, peakIn, peaksIn, startsIn, conditions, Found};
 ghost use Rattle.detect.specs.Post.{place, placeOf, Searchable, Below, Skipped, NextPeak, Numbered, Listed, Standing, NextListed};

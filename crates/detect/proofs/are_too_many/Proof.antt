@@ -20,28 +20,9 @@ Inv-loop map s table n places held free y1 x₀ y₀ i₀ x y i = Counting map s
 abbrev μ-loop : tie.MeasureT-loop
 μ-loop map s table n places held free y1 x₀ y₀ i₀ x y i = free + 1 - i
 
--- from one place of the code back to another
-abbrev at-start : tie.Then1 Inv-loop μ-loop → tie.Start Inv-loop μ-loop
-at-start c = c .before .before .before
-
-abbrev at-start-from-Then2 : tie.Then2 Inv-loop μ-loop → tie.Start Inv-loop μ-loop
-at-start-from-Then2 c = c .before .before .before .before .before
-
-abbrev at-start-from-In-loop : tie.In-loop Inv-loop μ-loop → tie.Start Inv-loop μ-loop
-at-start-from-In-loop c = c .before .before .before .before .before .before .before .before
-
-abbrev at-at-loop : tie.Then3 Inv-loop μ-loop → tie.At-loop Inv-loop μ-loop
-at-at-loop c = c .before .before .before .before
-
-abbrev at-peak-at : tie.After-struct-known2 Inv-loop μ-loop → tie.After-peak-at Inv-loop μ-loop
-at-peak-at c = c .before .before .before
-
-abbrev at-at-loop-from-struct-known2 : tie.After-struct-known2 Inv-loop μ-loop → tie.At-loop Inv-loop μ-loop
-at-at-loop-from-struct-known2 c = c .before .before .before .before .before
-
 returns : tie.Need-returns Inv-loop μ-loop
 returns c =
-    let a = at-start c .args in
+    let a = c .before .before .before .args in
     let more : a .places < a .held + length (peaksIn (a .map .now) (a .s)) = omega arith in
     sym (lt-ltb _ _ more)
 
@@ -50,7 +31,7 @@ cells-inside-requires c κs = search needs
 
 returns-2 : tie.Need-returns-2 Inv-loop μ-loop
 returns-2 c =
-    let a = at-start-from-Then2 c .args in
+    let a = c .before .before .before .before .before .args in
     let most : a .held + length (peaksIn (a .map .now) (a .s)) ≤ a .places = omega (arith, c .before .cells-inside .ensures, peaks-at-most (readIn (a .map .now) (a .s)) (a .s .w) (a .s .h) (a .s .border) (a .s .window) (a .s .least)) in
     sym (le-ltb _ _ most)
 
@@ -61,22 +42,22 @@ loop-holds : tie.Need-loop-holds Inv-loop μ-loop
 loop-holds c = counting-first _ _ _ _
 
 peak-at-requires : tie.Need-peak-at-requires Inv-loop μ-loop
-peak-at-requires c κs = (at-start-from-In-loop c .pre .0, (at-start-from-In-loop c .pre .1, c .before .loop .inv .standing))
+peak-at-requires c κs = let start = c .before .before .before .before .before .before .before .before in (start .pre .0, (start .pre .1, c .before .loop .inv .standing))
 
 returns-3 : tie.Need-returns-3 Inv-loop μ-loop
-returns-3 c = counting-fit _ _ _ _ _ _ (at-at-loop c .loop .inv) _ (c .before .before .peak-at .ensures) (omega arith) _ _ (omega arith)
+returns-3 c = counting-fit _ _ _ _ _ _ (c .before .before .before .before .loop .inv) _ (c .before .before .peak-at .ensures) (omega arith) _ _ (omega arith)
 
 add-i : tie.Need-add-i Inv-loop μ-loop
 add-i c = search needs
 
 add-x : tie.Need-add-x Inv-loop μ-loop
-add-x c = let i = next-inside _ _ _ _ (at-peak-at c .peak-at .ensures .next) (omega arith) in omega (arith, i .right)
+add-x c = let i = next-inside _ _ _ _ (c .before .before .before .peak-at .ensures .next) (omega arith) in omega (arith, i .right)
 
 loop-less : tie.Need-loop-less Inv-loop μ-loop
 loop-less c = search needs
 
 loop-again : tie.Need-loop-again Inv-loop μ-loop
-loop-again c = counting-next _ _ _ _ _ _ (at-at-loop-from-struct-known2 c .loop .inv) _ (at-peak-at c .peak-at .ensures) (omega arith)
+loop-again c = counting-next _ _ _ _ _ _ (c .before .before .before .before .before .loop .inv) _ (c .before .before .before .peak-at .ensures) (omega arith)
 
 returns-4 : tie.Need-returns-4 Inv-loop μ-loop
 returns-4 c = counting-many _ _ _ _ _ _ (c .before .loop .inv) _ _ (omega arith)

@@ -1,5 +1,7 @@
 -- `detect::detect_peaks_from_response_with_refine_radius` meets its contract, answer by answer. Assumes nothing.
+use Prim.Native.Nat.{ℕ}
 use mathlib.Core.Path.{sym, _∙_}
+use mathlib.Core.Bool.{Bool}
 use mathlib.Core.List.{List}
 use lib.ListN.{length}
 use lib.Ieee.{Float}
@@ -17,6 +19,9 @@ fine : (c : tie.Else1)
     → let a = c .before .before .before .before .before .before .args in
     Clear (conditions (length (a .map .now)) (a .w) (a .h) (a .ring) (a .window) (a .refine-radius))
 fine c = clear _ _ _ _ _ _ (sym (c .before .fault .ensures) ∙ c .if1 .left)
+
+abbrev conditions-of : tie.After-search-of → List (Bool × ℕ)
+conditions-of c = let a = c .before .before .before .before .before .before .before .args in conditions (length (a .map .now)) (a .w) (a .h) (a .ring) (a .window) (a .refine-radius)
 
 abbrev map-of : tie.After-search-of → List Float
 map-of c = c .before .before .before .before .before .before .before .args .map .now
@@ -58,7 +63,7 @@ returns-2 : tie.Need-returns-2
 returns-2 c =
     let add = c .before .before .before .before .before .before .before in
     let search = add .before .before .before .before .before .before in
-    found-clear (map-of search) (search .search-of .result) (search-of search) (search .search-of .ensures) _ (fine (search .before)) _ (buffer-of search) (add .add-peaks .result) _ (add .add-peaks .ensures)
+    found-clear (map-of search) (search .search-of .result) (search-of search) (search .search-of .ensures) (conditions-of search) (fine (search .before)) _ (buffer-of search) (add .add-peaks .result) _ (add .add-peaks .ensures)
 
 slice-aggregate-add-peaks-2 : tie.Need-slice-aggregate-add-peaks-2
 slice-aggregate-add-peaks-2 c = search needs
@@ -79,7 +84,7 @@ returns-3 : tie.Need-returns-3
 returns-3 c =
     let add = c .before .before .before .before .before .before .before in
     let search = add .before .before .before .before .before .before in
-    found-clear (map-of search) (search .search-of .result) (search-of search) (search .search-of .ensures) _ (fine (search .before)) _ (buffer-of search) (add .add-peaks2 .result) _ (add .add-peaks2 .ensures)
+    found-clear (map-of search) (search .search-of .result) (search-of search) (search .search-of .ensures) (conditions-of search) (fine (search .before)) _ (buffer-of search) (add .add-peaks2 .result) _ (add .add-peaks2 .ensures)
 
 pub detect-peaks-from-response-with-refine-radius-spec : {M : Type 1} → statement M
 detect-peaks-from-response-with-refine-radius-spec =

@@ -2,7 +2,7 @@
 use Prim.Native.Nat.{_-_}
 use mathlib.Core.Path.{_≡_, refl, _∙_}
 use native.Mathlib.Omega.{arith}
-use lib.ListN.{length, length-set}
+use lib.ListN.{length, set, length-set}
 use borrow.Author.Needs.{needs}
 use Rattle.detect.specs.Post.{place}
 use Rattle.detect.proofs.Scanning.{next-inside}
@@ -16,39 +16,16 @@ Inv-loop map s table₀ y1 x₀ y₀ n₀ table x y n = Listing map s table n (p
 abbrev μ-loop : tie.MeasureT-loop
 μ-loop map s table₀ y1 x₀ y₀ n₀ table x y n = length table - n
 
--- from one place of the code back to another
-abbrev at-at-loop : tie.Then1 Inv-loop μ-loop → tie.At-loop Inv-loop μ-loop
-at-at-loop c = c .before .before .before .before .before
+-- the turn that a number was made in, and the function's start
+abbrev turn : tie.After-number-of Inv-loop μ-loop → tie.At-loop Inv-loop μ-loop
+turn c = c .before .before .before
 
-abbrev at-start : tie.Then1 Inv-loop μ-loop → tie.Start Inv-loop μ-loop
-at-start c = c .before .before .before .before .before .before .before .before .before
+abbrev start : tie.After-number-of Inv-loop μ-loop → tie.Start Inv-loop μ-loop
+start c = turn c .before .before .before .before
 
-abbrev at-in-loop : tie.Then1 Inv-loop μ-loop → tie.In-loop Inv-loop μ-loop
-at-in-loop c = c .before .before .before .before
-
-abbrev at-next-peak : tie.Then1 Inv-loop μ-loop → tie.After-next-peak Inv-loop μ-loop
-at-next-peak c = c .before .before .before
-
-abbrev at-minus : tie.Then1 Inv-loop μ-loop → tie.After-minus Inv-loop μ-loop
-at-minus c = c .before .before .before .before .before .before
-
-abbrev at-next-peak-from-struct-known2 : tie.After-struct-known2 Inv-loop μ-loop → tie.After-next-peak Inv-loop μ-loop
-at-next-peak-from-struct-known2 c = c .before .before .before .before
-
-abbrev at-at-loop-from-struct-known2 : tie.After-struct-known2 Inv-loop μ-loop → tie.At-loop Inv-loop μ-loop
-at-at-loop-from-struct-known2 c = c .before .before .before .before .before .before
-
-abbrev at-number-of : tie.After-struct-known2 Inv-loop μ-loop → tie.After-number-of Inv-loop μ-loop
-at-number-of c = c .before .before .before
-
-abbrev at-start-from-struct-known2 : tie.After-struct-known2 Inv-loop μ-loop → tie.Start Inv-loop μ-loop
-at-start-from-struct-known2 c = c .before .before .before .before .before .before .before .before .before .before
-
-abbrev at-in-loop-from-struct-known2 : tie.After-struct-known2 Inv-loop μ-loop → tie.In-loop Inv-loop μ-loop
-at-in-loop-from-struct-known2 c = c .before .before .before .before .before
-
-abbrev at-minus-from-struct-known2 : tie.After-struct-known2 Inv-loop μ-loop → tie.After-minus Inv-loop μ-loop
-at-minus-from-struct-known2 c = c .before .before .before .before .before .before .before
+-- the table is as long as it was
+long : (c : tie.After-number-of Inv-loop μ-loop) → length (set (turn c .loop .table) (turn c .loop .n) (c .number-of .result)) ≡ length (start c .args .table .now)
+long c = length-set (turn c .loop .table) (turn c .loop .n) (c .number-of .result) ∙ turn c .loop .inv .1
 
 minus-requires : tie.Need-minus-requires Inv-loop μ-loop
 minus-requires c κs = search needs
@@ -72,20 +49,23 @@ add-n : tie.Need-add-n Inv-loop μ-loop
 add-n c = search needs
 
 same-length : tie.Need-same-length Inv-loop μ-loop
-same-length c = length-set (at-at-loop c .loop .table) (at-at-loop c .loop .n) (c .before .before .number-of .result) ∙ at-at-loop c .loop .inv .1
+same-length c = long (c .before .before)
 
 returns : tie.Need-returns Inv-loop μ-loop
-returns c = listing-put _ _ _ _ _ _ _ (at-at-loop c .loop .inv .0) (at-start c .pre .high) (at-in-loop c .loop-test .taken) (at-next-peak c .next-peak .ensures) _ (at-minus c .minus .ensures) (c .before .before .number-of .ensures)
+returns c =
+    let n = c .before .before in
+    listing-put _ _ _ _ _ _ _ (turn n .loop .inv .0) (start n .pre .high) (n .before .before .loop-test .taken) (n .before .next-peak .ensures) _ (turn n .before .minus .ensures) (n .number-of .ensures)
 
 add-x : tie.Need-add-x Inv-loop μ-loop
-add-x c = let i = next-inside _ _ _ _ (at-next-peak-from-struct-known2 c .next-peak .ensures) (omega arith) in omega (arith, i .right)
+add-x c = let i = next-inside _ _ _ _ (c .before .before .before .before .next-peak .ensures) (omega arith) in omega (arith, i .right)
 
 loop-less : tie.Need-loop-less Inv-loop μ-loop
-loop-less c = omega (arith, length-set (at-at-loop-from-struct-known2 c .loop .table) (at-at-loop-from-struct-known2 c .loop .n) (at-number-of c .number-of .result))
+loop-less c = let n = c .before .before .before in omega (arith, long n, turn n .loop .inv .1)
 
 loop-again : tie.Need-loop-again Inv-loop μ-loop
 loop-again c =
-    (listing-next _ _ _ _ _ _ _ (at-at-loop-from-struct-known2 c .loop .inv .0) (at-start-from-struct-known2 c .pre .high) (at-in-loop-from-struct-known2 c .loop-test .taken) (at-next-peak-from-struct-known2 c .next-peak .ensures) _ (at-minus-from-struct-known2 c .minus .ensures) (at-number-of c .number-of .ensures) (omega arith), length-set (at-at-loop-from-struct-known2 c .loop .table) (at-at-loop-from-struct-known2 c .loop .n) (at-number-of c .number-of .result) ∙ at-at-loop-from-struct-known2 c .loop .inv .1)
+    let n = c .before .before .before in
+    (listing-next _ _ _ _ _ _ _ (turn n .loop .inv .0) (start n .pre .high) (n .before .before .loop-test .taken) (n .before .next-peak .ensures) _ (turn n .before .minus .ensures) (n .number-of .ensures) (omega arith), long n)
 
 same-length-2 : tie.Need-same-length-2 Inv-loop μ-loop
 same-length-2 c = c .before .loop .inv .1
