@@ -89,7 +89,7 @@ sub-result : tie.Need-sub-result Inv-loop μ-loop
 unfolding ofBits
 sub-result c =
     let start = c .before .before .before .before in
-    centre-in _ _ _ _ _ (start .pre .0) (start .pre .1 .0) (start .pre .1 .1) _ (c .before .loop-test .left) _ (c .before .before .loop .inv) (c .if1 .taken)
+    omega (arith, centre-in _ _ _ _ _ (start .pre .0) (start .pre .1 .0) (start .pre .1 .1) _ (c .before .loop-test .left) _ (c .before .before .loop .inv) (c .if1 .taken))
 
 returns : tie.Need-returns Inv-loop μ-loop
 unfolding ofBits
