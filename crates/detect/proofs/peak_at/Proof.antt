@@ -1,4 +1,5 @@
 -- `detect::peak_at` meets its contract: the table has what the search would find. Assumes nothing.
+use native.Mathlib.Omega.{arith}
 use borrow.Author.Needs.{needs}
 use Rattle.detect.proofs.Table.{next-taken, next-searched}
 use Rattle.detect.proofs.peak_at.Statement.{statement}
@@ -22,7 +23,7 @@ next-peak-requires : tie.Need-next-peak-requires
 next-peak-requires c κs = search needs
 
 returns-2 : tie.Need-returns-2
-returns-2 c = next-searched _ _ _ _ _ _ (c .before .if1 .left) _ (c .next-peak .ensures)
+returns-2 c = next-searched _ _ _ _ _ _ (omega arith) _ (c .next-peak .ensures)
 
 pub peak-at-spec : {M : Type 1} → statement M
 peak-at-spec =
