@@ -1,8 +1,13 @@
 // What a buffer holds before a call, and whether it holds afterwards what is due.
-use crate::cursor::Cursor;
-use crate::cursor::byte_at;
-use crate::cursor::part;
-use crate::cursor::word_at;
+use crate::fields::and;
+use crate::fields::byte_at;
+use crate::fields::bytes_at;
+use crate::fields::floats_at;
+use crate::fields::part;
+use crate::fields::past;
+use crate::fields::past_bytes;
+use crate::fields::past_floats;
+use crate::fields::word_at;
 
 // ---- before the call
 
@@ -34,15 +39,6 @@ pub(crate) fn fill_bytes(d: &mut [u8]) {
     }
 }
 
-// The most places that a slice of a list buffer has, and such a slice, filled by the rule.
-pub(crate) const LIST: usize = 120;
-
-pub(crate) fn list() -> [f32; LIST] {
-    let mut d = [0.0f32; LIST];
-    fill_floats(&mut d);
-    d
-}
-
 // The bits of float i of a field, or those by the rule behind it.
 fn bits_before(field: &[u8], i: usize) -> u32 {
     if i < field.len() / 4 {
@@ -62,14 +58,6 @@ pub(crate) fn read_floats(field: &[u8], d: &mut [f32]) {
 
 // ---- after the call
 
-// The bits of the float at a place of a slice, and 0 past its end.
-fn bits_at(s: &[f32], i: usize) -> u32 {
-    if i < s.len() {
-        return float32::to_bits(s[i]);
-    }
-    0
-}
-
 // The bits that are due at place i of a float buffer: the field's, and behind it 0 or, where the rest is kept, those from before.
 fn due_bits(field: &[u8], is_kept: bool, given: &[u8], i: usize) -> u32 {
     if i < field.len() / 4 {
@@ -81,16 +69,24 @@ fn due_bits(field: &[u8], is_kept: bool, given: &[u8], i: usize) -> u32 {
     0
 }
 
-// Whether the first n places of a float buffer hold what is due, and the field has no more.
-fn are_floats_due(field: &[u8], is_kept: bool, given: &[u8], after: &[f32], n: usize) -> bool {
+// The first n floats, or all where there are fewer.
+pub(crate) fn front(s: &[f32], n: usize) -> &[f32] {
+    if n <= s.len() {
+        return &s[0..n];
+    }
+    s
+}
+
+// Whether a float buffer holds what is due.
+fn are_floats_due(field: &[u8], is_kept: bool, given: &[u8], after: &[f32]) -> bool {
     let mut i = 0;
-    while i < n {
-        if bits_at(after, i) != due_bits(field, is_kept, given, i) {
+    while i < after.len() {
+        if float32::to_bits(after[i]) != due_bits(field, is_kept, given, i) {
             return false;
         }
         i += 1;
     }
-    field.len() / 4 <= n
+    true
 }
 
 // The byte that is due at place i of a byte buffer that was filled by the rule, likewise.
@@ -104,69 +100,58 @@ fn due_byte(field: &[u8], is_kept: bool, i: usize) -> u32 {
     0
 }
 
-// Whether the first n places of a byte buffer hold what is due, and the field has no more.
-fn are_bytes_due(field: &[u8], is_kept: bool, after: &[u8], n: usize) -> bool {
+// Whether a byte buffer holds what is due, and the field has no more.
+fn are_bytes_due(field: &[u8], is_kept: bool, after: &[u8]) -> bool {
     let mut i = 0;
-    while i < n {
+    while i < after.len() {
         if byte_at(after, i) != due_byte(field, is_kept, i) {
             return false;
         }
         i += 1;
     }
-    field.len() <= n
+    field.len() <= after.len()
 }
 
 // Whether two slices hold the same bytes.
 pub(crate) fn are_same(a: &[u8], b: &[u8]) -> bool {
     if a.len() == b.len() {
-        return are_bytes_due(a, false, b, b.len());
+        return are_bytes_due(a, false, b);
     }
     false
 }
 
-impl Cursor {
-    // Past what is due in a float buffer of n places, which was filled with the floats of a given field, and by the rule behind them.
-    pub(crate) fn due_floats_over(
-        self,
-        body: &[u8],
-        given: &[u8],
-        after: &[f32],
-        n: usize,
-    ) -> Cursor {
-        let rest = self.byte(body);
-        let floats = rest.next.floats(body);
-        let field = floats.of(body);
-        let is_due = are_floats_due(field, rest.value == 1, given, after, n);
-        floats.next.and(is_due).and(rest.value <= 1)
-    }
+// Whether all bytes are 0.
+pub(crate) fn are_zero(s: &[u8]) -> bool {
+    are_bytes_due(part(s, 0, 0), false, s)
+}
 
-    // The same where all was filled by the rule.
-    pub(crate) fn due_floats(self, body: &[u8], after: &[f32], n: usize) -> Cursor {
-        self.due_floats_over(body, part(body, 0, 0), after, n)
-    }
+// ---- past what is due in a buffer; first stands whether what is behind the field is kept (1) or 0 (0)
 
-    // Past what is due in the whole of a list buffer's slices.
-    pub(crate) fn due_list(self, body: &[u8], xs: &[f32], ys: &[f32], strengths: &[f32]) -> Cursor {
-        self.due_floats(body, xs, xs.len())
-            .due_floats(body, ys, ys.len())
-            .due_floats(body, strengths, strengths.len())
-    }
+// In a float buffer that was filled with the floats of a given field, and by the rule behind them.
+pub(crate) fn due_floats_over(body: &[u8], at: usize, given: &[u8], after: &[f32]) -> usize {
+    let rest = byte_at(body, at);
+    let floats = past(body, and(at, rest <= 1), 1);
+    let is_due = are_floats_due(floats_at(body, floats), rest == 1, given, after);
+    and(past_floats(body, floats, after.len()), is_due)
+}
 
-    // Past what is due in a byte buffer of n places.
-    pub(crate) fn due_bytes(self, body: &[u8], after: &[u8], n: usize) -> Cursor {
-        let rest = self.byte(body);
-        let bytes = rest.next.bytes(body);
-        let field = bytes.of(body);
-        let is_due = are_bytes_due(field, rest.value == 1, after, n);
-        bytes.next.and(is_due).and(rest.value <= 1)
-    }
+// In a float buffer that was filled by the rule.
+pub(crate) fn due_floats(body: &[u8], at: usize, after: &[f32]) -> usize {
+    due_floats_over(body, at, part(body, 0, 0), after)
+}
 
-    // Past the bytes that are due at the front of a buffer, which is as before behind them.
-    pub(crate) fn due_front(self, body: &[u8], after: &[u8]) -> Cursor {
-        let bytes = self.bytes(body);
-        let field = bytes.of(body);
-        bytes
-            .next
-            .and(are_bytes_due(field, true, after, after.len()))
-    }
+// In a byte buffer that was filled by the rule.
+pub(crate) fn due_bytes(body: &[u8], at: usize, after: &[u8]) -> usize {
+    let rest = byte_at(body, at);
+    let bytes = past(body, and(at, rest <= 1), 1);
+    let is_due = are_bytes_due(bytes_at(body, bytes), rest == 1, after);
+    and(past_bytes(body, bytes), is_due)
+}
+
+// At the front of a byte buffer, behind which all is kept: no byte says so.
+pub(crate) fn due_front(body: &[u8], at: usize, after: &[u8]) -> usize {
+    and(
+        past_bytes(body, at),
+        are_bytes_due(bytes_at(body, at), true, after),
+    )
 }

@@ -1,8 +1,15 @@
 // Kind 5: the centroid of a seed.
 use crate::buffers::read_floats;
-use crate::cursor::Cursor;
-use crate::cursor::float;
-use crate::cursor::word;
+use crate::fields::byte_at;
+use crate::fields::count_at;
+use crate::fields::due_byte;
+use crate::fields::due_float;
+use crate::fields::due_word;
+use crate::fields::float;
+use crate::fields::floats_at;
+use crate::fields::length_at;
+use crate::fields::past_floats;
+use crate::fields::word;
 use center_of_mass::CenterOfMassRefiner;
 use center_of_mass::Outcome;
 
@@ -10,57 +17,40 @@ use center_of_mass::Outcome;
 const CELLS: usize = 2048;
 
 pub(crate) fn replay(body: &[u8]) -> bool {
-    let has_map = Cursor::behind(body, 3).byte(body);
-    let w = has_map.next.word(body);
-    let h = w.next.word(body);
-    let cells = h.next.floats(body);
-    let n = cells.count();
-    if CELLS < n {
-        return false;
-    }
+    let n = length_at(body, 21, CELLS);
     let mut map = [0.0f32; CELLS];
-    read_floats(cells.of(body), &mut map);
-    let outcome = outcome_of(body, has_map.value == 1, &map[0..n], w.value, h.value);
-    due_outcome(cells.next, body, outcome).is_done(body)
+    read_floats(floats_at(body, 21), &mut map);
+    is_due(body, refine(body, &map[0..n]))
 }
 
-// The outcome for the seed that the body gives.
-fn outcome_of(body: &[u8], has_map: bool, map: &[f32], w: u32, h: u32) -> Outcome {
+// The outcome on a map for the seed that the body gives.
+fn refine(body: &[u8], map: &[f32]) -> Outcome {
     let refiner = CenterOfMassRefiner {
         radius: word(body, 0),
     };
     refiner.refine(
         float(body, 1),
         float(body, 2),
-        has_map,
+        byte_at(body, 12) == 1,
         map,
-        w as usize,
-        h as usize,
+        count_at(body, 13),
+        count_at(body, 17),
     )
 }
 
-fn due_outcome(c: Cursor, body: &[u8], outcome: Outcome) -> Cursor {
+fn is_due(body: &[u8], outcome: Outcome) -> bool {
     match outcome {
-        Outcome::Accepted(x, y, mass) => due_values(c, body, 0, 1, x, y, mass),
-        Outcome::Rejected(x, y) => due_values(c, body, 0, 2, x, y, 0.0),
-        Outcome::OutOfBounds(x, y) => due_values(c, body, 0, 3, x, y, 0.0),
-        Outcome::IllConditioned(x, y) => due_values(c, body, 0, 4, x, y, 0.0),
-        Outcome::Refused(number) => due_values(c, body, number, 0, 0.0, 0.0, 0.0),
+        Outcome::Accepted(x, y, mass) => are_due(body, 0, 1, x, y, mass),
+        Outcome::Rejected(x, y) => are_due(body, 0, 2, x, y, 0.0),
+        Outcome::OutOfBounds(x, y) => are_due(body, 0, 3, x, y, 0.0),
+        Outcome::IllConditioned(x, y) => are_due(body, 0, 4, x, y, 0.0),
+        Outcome::Refused(number) => are_due(body, number, 0, 0.0, 0.0, 0.0),
     }
 }
 
-fn due_values(
-    c: Cursor,
-    body: &[u8],
-    refusal: u8,
-    outcome: u8,
-    x: f32,
-    y: f32,
-    mass: f32,
-) -> Cursor {
-    c.due_word(body, refusal as u32)
-        .due_byte(body, outcome)
-        .due_float(body, x)
-        .due_float(body, y)
-        .due_float(body, mass)
+fn are_due(body: &[u8], refusal: u8, outcome: u8, x: f32, y: f32, mass: f32) -> bool {
+    let at = past_floats(body, 21, CELLS);
+    let refused = due_word(body, at, refusal as u32);
+    let place = due_float(body, due_byte(body, refused, outcome), x);
+    due_float(body, due_float(body, place, y), mass) == body.len()
 }

@@ -1,10 +1,18 @@
 // Kinds 7 and 8: the levels of a pyramid, and where one of them lies.
 use crate::buffers::are_same;
+use crate::buffers::due_bytes;
 use crate::buffers::fill_bytes;
-use crate::cursor::Cursor;
-use crate::cursor::count;
-use crate::cursor::part;
-use crate::cursor::word;
+use crate::fields::bytes_at;
+use crate::fields::count;
+use crate::fields::due_answer;
+use crate::fields::due_byte;
+use crate::fields::due_count;
+use crate::fields::due_word;
+use crate::fields::length_at;
+use crate::fields::part;
+use crate::fields::past_bytes;
+use crate::fields::past_length;
+use crate::fields::word;
 use pyramid::Pyramid;
 use pyramid_levels::LevelAnswer;
 
@@ -13,156 +21,147 @@ const PIXELS: usize = 40000;
 
 const PLACES: usize = 16384;
 
+// A level buffer, filled by the rule.
+fn filled() -> [u8; PLACES] {
+    let mut levels = [0u8; PLACES];
+    fill_bytes(&mut levels);
+    levels
+}
+
+// ---- kind 7
+
 pub(crate) fn replay_building(body: &[u8]) -> bool {
-    let pixels = Cursor::behind(body, 4).bytes(body);
-    let places = pixels.next.word(body);
-    let n = places.value as usize;
-    if PLACES < n {
-        return false;
-    }
-    let mut space = [0u8; PLACES];
-    let levels: &mut [u8] = &mut space;
-    fill_bytes(levels);
+    let n = length_at(body, past_bytes(body, 16), PLACES);
+    let mut levels = filled();
     let answer = pyramid::build_pyramid(
-        pixels.of(body),
+        bytes_at(body, 16),
         count(body, 0),
         count(body, 1),
         word(body, 2),
         count(body, 3),
         &mut levels[0..n],
     );
-    due_pyramid(places.next, body, answer)
-        .due_bytes(body, levels, n)
-        .is_done(body)
+    is_due(body, n, answer, &levels)
 }
 
-fn due_pyramid(c: Cursor, body: &[u8], answer: Pyramid) -> Cursor {
+// Whether the answer and the first n places of the level buffer are what is due.
+fn is_due(body: &[u8], n: usize, answer: Pyramid, levels: &[u8; PLACES]) -> bool {
+    let at = past_length(body, past_bytes(body, 16), PLACES);
+    due_bytes(body, due_pyramid(body, at, answer), part(levels, 0, n)) == body.len()
+}
+
+fn due_pyramid(body: &[u8], at: usize, answer: Pyramid) -> usize {
     match answer {
-        Pyramid::Levels(built) => c.due_answer(body, 0, built),
-        Pyramid::Refused(number) => c.due_answer(body, number, 0),
+        Pyramid::Levels(built) => due_answer(body, at, 0, built),
+        Pyramid::Refused(number) => due_answer(body, at, number, 0),
     }
 }
 
-// A level that is asked for: the base's sides, the level count, the minimum size and the level's number.
-struct Question {
-    width: usize,
-    height: usize,
-    count: u32,
-    minimum: usize,
-    k: usize,
-}
+// ---- kind 8: the base's sides, the level count, the minimum size, the level's number, and the lengths of base and level buffer
 
 pub(crate) fn replay_place(body: &[u8]) -> bool {
-    let question = Question {
-        width: count(body, 0),
-        height: count(body, 1),
-        count: word(body, 2),
-        minimum: count(body, 3),
-        k: count(body, 4),
-    };
-    let pixels = count(body, 5);
-    let places = count(body, 6);
-    let due = Cursor::behind(body, 7).due_count(body, question.built());
-    match question.place(pixels, places) {
+    match place(body) {
         LevelAnswer::Level {
             from,
             width,
             height,
-        } => {
-            let source = if question.k == 0 { 0 } else { 1 };
-            let lies = question.lies(pixels, places, from, width, height);
-            due_place(due, body, 0, source, from, width, height)
-                .and(lies)
-                .is_done(body)
-        }
-        LevelAnswer::Refused(number) => due_place(due, body, number, 0, 0, 0, 0)
-            .and(question.lies(pixels, places, 0, 0, 0))
-            .is_done(body),
+        } => is_place_due(body, 0, source(body), from, width, height),
+        LevelAnswer::Refused(number) => is_place_due(body, number, 0, 0, 0, 0),
     }
 }
 
-fn due_place(
-    c: Cursor,
+// 0 for the base, and 1 for the level buffer.
+fn source(body: &[u8]) -> u8 {
+    if count(body, 4) == 0 {
+        return 0;
+    }
+    1
+}
+
+fn is_place_due(body: &[u8], refusal: u8, source: u8, from: usize, w: usize, h: usize) -> bool {
+    if lies(body, from, w, h) {
+        let refused = due_word(body, due_built(body), refusal as u32);
+        let place = due_count(body, due_byte(body, refused, source), from);
+        return due_count(body, due_count(body, place, w), h) == body.len();
+    }
+    false
+}
+
+// Past the two lengths, and the number of levels that is due.
+fn due_built(body: &[u8]) -> usize {
+    let at = past_length(body, past_length(body, 20, PIXELS), PLACES);
+    due_count(body, at, built(body))
+}
+
+// How many levels there are; 0 where a side is above 4,096.
+fn built(body: &[u8]) -> usize {
+    let width = count(body, 0);
+    let height = count(body, 1);
+    if 4096 < width {
+        return 0;
+    }
+    if 4096 < height {
+        return 0;
+    }
+    pyramid_levels::level_count(width, height, word(body, 2), count(body, 3))
+}
+
+// Where the level lies, for a base and a level buffer of these lengths.
+fn place(body: &[u8]) -> LevelAnswer {
+    pyramid_levels::level_at(
+        count(body, 5),
+        count(body, 6),
+        count(body, 0),
+        count(body, 1),
+        word(body, 2),
+        count(body, 3),
+        count(body, 4),
+    )
+}
+
+// Whether the level is the w by h bytes from a place of its source on. The base is 0 here, and the level buffer filled by the
+// rule, in which no byte is 0: so a level's bytes tell where they lie.
+fn lies(body: &[u8], from: usize, w: usize, h: usize) -> bool {
+    let pixels = length_at(body, 20, PIXELS);
+    let places = length_at(body, 24, PLACES);
+    let base = [0u8; PIXELS];
+    let levels = filled();
+    lies_in(body, &base[0..pixels], &levels[0..places], from, w, h)
+}
+
+// The same in this base and this level buffer.
+fn lies_in<'a>(
     body: &[u8],
-    refusal: u8,
-    source: u8,
+    base: &'a [u8],
+    levels: &'a [u8],
     from: usize,
     w: usize,
     h: usize,
-) -> Cursor {
-    c.due_word(body, refusal as u32)
-        .due_byte(body, source)
-        .due_count(body, from)
-        .due_count(body, w)
-        .due_count(body, h)
+) -> bool {
+    let level = pyramid::level(
+        base,
+        levels,
+        count(body, 0),
+        count(body, 1),
+        word(body, 2),
+        count(body, 3),
+        count(body, 4),
+    );
+    if is_product(level.len(), w, h) {
+        return are_same(
+            level,
+            part(source_of(body, base, levels), from, level.len()),
+        );
+    }
+    false
 }
 
-impl Question {
-    // How many levels there are; 0 where a side is above 4,096.
-    fn built(self) -> usize {
-        if 4096 < self.width {
-            return 0;
-        }
-        if 4096 < self.height {
-            return 0;
-        }
-        pyramid_levels::level_count(self.width, self.height, self.count, self.minimum)
+// The slice that the level lies in.
+fn source_of<'a>(body: &[u8], base: &'a [u8], levels: &'a [u8]) -> &'a [u8] {
+    if source(body) == 0 {
+        return base;
     }
-
-    // Where the level lies, for a base and a level buffer of these lengths.
-    fn place(self, pixels: usize, places: usize) -> LevelAnswer {
-        pyramid_levels::level_at(
-            pixels,
-            places,
-            self.width,
-            self.height,
-            self.count,
-            self.minimum,
-            self.k,
-        )
-    }
-
-    // Whether the level is the w by h bytes from a place of its source on. The base is 0 here, and the level buffer filled by the
-    // rule, in which no byte is 0: so a level's bytes tell where they lie.
-    fn lies(self, pixels: usize, places: usize, from: usize, w: usize, h: usize) -> bool {
-        if PIXELS < pixels {
-            return false;
-        }
-        if PLACES < places {
-            return false;
-        }
-        let base = [0u8; PIXELS];
-        let mut levels = [0u8; PLACES];
-        fill_bytes(&mut levels);
-        self.lies_in(&base[0..pixels], &levels[0..places], from, w, h)
-    }
-
-    // The same in this base and this level buffer.
-    fn lies_in<'a>(
-        self,
-        base: &'a [u8],
-        levels: &'a [u8],
-        from: usize,
-        w: usize,
-        h: usize,
-    ) -> bool {
-        let level = pyramid::level(
-            base,
-            levels,
-            self.width,
-            self.height,
-            self.count,
-            self.minimum,
-            self.k,
-        );
-        if is_product(level.len(), w, h) {
-            if self.k == 0 {
-                return are_same(level, part(base, from, level.len()));
-            }
-            return are_same(level, part(levels, from, level.len()));
-        }
-        false
-    }
+    levels
 }
 
 // Whether n is w times h.

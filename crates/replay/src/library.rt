@@ -1,12 +1,29 @@
-// Kind 2: a frame of the library. The buffers are made one kind after the other, each with its lengths, which stand next in the body.
-use crate::buffers::LIST;
+// Kind 2: a frame of the library. The buffers are made one kind after the other, each with its lengths, which stand next in the body;
+// what is due in them is compared where they were made.
+use crate::buffers::due_bytes;
+use crate::buffers::due_floats;
 use crate::buffers::fill_bytes;
 use crate::buffers::fill_floats;
-use crate::buffers::list;
-use crate::cursor::Cursor;
-use crate::cursor::count;
-use crate::cursor::float;
-use crate::cursor::word;
+use crate::buffers::front;
+use crate::fields::BAD;
+use crate::fields::and;
+use crate::fields::bytes_at;
+use crate::fields::count;
+use crate::fields::due_answer;
+use crate::fields::float;
+use crate::fields::length_at;
+use crate::fields::part;
+use crate::fields::past;
+use crate::fields::past_bytes;
+use crate::fields::past_floats;
+use crate::fields::past_length;
+use crate::fields::word;
+use crate::list_buffer::LIST;
+use crate::list_buffer::due_list;
+use crate::list_buffer::list;
+use crate::list_buffer::list_length;
+use crate::list_buffer::past_lengths;
+use crate::list_buffer::past_list;
 use frame::FrameAnswer;
 use frame_pass::FrameParams;
 
@@ -17,94 +34,74 @@ const PIXELS: usize = 2048;
 
 // With a map buffer and a level buffer.
 pub(crate) fn replay(body: &[u8]) -> bool {
-    let pixels = Cursor::behind(body, 11).bytes(body);
-    let cells = pixels.next.length(body, CELLS);
-    let places = cells.next.length(body, PIXELS);
-    let n = cells.n;
-    let m = places.n;
+    let cells = past_bytes(body, 44);
+    let places = past_length(body, cells, CELLS);
+    let n = length_at(body, cells, CELLS);
+    let m = length_at(body, places, PIXELS);
     let mut map = [0.0f32; CELLS];
     let mut levels = [0u8; PIXELS];
     fill_floats(&mut map);
     fill_bytes(&mut levels);
-    with_seeds(
-        places.next,
+    let next = with_seeds(
         body,
-        pixels.of(body),
+        past_length(body, places, PIXELS),
         &mut map[0..n],
         &mut levels[0..m],
-    )
+    );
+    are_maps_due(body, next, n, m, &map, &levels)
 }
 
-// With a seed buffer too.
-fn with_seeds(c: Cursor, body: &[u8], pixels: &[u8], map: &mut [f32], levels: &mut [u8]) -> bool {
-    let lengths = c.lengths(body, LIST);
-    let nx = lengths.xs;
-    let ny = lengths.ys;
-    let ns = lengths.strengths;
+// Whether the first n places of the map and the first m of the level buffer hold what is due.
+fn are_maps_due(
+    body: &[u8],
+    at: usize,
+    n: usize,
+    m: usize,
+    map: &[f32; CELLS],
+    levels: &[u8; PIXELS],
+) -> bool {
+    let next = due_floats(body, at, front(map, n));
+    due_bytes(body, next, part(levels, 0, m)) != BAD
+}
+
+// With a seed buffer too: the place of what is due in the map.
+fn with_seeds(body: &[u8], lengths: usize, map: &mut [f32], levels: &mut [u8]) -> usize {
+    let nx = list_length(body, lengths, 0);
+    let ny = list_length(body, lengths, 1);
+    let ns = list_length(body, lengths, 2);
     let mut xs = list();
     let mut ys = list();
     let mut strengths = list();
-    with_corners(
-        lengths.next,
+    let next = with_corners(
         body,
-        pixels,
+        past_lengths(body, lengths),
         map,
         levels,
         &mut xs[0..nx],
         &mut ys[0..ny],
         &mut strengths[0..ns],
-    )
+    );
+    due_seeds(body, next, lengths, &xs, &ys, &strengths)
 }
 
 // With a corner buffer too.
 fn with_corners(
-    c: Cursor,
     body: &[u8],
-    pixels: &[u8],
+    lengths: usize,
     map: &mut [f32],
     levels: &mut [u8],
     sx: &mut [f32],
     sy: &mut [f32],
     ss: &mut [f32],
-) -> bool {
-    let lengths = c.lengths(body, LIST);
-    let nx = lengths.xs;
-    let ny = lengths.ys;
-    let ns = lengths.strengths;
+) -> usize {
+    let nx = list_length(body, lengths, 0);
+    let ny = list_length(body, lengths, 1);
+    let ns = list_length(body, lengths, 2);
     let mut xs = list();
     let mut ys = list();
     let mut strengths = list();
-    is_due(
-        lengths.next,
-        body,
-        pixels,
-        map,
-        levels,
-        sx,
-        sy,
-        ss,
-        &mut xs[0..nx],
-        &mut ys[0..ny],
-        &mut strengths[0..ns],
-    )
-}
-
-// Whether the frame pass over these buffers gives what is due.
-fn is_due(
-    c: Cursor,
-    body: &[u8],
-    pixels: &[u8],
-    map: &mut [f32],
-    levels: &mut [u8],
-    sx: &mut [f32],
-    sy: &mut [f32],
-    ss: &mut [f32],
-    cx: &mut [f32],
-    cy: &mut [f32],
-    cs: &mut [f32],
-) -> bool {
     let answer = frame::find_corners(
-        pixels,
+        bytes_at(body, 44),
         count(body, 0),
         count(body, 1),
         parameters(body),
@@ -113,33 +110,12 @@ fn is_due(
         sx,
         sy,
         ss,
-        cx,
-        cy,
-        cs,
+        &mut xs[0..nx],
+        &mut ys[0..ny],
+        &mut strengths[0..ns],
     );
-    are_due(c, body, answer, map, levels, sx, sy, ss, cx, cy, cs)
-}
-
-// Whether the answer and the buffers after the pass are what is due.
-fn are_due(
-    c: Cursor,
-    body: &[u8],
-    answer: FrameAnswer,
-    map: &[f32],
-    levels: &[u8],
-    sx: &[f32],
-    sy: &[f32],
-    ss: &[f32],
-    cx: &[f32],
-    cy: &[f32],
-    cs: &[f32],
-) -> bool {
-    due_frame(c, body, answer)
-        .due_floats(body, map, map.len())
-        .due_bytes(body, levels, levels.len())
-        .due_list(body, sx, sy, ss)
-        .due_list(body, cx, cy, cs)
-        .is_done(body)
+    let next = due_frame(body, past_lengths(body, lengths), answer);
+    due_corners(body, next, lengths, &xs, &ys, &strengths)
 }
 
 fn parameters(body: &[u8]) -> FrameParams {
@@ -156,9 +132,42 @@ fn parameters(body: &[u8]) -> FrameParams {
     }
 }
 
-fn due_frame(c: Cursor, body: &[u8], answer: FrameAnswer) -> Cursor {
+fn due_frame(body: &[u8], at: usize, answer: FrameAnswer) -> usize {
     match answer {
-        FrameAnswer::Corners(n) => c.due_answer(body, 0, n),
-        FrameAnswer::Refused(number) => c.due_answer(body, number, 0),
+        FrameAnswer::Corners(n) => due_answer(body, at, 0, n),
+        FrameAnswer::Refused(number) => due_answer(body, at, number, 0),
     }
+}
+
+// The place of what is due in the map, where the corner buffer holds what is due in it, with which the body ends.
+fn due_corners(
+    body: &[u8],
+    at: usize,
+    lengths: usize,
+    xs: &[f32; LIST],
+    ys: &[f32; LIST],
+    strengths: &[f32; LIST],
+) -> usize {
+    let due = past_list(body, past_maps(body, at));
+    let end = due_list(body, due, lengths, xs, ys, strengths);
+    and(at, end == body.len())
+}
+
+// The same where the seed buffer holds what is due in it.
+fn due_seeds(
+    body: &[u8],
+    at: usize,
+    lengths: usize,
+    xs: &[f32; LIST],
+    ys: &[f32; LIST],
+    strengths: &[f32; LIST],
+) -> usize {
+    let end = due_list(body, past_maps(body, at), lengths, xs, ys, strengths);
+    and(at, end != BAD)
+}
+
+// Past what is due in the map and in the level buffer.
+fn past_maps(body: &[u8], at: usize) -> usize {
+    let levels = past_floats(body, past(body, at, 1), CELLS);
+    past_bytes(body, past(body, levels, 1))
 }

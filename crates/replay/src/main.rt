@@ -4,10 +4,11 @@
 mod boxes;
 mod buffers;
 mod centroids;
-mod cursor;
+mod fields;
 mod frames;
 mod levels;
 mod library;
+mod list_buffer;
 mod listings;
 mod merges;
 mod numbers;
@@ -16,8 +17,11 @@ mod responses;
 mod streams;
 mod tally;
 
-use cursor::word_at;
-use tally::Tally;
+use fields::word_at;
+use tally::ended;
+use tally::print;
+use tally::sum;
+use tally::with;
 
 // The longest body.
 const LONGEST: usize = 24019;
@@ -68,14 +72,8 @@ fn read_body(fd: i32, kind: u8, body: &mut [u8]) -> Next {
     replay_record(kind, body)
 }
 
-// Reads a record and replays it.
-fn read(fd: i32) -> Next {
-    let mut head = [0u8; 5];
-    if io::read_full(fd, &mut head) < 5 {
-        return Next::Short;
-    }
-    let kind = head[0];
-    let n = word_at(&head, 1) as usize;
+// Reads a body of n bytes, and replays its record.
+fn read_behind(fd: i32, kind: u8, n: usize) -> Next {
     if LONGEST < n {
         return Next::Short;
     }
@@ -83,64 +81,67 @@ fn read(fd: i32) -> Next {
     read_body(fd, kind, &mut body[0..n])
 }
 
+// Reads a record and replays it.
+fn read(fd: i32) -> Next {
+    let mut head = [0u8; 5];
+    if io::read_full(fd, &mut head) < 5 {
+        return Next::Short;
+    }
+    read_behind(fd, head[0], word_at(&head, 1) as usize)
+}
+
 // Replays the records that are left in a file.
-fn rest(fd: i32) -> Tally {
-    let mut t = Tally::none();
-    for _ in 0..1000000u64 {
+fn rest(fd: i32) -> u64 {
+    let mut t = 0u64;
+    for compared in 0..1000000u64 {
         match read(fd) {
             Next::Record(is_same) => {
-                t = t.with(is_same);
+                t = with(t, is_same);
             }
             Next::Last(n) => {
-                return t.ended(t.compared == (n as u64));
+                return ended(t, compared == (n as u64));
             }
             Next::Short => {
-                return t.ended(false);
+                return ended(t, false);
             }
         }
     }
-    t.ended(false)
+    ended(t, false)
 }
 
-// Replays a file and prints its line.
-fn replay(name: &[u8]) -> Tally {
+// Replays a file and prints its line. The tally with it.
+fn replay(name: &[u8], before: u64) -> u64 {
     let fd = os::open_read(name);
     let t = rest(fd);
     libc::close(fd);
-    t.print(name);
-    t
+    print(name, t);
+    sum(before, t)
 }
 
 // The frames of the program and of the library.
-fn replay_frames() -> Tally {
-    replay(b"frames.bin").and(replay(b"library.bin"))
+fn replay_frames() -> u64 {
+    replay(b"library.bin", replay(b"frames.bin", 0))
 }
 
 // Calls on one map.
-fn replay_maps() -> Tally {
-    replay(b"responses.bin")
-        .and(replay(b"peaks.bin"))
-        .and(replay(b"centroids.bin"))
+fn replay_maps(before: u64) -> u64 {
+    let t = replay(b"responses.bin", before);
+    replay(b"centroids.bin", replay(b"peaks.bin", t))
 }
 
 // Calls about levels, and merges.
-fn replay_levels() -> Tally {
-    replay(b"boxes.bin")
-        .and(replay(b"levels.bin"))
-        .and(replay(b"merges.bin"))
+fn replay_levels(before: u64) -> u64 {
+    let t = replay(b"boxes.bin", before);
+    replay(b"merges.bin", replay(b"levels.bin", t))
 }
 
 // The formats, and the functions of a number.
-fn replay_formats() -> Tally {
-    replay(b"streams.bin")
-        .and(replay(b"listings.bin"))
-        .and(replay(b"numbers.bin"))
+fn replay_formats(before: u64) -> u64 {
+    let t = replay(b"streams.bin", before);
+    replay(b"numbers.bin", replay(b"listings.bin", t))
 }
 
 fn main() {
-    replay_frames()
-        .and(replay_maps())
-        .and(replay_levels())
-        .and(replay_formats())
-        .print(b"all");
+    let t = replay_levels(replay_maps(replay_frames()));
+    print(b"all", replay_formats(t));
 }

@@ -1,58 +1,23 @@
 // Kind 9: a merge.
-use crate::buffers::read_floats;
-use crate::cursor::Cursor;
-use crate::cursor::count;
-use crate::cursor::float;
+use crate::fields::count;
+use crate::fields::due_answer;
+use crate::fields::float;
+use crate::fields::length_at;
+use crate::fields::past_floats;
+use crate::list_buffer::LIST;
+use crate::list_buffer::due_given;
+use crate::list_buffer::given_slice;
 use merge::Merged;
 
-// The most places that a slice of the corner buffer has.
-const PLACES: usize = 64;
-
 pub(crate) fn replay(body: &[u8]) -> bool {
-    let xs = Cursor::behind(body, 2).floats(body);
-    let ys = xs.next.floats(body);
-    let strengths = ys.next.floats(body);
-    let mut x = [0.0f32; PLACES];
-    let mut y = [0.0f32; PLACES];
-    let mut strength = [0.0f32; PLACES];
-    read_floats(xs.of(body), &mut x);
-    read_floats(ys.of(body), &mut y);
-    read_floats(strengths.of(body), &mut strength);
-    is_due(
-        strengths.next,
-        body,
-        xs.of(body),
-        ys.of(body),
-        strengths.of(body),
-        &mut x,
-        &mut y,
-        &mut strength,
-    )
-}
-
-// Whether merging a buffer gives what is due, where its slices have the lengths of the given fields and were filled with them.
-fn is_due(
-    c: Cursor,
-    body: &[u8],
-    given_xs: &[u8],
-    given_ys: &[u8],
-    given_strengths: &[u8],
-    xs: &mut [f32],
-    ys: &mut [f32],
-    strengths: &mut [f32],
-) -> bool {
-    let nx = given_xs.len() / 4;
-    let ny = given_ys.len() / 4;
-    let ns = given_strengths.len() / 4;
-    if xs.len() < nx {
-        return false;
-    }
-    if ys.len() < ny {
-        return false;
-    }
-    if strengths.len() < ns {
-        return false;
-    }
+    let y_at = past_floats(body, 8, LIST);
+    let strength_at = past_floats(body, y_at, LIST);
+    let nx = length_at(body, 8, LIST);
+    let ny = length_at(body, y_at, LIST);
+    let ns = length_at(body, strength_at, LIST);
+    let mut xs = given_slice(body, 8);
+    let mut ys = given_slice(body, y_at);
+    let mut strengths = given_slice(body, strength_at);
     let answer = merge::merge_corners_simple(
         &mut xs[0..nx],
         &mut ys[0..ny],
@@ -60,16 +25,28 @@ fn is_due(
         count(body, 1),
         float(body, 0),
     );
-    due_merge(c, body, answer)
-        .due_floats_over(body, given_xs, xs, nx)
-        .due_floats_over(body, given_ys, ys, ny)
-        .due_floats_over(body, given_strengths, strengths, ns)
-        .is_done(body)
+    is_due(body, answer, &xs, &ys, &strengths)
 }
 
-fn due_merge(c: Cursor, body: &[u8], answer: Merged) -> Cursor {
+// Whether the answer and the slices are what is due.
+fn is_due(
+    body: &[u8],
+    answer: Merged,
+    xs: &[f32; LIST],
+    ys: &[f32; LIST],
+    strengths: &[f32; LIST],
+) -> bool {
+    let y_at = past_floats(body, 8, LIST);
+    let strength_at = past_floats(body, y_at, LIST);
+    let at = due_merge(body, past_floats(body, strength_at, LIST), answer);
+    let y_due = due_given(body, at, 8, xs);
+    let strength_due = due_given(body, y_due, y_at, ys);
+    due_given(body, strength_due, strength_at, strengths) == body.len()
+}
+
+fn due_merge(body: &[u8], at: usize, answer: Merged) -> usize {
     match answer {
-        Merged::Kept(n) => c.due_answer(body, 0, n),
-        Merged::Refused(number) => c.due_answer(body, number, 0),
+        Merged::Kept(n) => due_answer(body, at, 0, n),
+        Merged::Refused(number) => due_answer(body, at, number, 0),
     }
 }

@@ -1,25 +1,29 @@
 // Kinds 12 and 13: the functions of a float, and the ring of a radius.
-use crate::cursor::Cursor;
-use crate::cursor::float;
-use crate::cursor::word;
+use crate::fields::and;
+use crate::fields::due_byte;
+use crate::fields::due_float;
+use crate::fields::due_long;
+use crate::fields::due_word;
+use crate::fields::float;
+use crate::fields::past;
+use crate::fields::word;
 use float32::Rounded;
 
 // Of the roundings only the one half away from zero is compared: floor and ceil have no function here.
 pub(crate) fn replay_float(body: &[u8]) -> bool {
     let x = float(body, 0);
-    let floor = Cursor::behind(body, 1)
-        .due_float(body, float32::abs(x))
-        .due_byte(body, float32::is_finite(x) as u8)
-        .due_float(body, float32::lifted(x))
-        .due_long(body, float32::cut_off(x) as u64);
-    due_round(floor.past(body, 16), body, x).is_done(body)
+    let finite = due_float(body, 4, float32::abs(x));
+    let lifted = due_byte(body, finite, float32::is_finite(x) as u8);
+    let cut_off = due_float(body, lifted, float32::lifted(x));
+    let floor = due_long(body, cut_off, float32::cut_off(x) as u64);
+    due_round(body, past(body, floor, 16), x) == body.len()
 }
 
-fn due_round(c: Cursor, body: &[u8], x: f32) -> Cursor {
+fn due_round(body: &[u8], at: usize, x: f32) -> usize {
     match float32::round_half_away(x) {
-        Rounded::Natural(n) => c.due_long(body, n as u64),
-        Rounded::Negative(n) => c.due_long(body, std::num::wrapping_sub_u64(0, n as u64)),
-        Rounded::Beyond => c.past(body, 8).and(is_beyond(x)),
+        Rounded::Natural(n) => due_long(body, at, n as u64),
+        Rounded::Negative(n) => due_long(body, at, std::num::wrapping_sub_u64(0, n as u64)),
+        Rounded::Beyond => and(past(body, at, 8), is_beyond(x)),
     }
 }
 
@@ -35,16 +39,15 @@ pub(crate) fn replay_ring(body: &[u8]) -> bool {
     let ring = ring::ring_offsets(word(body, 0));
     let columns = ring.columns;
     let rows = ring.rows;
-    let c = Cursor::behind(body, 1).due_word(body, ring.radius);
-    let d = due_offsets(c, body, columns);
-    due_offsets(d, body, rows).is_done(body)
+    let at = due_word(body, 4, ring.radius);
+    due_offsets(body, due_offsets(body, at, columns), rows) == body.len()
 }
 
 // A count, and as many offsets.
-fn due_offsets(c: Cursor, body: &[u8], offsets: [u8; 16]) -> Cursor {
-    let mut next = c.due_word(body, 16);
+fn due_offsets(body: &[u8], at: usize, offsets: [u8; 16]) -> usize {
+    let mut next = due_word(body, at, 16);
     for i in 0..16 {
-        next = next.due_word(body, offsets[i] as u32);
+        next = due_word(body, next, offsets[i] as u32);
     }
     next
 }

@@ -1,56 +1,39 @@
 // Kind 4: the peaks of a map.
-use crate::buffers::LIST;
-use crate::buffers::list;
 use crate::buffers::read_floats;
-use crate::cursor::Cursor;
-use crate::cursor::count;
-use crate::cursor::float;
-use crate::cursor::word;
+use crate::fields::count;
+use crate::fields::count_at;
+use crate::fields::due_answer;
+use crate::fields::float;
+use crate::fields::floats_at;
+use crate::fields::length_at;
+use crate::fields::past;
+use crate::fields::past_floats;
+use crate::fields::word;
+use crate::list_buffer::due_list;
+use crate::list_buffer::list;
+use crate::list_buffer::list_length;
+use crate::list_buffer::past_lengths;
 use detect::Peaks;
 
 // The longest map.
 const CELLS: usize = 2048;
 
 pub(crate) fn replay(body: &[u8]) -> bool {
-    let cells = Cursor::behind(body, 7).floats(body);
-    let n = cells.count();
-    if CELLS < n {
-        return false;
-    }
+    let n = length_at(body, 28, CELLS);
     let mut map = [0.0f32; CELLS];
-    read_floats(cells.of(body), &mut map);
-    with_list(cells.next, body, &map[0..n])
+    read_floats(floats_at(body, 28), &mut map);
+    with_list(body, past_floats(body, 28, CELLS), &map[0..n])
 }
 
-// With a corner buffer, whose lengths stand next in the body.
-fn with_list(c: Cursor, body: &[u8], map: &[f32]) -> bool {
-    let lengths = c.lengths(body, LIST);
-    let nx = lengths.xs;
-    let ny = lengths.ys;
-    let ns = lengths.strengths;
+// With a corner buffer, whose lengths stand next in the body, and behind them how many corners it holds.
+fn with_list(body: &[u8], lengths: usize, map: &[f32]) -> bool {
+    let nx = list_length(body, lengths, 0);
+    let ny = list_length(body, lengths, 1);
+    let ns = list_length(body, lengths, 2);
     let mut xs = list();
     let mut ys = list();
     let mut strengths = list();
-    is_due(
-        lengths.next,
-        body,
-        map,
-        &mut xs[0..nx],
-        &mut ys[0..ny],
-        &mut strengths[0..ns],
-    )
-}
-
-// Whether adding the peaks of a map to a buffer gives what is due. How many corners it holds stands next in the body.
-fn is_due(
-    c: Cursor,
-    body: &[u8],
-    map: &[f32],
-    xs: &mut [f32],
-    ys: &mut [f32],
-    strengths: &mut [f32],
-) -> bool {
-    let held = c.word(body);
+    let held = past_lengths(body, lengths);
     let answer = detect::detect_peaks_from_response_with_refine_radius(
         map,
         count(body, 0),
@@ -60,19 +43,18 @@ fn is_due(
         word(body, 4),
         word(body, 5),
         word(body, 6),
-        xs,
-        ys,
-        strengths,
-        held.value as usize,
+        &mut xs[0..nx],
+        &mut ys[0..ny],
+        &mut strengths[0..ns],
+        count_at(body, held),
     );
-    due_peaks(held.next, body, answer)
-        .due_list(body, xs, ys, strengths)
-        .is_done(body)
+    let next = due_peaks(body, past(body, held, 4), answer);
+    due_list(body, next, lengths, &xs, &ys, &strengths) == body.len()
 }
 
-fn due_peaks(c: Cursor, body: &[u8], answer: Peaks) -> Cursor {
+fn due_peaks(body: &[u8], at: usize, answer: Peaks) -> usize {
     match answer {
-        Peaks::Added(n) => c.due_answer(body, 0, n),
-        Peaks::Refused(number) => c.due_answer(body, number, 0),
+        Peaks::Added(n) => due_answer(body, at, 0, n),
+        Peaks::Refused(number) => due_answer(body, at, number, 0),
     }
 }

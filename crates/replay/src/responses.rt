@@ -1,25 +1,25 @@
 // Kind 3: the response of a box.
+use crate::buffers::due_floats;
 use crate::buffers::fill_floats;
-use crate::cursor::Cursor;
-use crate::cursor::count;
-use crate::cursor::word;
+use crate::buffers::front;
+use crate::fields::bytes_at;
+use crate::fields::count;
+use crate::fields::due_answer;
+use crate::fields::due_count;
+use crate::fields::length_at;
+use crate::fields::past_bytes;
+use crate::fields::past_length;
+use crate::fields::word;
 use response::Patch;
 
 // The longest map.
 const CELLS: usize = 1024;
 
 pub(crate) fn replay(body: &[u8]) -> bool {
-    let pixels = Cursor::behind(body, 7).bytes(body);
-    let places = pixels.next.word(body);
-    let n = places.value as usize;
-    if CELLS < n {
-        return false;
-    }
-    let mut space = [0.0f32; CELLS];
-    let map: &mut [f32] = &mut space;
-    fill_floats(map);
+    let n = length_at(body, past_bytes(body, 28), CELLS);
+    let mut map = filled();
     let answer = response::chess_response_u8_patch(
-        pixels.of(body),
+        bytes_at(body, 28),
         count(body, 0),
         count(body, 1),
         word(body, 2),
@@ -29,14 +29,25 @@ pub(crate) fn replay(body: &[u8]) -> bool {
         count(body, 6),
         &mut map[0..n],
     );
-    due_patch(places.next, body, answer)
-        .due_floats(body, map, n)
-        .is_done(body)
+    is_due(body, n, answer, &map)
 }
 
-fn due_patch(c: Cursor, body: &[u8], answer: Patch) -> Cursor {
+// A map, filled by the rule.
+fn filled() -> [f32; CELLS] {
+    let mut map = [0.0f32; CELLS];
+    fill_floats(&mut map);
+    map
+}
+
+// Whether the answer and the first n places of the map are what is due.
+fn is_due(body: &[u8], n: usize, answer: Patch, map: &[f32; CELLS]) -> bool {
+    let at = past_length(body, past_bytes(body, 28), CELLS);
+    due_floats(body, due_patch(body, at, answer), front(map, n)) == body.len()
+}
+
+fn due_patch(body: &[u8], at: usize, answer: Patch) -> usize {
     match answer {
-        Patch::Cells { w, h } => c.due_answer(body, 0, w).due_count(body, h),
-        Patch::Refused(number) => c.due_answer(body, number, 0).due_count(body, 0),
+        Patch::Cells { w, h } => due_count(body, due_answer(body, at, 0, w), h),
+        Patch::Refused(number) => due_count(body, due_answer(body, at, number, 0), 0),
     }
 }

@@ -1,59 +1,51 @@
 // Kind 10: the reader of a stream.
+use crate::buffers::are_zero;
+use crate::buffers::due_front;
 use crate::buffers::fill_bytes;
-use crate::cursor::Cursor;
+use crate::fields::and;
+use crate::fields::bytes_at;
+use crate::fields::due_count;
+use crate::fields::due_word;
+use crate::fields::part;
+use crate::fields::past;
+use crate::fields::past_bytes;
 use stream::FrameStream;
 use stream::Header;
 
-// What stands where a stream is refused.
-const NONE: Header = Header {
-    width: 0,
-    height: 0,
-    ring: 0,
-    threshold_bits: 0,
-    window: 0,
-    least: 0,
-    centroid: 0,
-    merge_bits: 0,
-    levels: 0,
-    minimum: 0,
-    search: 0,
-};
-
 pub(crate) fn replay(body: &[u8]) -> bool {
-    let input = Cursor::behind(body, 0).bytes(body);
     let mut pixels = [0u8; 9216];
     fill_bytes(&mut pixels);
-    let answer = stream::read_frame(input.of(body), &mut pixels);
-    let c = due_frame(input.next, body, answer);
-    due_pixels(c, body, &pixels).is_done(body)
+    let answer = stream::read_frame(bytes_at(body, 0), &mut pixels);
+    are_pixels_due(body, due_frame(body, answer), &pixels)
 }
 
-fn due_pixels(c: Cursor, body: &[u8], pixels: &[u8; 9216]) -> Cursor {
-    c.due_front(body, pixels)
+fn are_pixels_due(body: &[u8], at: usize, pixels: &[u8; 9216]) -> bool {
+    due_front(body, at, pixels) == body.len()
 }
 
-fn due_frame(c: Cursor, body: &[u8], answer: FrameStream) -> Cursor {
+fn due_frame(body: &[u8], answer: FrameStream) -> usize {
     match answer {
-        FrameStream::Frame(header) => due_header(c.due_word(body, 0), body, header),
-        FrameStream::Refused(number) => due_header(c.due_word(body, number as u32), body, NONE),
+        FrameStream::Frame(header) => due_header(body, header),
+        FrameStream::Refused(number) => due_refusal(body, number),
     }
 }
 
-fn due_header(c: Cursor, body: &[u8], h: Header) -> Cursor {
-    let least = c.due_count(body, h.width)
-        .due_count(body, h.height)
-        .due_word(body, h.ring)
-        .due_word(body, h.threshold_bits)
-        .due_word(body, h.window);
-    due_parameters(least, body, h)
+// A refusal's number, and 0 for each field of a header.
+fn due_refusal(body: &[u8], number: u8) -> usize {
+    let at = due_word(body, past_bytes(body, 0), number as u32);
+    and(past(body, at, 44), are_zero(part(body, at, 44)))
+}
+
+fn due_header(body: &[u8], h: Header) -> usize {
+    let at = due_word(body, past_bytes(body, 0), 0);
+    let sides = due_count(body, due_count(body, at, h.width), h.height);
+    let threshold = due_word(body, due_word(body, sides, h.ring), h.threshold_bits);
+    due_parameters(body, due_word(body, threshold, h.window), h)
 }
 
 // The last six parameters.
-fn due_parameters(c: Cursor, body: &[u8], h: Header) -> Cursor {
-    c.due_word(body, h.least)
-        .due_word(body, h.centroid)
-        .due_word(body, h.merge_bits)
-        .due_word(body, h.levels)
-        .due_count(body, h.minimum)
-        .due_word(body, h.search)
+fn due_parameters(body: &[u8], at: usize, h: Header) -> usize {
+    let centroid = due_word(body, due_word(body, at, h.least), h.centroid);
+    let levels = due_word(body, due_word(body, centroid, h.merge_bits), h.levels);
+    due_word(body, due_count(body, levels, h.minimum), h.search)
 }

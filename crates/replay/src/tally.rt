@@ -1,62 +1,47 @@
-// Counts of records.
+// Counts of records. A tally is one number that holds three counts, each below 2^24: the records that were compared, those of them
+// that differ, from 2^24 on, and the files that were not read to their end, from 2^48 on. A file has at most a million records.
 
-// How many records were compared, how many of them differ, and whether the file was read to its end.
-pub(crate) struct Tally {
-    pub compared: u64,
-    pub differ: u64,
-    pub is_whole: bool,
+const DIFFERS: u64 = 16777216;
+
+const CUT_SHORT: u64 = 281474976710656;
+
+// Of two tallies.
+pub(crate) fn sum(t: u64, u: u64) -> u64 {
+    std::num::wrapping_add_u64(t, u)
 }
 
-impl Tally {
-    pub(crate) fn none() -> Tally {
-        Tally {
-            compared: 0,
-            differ: 0,
-            is_whole: true,
-        }
+// With a record more.
+pub(crate) fn with(t: u64, is_same: bool) -> u64 {
+    if is_same {
+        return sum(t, 1);
     }
+    sum(t, DIFFERS + 1)
+}
 
-    // With a record more.
-    pub(crate) fn with(self, is_same: bool) -> Tally {
-        Tally {
-            compared: std::num::wrapping_add_u64(self.compared, 1),
-            differ: if is_same {
-                self.differ
-            } else {
-                std::num::wrapping_add_u64(self.differ, 1)
-            },
-            is_whole: self.is_whole,
-        }
+// Where reading ended, at the file's end or not.
+pub(crate) fn ended(t: u64, is_whole: bool) -> u64 {
+    if is_whole {
+        return t;
     }
+    sum(t, CUT_SHORT)
+}
 
-    // Of two files.
-    pub(crate) fn and(self, t: Tally) -> Tally {
-        Tally {
-            compared: std::num::wrapping_add_u64(self.compared, t.compared),
-            differ: std::num::wrapping_add_u64(self.differ, t.differ),
-            is_whole: self.is_whole && t.is_whole,
-        }
-    }
+pub(crate) fn print(name: &[u8], t: u64) {
+    io::write_all(1, name);
+    print_count(b": ", t % DIFFERS);
+    print_count(b" compared, ", t / DIFFERS % DIFFERS);
+    print_end(t < CUT_SHORT);
+}
 
-    // At the end of a file.
-    pub(crate) fn ended(self, is_whole: bool) -> Tally {
-        Tally {
-            compared: self.compared,
-            differ: self.differ,
-            is_whole,
-        }
-    }
+fn print_count(before: &[u8], n: u64) {
+    io::write_all(1, before);
+    io::print_decimal(1, n);
+}
 
-    pub(crate) fn print(self, name: &[u8]) {
-        io::write_all(1, name);
-        io::write_all(1, b": ");
-        io::print_decimal(1, self.compared);
-        io::write_all(1, b" compared, ");
-        io::print_decimal(1, self.differ);
-        io::write_all(1, b" differ");
-        if !self.is_whole {
-            io::write_all(1, b", cut short");
-        }
-        io::write_all(1, b"\n");
+fn print_end(is_whole: bool) {
+    if is_whole {
+        io::write_all(1, b" differ\n");
+    } else {
+        io::write_all(1, b" differ, cut short\n");
     }
 }

@@ -5,13 +5,10 @@ use Rattle.replay.proofs.rest.Statement.{statement}
 use Rattle.replay.proofs.rest.Tie as tie
 
 abbrev Inv-loop : tie.InvT-loop
-Inv-loop fd t₀ counter₀ t counter = counter ≤ 1000000
+Inv-loop fd t₀ compared₀ t compared = compared ≤ 1000000
 
 abbrev μ-loop : tie.MeasureT-loop
-μ-loop fd t₀ counter₀ t counter = 1000000 - counter
-
-none-requires : tie.Need-none-requires Inv-loop μ-loop
-none-requires c κs = search needs
+μ-loop fd t₀ compared₀ t compared = 1000000 - compared
 
 loop-holds : tie.Need-loop-holds Inv-loop μ-loop
 loop-holds c = search needs
@@ -46,8 +43,8 @@ ended-requires-2 c κs = search needs
 returns-2 : tie.Need-returns-2 Inv-loop μ-loop
 returns-2 c = search needs
 
-add-counter : tie.Need-add-counter Inv-loop μ-loop
-add-counter c = search needs
+add-compared : tie.Need-add-compared Inv-loop μ-loop
+add-compared c = search needs
 
 loop-less : tie.Need-loop-less Inv-loop μ-loop
 loop-less c = search needs
@@ -67,7 +64,6 @@ rest-spec =
     (tie.spec
     Inv-loop
     μ-loop
-    none-requires
     loop-holds
     read-requires
     enum-known-is-same
@@ -79,7 +75,7 @@ rest-spec =
     enum-told
     ended-requires-2
     returns-2
-    add-counter
+    add-compared
     loop-less
     loop-again
     ended-requires-3

@@ -1,14 +1,15 @@
 -- `replay::buffers::are_bytes_due` is safe and ends: the places that are left are counted down. Assumes nothing.
 use borrow.Author.Needs.{needs}
 use Prim.Native.Nat.{_≤_, _-_}
+use lib.ListN.{length}
 use Rattle.replay.proofs.buffers.are_bytes_due.Statement.{statement}
 use Rattle.replay.proofs.buffers.are_bytes_due.Tie as tie
 
 abbrev Inv-loop : tie.InvT-loop
-Inv-loop field is-kept after n i₀ i = i ≤ n
+Inv-loop field is-kept after i₀ i = i ≤ length after
 
 abbrev μ-loop : tie.MeasureT-loop
-μ-loop field is-kept after n i₀ i = n - i
+μ-loop field is-kept after i₀ i = length after - i
 
 loop-holds : tie.Need-loop-holds Inv-loop μ-loop
 loop-holds c = search needs

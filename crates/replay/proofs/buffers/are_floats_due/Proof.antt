@@ -1,20 +1,27 @@
 -- `replay::buffers::are_floats_due` is safe and ends: the places that are left are counted down. Assumes nothing.
 use borrow.Author.Needs.{needs}
 use Prim.Native.Nat.{_≤_, _-_}
+use lib.ListN.{length}
 use Rattle.replay.proofs.buffers.are_floats_due.Statement.{statement}
 use Rattle.replay.proofs.buffers.are_floats_due.Tie as tie
 
 abbrev Inv-loop : tie.InvT-loop
-Inv-loop field is-kept given after n i₀ i = i ≤ n
+Inv-loop field is-kept given after i₀ i = i ≤ length after
 
 abbrev μ-loop : tie.MeasureT-loop
-μ-loop field is-kept given after n i₀ i = n - i
+μ-loop field is-kept given after i₀ i = length after - i
 
 loop-holds : tie.Need-loop-holds Inv-loop μ-loop
 loop-holds c = search needs
 
-bits-at-requires : tie.Need-bits-at-requires Inv-loop μ-loop
-bits-at-requires c κs = search needs
+mul-to-bits : tie.Need-mul-to-bits Inv-loop μ-loop
+mul-to-bits c = search needs
+
+shared-slice-read-to-bits : tie.Need-shared-slice-read-to-bits Inv-loop μ-loop
+shared-slice-read-to-bits c = search needs
+
+to-bits-requires : tie.Need-to-bits-requires Inv-loop μ-loop
+to-bits-requires c κs = search needs
 
 due-bits-requires : tie.Need-due-bits-requires Inv-loop μ-loop
 due-bits-requires c κs = search needs
@@ -41,7 +48,9 @@ are-floats-due-spec =
     Inv-loop
     μ-loop
     loop-holds
-    bits-at-requires
+    mul-to-bits
+    shared-slice-read-to-bits
+    to-bits-requires
     due-bits-requires
     returns
     add-i

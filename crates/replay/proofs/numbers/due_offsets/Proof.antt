@@ -5,10 +5,10 @@ use Rattle.replay.proofs.numbers.due_offsets.Statement.{statement}
 use Rattle.replay.proofs.numbers.due_offsets.Tie as tie
 
 abbrev Inv-loop : tie.InvT-loop
-Inv-loop body offsets next₀ i₀ next i = i ≤ 16
+Inv-loop body at offsets next₀ i₀ next i = i ≤ 16
 
 abbrev μ-loop : tie.MeasureT-loop
-μ-loop body offsets next₀ i₀ next i = 16 - i
+μ-loop body at offsets next₀ i₀ next i = 16 - i
 
 due-word-requires : tie.Need-due-word-requires Inv-loop μ-loop
 due-word-requires c κs = search needs
