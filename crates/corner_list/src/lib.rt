@@ -63,16 +63,9 @@ pub fn put_corner(xs: &mut [f32], ys: &mut [f32], strengths: &mut [f32], at: usi
     store(strengths, at, c.strength);
 }
 
-// The lesser of two lengths.
-fn lesser(a: usize, b: usize) -> usize
-    ensures { λ r. ⌜ r ≡ min a b ⌝ }
-{
-    if a < b { a } else { b }
-}
-
 // The places of a buffer whose slices have these lengths: those of the shortest.
 pub fn places(xs: usize, ys: usize, strengths: usize) -> usize
     ensures { λ r. ⌜ r ≡ min xs (min ys strengths) ⌝ }
 {
-    lesser(xs, lesser(ys, strengths))
+    numbers::lesser(xs, numbers::lesser(ys, strengths))
 }

@@ -38,13 +38,6 @@ struct Spot {
     y: usize,
 }
 
-// n - r, and 0 where that is negative.
-fn minus(n: usize, r: usize) -> usize
-    ensures { λ a. ⌜ a ≡ n - r ⌝ }
-{
-    if n < r { 0 } else { n - r }
-}
-
 // The value of the cell (x, y).
 fn value_at(map: &[f32], s: Search, x: usize, y: usize) -> f32
     requires { ⌜ Searchable (now map) s ⌝ }
@@ -204,7 +197,7 @@ fn skip(map: &[f32], s: Search, x: usize, y: usize) -> usize
     ensures { λ r. ⌜ Skipped (now (map .entry)) s (place x y) (place r y) ⌝ }
 {
     let w = s.w;
-    let x1 = minus(w, s.border);
+    let x1 = numbers::minus(w, s.border);
     if x < x1 {
         let a = y * w + x;
         let e = y * w + x1;
@@ -220,8 +213,8 @@ fn next_peak(map: &[f32], s: Search, x: usize, y: usize) -> Spot
     ensures { λ p. ⌜ NextPeak (now (map .entry)) s (place x y) (place (p .x) (p .y)) ⌝ }
 {
     let x0 = s.border;
-    let x1 = minus(s.w, s.border);
-    let y1 = minus(s.h, s.border);
+    let x1 = numbers::minus(s.w, s.border);
+    let y1 = numbers::minus(s.h, s.border);
     let mut x = x;
     let mut y = y;
     while y < y1 {
@@ -275,7 +268,7 @@ fn list_peaks(map: &[f32], s: Search, table: &mut [u32]) -> usize
     requires { ⌜ Searchable (now map) s ⌝ }
     ensures { λ n. ⌜ Listed (now (map .entry)) s (now (table .exit)) n ⌝ }
 {
-    let y1 = minus(s.h, s.border);
+    let y1 = numbers::minus(s.h, s.border);
     let mut x = s.border;
     let mut y = s.border;
     let mut n = 0;
@@ -312,7 +305,7 @@ fn cells_inside(s: Search) -> usize
     ensures { λ n. ⌜ n ≡ (s .w - 2 * s .border) * (s .h - 2 * s .border) ⌝ }
 {
     let b = 2 * s.border;
-    minus(s.w, b) * minus(s.h, b)
+    numbers::minus(s.w, b) * numbers::minus(s.h, b)
 }
 
 // Whether the peaks are too many for a buffer of so many places, of which `held` are taken. They are counted only where there are
@@ -329,7 +322,7 @@ fn are_too_many(map: &[f32], s: Search, table: &[u32], n: usize, places: usize, 
     if cells_inside(s) <= free {
         return false;
     }
-    let y1 = minus(s.h, s.border);
+    let y1 = numbers::minus(s.h, s.border);
     let mut x = s.border;
     let mut y = s.border;
     let mut i = 0;
@@ -365,7 +358,7 @@ fn add_peaks(
     if are_too_many(map, s, table, n, places, held) {
         return Peaks::Refused(10);
     }
-    let y1 = minus(s.h, s.border);
+    let y1 = numbers::minus(s.h, s.border);
     let mut x = s.border;
     let mut y = s.border;
     let mut i = 0;

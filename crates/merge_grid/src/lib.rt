@@ -3,7 +3,6 @@
 ghost use mathlib.Core.Path.{_≡_};
 ghost use mathlib.Core.Bool.{false};
 ghost use mathlib.Core.List.{List, [], _∷_};
-ghost use Prim.Native.Nat.{min};
 ghost use lib.ListN.{getD};
 ghost use lib.Ieee.{Float, nan, inf};
 ghost use Rattle.lists.specs.Tab.{tab};
@@ -19,28 +18,21 @@ pub struct Grid {
     pub square: f32,
 }
 
-// The lesser of two numbers, the second unless the first is below it.
-fn lesser(v: f32, m: f32) -> f32
+// The lower of two numbers, the second unless the first is below it.
+fn lower(v: f32, m: f32) -> f32
     ensures { λ r. ⌜ r ≡ leastFrom m (v ∷ []) ⌝ }
 {
     if v < m { v } else { m }
-}
-
-// The lesser of two counts.
-fn fewer(a: usize, b: usize) -> usize
-    ensures { λ r. ⌜ r ≡ min a b ⌝ }
-{
-    if a < b { a } else { b }
 }
 
 // The least of the first n numbers of a slice, and infinity if there is none; where the slice is shorter, of all of them.
 fn least(vs: &[f32], n: usize) -> f32
     ensures { λ r. ⌜ r ≡ leastFrom (inf false) (tab n (λ i. getD (now (vs .entry)) i nan)) ⌝ }
 {
-    let held = fewer(n, vs.len());
+    let held = numbers::lesser(n, vs.len());
     let mut m = f32::from_bits(0x7f80_0000);
     for i in 0..held {
-        m = lesser(vs[i], m);
+        m = lower(vs[i], m);
     }
     m
 }

@@ -19,13 +19,6 @@ fn has_outside(xs: &[f32], ys: &[f32], strengths: &[f32], n: usize) -> bool
     false
 }
 
-// The lesser of two numbers.
-fn fewer(a: usize, b: usize) -> usize
-    ensures { λ r. ⌜ r ≡ min a b ⌝ }
-{
-    if a < b { a } else { b }
-}
-
 // 10 if more corners are stated than there are places.
 fn crowding(places: usize, count: usize) -> u8
     ensures { λ r. ⌜ r ≡ cond (ltb places count) 10 0 ⌝ }
@@ -47,7 +40,7 @@ fn refusal_at(
     if merge_radius::is_off(radius) {
         return crowding(places, count);
     }
-    if has_outside(xs, ys, strengths, fewer(count, places)) {
+    if has_outside(xs, ys, strengths, numbers::lesser(count, places)) {
         return 4;
     }
     if merge_radius::is_sized(radius) {
@@ -68,7 +61,7 @@ pub fn refusal(
     ensures { λ r. ⌜ r ≡ refusalOf radius (min places (placesOf (slices (now (xs .entry)) (now (ys .entry)) (now (strengths .entry))))) count
         (slices (now (xs .entry)) (now (ys .entry)) (now (strengths .entry))) ⌝ }
 {
-    let held = fewer(
+    let held = numbers::lesser(
         places,
         corner_list::places(xs.len(), ys.len(), strengths.len()),
     );

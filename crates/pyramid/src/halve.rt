@@ -1,16 +1,10 @@
 // Halving: a level at half size, written behind the levels before it. A level above the first is read from the buffer that is written.
 ghost use mathlib.Core.Path.{_≡_};
-ghost use Prim.Native.Nat.{ℕ, _+_, _*_, _/_, _<_, _≤_, min};
+ghost use Prim.Native.Nat.{ℕ, _+_, _*_, _/_, _<_, _≤_};
 ghost use lib.ListN.{length, getD};
 ghost use Rattle.lists.specs.Tab.{tab};
 ghost use Rattle.pyramid_levels.specs.Levels.{cellsAbove};
 ghost use Rattle.pyramid.specs.Needs.{holderOf, Halving, Summed, RowHalved, LevelHalved, Filled};
-
-fn lesser(a: usize, b: usize) -> usize
-    ensures { λ r. ⌜ r ≡ min a b ⌝ }
-{
-    if a < b { a } else { b }
-}
 
 // The slice that level k lies in.
 fn holder<'a>(base: &'a [u8], levels: &'a [u8], k: usize) -> &'a [u8]
@@ -63,7 +57,7 @@ fn halve_rows(base: &[u8], k: usize, from: usize, w: usize, levels: &mut [u8], t
     let mut sums = [0u16; 128];
     let mut x = 0usize;
     while x < n {
-        let m = lesser(64, n - x);
+        let m = numbers::lesser(64, n - x);
         let top = from + 2 * x;
         column_sums(holder(base, levels, k), top, top + w, 2 * m, &mut sums);
         let a = to + x;

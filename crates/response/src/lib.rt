@@ -1,20 +1,19 @@
 // The ChESS response map of a box of an image.
 mod cell; // cell.rt: the response of one cell
 mod rows; // rows.rt: runs, rows and boxes of cells
-mod numbers; // numbers.rt: differences and bounds of whole numbers
 
 ghost use mathlib.Core.Path.{_≡_};
 ghost use Prim.Native.Nat.{_*_, _≤_};
 ghost use Rattle.ring.specs.Ring.{ringOf};
 ghost use Rattle.response.specs.Patch.{sideOf, besides, refusalOf, Patched};
-use numbers::less;
 use numbers::lesser;
+use numbers::minus;
 
 // How many of the columns, or rows, a up to b lie among n.
 fn side(n: usize, a: usize, b: usize) -> usize
     ensures { λ r. ⌜ r ≡ sideOf n a b ⌝ }
 {
-    less(lesser(b, n), lesser(a, n))
+    minus(lesser(b, n), lesser(a, n))
 }
 
 // A side, or 0 where the other is 0.

@@ -10,9 +10,9 @@ ghost use Rattle.response.specs.Response.{response, responseAt};
 ghost use Rattle.response.specs.Needs.{Framed, Inner, Span, offsetAt};
 use crate::cell::cell_sums;
 use crate::cell::value;
-use crate::numbers::greater;
-use crate::numbers::less;
-use crate::numbers::lesser;
+use numbers::greater;
+use numbers::lesser;
+use numbers::minus;
 
 // How far so many rows and columns are, in an image w wide.
 fn offset(rows: u8, columns: u8, w: usize) -> usize
@@ -95,8 +95,8 @@ fn reach(w: usize, h: usize, radius: usize, x0: usize, y: usize, n: usize) -> St
     if h - y <= radius {
         return Stretch { from: n, to: n };
     }
-    let from = lesser(n, less(radius, x0));
-    let to = greater(from, lesser(n, less(less(w, radius), x0)));
+    let from = lesser(n, minus(radius, x0));
+    let to = greater(from, lesser(n, minus(minus(w, radius), x0)));
     Stretch { from, to }
 }
 

@@ -18,8 +18,8 @@ Inv-loop vs n held m₀ i₀ m i = (m ≡ leastFrom (inf false) (numbers vs i)) 
 abbrev μ-loop : tie.MeasureT-loop
 μ-loop vs n held m₀ i₀ m i = held - i
 
-fewer-requires : tie.Need-fewer-requires Inv-loop μ-loop
-fewer-requires c κs = search needs
+lesser-requires : tie.Need-lesser-requires Inv-loop μ-loop
+lesser-requires c κs = search needs
 
 float-from-bits-m : tie.Need-float-from-bits-m Inv-loop μ-loop
 unfolding nanBits
@@ -27,16 +27,16 @@ float-from-bits-m c = search needs
 
 loop-holds : tie.Need-loop-holds Inv-loop μ-loop
 unfolding ofBits tab
-loop-holds c = (refl, omega arith, c .fewer .ensures)
+loop-holds c = (refl, omega arith, c .lesser .ensures)
 
-mul-lesser : tie.Need-mul-lesser Inv-loop μ-loop
-mul-lesser c = omega arith
+mul-lower : tie.Need-mul-lower Inv-loop μ-loop
+mul-lower c = omega arith
 
-shared-slice-read-lesser : tie.Need-shared-slice-read-lesser Inv-loop μ-loop
-shared-slice-read-lesser c = omega arith
+shared-slice-read-lower : tie.Need-shared-slice-read-lower Inv-loop μ-loop
+shared-slice-read-lower c = omega arith
 
-lesser-requires : tie.Need-lesser-requires Inv-loop μ-loop
-lesser-requires c κs = search needs
+lower-requires : tie.Need-lower-requires Inv-loop μ-loop
+lower-requires c κs = search needs
 
 add-i : tie.Need-add-i Inv-loop μ-loop
 add-i c = omega arith
@@ -47,7 +47,7 @@ loop-less c = omega arith
 loop-again : tie.Need-loop-again Inv-loop μ-loop
 loop-again c =
     let turn = c .before .before .before in
-    (least-more (turn .before .before .before .args .vs .now) (turn .loop .i) _ _ (turn .loop .inv .0) (c .lesser .ensures), omega arith, turn .loop .inv .2)
+    (least-more (turn .before .before .before .args .vs .now) (turn .loop .i) _ _ (turn .loop .inv .0) (c .lower .ensures), omega arith, turn .loop .inv .2)
 
 returns : tie.Need-returns Inv-loop μ-loop
 returns c =
@@ -61,12 +61,12 @@ least-spec =
     (tie.spec
     Inv-loop
     μ-loop
-    fewer-requires
+    lesser-requires
     float-from-bits-m
     loop-holds
-    mul-lesser
-    shared-slice-read-lesser
-    lesser-requires
+    mul-lower
+    shared-slice-read-lower
+    lower-requires
     add-i
     loop-less
     loop-again

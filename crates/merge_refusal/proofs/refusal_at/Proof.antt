@@ -18,8 +18,8 @@ crowding-requires c κs = search needs
 returns : tie.Need-returns
 returns c = c .crowding .ensures ∙ judged-off _ _ _ _ (sym (c .before .before .is-off .ensures) ∙ c .before .if1 .taken)
 
-fewer-requires : tie.Need-fewer-requires
-fewer-requires c κs = search needs
+lesser-requires : tie.Need-lesser-requires
+lesser-requires c κs = search needs
 
 has-outside-requires : tie.Need-has-outside-requires
 has-outside-requires c κs = search needs
@@ -30,7 +30,7 @@ tested : (c : tie.After-has-outside)
     any isOutside (cornersOf (slices (a .xs .now) (a .ys .now) (a .strengths .now)) (min (a .count) (a .places))) ≡ c .has-outside .result
 tested c =
     let a = c .before .before .before .before .before .before .before .args in
-    ap (λ (n : ℕ). any isOutside (cornersOf (slices (a .xs .now) (a .ys .now) (a .strengths .now)) n)) (sym (c .before .fewer .ensures))
+    ap (λ (n : ℕ). any isOutside (cornersOf (slices (a .xs .now) (a .ys .now) (a .strengths .now)) n)) (sym (c .before .lesser .ensures))
     ∙ sym (c .has-outside .ensures)
 
 returns-2 : tie.Need-returns-2
@@ -64,7 +64,7 @@ refusal-at-spec =
     is-off-requires
     crowding-requires
     returns
-    fewer-requires
+    lesser-requires
     has-outside-requires
     returns-2
     is-sized-requires

@@ -13,17 +13,17 @@ sub-if2 c = search needs
 returns-2 : tie.Need-returns-2
 returns-2 c = span-below _ _ _ _ _ _ _ (c .before .before .pre .0) (near-edge _ _ _ (c .if2 .taken))
 
-less-requires : tie.Need-less-requires
-less-requires c κs = search needs
+minus-requires : tie.Need-minus-requires
+minus-requires c κs = search needs
 
 lesser-requires : tie.Need-lesser-requires
 lesser-requires c κs = search needs
 
-less-requires-2 : tie.Need-less-requires-2
-less-requires-2 c κs = search needs
+minus-requires-2 : tie.Need-minus-requires-2
+minus-requires-2 c κs = search needs
 
-less-requires-3 : tie.Need-less-requires-3
-less-requires-3 c κs = search needs
+minus-requires-3 : tie.Need-minus-requires-3
+minus-requires-3 c κs = search needs
 
 lesser-requires-2 : tie.Need-lesser-requires-2
 lesser-requires-2 c κs = search needs
@@ -35,7 +35,7 @@ returns-3 : tie.Need-returns-3
 returns-3 c =
     let p = c .before .before .before .before .before .before in
     span-row _ _ _ _ _ _ _ (p .before .before .pre .0) _ _ _ _ _ _ (p .before .if1 .left) (off-edge _ _ _ (p .if2 .left))
-    (c .before .before .before .before .before .less .ensures) (c .before .before .before .before .lesser .ensures) (c .before .before .before .less2 .ensures) (c .before .before .less3 .ensures) (c .before .lesser2 .ensures) (c .greater .ensures)
+    (c .before .before .before .before .before .minus .ensures) (c .before .before .before .before .lesser .ensures) (c .before .before .before .minus2 .ensures) (c .before .before .minus3 .ensures) (c .before .lesser2 .ensures) (c .greater .ensures)
 
 pub reach-spec : {M : Type 1} → statement M
 reach-spec =
@@ -44,10 +44,10 @@ reach-spec =
     returns
     sub-if2
     returns-2
-    less-requires
+    minus-requires
     lesser-requires
-    less-requires-2
-    less-requires-3
+    minus-requires-2
+    minus-requires-3
     lesser-requires-2
     greater-requires
     returns-3)
