@@ -59,8 +59,8 @@ module _ (all rest : List Corner) (held k : ℕ) (b₀ b : Slices) (at : Growing
 
   -- there is a place for the next corner, and it is put there
   module _ (c : Corner) (rest′ : List Corner) (e : rest ≡ c ∷ rest′) where
-    pub growing-room : held + k < placesOf b
-    growing-room = omega (arith, upto, ap length e, at .fits, same-places b b₀ growing-xs growing-ys growing-strengths)
+    pub growing-fits : held + k < placesOf b
+    growing-fits = omega (arith, upto, ap length e, at .fits, same-places b b₀ growing-xs growing-ys growing-strengths)
 
     pub growing-put : (b′ : Slices) → b′ ≡ withCorner (held + k) c b → Growing all rest′ held (k + 1) b₀ b′
     growing-put b′ put =

@@ -37,7 +37,7 @@ use Rattle.frame.proofs.Callers.{finished-tells}
 use Rattle.demands.specs.PeakCall.{searchIn}
 use Rattle.demands.specs.PeaksAlike.{programList, position, nameOf}
 use Rattle.demands.specs.FrameExact.{FrameCall, mapsIn, Alike, WithoutTie, FrameExact, AlikeByName, MapsSearched, MapsAlike, FrameWithoutTies, FourNever}
-use Rattle.demands.proofs.Tables.{lowest-before}
+use Rattle.lists.proofs.Refusals.{lowest-before}
 use Rattle.demands.proofs.Added.{named}
 
 pub frame-exact : FrameExact

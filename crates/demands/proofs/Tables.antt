@@ -12,12 +12,6 @@ use Rattle.lists.specs.Refusals.{lowest}
 use Rattle.lists.proofs.Tests.{and-parts, or-either}
 use Rattle.demands.specs.Numbers.{OneOf, Refuses}
 
--- no number of a table: none of its first part
-pub lowest-before : (cs ds : List (Bool × ℕ)) → lowest (cs ++ ds) ≡ 0 → lowest cs ≡ 0
-lowest-before [] ds e = refl
-lowest-before ((true, n) ∷ cs) ds e = e
-lowest-before ((false, n) ∷ cs) ds e = lowest-before cs ds e
-
 -- ---- one of a list
 
 -- by computation

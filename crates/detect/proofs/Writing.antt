@@ -8,7 +8,7 @@ use lib.Ieee.{Float}
 use Rattle.lists.specs.Places.{Place}
 use Rattle.corner_list.specs.CornerList.{Slices, placesOf, withCorner}
 use Rattle.corner_list.proofs.Corners.{same-places}
-use Rattle.corner_list.proofs.Growing.{Growing, growing-none, growing-to, growing-room, growing-put, growing-all, growing-xs, growing-ys, growing-strengths}
+use Rattle.corner_list.proofs.Growing.{Growing, growing-none, growing-to, growing-fits, growing-put, growing-all, growing-xs, growing-ys, growing-strengths}
 use Rattle.detect.specs.declared.Search.{Search}
 use Rattle.detect.specs.declared.Peaks.the-variants.{Added}
 use Rattle.detect.specs.Detect.{startAt, startsIn, Found}
@@ -42,7 +42,7 @@ module _ (m : List Float) (s : Search) (t : List ℕ) (n held i : ℕ) (b₀ b :
 
     -- there is a place for its corner
     pub writing-place : held + i < placesOf b
-    writing-place = growing-room _ _ _ _ _ _ (a .growing) _ _ first
+    writing-place = growing-fits _ _ _ _ _ _ (a .growing) _ _ first
 
     -- as there was at the start
     pub writing-place₀ : held + i < placesOf b₀

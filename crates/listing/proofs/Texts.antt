@@ -30,7 +30,7 @@ pub record Lines (f : ℕ → Corner) (count start : ℕ) (before : List ℕ) (i
 pub lines-none : (f : ℕ → Corner) (count at : ℕ) (before out : List ℕ) → count ≤ 512 → length before ≡ longest → Wrote (heading cornersWord count) 0 before at out → Lines f count at out 0 at out
 unfolding tab
 lines-none f count at before out h l w =
-    let room = wrote-leaves w 12 (69 * count) (heading-long count h) (omega arith) in
+    let ample = wrote-leaves w 12 (69 * count) (heading-long count h) (omega arith) in
     record { upto = omega arith; wrote = wrote-none at out (omega arith); left = omega arith }
 
 module _ (f : ℕ → Corner) (count start : ℕ) (before : List ℕ) (i at : ℕ) (out : List ℕ) (s : Lines f count start before i at out) where

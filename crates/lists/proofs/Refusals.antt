@@ -26,6 +26,12 @@ lowest-some [] ds h = absurd (h refl)
 lowest-some ((true, n) ∷ cs) ds h = refl
 lowest-some ((false, n) ∷ cs) ds h = lowest-some cs ds h
 
+-- no number of a table: none of its first part
+pub lowest-before : (cs ds : List (Bool × ℕ)) → lowest (cs ++ ds) ≡ 0 → lowest cs ≡ 0
+lowest-before [] ds e = refl
+lowest-before ((true, n) ∷ cs) ds e = e
+lowest-before ((false, n) ∷ cs) ds e = lowest-before cs ds e
+
 -- no number: those behind decide
 pub lowest-past : (cs ds : List (Bool × ℕ)) → All (λ c. 0 < c .1) cs → lowest cs ≡ 0 → lowest (cs ++ ds) ≡ lowest ds
 lowest-past [] ds p e = refl

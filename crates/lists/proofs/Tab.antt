@@ -1,6 +1,6 @@
 -- Laws of elements, of `tab` and of `grid`: lengths, elements, and what a loop that fills a list from the front needs. Assumes nothing.
-use mathlib.Core.Path.{_≡_, refl, ap, sym, _∙_}
-use mathlib.Core.List.{List, [], _∷_, _++_, append-assoc, append-nil}
+use mathlib.Core.Path.{_≡_, refl, ap, sym, _∙_, subst}
+use mathlib.Core.List.{List, [], _∷_, _++_, append-assoc, append-nil, map, map-append}
 use Prim.Native.Nat.{ℕ, zero, suc, _+_, _*_, _-_, _<_, _≤_}
 use native.Mathlib.Nat.{add-zero, add-suc, suc-mul, zero-mul, eq-or-lt-of-le, le-of-suc-le-suc, not-suc-le-zero, mul-le-mul-right}
 use native.Mathlib.Numerals.{add-one}
@@ -9,7 +9,7 @@ use native.Mathlib.Omega.{arith}
 use mathlib.Core.Logic.{⊎-elim}
 use lib.ListN.{length, getD, take, drop, set, length-append, List·getD-append, List·getD-eq-default, length-take, length-drop, length-set}
 use borrow.Rule.Slice.PartMut.{putMid}
-use lib.Seq.{take-suc-set, take-all, length-take-le, getD-take, take-at, drop-at, getD-at, drop-drop, getD-append-add}
+use lib.Seq.{take-suc-set, take-all, take-take, length-take-le, getD-take, take-at, drop-at, getD-at, drop-drop, getD-append-add}
 use Rattle.lists.specs.Tab.{tab, grid}
 
 -- what stands for the elements past a list's end does not show before it
@@ -153,9 +153,36 @@ module _ {A : Type 0} (len : ℕ) (f : ℕ → A) where
   pub prefix-all : (n m : ℕ) (s : List A) → Prefix len f n s → n ≡ len → len ≡ m → s ≡ tab m f
   prefix-all n m s p e q = sym (take-all n s (omega (arith, p .long))) ∙ p .front ∙ rw (e, q)
 
--- the rows' ends lie in the room
+-- a part more that begins at a place before the one that is reached
+module _ {A : Type 0} (len : ℕ) (f : ℕ → A) (a n : ℕ) (s : List A) (p : Prefix len f n s) (l : a ≤ n) where
+  prefix-less : Prefix len f a s
+  prefix-less =
+      let k : n ≡ a + (n - a) = omega arith in
+      record {
+        long = p .long;
+        front =
+            sym (take-take a n s l)
+            ∙ ap (take a) (p .front ∙ ap (λ (m : ℕ). tab m f) k ∙ tab-add a (n - a) f)
+            ∙ take-at (tab a f) (tab (n - a) (λ i. f (a + i))) a (length-tab a f);
+      }
+
+  pub prefix-over : (e m : ℕ) (ys : List A) → a ≤ e → e ≤ len → ys ≡ tab m (λ i. f (a + i)) → m ≡ e - a → Prefix len f e (putMid a (e - a) s ys)
+  prefix-over e m ys b h q r =
+      let k : a + (e - a) ≡ e = omega arith in
+      subst (λ (z : ℕ). Prefix len f z (putMid a (z - a) s ys)) k (prefix-put len f a (e - a) m s ys prefix-less (omega arith) q r)
+
+-- a function of each element
+pub map-tab : {A B : Type 0} (g : A → B) (f : ℕ → A) (n : ℕ) → map g (tab n f) ≡ tab n (λ i. g (f i))
+unfolding tab
+map-tab g f zero = refl
+map-tab {B = B} g f (suc n) = map-append g (tab n f) (f n ∷ []) ∙ ap (λ (l : List B). l ++ (g (f n) ∷ [])) (map-tab g f n)
+
+-- the rows' ends lie in the list
 pub row-end : (w h j a n : ℕ) → j < h → a ≡ j * w → h * w ≤ n → a + w ≤ n
 row-end w h j a n l e r = omega (arith, mul-le-mul-right w l, suc-mul j w)
 
 pub part-length : {A : Type 0} (a w : ℕ) (s : List A) → a + w ≤ length s → length (take (a + w - a) (drop a s)) ≡ w
 part-length a w s l = simp (length-take, length-drop) (omega arith)
+
+pub part-length-to : {A : Type 0} (a e : ℕ) (s : List A) → e ≤ length s → length (take (e - a) (drop a s)) ≡ e - a
+part-length-to a e s l = simp (length-take, length-drop) (omega arith)

@@ -11,7 +11,7 @@ use borrow.Author.Tests.{leb-true, leb-false, le-leb, lt-leb}
 use lib.IntN.{pos}
 use lib.Ieee.{Float, nan, inf, fin, binary32, lt, div}
 use Rattle.lists.specs.Tab.{tab}
-use Rattle.lists.proofs.Tab.{tab-add}
+use Rattle.lists.proofs.Tab.{tab-add, map-tab}
 use Rattle.lists.proofs.Tests.{and-on}
 use Rattle.corner_list.specs.declared.Corner.{Corner}
 use Rattle.corner_list.specs.CornerList.{Slices, xOf, yOf, cornerAt, cornersOf}
@@ -71,11 +71,6 @@ module _ (vs : List Float) where
       ∙ ap (leastFrom (inf false)) (sym (tab-add i (n - i) (λ k. getD vs k nan)) ∙ ap (numbers vs) upto)
 
 -- ---- the grid, by its fields
-map-tab : (g : Corner → Float) (f : ℕ → Corner) (n : ℕ) → map g (tab n f) ≡ tab n (λ i. g (f i))
-unfolding tab
-map-tab g f zero = refl
-map-tab g f (suc n) = map-append g (tab n f) (f n ∷ []) ∙ ap (λ (l : List Float). l ++ (g (f n) ∷ [])) (map-tab g f n)
-
 pub grid-is : (b : Slices) (n : ℕ) (radius left top : Float) → left ≡ leastFrom (inf false) (numbers (b .xs) n) → top ≡ leastFrom (inf false) (numbers (b .ys) n)
     → record { left = left; top = top; inverse = div binary32 (fin false 1 (pos 0)) radius; square = squared radius } ≡ gridOf radius (cornersOf b n)
 unfolding gridOf

@@ -9,7 +9,7 @@ use lib.Seq.{length-take-le, take-at, drop-at, getD-append-add, getD-drop}
 use lib.Ieee.{Float, nan}
 use Rattle.lists.specs.Tab.{tab}
 use Rattle.lists.specs.Buffer.{placed}
-use Rattle.lists.proofs.Tab.{length-tab}
+use Rattle.lists.proofs.Tab.{length-tab, map-tab}
 use Rattle.lists.proofs.Buffer.{placed-none}
 use Rattle.corner_list.specs.declared.Corner.{Corner}
 use Rattle.corner_list.specs.CornerList.{Slices, xOf, yOf, strengthOf, placesOf, cornerAt, withCorner, placedCorners}
@@ -111,11 +111,6 @@ module _ (f : Corner → Corner) (held n : ℕ) (b₀ : Slices) where
     changing-all l = let e : i ≡ n = omega (arith, at .upto) in record { is = at .is ∙ ap (λ (k : ℕ). placedCorners held (tab k read) b₀) e }
 
 -- ---- corners that were placed, each then replaced by a function of it
-map-tab : (f : Corner → Corner) (n : ℕ) (g : ℕ → Corner) → tab n (λ i. f (g i)) ≡ map f (tab n g)
-unfolding tab
-map-tab f zero g = refl
-map-tab f (suc n) g = ap (λ (l : List Corner). l ++ (f (g n) ∷ [])) (map-tab f n g) ∙ sym (map-append f (tab n g) (g n ∷ []))
-
 -- the buffer has as many places as before
 module _ (cs : List Corner) (held : ℕ) (b : Slices) (h : held + length cs ≤ placesOf b) where
   placed-grown : Growing cs [] held (length cs) b (placedCorners held cs b)
@@ -138,5 +133,5 @@ module _ (f : Corner → Corner) (cs : List Corner) (held : ℕ) (b b′ : Slice
       let h : held ≤ placesOf b = omega (arith, fits) in
       let read : Slices → ℕ → Corner = λ s i. cornerAt s (held + i) in
       let list : tab n (λ i. f (read b′ i)) ≡ map f cs =
-      map-tab f n (read b′) ∙ ap (λ (s : Slices). map f (tab n (read s))) is ∙ ap (map f) (corners-placed held cs b h n e) in
+      sym (map-tab f (read b′) n) ∙ ap (λ (s : Slices). map f (tab n (read s))) is ∙ ap (map f) (corners-placed held cs b h n e) in
       c .is ∙ ap₂ (λ (l : List Corner) (s : Slices). placedCorners held l s) list is ∙ corners-over held cs b h (map f cs) (length-map cs f)

@@ -7,9 +7,8 @@ use lib.Ieee.{ofBits}
 use lib.ListN.{length, take, drop}
 use Rattle.ring.specs.Ring.{ringOf}
 use Rattle.response.specs.Response.{responseAt}
-use Rattle.lists.proofs.Tab.{Prefix, prefix-none, prefix-set, prefix-all}
+use Rattle.lists.proofs.Tab.{Prefix, prefix-none, prefix-set, prefix-all, prefix-over, part-length-to}
 use Rattle.response.proofs.Inside.{at-outside, inner-run, run-found}
-use Rattle.response.proofs.Overlap.{part-length-to, prefix-over}
 use Rattle.response.proofs.rows.row.Statement.{statement}
 use Rattle.response.proofs.rows.row.Tie as tie
 
