@@ -1,4 +1,4 @@
--- Lists of corners added to a buffer: those of a box, changed in their places, and one behind the other. Assumes nothing.
+-- Lists of corners added to a buffer: those of a box, and one behind the other. Assumes nothing.
 use Prim.Native.Nat.{ℕ, _+_, _-_, _*_, _<_, _≤_}
 use native.Mathlib.Nat.{le-trans}
 use native.Mathlib.Omega.{arith}
@@ -23,17 +23,16 @@ use Rattle.corner_list.specs.CornerList.{Slices, xOf, yOf, strengthOf, placesOf
 use Rattle.corner_list.proofs.Corners.{slices-alike}
 use Rattle.detect.specs.declared.Peaks.{Peaks}
 use Rattle.detect.specs.declared.Peaks.the-variants.{Added, Refused}
+use Rattle.detect.specs.Detect.{Found}
 use Rattle.detect.proofs.Answers.{Clear, added-tells, refused-tells}
 use Rattle.frame_pass.specs.declared.FrameParams.{FrameParams}
 use Rattle.frame_pass.specs.Refusals.{parametersFit}
-use Rattle.frame_pass.specs.Pass.{computedChoice, cornersIn}
 use Rattle.frame_pass.proofs.Maps.{ranges}
-use Rattle.patch_corners.specs.PatchCorners.{patchConditions, AddedCorners}
-use Rattle.patch_corners.specs.Needs.{Changed}
-use Rattle.patch_corners.proofs.Changing.{placed-places, changed-fits, changed-placed}
+use Rattle.patch_corners.specs.PatchCorners.{patchConditions}
+use Rattle.patch_corners.proofs.Changing.{placed-places}
 use Rattle.patch_corners.proofs.Centring.{both}
 use Rattle.patch_corners.proofs.Patches.{patch-clear}
-use Rattle.frame.specs.Needs.{Ready, Adds, addedOf}
+use Rattle.frame.specs.Needs.{Ready, Adds}
 
 module _ (cs : List Corner) (held : ℕ) (b : Slices) where
   -- corners that fit
@@ -57,18 +56,6 @@ module _ (cs : List Corner) (held : ℕ) (b : Slices) where
   pub adds-to : (ds : List Corner) (answer : Peaks) (b′ : Slices) → cs ≡ ds → Adds cs held b answer b′ → Adds ds held b answer b′
   adds-to ds answer b′ e a = subst (λ (l : List Corner). Adds l held b answer b′) e a
 
--- ---- corners that were added, each replaced by a function of it
-module _ (f : Corner → Corner) (cs : List Corner) (held : ℕ) (b : Slices) (answer : Peaks) (b′ : Slices) (a : Adds cs held b answer b′) where
-  pub changed : (n : ℕ) → n ≡ addedOf answer → (b″ : Slices) → Changed f held n b′ b″ → Adds (map f cs) held b answer b″
-  changed n is b″ c = of answer refl
-    where
-      of : (r : Peaks) → answer ≡ r → Adds (map f cs) held b answer b″
-      of (Added m) e =
-          let t = a .added m e in
-          let here : Changed f held m b′ b″ = rw (sym (is ∙ ap addedOf e)) c in
-          rw e (adds (map f cs) held b m b″ (t .0 ∙ sym (length-map cs f)) (t .1) (changed-placed f cs held b b′ m (t .0) (t .1) (t .2) b″ here))
-      of (Refused k) e = adds-not (map f cs) held b answer k b″ e (omega (arith, a .refused k e, length-map cs f))
-
 -- ---- the corners of a box of an image
 abbrev pub boxIn : FrameParams → List ℕ → ℕ → ℕ → ℕ → ℕ → ℕ → ℕ → View
 boxIn p img w h x0 y0 x1 y1 = record { img = img; w = w; h = h; ring = ringOf (p .ring); x0 = x0; y0 = y0; x1 = x1; y1 = y1 }
@@ -78,8 +65,9 @@ ring-is : (p : FrameParams) → parametersFit p ≡ true → isRing (p .ring) �
 unfolding parametersFit
 ring-is p e = and-parts (isRing (p .ring)) _ e .0
 
-module _ (p : FrameParams) (img : List ℕ) (w h x0 y0 x1 y1 : ℕ) (d : List Float) (ready : Ready p img w h (length d)) (held : ℕ) (b : Slices) (answer : Peaks) (d′ : List Float) (b′ : Slices)
-    (patched : AddedCorners p (boxIn p img w h x0 y0 x1 y1) held d b answer d′ b′) where
+-- added as a box's list cs is
+module _ (p : FrameParams) (img : List ℕ) (w h x0 y0 x1 y1 : ℕ) (d : List Float) (ready : Ready p img w h (length d)) (cs : List Corner) (held : ℕ) (b : Slices) (answer : Peaks) (b′ : Slices)
+    (found : Found (patchConditions p (boxIn p img w h x0 y0 x1 y1) (length d)) cs held b answer b′) where
   unrefused : Clear (patchConditions p (boxIn p img w h x0 y0 x1 y1) (length d))
   unrefused =
       let r = ranges p (ready .sound .fit) in
@@ -94,19 +82,11 @@ module _ (p : FrameParams) (img : List ℕ) (w h x0 y0 x1 y1 : ℕ) (d : List Fl
       })
       (le-trans (area-in (boxIn p img w h x0 y0 x1 y1)) (ready .enough))
 
-  pub box-adds : Adds (cornersIn p (computedChoice p) (boxIn p img w h x0 y0 x1 y1)) held b answer b′
+  pub box-adds : Adds cs held b answer b′
   box-adds = record {
-    added = λ n q. let t = added-tells _ unrefused _ held b answer b′ (patched .found) n q in (t .count, t .fits, t .buffer);
-    refused = λ k q. refused-tells _ unrefused _ held b answer b′ (patched .found) k q .short;
+    added = λ n q. let t = added-tells _ unrefused cs held b answer b′ found n q in (t .count, t .fits, t .buffer);
+    refused = λ k q. refused-tells _ unrefused cs held b answer b′ found k q .short;
   }
-
-  -- they have their places in the buffer as it is now
-  pub box-fits : held ≤ placesOf b → (n : ℕ) → n ≡ addedOf answer → held + n ≤ placesOf b′
-  box-fits l n is = of answer refl
-    where
-      of : (r : Peaks) → answer ≡ r → held + n ≤ placesOf b′
-      of (Added m) e = let t = box-adds .added m e in rw (is ∙ ap addedOf e) (changed-fits (λ (z : Corner). z) (cornersIn p (computedChoice p) (boxIn p img w h x0 y0 x1 y1)) held b b′ m (t .0) (t .1) (t .2))
-      of (Refused k) e = rw (is ∙ ap addedOf e, refused-tells _ unrefused _ held b answer b′ (patched .found) k e .buffer) (omega arith)
 
 -- ---- one list behind another: cs stand first in b, which was b₀
 module _ (cs : List Corner) (held : ℕ) (b₀ b : Slices) (a : Adds cs 0 b₀ (Added held) b) where

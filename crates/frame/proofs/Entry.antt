@@ -23,8 +23,6 @@ use Rattle.corner_list.specs.CornerList.{Slices, placesOf, isInside, cornersOf,
 use Rattle.corner_list.specs.declared.Corner.{Corner}
 use Rattle.corner_list.proofs.Corners.{corners-front, same-places}
 use Rattle.merge.specs.declared.Merged.{Merged}
-use Rattle.merge.specs.declared.Merged.the-variants.{Kept}
-use Rattle.merge.specs.declared.Merged.the-variants as merged
 use Rattle.merge.specs.Merge as merge
 use Rattle.merge_refusal.proofs.Judged.{judged-none-off, judged-none-on}
 use Rattle.merge.proofs.Result.{result-length, merges-done}
@@ -36,7 +34,7 @@ use Rattle.frame.specs.declared.search.Lists.{Lists}
 use Rattle.frame_pass.specs.Refusals.{conditions}
 use Rattle.frame.specs.Frame.{Buffers, buffers, tooMany, refusalOf, paddedCorners, padded, finished, wiped, leaving, answerOf, numberOf, frame, frameOf, Found}
 use Rattle.clearing.specs.Clearing.{clearedFrom}
-use Rattle.frame.specs.Needs.{Searched, Merging}
+use Rattle.frame.specs.Needs.{Searched, keptOf, Merging}
 use Rattle.frame_pass.proofs.Refusals.{Admitted, not-ten}
 use Rattle.frame.proofs.Numbers.{number-before, number-ten, number-none}
 use Rattle.frame.proofs.Padded.{SameLengths, padded-none, cleared-front, cleared-none}
@@ -182,13 +180,7 @@ module _ (p : FrameParams) (img : List ℕ) (w h : ℕ) (m : List Float) (levels
 
 -- ---- merging, where it is not refused
 module _ (radius : Float) (n : ℕ) (c : Slices) (free : merge.refusalOf radius (placesOf c) n c ≡ 0) (kept : Merged) (c′ : Slices) (merges : merge.Merges radius (placesOf c) n c kept c′) where
-  pub merge-kept : (x : ℕ) → kept ≡ merged.Refused x → ⊥
-  merge-kept x e =
-      let z = sym (merges-done radius (placesOf c) n c c′ kept (cornersOf c n) refl free merges .0) ∙ e in
-      let no : _≡_ {A = ℕ} 0 1 = cc in omega arith
-
-  pub merge-done : (k : ℕ) → kept ≡ Kept k → (c″ : Slices) → c″ ≡ clearedFrom k c′ → Merging radius n c k c″
+  pub merge-done : (k : ℕ) → k ≡ keptOf kept → (c″ : Slices) → c″ ≡ clearedFrom k c′ → Merging radius n c k c″
   merge-done k e c″ is =
       let done = merges-done radius (placesOf c) n c c′ kept (cornersOf c n) refl free merges in
-      let z = sym e ∙ done .0 in
-      record { count = (cc); is = is ∙ ap (clearedFrom k) (done .1) }
+      record { count = e ∙ ap keptOf (done .0); is = is ∙ ap (clearedFrom k) (done .1) }

@@ -13,6 +13,9 @@ use Rattle.detect.specs.declared.Peaks.{Peaks}
 use Rattle.detect.specs.declared.Peaks.the-variants.{Added, Refused}
 use Rattle.frame_pass.specs.declared.FrameParams.{FrameParams}
 use Rattle.frame_pass.specs.Theorems.{Sound}
+use Rattle.merge.specs.declared.Merged.{Merged}
+use Rattle.merge.specs.declared.Merged.the-variants.{Kept}
+use Rattle.merge.specs.declared.Merged.the-variants as merged
 use Rattle.merge.specs.Merge.{resultOf}
 use Rattle.clearing.specs.Clearing.{clearedFrom}
 use Rattle.frame.specs.declared.search.Lists.{Lists}
@@ -53,7 +56,14 @@ pub record Searched (seeds found : List Corner) (s c : Slices) (answer : Lists) 
       × (answer .corners ≡ length found) × (answer .corners ≤ placesOf c) × (c′ ≡ frontCorners found c)
   pub short : answer .fit ≡ false → (answer .seeds ≡ 0) × (answer .corners ≡ 0) × ((ltb (placesOf s) (length seeds) || ltb (placesOf c) (length found)) ≡ true)
 
--- ---- the first n corners of a buffer merged, k of them left, and zero behind those
+-- ---- merging
+
+-- how many corners are left
+abbrev pub keptOf : Merged → ℕ
+keptOf (Kept k) = k
+keptOf (merged.Refused x) = 0
+
+-- the first n corners of a buffer merged, k of them left, and zero behind those
 pub record Merging (radius : Float) (n : ℕ) (c : Slices) (k : ℕ) (c′ : Slices) : Type 0 where
   pub count : k ≡ length (resultOf radius (cornersOf c n))
   pub is : c′ ≡ clearedFrom k (frontCorners (resultOf radius (cornersOf c n)) c)

@@ -5,9 +5,19 @@ ghost use lib.ListN.{length, replicate};
 ghost use Rattle.corner_list.specs.CornerList.{slices, placesOf};
 ghost use Rattle.merge.specs.Merge.{refusalOf};
 ghost use Rattle.frame.specs.declared.FrameAnswer.the-variants.{Corners, Refused};
-ghost use Rattle.frame.specs.Needs.{Merging};
+ghost use Rattle.frame.specs.Needs.{keptOf, Merging};
 use crate::FrameAnswer;
 use merge::Merged;
+
+// How many corners merging left, none where it was refused.
+fn kept(m: Merged) -> usize
+    ensures { λ k. ⌜ k ≡ keptOf m ⌝ }
+{
+    let Merged::Kept(k) = m else {
+        return 0;
+    };
+    k
+}
 
 // Merges the first n corners of a buffer, clears what stands behind those that are left, and counts them.
 pub(crate) fn finish_corners(
@@ -21,9 +31,7 @@ pub(crate) fn finish_corners(
     ensures { λ k. ⌜ Merging radius n (slices (now (cx .entry)) (now (cy .entry)) (now (cs .entry))) k (slices (now (cx .exit)) (now (cy .exit)) (now (cs .exit))) ⌝ }
 {
     let merged = merge::merge_corners_simple(cx, cy, cs, n, radius);
-    let Merged::Kept(k) = merged else {
-        return 0;
-    };
+    let k = kept(merged);
     clearing::clear_list(cx, cy, cs, k);
     k
 }

@@ -1,7 +1,6 @@
 // The frame pass: from an image and its parameters to the list of its corners, over borrowed buffers.
 mod closing;
 mod search;
-mod shifting;
 
 ghost use lib.ListN.{length};
 ghost use Rattle.pyramid_levels.proofs.Refusals.{Accepted};

@@ -64,23 +64,7 @@ fn add_patch(
     let RoiAnswer::Bounds(x0, y0, x1, y1) = b else {
         return Peaks::Added(0);
     };
-    let f = patch_corners::add_patch_corners(
-        img,
-        w,
-        h,
-        p,
-        x0,
-        y0,
-        x1,
-        y1,
-        map,
-        xs,
-        ys,
-        strengths,
-        held,
-    );
-    crate::shifting::shift_all(x0, y0, xs, ys, strengths, held, added(f));
-    f
+    box_corners::add_box_corners(img, w, h, p, x0, y0, x1, y1, map, xs, ys, strengths, held)
 }
 
 // Puts the corners of the boxes of the first n seeds, which are of level k, first in a buffer.

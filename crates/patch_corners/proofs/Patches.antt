@@ -1,11 +1,11 @@
 -- The corners of a box, from what led to them: a fault of the input, a map buffer that is short, or the map, whose peaks were added at their
 -- centres of mass. Assumes nothing.
 use Prim.Native.Nat.{ℕ, zero, suc, _*_, _<_, _≤_}
-use native.Mathlib.Nat.{mul-comm, mul-le-mul}
+use native.Mathlib.Nat.{eq-zero-or-pos, mul-comm, mul-le-mul}
 use native.Mathlib.Omega.{arith}
 use native.Mathlib.Decide.{decLt}
 use mathlib.Core.Path.{_≡_, refl, sym, ap, _∙_}
-use mathlib.Core.Logic.{inl}
+use mathlib.Core.Logic.{inl, ⊎-elim}
 use mathlib.Core.Bool.{Bool, true, cond}
 use mathlib.Core.List.{List, [], _∷_, _++_}
 use lib.Dec.{eqb, ltb}
@@ -90,13 +90,26 @@ module _ (p : FrameParams) (v : View) where
                 k q)
           ]
 
--- no condition holds where image and parameters are sound and the map buffer has places enough
+-- ---- the whole table
+pub patch-numbered : (p : FrameParams) (v : View) (places : ℕ) → lowest (patchConditions p v places) ≡ 0 → Clear (patchConditions p v places)
+patch-numbered p v places none = record {
+  numbered = unfold patchConditions conditions in (omega arith, (omega arith, (omega arith, (omega arith, tt))));
+  none = none;
+}
+
+-- no condition holds: image and parameters are sound
+pub patch-sound : (p : FrameParams) (v : View) (places : ℕ) → lowest (patchConditions p v places) ≡ 0
+    → Sound (length (v .img)) (v .w) (v .h) (p .ring) (p .window) (p .centroid)
+patch-sound p v places none =
+    let c = inputConditions p v in
+    sound _ _ _ _ _ _
+    (clear _ _ _ _ _ _
+    (⊎-elim (λ z. z) (λ l. sym (input-first p v places (λ (z : lowest c ≡ 0). let no : ⊥ = omega arith in no)) ∙ none) (eq-zero-or-pos (lowest c))))
+
+-- and none does where these are, and the map buffer has places enough
 pub patch-clear : (p : FrameParams) (v : View) (places : ℕ) → Sound (length (v .img)) (v .w) (v .h) (p .ring) (p .window) (p .centroid) → rows v * cols v ≤ places
     → Clear (patchConditions p v places)
-patch-clear p v places s l = record {
-  numbered = unfold patchConditions conditions in (omega arith, (omega arith, (omega arith, (omega arith, tt))));
-  none = input-past p v places (sound-clear _ _ _ _ _ _ s) ∙ rw (le-ltb places (rows v * cols v) l);
-}
+patch-clear p v places s l = patch-numbered p v places (input-past p v places (sound-clear _ _ _ _ _ _ s) ∙ rw (le-ltb places (rows v * cols v) l))
 
 -- ---- the buffer e after the map of v, pw by ph, was made in d
 pub record Made (p : FrameParams) (v : View) (d e : List Float) (pw ph : ℕ) : Type 0 where

@@ -1,12 +1,12 @@
--- `frame::shifting::shift_all` meets its contract. Assumes nothing.
+-- `box_corners::shifting::shift_all` meets its contract. Assumes nothing.
 use borrow.Author.Needs.{needs}
 use Prim.Native.Nat.{_-_}
 use native.Mathlib.Omega.{arith}
 use Rattle.corner_list.specs.CornerList.{slices}
 use Rattle.frame_pass.specs.Pass.{moved}
 use Rattle.patch_corners.proofs.Changing.{Changing, changing-none, changing-put, changing-all, changing-xs, changing-ys, changing-strengths}
-use Rattle.frame.proofs.shifting.shift_all.Statement.{statement}
-use Rattle.frame.proofs.shifting.shift_all.Tie as tie
+use Rattle.box_corners.proofs.shifting.shift_all.Statement.{statement}
+use Rattle.box_corners.proofs.shifting.shift_all.Tie as tie
 
 abbrev Inv-loop : tie.InvT-loop
 Inv-loop x0 y0 xs₀ ys₀ strengths₀ held n i₀ xs ys strengths i = Changing (moved x0 y0) held n i (slices xs₀ ys₀ strengths₀) (slices xs ys strengths)

@@ -1,0 +1,27 @@
+-- `frame::closing::kept` meets its contract, by its two cases. Assumes nothing.
+use borrow.Author.Needs.{needs}
+use mathlib.Core.Path.{sym, ap}
+use Rattle.frame.specs.Needs.{keptOf}
+use Rattle.frame.proofs.closing.kept.Statement.{statement}
+use Rattle.frame.proofs.closing.kept.Tie as tie
+
+enum-known-m : tie.Need-enum-known-m
+enum-known-m c = search needs
+
+enum-told : tie.Need-enum-told
+enum-told c = search needs
+
+returns : tie.Need-returns
+returns c = sym (ap keptOf (c .enum-told .given .1))
+
+returns-2 : tie.Need-returns-2
+returns-2 c = sym (ap keptOf (c .before .m .given .1))
+
+pub kept-spec : {M : Type 1} → statement M
+kept-spec =
+    tie.close
+    (tie.spec
+    enum-known-m
+    enum-told
+    returns
+    returns-2)
