@@ -16,7 +16,7 @@ use Rattle.patch_corners.specs.PatchCorners.{patchConditions, AddedCorners}
 use Rattle.patch_corners.specs.Needs.{Changed}
 use Rattle.patch_corners.proofs.Centring.{found-not, found-fits, found-changed}
 use Rattle.patch_corners.proofs.Patches.{patch-numbered, patch-sound}
-use Rattle.box_corners.specs.BoxCorners.{boxCorners, AddedBox}
+use Rattle.box_corners.specs.BoxCorners.{AddedBox}
 
 module _ (p : FrameParams) (v : View) (held : ℕ) (d : List Float) (b : Slices) (answer : Peaks) (d′ : List Float) (b′ : Slices) (added : AddedCorners p v held d b answer d′ b′) where
   pub moved-not : (k : ℕ) → answer ≡ Refused k → AddedBox p v held d b answer d′ b′

@@ -1,5 +1,5 @@
 -- Lists of corners added to a buffer: those of a box, and one behind the other. Assumes nothing.
-use Prim.Native.Nat.{ℕ, _+_, _-_, _*_, _<_, _≤_}
+use Prim.Native.Nat.{ℕ, _+_, _-_, _<_, _≤_}
 use native.Mathlib.Nat.{le-trans}
 use native.Mathlib.Omega.{arith}
 use native.Mathlib.Numerals.{add-one}
@@ -16,7 +16,7 @@ use Rattle.lists.proofs.Tests.{and-parts}
 use Rattle.lists.proofs.Buffer.{placed-none, placed-more}
 use Rattle.lists.proofs.Members.{flatMap-append}
 use Rattle.ring.specs.Ring.{ringOf, isRing}
-use Rattle.response.specs.Patch.{View, rows, cols}
+use Rattle.response.specs.Patch.{View}
 use Rattle.response.proofs.Outcome.{area-in}
 use Rattle.corner_list.specs.declared.Corner.{Corner}
 use Rattle.corner_list.specs.CornerList.{Slices, xOf, yOf, strengthOf, placesOf, placedCorners}

@@ -1,37 +1,34 @@
 -- The corners of a box, from what led to them: a fault of the input, a map buffer that is short, or the map, whose peaks were added at their
 -- centres of mass. Assumes nothing.
-use Prim.Native.Nat.{ℕ, zero, suc, _*_, _<_, _≤_}
+use Prim.Native.Nat.{ℕ, _*_, _≤_}
 use native.Mathlib.Nat.{eq-zero-or-pos, mul-comm, mul-le-mul}
 use native.Mathlib.Omega.{arith}
 use native.Mathlib.Decide.{decLt}
-use mathlib.Core.Path.{_≡_, refl, sym, ap, _∙_}
+use mathlib.Core.Path.{_≡_, refl, sym, _∙_}
 use mathlib.Core.Logic.{inl, ⊎-elim}
-use mathlib.Core.Bool.{Bool, true, cond}
-use mathlib.Core.List.{List, [], _∷_, _++_}
-use lib.Dec.{eqb, ltb}
+use mathlib.Core.Bool.{Bool}
+use mathlib.Core.List.{List, [], _∷_}
+use lib.Dec.{ltb}
 use lib.ListN.{length, take}
 use lib.Seq.{length-take-le}
 use lib.Ieee.{Float}
 use borrow.Author.Tests.{lt-ltb, le-ltb, ne-eqb}
-use Rattle.lists.specs.Buffer.{front}
 use Rattle.lists.specs.Refusals.{lowest}
 use Rattle.lists.proofs.Refusals.{lowest-some, lowest-past}
-use Rattle.ring.specs.Ring.{ringOf, isRing}
+use Rattle.ring.specs.Ring.{ringOf}
 use Rattle.ring.proofs.Places.{ring-is}
-use Rattle.response.specs.Patch.{View, rows, cols, cells, Patched}
+use Rattle.response.specs.Patch.{View, rows, cols, Patched}
 use Rattle.response.specs.declared.Patch.{Patch}
 use Rattle.response.specs.declared.Patch.the-variants as patch
 use Rattle.response.proofs.Outcome.{cols-le, rows-le, allowed}
 use Rattle.response.proofs.Map.{Filled, filled, refused, never-refused, same-length, front-is}
 use Rattle.accuracy.specs.Accurate.{Bytes}
-use Rattle.corner_list.specs.declared.Corner.{Corner}
 use Rattle.corner_list.specs.CornerList.{Slices}
 use Rattle.detect.specs.declared.Peaks.{Peaks}
 use Rattle.detect.specs.declared.Peaks.the-variants.{Refused}
 use Rattle.detect.specs.Detect.{conditions, Found}
 use Rattle.detect.proofs.Answers.{Clear, Sound, clear, sound, sound-clear, found-refused}
 use Rattle.frame_pass.specs.declared.FrameParams.{FrameParams}
-use Rattle.frame_pass.specs.Refusals.{parametersFit}
 use Rattle.frame_pass.specs.Pass.{computedChoice, cornersIn}
 use Rattle.frame_pass.proofs.Refusals.{ring-decides}
 use Rattle.frame_pass.proofs.Maps.{Fine}

@@ -1,5 +1,4 @@
 -- `frame::closing::answer_of` meets its contract. Assumes nothing.
-use borrow.Author.Needs.{needs}
 use Rattle.frame.proofs.closing.answer_of.Statement.{statement}
 use Rattle.frame.proofs.closing.answer_of.Tie as tie
 

@@ -1,6 +1,6 @@
 -- `frame::search::lists_of` meets its contract, by the answers' cases. Assumes nothing.
 use borrow.Author.Needs.{needs}
-use mathlib.Core.Path.{_≡_, sym, ap, ap₂}
+use mathlib.Core.Path.{sym, ap, ap₂}
 use Rattle.detect.specs.declared.Peaks.{Peaks}
 use Rattle.frame.specs.Needs.{listsOf}
 use Rattle.frame.proofs.search.lists_of.Statement.{statement}

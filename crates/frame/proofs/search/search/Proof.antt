@@ -1,6 +1,5 @@
 -- `frame::search::search` meets its contract, by the laws of `Levels`. Assumes nothing.
 use borrow.Author.Needs.{needs}
-use native.Mathlib.Omega.{arith}
 use Rattle.frame.proofs.Adding.{box-adds}
 use Rattle.frame.proofs.Levels.{search-none, search-one, several}
 use Rattle.frame.proofs.search.search.Statement.{statement}
