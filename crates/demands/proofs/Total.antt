@@ -4,7 +4,7 @@ use native.Mathlib.Omega.{arith}
 use mathlib.Core.Path.{_≡_, sym, ap, _∙_}
 use mathlib.Core.Logic.{inl}
 use mathlib.Core.Bool.{Bool, true, false, cond, not, _&&_}
-use mathlib.Core.List.{List, [], _∷_, _++_}
+use mathlib.Core.List.{List, [], _∷_, _++_, map}
 use lib.ListN.{length}
 use lib.Dec.{ltb}
 use lib.Ieee.{Float}
@@ -46,6 +46,7 @@ use Rattle.merge_slice.specs.MergeSlice.{columns, sharedPlaces}
 use Rattle.frame_pass.specs.declared.FrameParams.{FrameParams}
 use Rattle.frame_pass.specs.Refusals.{conditions}
 use Rattle.frame_pass.specs.Pass.{framePass, computedChoice}
+use Rattle.patch_corners.specs.PatchCorners.{patchConditions}
 use Rattle.frame.specs.declared.FrameAnswer.{FrameAnswer}
 use Rattle.frame.specs.declared.FrameAnswer.the-variants as answer
 use Rattle.frame.specs.Frame as frame
@@ -85,12 +86,23 @@ level-refuses pixels places w h count least k r f =
     refused-one level.Refused (lookup.answerOf w h k) (λ k q. let z : _≡_ {A = ℕ} 0 1 = cc in omega arith) (λ n k q. sym (ap lookup.numberOf q))
     ((isLarge w h, 1) ∷ (isMisfit pixels w h, 2) ∷ (isAbsent w h count least k, 3) ∷ (isShort places w h count least, 9) ∷ []) r f
 
-peaks-refuse : (size w h ring window radius : ℕ) (cs : List Corner) (held : ℕ) (b b′ : Slices) (r : Peaks)
-    → detect.Found (detect.conditions size w h ring window radius) cs held b r b′ → Refuses peaks.Refused (1 ∷ 2 ∷ 3 ∷ 10 ∷ []) r
-unfolding detect.refusalOf detect.conditions
-peaks-refuse size w h ring window radius cs held b b′ r f =
+-- peak finding, and what promises as it does
+peaks-refuse : (conds : List (Bool × ℕ)) (cs : List Corner) (held : ℕ) (b b′ : Slices) (r : Peaks) → detect.Found conds cs held b r b′
+    → Refuses peaks.Refused (map (λ c. c .1) (conds ++ ((ltb (placesOf b) (held + length cs), 10) ∷ []))) r
+unfolding detect.refusalOf
+peaks-refuse conds cs held b b′ r f =
     refused-one peaks.Refused (λ n. detect.answerOf n (length cs)) (λ k q. let z : _≡_ {A = ℕ} 0 1 = cc in omega arith) (λ n k q. sym (ap detect.numberOf q))
-    (detect.conditions size w h ring window radius ++ ((ltb (placesOf b) (held + length cs), 10) ∷ [])) r (f .answered)
+    (conds ++ ((ltb (placesOf b) (held + length cs), 10) ∷ [])) r (f .answered)
+
+peaks-of : (size w h ring window radius : ℕ) (cs : List Corner) (held : ℕ) (b b′ : Slices) (r : Peaks)
+    → detect.Found (detect.conditions size w h ring window radius) cs held b r b′ → Refuses peaks.Refused (1 ∷ 2 ∷ 3 ∷ 10 ∷ []) r
+unfolding detect.conditions
+peaks-of size w h ring window radius = peaks-refuse (detect.conditions size w h ring window radius)
+
+corners-of : (p : FrameParams) (v : response.View) (places : ℕ) (cs : List Corner) (held : ℕ) (b b′ : Slices) (r : Peaks)
+    → detect.Found (patchConditions p v places) cs held b r b′ → Refuses peaks.Refused (1 ∷ 2 ∷ 3 ∷ 8 ∷ 10 ∷ []) r
+unfolding patchConditions detect.conditions
+corners-of p v places = peaks-refuse (patchConditions p v places)
 
 refine-refuses : (radius : ℕ) (x y : Float) (hasMap : Bool) (m : List Float) (w h : ℕ) (r : Outcome) → Refined radius x y hasMap m w h r
     → Refuses outcome.Refused (1 ∷ 2 ∷ 3 ∷ 4 ∷ []) r
@@ -140,7 +152,9 @@ total = record {
   «chess_response_u8_patch» = λ img w h ring x0 y0 x1 y1 d e r f. response-refuses (viewOf img w h ring x0 y0 x1 y1) ring d e r f;
   «build_pyramid» = build-refuses;
   «level_at» = level-refuses;
-  «detect_peaks_from_response_with_refine_radius» = λ m w h ring t window least radius b b′ held r f. peaks-refuse (length m) w h ring window radius _ held b b′ r f;
+  «detect_peaks_from_response_with_refine_radius» = λ m w h ring t window least radius b b′ held r f. peaks-of (length m) w h ring window radius _ held b b′ r f;
+  «add_patch_corners» = λ p img w h x0 y0 x1 y1 held d d′ b b′ r f. corners-of p (viewOf img w h (p .ring) x0 y0 x1 y1) (length d) _ held b b′ r (f .found);
+  «add_box_corners» = λ p img w h x0 y0 x1 y1 held d d′ b b′ r f. corners-of p (viewOf img w h (p .ring) x0 y0 x1 y1) (length d) _ held b b′ r (f .found);
   refine = refine-refuses;
   «compute_roi» = roi-refuses;
   «merge_corners_simple» = λ radius count b b′ r f. merge-refuses radius (placesOf b) count b _ r (f .answered);

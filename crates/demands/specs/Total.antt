@@ -4,12 +4,15 @@
 -- Here stand the promises of the functions that refuse, word for word, and the numbers that each can give: 0, which the definitions use for
 -- "none", is no refusal's. Which condition has which number, lowest first, is in the tables that the promises name. No other public function
 -- refuses, and each of these promises one equation over its arguments:
+--   numbers         lesser, greater, minus
 --   ring            ring_offsets, is_ring
 --   float32         abs, is_finite, lifted, is_between, from_bits, to_bits, cut_off, round_half_away
 --   corner_list     is_inside, corner_at, put_corner, places
 --   pyramid_levels  level_count, cells_before, cells_above, build_fault and level_fault (the number alone)
 --   pyramid         level (nothing where `level_at` refuses)
 --   merge_radius    is_off, is_sized, is_outside
+--   merge_refusal   refusal (the number alone)
+--   merge_grid      grid_of, column_of, row_of, is_joined
 --   clearing        clear, clear_bytes, clear_list
 --   frame_pass      refusal (the number before the pass)
 --   listing         write_refusal (one for its answer, one for its buffer)
@@ -47,6 +50,8 @@ use Rattle.merge.specs.declared.Merged.the-variants as merge
 use Rattle.merge.specs.Merge.{Merges}
 use Rattle.merge_slice.specs.MergeSlice.{MergesSlice}
 use Rattle.frame_pass.specs.declared.FrameParams.{FrameParams}
+use Rattle.patch_corners.specs.PatchCorners.{AddedCorners}
+use Rattle.box_corners.specs.BoxCorners.{AddedBox}
 use Rattle.frame.specs.declared.FrameAnswer.{FrameAnswer}
 use Rattle.frame.specs.declared.FrameAnswer.the-variants as frame
 use Rattle.frame.specs.Frame.{Buffers, Found}
@@ -70,6 +75,12 @@ pub record Total : Type 0 where
   pub «detect_peaks_from_response_with_refine_radius» : (m : List Float) (w h ring : ℕ) (threshold : Float) (window least radius : ℕ) (b b′ : Slices) (held : ℕ) (r : Peaks)
       → detect.Found (detect.conditions (length m) w h ring window radius) (detect.startsIn m (detect.searchOf w h ring threshold window least radius)) held b r b′
       → Refuses peaks.Refused (1 ∷ 2 ∷ 3 ∷ 10 ∷ []) r
+  pub «add_patch_corners» : (p : FrameParams) (img : List ℕ) (w h x0 y0 x1 y1 held : ℕ) (d d′ : List Float) (b b′ : Slices) (r : Peaks)
+      → AddedCorners p (viewOf img w h (p .ring) x0 y0 x1 y1) held d b r d′ b′
+      → Refuses peaks.Refused (1 ∷ 2 ∷ 3 ∷ 8 ∷ 10 ∷ []) r
+  pub «add_box_corners» : (p : FrameParams) (img : List ℕ) (w h x0 y0 x1 y1 held : ℕ) (d d′ : List Float) (b b′ : Slices) (r : Peaks)
+      → AddedBox p (viewOf img w h (p .ring) x0 y0 x1 y1) held d b r d′ b′
+      → Refuses peaks.Refused (1 ∷ 2 ∷ 3 ∷ 8 ∷ 10 ∷ []) r
   pub refine : (radius : ℕ) (x y : Float) (hasMap : Bool) (m : List Float) (w h : ℕ) (r : Outcome) → Refined radius x y hasMap m w h r
       → Refuses outcome.Refused (1 ∷ 2 ∷ 3 ∷ 4 ∷ []) r
   pub «compute_roi» : (c : RoiContext) (s : Corner) (r : RoiAnswer) → Boxed c s r
