@@ -1,12 +1,8 @@
-//! Links libzakdomp.a, from the folder that the environment variable ZAKDOMP_DIR names, and else from where `library` leaves it, and
-//! compiles the response in C.
+//! Compiles the response in C.
 use std::process::Command;
 
 fn main() {
-    println!("cargo::rerun-if-env-changed=ZAKDOMP_DIR");
     println!("cargo::rerun-if-changed=response.c");
-    let own = concat!(env!("CARGO_MANIFEST_DIR"), "/../target/zakdomp");
-    let folder = std::env::var("ZAKDOMP_DIR").unwrap_or(own.into());
     let out = std::env::var("OUT_DIR").expect("cargo sets it");
     let object = format!("{out}/response.o");
     let archive = format!("{out}/libresponse_in_c.a");
@@ -24,10 +20,7 @@ fn main() {
     ];
     run(Command::new("gcc").args(options).arg(&object));
     run(Command::new("ar").args(["rcs", &archive, &object]));
-    println!("cargo::rerun-if-changed={folder}/libzakdomp.a");
-    println!("cargo::rustc-link-search=native={folder}");
     println!("cargo::rustc-link-search=native={out}");
-    println!("cargo::rustc-link-lib=static=zakdomp");
     println!("cargo::rustc-link-lib=static=response_in_c");
 }
 

@@ -2,6 +2,7 @@
 //!
 //! A [`Finder`] owns the buffers that the library works in and uses them again. What the library refuses comes back as a [`Refusal`].
 mod library;
+pub mod raw;
 mod refusal;
 
 pub use refusal::Refusal;

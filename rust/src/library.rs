@@ -1,23 +1,7 @@
 //! The functions of libzakdomp.a that this crate calls, over slices.
+use crate::raw::{zakdomp_find_corners, zakdomp_level_bytes, zakdomp_response};
 use crate::{Params, Refusal};
 use std::ops::Range;
-
-#[rustfmt::skip]
-extern "C" {
-    fn zakdomp_find_corners(
-        img: *const u8, img_length: usize, w: usize, h: usize,
-        ring: u32, threshold: f32, window: u32, least: u32, centroid: u32, radius: f32, level_count: u32, minimum: usize, search: u32,
-        map: *mut f32, map_length: usize, levels: *mut u8, levels_length: usize,
-        sx: *mut f32, sx_length: usize, sy: *mut f32, sy_length: usize, ss: *mut f32, ss_length: usize,
-        cx: *mut f32, cx_length: usize, cy: *mut f32, cy_length: usize, cs: *mut f32, cs_length: usize,
-        count: *mut usize,
-    ) -> u8;
-    fn zakdomp_response(
-        img: *const u8, img_length: usize, w: usize, h: usize, ring: u32, x0: usize, y0: usize, x1: usize, y1: usize,
-        map: *mut f32, map_length: usize, width: *mut usize, height: *mut usize,
-    ) -> u8;
-    fn zakdomp_level_bytes(w: usize, h: usize, level_count: u32, minimum: usize) -> usize;
-}
 
 /// The results, unless the number is one of a refusal.
 fn unless_refused<T>(number: u8, results: T) -> Result<T, Refusal> {

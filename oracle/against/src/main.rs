@@ -6,48 +6,7 @@ use oracle::generate::refused_frames::Case;
 use oracle::sample::library::Left;
 use std::path::Path;
 use std::process::ExitCode;
-
-extern "C" {
-    /// Reads a stream and writes what `corners` prints for it into LONGEST bytes; the text's length.
-    fn zakdomp_corners(input: *const u8, input_length: usize, output: *mut u8) -> usize;
-
-    /// Finds the corners of an image; 0, or the number of the refusal.
-    fn zakdomp_find_corners(
-        img: *const u8,
-        img_length: usize,
-        w: usize,
-        h: usize,
-        ring: u32,
-        threshold: f32,
-        window: u32,
-        least: u32,
-        centroid: u32,
-        radius: f32,
-        level_count: u32,
-        minimum: usize,
-        search: u32,
-        map: *mut f32,
-        map_length: usize,
-        levels: *mut u8,
-        levels_length: usize,
-        sx: *mut f32,
-        sx_length: usize,
-        sy: *mut f32,
-        sy_length: usize,
-        ss: *mut f32,
-        ss_length: usize,
-        cx: *mut f32,
-        cx_length: usize,
-        cy: *mut f32,
-        cy_length: usize,
-        cs: *mut f32,
-        cs_length: usize,
-        count: *mut usize,
-    ) -> u8;
-}
-
-/// ZAKDOMP_LONGEST of include/zakdomp.h.
-const LONGEST: usize = 35_340;
+use zakdomp::raw::{zakdomp_corners, zakdomp_find_corners, LONGEST};
 
 fn answer(stream: &[u8]) -> Vec<u8> {
     let mut output = vec![0; LONGEST];
