@@ -8,7 +8,7 @@
  *
  * Each function but the last and zakdomp_level_bytes returns 0, or the number of a refusal, the lowest that applies. A refusal leaves every
  * buffer and every place for a result as it was; the one exception is ZAKDOMP_LIST_SHORT from zakdomp_find_corners. What lies in a buffer
- * behind a result stays as it was; zakdomp_find_corners alone clears it.
+ * behind a result stays as it was; zakdomp_find_corners alone clears map and list buffers behind it.
  *
  * Corners are held in three slices: columns, rows and strengths. The shortest of the three says how many places there are. */
 #ifndef ZAKDOMP_H
@@ -33,20 +33,21 @@ enum {
     ZAKDOMP_LIST_SHORT = 10   /* the corners do not fit their buffer */
 };
 
-/* The corners of an image of w by h pixels, in row order.
+/* The corners of an image of w by h pixels. Those of each map are found in row order: with one level in that of the image, with more in that of
+ * each seed's box, one seed after the other. Merging keeps the order of the places.
  *   ring         5 or 10: the ring's radius
- *   threshold    a peak's response is above it; NaN and negative numbers count as 0
+ *   threshold    no peak has a response at or below it; NaN and negative numbers count as 0
  *   window       0..16: no cell this near has a larger response than a peak
  *   least        so many cells of the window have a response above 0
  *   centroid     0..16: a peak moves to the centre of mass of the cells this near
- *   radius       1/64..4096: of corners this near to each other the strongest is kept; 0, negative or not finite: all are kept
+ *   radius       1/64..4096: corners are merged as zakdomp_merge does; 0, negative or not finite: all are kept
  *   level_count  1: the image itself; more: seeds are found on the last of so many half-size levels, and looked for about their place
  *                in the image; 0: no corners
  *   minimum      no level has a side below it
  *   search       0..255: how far about a seed, in pixels of its level
  * Buffers:
  *   map          at least w * h floats; all 0 at the end
- *   levels       at least zakdomp_level_bytes(w, h, level_count, minimum) bytes; the levels stand first in it
+ *   levels       at least zakdomp_level_bytes(w, h, level_count, minimum) bytes; the levels stand first in it, and what is behind them stays
  *   sx, sy, ss   a place for each seed; the seeds stand first, and 0 behind them
  *   cx, cy, cs   a place for each corner before merging; the corners stand first, and 0 behind them
  *   count        the number of corners
@@ -65,7 +66,8 @@ uint8_t zakdomp_response(const uint8_t *img, size_t img_length, size_t w, size_t
                          size_t y1, float *map, size_t map_length, size_t *width, size_t *height);
 
 /* The peaks of a map of w by h responses, put behind the first `held` corners of a buffer, in row order. The parameters are those of
- * zakdomp_find_corners; no peak lies within ring + window + centroid of the map's edge.
+ * zakdomp_find_corners; no peak lies within ring + window + centroid of the map's edge. A NaN cell is not at or below any threshold and is
+ * beaten by none, so it is a peak where it has enough positive neighbours.
  *   added  the number of peaks
  * Refusals: 1, 2, 3, 10. */
 uint8_t zakdomp_peaks(const float *map, size_t map_length, size_t w, size_t h, uint32_t ring, float threshold, uint32_t window,
@@ -78,7 +80,10 @@ uint8_t zakdomp_peaks(const float *map, size_t map_length, size_t w, size_t h, u
  * Refusals: 1, 2, 3, 4. */
 uint8_t zakdomp_centroid(const float *map, size_t map_length, size_t w, size_t h, uint32_t radius, float *x, float *y, float *mass);
 
-/* Merges the first `count` corners of a buffer in place: of corners within `radius` of each other the strongest is kept.
+/* Merges the first `count` corners of a buffer in place. Each corner in turn looks among those kept, in its own cell of a grid of `radius` and
+ * the eight about it, for the first at most `radius` away. It takes that one's place if it is strictly stronger, and is dropped if not; where
+ * there is none it is kept behind the others. So two that are kept may still be near each other: (0, 0; 1), (5, 0; 2), (2.5, 0; 3) at radius 3
+ * leaves (2.5, 0; 3) and (5, 0; 2).
  *   kept  the number of corners that are left
  * Refusals: 4, 5, 10. */
 uint8_t zakdomp_merge(float *xs, size_t xs_length, float *ys, size_t ys_length, float *strengths, size_t strengths_length, size_t count,

@@ -20,7 +20,7 @@ pub struct Corner {
 pub struct Params {
     /// The ring's radius, 5 or 10.
     pub ring: u32,
-    /// A peak's response is above it.
+    /// A peak's response is above it; NaN and negative numbers count as 0.
     pub threshold: f32,
     /// No cell this near, 0 to 16, has a larger response than a peak.
     pub window: u32,
@@ -28,7 +28,7 @@ pub struct Params {
     pub least_neighbours: u32,
     /// A peak moves to the centre of mass of the cells this near, 0 to 16.
     pub centroid_radius: u32,
-    /// Of corners this near to each other, 1/64 to 4096, the strongest is kept; 0: all are kept.
+    /// 1/64 to 4096: corners are merged as `zakdomp_merge` of include/zakdomp.h does; 0, negative or not finite: all are kept.
     pub merge_radius: f32,
     /// On how many half-size levels seeds are looked for; 1: the image itself.
     pub levels: u32,
@@ -39,7 +39,7 @@ pub struct Params {
 }
 
 impl Default for Params {
-    /// The original's defaults, on one level.
+    /// The original's defaults on one level; its smallest side of a level is 128, here it is 1.
     fn default() -> Self {
         Self {
             ring: 5,
@@ -105,7 +105,7 @@ impl Finder {
         Self { map: vec![], levels: vec![], seeds: lists(), corners: lists(), places: most.min(1024), most }
     }
 
-    /// The corners of an image of `width` by `height` pixels in row order.
+    /// The corners of an image of `width` by `height` pixels, in the order of include/zakdomp.h.
     pub fn find(
         &mut self,
         image: &[u8],

@@ -1,4 +1,4 @@
--- When a map's peaks by computed values are those by exact values: document 01's demand 3, second sentence, for any map of accurate cells.
+-- When a map's peaks by computed values are those by exact values: the second sentence of demand 3, for any map of accurate cells.
 use Prim.Native.Nat.{ℕ, _<_}
 use mathlib.Core.Path.{_≡_}
 use mathlib.Core.Logic.{_↔_}

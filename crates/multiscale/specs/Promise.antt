@@ -1,4 +1,4 @@
--- What `compute_roi` promises, and the contexts that are not refused.
+-- What `compute_roi` promises, and the contexts by which it refuses none but a seed outside.
 use Prim.Native.Nat.{_≤_}
 use mathlib.Core.Path.{_≡_}
 use mathlib.Core.Logic.{_⊎_}
@@ -11,7 +11,7 @@ pub record Boxed (c : RoiContext) (s : Corner) (a : RoiAnswer) : Type 0 where
   pub answer : a ≡ roiOf c s
   pub number : numberOf a ≡ refusal c s
 
--- a context that no seed is refused for
+-- a context by which no seed with coordinates from 0 to 4,096 is refused
 pub record Sound (c : RoiContext) : Type 0 where
   pub width : c .width ≤ 4096
   pub height : c .height ≤ 4096
