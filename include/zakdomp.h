@@ -3,7 +3,7 @@
  * Every function is proved to end and to do what is said here, for every value of its numbers. What C has to see to:
  *   - a slice is a pointer and a length, in elements; the pointer is to that many elements, and is not NULL even where the length is 0;
  *   - no two buffers and no places for results overlap, and an image or a map that is read overlaps none of them;
- *   - some 600 KB of stack are free.
+ *   - enough stack is free: 192 KB for images of at most 96 by 96 pixels and for zakdomp_corners, 768 KB for any call.
  * Nothing is kept between calls, so calls may run at the same time on other buffers. No function allocates.
  *
  * Each function but the last and zakdomp_level_bytes returns 0, or the number of a refusal, the lowest that applies. A refusal leaves every

@@ -1,4 +1,5 @@
--- The theorems of `specs/Theorems.antt` on cells: a cell's sums are those of bytes, so its response is accurate, whatever the ring. Assumes nothing.
+-- Cells: the sums of a cell are those of bytes, so its response is accurate, whatever the ring; and how large it is. Assumes nothing.
+use mathlib.Core.Path.{_≡_}
 use mathlib.Core.Bool.{Bool, true, false, cond}
 use mathlib.Core.List.{List}
 use Prim.Native.Nat.{ℕ, _+_, _-_, _*_, _<_, _≤_}
@@ -9,6 +10,7 @@ use lib.IntN.{ℤ, pos, subℕ}
 use lib.ListN.{getD}
 use lib.Ieee.{Float, binary32, fits, le}
 use lib.Ieee.Fits.{sub-fits, cond-fits}
+use Rattle.lists.specs.Places.{All}
 use Rattle.lists.proofs.Tab.{getD-tab-any}
 use Rattle.float32.specs.Float32.{zero}
 use Rattle.float32.specs.Value.{IsWhole, plusPart}
@@ -16,13 +18,15 @@ use Rattle.float32.proofs.Sums.{total-bound}
 use Rattle.float32.proofs.Values.{of-HasValue, ofInt-value}
 use Rattle.ring.specs.Ring.{Ring}
 use Rattle.response.specs.Response.{samples, srOf, drOf, ringSumOf, crossOf, floatOf, responseOf, inside, response, responseAt}
-use Rattle.response.specs.Exact.{credit, fifthsAt}
+use Rattle.response.specs.Patch.{View, cols, rows, cells, Patched}
+use Rattle.response.specs.Exact.{credit, fifthsAt, fifthsIn}
+use Rattle.response.specs.declared.Patch.{Patch}
+use Rattle.response.specs.declared.Patch.the-variants.{Cells}
 use Rattle.response.proofs.Map.{cells-at, cells-all, filled, cell-at}
 use Rattle.accuracy.specs.Accurate.{Accurate, Bytes}
-use Rattle.accuracy.specs.Theorems.{CellAccurate, MapAccurate, PatchAccurate, CellsOrdered, MapsOrdered, CellAboveWhole, CellAtMostWhole, FifthsSmall, CellFits, CellSmall, MapSmall}
 use Rattle.accuracy.proofs.Integers.{plus-le, less-parts}
 use Rattle.accuracy.proofs.Error.{InRange}
-use Rattle.accuracy.proofs.Judged.{response-accurate, zero-accurate, ordered, above-whole, at-most-whole}
+use Rattle.accuracy.proofs.Judged.{response-accurate, zero-accurate, at-most-whole}
 
 -- ---- the sums of bytes
 module _ (s : List ℕ) (bytes : (k : ℕ) → getD s k 0 < 256) where
@@ -57,33 +61,24 @@ either : (b : Bool) (x : Float) (E : ℤ) → Accurate x E → Accurate (cond b 
 either true x E a = a
 either false x E a = zero-accurate
 
-pub cell-accurate : CellAccurate
+pub cell-accurate : (img : List ℕ) (w h : ℕ) (t : Ring) (x y : ℕ) → Bytes img → Accurate (responseAt img w h t x y) (fifthsAt img w h t x y)
 unfolding responseAt response fifthsAt
 cell-accurate img w h t x y bytes = either (inside w h t x y) _ _ (response-accurate _ _ _ _ (in-range img w t x y bytes))
 
-pub map-accurate : MapAccurate
+-- in a map
+pub map-accurate : (v : View) → Bytes (v .img) → (i j : ℕ) (d : Float) → i < cols v → j < rows v
+    → Accurate (getD (cells v) (j * cols v + i) d) (fifthsIn v i j)
 map-accurate v bytes i j d p q = rw (cells-at v i j d p q) (cell-accurate (v .img) (v .w) (v .h) (v .ring) _ _ bytes)
 
-pub patch-accurate : PatchAccurate
+-- in the buffer e that `chess_response_u8_patch` leaves
+pub patch-accurate : (v : View) (radius : ℕ) (d e : List Float) (r : Patch) (pw ph : ℕ) → Patched v radius d e r → r ≡ Cells pw ph → Bytes (v .img)
+    → (i j : ℕ) (z : Float) → i < pw → j < ph → Accurate (getD e (j * pw + i) z) (fifthsIn v i j)
 patch-accurate v radius d e r pw ph p c bytes i j z a b =
     rw (cell-at v d e pw ph (filled v radius d e r p pw ph c) i j z a b) (cell-accurate (v .img) (v .w) (v .h) (v .ring) _ _ bytes)
 
--- ---- order and thresholds
-pub cells-ordered : CellsOrdered
-cells-ordered img w h t x y img′ w′ h′ t′ x′ y′ a b l =
-    ordered _ _ _ _ (cell-accurate img w h t x y a) (cell-accurate img′ w′ h′ t′ x′ y′ b) l
-
-pub maps-ordered : MapsOrdered
-maps-ordered v i j v′ i′ j′ d a b p q p′ q′ l = ordered _ _ _ _ (map-accurate v a i j d p q) (map-accurate v′ b i′ j′ d p′ q′) l
-
-pub cell-above-whole : CellAboveWhole
-cell-above-whole threshold k img w h t x y whole bytes = above-whole _ _ _ _ whole (cell-accurate img w h t x y bytes)
-
-pub cell-at-most-whole : CellAtMostWhole
-cell-at-most-whole threshold k img w h t x y whole bytes = at-most-whole _ _ _ _ whole (cell-accurate img w h t x y bytes)
-
 -- ---- sizes
-pub fifths-small : FifthsSmall
+-- at most 2040 exactly
+pub fifths-small : (img : List ℕ) (w h : ℕ) (t : Ring) (x y : ℕ) → Bytes img → plusPart (fifthsAt img w h t x y) ≤ 10200
 unfolding fifthsAt
 fifths-small img w h t x y bytes =
     let c : credit (srOf (samples img w t x y)) ≤ 10200 = omega (arith, in-range img w t x y bytes .sr-small) in
@@ -93,11 +88,12 @@ fifths-small img w h t x y bytes =
     pick true c d h = le-trans (plus-le c d) h
     pick false c d h = omega arith
 
-pub cell-fits : CellFits
+-- the float is one of binary32, and at most 8192
+pub cell-fits : (img : List ℕ) (w h : ℕ) (t : Ring) (x y : ℕ) → T (fits binary32 (responseAt img w h t x y))
 unfolding responseAt response responseOf fits
 cell-fits img w h t x y = cond-fits binary32 (inside w h t x y) _ zero (sub-fits binary32 _ _) tt
 
-pub cell-small : CellSmall
+pub cell-small : (img : List ℕ) (w h : ℕ) (t : Ring) (x y : ℕ) → Bytes img → T (le (responseAt img w h t x y) (floatOf 8192))
 cell-small img w h t x y bytes =
     at-most-whole (floatOf 8192) (responseAt img w h t x y) 8192 (fifthsAt img w h t x y) top (cell-accurate img w h t x y bytes) .1
     (λ l. let no : ⊥ = omega (arith, less-parts (pos 40960) (fifthsAt img w h t x y) .0 l, fifths-small img w h t x y bytes) in no)
@@ -105,7 +101,8 @@ cell-small img w h t x y bytes =
     top : IsWhole (floatOf 8192) 8192
     top = of-HasValue (floatOf 8192) false 8192 1 (ofInt-value binary32 8192 (lit< tt))
 
-pub map-small : MapSmall
+-- each of a map
+pub map-small : (v : View) → Bytes (v .img) → All (λ x. T (fits binary32 x) × T (le x (floatOf 8192))) (cells v)
 map-small v bytes =
     cells-all (λ x. T (fits binary32 x) × T (le x (floatOf 8192))) v
     (λ i j p q. (cell-fits (v .img) (v .w) (v .h) (v .ring) _ _, cell-small (v .img) (v .w) (v .h) (v .ring) _ _ bytes))

@@ -7,7 +7,7 @@ use native.Mathlib.Omega.{arith}
 use lib.Dec.{T, lit<}
 use lib.IntN.{ℤ, pos}
 use lib.Signed.{_<ℤ_}
-use lib.Ieee.{Float, lt}
+use lib.Ieee.{Float, lt, le}
 use Rattle.float32.specs.Float32.{zero}
 use Rattle.float32.specs.Value.{IsValue, Within, IsWhole, plusPart, minusPart}
 use Rattle.float32.proofs.Values.{lt-value, le-not-lt}
@@ -15,7 +15,6 @@ use Rattle.float32.proofs.Approx.{value-within, restate, lt-within, lt-asym}
 use Rattle.response.specs.Response.{responseOf}
 use Rattle.response.specs.Exact.{credit, debit, fifths}
 use Rattle.accuracy.specs.Accurate.{Accurate}
-use Rattle.accuracy.specs.Theorems.{Ordered, AboveWhole, AtMostWhole}
 use Rattle.accuracy.proofs.Integers.{sub-parts, less-parts, five-parts, five-times}
 use Rattle.accuracy.proofs.Error.{InRange, Computed, computed}
 
@@ -91,14 +90,17 @@ zero-accurate = subst (λ (x : Float). Accurate x (pos 0)) (computed 0 0 0 0 non
     none : InRange 0 0 0 0
     none = omega arith
 
-pub ordered : Ordered
+-- a smaller exact value is computed as a smaller float, whatever maps the two stand in
+pub ordered : (x y : Float) (E F : ℤ) → Accurate x E → Accurate y F → E <ℤ F → T (lt x y)
 ordered x y E F v w h =
     lt-within x y (1024 * plusPart E) (1024 * minusPart E) (1024 * plusPart F) (1024 * minusPart F) 5120 5 5 (lit< tt) (v .near) (w .near) (omega (arith, less-parts E F .0 h))
 
-pub above-whole : AboveWhole
+-- x is above a whole number exactly where E / 5 is
+pub above-whole : (t x : Float) (k : ℕ) (E : ℤ) → IsWhole t k → Accurate x E → T (lt t x) ↔ (pos (5 * k) <ℤ E)
 above-whole t x k E w v = above-fifths t x k E w (v .near) (λ e. v .exact (pos k) (five-times E k e))
 
-pub at-most-whole : AtMostWhole
+-- and at or below it exactly where E / 5 is: the test by which peak finding drops a cell
+pub at-most-whole : (t x : Float) (k : ℕ) (E : ℤ) → IsWhole t k → Accurate x E → T (le x t) ↔ (¬ (pos (5 * k) <ℤ E))
 at-most-whole t x k E w v =
     let a = above-whole t x k E w v in
     let n = le-not-lt x t (v .near .is-finite) (w .is-finite) in

@@ -2,4 +2,3 @@ pub mod Integers
 pub mod Error
 pub mod Judged
 pub mod Cells
-pub mod Published

@@ -1,3 +1,1 @@
 pub mod Accurate
-pub mod Theorems
-pub mod Published

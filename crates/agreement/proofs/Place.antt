@@ -15,14 +15,19 @@ use Rattle.lists.proofs.Tests.{to-T, from-T, is-false}
 use Rattle.lists.proofs.Members.{all-map, all-both, none-any, any-none, Implies, keep-fewer}
 use Rattle.float32.specs.Value.{IsWhole}
 use Rattle.float32.proofs.Approx.{lt-asym}
+use Rattle.accuracy.specs.Accurate.{Accurate}
 use Rattle.accuracy.proofs.Judged.{ordered, at-most-whole}
 use Rattle.detect.specs.Peaks.{window, beaten, positives, isPeak, valueAt, largerIn, positiveIn, computed}
 use Rattle.detect.specs.Exact.{fifthsAbove, exact}
 use Rattle.detect.proofs.Choice.{peak-above, peak-unbeaten, peak-supported, peak-counted}
 use Rattle.detect.proofs.Window.{window-in}
 use Rattle.detect.proofs.Agreement.{Stands}
-use Rattle.agreement.specs.Agreement.{Tied, CellsAccurate}
+use Rattle.agreement.specs.Agreement.{Tied}
 use Rattle.agreement.proofs.Threshold.{less-is, level, above-whole-fifths}
+
+-- the cells of a map of w by h are accurate for the exact values, in fifths
+abbrev pub CellsAccurate : List Float → (Place → ℤ) → ℕ → ℕ → Type 0
+CellsAccurate m fifths w h = (p : Place) → p .x < w → p .y < h → Accurate (valueAt m w p) (fifths p)
 
 module _ (m : List Float) (fifths : Place → ℤ) (t : Float) (k w h : ℕ) (whole : IsWhole t k) (cells : CellsAccurate m fifths w h) where
   -- ---- the three questions, at places of the map

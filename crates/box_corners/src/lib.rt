@@ -8,7 +8,8 @@ use detect::Peaks;
 use frame_pass::FrameParams;
 
 // Adds the corners of a box of an image of w by h, the columns x0 up to, not including, x1 of the rows y0 up to y1, behind the
-// first `held` of a buffer, by the image's columns and rows. The box's map stands first in the map buffer.
+// first `held` of a buffer, by the image's columns and rows. The box's map stands first in the map buffer; where the corners do not fit, both
+// buffers are cleared.
 pub fn add_box_corners(
     img: &[u8],
     w: usize,

@@ -4,5 +4,6 @@ pub mod Outcomes
 pub mod Judgement
 pub mod Promised
 pub mod Weights
+pub mod Told
 pub mod Range
 pub mod Peak

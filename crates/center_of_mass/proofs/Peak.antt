@@ -23,12 +23,12 @@ use Rattle.float32.proofs.Units.{unitsOf}
 use Rattle.float32.proofs.Running.{exactly}
 use Rattle.float32.proofs.Bounds.{nearly-positive-only}
 use Rattle.center_of_mass.specs.declared.Centre.the-variants.{At}
+use Rattle.center_of_mass.specs.declared.Outcome.the-variants.{Accepted}
 use Rattle.center_of_mass.specs.CenterOfMass.{weightAt, window, windowSums, seedFits, centreOn, refined}
-use Rattle.center_of_mass.specs.Range.{Usual, PeakAccepted}
 use Rattle.center_of_mass.proofs.Axis.{in-place}
 use Rattle.center_of_mass.proofs.Judgement.{none}
 use Rattle.center_of_mass.proofs.Outcomes.{with-mass}
-use Rattle.center_of_mass.proofs.Weights.{mass-positive}
+use Rattle.center_of_mass.proofs.Weights.{Usual, mass-positive}
 use Rattle.center_of_mass.proofs.Range.{Inside, window-few, window-weighs}
 
 -- ---- a seed that is a cell's own place
@@ -74,7 +74,10 @@ module _ (r : ℕ) (m : List Float) (w h px py : ℕ) (u : All Usual m) (i : Ins
       empty : (n : ℕ) → 0 < n → n ≡ 0 → ⊥
       empty n a b = omega arith
 
-pub peak-accepted : PeakAccepted
+-- a seed at a positive cell, as peak finding gives it, at least r cells from the map's edges
+pub peak-accepted : (r : ℕ) (m : List Float) (w h px py : ℕ) → All Usual m → r ≤ 16 → w ≤ 4096 → h ≤ 4096 → length m ≡ w * h
+    → r ≤ px → px + r < w → r ≤ py → py + r < h → T (lt zero (getD m (py * w + px) nan))
+    → (cx : Float) × (cy : Float) × (mass : Float) × (refined r (ofInt binary32 (pos px)) (ofInt binary32 (pos py)) true m w h ≡ Accepted cx cy mass)
 unfolding refined
 peak-accepted r m w h px py u R W H e X X' Y Y' p =
     let x = ofInt binary32 (pos px) in

@@ -1,18 +1,20 @@
 -- What `refine` promises, by the way that it goes: refused, weighed, or without a map. Assumes nothing.
 use mathlib.Core.Path.{_≡_, refl, sym, ap, _∙_}
 use mathlib.Core.Bool.{Bool, true, false, cond}
-use mathlib.Core.List.{List}
+use mathlib.Core.List.{List, [], _∷_}
 use Prim.Native.Nat.{ℕ, zero, suc, _<_}
 use native.Mathlib.Omega.{arith}
 use lib.ListN.{length}
 use lib.Ieee.{Float, binary32, div, lt}
+use Rattle.lists.specs.Refusals.{valuesUnless}
 use Rattle.float32.specs.Float32.{zero as zero32}
 use Rattle.center_of_mass.specs.declared.Sums.{Sums}
 use Rattle.center_of_mass.specs.declared.Centre.{Centre}
 use Rattle.center_of_mass.specs.declared.Centre.the-variants.{At, Outside}
 use Rattle.center_of_mass.specs.declared.Outcome.{Outcome}
 use Rattle.center_of_mass.specs.declared.Outcome.the-variants.{Accepted, Rejected, OutOfBounds, IllConditioned, Refused}
-use Rattle.center_of_mass.specs.CenterOfMass.{windowSums, refusal, centreOn, meanOf, weighed, outcomeOf, unless, refined, numberOf}
+use Rattle.center_of_mass.specs.CenterOfMass.{windowSums, refusal, centreOn, meanOf, weighed, outcomeOf, unless, refined, numberOf, valuesOf}
+use Rattle.center_of_mass.specs.CenterOfMass.{unmoved, meanValues, weighedValues, refinedValues}
 use Rattle.center_of_mass.specs.Promise.{Refined}
 
 -- ---- an outcome that is no refusal, whose number is 0
@@ -38,6 +40,20 @@ weighed-unrefused r x y m w (At cx) (At cy) k e = mean-unrefused x y (windowSums
 weighed-unrefused r x y m w (At cx) Outside k e = let z : _≡_ {A = ℕ} 0 1 = cc in omega arith
 weighed-unrefused r x y m w Outside b k e = let z : _≡_ {A = ℕ} 0 1 = cc in omega arith
 
+-- ---- its values
+mean-values : (x y : Float) (s : Sums) → valuesOf (meanOf x y s) ≡ meanValues x y s
+mean-values x y s = go (lt zero32 (s .sw))
+  where
+    go : (b : Bool) → valuesOf (cond b (Accepted (div binary32 (s .sx) (s .sw)) (div binary32 (s .sy) (s .sw)) (s .sw)) (IllConditioned x y))
+        ≡ cond b (div binary32 (s .sx) (s .sw) ∷ div binary32 (s .sy) (s .sw) ∷ s .sw ∷ []) (unmoved x y)
+    go true = refl
+    go false = refl
+
+weighed-values : (r : ℕ) (x y : Float) (m : List Float) (w : ℕ) (a b : Centre) → valuesOf (weighed r x y m w a b) ≡ weighedValues r x y m w a b
+weighed-values r x y m w (At cx) (At cy) = mean-values x y (windowSums r m w cx cy)
+weighed-values r x y m w (At cx) Outside = refl
+weighed-values r x y m w Outside b = refl
+
 module _ (r : ℕ) (x y : Float) (hasMap : Bool) (m : List Float) (w h : ℕ) where
   outcome-unrefused : (b : Bool) → Unrefused (cond b (outcomeOf r x y m w h) (Rejected x y))
   unfolding outcomeOf
@@ -52,6 +68,17 @@ module _ (r : ℕ) (x y : Float) (hasMap : Bool) (m : List Float) (w h : ℕ) wh
       numbered zero o u = number-none o u
       numbered (suc k) o u = refl
 
+  values-are : valuesOf (refined r x y hasMap m w h) ≡ refinedValues r x y hasMap m w h
+  unfolding refined refinedValues outcomeOf
+  values-are = of (refusal r x y hasMap (length m) w h) hasMap
+    where
+      of : (k : ℕ) (b : Bool)
+          → valuesOf (unless k (cond b (weighed r x y m w (centreOn r w x) (centreOn r h y)) (Rejected x y)))
+          ≡ valuesUnless k (cond b (weighedValues r x y m w (centreOn r w x) (centreOn r h y)) (unmoved x y))
+      of zero true = weighed-values r x y m w (centreOn r w x) (centreOn r h y)
+      of zero false = refl
+      of (suc k) b = refl
+
   -- a refusal has a number
   pub refused-numbered : (n : ℕ) → refined r x y hasMap m w h ≡ Refused n → 0 < n
   unfolding refined
@@ -62,7 +89,7 @@ module _ (r : ℕ) (x y : Float) (hasMap : Bool) (m : List Float) (w h : ℕ) wh
       go (suc k) e = let z : suc k ≡ n = cc in omega arith
 
   promised : (o : Outcome) → o ≡ refined r x y hasMap m w h → Refined r x y hasMap m w h o
-  promised o e = record { outcome = e; number = ap numberOf e ∙ number-is }
+  promised o e = record { outcome = e; number = ap numberOf e ∙ number-is; values = ap valuesOf e ∙ values-are }
 
   -- ---- n is the number of the refusal
   module _ (n : ℕ) (e : n ≡ refusal r x y hasMap (length m) w h) where

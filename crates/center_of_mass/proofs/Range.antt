@@ -1,4 +1,5 @@
--- The theorems of `specs/Range.antt`: an accepted centre of mass is the quotient of two running sums over a window within the map. Assumes nothing.
+-- Where an accepted centre of mass lies, in a map as the response makes it: it is the quotient of two running sums over a window within the map.
+-- Assumes nothing.
 use mathlib.Core.Path.{_≡_, refl, sym, subst}
 use mathlib.Core.Bool.{Bool, true, false, cond}
 use mathlib.Core.List.{List}
@@ -13,17 +14,15 @@ use Rattle.lists.specs.Places.{All}
 use Rattle.lists.proofs.Places.{length-block}
 use Rattle.lists.proofs.Members.{all-at, all-block}
 use Rattle.float32.specs.Float32.{zero as zero32}
-use Rattle.float32.specs.Value.{UpTo}
-use Rattle.float32.proofs.Bounds.{upto-more, whole-upto, add-upto}
+use Rattle.float32.proofs.Bounds.{UpTo, upto-more, whole-upto, add-upto}
 use Rattle.center_of_mass.specs.declared.Sums.{Sums}
 use Rattle.center_of_mass.specs.declared.Outcome.the-variants.{Accepted, Rejected, IllConditioned}
 use Rattle.center_of_mass.specs.declared.Centre.{Centre}
 use Rattle.center_of_mass.specs.declared.Centre.the-variants.{At, Outside}
 use Rattle.center_of_mass.specs.CenterOfMass.{noSums, weightAt, window, windowSums, refusal, centreOn, meanOf, weighed, outcomeOf, unless, refined}
-use Rattle.center_of_mass.specs.Range.{Usual, WithinMap, WithinImage}
 use Rattle.center_of_mass.proofs.Axis.{window-in}
 use Rattle.center_of_mass.proofs.Judgement.{radius-small, map-fits}
-use Rattle.center_of_mass.proofs.Weights.{Weighs, weighs, sx-is, sy-is, mean-upto}
+use Rattle.center_of_mass.proofs.Weights.{Usual, Weighs, weighs, sx-is, sy-is, mean-upto}
 
 -- ---- the window of radius r about a centre whose window lies within the map
 pub record Inside (r : ℕ) (m : List Float) (w h cx cy : ℕ) : Type 0 where
@@ -110,8 +109,9 @@ module _ (r : ℕ) (x y : Float) (m : List Float) (w h : ℕ) (cx cy mass : Floa
       judged zero n false t e = absurd (let z : _≡_ {A = ℕ} 0 1 = cc in omega arith)
       judged (suc k) n b t e = absurd (let z : _≡_ {A = ℕ} 0 1 = cc in omega arith)
 
--- ---- the theorems
-pub within-map : WithinMap
+-- ---- it lies within the map: 0 ≤ x ≤ w and 0 ≤ y ≤ h
+pub within-map : (r : ℕ) (x y : Float) (hasMap : Bool) (m : List Float) (w h : ℕ) (cx cy mass : Float) → All Usual m
+    → refined r x y hasMap m w h ≡ Accepted cx cy mass → UpTo cx w × UpTo cy h
 within-map r x y hasMap m w h cx cy mass u e =
     let g = weighing r x y m w h cx cy mass hasMap e in
     (rw (g .cx-is) (x-upto r m w h (g .px) (g .py) (g .inside) u (g .above)), rw (g .cy-is) (y-upto r m w h (g .px) (g .py) (g .inside) u (g .above)))
@@ -121,7 +121,10 @@ moved c w x0 width h k u =
     upto-more (add binary32 c (ofInt binary32 (pos x0))) (w + x0) width (omega arith)
     (add-upto binary32 c (ofInt binary32 (pos x0)) w x0 (omega arith) u (whole-upto binary32 x0 (omega arith)))
 
-pub within-image : WithinImage
+-- and, moved by the corner (x0, y0) of the map's box in an image, within the image
+pub within-image : (r : ℕ) (x y : Float) (hasMap : Bool) (m : List Float) (w h : ℕ) (cx cy mass : Float) → All Usual m
+    → refined r x y hasMap m w h ≡ Accepted cx cy mass → (x0 y0 width height : ℕ) → x0 + w ≤ width → y0 + h ≤ height → width ≤ 4096 → height ≤ 4096
+    → UpTo (add binary32 cx (ofInt binary32 (pos x0))) width × UpTo (add binary32 cy (ofInt binary32 (pos y0))) height
 within-image r x y hasMap m w h cx cy mass u e x0 y0 width height a b k l =
     let i = within-map r x y hasMap m w h cx cy mass u e in
     (moved cx w x0 width a k (i .0), moved cy h y0 height b l (i .1))

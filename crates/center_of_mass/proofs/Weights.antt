@@ -12,17 +12,20 @@ use lib.IntN.{ℤ, pos}
 use lib.Pow.{pow-pos}
 use lib.Ieee.{Float, nan, inf, fin, binary32, low, fits, lt, le, mul, div, ofInt}
 use lib.Ieee.Bits.{is-true}
-use Rattle.lists.specs.Places.{Place, sumOf, All}
-use Rattle.lists.proofs.Members.{all-map, all-both, sum-weighted, sum-none}
+use Rattle.lists.specs.Places.{Place, All}
+use Rattle.lists.proofs.Members.{all-map, all-both, sumOf, sum-weighted, sum-none}
 use Rattle.float32.specs.Float32.{zero, lift}
 use Rattle.float32.proofs.Values.{ofInt-value}
 use Rattle.float32.proofs.Units.{Units, unitsOf, own-units}
 use Rattle.float32.proofs.Running.{Nearly, exactly, scale-nearly, summed, summed-nearly}
-use Rattle.float32.specs.Value.{UpTo}
-use Rattle.float32.proofs.Bounds.{value-le, whole-over, quotient-upto, nearly-positive, nearly-positive-only}
+use Rattle.float32.proofs.Bounds.{UpTo, value-le, whole-over, quotient-upto, nearly-positive, nearly-positive-only}
 use Rattle.center_of_mass.specs.declared.Sums.{Sums}
 use Rattle.center_of_mass.specs.CenterOfMass.{noSums, weightAt, withCell, withCells}
-use Rattle.center_of_mass.specs.Range.{Usual}
+
+-- a cell that an `f32` holds, at most 8,192: every response is below that
+pub record Usual (x : Float) : Type 0 where
+  pub held : T (fits binary32 x)
+  pub small : T (le x (ofInt binary32 (pos 8192)))
 
 -- ---- one weight: a number of units, at most 8,192
 abbrev pub Weighs : Float → Type 0
@@ -68,7 +71,7 @@ module _ (m : List Float) (w : ℕ) where
   sy-is s [] = refl
   sy-is s (p ∷ ps) = sy-is (withCell m w s p) ps
 
-  sw-is : (s : Sums) (ps : List Place) → withCells m w s ps .sw ≡ summed weight (s .sw) ps
+  pub sw-is : (s : Sums) (ps : List Place) → withCells m w s ps .sw ≡ summed weight (s .sw) ps
   unfolding withCells summed
   sw-is s [] = refl
   sw-is s (p ∷ ps) = sw-is (withCell m w s p) ps

@@ -7,7 +7,7 @@ use lib.ListN.{length, getD}
 use lib.IntN.{pos}
 use lib.Ieee.{Float, nan, binary32, add, mul, div, ofInt, lt, le}
 use Rattle.lists.specs.Places.{Place, block}
-use Rattle.lists.specs.Refusals.{lowest, isLarge, isMisfit}
+use Rattle.lists.specs.Refusals.{lowest, valuesUnless, isLarge, isMisfit}
 use Rattle.float32.specs.Float32.{zero as zero32, abs, lift, roundHalfAway}
 use Rattle.float32.specs.declared.Rounded.{Rounded}
 use Rattle.float32.specs.declared.Rounded.the-variants.{Natural, Negative, Beyond}
@@ -39,7 +39,8 @@ unfolding lift
 withCells m w s [] = s
 withCells m w s (p ∷ ps) = withCells m w (withCell m w s p) ps
 
--- the window of radius r about column cx and row cy, in row order; it lies within the map, so there is nothing to clamp, as the Rust does
+-- the window of radius r about column cx and row cy, in row order. It lies within the map: the Rust's clamp never acts (`RefineAsPublished` of
+-- published)
 abbrev pub window : ℕ → ℕ → ℕ → List Place
 window r cx cy = block (cx - r) (cx + r + 1) (cy - r) (cy + r + 1)
 
@@ -115,3 +116,24 @@ valuesOf (Rejected x y) = x ∷ y ∷ zero32 ∷ []
 valuesOf (OutOfBounds x y) = x ∷ y ∷ zero32 ∷ []
 valuesOf (IllConditioned x y) = x ∷ y ∷ zero32 ∷ []
 valuesOf (Refused n) = []
+
+-- ---- and the values by the arguments
+-- "the unmoved seed and 0"
+abbrev pub unmoved : Float → Float → List Float
+unmoved x y = x ∷ y ∷ zero32 ∷ []
+
+-- "accepted with x, y and mass": the quotients of the sums, where the mass is above 0
+abbrev pub meanValues : Float → Float → Sums → List Float
+meanValues x y s = cond (lt zero32 (s .sw)) (div binary32 (s .sx) (s .sw) ∷ div binary32 (s .sy) (s .sw) ∷ s .sw ∷ []) (unmoved x y)
+
+-- of the window about the two centres, where both lie in the map
+abbrev pub weighedValues : ℕ → Float → Float → List Float → ℕ → Centre → Centre → List Float
+weighedValues r x y m w (At cx) (At cy) = meanValues x y (windowSums r m w cx cy)
+weighedValues r x y m w (At cx) Outside = unmoved x y
+weighedValues r x y m w Outside c = unmoved x y
+
+-- with a map w wide and h high, or without one
+unfoldable pub refinedValues : ℕ → Float → Float → Bool → List Float → ℕ → ℕ → List Float
+unfolding refusal withCells centreOn lt
+refinedValues r x y hasMap m w h =
+    valuesUnless (refusal r x y hasMap (length m) w h) (cond hasMap (weighedValues r x y m w (centreOn r w x) (centreOn r h y)) (unmoved x y))

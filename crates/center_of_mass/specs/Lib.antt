@@ -1,3 +1,2 @@
 pub mod CenterOfMass
 pub mod Promise
-pub mod Range

@@ -1,16 +1,18 @@
 -- Laws of a buffer of corners: its slices' lengths, its corners read back, and the corners that stand first. Assumes nothing.
 use Prim.Native.Nat.{ℕ, zero, suc, _<_, _≤_}
+use native.Mathlib.Decide.{decLt}
 use native.Mathlib.Omega.{arith}
 use mathlib.Core.Path.{_≡_, refl, sym, ap, _∙_}
 use mathlib.Core.List.{List, [], _∷_, _++_, map, map-append}
-use lib.ListN.{length, take, drop, getD, set, length-map, List·getD-append, List·getD-map}
+use lib.ListN.{length, take, drop, getD, set, length-append, length-map, List·getD-append, List·getD-map}
 use lib.Seq.{ext-getD, length-take-le, getD-take, getD-set-same, getD-set-other}
 use lib.Ieee.{Float, nan}
+use borrow.Author.Tests.{lt-ltb, le-ltb}
 use Rattle.lists.specs.Buffer.{front}
 use Rattle.lists.proofs.Tab.{getD-any, length-tab, getD-tab}
 use Rattle.lists.proofs.Buffer.{front-length, front-same, front-again, front-behind, front-set, front-next}
 use Rattle.corner_list.specs.declared.Corner.{Corner}
-use Rattle.corner_list.specs.CornerList.{Slices, slices, xOf, yOf, strengthOf, placesOf, cornerAt, cornersOf, withCorner, frontCorners}
+use Rattle.corner_list.specs.CornerList.{Slices, slices, xOf, yOf, strengthOf, placesOf, cornerAt, cornersOf, setCorner, withCorner, frontCorners}
 
 -- a field of each corner, one of them replaced
 map-set : (g : Corner → Float) (cs : List Corner) (i : ℕ) (c : Corner) → map g (set cs i c) ≡ set (map g cs) i (g c)
@@ -92,15 +94,39 @@ module _ (cs : List Corner) (b : Slices) (n : ℕ) (e : n ≡ length cs) where
   pub front-strengths : n ≤ placesOf b → length (frontCorners cs b .strengths) ≡ length (b .strengths)
   front-strengths h = front-length (map strengthOf cs) (b .strengths) (omega (arith, length-map cs strengthOf))
 
--- ---- a corner put at a place is read back, and every other is as it was
+-- ---- a corner put at a place: stored in each slice where the buffer has the place, and in none where it has not
+module _ (i : ℕ) (c : Corner) (b : Slices) where
+  pub with-corner-inside : i < placesOf b → withCorner i c b ≡ setCorner i c b
+  unfolding withCorner
+  with-corner-inside h = rw (lt-ltb i (placesOf b) h)
+
+  pub with-corner-outside : placesOf b ≤ i → withCorner i c b ≡ b
+  unfolding withCorner
+  with-corner-outside h = rw (le-ltb i (placesOf b) h)
+
+-- it is read back, and every other is as it was
 module _ (b : Slices) (at : ℕ) (c : Corner) where
   pub with-here : at < placesOf b → cornerAt (withCorner at c b) at ≡ c
   with-here h =
-      rw (getD-set-same (b .xs) at (c .x) nan (omega arith), getD-set-same (b .ys) at (c .y) nan (omega arith), getD-set-same (b .strengths) at (c .strength) nan (omega arith))
+      rw (
+        with-corner-inside at c b h,
+        getD-set-same (b .xs) at (c .x) nan (omega arith),
+        getD-set-same (b .ys) at (c .y) nan (omega arith),
+        getD-set-same (b .strengths) at (c .strength) nan (omega arith),
+      )
 
   pub with-there : (i : ℕ) → (i ≡ at → ⊥) → cornerAt (withCorner at c b) i ≡ cornerAt b i
   with-there i h =
-      rw (getD-set-other (b .xs) at i (c .x) nan h, getD-set-other (b .ys) at i (c .y) nan h, getD-set-other (b .strengths) at i (c .strength) nan h)
+      elim (decLt at (placesOf b)) [
+        | yes l ↦
+            rw (
+              with-corner-inside at c b l,
+              getD-set-other (b .xs) at i (c .x) nan h,
+              getD-set-other (b .ys) at i (c .y) nan h,
+              getD-set-other (b .strengths) at i (c .strength) nan h,
+            )
+        | no l ↦ rw (with-corner-outside at c b (omega arith))
+      ]
 
 -- ---- the corners that stand first, changed
 
@@ -132,8 +158,13 @@ module _ (cs : List Corner) (b : Slices) where
 
   -- one of them replaced
   pub corners-set : (i : ℕ) (c : Corner) → i < length cs → withCorner i c (frontCorners cs b) ≡ frontCorners (set cs i c) b
-  corners-set i c h = slices-alike (put xOf (b .xs)) (put yOf (b .ys)) (put strengthOf (b .strengths))
+  corners-set i c h =
+      with-corner-inside i c (frontCorners cs b) (omega (arith, long xOf (b .xs), long yOf (b .ys), long strengthOf (b .strengths)))
+      ∙ slices-alike (put xOf (b .xs)) (put yOf (b .ys)) (put strengthOf (b .strengths))
     where
+      long : (g : Corner → Float) (s : List Float) → length cs ≤ length (front (map g cs) s)
+      long g s = omega (arith, length-append (map g cs) (drop (length (map g cs)) s), length-map cs g)
+
       put : (g : Corner → Float) (s : List Float) → set (front (map g cs) s) i (g c) ≡ front (map g (set cs i c)) s
       put g s =
           front-set (map g cs) s i (g c) (omega (arith, length-map cs g)) ∙ ap (λ (l : List Float). front l s) (sym (map-set g cs i c))
@@ -141,7 +172,9 @@ module _ (cs : List Corner) (b : Slices) where
   -- one corner more
   pub corners-next : (n : ℕ) (c : Corner) → n ≡ length cs → n < placesOf b → withCorner n c (frontCorners cs b) ≡ frontCorners (cs ++ (c ∷ [])) b
   corners-next n c e h =
-      slices-alike (put xOf (b .xs) (omega arith)) (put yOf (b .ys) (omega arith)) (put strengthOf (b .strengths) (omega arith))
+      let l : n ≤ placesOf b = omega arith in
+      with-corner-inside n c (frontCorners cs b) (omega (arith, front-xs cs b n e l, front-ys cs b n e l, front-strengths cs b n e l))
+      ∙ slices-alike (put xOf (b .xs) (omega arith)) (put yOf (b .ys) (omega arith)) (put strengthOf (b .strengths) (omega arith))
     where
       put : (g : Corner → Float) (s : List Float) → n < length s → set (front (map g cs) s) n (g c) ≡ front (map g (cs ++ (c ∷ []))) s
       put g s l =

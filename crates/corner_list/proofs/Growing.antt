@@ -8,8 +8,8 @@ use lib.Ieee.{Float}
 use Rattle.lists.specs.Buffer.{front, placed}
 use Rattle.lists.proofs.Buffer.{placed-none, placed-set, placed-length, front-more}
 use Rattle.corner_list.specs.declared.Corner.{Corner}
-use Rattle.corner_list.specs.CornerList.{Slices, xOf, yOf, strengthOf, placesOf, withCorner, frontCorners, placedCorners}
-use Rattle.corner_list.proofs.Corners.{slices-alike, same-places}
+use Rattle.corner_list.specs.CornerList.{Slices, xOf, yOf, strengthOf, placesOf, setCorner, withCorner, frontCorners, placedCorners}
+use Rattle.corner_list.proofs.Corners.{slices-alike, same-places, with-corner-inside}
 
 -- ---- one slice
 module _ (g : Corner → Float) (done : List Corner) (held k : ℕ) (d : List Float) (e : k ≡ length done) where
@@ -64,16 +64,22 @@ module _ (all rest : List Corner) (held k : ℕ) (b₀ b : Slices) (at : Growing
 
     pub growing-put : (b′ : Slices) → b′ ≡ withCorner (held + k) c b → Growing all rest′ held (k + 1) b₀ b′
     growing-put b′ put =
-        let h : held + k < placesOf b₀ = omega (arith, upto, ap length e, at .fits) in record {
+        let h : held + k < placesOf b₀ = omega (arith, upto, ap length e, at .fits) in
+        record {
           done = at .done ++ (c ∷ []);
           count = omega (arith, at .count, length-append (at .done) (c ∷ []));
           split = at .split ∙ ap (λ (l : List Corner). at .done ++ l) e ∙ simp append-assoc;
           fits = at .fits;
           is =
               put
-              ∙ ap (withCorner (held + k) c) (at .is)
-              ∙ slices-alike (slice-put xOf (at .done) held k (b₀ .xs) (at .count) c (omega arith)) (slice-put yOf (at .done) held k (b₀ .ys) (at .count) c (omega arith)) (slice-put strengthOf (at .done) held k (b₀ .strengths) (at .count) c (omega arith));
+              ∙ with-corner-inside (held + k) c b growing-fits
+              ∙ ap (setCorner (held + k) c) (at .is)
+              ∙ slices-alike (one xOf (b₀ .xs) (omega arith)) (one yOf (b₀ .ys) (omega arith)) (one strengthOf (b₀ .strengths) (omega arith));
         }
+      where
+        one : (g : Corner → Float) (d : List Float) → held + k < length d
+            → set (placed held (map g (at .done)) d) (held + k) (g c) ≡ placed held (map g (at .done ++ (c ∷ []))) d
+        one g d l = slice-put g (at .done) held k d (at .count) c l
 
   -- none is left
   pub growing-all : rest ≡ [] → (k ≡ length all) × (b ≡ placedCorners held all b₀)

@@ -4,8 +4,7 @@ use mathlib.Core.Bool.{true}
 use Prim.Native.Nat.{ℕ, _≤_}
 use Rattle.lists.proofs.Tests.{and-parts, and-on}
 use Rattle.float32.specs.Float32.{zero, between}
-use Rattle.float32.specs.Value.{UpTo}
-use Rattle.float32.proofs.Bounds.{upto-between}
+use Rattle.float32.proofs.Bounds.{UpTo, upto-between}
 use Rattle.corner_list.specs.declared.Corner.{Corner}
 use Rattle.corner_list.specs.CornerList.{largest, isInside}
 

@@ -1,8 +1,9 @@
 -- A list of corners in a buffer of three slices, the shortest counting ("corner room" in document 01).
 use Prim.Native.Nat.{ℕ, min}
-use mathlib.Core.Bool.{Bool, false, _&&_}
+use mathlib.Core.Bool.{Bool, false, _&&_, cond}
 use mathlib.Core.List.{List, map}
 use lib.ListN.{length, getD, set}
+use lib.Dec.{ltb}
 use lib.IntN.{pos}
 use lib.Ieee.{Float, nan, fin}
 use Rattle.lists.specs.Tab.{tab}
@@ -50,8 +51,14 @@ abbrev pub cornersOf : Slices → ℕ → List Corner
 cornersOf b n = tab n (cornerAt b)
 
 -- ---- the buffer after a change: the same done to each slice
-abbrev pub withCorner : ℕ → Corner → Slices → Slices
-withCorner i c b = slices (set (b .xs) i (c .x)) (set (b .ys) i (c .y)) (set (b .strengths) i (c .strength))
+
+-- a corner's fields at a place of each slice
+abbrev pub setCorner : ℕ → Corner → Slices → Slices
+setCorner i c b = slices (set (b .xs) i (c .x)) (set (b .ys) i (c .y)) (set (b .strengths) i (c .strength))
+
+-- a corner put at a place of the buffer; where that has no such place, every slice as it was, the longer ones too
+unfoldable pub withCorner : ℕ → Corner → Slices → Slices
+withCorner i c b = cond (ltb i (placesOf b)) (setCorner i c b) b
 
 -- the corners cs first, the buffer behind them as it was
 abbrev pub frontCorners : List Corner → Slices → Slices

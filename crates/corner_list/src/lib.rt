@@ -44,23 +44,16 @@ pub fn corner_at(xs: &[f32], ys: &[f32], strengths: &[f32], at: usize) -> Corner
     }
 }
 
-// Stores an element, where the slice has the place.
-fn store(s: &mut [f32], at: usize, v: f32)
-    ensures { λ _. ⌜ now (s .exit) ≡ lib.ListN.set (now (s .entry)) at v ⌝ }
-{
-    if at < s.len() {
-        s[at] = v;
-    }
-}
-
-// Puts a corner at a place of a buffer; a slice that lacks the place stays as it was.
+// Puts a corner at a place of a buffer. Where the buffer has no such place, every slice stays as it was, the longer ones too.
 pub fn put_corner(xs: &mut [f32], ys: &mut [f32], strengths: &mut [f32], at: usize, c: Corner)
     ensures { λ _. ⌜ slices (now (xs .exit)) (now (ys .exit)) (now (strengths .exit))
         ≡ withCorner at c (slices (now (xs .entry)) (now (ys .entry)) (now (strengths .entry))) ⌝ }
 {
-    store(xs, at, c.x);
-    store(ys, at, c.y);
-    store(strengths, at, c.strength);
+    if at < places(xs.len(), ys.len(), strengths.len()) {
+        xs[at] = c.x;
+        ys[at] = c.y;
+        strengths[at] = c.strength;
+    }
 }
 
 // The places of a buffer whose slices have these lengths: those of the shortest.

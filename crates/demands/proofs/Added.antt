@@ -25,11 +25,11 @@ module _ (m : List Float) (w h : ℕ) (p : PeakCall m w h) where
   fitted : Fitted (startsIn m (searchIn p)) (p .held) (p .before) (p .added) (p .after)
   fitted = added-tells _ no-fault _ _ _ _ _ (p .promise) (p .added) refl
 
-  added-are : programList p ≡ startsIn m (searchIn p)
+  pub added-are : programList p ≡ startsIn m (searchIn p)
   added-are = rw (fitted .buffer) (corners-placed (p .held) (startsIn m (searchIn p)) (p .before) (omega (arith, fitted .fits)) (p .added) (fitted .count))
 
   names-are : map position (programList p) ≡ map nameOf (peaksIn m (searchIn p))
-  names-are = ap (map position) added-are ∙ map-map position (startAt m w) (peaksIn m (searchIn p))
+  names-are = ap (map position) added-are ∙ map-map position (startAt m (searchIn p)) (peaksIn m (searchIn p))
 
   peaks-small : (v : Reading) → All Small (peaksBy v (searchIn p))
   peaks-small v =

@@ -31,12 +31,14 @@ use Rattle.frame_pass.specs.Theorems.{Sound}
 use Rattle.frame_pass.proofs.Refusals.{admitted, admitted-sound}
 use Rattle.frame_pass.proofs.Maps.{ranges, Fine, looked-fine}
 use Rattle.frame_pass.proofs.Same.{pass-same}
+use Rattle.frame_pass.proofs.Accepting.{none-dropped}
 use Rattle.frame_pass.proofs.Inside.{corners-inside, boxes-answered}
 use Rattle.frame.specs.Frame.{tooMany, refusalOf}
 use Rattle.frame.proofs.Callers.{finished-tells}
 use Rattle.demands.specs.PeakCall.{searchIn}
 use Rattle.demands.specs.PeaksAlike.{programList, position, nameOf}
 use Rattle.demands.specs.FrameExact.{FrameCall, mapsIn, Alike, WithoutTie, FrameExact, AlikeByName, MapsSearched, MapsAlike, FrameWithoutTies, FourNever}
+use Rattle.demands.specs.FrameExact.{PeaksKept}
 use Rattle.lists.proofs.Refusals.{lowest-before}
 use Rattle.demands.proofs.Added.{named}
 
@@ -105,3 +107,7 @@ frame-without-ties c k whole untied =
 -- ---- number 4
 pub four-never : FourNever
 four-never p img w h choose = (corners-inside p img w h choose, boxes-answered p img w h choose)
+
+-- ---- number 10
+pub peaks-kept : PeaksKept
+peaks-kept = none-dropped

@@ -9,3 +9,6 @@ pub mod FrameExact
 pub mod Faults
 pub mod Total
 pub mod Program
+pub mod BitForBit
+pub mod AsPublished
+pub mod Demands

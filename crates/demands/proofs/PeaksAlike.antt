@@ -7,7 +7,7 @@ use lib.Seq.{getD-take}
 use Rattle.lists.proofs.Places.{in-map}
 use Rattle.float32.specs.Float32.{lift}
 use Rattle.detect.specs.Exact.{exact}
-use Rattle.agreement.specs.Agreement.{CellsAccurate}
+use Rattle.agreement.proofs.Place.{CellsAccurate}
 use Rattle.agreement.proofs.Lists as agreement
 use Rattle.demands.specs.ResponseCall.{ResponseCall, mapOf, exactAt}
 use Rattle.demands.specs.PeakCall.{searchIn}

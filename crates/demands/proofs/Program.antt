@@ -1,13 +1,13 @@
 -- From the numbers of the reader and of the frame, and from `pass-same` of frame_pass. Assumes nothing.
-use Prim.Native.Nat.{ℕ, zero, suc, _*_, _≤_}
+use Prim.Native.Nat.{ℕ, zero, suc, _+_, _*_, _%_, _<_, _≤_}
 use native.Mathlib.Nat.{mul-le-mul}
 use native.Mathlib.Omega.{arith}
 use mathlib.Core.Path.{_≡_, refl, sym, ap, _∙_}
 use mathlib.Core.Logic.{_⊎_, inl, inr}
 use mathlib.Core.Bool.{Bool, not, _&&_}
-use mathlib.Core.List.{List, [], _∷_}
-use lib.ListN.{length}
-use borrow.Author.Tests.{le-ltb, eq-eqb}
+use mathlib.Core.List.{List, [], _∷_, _++_}
+use lib.ListN.{length, getD}
+use borrow.Author.Tests.{lt-ltb, le-ltb, eq-eqb}
 use Rattle.lists.specs.Refusals.{lowest}
 use Rattle.pyramid_levels.specs.Levels.{levelCount, cellsAbove}
 use Rattle.pyramid_levels.proofs.Cells.{cells-le}
@@ -19,17 +19,47 @@ use Rattle.frame.specs.Frame.{tooMany, refusalOf}
 use Rattle.stream.specs.declared.Header.{Header}
 use Rattle.stream.specs.Stream.{Reading, accepted, refused, readFrame}
 use Rattle.stream.proofs.Order.{small-sides}
-use Rattle.stream.proofs.Accepted.{accepted-good}
+use Rattle.stream.proofs.Accepted.{accepted-good, round-trip}
+use Rattle.stream.specs.Wanted.{Open}
+use Rattle.stream.proofs.Decided.{frame-wants}
 use Rattle.stream.proofs.Prefix.{frame-prefix}
-use Rattle.listing.specs.Text.{cornersText}
+use Rattle.listing.specs.Text.{cornersText, decimal, refusedText}
+use Rattle.listing.proofs.Numbers.{places-one}
 use Rattle.finder.specs.Finder.{paramsOf, programBuffers, textOf, frameText, readingText, outputOf}
-use Rattle.demands.specs.Program.{ProgramReads, Lists, Refusal, ProgramTotal, ProgramExact}
+use Rattle.demands.specs.Program.{ProgramReads, Undecided, ProgramDecided, Lists, Refusal, ProgramTotal, ProgramExact, ProgramStreams}
 use Rattle.demands.proofs.Tables.{widen, numbered-one}
 use Rattle.demands.proofs.Faults.{frame-few}
 
 pub program-reads : ProgramReads
 unfolding outputOf
 program-reads input = ap readingText (frame-prefix input)
+
+-- ---- what decides the output
+
+-- the digit that a refusal's text has behind its word
+digit-is : (n : ℕ) → n < 10 → getD (refusedText n) 8 0 ≡ 48 + n
+unfolding refusedText decimal
+digit-is n l =
+    let small : n % 10 ≡ n = omega arith in
+    rw (places-one n n l, small, lt-ltb n 10 l)
+
+undecided : (input : List ℕ) → Open readFrame input → Undecided input
+unfolding outputOf
+undecided input o = record {
+  more = o .more;
+  bytes = o .bytes;
+  differs = λ e.
+      let texts : refusedText (o .number) ≡ refusedText 7 = sym (ap readingText (o .refusal)) ∙ e ∙ ap readingText (o .cut) in
+      let digits = sym (digit-is (o .number) (omega (arith, o .other))) ∙ ap (λ (s : List ℕ). getD s 8 0) texts ∙ digit-is 7 (omega arith) in
+      let no : ⊥ = omega (arith, o .other) in
+      no;
+}
+
+pub program-decided : ProgramDecided
+unfolding outputOf
+program-decided input =
+    let w = frame-wants input in
+    record { decided = λ z t. ap readingText (w .decided z t); undecided = λ t l. undecided (input ++ t) (w .fewer t l); most = w .total }
 
 module _ (input : List ℕ) where
   -- ---- a frame that was read
@@ -85,3 +115,7 @@ program-total input = by-reading input (readFrame input) refl
 pub program-exact : ProgramExact
 program-exact input l alike =
     l .prints ∙ ap (λ (q : Pass). cornersText (q .corners)) (pass-same (paramsOf (l .header)) (l .pixels) (l .header .width) (l .header .height) alike)
+
+-- ---- streams
+pub program-streams : ProgramStreams
+program-streams = round-trip

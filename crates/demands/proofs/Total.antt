@@ -5,11 +5,11 @@ use mathlib.Core.Path.{_≡_, sym, ap, _∙_}
 use mathlib.Core.Logic.{inl}
 use mathlib.Core.Bool.{Bool, true, false, cond, not, _&&_}
 use mathlib.Core.List.{List, [], _∷_, _++_, map}
-use lib.ListN.{length}
+use lib.ListN.{length, take}
 use lib.Dec.{ltb}
 use lib.Ieee.{Float}
 use Rattle.lists.specs.Places.{any}
-use Rattle.lists.specs.Refusals.{isLarge, isMisfit}
+use Rattle.lists.specs.Refusals.{isLarge, isMisfit, lowest}
 use Rattle.ring.specs.Ring.{isRing}
 use Rattle.response.specs.declared.Patch.{Patch}
 use Rattle.response.specs.declared.Patch.the-variants as patch
@@ -23,7 +23,7 @@ use Rattle.pyramid_levels.specs.Refusals.{isAbsent, isShort, buildRefusal, leve
 use Rattle.pyramid.specs.Build as build
 use Rattle.pyramid_levels.specs.Level as lookup
 use Rattle.corner_list.specs.declared.Corner.{Corner}
-use Rattle.corner_list.specs.CornerList.{Slices, isInside, placesOf, cornersOf}
+use Rattle.corner_list.specs.CornerList.{Slices, placesOf, cornersOf}
 use Rattle.detect.specs.declared.Peaks.{Peaks}
 use Rattle.detect.specs.declared.Peaks.the-variants as peaks
 use Rattle.detect.specs.Detect as detect
@@ -39,14 +39,15 @@ use Rattle.multiscale.specs.Multiscale as multiscale
 use Rattle.multiscale.specs.Promise.{Boxed}
 use Rattle.multiscale.proofs.Box as box
 use Rattle.merge_radius.specs.MergeRadius.{isOff, radiusOutside}
+use Rattle.merge_refusal.specs.MergeRefusal.{isOutside}
 use Rattle.merge.specs.declared.Merged.{Merged}
 use Rattle.merge.specs.declared.Merged.the-variants as merged
 use Rattle.merge.specs.Merge as merge
-use Rattle.merge_slice.specs.MergeSlice.{columns, sharedPlaces}
+use Rattle.merge_slice.specs.MergeSlice.{sharedPlaces, refusalFor}
 use Rattle.frame_pass.specs.declared.FrameParams.{FrameParams}
 use Rattle.frame_pass.specs.Refusals.{conditions}
 use Rattle.frame_pass.specs.Pass.{framePass, computedChoice}
-use Rattle.patch_corners.specs.PatchCorners.{patchConditions}
+use Rattle.patch_corners.specs.PatchCorners.{patchConditions, BoxAdded}
 use Rattle.frame.specs.declared.FrameAnswer.{FrameAnswer}
 use Rattle.frame.specs.declared.FrameAnswer.the-variants as answer
 use Rattle.frame.specs.Frame as frame
@@ -80,29 +81,31 @@ build-refuses base w h count least d e r f =
     refused-one built.Refused (build.answerOf (levelCount w h count least)) (λ k q. let z : _≡_ {A = ℕ} 0 1 = cc in omega arith) (λ n k q. sym (ap build.numberOf q))
     ((isLarge w h, 1) ∷ (isMisfit (length base) w h, 2) ∷ (isShort (length d) w h count least, 9) ∷ []) r (f .answer)
 
-level-refuses : (pixels places w h count least k : ℕ) (r : LevelAnswer) → r ≡ lookup.levelAnswer pixels places w h count least k → Refuses level.Refused (1 ∷ 2 ∷ 3 ∷ 9 ∷ []) r
+level-refuses : (pixels places w h count least k : ℕ) (r : LevelAnswer) → lookup.LevelFound pixels places w h count least k r
+    → Refuses level.Refused (1 ∷ 2 ∷ 3 ∷ 9 ∷ []) r
 unfolding lookup.levelAnswer levelRefusal
 level-refuses pixels places w h count least k r f =
     refused-one level.Refused (lookup.answerOf w h k) (λ k q. let z : _≡_ {A = ℕ} 0 1 = cc in omega arith) (λ n k q. sym (ap lookup.numberOf q))
-    ((isLarge w h, 1) ∷ (isMisfit pixels w h, 2) ∷ (isAbsent w h count least k, 3) ∷ (isShort places w h count least, 9) ∷ []) r f
+    ((isLarge w h, 1) ∷ (isMisfit pixels w h, 2) ∷ (isAbsent w h count least k, 3) ∷ (isShort places w h count least, 9) ∷ []) r (f .answer)
 
 -- peak finding, and what promises as it does
-peaks-refuse : (conds : List (Bool × ℕ)) (cs : List Corner) (held : ℕ) (b b′ : Slices) (r : Peaks) → detect.Found conds cs held b r b′
+peaks-refuse : (conds : List (Bool × ℕ)) (cs : List Corner) (held : ℕ) (b : Slices) (r : Peaks)
+    → r ≡ detect.answerOf (detect.refusalOf conds (placesOf b) held (length cs)) (length cs)
     → Refuses peaks.Refused (map (λ c. c .1) (conds ++ ((ltb (placesOf b) (held + length cs), 10) ∷ []))) r
 unfolding detect.refusalOf
-peaks-refuse conds cs held b b′ r f =
+peaks-refuse conds cs held b r f =
     refused-one peaks.Refused (λ n. detect.answerOf n (length cs)) (λ k q. let z : _≡_ {A = ℕ} 0 1 = cc in omega arith) (λ n k q. sym (ap detect.numberOf q))
-    (conds ++ ((ltb (placesOf b) (held + length cs), 10) ∷ [])) r (f .answered)
+    (conds ++ ((ltb (placesOf b) (held + length cs), 10) ∷ [])) r f
 
 peaks-of : (size w h ring window radius : ℕ) (cs : List Corner) (held : ℕ) (b b′ : Slices) (r : Peaks)
     → detect.Found (detect.conditions size w h ring window radius) cs held b r b′ → Refuses peaks.Refused (1 ∷ 2 ∷ 3 ∷ 10 ∷ []) r
 unfolding detect.conditions
-peaks-of size w h ring window radius = peaks-refuse (detect.conditions size w h ring window radius)
+peaks-of size w h ring window radius cs held b b′ r f = peaks-refuse (detect.conditions size w h ring window radius) cs held b r (f .answered)
 
-corners-of : (p : FrameParams) (v : response.View) (places : ℕ) (cs : List Corner) (held : ℕ) (b b′ : Slices) (r : Peaks)
-    → detect.Found (patchConditions p v places) cs held b r b′ → Refuses peaks.Refused (1 ∷ 2 ∷ 3 ∷ 8 ∷ 10 ∷ []) r
+corners-of : (p : FrameParams) (v : response.View) (cs : List Corner) (held : ℕ) (d d′ : List Float) (b b′ : Slices) (r : Peaks)
+    → BoxAdded p v cs held d b r d′ b′ → Refuses peaks.Refused (1 ∷ 2 ∷ 3 ∷ 8 ∷ 10 ∷ []) r
 unfolding patchConditions detect.conditions
-corners-of p v places = peaks-refuse (patchConditions p v places)
+corners-of p v cs held d d′ b b′ r f = peaks-refuse (patchConditions p v (length d)) cs held b r (f .answered)
 
 refine-refuses : (radius : ℕ) (x y : Float) (hasMap : Bool) (m : List Float) (w h : ℕ) (r : Outcome) → Refined radius x y hasMap m w h r
     → Refuses outcome.Refused (1 ∷ 2 ∷ 3 ∷ 4 ∷ []) r
@@ -116,16 +119,23 @@ unfolding multiscale.refusal
 roi-refuses c s r f k e = numbered-one (multiscale.conditions c s) k (sym (ap multiscale.numberOf e) ∙ f .number) (box.refused-numbered c s k (sym (f .answer) ∙ e))
 
 -- the three merge entries
+merge-numbers : (four five ten : Bool) (n : ℕ) (r : Merged) → r ≡ merge.answerOf (lowest ((four, 4) ∷ (five, 5) ∷ (ten, 10) ∷ [])) n
+    → Refuses merged.Refused (4 ∷ 5 ∷ 10 ∷ []) r
+merge-numbers four five ten n r f =
+    refused-one merged.Refused (λ k. merge.answerOf k n) (λ k q. let z : _≡_ {A = ℕ} 0 1 = cc in omega arith) (λ n k q. cc)
+    ((four, 4) ∷ (five, 5) ∷ (ten, 10) ∷ []) r f
+
 merge-refuses : (radius : Float) (places count : ℕ) (b : Slices) (n : ℕ) (r : Merged) → r ≡ merge.answerOf (merge.refusalOf radius places count b) n
     → Refuses merged.Refused (4 ∷ 5 ∷ 10 ∷ []) r
 unfolding merge.refusalOf
 merge-refuses radius places count b n r f =
-    refused-one merged.Refused (λ k. merge.answerOf k n) (λ k q. let z : _≡_ {A = ℕ} 0 1 = cc in omega arith) (λ n k q. cc)
-    ((not (isOff radius) && any (λ c. not (isInside c)) (cornersOf b (min count places)), 4)
-    ∷ (radiusOutside radius, 5)
-    ∷ (ltb places count, 10)
-    ∷ [])
-    r f
+    merge-numbers (not (isOff radius) && any isOutside (cornersOf b (min count places))) (radiusOutside radius) (ltb places count) n r f
+
+slice-refuses : (radius : Float) (count : ℕ) (cs : List Corner) (b : Slices) (n : ℕ) (r : Merged) → r ≡ merge.answerOf (refusalFor radius count cs b) n
+    → Refuses merged.Refused (4 ∷ 5 ∷ 10 ∷ []) r
+unfolding refusalFor
+slice-refuses radius count cs b n r f =
+    merge-numbers (not (isOff radius) && any isOutside (take count cs)) (radiusOutside radius) (ltb (sharedPlaces cs b) count) n r f
 
 frame-refuses : (p : FrameParams) (img : List ℕ) (w h : ℕ) (b b′ : frame.Buffers) (r : FrameAnswer) → frame.Found p img w h b r b′
     → Refuses answer.Refused (1 ∷ 2 ∷ 3 ∷ 5 ∷ 8 ∷ 9 ∷ 10 ∷ []) r
@@ -153,13 +163,13 @@ total = record {
   «build_pyramid» = build-refuses;
   «level_at» = level-refuses;
   «detect_peaks_from_response_with_refine_radius» = λ m w h ring t window least radius b b′ held r f. peaks-of (length m) w h ring window radius _ held b b′ r f;
-  «add_patch_corners» = λ p img w h x0 y0 x1 y1 held d d′ b b′ r f. corners-of p (viewOf img w h (p .ring) x0 y0 x1 y1) (length d) _ held b b′ r (f .found);
-  «add_box_corners» = λ p img w h x0 y0 x1 y1 held d d′ b b′ r f. corners-of p (viewOf img w h (p .ring) x0 y0 x1 y1) (length d) _ held b b′ r (f .found);
+  «add_patch_corners» = λ p img w h x0 y0 x1 y1 held d d′ b b′ r f. corners-of p (viewOf img w h (p .ring) x0 y0 x1 y1) _ held d d′ b b′ r f;
+  «add_box_corners» = λ p img w h x0 y0 x1 y1 held d d′ b b′ r f. corners-of p (viewOf img w h (p .ring) x0 y0 x1 y1) _ held d d′ b b′ r f;
   refine = refine-refuses;
   «compute_roi» = roi-refuses;
   «merge_corners_simple» = λ radius count b b′ r f. merge-refuses radius (placesOf b) count b _ r (f .answered);
   «merge_within» = λ radius places count b b′ r f. merge-refuses radius (min places (placesOf b)) count b _ r (f .answered);
-  «merge_corner_slice» = λ radius count cs cs′ b b′ r f. merge-refuses radius (sharedPlaces cs b) count (columns cs) _ r (f .answered);
+  «merge_corner_slice» = λ radius count cs cs′ b b′ r f. slice-refuses radius count cs b _ r (f .answered);
   «find_corners» = frame-refuses;
   «read_frame» = stream-refuses;
   «write_corners» = listing-refuses;

@@ -1,5 +1,6 @@
 -- The worked cases that document 01 marks P, as one table: what the definitions give, and what the document says, both as lists of integers.
 use Prim.Native.Nat.{ℕ}
+use mathlib.Core.Path.{_≡_}
 use mathlib.Core.List.{List, [], _∷_, map}
 use lib.IntN.{ℤ, pos, negsuc}
 use lib.ListN.{length, replicate, set}
@@ -87,3 +88,7 @@ cases =
     ∷ naturals (box (seed (fin false 15 (negsuc 0)) (wholeFloat 50))) (0 ∷ [])
     ∷ naturals (box (seed (wholeFloat 8) (wholeFloat 50))) (0 ∷ 9 ∷ 89 ∷ 28 ∷ 112 ∷ [])
     ∷ []
+
+-- each comes out as it is said
+abbrev pub CasesHold : Type 0
+CasesHold = map (λ (c : Case). c .given) cases ≡ map (λ (c : Case). c .said) cases

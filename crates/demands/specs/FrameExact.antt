@@ -18,7 +18,7 @@ use Rattle.corner_list.specs.declared.Corner.{Corner}
 use Rattle.detect.specs.Detect.{conditions}
 use Rattle.frame_pass.specs.declared.FrameParams.{FrameParams}
 use Rattle.frame_pass.specs.Pass.{Choice, searchOn, computedChoice, exactChoice, framePass, lookedAt}
-use Rattle.frame_pass.specs.Theorems.{CornersInside, BoxesAnswered}
+use Rattle.frame_pass.specs.Theorems.{CornersInside, BoxesAnswered, NoneDropped}
 use Rattle.frame.specs.declared.FrameAnswer.the-variants.{Corners}
 use Rattle.frame.specs.Frame.{Buffers, Found}
 use Rattle.demands.specs.PeakCall.{PeakCall, searchIn}
@@ -91,3 +91,7 @@ FrameWithoutTies = (c : FrameCall) (k : ℕ) → IsWhole (lift (c .parameters .t
 -- 4,096, and each seed has a box or "no box".
 abbrev pub FourNever : Type 0
 FourNever = (p : FrameParams) (img : List ℕ) (w h : ℕ) (choose : Choice) → CornersInside p img w h choose × BoxesAnswered p img w h choose
+
+-- The centroid drops no peak of a map that a frame looks at, so the lists that number 10 counts are lists of peaks.
+abbrev pub PeaksKept : Type 0
+PeaksKept = (p : FrameParams) (img : List ℕ) (w h : ℕ) (choose : Choice) → NoneDropped p img w h choose

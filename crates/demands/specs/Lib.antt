@@ -5,6 +5,9 @@ pub mod ResponseAccurate
 pub mod ResponsesOrdered
 pub mod PeaksAlike
 pub mod FrameExact
+pub mod AsPublished
 pub mod Numbers
 pub mod Total
 pub mod Program
+pub mod BitForBit
+pub mod Demands

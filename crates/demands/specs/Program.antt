@@ -1,16 +1,18 @@
 -- Demands 1 and 3 for what the program `corners` prints: `outputOf` of its input bytes, which `find` of finder promises to leave in the buffer
 -- that the program writes out.
-use Prim.Native.Nat.{ℕ}
+use Prim.Native.Nat.{ℕ, _+_, _<_, _≤_}
 use mathlib.Core.Path.{_≡_}
 use mathlib.Core.Logic.{_⊎_}
-use mathlib.Core.List.{List, [], _∷_}
-use lib.ListN.{take}
+use mathlib.Core.List.{List, [], _∷_, _++_}
+use lib.ListN.{length, take}
 use Rattle.lists.specs.Places.{All}
 use Rattle.frame_pass.specs.declared.FrameParams.{FrameParams}
 use Rattle.frame_pass.specs.Pass.{Choice, computedChoice, exactChoice, framePass, lookedAt}
 use Rattle.frame.specs.Frame.{refusalOf}
 use Rattle.stream.specs.declared.Header.{Header}
 use Rattle.stream.specs.Stream.{accepted, readFrame}
+use Rattle.stream.specs.Wanted.{wanted}
+use Rattle.stream.specs.RoundTrip.{RoundTrip}
 use Rattle.listing.specs.Text.{cornersText, refusedText}
 use Rattle.finder.specs.Finder.{paramsOf, programBuffers, outputOf}
 use Rattle.demands.specs.Numbers.{OneOf}
@@ -19,6 +21,22 @@ use Rattle.demands.specs.FrameExact.{Alike}
 -- it reads at most 9,527 bytes: those behind them decide nothing
 abbrev pub ProgramReads : Type 0
 ProgramReads = (input : List ℕ) → outputOf (take 9527 input) ≡ outputOf input
+
+-- some bytes that may follow make it print something else
+pub record Undecided (input : List ℕ) : Type 0 where
+  pub more : List ℕ
+  pub bytes : All (λ v. v < 256) more
+  pub differs : outputOf (input ++ more) ≡ outputOf input → ⊥
+
+-- "bytes after that 4 are not read": it reads as many as are `wanted` behind those so far, until that is 0. Then what follows changes
+-- nothing, and with fewer something may
+pub record Reads (input : List ℕ) : Type 0 where
+  pub decided : wanted input ≡ 0 → (t : List ℕ) → outputOf (input ++ t) ≡ outputOf input
+  pub undecided : (t : List ℕ) → length t < wanted input → Undecided (input ++ t)
+  pub most : 0 < wanted input → length input + wanted input ≤ 9527
+
+abbrev pub ProgramDecided : Type 0
+ProgramDecided = (input : List ℕ) → Reads input
 
 -- the listing of the corners that a pass by a choice of peaks finds in a frame
 abbrev pub textBy : (FrameParams → Choice) → Header → List ℕ → List ℕ
@@ -48,3 +66,7 @@ ProgramExact =
     (input : List ℕ) (l : Lists input)
     → All (Alike (paramsOf (l .header))) (lookedAt (paramsOf (l .header)) (l .pixels) (l .header .width) (l .header .height) (exactChoice (paramsOf (l .header))))
     → outputOf input ≡ textBy exactChoice (l .header) (l .pixels)
+
+-- "A frame handed in": every frame that the stream's form allows has a stream, and each stream says one frame
+abbrev pub ProgramStreams : Type 0
+ProgramStreams = RoundTrip

@@ -6,15 +6,16 @@
 -- refuses, and each of these promises one equation over its arguments:
 --   numbers         lesser, greater, minus
 --   ring            ring_offsets, is_ring
---   float32         abs, is_finite, lifted, is_between, from_bits, to_bits, cut_off, round_half_away
+--   float32         abs, is_finite, lifted, is_between, from_bits, to_bits, cut_off, round_half_away (with its number, 0, and its values)
 --   corner_list     is_inside, corner_at, put_corner, places
 --   pyramid_levels  level_count, cells_before, cells_above, build_fault and level_fault (the number alone)
 --   pyramid         level (nothing where `level_at` refuses)
 --   merge_radius    is_off, is_sized, is_outside
 --   merge_refusal   refusal (the number alone)
---   merge_grid      grid_of, column_of, row_of, is_joined
+--   merge_grid      position_of, position_at, grid_of, column_of, row_of, is_joined
 --   clearing        clear, clear_bytes, clear_list
 --   frame_pass      refusal (the number before the pass)
+--   stream          wanted
 --   listing         write_refusal (one for its answer, one for its buffer)
 --   finder          find (likewise)
 -- The functions of `capi` and `capi_stages`, for C, hand on these promises and return the number.
@@ -32,7 +33,7 @@ use Rattle.pyramid.specs.declared.Pyramid.the-variants as pyramid
 use Rattle.pyramid_levels.specs.declared.LevelAnswer.{LevelAnswer}
 use Rattle.pyramid_levels.specs.declared.LevelAnswer.the-variants as levels
 use Rattle.pyramid.specs.Build.{Built}
-use Rattle.pyramid_levels.specs.Level.{levelAnswer}
+use Rattle.pyramid_levels.specs.Level.{LevelFound}
 use Rattle.corner_list.specs.declared.Corner.{Corner}
 use Rattle.corner_list.specs.CornerList.{Slices, placesOf}
 use Rattle.detect.specs.declared.Peaks.{Peaks}
@@ -70,7 +71,7 @@ pub record Total : Type 0 where
       → Refuses response.Refused (1 ∷ 2 ∷ 3 ∷ 8 ∷ []) r
   pub «build_pyramid» : (base : List ℕ) (w h count least : ℕ) (d e : List ℕ) (r : Pyramid) → Built base w h count least d r e
       → Refuses pyramid.Refused (1 ∷ 2 ∷ 9 ∷ []) r
-  pub «level_at» : (pixels places w h count least k : ℕ) (r : LevelAnswer) → r ≡ levelAnswer pixels places w h count least k
+  pub «level_at» : (pixels places w h count least k : ℕ) (r : LevelAnswer) → LevelFound pixels places w h count least k r
       → Refuses levels.Refused (1 ∷ 2 ∷ 3 ∷ 9 ∷ []) r
   pub «detect_peaks_from_response_with_refine_radius» : (m : List Float) (w h ring : ℕ) (threshold : Float) (window least radius : ℕ) (b b′ : Slices) (held : ℕ) (r : Peaks)
       → detect.Found (detect.conditions (length m) w h ring window radius) (detect.startsIn m (detect.searchOf w h ring threshold window least radius)) held b r b′

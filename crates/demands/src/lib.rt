@@ -1,1 +1,7 @@
-// No code: the demands on the finder as theorems, and document 01's worked cases. See specs/ and proofs/.
+// The demands on the finder as one theorem. See specs/ and proofs/.
+ghost use Rattle.demands.specs.Demands.{Demands};
+
+// Computes nothing: its promise is that the demands are met.
+pub fn met()
+    ensures { λ _. ⌜ Demands ⌝ }
+{}

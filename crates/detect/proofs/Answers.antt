@@ -7,13 +7,13 @@ use native.Mathlib.Decide.{decLt}
 use mathlib.Core.Path.{_≡_, refl, sym, ap, _∙_}
 use mathlib.Core.Logic.{⊎-elim}
 use mathlib.Core.Bool.{Bool, true, false, not}
-use mathlib.Core.List.{List, []}
+use mathlib.Core.List.{List, [], _∷_}
 use lib.ListN.{length, length-map}
 use lib.Dec.{ltb}
 use lib.Ieee.{Float}
 use borrow.Author.Tests.{lt-ltb, le-ltb, ltb-true, ltb-false, eq-eqb, not-false}
 use Rattle.lists.specs.Places.{All}
-use Rattle.lists.specs.Refusals.{lowest}
+use Rattle.lists.specs.Refusals.{lowest, valuesUnless}
 use Rattle.lists.proofs.Tests.{or-neither}
 use Rattle.lists.proofs.Refusals.{all-clear, lowest-some, lowest-past, sized-of}
 use Rattle.ring.proofs.Places.{ring-small}
@@ -22,7 +22,7 @@ use Rattle.corner_list.specs.declared.Corner.{Corner}
 use Rattle.detect.specs.declared.Search.{Search}
 use Rattle.detect.specs.declared.Peaks.{Peaks}
 use Rattle.detect.specs.declared.Peaks.the-variants.{Added, Refused}
-use Rattle.detect.specs.Detect.{searchOf, peaksIn, startAt, startsIn, isRing, conditions, refusalOf, answerOf, bufferOf, numberOf, Found}
+use Rattle.detect.specs.Detect.{searchOf, peaksIn, startAt, startsIn, isRing, conditions, refusalOf, answerOf, bufferOf, numberOf, valuesOf, Found}
 use Rattle.detect.specs.Post.{Searchable}
 
 -- ---- inputs
@@ -77,10 +77,10 @@ searchable m w h ring t window least radius e =
 -- ---- whether the corners fit a buffer b of so many places, by the test of the peaks' number
 module _ (m : List Float) (s : Search) (b : Slices) (places held : ℕ) (is : places ≡ placesOf b) (t : Bool) (e : t ≡ ltb places (held + length (peaksIn m s))) where
   pub fits-behind : t ≡ false → held + length (startsIn m s) ≤ placesOf b
-  fits-behind q = omega (arith, length-map (peaksIn m s) (startAt m (s .w)), ltb-false places (held + length (peaksIn m s)) (sym e ∙ q))
+  fits-behind q = omega (arith, length-map (peaksIn m s) (startAt m s), ltb-false places (held + length (peaksIn m s)) (sym e ∙ q))
 
   pub short-behind : t ≡ true → placesOf b < held + length (startsIn m s)
-  short-behind q = omega (arith, length-map (peaksIn m s) (startAt m (s .w)), ltb-true places (held + length (peaksIn m s)) (sym e ∙ q))
+  short-behind q = omega (arith, length-map (peaksIn m s) (startAt m s), ltb-true places (held + length (peaksIn m s)) (sym e ∙ q))
 
 -- ---- refusals, by the conditions on the input and the buffer's places
 module _ (places held n : ℕ) where
@@ -98,15 +98,22 @@ module _ (places held n : ℕ) where
     refusal-none l = lowest-past cs _ (c .numbered) (c .none) ∙ rw (le-ltb places (held + n) l)
 
 -- ---- answers, by what led to them
-number-is : (k n : ℕ) → numberOf (answerOf k n) ≡ k
+pub number-is : (k n : ℕ) → numberOf (answerOf k n) ≡ k
 number-is zero n = refl
 number-is (suc k) n = refl
 
+pub values-are : (k n : ℕ) → valuesOf (answerOf k n) ≡ valuesUnless k (n ∷ [])
+values-are zero n = refl
+values-are (suc k) n = refl
+
 module _ (conds : List (Bool × ℕ)) (cs : List Corner) (held : ℕ) (b : Slices) where
-  found-by : (k : ℕ) → refusalOf conds (placesOf b) held (length cs) ≡ k → (answer : Peaks) (b′ : Slices) → answer ≡ answerOf k (length cs) → b′ ≡ bufferOf k held cs b → Found conds cs held b answer b′
+  -- by the refusal's number
+  pub found-by : (k : ℕ) → refusalOf conds (placesOf b) held (length cs) ≡ k → (answer : Peaks) (b′ : Slices)
+      → answer ≡ answerOf k (length cs) → b′ ≡ bufferOf k held cs b → Found conds cs held b answer b′
   found-by k e answer b′ p q = record {
     answered = p ∙ ap (λ (r : ℕ). answerOf r (length cs)) (sym e);
     number = ap numberOf p ∙ number-is k (length cs) ∙ sym e;
+    values = ap valuesOf p ∙ values-are k (length cs) ∙ ap (λ (r : ℕ). valuesUnless r (length cs ∷ [])) (sym e);
     buffer = q ∙ ap (λ (r : ℕ). bufferOf r held cs b) (sym e);
   }
 

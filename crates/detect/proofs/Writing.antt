@@ -1,11 +1,12 @@
 -- The corners that the peaks start as, put into the buffer one after the other. Assumes nothing.
 use Prim.Native.Nat.{ℕ, _+_, _-_, _<_, _≤_}
 use native.Mathlib.Omega.{arith}
-use mathlib.Core.Path.{_≡_, ap}
+use mathlib.Core.Path.{_≡_, ap, _∙_}
 use mathlib.Core.List.{List, [], _∷_, map}
 use lib.ListN.{length}
 use lib.Ieee.{Float}
 use Rattle.lists.specs.Places.{Place}
+use Rattle.corner_list.specs.declared.Corner.{Corner}
 use Rattle.corner_list.specs.CornerList.{Slices, placesOf, withCorner}
 use Rattle.corner_list.proofs.Corners.{same-places}
 use Rattle.corner_list.proofs.Growing.{Growing, growing-none, growing-to, growing-fits, growing-put, growing-all, growing-xs, growing-ys, growing-strengths}
@@ -19,13 +20,13 @@ use Rattle.detect.proofs.Answers.{found-added}
 
 -- the corners of i peaks were written to b, which was b₀, and p is where the search goes on
 pub record Writing (m : List Float) (s : Search) (t : List ℕ) (n held i : ℕ) (b₀ b : Slices) (p : Place) : Type 0 where
-  pub growing : Growing (startsIn m s) (map (startAt m (s .w)) (peaksFrom m s p)) held i b₀ b
+  pub growing : Growing (startsIn m s) (map (startAt m s) (peaksFrom m s p)) held i b₀ b
   pub standing : Standing s t n i p
 
 pub writing-first : (m : List Float) (s : Search) (t : List ℕ) (n held : ℕ) (b : Slices) → held + length (startsIn m s) ≤ placesOf b
     → Writing m s t n held 0 b b (place (s .border) (s .border))
 writing-first m s t n held b h = record {
-  growing = growing-to _ _ _ _ _ _ (growing-none (startsIn m s) held b h) _ (ap (map (startAt m (s .w))) (peaks-start m s));
+  growing = growing-to _ _ _ _ _ _ (growing-none (startsIn m s) held b h) _ (ap (map (startAt m s)) (peaks-start m s));
   standing = standing-first s t n;
 }
 
@@ -33,25 +34,24 @@ module _ (m : List Float) (s : Search) (t : List ℕ) (n held i : ℕ) (b₀ b :
     (q : Place) (f : NextListed m s t n i p q) where
   pub writing-all : s .h - s .border ≤ q .y → Found [] (startsIn m s) held b₀ (Added i) b
   writing-all l =
-      let k = growing-all _ _ _ _ _ _ (a .growing) (ap (map (startAt m (s .w))) (next-none m s p q (f .next) l)) in
+      let k = growing-all _ _ _ _ _ _ (a .growing) (ap (map (startAt m s)) (next-none m s p q (f .next) l)) in
       found-added (startsIn m s) held b₀ (a .growing .fits) i b (k .0) (k .1)
 
   module _ (l : q .y < s .h - s .border) where
-    first : map (startAt m (s .w)) (peaksFrom m s p) ≡ startAt m (s .w) q ∷ map (startAt m (s .w)) (peaksFrom m s (behind q))
-    first = ap (map (startAt m (s .w))) (next-first m s p q (f .next) l)
+    first : map (startAt m s) (peaksFrom m s p) ≡ startAt m s q ∷ map (startAt m s) (peaksFrom m s (behind q))
+    first = ap (map (startAt m s)) (next-first m s p q (f .next) l)
 
-    -- there is a place for its corner
-    pub writing-place : held + i < placesOf b
-    writing-place = growing-fits _ _ _ _ _ _ (a .growing) _ _ first
-
-    -- as there was at the start
-    pub writing-place₀ : held + i < placesOf b₀
-    writing-place₀ =
+    -- there was a place for its corner in the buffer at the start
+    pub writing-place : held + i < placesOf b₀
+    writing-place =
         rw (← same-places b b₀ (growing-xs _ _ _ _ _ _ (a .growing)) (growing-ys _ _ _ _ _ _ (a .growing)) (growing-strengths _ _ _ _ _ _ (a .growing)))
-        writing-place
+        (growing-fits _ _ _ _ _ _ (a .growing) _ _ first)
 
     pub writing-less : length (peaksFrom m s (behind q)) < length (peaksFrom m s p)
     writing-less = omega (arith, ap length (next-first m s p q (f .next) l))
 
-    pub writing-next : (b′ : Slices) → b′ ≡ withCorner (held + i) (startAt m (s .w) q) b → Writing m s t n held (i + 1) b₀ b′ (behind q)
-    writing-next b′ put = record { growing = growing-put _ _ _ _ _ _ (a .growing) (startAt m (s .w) q) _ first b′ put; standing = standing-next m s t n i p q f l }
+    pub writing-next : (c : Corner) → c ≡ startAt m s q → (b′ : Slices) → b′ ≡ withCorner (held + i) c b → Writing m s t n held (i + 1) b₀ b′ (behind q)
+    writing-next c e b′ put = record {
+      growing = growing-put _ _ _ _ _ _ (a .growing) (startAt m s q) _ first b′ (put ∙ ap (λ (d : Corner). withCorner (held + i) d b) e);
+      standing = standing-next m s t n i p q f l;
+    }

@@ -8,7 +8,7 @@ use lib.IntN.{pos}
 use lib.Dec.{ltb}
 use lib.Ieee.{Float, ofInt, binary32}
 use Rattle.lists.specs.Places.{Place}
-use Rattle.lists.specs.Refusals.{lowest, isLarge, isMisfit}
+use Rattle.lists.specs.Refusals.{lowest, valuesUnless, isLarge, isMisfit}
 use Rattle.float32.specs.Float32.{lift}
 pub use Rattle.ring.specs.Ring.{isRing}
 use Rattle.corner_list.specs.CornerList.{Slices, placesOf, placedCorners}
@@ -38,11 +38,11 @@ abbrev pub peaksIn : List Float → Search → List Place
 peaksIn m s = peaksBy (readIn m s) s
 
 -- ---- the corner that a peak starts as: its column and row, and the cell's value as strength
-abbrev pub startAt : List Float → ℕ → Place → Corner
-startAt m w p = record { x = ofInt binary32 (pos (p .x)); y = ofInt binary32 (pos (p .y)); strength = valueAt m w p }
+abbrev pub startAt : List Float → Search → Place → Corner
+startAt m s p = record { x = ofInt binary32 (pos (p .x)); y = ofInt binary32 (pos (p .y)); strength = valueAt m (s .w) p }
 
 abbrev pub startsIn : List Float → Search → List Corner
-startsIn m s = map (startAt m (s .w)) (peaksIn m s)
+startsIn m s = map (startAt m s) (peaksIn m s)
 
 -- ---- refusals
 
@@ -81,8 +81,9 @@ valuesOf (Added n) = n ∷ []
 valuesOf (Refused k) = []
 
 -- What peak finding promises, under the conditions conds on the input, of a map whose peaks start as the corners cs and of a buffer b
--- that holds `held`: the answer, its number, and the buffer after
+-- that holds `held`: the answer, its number and values, and the buffer after
 pub record Found (conds : List (Bool × ℕ)) (cs : List Corner) (held : ℕ) (b : Slices) (answer : Peaks) (b′ : Slices) : Type 0 where
   pub answered : answer ≡ answerOf (refusalOf conds (placesOf b) held (length cs)) (length cs)
   pub number : numberOf answer ≡ refusalOf conds (placesOf b) held (length cs)
+  pub values : valuesOf answer ≡ valuesUnless (refusalOf conds (placesOf b) held (length cs)) (length cs ∷ [])
   pub buffer : b′ ≡ bufferOf (refusalOf conds (placesOf b) held (length cs)) held cs b

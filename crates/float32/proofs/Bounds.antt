@@ -15,14 +15,22 @@ use lib.Ieee.Positive.{first-pos}
 use lib.Ieee.Scale.{grid, finite, round-same}
 use Rattle.lists.proofs.Tests.{from-T, and-on}
 use Rattle.float32.specs.Float32.{zero, between}
-use Rattle.float32.specs.Value.{IsValue, UpTo}
+use Rattle.float32.specs.Value.{IsValue}
 use Rattle.float32.proofs.Poly.{poly}
 use Rattle.float32.proofs.Rounding.{grid-under, round-val}
 use Rattle.float32.proofs.Values.{of-HasValue, ofInt-value, lt-value, le-value, not-eqb}
 use Rattle.float32.proofs.Units.{add-round}
 use Rattle.float32.proofs.Running.{Nearly, Near}
 
--- ---- what `UpTo` gives
+-- x is finite, its sign is +, and x ≤ n
+pub record UpTo (x : Float) (n : ℕ) : Type 0 where
+  pub top : ℕ
+  pub bottom : ℕ
+  pub bottom-pos : 0 < bottom
+  pub value : HasValue x false top bottom
+  pub at-most : top ≤ n * bottom
+
+-- ---- what it gives
 pub upto-finite : (x : Float) (n : ℕ) → UpTo x n → T (finite x)
 upto-finite x n u = of-HasValue x false (u .top) (u .bottom) (u .value) .is-finite
 

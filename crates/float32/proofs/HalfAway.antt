@@ -1,11 +1,12 @@
 -- Rounding half away from zero: twice a float is exact, so half of one more than twice |x|, cut off, is the nearest whole number with a half up.
 -- And a float that is a / c, as any fraction, rounds to what that fraction rounds to. Assumes nothing.
 use mathlib.Core.Path.{_≡_, refl, sym, ap, _∙_, subst}
-use mathlib.Core.Bool.{Bool, true, false, true≢false}
+use mathlib.Core.Bool.{Bool, true, false, cond, true≢false}
+use mathlib.Core.List.{[], _∷_}
 use Prim.Native.Nat.{ℕ, suc, _+_, _*_, _/_, _^_, _≤_, _<_}
 use native.Mathlib.Nat.{zero-mul, mul-pos, mul-comm, eq-of-mul-eq-mul-right, add-div-right, div-div-eq-div-mul, div-lt-iff-lt-mul}
 use native.Mathlib.Omega.{arith}
-use lib.IntN.{ℤ, pos}
+use lib.IntN.{ℤ, pos, negℤ}
 use lib.Dec.{lit<}
 use borrow.Author.Tests.{le-ltb}
 use lib.Ieee.{Float, nan, inf, fin, binary32, up, down, lt, le, round, add, sum, fits, toUnsigned}
@@ -16,8 +17,9 @@ use lib.Ieee.Exact.{HasValue}
 use lib.Ieee.Scale.{round-same}
 use lib.Ieee.Positive.{num, den, den-pos}
 use Rattle.lists.proofs.Tests.{to-T, from-T}
+use Rattle.float32.specs.declared.Rounded.{Rounded}
 use Rattle.float32.specs.declared.Rounded.the-variants.{Natural, Negative, Beyond}
-use Rattle.float32.specs.Float32.{zero, abs, nearestWhole, roundHalfAway, signed}
+use Rattle.float32.specs.Float32.{zero, abs, nearestWhole, isJudged, judged, signed, roundHalfAway, numberOf, valuesOf, Rounds}
 use Rattle.float32.proofs.Bounds.{value-le, whole-over}
 use Rattle.float32.proofs.Canonical.{fits-plain, far-below, round-shifted}
 use Rattle.float32.proofs.Poly.{poly}
@@ -41,7 +43,7 @@ half-up n d p = ap (λ (z : ℕ). z / 2) (sym (add-div-right (2 * n) p)) ∙ div
 twice-small : (n d : ℕ) → 0 < d → n ≤ 2 ^ 24 * d → 2 * n / d < 2 ^ 26
 twice-small n d p h = div-lt-iff-lt-mul {k = d} {x = 2 * n} {y = 2 ^ 26} p .1 (omega arith)
 
-size-within : (m : ℕ) (e : ℤ) → le (fin false m e) (fin false 1 (pos 24)) ≡ true → m * up e ≤ 2 ^ 24 * down e
+pub size-within : (m : ℕ) (e : ℤ) → le (fin false m e) (fin false 1 (pos 24)) ≡ true → m * up e ≤ 2 ^ 24 * down e
 size-within m e h =
     value-le (fin false m e) (fin false 1 (pos 24)) (m * up e) (2 ^ 24 * down e) (down e) (down-pos e) (refl, refl) (whole-over (fin false 1 (pos 24)) (2 ^ 24) (down e) (refl, refl)) (to-T h)
 
@@ -75,6 +77,22 @@ beyond x a p h = let h′ : le (abs x) (fin false 1 (pos 24)) ≡ false = rw p a
 pub signed-negative : (k : ℕ) → (k ≡ 0 → ⊥) → Negative k ≡ signed true k
 signed-negative ℕ.zero h = absurd (h refl)
 signed-negative (suc k) h = refl
+
+-- ---- the promise by its answer
+judged-values : (judge negative : Bool) (n : ℕ) → valuesOf (judged judge (signed negative n)) ≡ cond judge (cond negative (negℤ (pos n)) (pos n) ∷ []) []
+judged-values true true ℕ.zero = refl
+judged-values true true (suc n) = refl
+judged-values true false n = refl
+judged-values false negative n = refl
+
+no-number : (r : Rounded) → numberOf r ≡ 0
+no-number (Natural n) = refl
+no-number (Negative n) = refl
+no-number Beyond = refl
+
+pub rounded : (x : Float) (r : Rounded) → r ≡ roundHalfAway x → Rounds x r
+unfolding roundHalfAway
+rounded x r e = record { answer = e; number = no-number r; values = ap valuesOf e ∙ judged-values (isJudged x) (lt x zero) (nearestWhole x) }
 
 -- ---- the rounding of a value that is a / c, not negative
 judged-small : (m : ℕ) (e : ℤ) (a c : ℕ) → 0 < c → a ≤ 2 ^ 24 * c → m * up e * c ≡ a * down e → le (fin false m e) (fin false 1 (pos 24)) ≡ true

@@ -11,7 +11,7 @@ use lib.Ieee.{Float, nan, inf, fin, up, down, lt, toUnsigned}
 use lib.Ieee.Fits.{down-pos}
 use lib.Ieee.Nearest.{div-same}
 use lib.Ieee.Exact.{HasValue}
-use Rattle.float32.specs.Value.{UpTo}
+use Rattle.float32.proofs.Bounds.{UpTo}
 
 -- ---- at the ends of the range
 pub cut-none : (x : Float) → lt (fin true 1 (pos 0)) x ≡ false → 0 ≡ toUnsigned 64 x

@@ -1,7 +1,9 @@
 -- What the operations on `f32` give, over the logic's IEEE values: a finite x is ± num x / den x (lib.Ieee.Positive).
 use Prim.Native.Nat.{ℕ, suc, _+_, _*_, _/_}
+use mathlib.Core.Path.{_≡_}
 use mathlib.Core.Bool.{Bool, true, false, cond, _&&_}
-use lib.IntN.{pos}
+use mathlib.Core.List.{List, [], _∷_}
+use lib.IntN.{ℤ, pos, negℤ}
 use lib.Ieee.{Float, nan, inf, fin, lt, le}
 use lib.Ieee.Positive.{num, den}
 use Rattle.float32.specs.declared.Rounded.{Rounded}
@@ -42,7 +44,32 @@ abbrev pub judged : Bool → Rounded → Rounded
 judged true r = r
 judged false r = Beyond
 
--- a half goes away from zero; sizes above 2 ^ 24, infinities and NaN are not judged
+-- sizes above 2 ^ 24, infinities and NaN are not judged
+abbrev pub isJudged : Float → Bool
+isJudged x = le (abs x) (fin false 1 (pos 24))
+
+-- a half goes away from zero
 unfoldable pub roundHalfAway : Float → Rounded
 unfolding abs nearestWhole
-roundHalfAway x = judged (le (abs x) (fin false 1 (pos 24))) (signed (lt x zero) (nearestWhole x))
+roundHalfAway x = judged (isJudged x) (signed (lt x zero) (nearestWhole x))
+
+-- the same as an integer
+abbrev pub wholeOf : Float → ℤ
+wholeOf x = cond (lt x zero) (negℤ (pos (nearestWhole x))) (pos (nearestWhole x))
+
+-- number and values of each case: rounding refuses nothing, and its value is the integer, none where it is not judged
+abbrev pub numberOf : Rounded → ℕ
+numberOf (Natural n) = 0
+numberOf (Negative n) = 0
+numberOf Beyond = 0
+
+abbrev pub valuesOf : Rounded → List ℤ
+valuesOf (Natural n) = pos n ∷ []
+valuesOf (Negative n) = negℤ (pos n) ∷ []
+valuesOf Beyond = []
+
+-- the promise of `round_half_away`
+pub record Rounds (x : Float) (r : Rounded) : Type 0 where
+  pub answer : r ≡ roundHalfAway x
+  pub number : numberOf r ≡ 0
+  pub values : valuesOf r ≡ cond (isJudged x) (wholeOf x ∷ []) []

@@ -1,13 +1,12 @@
 -- The number that a float is, as a signed fraction of naturals; bounds and sums of naturals that go with it.
-use Prim.Native.Nat.{ℕ, suc, _+_, _-_, _*_, _≤_, _<_}
+use Prim.Native.Nat.{ℕ, suc, _+_, _-_, _*_, _≤_}
 use mathlib.Core.Path.{_≡_}
-use mathlib.Core.Bool.{false, cond}
+use mathlib.Core.Bool.{cond}
 use lib.Dec.{T}
 use lib.IntN.{ℤ, pos, negsuc}
 use lib.Ieee.{Float, nan, inf, fin, up}
 use lib.Ieee.Positive.{den}
 use lib.Ieee.Scale.{finite}
-use lib.Ieee.Exact.{HasValue}
 
 -- ---- a finite x is (gain x - loss x) / den x, one of the two being 0
 abbrev pub gain : Float → ℕ
@@ -34,14 +33,6 @@ pub record Within (x : Float) (p n c r : ℕ) : Type 0 where
 -- x is finite, and is the natural number k
 abbrev pub IsWhole : Float → ℕ → Type 0
 IsWhole x k = IsValue x k 0 1
-
--- x is finite, its sign is +, and x ≤ n
-pub record UpTo (x : Float) (n : ℕ) : Type 0 where
-  pub top : ℕ
-  pub bottom : ℕ
-  pub bottom-pos : 0 < bottom
-  pub value : HasValue x false top bottom
-  pub at-most : top ≤ n * bottom
 
 -- ---- integers and naturals
 -- an integer z is plusPart z - minusPart z, one of the two being 0

@@ -2,7 +2,7 @@
 ghost use mathlib.Core.Path.{_≡_};
 ghost use lib.Ieee.{binary32, ofBits, toBits, toUnsigned};
 ghost use lib.Ieee.Scale.{finite};
-ghost use Rattle.float32.specs.Float32.{abs as absOf, lift, between, roundHalfAway};
+ghost use Rattle.float32.specs.Float32.{abs as absOf, lift, between, Rounds};
 
 // |x|: -0.0 becomes 0.0, and a NaN stays. One comparison, so that a loop over many values vectorises.
 pub fn abs(x: f32) -> f32
@@ -77,7 +77,7 @@ pub enum Rounded {
 // Rust's `x.round()`: a half goes away from zero. Above 2^24 in size, and at a NaN, `Beyond`.
 // Twice a float is exact; x + 0.5 is not, and would round 0.49999997 to 1.
 pub fn round_half_away(x: f32) -> Rounded
-    ensures { λ r. ⌜ r ≡ roundHalfAway x ⌝ }
+    ensures { λ r. ⌜ Rounds x r ⌝ }
 {
     let a = abs(x);
     if a <= 16777216.0 {

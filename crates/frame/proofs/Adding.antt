@@ -23,14 +23,14 @@ use Rattle.corner_list.specs.CornerList.{Slices, xOf, yOf, strengthOf, placesOf
 use Rattle.corner_list.proofs.Corners.{slices-alike}
 use Rattle.detect.specs.declared.Peaks.{Peaks}
 use Rattle.detect.specs.declared.Peaks.the-variants.{Added, Refused}
-use Rattle.detect.specs.Detect.{Found}
-use Rattle.detect.proofs.Answers.{Clear, added-tells, refused-tells}
+use Rattle.detect.proofs.Answers.{Clear}
 use Rattle.frame_pass.specs.declared.FrameParams.{FrameParams}
 use Rattle.frame_pass.specs.Refusals.{parametersFit}
 use Rattle.frame_pass.proofs.Maps.{ranges}
-use Rattle.patch_corners.specs.PatchCorners.{patchConditions}
+use Rattle.patch_corners.specs.PatchCorners.{patchConditions, BoxAdded}
 use Rattle.patch_corners.proofs.Changing.{placed-places}
 use Rattle.patch_corners.proofs.Centring.{both}
+use Rattle.patch_corners.proofs.Adding.{added-fits, added-short}
 use Rattle.patch_corners.proofs.Patches.{patch-clear}
 use Rattle.frame.specs.Needs.{Ready, Adds}
 
@@ -66,8 +66,8 @@ unfolding parametersFit
 ring-is p e = and-parts (isRing (p .ring)) _ e .0
 
 -- added as a box's list cs is
-module _ (p : FrameParams) (img : List ℕ) (w h x0 y0 x1 y1 : ℕ) (d : List Float) (ready : Ready p img w h (length d)) (cs : List Corner) (held : ℕ) (b : Slices) (answer : Peaks) (b′ : Slices)
-    (found : Found (patchConditions p (boxIn p img w h x0 y0 x1 y1) (length d)) cs held b answer b′) where
+module _ (p : FrameParams) (img : List ℕ) (w h x0 y0 x1 y1 : ℕ) (d : List Float) (ready : Ready p img w h (length d)) (cs : List Corner) (held : ℕ)
+    (b : Slices) (answer : Peaks) (d′ : List Float) (b′ : Slices) (added : BoxAdded p (boxIn p img w h x0 y0 x1 y1) cs held d b answer d′ b′) where
   unrefused : Clear (patchConditions p (boxIn p img w h x0 y0 x1 y1) (length d))
   unrefused =
       let r = ranges p (ready .sound .fit) in
@@ -84,8 +84,8 @@ module _ (p : FrameParams) (img : List ℕ) (w h x0 y0 x1 y1 : ℕ) (d : List Fl
 
   pub box-adds : Adds cs held b answer b′
   box-adds = record {
-    added = λ n q. let t = added-tells _ unrefused cs held b answer b′ found n q in (t .count, t .fits, t .buffer);
-    refused = λ k q. refused-tells _ unrefused cs held b answer b′ found k q .short;
+    added = λ n q. let t = added-fits p (boxIn p img w h x0 y0 x1 y1) cs held d b answer d′ b′ added n q in (t .count, t .fits, t .buffer);
+    refused = λ k q. added-short p (boxIn p img w h x0 y0 x1 y1) cs held d b answer d′ b′ added unrefused k q;
   }
 
 -- ---- one list behind another: cs stand first in b, which was b₀

@@ -11,7 +11,7 @@ use borrow.Author.Tests.{le-ltb, ne-eqb}
 use Rattle.lists.specs.Places.{All}
 use Rattle.lists.specs.Tab.{tab}
 use Rattle.lists.specs.Buffer.{front, wipedFrom}
-use Rattle.lists.specs.Refusals.{lowest}
+use Rattle.lists.specs.Refusals.{lowest, valuesUnless}
 use Rattle.float32.specs.Float32 as float32
 use Rattle.pyramid.specs.Pyramid.{above}
 use Rattle.pyramid.specs.Build.{Built}
@@ -32,7 +32,8 @@ use Rattle.frame.specs.declared.FrameAnswer.{FrameAnswer}
 use Rattle.frame.specs.declared.FrameAnswer.the-variants.{Corners, Refused}
 use Rattle.frame.specs.declared.search.Lists.{Lists}
 use Rattle.frame_pass.specs.Refusals.{conditions}
-use Rattle.frame.specs.Frame.{Buffers, buffers, tooMany, refusalOf, paddedCorners, padded, finished, wiped, leaving, answerOf, numberOf, frame, frameOf, Found}
+use Rattle.frame.specs.Frame.{Buffers, buffers, tooMany, refusalOf, paddedCorners, padded, finished, wiped, leaving}
+use Rattle.frame.specs.Frame.{answerOf, numberOf, valuesOf, frame, frameOf, Found}
 use Rattle.clearing.specs.Clearing.{clearedFrom}
 use Rattle.frame.specs.Needs.{Searched, keptOf, Merging}
 use Rattle.frame_pass.proofs.Refusals.{Admitted, not-ten}
@@ -42,6 +43,10 @@ use Rattle.frame.proofs.Padded.{SameLengths, padded-none, cleared-front
 number-is : (k n : ℕ) → numberOf (answerOf k n) ≡ k
 number-is zero n = refl
 number-is (suc k) n = refl
+
+values-are : (k n : ℕ) → valuesOf (answerOf k n) ≡ valuesUnless k (n ∷ [])
+values-are zero n = refl
+values-are (suc k) n = refl
 
 module _ (p : FrameParams) (img : List ℕ) (w h : ℕ) (b : Buffers) where
   abbrev pub pass : Pass
@@ -54,6 +59,7 @@ module _ (p : FrameParams) (img : List ℕ) (w h : ℕ) (b : Buffers) where
   found-by k e answer b′ a l = record {
     is = ap₂ frame a l ∙ ap (λ (n : ℕ). frame (answerOf n (length (pass .corners))) (leaving n (above img w h (levelsIn p img w h)) pass b)) (sym e);
     number = ap numberOf a ∙ number-is k (length (pass .corners)) ∙ sym e;
+    values = ap valuesOf a ∙ values-are k (length (pass .corners)) ∙ ap (λ (n : ℕ). valuesUnless n (length (pass .corners) ∷ [])) (sym e);
   }
 
   -- refused before the pass

@@ -53,7 +53,8 @@ module _ (p : FrameParams) (img : List ℕ) (w h n : ℕ) (levels : List ℕ) (b
         let area : levelSide w k * levelSide h k ≤ w * h = mul-le-mul (side-le w k) (side-le h k) in
         let fine : Ready p last lw lh (length d) =
         rw (pixels, wide, high) (record { sound = sound-level p img w h (ready .sound) k; enough = omega (arith, area, ready .enough) }) in
-        adds-to _ 0 b _ answer b′ (rw (pixels, wide, high)) (box-adds p last lw lh 0 0 lw lh d fine (cornersIn p (computedChoice p) (boxIn p last lw lh 0 0 lw lh)) 0 b answer b′ (patched .found))
+        adds-to _ 0 b _ answer b′ (rw (pixels, wide, high))
+        (box-adds p last lw lh 0 0 lw lh d fine (cornersIn p (computedChoice p) (boxIn p last lw lh 0 0 lw lh)) 0 b answer d′ b′ patched)
 
 -- neither none nor one
 pub several : (n : ℕ) → (n ≡ 0 → ⊥) → (n ≡ 1 → ⊥) → 1 < n

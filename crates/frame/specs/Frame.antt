@@ -1,17 +1,18 @@
 -- A frame: the refusals, the answer, and every buffer after it, by one equation with the pass.
 use Prim.Native.Nat.{ℕ, zero, suc, _-_}
 use mathlib.Core.Path.{_≡_}
-use mathlib.Core.Bool.{Bool, cond, _||_}
+use mathlib.Core.Bool.{Bool, _||_}
 use mathlib.Core.List.{List, [], _∷_, _++_, map}
 use lib.ListN.{length, replicate}
-use lib.Dec.{ltb, eqb}
+use lib.Dec.{ltb}
 use lib.Ieee.{Float}
 use Rattle.lists.specs.Buffer.{front}
-use Rattle.lists.specs.Refusals.{lowest}
+use Rattle.lists.specs.Refusals.{lowest, valuesUnless}
 use Rattle.float32.specs.Float32 as float32
 use Rattle.pyramid.specs.Pyramid.{above}
 use Rattle.corner_list.specs.CornerList.{Slices, slices, xOf, yOf, strengthOf, placesOf}
 use Rattle.corner_list.specs.declared.Corner.{Corner}
+use Rattle.clearing.specs.Clearing.{leftBy}
 use Rattle.frame_pass.specs.declared.FrameParams.{FrameParams}
 use Rattle.frame_pass.specs.Refusals.{conditions}
 use Rattle.frame_pass.specs.Pass.{Pass, framePass, computedChoice, levelsIn}
@@ -56,10 +57,9 @@ finished levels q b = buffers (padded [] (b .map)) (front levels (b .levels)) (p
 abbrev pub wiped : Buffers → Buffers
 wiped b = buffers (padded [] (b .map)) (replicate (length (b .levels)) 0) (paddedCorners [] (b .seeds)) (paddedCorners [] (b .corners))
 
--- any other refusal changes nothing
+-- by the number: any other refusal changes nothing
 abbrev pub leaving : ℕ → List ℕ → Pass → Buffers → Buffers
-leaving zero levels q b = finished levels q b
-leaving (suc n) levels q b = cond (eqb (suc n) 10) (wiped b) b
+leaving n levels q b = leftBy n (finished levels q b) (wiped b) b
 
 -- ---- the promise
 
@@ -92,7 +92,8 @@ frameOf p img w h b =
     let n = refusalOf p img w h b in
     frame (answerOf n (length (q .corners))) (leaving n (above img w h (levelsIn p img w h)) q b)
 
--- what `find_corners` promises: answer and buffers by one equation, and the answer's number
+-- what `find_corners` promises: answer and buffers by one equation, and the answer's number and values
 pub record Found (p : FrameParams) (img : List ℕ) (w h : ℕ) (b : Buffers) (answer : FrameAnswer) (b′ : Buffers) : Type 0 where
   pub is : frame answer b′ ≡ frameOf p img w h b
   pub number : numberOf answer ≡ refusalOf p img w h b
+  pub values : valuesOf answer ≡ valuesUnless (refusalOf p img w h b) (length (framePass p img w h (computedChoice p) .corners) ∷ [])

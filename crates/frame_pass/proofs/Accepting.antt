@@ -66,7 +66,7 @@ module _ (p : FrameParams) (v : View) where
   Exactly = exact (λ q. fifthsIn v (q .x) (q .y)) (searchOn p v .threshold)
 
   abbrev Start : Place → Corner
-  Start = startAt (cells v) (cols v)
+  Start = startAt (cells v) (searchOn p v)
 
   abbrev Centre : Corner → Corner
   Centre = centred (p .centroid) (cells v) (cols v) (rows v)
@@ -110,7 +110,7 @@ module _ (p : FrameParams) (v : View) where
 
 -- the corners of a map are its peaks, each at its centre of mass
 pub corners-centred : (p : FrameParams) (v : View) (choose : Choice) → Fine p v → IsChoice p choose
-    → cornersIn p choose v ≡ map (centred (p .centroid) (cells v) (cols v) (rows v)) (map (startAt (cells v) (cols v)) (choose v))
+    → cornersIn p choose v ≡ map (centred (p .centroid) (cells v) (cols v) (rows v)) (map (startAt (cells v) (searchOn p v)) (choose v))
 unfolding cornersIn
 corners-centred p v choose f c =
     flatMap-single (localized p v) (Centre p v) (map (Start p v) (choose v))

@@ -27,7 +27,8 @@ use Rattle.multiscale.specs.Multiscale.{roiOf}
 use Rattle.multiscale.specs.Promise as multiscale
 use Rattle.multiscale.proofs.Box.{box-inside, not-refused}
 use Rattle.frame_pass.specs.declared.FrameParams.{FrameParams}
-use Rattle.frame_pass.specs.Pass.{Choice, landed, moved, localized, cornersIn, levelsIn, levelView, contextAt, patchOf, seedPatch, cornersOn, cornersAbout, seedsOf, foundOf, framePass}
+use Rattle.frame_pass.specs.Pass.{Choice, searchOn, landed, moved, localized, cornersIn}
+use Rattle.frame_pass.specs.Pass.{levelsIn, levelView, contextAt, patchOf, seedPatch, cornersOn, cornersAbout, seedsOf, foundOf, framePass}
 use Rattle.frame_pass.specs.Theorems.{Sound, CornersInside, BoxesAnswered}
 use Rattle.frame_pass.proofs.Maps.{ranges, Fine, map-usual, fine-box, fine-level}
 
@@ -49,8 +50,8 @@ module _ (p : FrameParams) (v : View) (choose : Choice) where
     pub corners-all : All P (cornersIn p choose v)
     unfolding cornersIn
     corners-all =
-        all-flat P (localized p v) (map (startAt (cells v) (cols v)) (choose v))
-        (all-of (λ c. All P (localized p v c)) (λ c. landed-all c _ refl) (map (startAt (cells v) (cols v)) (choose v)))
+        all-flat P (localized p v) (map (startAt (cells v) (searchOn p v)) (choose v))
+        (all-of (λ c. All P (localized p v c)) (λ c. landed-all c _ refl) (map (startAt (cells v) (searchOn p v)) (choose v)))
 
   module _ (f : Fine p v) where
     pub map-inside : All (λ c. isInside c ≡ true) (cornersIn p choose v)

@@ -21,7 +21,7 @@ use Rattle.pyramid.specs.Pyramid.{levelPixels}
 use Rattle.pyramid_levels.proofs.Sides.{side-le}
 use Rattle.pyramid.proofs.Lengths.{length-level}
 use Rattle.pyramid.proofs.Levels.{level-bytes}
-use Rattle.center_of_mass.specs.Range.{Usual}
+use Rattle.center_of_mass.proofs.Weights.{Usual}
 use Rattle.multiscale.specs.declared.RoiAnswer.{RoiAnswer}
 use Rattle.multiscale.specs.declared.RoiAnswer.the-variants as roi
 use Rattle.multiscale.specs.Multiscale.{roiOf}

@@ -8,7 +8,6 @@ use Rattle.response.specs.Patch.{View}
 use Rattle.corner_list.specs.declared.Corner.{Corner}
 use Rattle.frame_pass.specs.declared.FrameParams.{FrameParams}
 use Rattle.frame_pass.specs.Pass.{Choice, computedChoice, exactChoice, cornersIn, levelsIn, levelView, seedPatch, cornersOn, cornersAbout, seedsOf, foundOf, framePass, mapsOf, lookedAt}
-use Rattle.frame_pass.specs.Theorems.{PassSame}
 
 module _ (p : FrameParams) (img : List ℕ) (w h : ℕ) (a b : Choice) where
   abbrev Alike : View → Type 0
@@ -48,5 +47,7 @@ module _ (p : FrameParams) (img : List ℕ) (w h : ℕ) (a b : Choice) where
   unfolding framePass lookedAt
   choices-same e = rw (seeds-same (levelsIn p img w h) e, found-same (levelsIn p img w h) e)
 
-pub pass-same : PassSame
+-- the two choices of peaks
+pub pass-same : (p : FrameParams) (img : List ℕ) (w h : ℕ) → All (λ (v : View). computedChoice p v ≡ exactChoice p v) (lookedAt p img w h (exactChoice p))
+    → framePass p img w h (computedChoice p) ≡ framePass p img w h (exactChoice p)
 pass-same p img w h e = choices-same p img w h (computedChoice p) (exactChoice p) e

@@ -60,7 +60,7 @@ module _ (p : FrameParams) where
 
   -- "map, peaks, centroids": the corners of a map, by its own columns and rows
   unfoldable pub cornersIn : Choice → View → List Corner
-  cornersIn choose v = flatMap (localized v) (map (startAt (cells v) (cols v)) (choose v))
+  cornersIn choose v = flatMap (localized v) (map (startAt (cells v) (searchOn v)) (choose v))
 
 -- ---- the pass over an image of w by h
 pub record Pass : Type 0 where

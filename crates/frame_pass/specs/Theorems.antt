@@ -43,9 +43,3 @@ module _ (p : FrameParams) (img : List ℕ) (w h : ℕ) (choose : Choice) where
   abbrev pub BoxesAnswered : Type 0
   BoxesAnswered =
       Sound p img w h → All (λ (s : Corner). (n : ℕ) → roiOf (contextAt p img w h (levelsIn p img w h - 1)) s ≡ Refused n → ⊥) (framePass p img w h choose .seeds)
-
--- where the two choices are alike on each map that the exact pass looks at, the two passes are one
-abbrev pub PassSame : Type 0
-PassSame =
-    (p : FrameParams) (img : List ℕ) (w h : ℕ) → All (λ (v : View). computedChoice p v ≡ exactChoice p v) (lookedAt p img w h (exactChoice p))
-    → framePass p img w h (computedChoice p) ≡ framePass p img w h (exactChoice p)

@@ -58,14 +58,14 @@ module _ (b : Slices) (count : ℕ) (before : List ℕ) where
   unfolding listing
   too-many h =
       let t = lt-ltb 512 count h in
-      record { answer = rw t; number = rw t; text = rw t }
+      record { answer = rw t; number = rw t; values = rw t; text = rw t }
 
   pub all-written : count ≤ 512 → (end : ℕ) (after : List ℕ) → Wrote (cornersText (cornersOf b count)) 0 before end after → CornersWritten b count before (Text end) after
   unfolding listing
   all-written h end after w =
       let t = le-ltb 512 count h in
       let is = wrote-first w in
-      record { answer = rw t (ap Text (is .0)); number = rw t; text = rw t (is .1) }
+      record { answer = rw t (ap Text (is .0)); number = rw t; values = rw t (ap (λ (n : ℕ). n ∷ []) (is .0)); text = rw t (is .1) }
 
 -- ---- what a caller learns
 

@@ -6,7 +6,7 @@ use mathlib.Core.List.{List, [], _∷_}
 use lib.ListN.{length}
 use lib.Dec.{ltb}
 use Rattle.lists.specs.Buffer.{front}
-use Rattle.lists.specs.Refusals.{lowest}
+use Rattle.lists.specs.Refusals.{lowest, valuesUnless}
 use Rattle.corner_list.specs.CornerList.{Slices, cornersOf}
 use Rattle.listing.specs.declared.Listing.{Listing}
 use Rattle.listing.specs.declared.Listing.the-variants.{Text, Refused}
@@ -37,12 +37,17 @@ bufferAfter (written text) buffer = front text buffer
 bufferAfter (refused n) buffer = buffer
 
 -- 10: "a list's stated count exceeds its room", which has 512 places
+abbrev pub refusalOf : ℕ → ℕ
+refusalOf count = lowest ((ltb 512 count, 10) ∷ [])
+
+-- the listing of the first `count` corners of a buffer
 unfoldable pub listing : Slices → ℕ → Outcome
 listing b count = cond (ltb 512 count) (refused 10) (written (cornersText (cornersOf b count)))
 
 pub record CornersWritten (b : Slices) (count : ℕ) (buffer : List ℕ) (r : Listing) (after : List ℕ) : Type 0 where
   pub answer : r ≡ answerOf (listing b count)
-  pub number : numberOf r ≡ lowest ((ltb 512 count, 10) ∷ [])
+  pub number : numberOf r ≡ refusalOf count
+  pub values : valuesOf r ≡ valuesUnless (refusalOf count) (length (cornersText (cornersOf b count)) ∷ [])
   pub text : after ≡ bufferAfter (listing b count) buffer
 
 pub record RefusalWritten (number : ℕ) (buffer : List ℕ) (end : ℕ) (after : List ℕ) : Type 0 where

@@ -11,7 +11,7 @@ use Rattle.lists.proofs.Members.{all-row, all-block}
 
 -- ---- in two parts
 
-counted-add : (a n k : ℕ) → counted a (n + k) ≡ counted a n ++ counted (a + n) k
+pub counted-add : (a n k : ℕ) → counted a (n + k) ≡ counted a n ++ counted (a + n) k
 unfolding counted
 counted-add a zero k = rw (zero-add, add-zero)
 counted-add a (suc n) k = rw (suc-add, add-suc, ← suc-add) (ap (λ (l : List ℕ). a ∷ l) (counted-add (suc a) n k))

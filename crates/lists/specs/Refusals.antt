@@ -1,5 +1,5 @@
--- Numbered conditions of refusal, "lowest number first", and the two that every image and every map is held to.
-use Prim.Native.Nat.{ℕ, _*_, _≤_}
+-- Numbered conditions of refusal, "lowest number first", an answer's values by its number, and the two conditions on every image and every map.
+use Prim.Native.Nat.{ℕ, zero, suc, _*_, _≤_}
 use mathlib.Core.Path.{_≡_}
 use mathlib.Core.Bool.{Bool, cond, not, _||_}
 use mathlib.Core.List.{List, [], _∷_}
@@ -9,6 +9,11 @@ use lib.Dec.{ltb, eqb}
 abbrev pub lowest : List (Bool × ℕ) → ℕ
 lowest [] = 0
 lowest (c ∷ cs) = cond (c .0) (c .1) (lowest cs)
+
+-- the values of an answer with this number: none where it is a refusal
+abbrev pub valuesUnless : {A : Type 0} → ℕ → List A → List A
+valuesUnless zero values = values
+valuesUnless (suc number) values = []
 
 -- 1: "A side above 4,096"
 abbrev pub isLarge : ℕ → ℕ → Bool

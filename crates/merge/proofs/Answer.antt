@@ -3,9 +3,10 @@ use Prim.Native.Nat.{ℕ, zero, suc, _≤_, min}
 use native.Mathlib.Omega.{arith}
 use mathlib.Core.Path.{_≡_, refl, sym, ap, _∙_, subst}
 use mathlib.Core.Bool.{true, false}
-use mathlib.Core.List.{List, []}
+use mathlib.Core.List.{List, [], _∷_}
 use lib.ListN.{length}
 use lib.Ieee.{Float}
+use Rattle.lists.specs.Refusals.{valuesUnless}
 use Rattle.corner_list.specs.declared.Corner.{Corner}
 use Rattle.corner_list.specs.CornerList.{Slices, slices, placesOf, cornersOf}
 use Rattle.corner_list.proofs.Corners.{corners-length, corners-same}
@@ -15,7 +16,7 @@ use Rattle.merge.specs.declared.Merged.the-variants.{Kept, Refused}
 use Rattle.merge_radius.specs.MergeRadius.{isOff}
 use Rattle.merge_refusal.specs.MergeRefusal.{refusalOf}
 use Rattle.merge_grid.specs.MergeGrid.{gridOf, joins}
-use Rattle.merge.specs.Merge.{merged, resultOf, answerOf, bufferOf, Merges}
+use Rattle.merge.specs.Merge.{merged, resultOf, answerOf, valuesOf, bufferOf, Merges}
 use Rattle.merge.specs.Search.{Left}
 
 -- ---- what is left of a list: all of it, as it came, or what merging leaves
@@ -33,12 +34,17 @@ left-on radius b n g k b′ e is l = subst (λ (cs : List Corner). Left cs b k b
     same = unfold resultOf in (rw (e, is (b .strengths)))
 
 -- ---- the answer
+pub values-are : (k n : ℕ) → valuesOf (answerOf k n) ≡ valuesUnless k (n ∷ [])
+values-are zero n = refl
+values-are (suc k) n = refl
+
 module _ (radius : Float) (places count : ℕ) (b : Slices) where
   pub merges-refused : (k : ℕ) → k ≡ refusalOf radius places count b → (k ≡ 0 → ⊥) → Merges radius places count b (Refused k) b
   merges-refused zero e h = absurd (h refl)
   merges-refused (suc k) e h = record {
     answered = ap (λ (m : ℕ). answerOf m (length (resultOf radius (cornersOf b count)))) e;
     number = e;
+    values = ap (λ (m : ℕ). valuesUnless m (length (resultOf radius (cornersOf b count)) ∷ [])) e;
     buffer = ap (λ (m : ℕ). bufferOf m (resultOf radius (cornersOf b count)) b) e;
   }
 
@@ -47,6 +53,7 @@ module _ (radius : Float) (places count : ℕ) (b : Slices) where
       let f : zero ≡ refusalOf radius places count b = sym z ∙ e in record {
         answered = ap Kept (l .count) ∙ ap (λ (m : ℕ). answerOf m (length (resultOf radius (cornersOf b count)))) f;
         number = f;
+        values = ap (λ (n : ℕ). n ∷ []) (l .count) ∙ ap (λ (m : ℕ). valuesUnless m (length (resultOf radius (cornersOf b count)) ∷ [])) f;
         buffer = l .buffer ∙ ap (λ (m : ℕ). bufferOf m (resultOf radius (cornersOf b count)) b) f;
       }
 

@@ -8,7 +8,7 @@ use lib.Ieee.{Float, fin, lt, le, add, sub, mul, div, toUnsigned}
 use Rattle.float32.specs.Float32.{zero}
 use Rattle.corner_list.specs.declared.Corner.{Corner}
 use Rattle.merge_radius.specs.MergeRadius.{isOff}
-use Rattle.merge_grid.specs.MergeGrid.{gridOf, near, neighbours}
+use Rattle.merge_grid.specs.MergeGrid.{positionOf, gridOf, near, neighbours}
 use Rattle.merge.specs.Merge.{merged, resultOf}
 
 module _ (s t u : Float) where
@@ -31,7 +31,11 @@ module _ (s t u : Float) where
   unfolding resultOf isOff gridOf near neighbours lt le add sub mul div toUnsigned
   all-stay = refl
 
-  pub two-by-distance : (b : Bool) → lt s t ≡ b → merged (near (gridOf one given)) [] given ≡ cond b second first ∷ third ∷ []
+  -- by distance alone
+  abbrev pub near-by : Corner → Corner → Bool
+  near-by c o = near (gridOf one given) (positionOf c) (positionOf o)
+
+  pub two-by-distance : (b : Bool) → lt s t ≡ b → merged near-by [] given ≡ cond b second first ∷ third ∷ []
   unfolding gridOf near le add sub mul div
   two-by-distance true e = rw e
   two-by-distance false e = rw e

@@ -3,7 +3,7 @@ pub mod Slots
 pub mod Indexing
 pub mod Nearby
 pub mod Settle
-pub mod Progress
+pub mod Stepping
 pub mod Answer
 pub mod Result
 pub mod Cases

@@ -7,10 +7,10 @@ use mathlib.Core.Logic.{_⊎_, inl, inr, ⊎-elim}
 use mathlib.Core.Bool.{true}
 use mathlib.Core.List.{List}
 use lib.ListN.{length}
-use Rattle.corner_list.specs.declared.Corner.{Corner}
-use Rattle.corner_list.specs.CornerList.{Slices, cornerAt}
+use lib.Ieee.{Float}
 use Rattle.merge_grid.specs.declared.Grid.{Grid}
-use Rattle.merge_grid.specs.MergeGrid.{columnOf, rowOf}
+use Rattle.merge_grid.specs.declared.Position.{Position}
+use Rattle.merge_grid.specs.MergeGrid.{positionAt, columnOf, rowOf}
 use Rattle.merge_grid.proofs.Joined.{Beside, joined-cells}
 use Rattle.merge.specs.Search.{joinsAt}
 use Rattle.merge.specs.Index.{empty, pairOf, homeOf, Listed, Indexed}
@@ -18,28 +18,35 @@ use Rattle.merge.specs.Index.{empty, pairOf, homeOf, Listed, Indexed}
 pairs-near : (a n : ℕ) → Beside a n → (pairOf n ≡ a / 2) ⊎ (pairOf n ≡ a / 2 + 1)
 pairs-near a n w = elim (decLt (a / 2) (pairOf n)) [ yes l ↦ inr (omega arith) | no l ↦ inl (omega arith) ]
 
-module _ (g : Grid) (floor : ℕ) (table : List ℕ) (b : Slices) (k : ℕ) (index : Indexed g floor table b k) (c : Corner) (x y : ℕ)
-    (ex : x ≡ columnOf g c / 2) (ey : y ≡ rowOf g c / 2) where
+module _ (g : Grid) (floor : ℕ) (table : List ℕ) (xs ys : List Float) (k : ℕ) (index : Indexed g floor table xs ys k) (p : Position) (x y : ℕ)
+    (ex : x ≡ columnOf g p / 2) (ey : y ≡ rowOf g p / 2) where
   abbrev At : ℕ → ℕ → ℕ → Type 0
   At u v i = Listed table (homeOf (length table) u v) i
 
-  pub all-near : k ≤ empty → floor ≤ rowOf g c → (i : ℕ) → i < k → joinsAt g c b i ≡ true → (At x y i ⊎ At (x + 1) y i) ⊎ (At x (y + 1) i ⊎ At (x + 1) (y + 1) i)
+  -- one of the four homes
+  abbrev Near : ℕ → Type 0
+  Near i = (At x y i ⊎ At (x + 1) y i) ⊎ (At x (y + 1) i ⊎ At (x + 1) (y + 1) i)
+
+  pub all-near : k ≤ empty → floor ≤ rowOf g p → (i : ℕ) → i < k → joinsAt g p xs ys i ≡ true → Near i
   all-near small low i l t =
-      let o = cornerAt b i in
-      let beside = joined-cells g c o t in
-      ⊎-elim (λ far. absurd (let no : ⊥ = omega (arith, beside .1 .up) in no)) (by-pairs o beside) (index .each i l (omega arith))
+      let q = positionAt xs ys i in
+      let beside = joined-cells g p q t in
+      ⊎-elim (λ far. absurd (let no : ⊥ = omega (arith, beside .1 .up) in no)) (by-pairs q beside) (index .each i l (omega arith))
     where
       next : (m n : ℕ) → m ≡ n → n + 1 ≡ m + 1
       next m n e = ap (λ (q : ℕ). q + 1) (sym e)
 
-      by-pairs : (o : Corner) → Beside (columnOf g c) (columnOf g o) × Beside (rowOf g c) (rowOf g o) → At (pairOf (columnOf g o)) (pairOf (rowOf g o)) i → (At x y i ⊎ At (x + 1) y i) ⊎ (At x (y + 1) i ⊎ At (x + 1) (y + 1) i)
-      by-pairs o beside d =
-          let u : ℕ = pairOf (columnOf g o) in
-          let v : ℕ = pairOf (rowOf g o) in
-          let across = pairs-near (columnOf g c) (columnOf g o) (beside .0) in
-          let down = pairs-near (rowOf g c) (rowOf g o) (beside .1) in
+      by-pairs : (q : Position) → Beside (columnOf g p) (columnOf g q) × Beside (rowOf g p) (rowOf g q)
+          → At (pairOf (columnOf g q)) (pairOf (rowOf g q)) i → Near i
+      by-pairs q beside d =
+          let u : ℕ = pairOf (columnOf g q) in
+          let v : ℕ = pairOf (rowOf g q) in
+          let across = pairs-near (columnOf g p) (columnOf g q) (beside .0) in
+          let down = pairs-near (rowOf g p) (rowOf g q) (beside .1) in
           let to : (m n : ℕ) → u ≡ m → v ≡ n → At m n i = λ m n p q. subst (λ (m : ℕ). At m n i) p (subst (λ (n : ℕ). At u n i) q d) in
+          let ex′ = next x _ ex in
+          let ey′ = next y _ ey in
           ⊎-elim
-          (λ p. ⊎-elim (λ q. inl (inl (to x y (p ∙ sym ex) (q ∙ sym ey)))) (λ q. inr (inl (to x (y + 1) (p ∙ sym ex) (q ∙ next y _ ey)))) down)
-          (λ p. ⊎-elim (λ q. inl (inr (to (x + 1) y (p ∙ next x _ ex) (q ∙ sym ey)))) (λ q. inr (inr (to (x + 1) (y + 1) (p ∙ next x _ ex) (q ∙ next y _ ey)))) down)
+          (λ a. ⊎-elim (λ d. inl (inl (to x y (a ∙ sym ex) (d ∙ sym ey)))) (λ d. inr (inl (to x (y + 1) (a ∙ sym ex) (d ∙ ey′)))) down)
+          (λ a. ⊎-elim (λ d. inl (inr (to (x + 1) y (a ∙ ex′) (d ∙ sym ey)))) (λ d. inr (inr (to (x + 1) (y + 1) (a ∙ ex′) (d ∙ ey′)))) down)
           across

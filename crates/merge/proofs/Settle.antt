@@ -2,18 +2,18 @@
 use Prim.Native.Nat.{ℕ, zero, suc, _+_, _<_, _≤_}
 use native.Mathlib.Nat.{not-suc-le-zero}
 use native.Mathlib.Omega.{arith}
-use mathlib.Core.Path.{_≡_, refl, sym, ap, _∙_, subst}
+use mathlib.Core.Path.{_≡_, refl, sym, ap, _∙_}
 use mathlib.Core.Logic.{inl, inr}
 use mathlib.Core.Bool.{Bool, true, false, cond}
 use mathlib.Core.List.{List, [], _∷_, _++_}
 use lib.ListN.{length, getD, set, length-set, length-append}
-use lib.Seq.{set-getD, set-out}
+use lib.Seq.{set-getD}
 use borrow.Author.Tests.{eq-eqb, ne-eqb}
 use lib.Ieee.{lt}
 use Rattle.lists.proofs.Tests.{is-false}
 use Rattle.corner_list.specs.declared.Corner.{Corner}
 use Rattle.corner_list.specs.CornerList.{Slices, placesOf, cornerAt, cornersOf, withCorner, frontCorners}
-use Rattle.corner_list.proofs.Corners.{slices-alike, corners-length, corners-at, corners-same, corners-set, corners-next}
+use Rattle.corner_list.proofs.Corners.{with-corner-outside, corners-length, corners-at, corners-same, corners-set, corners-next}
 use Rattle.merge.specs.Merge.{stronger, settle}
 use Rattle.merge.specs.Search.{IsFirst, countWith, Settled, Takes}
 use Rattle.merge.specs.Index.{empty}
@@ -25,14 +25,14 @@ module _ (j : Corner → Corner → Bool) (c d : Corner) where
   by-test o kept t e = ap (λ (b : Bool). cond b (stronger c o ∷ kept) (o ∷ settle j kept c)) e
 
   -- a corner that joins none comes last
-  settle-none : (kept : List Corner) → ((i : ℕ) → i < length kept → j c (getD kept i d) ≡ true → ⊥) → settle j kept c ≡ kept ++ (c ∷ [])
+  pub settle-none : (kept : List Corner) → ((i : ℕ) → i < length kept → j c (getD kept i d) ≡ true → ⊥) → settle j kept c ≡ kept ++ (c ∷ [])
   settle-none [] h = refl
   settle-none (o ∷ kept) h =
       by-test o kept false (is-false (j c o) (h 0 (omega arith)))
       ∙ ap (λ (l : List Corner). o ∷ l) (settle-none kept (λ i l. h (suc i) (omega arith)))
 
   -- one that joins takes the place of the first that it joins, if it is stronger
-  settle-some : (kept : List Corner) (i : ℕ) → i < length kept → ((m : ℕ) → m < i → j c (getD kept m d) ≡ true → ⊥) → j c (getD kept i d) ≡ true
+  pub settle-some : (kept : List Corner) (i : ℕ) → i < length kept → ((m : ℕ) → m < i → j c (getD kept m d) ≡ true → ⊥) → j c (getD kept i d) ≡ true
       → settle j kept c ≡ set kept i (stronger c (getD kept i d))
   settle-some [] i l h t = absurd (not-suc-le-zero l)
   settle-some (o ∷ kept) zero l h t = by-test o kept true t
@@ -110,23 +110,19 @@ module _ (j : Corner → Corner → Bool) (k : ℕ) (c : Corner) (b : Slices) (f
           known = inl (omega arith);
         }
 
-    -- it is dropped: r is past the end of each slice
-    pub takes-none : (r : ℕ) → length (b .xs) ≤ r → length (b .ys) ≤ r → length (b .strengths) ≤ r → empty ≤ r
-        → lt (o .strength) (c .strength) ≡ false → Takes j k c b r
-    takes-none r p q s far t =
+    -- it is dropped: r is no place of the buffer
+    pub takes-none : (r : ℕ) → placesOf b ≤ r → empty ≤ r → lt (o .strength) (c .strength) ≡ false → Takes j k c b r
+    takes-none r out far t =
         let e : settle j Kept c ≡ Kept = there false t ∙ ap (set Kept i) (sym here) ∙ set-getD Kept i c in
         record {
           settled = record {
             count = as-many r (λ (q : r ≡ k). let no : ⊥ = omega arith in no) ∙ sym (ap length e);
-            buffer =
-                slices-alike (set-out (b .xs) r (c .x) p) (set-out (b .ys) r (c .y) q) (set-out (b .strengths) r (c .strength) s)
-                ∙ starts
-                ∙ ap (λ (l : List Corner). frontCorners l b) (sym e);
+            buffer = with-corner-outside r c b out ∙ starts ∙ ap (λ (l : List Corner). frontCorners l b) (sym e);
           };
           known = inr far;
         }
 
--- ---- the corner at place i put in the place that it takes
-pub settled-put : (j : Corner → Corner → Bool) (k : ℕ) (c o : Corner) (b : Slices) (r n : ℕ) (b′ : Slices) → c ≡ o → Takes j k c b r → n ≡ countWith k r → b′ ≡ withCorner r c b → Settled j k o b n b′
-settled-put j k c o b r n b′ is t e put =
-    subst (λ (c : Corner). Settled j k c b n b′) is (record { count = e ∙ t .settled .count; buffer = put ∙ t .settled .buffer })
+-- ---- the corner put in the place that it takes
+pub settled-put : (j : Corner → Corner → Bool) (k : ℕ) (c : Corner) (b : Slices) (r n : ℕ) (b′ : Slices) → Takes j k c b r → n ≡ countWith k r
+    → b′ ≡ withCorner r c b → Settled j k c b n b′
+settled-put j k c b r n b′ t e put = record { count = e ∙ t .settled .count; buffer = put ∙ t .settled .buffer }

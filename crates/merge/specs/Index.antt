@@ -4,10 +4,10 @@ use mathlib.Core.Path.{_≡_}
 use mathlib.Core.Logic.{_⊎_}
 use mathlib.Core.List.{List}
 use lib.ListN.{length, getD}
-use Rattle.corner_list.specs.declared.Corner.{Corner}
-use Rattle.corner_list.specs.CornerList.{Slices, cornerAt}
+use lib.Ieee.{Float}
 use Rattle.merge_grid.specs.declared.Grid.{Grid}
-use Rattle.merge_grid.specs.MergeGrid.{columnOf, rowOf}
+use Rattle.merge_grid.specs.declared.Position.{Position}
+use Rattle.merge_grid.specs.MergeGrid.{positionAt, columnOf, rowOf}
 
 -- what an empty slot holds; no place that is listed is as large
 abbrev pub empty : ℕ
@@ -25,9 +25,9 @@ mixOf x y = x % 65536 * 40503 + y % 65536 * 51749
 unfoldable pub homeOf : ℕ → ℕ → ℕ → ℕ
 homeOf slots x y = mixOf x y % 4294967296 * (mixOf x y % 4294967296) / 262144 % slots
 
--- a corner's home
-abbrev pub homeAt : Grid → ℕ → Corner → ℕ
-homeAt g slots c = homeOf slots (pairOf (columnOf g c)) (pairOf (rowOf g c))
+-- the home of a corner, by where it is
+abbrev pub homeAt : Grid → ℕ → Position → ℕ
+homeAt g slots p = homeOf slots (pairOf (columnOf g p)) (pairOf (rowOf g p))
 
 -- whoever looks at the slots from `home` on, up to the first that is empty, meets place i or comes to the table's end
 pub record Listed (table : List ℕ) (home i : ℕ) : Type 0 where
@@ -48,7 +48,11 @@ pub record Lists (table : List ℕ) (home place : ℕ) (table′ : List ℕ) : T
   pub listed : place < empty → Listed table′ home place
   pub still : (h i : ℕ) → i < empty → Listed table h i → Listed table′ h i
 
--- each of the first k corners of a buffer is listed at its home, or lies so far up that no corner from row `floor` on joins it
-pub record Indexed (g : Grid) (floor : ℕ) (table : List ℕ) (b : Slices) (k : ℕ) : Type 0 where
+-- the index lists place i for a corner at p, or it lies so far up that no corner from row `floor` on joins it
+abbrev pub InIndex : Grid → ℕ → List ℕ → Position → ℕ → Type 0
+InIndex g floor table p i = (rowOf g p + 1 < floor) ⊎ Listed table (homeAt g (length table) p) i
+
+-- so for each of the first k corners of a buffer with these columns and rows
+pub record Indexed (g : Grid) (floor : ℕ) (table : List ℕ) (xs ys : List Float) (k : ℕ) : Type 0 where
   pub some : 0 < length table
-  pub each : (i : ℕ) → i < k → i < empty → (rowOf g (cornerAt b i) + 1 < floor) ⊎ Listed table (homeAt g (length table) (cornerAt b i)) i
+  pub each : (i : ℕ) → i < k → i < empty → InIndex g floor table (positionAt xs ys i) i

@@ -1,3 +1,4 @@
 pub mod Merge
 pub mod Search
 pub mod Index
+pub mod Steps

@@ -1,10 +1,12 @@
--- Merging corners (merge.rs): each corner joins the first of the kept ones that it is near, or is kept itself.
+-- Merging corners (merge.rs): each corner joins the first of the kept ones that is near and in a neighbouring cell of the grid, and replaces it
+-- if it is strictly stronger; where there is none it is kept.
 use Prim.Native.Nat.{ℕ, zero, suc}
 use mathlib.Core.Path.{_≡_}
 use mathlib.Core.Bool.{Bool, cond}
 use mathlib.Core.List.{List, [], _∷_}
 use lib.ListN.{length}
 use lib.Ieee.{Float, lt}
+use Rattle.lists.specs.Refusals.{valuesUnless}
 use Rattle.corner_list.specs.declared.Corner.{Corner}
 use Rattle.corner_list.specs.CornerList.{Slices, cornersOf, frontCorners}
 use Rattle.merge_radius.specs.MergeRadius.{isOff}
@@ -54,8 +56,9 @@ abbrev pub bufferOf : ℕ → List Corner → Slices → Slices
 bufferOf zero left b = frontCorners left b
 bufferOf (suc k) left b = b
 
--- What merging the first `count` corners of a buffer of so many places promises of the answer, its number and the buffer after
+-- What merging the first `count` corners of a buffer of so many places promises of the answer, its number and values, and the buffer after
 pub record Merges (radius : Float) (places count : ℕ) (b : Slices) (answer : Merged) (b′ : Slices) : Type 0 where
   pub answered : answer ≡ answerOf (refusalOf radius places count b) (length (resultOf radius (cornersOf b count)))
   pub number : numberOf answer ≡ refusalOf radius places count b
+  pub values : valuesOf answer ≡ valuesUnless (refusalOf radius places count b) (length (resultOf radius (cornersOf b count)) ∷ [])
   pub buffer : b′ ≡ bufferOf (refusalOf radius places count b) (resultOf radius (cornersOf b count)) b

@@ -6,16 +6,18 @@ use mathlib.Core.Bool.{Bool, true, cond}
 use mathlib.Core.List.{List}
 use lib.ListN.{length}
 use lib.Dec.{eqb}
+use lib.Ieee.{Float}
 use Rattle.corner_list.specs.declared.Corner.{Corner}
-use Rattle.corner_list.specs.CornerList.{Slices, placesOf, cornerAt, cornersOf, withCorner, frontCorners}
+use Rattle.corner_list.specs.CornerList.{Slices, placesOf, cornersOf, withCorner, frontCorners}
 use Rattle.merge_grid.specs.declared.Grid.{Grid}
-use Rattle.merge_grid.specs.MergeGrid.{joins}
+use Rattle.merge_grid.specs.declared.Position.{Position}
+use Rattle.merge_grid.specs.MergeGrid.{positionAt, meets}
 use Rattle.merge.specs.Merge.{settle}
 use Rattle.merge.specs.Index.{empty}
 
--- whether c joins the corner at a place of a buffer
-abbrev pub joinsAt : Grid → Corner → Slices → ℕ → Bool
-joinsAt g c b i = joins g c (cornerAt b i)
+-- whether a corner at p joins the one at place i of a buffer with these columns and rows
+abbrev pub joinsAt : Grid → Position → List Float → List Float → ℕ → Bool
+joinsAt g p xs ys i = meets g p (positionAt xs ys i)
 
 -- r is the first of the numbers below n that passes a test, or n if none does
 pub record IsFirst (f : ℕ → Bool) (n r : ℕ) : Type 0 where

@@ -9,11 +9,10 @@ ghost use mathlib.Core.Logic.{_⊎_};
 ghost use Prim.Native.Nat.{_+_, _<_, _≤_};
 ghost use lib.ListN.{length};
 ghost use lib.Dec.{leb};
-ghost use Rattle.corner_list.specs.CornerList.{slices};
 ghost use Rattle.merge_grid.specs.MergeGrid.{rowOf};
 ghost use Rattle.merge.specs.Index.{pairOf, homeOf, homeAt, SlotFor, Lists, Indexed};
-use corner_list::Corner;
 use merge_grid::Grid;
+use merge_grid::Position;
 
 // What an empty slot holds.
 pub(crate) const EMPTY: u32 = 4294967295;
@@ -34,13 +33,13 @@ fn pair_of(n: usize) -> usize
     n / 2 + n % 2
 }
 
-// A corner's home.
-fn home_at(g: Grid, slots: usize, c: Corner) -> usize
+// The home of a corner, by where it is.
+fn home_at(g: Grid, slots: usize, p: Position) -> usize
     requires { ⌜ 0 < slots ⌝ }
-    ensures { λ r. ⌜ r ≡ homeAt g slots c ⌝ }
+    ensures { λ r. ⌜ r ≡ homeAt g slots p ⌝ }
 {
-    let x = pair_of(merge_grid::column_of(g, c));
-    let y = pair_of(merge_grid::row_of(g, c));
+    let x = pair_of(merge_grid::column_of(g, p));
+    let y = pair_of(merge_grid::row_of(g, p));
     home_of(slots, x, y)
 }
 
@@ -61,15 +60,15 @@ fn slot_for(table: &[u32], home: usize, place: usize) -> usize
     table.len()
 }
 
-// Lists the place of c, if it is one that a slot can hold.
-pub(crate) fn list_place(table: &mut [u32], g: Grid, place: usize, c: Corner)
+// Lists the place of a corner that is at p, if it is one that a slot can hold.
+pub(crate) fn list_place(table: &mut [u32], g: Grid, place: usize, p: Position)
     requires { ⌜ 0 < length (now table) ⌝ }
-    ensures { λ _. ⌜ Lists (now (table .entry)) (homeAt g (length (now (table .entry))) c) place (now (table .exit)) ⌝ }
+    ensures { λ _. ⌜ Lists (now (table .entry)) (homeAt g (length (now (table .entry))) p) place (now (table .exit)) ⌝ }
 {
     if place < EMPTY as usize {
-        let p = slot_for(table, home_at(g, table.len(), c), place);
-        if p < table.len() {
-            table[p] = place as u32;
+        let slot = slot_for(table, home_at(g, table.len(), p), place);
+        if slot < table.len() {
+            table[slot] = place as u32;
         }
     }
 }
@@ -88,46 +87,32 @@ fn clear(table: &mut [u32]) {
     }
 }
 
-// Lists the place of c, if c reaches `floor`.
-fn list_near(table: &mut [u32], g: Grid, floor: usize, place: usize, c: Corner)
+// Lists the place of a corner that is at p, if it reaches `floor`.
+fn list_near(table: &mut [u32], g: Grid, floor: usize, place: usize, p: Position)
     requires { ⌜ 0 < length (now table) ⌝ }
-    ensures { λ _. ⌜ ((rowOf g c + 1 < floor) × (now (table .exit) ≡ now (table .entry)))
-        ⊎ Lists (now (table .entry)) (homeAt g (length (now (table .entry))) c) place (now (table .exit)) ⌝ }
+    ensures { λ _. ⌜ ((rowOf g p + 1 < floor) × (now (table .exit) ≡ now (table .entry)))
+        ⊎ Lists (now (table .entry)) (homeAt g (length (now (table .entry))) p) place (now (table .exit)) ⌝ }
 {
-    if reaches(floor, merge_grid::row_of(g, c)) {
-        list_place(table, g, place, c);
+    if reaches(floor, merge_grid::row_of(g, p)) {
+        list_place(table, g, place, p);
     }
 }
 
 // Lists the first k corners of a buffer, but those that do not reach `floor`.
-fn list_kept(
-    xs: &[f32],
-    ys: &[f32],
-    strengths: &[f32],
-    table: &mut [u32],
-    g: Grid,
-    floor: usize,
-    k: usize,
-)
+pub(crate) fn list_kept(xs: &[f32], ys: &[f32], table: &mut [u32], g: Grid, floor: usize, k: usize)
     requires { ⌜ 0 < length (now table) ⌝ }
-    ensures { λ _. ⌜ Indexed g floor (now (table .exit)) (slices (now (xs .entry)) (now (ys .entry)) (now (strengths .entry))) k ⌝ }
+    ensures { λ _. ⌜ Indexed g floor (now (table .exit)) (now (xs .entry)) (now (ys .entry)) k ⌝ }
 {
     for i in 0..k {
-        list_near(
-            table,
-            g,
-            floor,
-            i,
-            corner_list::corner_at(xs, ys, strengths, i),
-        );
+        list_near(table, g, floor, i, merge_grid::position_at(xs, ys, i));
     }
 }
 
 // The lowest row of the corners from place `from` up to n.
-fn lowest_row(xs: &[f32], ys: &[f32], strengths: &[f32], g: Grid, from: usize, n: usize) -> usize {
+fn lowest_row(xs: &[f32], ys: &[f32], g: Grid, from: usize, n: usize) -> usize {
     let mut low = 18446744073709551615;
     for i in from..n {
-        let row = merge_grid::row_of(g, corner_list::corner_at(xs, ys, strengths, i));
+        let row = merge_grid::row_of(g, merge_grid::position_at(xs, ys, i));
         if row < low {
             low = row;
         }
@@ -135,26 +120,34 @@ fn lowest_row(xs: &[f32], ys: &[f32], strengths: &[f32], g: Grid, from: usize, n
     low
 }
 
-// Makes the index of the first k corners anew where it is time: at every 65,536th corner of a list of n. Returns the row from which it holds.
+// Row `low`, or at every 65,536th corner of a list of n the lowest row of those from there on.
+pub(crate) fn floor_at(xs: &[f32], ys: &[f32], g: Grid, low: usize, i: usize, n: usize) -> usize {
+    if i % 65536 == 65535 {
+        return lowest_row(xs, ys, g, i, n);
+    }
+    low
+}
+
+// Makes the index of the first k corners anew where it is time: once in half as many corners of the list as the table has slots, so that it
+// does not fill with places that were listed before. Returns the row from which it holds: then `low`, else `floor`.
 pub(crate) fn refresh(
     xs: &[f32],
     ys: &[f32],
-    strengths: &[f32],
     table: &mut [u32],
     g: Grid,
     floor: usize,
+    low: usize,
     k: usize,
     i: usize,
-    n: usize,
 ) -> usize
-    requires { ⌜ Indexed g floor (now table) (slices (now xs) (now ys) (now strengths)) k ⌝ }
-    ensures { λ r. ⌜ Indexed g r (now (table .exit)) (slices (now (xs .entry)) (now (ys .entry)) (now (strengths .entry))) k ⌝ }
+    requires { ⌜ Indexed g floor (now table) (now xs) (now ys) k ⌝ }
+    ensures { λ r. ⌜ Indexed g r (now (table .exit)) (now (xs .entry)) (now (ys .entry)) k ⌝ }
 {
-    if i % 65536 != 65535 {
+    let half = table.len() / 2;
+    if i % (half + 1) != half {
         return floor;
     }
-    let low = lowest_row(xs, ys, strengths, g, i, n);
     clear(table);
-    list_kept(xs, ys, strengths, table, g, low, k);
+    list_kept(xs, ys, table, g, low, k);
     low
 }

@@ -1,4 +1,7 @@
-// Merging corners: of those that are at most a radius apart the strongest is kept.
+// Merging corners. Each corner of a list, in its order, looks among those kept so far whose cells, of a grid as wide as the radius, differ from
+// its own by at most one each way, for the lowest place with a corner at most the radius away. It replaces that corner, in its place, if it is
+// strictly stronger, and is dropped if not; where there is none it is kept behind the others. So two corners nearer than the radius may both
+// stay, and the strongest of several need not: the grid decides who is looked at, and the list's order who is joined.
 mod index;
 mod search;
 mod settling;

@@ -1,13 +1,22 @@
-// The kept corners stand first in the buffer, and each corner of the list is settled among them.
+// The kept corners stand first in the buffer, and each corner of the list is settled among them. Their index is a table on the stack, whose
+// size goes by how many are kept: merging begins with a small table, and goes on with a larger one where they outgrow it.
 ghost use mathlib.Core.Path.{_≡_};
-ghost use mathlib.Core.List.{[]};
 ghost use Prim.Native.Nat.{_+_, _^_, _<_, _≤_};
 ghost use lib.ListN.{length};
 ghost use Rattle.corner_list.specs.CornerList.{slices, cornersOf, placesOf};
 ghost use Rattle.merge_grid.specs.MergeGrid.{joins};
-ghost use Rattle.merge.specs.Merge.{merged, resultOf};
-ghost use Rattle.merge.specs.Search.{countWith, Left};
+ghost use Rattle.merge.specs.Merge.{resultOf};
+ghost use Rattle.merge.specs.Index.{Indexed};
+ghost use Rattle.merge.specs.Search.{countWith, Settled, Left};
+ghost use Rattle.merge.specs.Steps.{start, IsStep, Reaches};
+use corner_list::Corner;
 use merge_grid::Grid;
+
+// How far merging a list has come: so many of its corners are settled, and so many of these are kept.
+struct Step {
+    done: usize,
+    kept: usize,
+}
 
 // How many corners are kept when one takes a place among the first k, or right behind them, or none.
 fn count_with(k: usize, at: usize) -> usize
@@ -17,7 +26,30 @@ fn count_with(k: usize, at: usize) -> usize
     if at == k { k + 1 } else { k }
 }
 
-// Merges the first n corners of a buffer in place, with a table for their index, and returns how many are left.
+// Settles c among the first k corners of a buffer, lists its place, and returns how many are kept then.
+fn settle_corner(
+    xs: &mut [f32],
+    ys: &mut [f32],
+    strengths: &mut [f32],
+    table: &mut [u32],
+    g: Grid,
+    floor: usize,
+    k: usize,
+    c: Corner,
+) -> usize
+    requires { ⌜ k < placesOf (slices (now xs) (now ys) (now strengths)) ⌝ }
+    requires { ⌜ Indexed g floor (now table) (now xs) (now ys) k ⌝ }
+    ensures { λ n. ⌜ Settled (joins g) k c (slices (now (xs .entry)) (now (ys .entry)) (now (strengths .entry)))
+        n (slices (now (xs .exit)) (now (ys .exit)) (now (strengths .exit))) ⌝ }
+    ensures { λ n. ⌜ Indexed g floor (now (table .exit)) (now (xs .exit)) (now (ys .exit)) n ⌝ }
+{
+    let at = crate::search::place_for(xs, ys, strengths, table, g, floor, k, c);
+    corner_list::put_corner(xs, ys, strengths, at, c);
+    crate::index::list_place(table, g, at, merge_grid::position_of(c));
+    count_with(k, at)
+}
+
+// Merges on from a step, with a table for the index: to the end of a list of n corners, or until `most` are kept.
 fn merge_with(
     xs: &mut [f32],
     ys: &mut [f32],
@@ -25,26 +57,108 @@ fn merge_with(
     table: &mut [u32],
     g: Grid,
     n: usize,
-) -> usize
+    s: Step,
+    most: usize,
+) -> Step
     requires { ⌜ n ≤ placesOf (slices (now xs) (now ys) (now strengths)) ⌝ }
     requires { ⌜ 0 < length (now table) ⌝ }
-    ensures { λ k. ⌜ Left (merged (joins g) [] (cornersOf (slices (now (xs .entry)) (now (ys .entry)) (now (strengths .entry))) n))
-        (slices (now (xs .entry)) (now (ys .entry)) (now (strengths .entry))) k (slices (now (xs .exit)) (now (ys .exit)) (now (strengths .exit))) ⌝ }
+    requires { ⌜ IsStep n s ⌝ }
+    ensures { λ r. ⌜ Reaches (joins g) most n (slices (now (xs .entry)) (now (ys .entry)) (now (strengths .entry))) s
+        (slices (now (xs .exit)) (now (ys .exit)) (now (strengths .exit))) r ⌝ }
 {
-    let mut k = 0;
+    let done = s.done;
+    let mut k = s.kept;
     let mut floor = 0;
-    for i in 0..n {
-        floor = crate::index::refresh(xs, ys, strengths, table, g, floor, k, i, n);
-        let p = crate::search::placement_of(xs, ys, strengths, table, g, floor, k, i);
-        corner_list::put_corner(xs, ys, strengths, p.at, p.corner);
-        crate::index::list_place(table, g, p.at, p.corner);
-        k = count_with(k, p.at);
+    let mut low = 0;
+    crate::index::list_kept(xs, ys, table, g, floor, k);
+    for i in done..n {
+        if most <= k {
+            return Step { done: i, kept: k };
+        }
+        low = crate::index::floor_at(xs, ys, g, low, i, n);
+        floor = crate::index::refresh(xs, ys, table, g, floor, low, k, i);
+        let c = corner_list::corner_at(xs, ys, strengths, i);
+        k = settle_corner(xs, ys, strengths, table, g, floor, k, c);
     }
-    k
+    Step { done: n, kept: k }
 }
 
-// Merges the first n corners of a buffer in place, and returns how many are left. It judges nothing. The table stands on the stack: 4 KB for
-// a short list, 512 KB for a longer one.
+// Merges with a table of 8 KB, until 512 corners are kept.
+fn merge_few(xs: &mut [f32], ys: &mut [f32], strengths: &mut [f32], g: Grid, n: usize) -> Step
+    requires { ⌜ n ≤ placesOf (slices (now xs) (now ys) (now strengths)) ⌝ }
+    ensures { λ r. ⌜ Reaches (joins g) 512 n (slices (now (xs .entry)) (now (ys .entry)) (now (strengths .entry))) start
+        (slices (now (xs .exit)) (now (ys .exit)) (now (strengths .exit))) r ⌝ }
+{
+    let s = Step { done: 0, kept: 0 };
+    let mut table = [crate::index::EMPTY; 2048];
+    merge_with(xs, ys, strengths, &mut table, g, n, s, 512)
+}
+
+// Merges on with a table of 128 KB, until 8,192 corners are kept.
+fn merge_more(
+    xs: &mut [f32],
+    ys: &mut [f32],
+    strengths: &mut [f32],
+    g: Grid,
+    n: usize,
+    s: Step,
+) -> Step
+    requires { ⌜ n ≤ placesOf (slices (now xs) (now ys) (now strengths)) ⌝ }
+    requires { ⌜ IsStep n s ⌝ }
+    ensures { λ r. ⌜ Reaches (joins g) 8192 n (slices (now (xs .entry)) (now (ys .entry)) (now (strengths .entry))) s
+        (slices (now (xs .exit)) (now (ys .exit)) (now (strengths .exit))) r ⌝ }
+{
+    let mut table = [crate::index::EMPTY; 32768];
+    merge_with(xs, ys, strengths, &mut table, g, n, s, 8192)
+}
+
+// Merges on with a table of 512 KB, to the end.
+fn merge_most(
+    xs: &mut [f32],
+    ys: &mut [f32],
+    strengths: &mut [f32],
+    g: Grid,
+    n: usize,
+    s: Step,
+) -> Step
+    requires { ⌜ n ≤ placesOf (slices (now xs) (now ys) (now strengths)) ⌝ }
+    requires { ⌜ IsStep n s ⌝ }
+    ensures { λ r. ⌜ Reaches (joins g) n n (slices (now (xs .entry)) (now (ys .entry)) (now (strengths .entry))) s
+        (slices (now (xs .exit)) (now (ys .exit)) (now (strengths .exit))) r ⌝ }
+{
+    let mut table = [crate::index::EMPTY; 131072];
+    merge_with(xs, ys, strengths, &mut table, g, n, s, n)
+}
+
+// Merges to the end of a list of n corners, or until `most` are kept: with smaller tables first, as far as they go. A compiler leaves a function
+// that calls itself, and the functions with a table that it calls, apart: so a table takes stack only while it is used.
+fn merge_up_to(
+    xs: &mut [f32],
+    ys: &mut [f32],
+    strengths: &mut [f32],
+    g: Grid,
+    n: usize,
+    most: usize,
+) -> Step
+    requires { ⌜ n ≤ placesOf (slices (now xs) (now ys) (now strengths)) ⌝ }
+    requires { ⌜ most ≤ n ⌝ }
+    ensures { λ r. ⌜ Reaches (joins g) most n (slices (now (xs .entry)) (now (ys .entry)) (now (strengths .entry))) start
+        (slices (now (xs .exit)) (now (ys .exit)) (now (strengths .exit))) r ⌝ }
+{
+    if most < 512 {
+        return merge_few(xs, ys, strengths, g, n);
+    }
+    let s = merge_up_to(xs, ys, strengths, g, n, most / 16);
+    if n <= s.done {
+        return s;
+    }
+    if most < 8192 {
+        return merge_more(xs, ys, strengths, g, n, s);
+    }
+    merge_most(xs, ys, strengths, g, n, s)
+}
+
+// Merges the first n corners of a buffer in place, and returns how many are left. It judges nothing.
 pub(crate) fn merge_list(
     xs: &mut [f32],
     ys: &mut [f32],
@@ -60,10 +174,6 @@ pub(crate) fn merge_list(
         return n;
     }
     let g = merge_grid::grid_of(xs, ys, n, radius);
-    if n <= 256 {
-        let mut table = [crate::index::EMPTY; 1024];
-        return merge_with(xs, ys, strengths, &mut table, g, n);
-    }
-    let mut table = [crate::index::EMPTY; 131072];
-    merge_with(xs, ys, strengths, &mut table, g, n)
+    let s = merge_up_to(xs, ys, strengths, g, n, n);
+    s.kept
 }

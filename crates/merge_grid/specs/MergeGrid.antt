@@ -2,45 +2,56 @@
 use Prim.Native.Nat.{ℕ, _+_}
 use mathlib.Core.Bool.{Bool, false, cond, _&&_}
 use mathlib.Core.List.{List, [], _∷_, map}
+use lib.ListN.{getD}
 use lib.IntN.{pos}
 use lib.Dec.{leb}
-use lib.Ieee.{Float, inf, fin, binary32, lt, le, add, sub, mul, div, toUnsigned}
+use lib.Ieee.{Float, nan, inf, fin, binary32, lt, le, add, sub, mul, div, toUnsigned}
 use Rattle.corner_list.specs.declared.Corner.{Corner}
 use Rattle.corner_list.specs.CornerList.{xOf, yOf}
 use Rattle.merge_grid.specs.declared.Grid.{Grid}
+use Rattle.merge_grid.specs.declared.Position.{Position}
 
--- A coordinate's cell number: (coordinate - least) × (1 / radius) in f32, cut off as the Rust's `as usize` does. Two things that
--- the Rust does besides never show. It caps the number by the grid's last cell, which it computes from the largest coordinate in
--- the same way, and each of these steps keeps the order. And `as usize` saturates, but a number is at most 2^18: coordinates are
--- at most 4,096 and 1 / radius at most 64.
+-- where a corner is, and where the one at a place of a buffer is: NaN past the end of a slice
+abbrev pub positionOf : Corner → Position
+positionOf c = record { x = c .x; y = c .y }
+
+abbrev pub positionAt : List Float → List Float → ℕ → Position
+positionAt xs ys i = record { x = getD xs i nan; y = getD ys i nan }
+
+-- a coordinate's cell number: (coordinate - least) × (1 / radius) in f32, cut off as the Rust's `as usize` does. The Rust's cap by the
+-- grid's last cell never shows (`CellsAsPublished` of published)
 abbrev pub cellOf : Float → Float → Float → ℕ
 cellOf least inverse v = toUnsigned 64 (mul binary32 (sub binary32 v least) inverse)
 
--- a corner's cell number across, and down
-abbrev pub columnOf : Grid → Corner → ℕ
-columnOf g c = cellOf (g .left) (g .inverse) (c .x)
+-- a position's cell number across, and down
+abbrev pub columnOf : Grid → Position → ℕ
+columnOf g p = cellOf (g .left) (g .inverse) (p .x)
 
-abbrev pub rowOf : Grid → Corner → ℕ
-rowOf g c = cellOf (g .top) (g .inverse) (c .y)
+abbrev pub rowOf : Grid → Position → ℕ
+rowOf g p = cellOf (g .top) (g .inverse) (p .y)
 
 -- two cell numbers that differ by at most one
 abbrev pub adjacent : ℕ → ℕ → Bool
 adjacent a b = leb a (b + 1) && leb b (a + 1)
 
--- two corners whose cell numbers differ by at most one each way
-unfoldable pub neighbours : Grid → Corner → Corner → Bool
-neighbours g c o = adjacent (columnOf g c) (columnOf g o) && adjacent (rowOf g c) (rowOf g o)
+-- two positions whose cell numbers differ by at most one each way
+unfoldable pub neighbours : Grid → Position → Position → Bool
+neighbours g p q = adjacent (columnOf g p) (columnOf g q) && adjacent (rowOf g p) (rowOf g q)
 
 abbrev pub squared : Float → Float
 squared d = mul binary32 d d
 
--- two corners whose squared distance is at most the radius squared, in f32
-unfoldable pub near : Grid → Corner → Corner → Bool
-near g c o = le (add binary32 (squared (sub binary32 (c .x) (o .x))) (squared (sub binary32 (c .y) (o .y)))) (g .square)
+-- two positions whose squared distance is at most the radius squared, in f32
+unfoldable pub near : Grid → Position → Position → Bool
+near g p q = le (add binary32 (squared (sub binary32 (p .x) (q .x))) (squared (sub binary32 (p .y) (q .y)))) (g .square)
 
--- two corners that join: near each other, and in neighbouring cells
+-- two positions whose corners join: near each other, and in neighbouring cells
+abbrev pub meets : Grid → Position → Position → Bool
+meets g p q = near g p q && neighbours g p q
+
+-- two corners that join, whatever their strengths
 abbrev pub joins : Grid → Corner → Corner → Bool
-joins g c o = near g c o && neighbours g c o
+joins g c o = meets g (positionOf c) (positionOf o)
 
 -- the least of m and a list of numbers
 abbrev pub leastFrom : Float → List Float → Float

@@ -1,5 +1,5 @@
 // Which corners join when a list is merged: those near each other whose grid cells differ by at most one each way. No grid is
-// stored; the cell numbers decide.
+// stored; the cell numbers decide. Only where a corner is counts, not its strength.
 ghost use mathlib.Core.Path.{_≡_};
 ghost use mathlib.Core.Bool.{false};
 ghost use mathlib.Core.List.{List, [], _∷_};
@@ -7,8 +7,14 @@ ghost use lib.ListN.{getD};
 ghost use lib.Ieee.{Float, nan, inf};
 ghost use Rattle.lists.specs.Tab.{tab};
 ghost use Rattle.corner_list.specs.CornerList.{slices, cornersOf};
-ghost use Rattle.merge_grid.specs.MergeGrid.{cellOf, columnOf, rowOf, adjacent, neighbours, joins, leastFrom, gridOf};
+ghost use Rattle.merge_grid.specs.MergeGrid.{positionOf, positionAt, cellOf, columnOf, rowOf, adjacent, neighbours, meets, leastFrom, gridOf};
 use corner_list::Corner;
+
+// Where a corner is, in pixels.
+pub struct Position {
+    pub x: f32,
+    pub y: f32,
+}
 
 // The least coordinates of a list of corners, 1 / radius, and the radius squared.
 pub struct Grid {
@@ -16,6 +22,33 @@ pub struct Grid {
     pub top: f32,
     pub inverse: f32,
     pub square: f32,
+}
+
+// Where a corner is.
+pub fn position_of(c: Corner) -> Position
+    ensures { λ p. ⌜ p ≡ positionOf c ⌝ }
+{
+    Position { x: c.x, y: c.y }
+}
+
+// The coordinate at a place of a slice, and NaN past its end.
+fn coordinate_at(vs: &[f32], at: usize) -> f32
+    ensures { λ v. ⌜ v ≡ getD (now (vs .entry)) at nan ⌝ }
+{
+    if at < vs.len() {
+        return vs[at];
+    }
+    0.0 / 0.0
+}
+
+// Where the corner at a place of a buffer is; NaN past the end of a slice.
+pub fn position_at(xs: &[f32], ys: &[f32], at: usize) -> Position
+    ensures { λ p. ⌜ p ≡ positionAt (now (xs .entry)) (now (ys .entry)) at ⌝ }
+{
+    Position {
+        x: coordinate_at(xs, at),
+        y: coordinate_at(ys, at),
+    }
 }
 
 // The lower of two numbers, the second unless the first is below it.
@@ -56,18 +89,18 @@ fn cell_of(least: f32, inverse: f32, v: f32) -> usize
     float32::cut_off((v - least) * inverse)
 }
 
-// A corner's cell number across.
-pub fn column_of(g: Grid, c: Corner) -> usize
-    ensures { λ r. ⌜ r ≡ columnOf g c ⌝ }
+// A position's cell number across.
+pub fn column_of(g: Grid, p: Position) -> usize
+    ensures { λ r. ⌜ r ≡ columnOf g p ⌝ }
 {
-    cell_of(g.left, g.inverse, c.x)
+    cell_of(g.left, g.inverse, p.x)
 }
 
-// A corner's cell number down.
-pub fn row_of(g: Grid, c: Corner) -> usize
-    ensures { λ r. ⌜ r ≡ rowOf g c ⌝ }
+// A position's cell number down.
+pub fn row_of(g: Grid, p: Position) -> usize
+    ensures { λ r. ⌜ r ≡ rowOf g p ⌝ }
 {
-    cell_of(g.top, g.inverse, c.y)
+    cell_of(g.top, g.inverse, p.y)
 }
 
 // Whether two cell numbers differ by at most one.
@@ -77,25 +110,25 @@ fn is_adjacent(a: usize, b: usize) -> bool
     if a < b { b - a <= 1 } else { a - b <= 1 }
 }
 
-// Whether the cells of two corners differ by at most one each way.
-fn are_neighbours(g: Grid, c: Corner, o: Corner) -> bool
-    ensures { λ r. ⌜ r ≡ neighbours g c o ⌝ }
+// Whether the cells of two positions differ by at most one each way.
+fn are_neighbours(g: Grid, p: Position, q: Position) -> bool
+    ensures { λ r. ⌜ r ≡ neighbours g p q ⌝ }
 {
-    if is_adjacent(column_of(g, c), column_of(g, o)) {
-        is_adjacent(row_of(g, c), row_of(g, o))
+    if is_adjacent(column_of(g, p), column_of(g, q)) {
+        is_adjacent(row_of(g, p), row_of(g, q))
     } else {
         false
     }
 }
 
-// Whether c joins o: near enough, and in neighbouring cells.
-pub fn is_joined(g: Grid, c: Corner, o: Corner) -> bool
-    ensures { λ r. ⌜ r ≡ joins g c o ⌝ }
+// Whether corners at two positions join: near enough, and in neighbouring cells.
+pub fn is_joined(g: Grid, p: Position, q: Position) -> bool
+    ensures { λ r. ⌜ r ≡ meets g p q ⌝ }
 {
-    let dx = c.x - o.x;
-    let dy = c.y - o.y;
+    let dx = p.x - q.x;
+    let dy = p.y - q.y;
     if dx * dx + dy * dy <= g.square {
-        are_neighbours(g, c, o)
+        are_neighbours(g, p, q)
     } else {
         false
     }

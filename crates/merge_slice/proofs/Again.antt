@@ -1,11 +1,14 @@
--- A `&κ mut [T]` that is lent again for a lifetime κ′ of a call, and comes back: `Denote/Lend.antt`'s `lends-again` and `comes-back`, of a slice. It says nothing of
--- this crate.
+-- A `&κ mut [T]` that is lent again for a lifetime κ′ of a call, and comes back: `Denote/Lend.antt`'s `lends-again` and `comes-back`, of a slice,
+-- and the same where it is lent as a `&κ′ [T]`. It says nothing of this crate.
 --     LentAgain        what the holder keeps while the slice is lent again under the name γ₁: the lender's part at κ′, and its own borrow at κ, open, with
 --                      both halves of its ghost variable
 --     lends-again      own (the `&κ mut [T]` at ys) ∗ [κ]_q  ⊢ ⇛ ∃ γ₁. own (the `&κ′ mut [T]` γ₁ at ys) ∗ LentAgain γ₁
 --     comes-back       given that zs is as long as ys:  [†κ′] ∗ LentAgain γ₁ ∗ finally γ₁ zs  ⊢ ⇛ (own (the `&κ mut [T]` at zs) ∗ [κ]_q)
+--     SharedAgain      the same where it is lent as a `&`: the lender's part is the elements as they are
+--     shares-again     own (the `&κ mut [T]` at ys) ∗ [κ]_q  ⊢ ⇛ ∃ γ₁. own (the `&κ′ [T]` γ₁ at ys) ∗ SharedAgain
+--     comes-unchanged  [†κ′] ∗ SharedAgain  ⊢ ⇛ (own (the `&κ mut [T]` at ys) ∗ [κ]_q)
 -- The slice's machine value has the length n, which is that of the list that the function was passed. Assumes `Given`.
-use mathlib.Core.Path.{_≡_, sym, ap, subst}
+use mathlib.Core.Path.{_≡_, refl, sym, ap, subst}
 use Prim.Native.Nat.{ℕ}
 use mathlib.Core.List.{List, [], _∷_}
 use lib.ListN.{length}
@@ -17,24 +20,36 @@ use base.Logic.{ent, sep, ex}
 use base.Fml.{Lft, GName, Share, Fml, fsep, flft, fdead, fobs, fauth, flent, fobor}
 use prog.Wp.{Heap}
 use ghost.Atoms.{Atoms, sem}
-use types.Kit.{Given, ‵, _⊛_, some, later, _$_, _∵_, !, qed, move, use1, use3, drop, split, pick, fsplit, fjoin, frame, await, updating, now as at-once, show, done}
+use types.Kit.{Given, ‵, _⊛_, some, later, _$_, _∵_, !, qed, move, use1, use3, drop, split, pick, feqI, fsplit, fjoin, frame}
+use types.Kit.{await, updating, now as at-once, show, done}
+use types.Tokens.{lent-back}
 use types.SemTy.{cells, Arr}
+use types.Share.{arr-parts}
 use denote.RattleType.{RattleType}
 use denote.Shadow.{pureL, pureI}
-use denote.Memory.{mem}
+use denote.Memory.{mem, shares}
 use denote.Ref.{RefT}
-use denote.Slice.{sliceVal, MutSlice, heres, Room, finally, at-slice, codedHoleys}
-use denote.Lend.{Held, lends-slice, slice-back}
+use denote.Slice.{sliceVal, MutSlice, ShrSlice, heres, Room, finally, at-slice, codedHoleys}
+use denote.Lend.{Held, lends-slice, slice-back, lends-shr-slice}
 use denote.Index.{row, whole-out, whole-in, opens-slice, closes-slice}
 
 module _ (R : RattleType) (κ : Lft) (q : Share) (γ : GName) (b o : ℕ) (κ′ : Lft) where
   abbrev at-list : GName → List (R .Denot) → RefT (List (R .Denot))
   at-list δ ys = record { ptr = (b, o); name = δ; now = ys }
 
+  -- the open borrow at κ, with both halves of its ghost variable
+  abbrev Open : List (R .Denot) → Fml
+  Open ys = fsep (fobor κ q (Held R (length ys) b o γ)) (fsep (fobs γ (codedHoleys R .code (heres R ys))) (fauth γ (codedHoleys R .code (heres R ys))))
+
   abbrev pub LentAgain : GName → List (R .Denot) → Fml
-  LentAgain γ₁ ys =
-      fsep (flent κ′ (Held R (length ys) b o γ₁))
-      (fsep (fobor κ q (Held R (length ys) b o γ)) (fsep (fobs γ (codedHoleys R .code (heres R ys))) (fauth γ (codedHoleys R .code (heres R ys)))))
+  LentAgain γ₁ ys = fsep (flent κ′ (Held R (length ys) b o γ₁)) (Open ys)
+
+  -- the elements, all of them
+  abbrev Elements : List (R .Denot) → Fml
+  Elements ys = arr-parts (shares R) (length ys) .part fullShare ys b o
+
+  abbrev pub SharedAgain : List (R .Denot) → Fml
+  SharedAgain ys = fsep (flent κ′ (Elements ys)) (Open ys)
 
   module _ {M : Type 1} (𝓤 : URA M) (H : Heap 𝓤) (A : Atoms 𝓤) (W : Given 𝓤 H A) (ℓ ℓ′ : Lifetime) (ys : List (R .Denot)) where
     abbrev vals : ℕ → List Val
@@ -68,7 +83,33 @@ module _ (R : RattleType) (κ : Lft) (q : Share) (γ : GName) (b o : ℕ) (κ′
         use3 W (later (‵ (Arr (mem R) (length ys) .lies zs b o))) (slice-back 𝓤 H A W R κ′ γ₁ zs (length ys) b o) $ await ! tt $ fsplit ! $ drop ! $
         use1 W (‵ (row R fullShare zs b o)) (whole-out 𝓤 H A W R zs b o) $
         move ! (1 ∷ []) $ fsplit ! $ move ! (1 ∷ []) $ fsplit ! $ move ! (3 ∷ 2 ∷ 0 ∷ 1 ∷ []) $ closes-slice ! tt R ys zs e b o $ at-once ! $
-        fjoin ! $ pureI ! (at-slice R (at-list γ zs) (vals (length ys))) (tt, (tt, tt)) (ap (λ (m : ℕ). vals m) (sym e), subst (Room R) (sym e) room) $ fjoin ! $ done !
+        fjoin ! $
+        pureI ! (at-slice R (at-list γ zs) (vals (length ys))) (tt, (tt, tt)) (ap (λ (m : ℕ). vals m) (sym e), subst (Room R) (sym e) room) $ fjoin ! $ done !
+
+    abbrev Shares : ℕ → Type 1
+    Shares n =
+        ent 𝓤 (sep 𝓤 (sem 𝓤 H A (MutSlice ℓ κ R .own (at-list γ ys) (vals n))) (A .lft κ q))
+        (H .⇛ (ex 𝓤 (λ (γ₁ : GName). sep 𝓤 (sem 𝓤 H A (ShrSlice ℓ′ κ′ R .own (at-list γ₁ ys) (vals n))) (sem 𝓤 H A (SharedAgain ys)))))
+
+    shared : Shares (length ys)
+    shared =
+        qed W (‵ (MutSlice ℓ κ R .own (at-list γ ys) (vals (length ys))) ∷ ‵ (flft κ q) ∷ []) ∵ updating ! $ fsplit ! $
+        pureL ! (at-slice R (at-list γ ys) (vals (length ys))) (λ p. fsplit ! $ opens-slice ! tt R ys b o $ feqI ! ℕ (length ys) (length ys) refl $ fjoin ! $
+        use1 W (later (some (λ (γ₁ : GName). ‵ (ShrSlice ℓ′ κ′ R .own (at-list γ₁ ys) (vals (length ys))) ⊛ ‵ (flent κ′ (Elements ys)))))
+        (lends-shr-slice 𝓤 H A W R ℓ′ κ′ fullShare ys b o (p .1)) $ await ! tt $ pick ! (λ γ₁. split ! $
+        -- [the shared slice; the lender's part at κ′; the open borrow at κ; obs γ; auth γ]
+        at-once ! $ show ! (λ (γ′ : GName). sep 𝓤 (sem 𝓤 H A (ShrSlice ℓ′ κ′ R .own (at-list γ′ ys) (vals (length ys)))) (sem 𝓤 H A (SharedAgain ys))) γ₁ $
+        frame ! $ move ! (2 ∷ 3 ∷ []) $ fjoin ! $ move ! (2 ∷ 0 ∷ []) $ fjoin ! $ move ! (1 ∷ 0 ∷ []) $ fjoin ! $ done !))
+
+    abbrev Unshares : ℕ → Type 1
+    Unshares n =
+        ent 𝓤 (sep 𝓤 (A .dead κ′) (sem 𝓤 H A (SharedAgain ys))) (H .⇛ (sep 𝓤 (sem 𝓤 H A (MutSlice ℓ κ R .own (at-list γ ys) (vals n))) (A .lft κ q)))
+
+    unshared : Room R (length ys) → Unshares (length ys)
+    unshared room =
+        qed W (‵ (fdead κ′) ∷ ‵ (SharedAgain ys) ∷ []) ∵ updating ! $ move ! (1 ∷ []) $ fsplit ! $ move ! (2 ∷ 0 ∷ []) $ lent-back ! tt $ fsplit ! $ drop ! $
+        move ! (1 ∷ []) $ fsplit ! $ move ! (1 ∷ []) $ fsplit ! $ move ! (3 ∷ 2 ∷ 0 ∷ 1 ∷ []) $ closes-slice ! tt R ys ys refl b o $ at-once ! $
+        fjoin ! $ pureI ! (at-slice R (at-list γ ys) (vals (length ys))) (tt, (tt, tt)) (refl, room) $ fjoin ! $ done !
 
     -- and at the length n
     module _ (n : ℕ) (long : length ys ≡ n) where
@@ -77,3 +118,9 @@ module _ (R : RattleType) (κ : Lft) (q : Share) (γ : GName) (b o : ℕ) (κ′
 
       pub comes-back : (γ₁ : GName) (zs : List (R .Denot)) → Room R n → length zs ≡ length ys → Comes γ₁ zs n
       comes-back γ₁ zs room e = subst (Comes γ₁ zs) long (comes γ₁ zs (subst (Room R) (sym long) room) e)
+
+      pub shares-again : Shares n
+      shares-again = subst Shares long shared
+
+      pub comes-unchanged : Room R n → Unshares n
+      comes-unchanged room = subst Unshares long (unshared (subst (Room R) (sym long) room))

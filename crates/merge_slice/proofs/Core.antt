@@ -1,42 +1,90 @@
 -- The answers and refusals of merging in one slice are those of merging in three that hold the same corners, if the scratch is long enough. Assumes nothing.
-use Prim.Native.Nat.{ℕ, zero, suc, _≤_}
+use Prim.Native.Nat.{ℕ, zero, suc, _<_, _≤_, min}
 use native.Mathlib.Omega.{arith}
 use mathlib.Core.Path.{_≡_, refl, sym, ap, _∙_}
-use mathlib.Core.List.{List}
-use lib.ListN.{length, take}
+use mathlib.Core.List.{List, [], _∷_, map}
+use lib.ListN.{length, take, getD, length-map, List·getD-map}
+use lib.Seq.{length-take-le, ext-getD, getD-take}
 use lib.Ieee.{Float}
+use Rattle.lists.specs.Buffer.{front}
+use Rattle.lists.specs.Refusals.{valuesUnless}
+use Rattle.lists.proofs.Buffer.{map-front}
 use Rattle.corner_list.specs.declared.Corner.{Corner}
-use Rattle.corner_list.specs.CornerList.{Slices, placesOf, cornersOf, frontCorners}
+use Rattle.corner_list.specs.CornerList.{Slices, slices, xOf, yOf, strengthOf, placesOf, cornerAt, cornersOf, frontCorners}
+use Rattle.corner_list.proofs.Corners.{slices-alike, corners-length, corners-at}
 use Rattle.merge.specs.declared.Merged.{Merged}
 use Rattle.merge.specs.Merge.{resultOf, refusalOf, answerOf, bufferOf, Merges}
 use Rattle.merge_refusal.proofs.Judged.{judged-fits}
-use Rattle.merge_slice.specs.MergeSlice.{columns, sharedPlaces, cornersAfter, MergesSlice}
-use Rattle.merge_slice.proofs.Slice.{columns-corners, columns-front, columns-places}
+use Rattle.merge_slice.specs.MergeSlice.{sharedPlaces, refusalFor, cornersAfter, MergesSlice}
+use Rattle.merge_slice.proofs.Turns.{nowhere, take-counted}
+
+-- ---- the corners of a slice as three slices hold them: the first n, those that stand first, and how many there are
+abbrev pub columns : List Corner → Slices
+columns cs = slices (map xOf cs) (map yOf cs) (map strengthOf cs)
+
+columns-corners : (cs : List Corner) (n : ℕ) → n ≤ length cs → cornersOf (columns cs) n ≡ take n cs
+columns-corners cs n h =
+    ext-getD nowhere (cornersOf (columns cs) n) (take n cs) (corners-length (columns cs) n ∙ sym (length-take-le n cs h))
+    (λ i l.
+    let k : i < n = rw (corners-length (columns cs) n) at l in
+    corners-at (columns cs) n i nowhere k ∙ here i ∙ sym (getD-take n cs i nowhere k))
+  where
+    here : (i : ℕ) → cornerAt (columns cs) i ≡ getD cs i nowhere
+    here i = rw (List·getD-map xOf cs i nowhere, List·getD-map yOf cs i nowhere, List·getD-map strengthOf cs i nowhere)
+
+columns-front : (us cs : List Corner) → frontCorners us (columns cs) ≡ columns (front us cs)
+columns-front us cs = slices-alike (map-front xOf us cs) (map-front yOf us cs) (map-front strengthOf us cs)
+
+columns-places : (cs : List Corner) → placesOf (columns cs) ≡ length cs
+columns-places cs = rw (length-map cs xOf, length-map cs yOf, length-map cs strengthOf) (omega arith)
 
 module _ (radius : Float) (count : ℕ) (cs : List Corner) where
   abbrev number : ℕ
   number = refusalOf radius (placesOf (columns cs)) count (columns cs)
 
+  -- what is left, of the slice and of three
+  abbrev left : List Corner
+  left = resultOf radius (take count cs)
+
+  abbrev left-three : List Corner
+  left-three = resultOf radius (cornersOf (columns cs) count)
+
+  -- the corners that are judged
+  same-judged : cornersOf (columns cs) (min count (placesOf (columns cs))) ≡ take count cs
+  same-judged =
+      columns-corners cs (min count (placesOf (columns cs))) (omega (arith, columns-places cs))
+      ∙ ap (λ (k : ℕ). take (min count k) cs) (columns-places cs)
+      ∙ take-counted count cs
+
+  same-number : (scratch : Slices) → length cs ≤ placesOf scratch → refusalFor radius count cs scratch ≡ number
+  unfolding refusalFor refusalOf
+  same-number scratch h =
+      let places : sharedPlaces cs scratch ≡ placesOf (columns cs) = omega (arith, columns-places cs) in
+      rw (same-judged, places)
+
   -- where nothing is refused, the first corners of the slice
-  same-result : number ≡ 0 → resultOf radius (take count cs) ≡ resultOf radius (cornersOf (columns cs) count)
+  same-result : number ≡ 0 → left ≡ left-three
   same-result e =
       ap (resultOf radius) (sym (columns-corners cs count (omega (arith, columns-places cs, judged-fits radius (placesOf (columns cs)) count (columns cs) e))))
 
-  same-answer : (k : ℕ) → number ≡ k → answerOf k (length (resultOf radius (take count cs))) ≡ answerOf k (length (resultOf radius (cornersOf (columns cs) count)))
+  same-answer : (k : ℕ) → number ≡ k → answerOf k (length left) ≡ answerOf k (length left-three)
   same-answer zero e = ap (λ (l : List Corner). answerOf 0 (length l)) (same-result e)
   same-answer (suc k) e = refl
 
-  same-buffer : (k : ℕ) → number ≡ k → columns (cornersAfter k (resultOf radius (take count cs)) cs) ≡ bufferOf k (resultOf radius (cornersOf (columns cs) count)) (columns cs)
-  same-buffer zero e = sym (columns-front (resultOf radius (take count cs)) cs) ∙ ap (λ (l : List Corner). frontCorners l (columns cs)) (same-result e)
+  same-values : (k : ℕ) → number ≡ k → valuesUnless k (length left ∷ []) ≡ valuesUnless k (length left-three ∷ [])
+  same-values zero e = ap (λ (l : List Corner). length l ∷ []) (same-result e)
+  same-values (suc k) e = refl
+
+  same-buffer : (k : ℕ) → number ≡ k → columns (cornersAfter k left cs) ≡ bufferOf k left-three (columns cs)
+  same-buffer zero e = sym (columns-front left cs) ∙ ap (λ (l : List Corner). frontCorners l (columns cs)) (same-result e)
   same-buffer (suc k) e = refl
 
-  pub as-core : (scratch scratch′ : Slices) (answer : Merged) (cs′ : List Corner) → length cs ≤ placesOf scratch → MergesSlice radius count cs scratch answer cs′ scratch′
-      → Merges radius (placesOf (columns cs)) count (columns cs) answer (columns cs′)
-  as-core scratch scratch′ answer cs′ h m = record {
-    answered = m .answered ∙ ap (λ (p : ℕ). answerOf (refusalOf radius p count (columns cs)) (length (resultOf radius (take count cs)))) places ∙ same-answer number refl;
-    number = m .number ∙ ap (λ (p : ℕ). refusalOf radius p count (columns cs)) places;
-    buffer = ap columns (m .corners ∙ ap (λ (p : ℕ). cornersAfter (refusalOf radius p count (columns cs)) (resultOf radius (take count cs)) cs) places) ∙ same-buffer number refl;
-  }
-    where
-      places : sharedPlaces cs scratch ≡ placesOf (columns cs)
-      places = omega (arith, columns-places cs)
+  pub as-core : (scratch scratch′ : Slices) (answer : Merged) (cs′ : List Corner) → length cs ≤ placesOf scratch
+      → MergesSlice radius count cs scratch answer cs′ scratch′ → Merges radius (placesOf (columns cs)) count (columns cs) answer (columns cs′)
+  as-core scratch scratch′ answer cs′ h m =
+      let same = same-number scratch h in record {
+        answered = m .answered ∙ ap (λ (k : ℕ). answerOf k (length left)) same ∙ same-answer number refl;
+        number = m .number ∙ same;
+        values = m .values ∙ ap (λ (k : ℕ). valuesUnless k (length left ∷ [])) same ∙ same-values number refl;
+        buffer = ap columns (m .corners ∙ ap (λ (k : ℕ). cornersAfter k left cs) same) ∙ same-buffer number refl;
+      }

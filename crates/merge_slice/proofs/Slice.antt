@@ -1,26 +1,35 @@
 -- Merging in one slice is merging in three: exchanged, merged and exchanged again, the corners are what the core leaves of them, and the scratch is as it
--- was. Assumes nothing.
-use Prim.Native.Nat.{ℕ, zero, suc, _<_, _≤_, min}
+-- was. Number 4 is judged of all that are counted, before the core's number. Assumes nothing.
+use Prim.Native.Nat.{ℕ, zero, suc, _≤_, min}
 use native.Mathlib.Decide.{decLt}
 use native.Mathlib.Omega.{arith}
 use mathlib.Core.Path.{_≡_, refl, sym, ap, ap₂, _∙_, subst}
-use mathlib.Core.List.{List, map}
+use mathlib.Core.Bool.{Bool, true, false, not, cond, _&&_, _||_, true≢false}
+use mathlib.Core.List.{List, [], _∷_, map}
 use lib.Dec.{ltb}
-use borrow.Author.Tests.{lt-ltb, le-ltb}
-use lib.ListN.{length, take, getD, length-map, List·getD-map}
-use lib.Seq.{length-take-le, ext-getD, getD-take}
+use borrow.Author.Tests.{lt-ltb, le-ltb, ltb-false}
+use lib.ListN.{length, take, drop, take-append-drop, length-map}
+use lib.Seq.{length-take-le, take-take}
 use lib.Ieee.{Float}
 use Rattle.lists.specs.Buffer.{front}
+use Rattle.lists.specs.Places.{any}
 use Rattle.lists.proofs.Buffer.{front-length, front-take, front-same, front-again, front-over, map-front}
+use Rattle.lists.proofs.Places.{any-append}
+use Rattle.lists.proofs.Refusals.{lowest-none}
+use Rattle.lists.proofs.Tests.{or-neither}
 use Rattle.corner_list.specs.declared.Corner.{Corner}
-use Rattle.corner_list.specs.CornerList.{Slices, xOf, yOf, strengthOf, placesOf, cornerAt, cornersOf, frontCorners}
-use Rattle.corner_list.proofs.Corners.{slices-alike, same-places, corners-length, corners-at, corners-front, corners-same, corners-again, front-xs, front-ys, front-strengths}
-use Rattle.merge.specs.declared.Merged.{Merged}
-use Rattle.merge.specs.Merge.{resultOf, refusalOf, answerOf, bufferOf, Merges}
+use Rattle.corner_list.specs.CornerList.{Slices, xOf, yOf, strengthOf, placesOf, cornersOf, frontCorners}
+use Rattle.corner_list.proofs.Corners.{slices-alike, same-places, corners-length, corners-front, corners-same, corners-again}
+use Rattle.corner_list.proofs.Corners.{front-xs, front-ys, front-strengths}
+use Rattle.merge_radius.specs.MergeRadius.{isOff, radiusOutside}
+use Rattle.merge_refusal.specs.MergeRefusal.{isOutside}
 use Rattle.merge_refusal.proofs.Judged.{judged-fits}
+use Rattle.merge.specs.declared.Merged.{Merged}
+use Rattle.merge.specs.declared.Merged.the-variants.{Refused}
+use Rattle.merge.specs.Merge.{resultOf, refusalOf, answerOf, numberOf, valuesOf, bufferOf, Merges}
+use Rattle.merge.proofs.Answer.{values-are}
 use Rattle.merge.proofs.Result.{result-length}
-use Rattle.merge_slice.specs.MergeSlice.{columns, sharedPlaces, refusalFor, cornersAfter, MergesSlice}
-use Rattle.merge_slice.proofs.Turns.{nowhere}
+use Rattle.merge_slice.specs.MergeSlice.{sharedPlaces, refusalFor, cornersAfter, MergesSlice}
 
 -- ---- corners over more of them that stand first
 corners-over : (us cs : List Corner) (b : Slices) → length us ≤ length cs → frontCorners us (frontCorners cs b) ≡ frontCorners (front us cs) b
@@ -30,23 +39,6 @@ corners-over us cs b h = slices-alike (over xOf (b .xs)) (over yOf (b .ys)) (ove
     over g d =
         front-over (map g us) (map g cs) d (omega (arith, length-map us g, length-map cs g))
         ∙ ap (λ (l : List Float). front l d) (map-front g us cs)
-
--- ---- the corners of a slice as three slices hold them: the first n, those that stand first, and how many there are
-pub columns-corners : (cs : List Corner) (n : ℕ) → n ≤ length cs → cornersOf (columns cs) n ≡ take n cs
-columns-corners cs n h =
-    ext-getD nowhere (cornersOf (columns cs) n) (take n cs) (corners-length (columns cs) n ∙ sym (length-take-le n cs h))
-    (λ i l.
-    let k : i < n = rw (corners-length (columns cs) n) at l in
-    corners-at (columns cs) n i nowhere k ∙ here i ∙ sym (getD-take n cs i nowhere k))
-  where
-    here : (i : ℕ) → cornerAt (columns cs) i ≡ getD cs i nowhere
-    here i = rw (List·getD-map xOf cs i nowhere, List·getD-map yOf cs i nowhere, List·getD-map strengthOf cs i nowhere)
-
-pub columns-front : (us cs : List Corner) → frontCorners us (columns cs) ≡ columns (front us cs)
-columns-front us cs = slices-alike (map-front xOf us cs) (map-front yOf us cs) (map-front strengthOf us cs)
-
-pub columns-places : (cs : List Corner) → placesOf (columns cs) ≡ length cs
-columns-places cs = rw (length-map cs xOf, length-map cs yOf, length-map cs strengthOf) (omega arith)
 
 -- ---- numbers: n corners are exchanged, and the core is told of n places
 few : (count c p k n : ℕ) → n ≡ min count (min c p) → k ≡ p → min n k ≡ n
@@ -62,17 +54,53 @@ few-test count p n e =
       | no g ↦ le-ltb n count (omega arith) ∙ sym (le-ltb p count (omega arith))
     ]
 
+-- ---- what no element of a list passes, none of its first passes
+any-first : (f : Corner → Bool) (n m : ℕ) (l : List Corner) → n ≤ m → any f (take m l) ≡ false → any f (take n l) ≡ false
+any-first f n m l h e =
+    let rest = drop n (take m l) in
+    or-neither (any f (take n l)) (any f rest)
+    (ap (λ (t : List Corner). any f t || any f rest) (sym (take-take n m l h)) ∙ sym (any-append f (take n (take m l)) rest)
+    ∙ ap (any f) (take-append-drop n (take m l)) ∙ e)
+    .0
+
+and-fewer : (a b b′ : Bool) → (b ≡ false → b′ ≡ false) → (a && b) ≡ false → (a && b′) ≡ false
+and-fewer true b b′ h e = h e
+and-fewer false b b′ h e = refl
+
+-- ---- answers and buffers by their number
+numbered : (k n : ℕ) → numberOf (answerOf k n) ≡ k
+numbered zero n = refl
+numbered (suc k) n = refl
+
+untouched : (k : ℕ) (left : List Corner) (b : Slices) → (k ≡ 0 → ⊥) → bufferOf k left b ≡ b
+untouched zero left b h = absurd (h refl)
+untouched (suc k) left b h = refl
+
 -- ---- the core on the corners in the scratch
 module _ (radius : Float) (count : ℕ) (cs : List Corner) (scratch : Slices) (n : ℕ) (is : n ≡ min count (sharedPlaces cs scratch)) where
-  -- the scratch with the corners, the number, and what is left where there is none
+  -- the scratch with the corners, the core's number and the entry's, and what is left where there is none
   abbrev inside : Slices
   inside = frontCorners (take n cs) scratch
+
+  abbrev core : ℕ
+  core = refusalOf radius n count inside
 
   abbrev number : ℕ
   number = refusalFor radius count cs scratch
 
   abbrev left : List Corner
   left = resultOf radius (take count cs)
+
+  -- what the core leaves
+  abbrev core-left : List Corner
+  core-left = resultOf radius (cornersOf inside count)
+
+  -- whether 4 refuses a list
+  abbrev refused : List Corner → Bool
+  refused l = not (isOff radius) && any isOutside l
+
+  abbrev outside : Bool
+  outside = refused (take count cs)
 
   in-corners : n ≤ length cs
   in-corners = omega arith
@@ -88,20 +116,42 @@ module _ (radius : Float) (count : ℕ) (cs : List Corner) (scratch : Slices) (n
 
   inside-places : placesOf inside ≡ placesOf scratch
   inside-places =
-      same-places inside scratch (front-xs (take n cs) scratch n (sym taken) in-scratch) (front-ys (take n cs) scratch n (sym taken) in-scratch) (front-strengths (take n cs) scratch n (sym taken) in-scratch)
+      same-places inside scratch (front-xs (take n cs) scratch n (sym taken) in-scratch) (front-ys (take n cs) scratch n (sym taken) in-scratch)
+      (front-strengths (take n cs) scratch n (sym taken) in-scratch)
 
-  -- the same corners are judged, and the same counts are too large
-  same-number : refusalOf radius n count inside ≡ number
+  -- the core judges the corners in the scratch
+  seen : cornersOf inside (min count n) ≡ take n cs
+  seen = ap (cornersOf inside) (omega arith) ∙ inside-corners
+
+  -- 4 comes first; where it does not, the core's number is that of the entry
+  same-number : (t : Bool) → outside ≡ t → cond t 4 core ≡ number
+  unfolding refusalOf refusalFor
+  same-number true e = rw e
+  same-number false e =
+      let fewer = any-first isOutside n count cs (omega arith) in
+      let none : refused (take n cs) ≡ false = and-fewer (not (isOff radius)) (any isOutside (take count cs)) (any isOutside (take n cs)) fewer e in
+      rw (seen, none, few-test count (sharedPlaces cs scratch) n is, e)
+
+  -- the core lets through only what it has seen whole
+  core-seen : core ≡ 0 → outside ≡ false
   unfolding refusalOf
-  same-number =
-      let judged : cornersOf inside (min count n) ≡ cornersOf (columns cs) (min count (sharedPlaces cs scratch)) =
-      ap (cornersOf inside) (omega arith) ∙ inside-corners ∙ sym (columns-corners cs n in-corners) ∙ ap (cornersOf (columns cs)) is in
-      rw (judged, few-test count (sharedPlaces cs scratch) n is)
+  core-seen e =
+      let seen-inside = lowest-none (refused (cornersOf inside (min count n))) 4 ((radiusOutside radius, 5) ∷ (ltb n count, 10) ∷ []) (omega arith) e .0 in
+      let fits = judged-fits radius n count inside e in
+      subst (λ (k : ℕ). refused (take k cs) ≡ false) (few-fit count n n (omega arith) fits) (ap refused (sym seen) ∙ seen-inside)
 
   -- where nothing is refused the count is n, and the corners that are merged are the first of the slice
   module _ (none : number ≡ 0) where
+    fits : count ≤ sharedPlaces cs scratch
+    unfolding refusalFor
+    fits =
+        let count-test : List (Bool × ℕ) = (ltb (sharedPlaces cs scratch) count, 10) ∷ [] in
+        let first = lowest-none outside 4 ((radiusOutside radius, 5) ∷ count-test) (omega arith) none in
+        let second = lowest-none (radiusOutside radius) 5 count-test (omega arith) (first .1) in
+        ltb-false (sharedPlaces cs scratch) count (lowest-none (ltb (sharedPlaces cs scratch) count) 10 [] (omega arith) (second .1) .0)
+
     all : n ≡ count
-    all = few-fit count (sharedPlaces cs scratch) n is (judged-fits radius (sharedPlaces cs scratch) count (columns cs) none)
+    all = few-fit count (sharedPlaces cs scratch) n is fits
 
     same-corners : cornersOf inside count ≡ take count cs
     same-corners = subst (λ (k : ℕ). cornersOf inside k ≡ take k cs) all inside-corners
@@ -122,30 +172,50 @@ module _ (radius : Float) (count : ℕ) (cs : List Corner) (scratch : Slices) (n
   after-front (suc k) e = sym (front-same n cs in-corners)
 
   -- the core's answer and what it leaves in the scratch, by the definitions over the slice
-  same-answer : (k : ℕ) → number ≡ k → answerOf k (length (resultOf radius (cornersOf inside count))) ≡ answerOf k (length left)
+  same-answer : (k : ℕ) → number ≡ k → answerOf k (length core-left) ≡ answerOf k (length left)
   same-answer zero e = ap (λ (l : List Corner). answerOf 0 (length (resultOf radius l))) (same-corners e)
   same-answer (suc k) e = refl
 
-  same-buffer : (k : ℕ) → number ≡ k → bufferOf k (resultOf radius (cornersOf inside count)) inside ≡ frontCorners (after k) scratch
+  same-buffer : (k : ℕ) → number ≡ k → bufferOf k core-left inside ≡ frontCorners (after k) scratch
   same-buffer zero e = ap (λ (l : List Corner). frontCorners (resultOf radius l) inside) (same-corners e) ∙ corners-over left (take n cs) scratch (left-fits e)
   same-buffer (suc k) e = refl
 
-  -- exchanged, merged, and exchanged again
-  pub slice-merged : (cs₁ : List Corner) (b₁ b₂ : Slices) (r : Merged) (cs₂ : List Corner) (b₃ : Slices)
+  -- and by whether 4 comes first
+  answer-judged : (t : Bool) → outside ≡ t → cond t (Refused 4) (answerOf core (length core-left)) ≡ answerOf number (length left)
+  answer-judged true e = ap (λ (k : ℕ). answerOf k (length left)) (same-number true e)
+  answer-judged false e = ap (λ (k : ℕ). answerOf k (length core-left)) (same-number false e) ∙ same-answer number refl
+
+  buffer-judged : (t : Bool) → outside ≡ t → bufferOf core core-left inside ≡ frontCorners (after number) scratch
+  buffer-judged true e =
+      untouched core core-left inside (λ z. true≢false (sym e ∙ core-seen z)) ∙ ap (λ (k : ℕ). frontCorners (after k) scratch) (same-number true e)
+  buffer-judged false e = ap (λ (k : ℕ). bufferOf k core-left inside) (same-number false e) ∙ same-buffer number refl
+
+  -- judged, exchanged, merged, and exchanged again
+  pub slice-merged : (o : Bool) (cs₁ : List Corner) (b₁ b₂ : Slices) (core-answer : Merged) (cs₂ : List Corner) (b₃ : Slices) (r : Merged)
+      → o ≡ any isOutside (take count cs)
       → (cs₁ ≡ front (cornersOf scratch n) cs) × (b₁ ≡ inside)
-      → Merges radius (min n (placesOf b₁)) count b₁ r b₂
+      → Merges radius (min n (placesOf b₁)) count b₁ core-answer b₂
       → (cs₂ ≡ front (cornersOf b₂ n) cs₁) × (b₃ ≡ frontCorners (take n cs₁) b₂)
+      → r ≡ cond (not (isOff radius) && o) (Refused 4) core-answer
       → MergesSlice radius count cs scratch r cs₂ b₃
-  slice-merged cs₁ b₁ b₂ r cs₂ b₃ e m f = record { answered = answered; number = own .number ∙ same-number; corners = corners; given-back = given-back }
+  slice-merged o cs₁ b₁ b₂ core-answer cs₂ b₃ r d e m f g = record {
+    answered = answered;
+    number = ap numberOf answered ∙ numbered number (length left);
+    values = ap valuesOf answered ∙ values-are number (length left);
+    corners = corners;
+    given-back = given-back;
+  }
     where
-      own : Merges radius n count inside r b₂
-      own = subst (λ (k : ℕ). Merges radius k count inside r b₂) (few count (length cs) (placesOf scratch) (placesOf inside) n is inside-places) (subst (λ (b : Slices). Merges radius (min n (placesOf b)) count b r b₂) (e .1) m)
+      own : Merges radius n count inside core-answer b₂
+      own =
+          subst (λ (k : ℕ). Merges radius k count inside core-answer b₂) (few count (length cs) (placesOf scratch) (placesOf inside) n is inside-places)
+          (subst (λ (b : Slices). Merges radius (min n (placesOf b)) count b core-answer b₂) (e .1) m)
 
       answered : r ≡ answerOf number (length left)
-      answered = own .answered ∙ ap (λ (k : ℕ). answerOf k (length (resultOf radius (cornersOf inside count)))) same-number ∙ same-answer number refl
+      answered = g ∙ ap₂ (λ (t : Bool) (a : Merged). cond (not (isOff radius) && t) (Refused 4) a) d (own .answered) ∙ answer-judged outside refl
 
       buffer : b₂ ≡ frontCorners (after number) scratch
-      buffer = own .buffer ∙ ap (λ (k : ℕ). bufferOf k (resultOf radius (cornersOf inside count)) inside) same-number ∙ same-buffer number refl
+      buffer = own .buffer ∙ buffer-judged outside refl
 
       read : cornersOf b₂ n ≡ after number
       read = ap (λ (b : Slices). cornersOf b n) buffer ∙ corners-front (after number) scratch n (sym (after-length number refl))

@@ -1,10 +1,15 @@
 // Merging corners that lie in one slice. The core works on three slices of floats, so the corners change places with the elements of
 // three borrowed slices, are merged there, and change places again.
 ghost use mathlib.Core.Path.{_≡_};
+ghost use mathlib.Core.Bool.{cond, not, _&&_, _||_};
 ghost use Prim.Native.Nat.{_≤_, min};
 ghost use lib.ListN.{length, take};
 ghost use Rattle.lists.specs.Buffer.{front};
+ghost use Rattle.lists.specs.Places.{any};
 ghost use Rattle.corner_list.specs.CornerList.{slices, placesOf, cornersOf, frontCorners};
+ghost use Rattle.merge_radius.specs.MergeRadius.{isOff};
+ghost use Rattle.merge_refusal.specs.MergeRefusal.{isOutside};
+ghost use Rattle.merge.specs.declared.Merged.the-variants.{Refused};
 ghost use Rattle.merge_slice.specs.MergeSlice.{MergesSlice};
 use corner_list::Corner;
 use merge::Merged;
@@ -14,6 +19,27 @@ fn shared_places(count: usize, corners: usize, xs: usize, ys: usize, strengths: 
     ensures { λ r. ⌜ r ≡ min count (min corners (min xs (min ys strengths))) ⌝ }
 {
     corner_list::places(count, corners, corner_list::places(xs, ys, strengths))
+}
+
+// Whether a corner is outside, or one before it was.
+fn either_outside(before: bool, c: Corner) -> bool
+    ensures { λ r. ⌜ r ≡ (before || isOutside c) ⌝ }
+{
+    if before {
+        return true;
+    }
+    !corner_list::is_inside(c)
+}
+
+// Whether one of the first `count` corners of a slice is outside, of those that it has.
+fn has_outside(corners: &[Corner], count: usize) -> bool
+    ensures { λ r. ⌜ r ≡ any isOutside (take count (now (corners .entry))) ⌝ }
+{
+    let mut outside = false;
+    for i in 0..numbers::lesser(count, corners.len()) {
+        outside = either_outside(outside, corners[i]);
+    }
+    outside
 }
 
 // The first n corners and the first n places of a buffer change places.
@@ -36,6 +62,19 @@ fn exchange(corners: &mut [Corner], xs: &mut [f32], ys: &mut [f32], strengths: &
     }
 }
 
+// The core's answer, or 4 where a counted corner is outside: the core sees only the corners for which the scratch has a place.
+fn judged(outside: bool, radius: f32, answer: Merged) -> Merged
+    ensures { λ r. ⌜ r ≡ cond (not (isOff radius) && outside) (Refused 4) answer ⌝ }
+{
+    if merge_radius::is_off(radius) {
+        return answer;
+    }
+    if outside {
+        return Merged::Refused(4);
+    }
+    answer
+}
+
 // Merges the first `count` corners of a slice in place, as `merge_corners_simple` does for three slices. The other slices are scratch: they
 // have what they held again at the end.
 pub fn merge_corner_slice(
@@ -49,9 +88,10 @@ pub fn merge_corner_slice(
     ensures { λ r. ⌜ MergesSlice radius count (now (corners .entry)) (slices (now (xs .entry)) (now (ys .entry)) (now (strengths .entry)))
         r (now (corners .exit)) (slices (now (xs .exit)) (now (ys .exit)) (now (strengths .exit))) ⌝ }
 {
+    let outside = has_outside(corners, count);
     let n = shared_places(count, corners.len(), xs.len(), ys.len(), strengths.len());
     exchange(corners, xs, ys, strengths, n);
     let answer = merge::merge_within(xs, ys, strengths, n, count, radius);
     exchange(corners, xs, ys, strengths, n);
-    answer
+    judged(outside, radius, answer)
 }

@@ -3,3 +3,4 @@ pub mod Axis
 pub mod Promised
 pub mod Box
 pub mod Centre
+pub mod Told

@@ -1,19 +1,25 @@
 -- What `compute_roi` promises, by the way that it goes: refused, no box, or a box. Assumes nothing.
 use mathlib.Core.Path.{_≡_, refl, sym, ap, _∙_}
 use Prim.Native.Nat.{ℕ, zero, suc}
+use Rattle.lists.specs.Refusals.{valuesUnless}
 use Rattle.corner_list.specs.declared.Corner.{Corner}
 use Rattle.multiscale.specs.declared.RoiContext.{RoiContext}
 use Rattle.multiscale.specs.declared.RoiAnswer.{RoiAnswer}
 use Rattle.multiscale.specs.declared.RoiAnswer.the-variants.{Bounds, NoRoi, Refused}
 use Rattle.multiscale.specs.declared.Span.{Span}
 use Rattle.multiscale.specs.declared.Span.the-variants.{Ends, Nothing}
-use Rattle.multiscale.specs.Multiscale.{refusal, spanOn, bounds, unless, roiOf, numberOf}
+use Rattle.multiscale.specs.Multiscale.{refusal, spanOn, bounds, unless, roiOf, numberOf, valuesOf, endsOf}
 use Rattle.multiscale.specs.Promise.{Boxed}
 
 bounds-number : (s t : Span) → numberOf (bounds s t) ≡ 0
 bounds-number (Ends x0 x1) (Ends y0 y1) = refl
 bounds-number (Ends x0 x1) Nothing = refl
 bounds-number Nothing t = refl
+
+bounds-values : (s t : Span) → valuesOf (bounds s t) ≡ endsOf s t
+bounds-values (Ends x0 x1) (Ends y0 y1) = refl
+bounds-values (Ends x0 x1) Nothing = refl
+bounds-values Nothing t = refl
 
 module _ (c : RoiContext) (s : Corner) where
   number-is : numberOf (roiOf c s) ≡ refusal c s
@@ -24,8 +30,17 @@ module _ (c : RoiContext) (s : Corner) where
       go zero = bounds-number (spanOn c (c .width) (s .x)) (spanOn c (c .height) (s .y))
       go (suc k) = refl
 
+  values-are : valuesOf (roiOf c s) ≡ valuesUnless (refusal c s) (endsOf (spanOn c (c .width) (s .x)) (spanOn c (c .height) (s .y)))
+  unfolding roiOf
+  values-are = go (refusal c s)
+    where
+      go : (k : ℕ) → valuesOf (unless k (bounds (spanOn c (c .width) (s .x)) (spanOn c (c .height) (s .y))))
+          ≡ valuesUnless k (endsOf (spanOn c (c .width) (s .x)) (spanOn c (c .height) (s .y)))
+      go zero = bounds-values (spanOn c (c .width) (s .x)) (spanOn c (c .height) (s .y))
+      go (suc k) = refl
+
   promised : (a : RoiAnswer) → a ≡ roiOf c s → Boxed c s a
-  promised a e = record { answer = e; number = ap numberOf e ∙ number-is }
+  promised a e = record { answer = e; number = ap numberOf e ∙ number-is; values = ap valuesOf e ∙ values-are }
 
   -- n is the number of the refusal
   module _ (n : ℕ) (e : n ≡ refusal c s) where

@@ -96,3 +96,9 @@ abbrev pub valuesOf : RoiAnswer → List ℕ
 valuesOf (Bounds x0 y0 x1 y1) = x0 ∷ y0 ∷ x1 ∷ y1 ∷ []
 valuesOf NoRoi = []
 valuesOf (Refused n) = []
+
+-- and the ends by the two axes
+abbrev pub endsOf : Span → Span → List ℕ
+endsOf (Ends x0 x1) (Ends y0 y1) = x0 ∷ y0 ∷ x1 ∷ y1 ∷ []
+endsOf (Ends x0 x1) Nothing = []
+endsOf Nothing v = []

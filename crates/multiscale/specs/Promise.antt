@@ -2,14 +2,16 @@
 use Prim.Native.Nat.{_≤_}
 use mathlib.Core.Path.{_≡_}
 use mathlib.Core.Logic.{_⊎_}
+use Rattle.lists.specs.Refusals.{valuesUnless}
 use Rattle.corner_list.specs.declared.Corner.{Corner}
 use Rattle.multiscale.specs.declared.RoiContext.{RoiContext}
 use Rattle.multiscale.specs.declared.RoiAnswer.{RoiAnswer}
-use Rattle.multiscale.specs.Multiscale.{refusal, roiOf, numberOf}
+use Rattle.multiscale.specs.Multiscale.{refusal, spanOn, roiOf, numberOf, valuesOf, endsOf}
 
 pub record Boxed (c : RoiContext) (s : Corner) (a : RoiAnswer) : Type 0 where
   pub answer : a ≡ roiOf c s
   pub number : numberOf a ≡ refusal c s
+  pub values : valuesOf a ≡ valuesUnless (refusal c s) (endsOf (spanOn c (c .width) (s .x)) (spanOn c (c .height) (s .y)))
 
 -- a context by which no seed with coordinates from 0 to 4,096 is refused
 pub record Sound (c : RoiContext) : Type 0 where

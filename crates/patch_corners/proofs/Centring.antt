@@ -12,7 +12,7 @@ use Rattle.corner_list.specs.CornerList.{Slices, placesOf}
 use Rattle.detect.specs.declared.Peaks.{Peaks}
 use Rattle.detect.specs.declared.Peaks.the-variants.{Added, Refused}
 use Rattle.detect.specs.Detect.{refusalOf, answerOf, bufferOf, Found}
-use Rattle.detect.proofs.Answers.{Clear, Fitted, unrefused, added-tells}
+use Rattle.detect.proofs.Answers.{Clear, Fitted, found-by, unrefused, added-tells}
 use Rattle.patch_corners.specs.Needs.{Changed}
 use Rattle.patch_corners.proofs.Changing.{changed-fits, changed-placed}
 
@@ -22,11 +22,10 @@ both e = let z : _≡_ {A = ℕ} 0 1 = cc in absurd (omega arith)
 
 module _ (f : Corner → Corner) (conds : List (Bool × ℕ)) (cs : List Corner) (held : ℕ) (b : Slices) (answer : Peaks) (b′ : Slices) (found : Found conds cs held b answer b′) where
   found-map : (b″ : Slices) → b″ ≡ bufferOf (refusalOf conds (placesOf b) held (length cs)) held (map f cs) b → Found conds (map f cs) held b answer b″
-  found-map b″ e = record {
-    answered = rw (length-map cs f) (found .answered);
-    number = rw (length-map cs f) (found .number);
-    buffer = rw (length-map cs f) e;
-  }
+  found-map b″ e =
+      let n = length-map cs f in
+      found-by conds (map f cs) held b (refusalOf conds (placesOf b) held (length cs)) (ap (refusalOf conds (placesOf b) held) n)
+      answer b″ (rw n (found .answered)) e
 
   -- refused: the buffer is as it was, whatever the list
   pub found-not : (k : ℕ) → answer ≡ Refused k → Found conds (map f cs) held b answer b′
@@ -60,11 +59,7 @@ pub found-to : (conds conds′ : List (Bool × ℕ)) → Clear conds → Clear c
     → Found conds cs held b answer b′ → Found conds′ cs′ held b answer b′
 found-to conds conds′ c c′ cs cs′ e held b answer b′ found =
     subst (λ (l : List Corner). Found conds′ l held b answer b′) e
-    (record {
-      answered = found .answered ∙ ap (λ (r : ℕ). answerOf r (length cs)) same;
-      number = found .number ∙ same;
-      buffer = found .buffer ∙ ap (λ (r : ℕ). bufferOf r held cs b) same;
-    })
+    (found-by conds′ cs held b (refusalOf conds (placesOf b) held (length cs)) same answer b′ (found .answered) (found .buffer))
   where
-    same : refusalOf conds (placesOf b) held (length cs) ≡ refusalOf conds′ (placesOf b) held (length cs)
-    same = unfold refusalOf in (lowest-past conds _ (c .numbered) (c .none) ∙ sym (lowest-past conds′ _ (c′ .numbered) (c′ .none)))
+    same : refusalOf conds′ (placesOf b) held (length cs) ≡ refusalOf conds (placesOf b) held (length cs)
+    same = unfold refusalOf in (lowest-past conds′ _ (c′ .numbered) (c′ .none) ∙ sym (lowest-past conds _ (c .numbered) (c .none)))

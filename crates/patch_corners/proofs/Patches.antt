@@ -4,7 +4,7 @@ use Prim.Native.Nat.{ℕ, _*_, _≤_}
 use native.Mathlib.Nat.{eq-zero-or-pos, mul-comm, mul-le-mul}
 use native.Mathlib.Omega.{arith}
 use native.Mathlib.Decide.{decLt}
-use mathlib.Core.Path.{_≡_, refl, sym, _∙_}
+use mathlib.Core.Path.{_≡_, refl, sym, subst, _∙_}
 use mathlib.Core.Logic.{inl, ⊎-elim}
 use mathlib.Core.Bool.{Bool}
 use mathlib.Core.List.{List, [], _∷_}
@@ -12,9 +12,11 @@ use lib.Dec.{ltb}
 use lib.ListN.{length, take}
 use lib.Seq.{length-take-le}
 use lib.Ieee.{Float}
-use borrow.Author.Tests.{lt-ltb, le-ltb, ne-eqb}
+use borrow.Author.Tests.{lt-ltb, le-ltb}
+use Rattle.lists.specs.Buffer.{wipedFrom}
 use Rattle.lists.specs.Refusals.{lowest}
 use Rattle.lists.proofs.Refusals.{lowest-some, lowest-past}
+use Rattle.float32.specs.Float32.{zero}
 use Rattle.ring.specs.Ring.{ringOf}
 use Rattle.ring.proofs.Places.{ring-is}
 use Rattle.response.specs.Patch.{View, rows, cols, Patched}
@@ -25,9 +27,10 @@ use Rattle.response.proofs.Map.{Filled, filled, refused, never-refused, same-le
 use Rattle.accuracy.specs.Accurate.{Bytes}
 use Rattle.corner_list.specs.CornerList.{Slices}
 use Rattle.detect.specs.declared.Peaks.{Peaks}
-use Rattle.detect.specs.declared.Peaks.the-variants.{Refused}
+use Rattle.detect.specs.declared.Peaks.the-variants.{Added, Refused}
 use Rattle.detect.specs.Detect.{conditions, Found}
-use Rattle.detect.proofs.Answers.{Clear, Sound, clear, sound, sound-clear, found-refused}
+use Rattle.detect.proofs.Answers.{Clear, Sound, clear, sound, sound-clear}
+use Rattle.clearing.specs.Clearing.{clearedFrom}
 use Rattle.frame_pass.specs.declared.FrameParams.{FrameParams}
 use Rattle.frame_pass.specs.Pass.{computedChoice, cornersIn}
 use Rattle.frame_pass.proofs.Refusals.{ring-decides}
@@ -36,6 +39,7 @@ use Rattle.frame_pass.proofs.Accepting.{corners-centred}
 use Rattle.patch_corners.specs.PatchCorners.{patchConditions, AddedCorners}
 use Rattle.patch_corners.specs.Needs.{centresIn}
 use Rattle.patch_corners.proofs.Centring.{found-to}
+use Rattle.patch_corners.proofs.Adding.{patch-numbered, refused-by, added-by, cleared-by}
 
 module _ (p : FrameParams) (v : View) where
   -- the conditions on image and parameters
@@ -51,16 +55,10 @@ module _ (p : FrameParams) (v : View) where
   unfolding patchConditions
   input-past places c = lowest-past inputConditions _ (c .numbered) (c .none)
 
+  -- ---- refused: both buffers are as they were
   module _ (held : ℕ) (d : List Float) (b : Slices) where
-    -- ---- refused: both buffers are as they were
-    refused-by : (k : ℕ) → lowest (patchConditions p v (length d)) ≡ k → (k ≡ 0 → ⊥) → AddedCorners p v held d b (Refused k) d b
-    refused-by k e n = record {
-      found = found-refused (patchConditions p v (length d)) (cornersIn p (computedChoice p) v) held b k (sym e) n;
-      map = rw (e, ne-eqb k 0 n);
-    }
-
     pub when-fault : (k : ℕ) → k ≡ lowest inputConditions → (k ≡ 0 → ⊥) → AddedCorners p v held d b (Refused k) d b
-    when-fault k e n = refused-by k (input-first (length d) (λ z. n (e ∙ z)) ∙ sym e) n
+    when-fault k e n = refused-by p v held d b _ k (input-first (length d) (λ z. n (e ∙ z)) ∙ sym e) n
 
     module _ (none : lowest inputConditions ≡ 0) (e : List Float) (m : Patch) (patched : Patched v (p .ring) d e m) where
       input-sound : Sound (length (v .img)) (v .w) (v .h) (p .ring) (p .window) (p .centroid)
@@ -72,7 +70,8 @@ module _ (p : FrameParams) (v : View) where
           elim (decLt (length d) (rows v * cols v)) [
             | yes l ↦
                 rw (refused v (p .ring) d e m patched k q .1)
-                (refused-by 8 (input-past (length d) (clear _ _ _ _ _ _ none) ∙ rw (lt-ltb (length d) (rows v * cols v) l)) (λ z. let no : ⊥ = omega arith in no))
+                (refused-by p v held d b _ 8 (input-past (length d) (clear _ _ _ _ _ _ none) ∙ rw (lt-ltb (length d) (rows v * cols v) l))
+                (λ z. let no : ⊥ = omega arith in no))
             | no g ↦
                 absurd
                 (never-refused v (p .ring) d e m patched
@@ -88,12 +87,6 @@ module _ (p : FrameParams) (v : View) where
           ]
 
 -- ---- the whole table
-pub patch-numbered : (p : FrameParams) (v : View) (places : ℕ) → lowest (patchConditions p v places) ≡ 0 → Clear (patchConditions p v places)
-patch-numbered p v places none = record {
-  numbered = unfold patchConditions conditions in (omega arith, (omega arith, (omega arith, (omega arith, tt))));
-  none = none;
-}
-
 -- no condition holds: image and parameters are sound
 pub patch-sound : (p : FrameParams) (v : View) (places : ℕ) → lowest (patchConditions p v places) ≡ 0
     → Sound (length (v .img)) (v .w) (v .h) (p .ring) (p .window) (p .centroid)
@@ -178,12 +171,22 @@ module _ (p : FrameParams) (v : View) (d e : List Float) (pw ph : ℕ) (made : M
         rw (front-is v d e pw ph (made .holds), made .holds .cols-are, made .holds .rows-are)
         (sym (corners-centred plain v (computedChoice p) fine (inl refl)))
 
-    pub when-made : (held : ℕ) (b : Slices) (answer : Peaks) (b′ : Slices)
-        → Found (conditions (length (take (ph * pw) e)) pw ph (p .ring) (p .window) (p .centroid)) (centresIn p (take (ph * pw) e) pw ph) held b answer b′
-        → AddedCorners p v held d b answer e b′
-    when-made held b answer b′ f =
-        let taken = patch-clear p v (length d) (made .sound) (rw (← made .holds .cols-are, ← made .holds .rows-are) (made .holds .enough)) in
-        record {
-          found = found-to _ (patchConditions p v (length d)) searched taken _ _ centres held b answer b′ f;
-          map = made .holds .fills ∙ rw (taken .none);
-        }
+    module _ (held : ℕ) (b : Slices) (answer : Peaks) (b′ : Slices)
+        (f : Found (conditions (length (take (ph * pw) e)) pw ph (p .ring) (p .window) (p .centroid)) (centresIn p (take (ph * pw) e) pw ph)
+        held b answer b′) where
+      taken : Clear (patchConditions p v (length d))
+      taken = patch-clear p v (length d) (made .sound) (rw (← made .holds .cols-are, ← made .holds .rows-are) (made .holds .enough))
+
+      of-box : Found (patchConditions p v (length d)) (cornersIn p (computedChoice p) v) held b answer b′
+      of-box = found-to _ (patchConditions p v (length d)) searched taken _ _ centres held b answer b′ f
+
+      -- they were added
+      pub when-added : (n : ℕ) → answer ≡ Added n → AddedCorners p v held d b (Added n) e b′
+      when-added n q =
+          added-by p v held d b _ n b′ (subst (λ (r : Peaks). Found (patchConditions p v (length d)) (cornersIn p (computedChoice p) v) held b r b′) q of-box)
+          e (made .holds .fills)
+
+      -- or they do not fit, and both buffers were cleared
+      pub when-full : (k : ℕ) → answer ≡ Refused k → (e′ : List Float) → e′ ≡ wipedFrom 0 zero e → (b″ : Slices) → b″ ≡ clearedFrom 0 b′
+          → AddedCorners p v held d b answer e′ b″
+      when-full k q e′ w b″ c = cleared-by p v held d b taken _ answer b′ of-box k q e e′ (same-length v d e pw ph (made .holds)) w b″ c

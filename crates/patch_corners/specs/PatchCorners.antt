@@ -6,12 +6,15 @@ use mathlib.Core.List.{List, [], _∷_, _++_}
 use lib.ListN.{length}
 use lib.Dec.{ltb, eqb}
 use lib.Ieee.{Float}
-use Rattle.lists.specs.Buffer.{front}
-use Rattle.lists.specs.Refusals.{lowest}
+use Rattle.lists.specs.Buffer.{front, wipedFrom}
+use Rattle.lists.specs.Refusals.{valuesUnless}
+use Rattle.float32.specs.Float32.{zero}
 use Rattle.response.specs.Patch.{View, rows, cols, cells}
-use Rattle.corner_list.specs.CornerList.{Slices}
+use Rattle.corner_list.specs.declared.Corner.{Corner}
+use Rattle.corner_list.specs.CornerList.{Slices, placesOf, placedCorners}
 use Rattle.detect.specs.declared.Peaks.{Peaks}
-use Rattle.detect.specs.Detect.{conditions, Found}
+use Rattle.detect.specs.Detect.{conditions, refusalOf, answerOf, numberOf, valuesOf}
+use Rattle.clearing.specs.Clearing.{clearedFrom, leftBy}
 use Rattle.frame_pass.specs.declared.FrameParams.{FrameParams}
 use Rattle.frame_pass.specs.Pass.{computedChoice, cornersIn}
 
@@ -21,8 +24,21 @@ unfoldable pub patchConditions : FrameParams → View → ℕ → List (Bool × 
 patchConditions p v places =
     conditions (length (v .img)) (v .w) (v .h) (p .ring) (p .window) (p .centroid) ++ ((ltb places (rows v * cols v), 8) ∷ [])
 
--- What `add_patch_corners` promises of a box v, a map buffer d and a buffer b that holds `held`: answer, number and buffer as peak finding
--- does, 10 included, for the corners of the box's map; and the map first in its buffer, which is as it was where a condition holds
-pub record AddedCorners (p : FrameParams) (v : View) (held : ℕ) (d : List Float) (b : Slices) (answer : Peaks) (d′ : List Float) (b′ : Slices) : Type 0 where
-  pub found : Found (patchConditions p v (length d)) (cornersIn p (computedChoice p) v) held b answer b′
-  pub map : d′ ≡ cond (eqb (lowest (patchConditions p v (length d))) 0) (front (cells v) d) d
+-- the number, 0 for none: those, and then 10 where the corners cs do not fit behind the first `held` of a buffer b, as in peak finding
+abbrev pub patchRefusal : FrameParams → View → List Corner → ℕ → List Float → Slices → ℕ
+patchRefusal p v cs held d b = refusalOf (patchConditions p v (length d)) (placesOf b) held (length cs)
+
+-- What is promised of the corners cs of a box v, added behind the first `held` of a buffer b with the map buffer d: the answer, its number
+-- and values, and both buffers afterwards. Finished, the box's map stands first in d and the corners in their places in b; 10 leaves both
+-- zero in their whole length, as in a frame; any other refusal changes neither
+pub record BoxAdded (p : FrameParams) (v : View) (cs : List Corner) (held : ℕ) (d : List Float) (b : Slices) (answer : Peaks) (d′ : List Float) (b′ : Slices)
+    : Type 0 where
+  pub answered : answer ≡ answerOf (patchRefusal p v cs held d b) (length cs)
+  pub number : numberOf answer ≡ patchRefusal p v cs held d b
+  pub values : valuesOf answer ≡ valuesUnless (patchRefusal p v cs held d b) (length cs ∷ [])
+  pub map : d′ ≡ leftBy (patchRefusal p v cs held d b) (front (cells v) d) (wipedFrom 0 zero d) d
+  pub corners : b′ ≡ leftBy (patchRefusal p v cs held d b) (placedCorners held cs b) (clearedFrom 0 b) b
+
+-- What `add_patch_corners` promises: so of the corners of the box's map, by the map's columns and rows
+abbrev pub AddedCorners : FrameParams → View → ℕ → List Float → Slices → Peaks → List Float → Slices → Type 0
+AddedCorners p v = BoxAdded p v (cornersIn p (computedChoice p) v)

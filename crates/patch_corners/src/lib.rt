@@ -71,7 +71,7 @@ fn add_peaks(
 }
 
 // Adds the corners of a box of an image of w by h, the columns x0 up to, not including, x1 of the rows y0 up to y1, behind the
-// first `held` of a buffer. The box's map stands first in the map buffer.
+// first `held` of a buffer. The box's map stands first in the map buffer; where the corners do not fit, both buffers are cleared.
 pub fn add_patch_corners(
     img: &[u8],
     w: usize,
@@ -100,5 +100,11 @@ pub fn add_patch_corners(
         return Peaks::Refused(8);
     };
     let cells = ph * pw;
-    add_peaks(&map[..cells], pw, ph, p, xs, ys, strengths, held)
+    let f = add_peaks(&map[..cells], pw, ph, p, xs, ys, strengths, held);
+    let Peaks::Added(n) = f else {
+        clearing::clear(map, 0);
+        clearing::clear_list(xs, ys, strengths, 0);
+        return f;
+    };
+    Peaks::Added(n)
 }

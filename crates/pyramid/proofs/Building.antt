@@ -85,8 +85,8 @@ module _ (base d : List ℕ) (w h n k a b from to : ℕ) (s : List ℕ) (sized :
 module _ (base : List ℕ) (w h count least : ℕ) (d : List ℕ) where
   pub built-refused : (n : ℕ) → buildRefusal (length base) (length d) w h count least ≡ n → (n ≡ 0 → ⊥) → Built base w h count least d (Refused n) d
   built-refused zero e z = absurd (z refl)
-  built-refused (suc n) e z = record { answer = rw e; buffer = rw (ne-eqb (suc n) 0 z) }
+  built-refused (suc n) e z = record { answer = rw e; number = sym e; values = rw e; buffer = rw (e, ne-eqb (suc n) 0 z) }
 
   pub built-filled : (n : ℕ) (s : List ℕ) → buildRefusal (length base) (length d) w h count least ≡ 0 → n ≡ levelCount w h count least → Filled base w h n d s
       → Built base w h count least d (Levels n) s
-  built-filled n s e q f = record { answer = rw (e, q); buffer = f .is ∙ rw q }
+  built-filled n s e q f = record { answer = rw (e, q); number = sym e; values = rw (e, q); buffer = f .is ∙ rw (e, q) }

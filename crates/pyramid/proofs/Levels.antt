@@ -15,9 +15,9 @@ use Rattle.pyramid_levels.specs.Level.{levelAnswer}
 use Rattle.pyramid_levels.specs.declared.LevelAnswer.the-variants.{Level}
 use Rattle.pyramid_levels.proofs.Sides.{side-le, count-few}
 use Rattle.pyramid_levels.proofs.Refusals.{Accepted, accepts, accepted, level-accepts}
-use Rattle.pyramid_levels.proofs.Answers.{answer-level}
+use Rattle.pyramid_levels.proofs.Answers as answers
 use Rattle.pyramid.specs.Pyramid.{boxOf, halfPixel, halved, levelPixels, above}
-use Rattle.pyramid.specs.Build.{answerOf, numberOf, Built}
+use Rattle.pyramid.specs.Build.{answerOf, Built}
 use Rattle.pyramid.specs.Level.{levelIn}
 use Rattle.pyramid.specs.declared.Pyramid.{Pyramid}
 use Rattle.pyramid.specs.declared.Pyramid.the-variants.{Levels, Refused}
@@ -47,7 +47,7 @@ module _ (base : List ℕ) (w h count least : ℕ) (d : List ℕ) (r : Pyramid) 
   built n c =
       let q = levels-is (levelCount w h count least) (buildRefusal (length base) (length d) w h count least) n (sym (b .answer) ∙ c) in
       let a = accepted _ _ _ _ _ _ (q .0) in
-      let f : e ≡ front (above base w h n) d = b .buffer ∙ rw (c, q .1) in
+      let f : e ≡ front (above base w h n) d = b .buffer ∙ rw (q .0, q .1) in
       record {
         allowed = a;
         counted = q .1;
@@ -59,15 +59,7 @@ module _ (base : List ℕ) (w h count least : ℕ) (d : List ℕ) (r : Pyramid) 
   pub refused : (n : ℕ) → r ≡ Refused n → (buildRefusal (length base) (length d) w h count least ≡ n) × (e ≡ d)
   refused n c =
       let q = refused-is (levelCount w h count least) (buildRefusal (length base) (length d) w h count least) n (sym (b .answer) ∙ c) in
-      (q .0, b .buffer ∙ rw (c, ne-eqb n 0 (λ (z : n ≡ 0). omega (arith, q .1))))
-
-  -- the answer's number is the lowest that refuses
-  pub number : numberOf r ≡ buildRefusal (length base) (length d) w h count least
-  number = ap numberOf (b .answer) ∙ of (buildRefusal (length base) (length d) w h count least)
-    where
-      of : (k : ℕ) → numberOf (answerOf (levelCount w h count least) k) ≡ k
-      of zero = refl
-      of (suc k) = refl
+      (q .0, b .buffer ∙ rw (q .0, ne-eqb n 0 (λ (z : n ≡ 0). omega (arith, q .1))))
 
   -- where nothing refuses, all levels are built
   pub builds : Accepted (length base) (length d) w h count least → r ≡ Levels (levelCount w h count least)
@@ -88,7 +80,7 @@ module _ (base : List ℕ) (w h count least : ℕ) (d e : List ℕ) (n : ℕ) (c
 
   -- `level_at` says where level k lies
   pub level-place : levelAnswer (length base) (length e) w h count least k ≡ Level (cellsAbove w h k) (levelSide w k) (levelSide h k)
-  level-place = sym (answer-level _ _ _ _ _ _ _ _ free refl)
+  level-place = sym (answers.level-found _ _ _ _ _ _ _ _ free refl .answer)
 
   -- `level` hands out the base, halved k times
   pub level-found : levelIn base e w h count least k ≡ levelPixels base w h k

@@ -2,10 +2,11 @@
 use Prim.Native.Nat.{ℕ, zero, suc}
 use mathlib.Core.Path.{_≡_}
 use mathlib.Core.Bool.{cond}
-use mathlib.Core.List.{List}
+use mathlib.Core.List.{List, [], _∷_}
 use lib.Dec.{eqb}
 use lib.ListN.{length}
 use Rattle.lists.specs.Buffer.{front}
+use Rattle.lists.specs.Refusals.{valuesUnless}
 use Rattle.pyramid_levels.specs.Levels.{levelCount}
 use Rattle.pyramid_levels.specs.Refusals.{buildRefusal}
 use Rattle.pyramid.specs.Pyramid.{above}
@@ -17,13 +18,19 @@ abbrev pub answerOf : ℕ → ℕ → Pyramid
 answerOf n zero = Levels n
 answerOf n (suc k) = Refused (suc k)
 
--- and an answer's number
+-- document 01's number and values of each case: 0 for no refusal, and how many levels there are
 abbrev pub numberOf : Pyramid → ℕ
 numberOf (Levels n) = 0
 numberOf (Refused k) = k
+
+abbrev pub valuesOf : Pyramid → List ℕ
+valuesOf (Levels n) = n ∷ []
+valuesOf (Refused k) = []
 
 -- the promise of `build_pyramid`: r is the answer, and the level buffer d becomes e, the levels above the base first and the rest as it was, or
 -- all as it was
 pub record Built (base : List ℕ) (w h count least : ℕ) (d : List ℕ) (r : Pyramid) (e : List ℕ) : Type 0 where
   pub answer : r ≡ answerOf (levelCount w h count least) (buildRefusal (length base) (length d) w h count least)
-  pub buffer : e ≡ cond (eqb (numberOf r) 0) (front (above base w h (levelCount w h count least)) d) d
+  pub number : numberOf r ≡ buildRefusal (length base) (length d) w h count least
+  pub values : valuesOf r ≡ valuesUnless (buildRefusal (length base) (length d) w h count least) (levelCount w h count least ∷ [])
+  pub buffer : e ≡ cond (eqb (buildRefusal (length base) (length d) w h count least) 0) (front (above base w h (levelCount w h count least)) d) d

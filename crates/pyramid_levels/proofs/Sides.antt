@@ -1,6 +1,6 @@
 -- Laws of the levels' sides and of how many levels there are. Assumes nothing.
 use Prim.Native.Nat.{ℕ, zero, suc, _+_, _-_, _/_, _^_, _<_, _≤_}
-use native.Mathlib.Nat.{div-div-eq-div-mul, div-one, div-le-self, div-eq-of-lt, pow-suc, mul-comm, le-of-suc-le-suc, pos-of-ne-zero}
+use native.Mathlib.Nat.{div-div-eq-div-mul, div-one, div-le-self, div-eq-of-lt, pow-suc, pow-le-pow-right, mul-comm, le-of-suc-le-suc, pos-of-ne-zero}
 use native.Mathlib.Decide.{decLt}
 use native.Mathlib.Numerals.{one-add}
 use native.Mathlib.Omega.{arith}
@@ -22,6 +22,17 @@ side-next side k s e = ap (λ (n : ℕ). n / 2) e ∙ div-div-eq-div-mul side (2
 
 pub side-le : (side k : ℕ) → levelSide side k ≤ side
 side-le side k = div-le-self side (2 ^ k)
+
+-- a side below 2^s has nothing left from level s on
+pub side-few : (side s k : ℕ) → side < 2 ^ s → 0 < levelSide side k → k < s
+side-few side s k l p =
+    elim (decLt k s) [
+      | yes m ↦ m
+      | no g ↦
+          let more : 2 ^ s ≤ 2 ^ k = pow-le-pow-right {n = 2} (omega arith) {i = s} {j = k} (omega arith) in
+          let none : levelSide side k ≡ 0 = div-eq-of-lt (omega arith) in
+          absurd (let no : ⊥ = omega arith in no)
+    ]
 
 -- ---- how many levels
 

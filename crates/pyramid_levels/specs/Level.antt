@@ -1,5 +1,8 @@
 -- What `level_at` answers: where level k lies.
 use Prim.Native.Nat.{ℕ, zero, suc}
+use mathlib.Core.Path.{_≡_}
+use mathlib.Core.List.{List, [], _∷_}
+use Rattle.lists.specs.Refusals.{valuesUnless}
 use Rattle.pyramid_levels.specs.Levels.{levelSide, cellsAbove}
 use Rattle.pyramid_levels.specs.Refusals.{levelRefusal}
 use Rattle.pyramid_levels.specs.declared.LevelAnswer.{LevelAnswer}
@@ -11,12 +14,22 @@ abbrev pub answerOf : ℕ → ℕ → ℕ → ℕ → LevelAnswer
 answerOf w h k zero = Level (cellsAbove w h k) (levelSide w k) (levelSide h k)
 answerOf w h k (suc n) = Refused (suc n)
 
--- and an answer's number
+-- document 01's number and values of each case: 0 for no refusal, and where the level begins with its sides
 abbrev pub numberOf : LevelAnswer → ℕ
 numberOf (Level from w h) = 0
 numberOf (Refused n) = n
 
--- the promise of `level_at`, for `pixels` in the base and `places` in the level buffer
+abbrev pub valuesOf : LevelAnswer → List ℕ
+valuesOf (Level from w h) = from ∷ w ∷ h ∷ []
+valuesOf (Refused n) = []
+
+-- the answer for level k, of `pixels` in the base and `places` in the level buffer
 unfoldable pub levelAnswer : ℕ → ℕ → ℕ → ℕ → ℕ → ℕ → ℕ → LevelAnswer
 unfolding levelRefusal
 levelAnswer pixels places w h count least k = answerOf w h k (levelRefusal pixels places w h count least k)
+
+-- the promise of `level_at`
+pub record LevelFound (pixels places w h count least k : ℕ) (r : LevelAnswer) : Type 0 where
+  pub answer : r ≡ levelAnswer pixels places w h count least k
+  pub number : numberOf r ≡ levelRefusal pixels places w h count least k
+  pub values : valuesOf r ≡ valuesUnless (levelRefusal pixels places w h count least k) (cellsAbove w h k ∷ levelSide w k ∷ levelSide h k ∷ [])

@@ -4,7 +4,7 @@ mod count; // count.rt: which levels are built, and capped sums
 ghost use mathlib.Core.Path.{_≡_};
 ghost use Rattle.pyramid_levels.specs.Levels.{levelCount, cellsAbove, capped};
 ghost use Rattle.pyramid_levels.specs.Refusals.{imageRefusal, buildRefusal, levelRefusal};
-ghost use Rattle.pyramid_levels.specs.Level.{levelAnswer};
+ghost use Rattle.pyramid_levels.specs.Level.{LevelFound};
 
 // Where a level begins, in the base or in the level buffer, and its sides, or the number of a refusal.
 pub enum LevelAnswer {
@@ -41,7 +41,8 @@ pub fn level_count(width: usize, height: usize, num_levels: u32, min_size: usize
     n
 }
 
-// How many pixels levels 1 .. n - 1 have, behind which level n begins; the largest usize where there are more.
+// How many pixels levels 1 .. n - 1 have, behind which level n begins; the largest usize where there are more. Above a level without pixels no
+// level has any, so at most 64 are looked at.
 pub fn cells_before(width: usize, height: usize, n: usize) -> usize
     ensures { λ r. ⌜ r ≡ capped (cellsAbove width height n) ⌝ }
 {
@@ -52,7 +53,11 @@ pub fn cells_before(width: usize, height: usize, n: usize) -> usize
     while k + 1 < n {
         w = w / 2;
         h = h / 2;
-        sum = count::capped_sum(sum, count::capped_product(w, h));
+        let cells = count::capped_product(w, h);
+        if cells == 0 {
+            return sum;
+        }
+        sum = count::capped_sum(sum, cells);
         k += 1;
     }
     sum
@@ -130,7 +135,7 @@ pub fn level_at(
     min_size: usize,
     k: usize,
 ) -> LevelAnswer
-    ensures { λ r. ⌜ r ≡ levelAnswer pixels places width height «num_levels» «min_size» k ⌝ }
+    ensures { λ r. ⌜ LevelFound pixels places width height «num_levels» «min_size» k r ⌝ }
 {
     let no = level_fault(pixels, places, width, height, num_levels, min_size, k);
     if no != 0 {

@@ -14,7 +14,7 @@ use Rattle.lists.proofs.Places.{in-map}
 use Rattle.lists.proofs.Members.{all-grid}
 use Rattle.lists.proofs.Buffer.{front-length, front-take, front-drop}
 use Rattle.ring.specs.Ring.{Ring}
-use Rattle.response.specs.Patch.{View, whole, sideOf, cols, rows, left, top, responseIn, cells, refusal, answerOf, numberOf, Patched}
+use Rattle.response.specs.Patch.{View, whole, sideOf, cols, rows, left, top, responseIn, cells, refusal, answerOf, Patched}
 use Rattle.response.specs.declared.Patch.{Patch}
 use Rattle.response.specs.declared.Patch.the-variants.{Cells, Refused}
 use Rattle.response.proofs.Outcome.{taken}
@@ -44,22 +44,14 @@ module _ (v : View) (radius : ℕ) (d e : List Float) (r : Patch) (p : Patched v
         cols-are = q .1;
         rows-are = q .2;
         enough = rw (q .1, q .2) (taken _ _ _ _ _ _ (q .0) .enough);
-        fills = p .buffer ∙ rw c;
+        fills = p .buffer ∙ rw (q .0);
       }
 
   -- or refused, and the buffer is as it was
   pub refused : (n : ℕ) → r ≡ Refused n → (refusal v radius (length d) ≡ n) × (e ≡ d)
   refused n c =
       let q = refused-is v (refusal v radius (length d)) n (sym (p .answer) ∙ c) in
-      (q .0, p .buffer ∙ rw (c, ne-eqb n 0 (λ (z : n ≡ 0). let no : ⊥ = omega (arith, q .1) in no)))
-
-  -- the answer's number is the lowest that refuses
-  pub number : numberOf r ≡ refusal v radius (length d)
-  number = ap numberOf (p .answer) ∙ of (refusal v radius (length d))
-    where
-      of : (n : ℕ) → numberOf (answerOf v n) ≡ n
-      of zero = refl
-      of (suc n) = refl
+      (q .0, p .buffer ∙ rw (q .0, ne-eqb n 0 (λ (z : n ≡ 0). let no : ⊥ = omega (arith, q .1) in no)))
 
   -- where nothing refuses, a map is made
   module _ (none : refusal v radius (length d) ≡ 0) where

@@ -1,5 +1,5 @@
 -- What no refusal tells of a call, the clipped box in the image, and what each call answers and leaves. Assumes nothing.
-use mathlib.Core.Path.{_≡_, refl, _∙_}
+use mathlib.Core.Path.{_≡_, refl, sym, _∙_}
 use mathlib.Core.Logic.{_⊎_}
 use mathlib.Core.Bool.{Bool, true, false, cond, not}
 use mathlib.Core.List.{List, [], _∷_, _++_}
@@ -82,7 +82,7 @@ number-is v radius places n pw ph e c r = rw (e, c, r)
 module _ (v : View) (radius : ℕ) (d : List Float) where
   pub when-refused : (n : ℕ) → n ≡ refusal v radius (length d) → (n ≡ 0 → ⊥) → Patched v radius d d (Refused n)
   when-refused zero e z = absurd (z refl)
-  when-refused (suc n) e z = record { answer = rw (← e); buffer = rw (eqb·suc-zero n) }
+  when-refused (suc n) e z = record { answer = rw (← e); number = e; values = rw (← e); buffer = rw (← e, eqb·suc-zero n) }
 
   -- what the rows fill is what the map holds
   pub when-filled : (n pw ph x y : ℕ) (e : List Float) → n ≡ refusal v radius (length d) → n ≡ 0 → pw ≡ cols v → ph ≡ rows v → x ≡ left v → y ≡ top v
@@ -92,5 +92,7 @@ module _ (v : View) (radius : ℕ) (d : List Float) where
   when-filled n pw ph x y e q z c r l t f =
       record {
         answer = rw (← q, z, c, r);
-        buffer = f ∙ rw (c, r, l, t, length-grid (cols v) (rows v));
+        number = sym z ∙ q;
+        values = rw (← q, z, c, r);
+        buffer = f ∙ rw (← q, z, c, r, l, t, length-grid (cols v) (rows v));
       }

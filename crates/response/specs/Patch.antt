@@ -8,7 +8,7 @@ use lib.ListN.{length}
 use lib.Ieee.{Float}
 use Rattle.lists.specs.Tab.{grid}
 use Rattle.lists.specs.Buffer.{front}
-use Rattle.lists.specs.Refusals.{lowest, isLarge, isMisfit}
+use Rattle.lists.specs.Refusals.{lowest, valuesUnless, isLarge, isMisfit}
 use Rattle.ring.specs.Ring.{Ring, isRing}
 use Rattle.response.specs.Response.{responseAt}
 use Rattle.response.specs.declared.Patch.{Patch}
@@ -74,13 +74,19 @@ abbrev pub answerOf : View → ℕ → Patch
 answerOf v zero = Cells (cols v) (rows v)
 answerOf v (suc n) = Refused (suc n)
 
--- and an answer's number
+-- document 01's number and values of each case: 0 for no refusal, and the map's sides
 abbrev pub numberOf : Patch → ℕ
 numberOf (Cells pw ph) = 0
 numberOf (Refused n) = n
+
+abbrev pub valuesOf : Patch → List ℕ
+valuesOf (Cells pw ph) = pw ∷ ph ∷ []
+valuesOf (Refused n) = []
 
 -- the promise of `chess_response_u8_patch`: r is the answer, and the buffer d becomes e: the map's cells first and the rest as it was, and
 -- all of it as it was where the call is refused
 pub record Patched (v : View) (radius : ℕ) (d e : List Float) (r : Patch) : Type 0 where
   pub answer : r ≡ answerOf v (refusal v radius (length d))
-  pub buffer : e ≡ cond (eqb (numberOf r) 0) (front (cells v) d) d
+  pub number : numberOf r ≡ refusal v radius (length d)
+  pub values : valuesOf r ≡ valuesUnless (refusal v radius (length d)) (cols v ∷ rows v ∷ [])
+  pub buffer : e ≡ cond (eqb (refusal v radius (length d)) 0) (front (cells v) d) d

@@ -16,8 +16,10 @@ use Rattle.lists.proofs.Tab.{length-tab, getD-tab}
 use Rattle.lists.proofs.Tests.{or-neither}
 use Rattle.lists.proofs.Refusals.{lowest-none}
 use Rattle.stream.specs.declared.Header.{Header}
-use Rattle.stream.specs.Stream.{u8, u16, u32, bodyLength, bodyOf, behind, headerOf, sidesFault, parametersFault, paddingFault, bodyFault, recordFault, Reading, accepted, readRecord, recordsFor, readPixels, readParameters, readFrame, bytes16, bytes32, sidesBytes, parametersBytes, pixelBytes, frameBytes}
+use Rattle.stream.specs.Stream.{u8, u16, u32, bodyLength, bodyOf, behind, headerOf, paddingFault, bodyFault, recordFault, Reading, accepted, readRecord, recordsFor, readPixels, readParameters, readFrame}
+use Rattle.stream.specs.RoundTrip.{bytes16, bytes32, sidesBytes, parametersBytes, pixelBytes, frameBytes, Accepted, AcceptedGood, AcceptedOnly, RoundTrip}
 use Rattle.stream.proofs.Records.{sound}
+use Rattle.stream.proofs.RoundTrip.{frame-back}
 
 -- ---- a record behind which the stream is accepted
 pub record Came (kind left : ℕ) (s : List ℕ) (next : List ℕ → List ℕ → Reading) (r : Reading) : Type 0 where
@@ -48,7 +50,7 @@ module _ (kind left : ℕ) (s : List ℕ) (next : List ℕ → List ℕ → Read
       }
 
 -- ---- bytes and the numbers made of them
-abbrev pub Bytes : List ℕ → Type 0
+abbrev Bytes : List ℕ → Type 0
 Bytes s = All (λ v. v < 256) s
 
 byte-at : (s : List ℕ) → Bytes s → (i : ℕ) → getD s i 0 < 256
@@ -197,11 +199,6 @@ pixels-only h (suc n) left done s k pixels e r =
     }
 
 -- ---- the whole stream
-pub record Accepted (h : Header) (pixels : List ℕ) : Type 0 where
-  pub sides : sidesFault (h .width) (h .height) ≡ 0
-  pub parameters : parametersFault (h .ring) (h .window) (h .centroid) (h .«merge_bits») ≡ 0
-  pub long : length pixels ≡ h .width * h .height
-
 module _ (s : List ℕ) (h : Header) (pixels : List ℕ) (e : readFrame s ≡ accepted h pixels) where
   abbrev readRest : List ℕ → List ℕ → Reading
   readRest parameters rest =
@@ -222,9 +219,9 @@ module _ (s : List ℕ) (h : Header) (pixels : List ℕ) (e : readFrame s ≡ ac
   third : Pixels said (recordsFor (said .width * said .height)) (said .width * said .height) [] (behind 2 (behind 1 s)) h pixels
   third = pixels-only said (recordsFor (said .width * said .height)) (said .width * said .height) [] (behind 2 (behind 1 s)) h pixels refl (second .goes-on)
 
-  pub accepted-good : Accepted h pixels
+  good : Accepted h pixels
   unfolding bodyFault
-  accepted-good = record {
+  good = record {
     sides = rw (third .same) (first .good);
     parameters = rw (third .same) (second .good);
     long = ap length (third .gathered) ∙ third .long ∙ ap (λ (k : Header). k .width * k .height) (sym (third .same));
@@ -250,6 +247,16 @@ module _ (s : List ℕ) (h : Header) (pixels : List ℕ) (e : readFrame s ≡ ac
         ∙ ap (λ (t : List ℕ). 1 ∷ (t ++ (2 ∷ (bodyOf 2 (behind 1 s) ++ behind 2 (behind 1 s))))) sides
         ∙ ap₂ (λ (p t : List ℕ). 1 ∷ (sidesBytes said ++ (2 ∷ (p ++ t)))) parameters pixels-part
 
-    pub accepted-only : take (length (frameBytes h pixels)) s ≡ frameBytes h pixels
-    accepted-only =
+    only : take (length (frameBytes h pixels)) s ≡ frameBytes h pixels
+    only =
         rw (third .same, third .gathered) (ap (take (length (frameBytes said (third .more)))) written ∙ take-at (frameBytes said (third .more)) (third .rest) (length (frameBytes said (third .more))) refl)
+
+-- ---- the statements
+pub accepted-good : AcceptedGood
+accepted-good = good
+
+pub accepted-only : AcceptedOnly
+accepted-only = only
+
+pub round-trip : RoundTrip
+round-trip = record { frame-back = frame-back; accepted-good = good; accepted-only = only }

@@ -13,7 +13,7 @@ use Rattle.lists.proofs.Buffer.{front-take}
 use Rattle.stream.specs.declared.Header.{Header}
 use Rattle.stream.specs.declared.FrameStream.the-variants.{Frame, Refused}
 use Rattle.stream.specs.Stream.{accepted, refused, readFrame}
-use Rattle.stream.specs.Answer.{bufferAfter, FrameRead}
+use Rattle.stream.specs.Answer.{faultOf, statedIn, bufferAfter, FrameRead}
 use Rattle.stream.specs.Parts.{headerAt, pixelCount, pixelAt, Small, Judged}
 
 pub pixels-are : (s : List ℕ) (header : Header) → header ≡ headerAt s → header .width * header .height ≡ pixelCount s
@@ -28,7 +28,7 @@ module _ (s d : List ℕ) (n : ℕ) (j : Judged s n) where
   pub refused-read : (n ≡ 0 → ⊥) → FrameRead s d (Refused n) d
   refused-read h =
       let is : readFrame s ≡ refused n = j .reading ∙ rw (ne-eqb n 0 h) in
-      record { reading = sym is; pixels = ap (λ r. bufferAfter r d) (sym is) }
+      record { reading = sym is; number = ap faultOf (sym is); values = ap statedIn (sym is); pixels = ap (λ r. bufferAfter r d) (sym is) }
 
   pub frame-read : n ≡ 0 → (header : Header) (k : ℕ) (after : List ℕ) → header ≡ headerAt s → k ≡ pixelCount s → after ≡ front (tab k (pixelAt s)) d → FrameRead s d (Frame header) after
   frame-read z header k after e q r =
@@ -37,4 +37,9 @@ module _ (s d : List ℕ) (n : ℕ) (j : Judged s n) where
       let stands : after ≡ front pixels d = r ∙ ap (λ (k : ℕ). front (tab k (pixelAt s)) d) q in
       let first : take (header .width * header .height) after ≡ pixels =
       ap (take (header .width * header .height)) stands ∙ front-take pixels d (header .width * header .height) (pixels-are s header e ∙ sym (length-tab (pixelCount s) (pixelAt s))) in
-      record { reading = ap (accepted header) first ∙ sym is; pixels = stands ∙ ap (λ r. bufferAfter r d) (sym is) }
+      record {
+        reading = ap (accepted header) first ∙ sym is;
+        number = ap faultOf (sym is);
+        values = ap statedIn (sym is);
+        pixels = stands ∙ ap (λ r. bufferAfter r d) (sym is);
+      }

@@ -11,7 +11,8 @@ use Rattle.stream.specs.declared.FrameStream.the-variants.{Frame, Refuse
 use Rattle.stream.specs.Stream.{accepted, refused, readFrame}
 use Rattle.stream.specs.Answer.{bufferAfter, FrameRead}
 use Rattle.stream.proofs.Order.{small-sides}
-use Rattle.stream.proofs.Accepted.{Accepted, accepted-good}
+use Rattle.stream.specs.RoundTrip.{Accepted}
+use Rattle.stream.proofs.Accepted.{accepted-good}
 
 -- a frame: its sides, and its pixels first in the buffer
 pub record FrameFound (s buffer : List ℕ) (h : Header) (after : List ℕ) : Type 0 where

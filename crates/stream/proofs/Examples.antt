@@ -1,4 +1,4 @@
--- Small streams and what is read of them, computed from the definition. Assumes nothing.
+-- Small streams, what is read of them and how many bytes they want, computed from the definitions. Assumes nothing.
 use Prim.Native.Nat.{ℕ}
 use mathlib.Core.Path.{_≡_, refl}
 use mathlib.Core.List.{List, [], _∷_, _++_, map}
@@ -6,6 +6,7 @@ use lib.ListN.{replicate}
 use lib.Ieee.{ofBits, lt, le}
 use Rattle.merge_radius.specs.MergeRadius.{isOff, isSized}
 use Rattle.stream.specs.Stream.{bodyLength, accepted, refused, readFrame}
+use Rattle.stream.specs.Wanted.{wanted}
 
 -- sides; parameters with ring, window and merge radius; pixels of one record
 abbrev sides : ℕ → ℕ → List ℕ
@@ -44,6 +45,19 @@ numbers = 7 ∷ 6 ∷ 11 ∷ 7 ∷ 1 ∷ 3 ∷ 5 ∷ 11 ∷ 7 ∷ 7 ∷ 11 ∷ [
 pub faults : map readFrame streams ≡ map refused numbers
 unfolding readFrame bodyLength ofBits lt le isOff isSized
 faults = refl
+
+-- the bytes that they want: a kind, the rest of a body, or none, where a fault decides
+pub wants : map wanted streams ≡ 1 ∷ 0 ∷ 0 ∷ 1 ∷ 0 ∷ 0 ∷ 0 ∷ 0 ∷ 0 ∷ 1 ∷ 0 ∷ []
+unfolding wanted bodyLength ofBits lt le isOff isSized
+wants = refl
+
+-- of the pixels' record: the pixel and a byte of padding, then padding byte by byte up to one that is not 0; behind the end none
+abbrev cut : List ℕ → List ℕ
+cut came = sides 1 1 ++ good ++ (3 ∷ came)
+
+pub padding-wants : map wanted (map cut ([] ∷ (9 ∷ []) ∷ (9 ∷ 0 ∷ []) ∷ (9 ∷ 0 ∷ 1 ∷ []) ∷ (9 ∷ replicate 31 0 ++ (4 ∷ 8 ∷ [])) ∷ [])) ≡ 2 ∷ 1 ∷ 1 ∷ 0 ∷ 0 ∷ []
+unfolding wanted bodyLength ofBits lt le isOff isSized
+padding-wants = refl
 
 -- a stream of one pixel, and one byte behind it that is not read
 pub one-pixel : readFrame (sides 1 1 ++ good ++ pixel 9 0 ++ (4 ∷ 8 ∷ [])) ≡ accepted record {

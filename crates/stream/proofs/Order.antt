@@ -1,4 +1,5 @@
--- The order of the records: where the reader stands behind each, what it has then read, and what the next record makes of it. Assumes nothing.
+-- The order of the records: where the reader stands behind each, what it has then read and wants, and what the next record makes of it.
+-- Assumes nothing.
 use Prim.Native.Nat.{ℕ, zero, suc, _+_, _-_, _*_, _<_, _≤_}
 use native.Mathlib.Nat.{eq-zero-or-pos}
 use native.Mathlib.Omega.{arith}
@@ -15,7 +16,8 @@ use Rattle.lists.proofs.Tests.{or-neither}
 use Rattle.lists.proofs.Refusals.{lowest-none}
 use Rattle.stream.specs.declared.Header.{Header}
 use Rattle.stream.specs.Stream.{u16, bodyLength, bodyOf, behind, headerOf, sidesFault, bodyFault, recordFault, Reading, accepted, refused, readRecord, recordsFor, readPixels, readParameters, readFrame}
-use Rattle.stream.specs.Parts.{due, headerAt, pixelCount, pixelAt, leftAfter, Small, Judged}
+use Rattle.stream.specs.Wanted.{wantedHere, wantedRecord, wantedPixels, wantedParameters, wanted}
+use Rattle.stream.specs.Parts.{due, headerAt, pixelCount, pixelAt, leftAfter, Small, Judged, Stopped}
 use Rattle.stream.proofs.Records.{sound}
 use Rattle.stream.proofs.Pixels.{one-fewer, pixels-more}
 
@@ -29,11 +31,31 @@ module _ (kind left : ℕ) (s : List ℕ) (next : List ℕ → List ℕ → Read
   unfolding readRecord
   read-sound e = rw e
 
--- only the pixels' fault depends on how many are left
+-- and what is wanted of it
+module _ (kind left : ℕ) (s : List ℕ) (next : List ℕ → List ℕ → ℕ) where
+  pub wanted-faulty : (recordFault kind left s ≡ 0 → ⊥) → wantedRecord kind left s next ≡ wantedHere kind left s
+  unfolding wantedRecord
+  wanted-faulty h = rw (ne-eqb (recordFault kind left s) 0 h)
+
+  pub wanted-sound : recordFault kind left s ≡ 0 → wantedRecord kind left s next ≡ next (bodyOf kind s) (behind kind s)
+  unfolding wantedRecord
+  wanted-sound e = rw e
+
+-- a faulty record: its fault is that of the stream, and what it wants is wanted
+pub record Faulty (s : List ℕ) (kind left at : ℕ) : Type 0 where
+  pub reading : readFrame s ≡ refused (recordFault kind left (drop at s))
+  pub wanting : wanted s ≡ wantedHere kind left (drop at s)
+
+-- only the pixels depend on how many are left
 pub left-aside : (left : ℕ) (s : List ℕ) → recordFault 2 left s ≡ recordFault 2 0 s
 unfolding recordFault bodyFault
 left-aside left [] = refl
 left-aside left (kind ∷ rest) = refl
+
+wanted-aside : (left : ℕ) (s : List ℕ) → wantedHere 2 left s ≡ wantedHere 2 0 s
+unfolding wantedHere
+wanted-aside left [] = refl
+wanted-aside left (kind ∷ rest) = refl
 
 -- ---- where the reader stands
 
@@ -42,6 +64,7 @@ pub record Sided (s : List ℕ) : Type 0 where
   pub small : Small s
   pub long : 5 ≤ length s
   pub reading : readFrame s ≡ readParameters (take 4 (drop 1 s)) (drop 5 s)
+  pub wanting : wanted s ≡ wantedParameters (take 4 (drop 1 s)) (drop 5 s)
 
 -- behind the parameters and i records of pixels: how many pixels are left, and what is read there with those that came
 abbrev pub leftBehind : List ℕ → ℕ → ℕ
@@ -50,16 +73,20 @@ leftBehind s i = pixelCount s - 32 * i
 unfoldable pub readBehind : List ℕ → ℕ → Reading
 readBehind s i = readPixels (recordsFor (leftBehind s i)) (headerAt s) (leftBehind s i) (tab (pixelCount s - leftBehind s i) (pixelAt s)) (drop (22 + 33 * i) s)
 
+unfoldable pub wantedBehind : List ℕ → ℕ → ℕ
+wantedBehind s i = wantedPixels (recordsFor (leftBehind s i)) (leftBehind s i) (drop (22 + 33 * i) s)
+
 pub record Passed (s : List ℕ) (i : ℕ) : Type 0 where
   pub small : Small s
   pub long : 22 + 33 * i ≤ length s
   pub reading : readFrame s ≡ readBehind s i
+  pub wanting : wanted s ≡ wantedBehind s i
 
 pub data Stage (s : List ℕ) : Type 0 where
   start : Stage s
   sides : Sided s → Stage s
   pixels : (i : ℕ) → Passed s i → Stage s
-  end : (at left : ℕ) → Judged s 0 → Stage s
+  end : (at left : ℕ) → Judged s 0 → wanted s ≡ 0 → Stage s
 
 -- the kind of the record before, the place, and the pixels left
 abbrev pub kindAt : {s : List ℕ} → Stage s → ℕ
@@ -67,19 +94,19 @@ kindAt start = 0
 kindAt (sides p) = 1
 kindAt (pixels zero p) = 2
 kindAt (pixels (suc i) p) = 3
-kindAt (end at left j) = 4
+kindAt (end at left j w) = 4
 
 abbrev pub placeAt : {s : List ℕ} → Stage s → ℕ
 placeAt start = 0
 placeAt (sides p) = 5
 placeAt (pixels i p) = 22 + 33 * i
-placeAt (end at left j) = at
+placeAt (end at left j w) = at
 
 abbrev pub leftAt : {s : List ℕ} → Stage s → ℕ
 leftAt start = 0
 leftAt {s} (sides p) = pixelCount s
 leftAt {s} (pixels i p) = leftBehind s i
-leftAt (end at left j) = left
+leftAt (end at left j w) = left
 
 pub record Standing (s : List ℕ) (kind at left : ℕ) : Type 0 where
   pub stage : Stage s
@@ -117,30 +144,42 @@ small-sides width height e =
 reading-alike : {n n′ : ℕ} {px px′ t t′ : List ℕ} (h : Header) → n ≡ n′ → px ≡ px′ → t ≡ t′ → readPixels (recordsFor n) h n px t ≡ readPixels (recordsFor n′) h n′ px′ t′
 reading-alike h p q r = rw (p, q, r)
 
+wanting-alike : {n n′ : ℕ} {t t′ : List ℕ} → n ≡ n′ → t ≡ t′ → wantedPixels (recordsFor n) n t ≡ wantedPixels (recordsFor n′) n′ t′
+wanting-alike p r = rw (p, r)
+
 -- the sides
 module _ (s : List ℕ) where
-  sides-faulty : (recordFault 1 0 s ≡ 0 → ⊥) → readFrame s ≡ refused (recordFault 1 0 s)
-  unfolding readFrame
-  sides-faulty h = read-faulty 1 0 s readParameters h
+  sides-faulty : (recordFault 1 0 s ≡ 0 → ⊥) → Faulty s 1 0 0
+  unfolding readFrame wanted
+  sides-faulty h = record { reading = read-faulty 1 0 s readParameters h; wanting = wanted-faulty 1 0 s wantedParameters h }
 
   sides-sound : recordFault 1 0 s ≡ 0 → Sided s
-  unfolding readFrame bodyLength bodyFault
+  unfolding readFrame wanted bodyLength bodyFault
   sides-sound e =
       let ok = sound 1 0 s e in
       let small = small-sides (u16 (bodyOf 1 s) 0) (u16 (bodyOf 1 s) 2) (ok .body) in
-      record { small = record { width = small .0; height = small .1 }; long = ok .long; reading = read-sound 1 0 s readParameters e }
+      record {
+        small = record { width = small .0; height = small .1 };
+        long = ok .long;
+        reading = read-sound 1 0 s readParameters e;
+        wanting = wanted-sound 1 0 s wantedParameters e;
+      }
 
 -- the parameters
 module _ (s : List ℕ) (p : Sided s) where
   abbrev readRest : List ℕ → List ℕ → Reading
   readRest parameters rest = readPixels (recordsFor (pixelCount s)) (headerOf (take 4 (drop 1 s)) parameters) (pixelCount s) [] rest
 
-  parameters-faulty : (recordFault 2 0 (drop 5 s) ≡ 0 → ⊥) → readFrame s ≡ refused (recordFault 2 0 (drop 5 s))
-  unfolding readParameters pixelCount
-  parameters-faulty h = p .reading ∙ read-faulty 2 0 (drop 5 s) readRest h
+  abbrev wantedRest : List ℕ → List ℕ → ℕ
+  wantedRest parameters rest = wantedPixels (recordsFor (pixelCount s)) (pixelCount s) rest
+
+  parameters-faulty : (recordFault 2 0 (drop 5 s) ≡ 0 → ⊥) → Faulty s 2 0 5
+  unfolding readParameters wantedParameters pixelCount
+  parameters-faulty h =
+      record { reading = p .reading ∙ read-faulty 2 0 (drop 5 s) readRest h; wanting = p .wanting ∙ wanted-faulty 2 0 (drop 5 s) wantedRest h }
 
   parameters-sound : recordFault 2 0 (drop 5 s) ≡ 0 → Passed s 0
-  unfolding readParameters bodyLength pixelCount headerAt readBehind tab
+  unfolding readParameters wantedParameters bodyLength pixelCount headerAt readBehind wantedBehind tab
   parameters-sound e =
       let ok = sound 2 0 (drop 5 s) e in
       let all : pixelCount s ≡ leftBehind s 0 = omega arith in
@@ -153,6 +192,7 @@ module _ (s : List ℕ) (p : Sided s) where
             ∙ read-sound 2 0 (drop 5 s) readRest e
             ∙ ap (λ (h : Header). readPixels (recordsFor (pixelCount s)) h (pixelCount s) [] (drop 17 (drop 5 s))) (ap (λ (l : List ℕ). headerOf (take 4 (drop 1 s)) (take 16 l)) (drop-drop 1 5 s))
             ∙ reading-alike (headerAt s) all (ap (λ (k : ℕ). tab k (pixelAt s)) none) (drop-drop 17 5 s);
+        wanting = p .wanting ∙ wanted-sound 2 0 (drop 5 s) wantedRest e ∙ wanting-alike all (drop-drop 17 5 s);
       }
 
 -- a record of pixels, and the end
@@ -170,20 +210,29 @@ module _ (s : List ℕ) (i : ℕ) (p : Passed s i) where
     abbrev readNext : List ℕ → List ℕ → Reading
     readNext body rest = readPixels (recordsFor (left - 32)) (headerAt s) (left - 32) (came ++ take left body) rest
 
+    abbrev wantedNext : List ℕ → List ℕ → ℕ
+    wantedNext body rest = wantedPixels (recordsFor (left - 32)) (left - 32) rest
+
     pixels-due : readFrame s ≡ readRecord 3 left here readNext
     unfolding readBehind readPixels
     pixels-due = p .reading ∙ rw (one-fewer left l)
 
-    pixels-faulty : (recordFault 3 left here ≡ 0 → ⊥) → readFrame s ≡ refused (recordFault 3 left here)
-    pixels-faulty h = pixels-due ∙ read-faulty 3 left here readNext h
+    pixels-wanted : wanted s ≡ wantedRecord 3 left here wantedNext
+    unfolding wantedBehind wantedPixels
+    pixels-wanted = p .wanting ∙ rw (one-fewer left l)
+
+    pixels-faulty : (recordFault 3 left here ≡ 0 → ⊥) → Faulty s 3 left (22 + 33 * i)
+    pixels-faulty h =
+        record { reading = pixels-due ∙ read-faulty 3 left here readNext h; wanting = pixels-wanted ∙ wanted-faulty 3 left here wantedNext h }
 
     pixels-sound : recordFault 3 left here ≡ 0 → Passed s (suc i)
-    unfolding bodyLength readBehind
+    unfolding bodyLength readBehind wantedBehind
     pixels-sound e =
         let ok = sound 3 left here e in
         let long : 22 + 33 * i + 33 ≤ length s = omega (arith, length-drop (22 + 33 * i) s, ok .long) in
         let less : left - 32 ≡ leftBehind s (suc i) = omega arith in
         let place : 22 + 33 * i + 33 ≡ 22 + 33 * suc i = omega arith in
+        let past = drop-drop 33 (22 + 33 * i) s ∙ ap (λ (k : ℕ). drop k s) place in
         record {
           small = p .small;
           long = omega arith;
@@ -192,7 +241,8 @@ module _ (s : List ℕ) (i : ℕ) (p : Passed s i) where
               ∙ read-sound 3 left here readNext e
               ∙ reading-alike (headerAt s) less
               (pixels-more s i left long (pixelCount s) (omega arith) ∙ ap (λ (k : ℕ). tab (pixelCount s - k) (pixelAt s)) less)
-              (drop-drop 33 (22 + 33 * i) s ∙ ap (λ (k : ℕ). drop k s) place);
+              past;
+          wanting = pixels-wanted ∙ wanted-sound 3 left here wantedNext e ∙ wanting-alike less past;
         }
 
   module _ (z : left ≡ 0) where
@@ -205,8 +255,18 @@ module _ (s : List ℕ) (i : ℕ) (p : Passed s i) where
         let none : recordsFor left ≡ 0 = omega arith in
         p .reading ∙ rw none
 
-    end-faulty : (recordFault 4 left here ≡ 0 → ⊥) → readFrame s ≡ refused (recordFault 4 left here)
-    end-faulty h = end-due ∙ read-faulty 4 left here readNone h
+    end-wanted : wanted s ≡ wantedRecord 4 left here (λ body rest. 0)
+    unfolding wantedBehind wantedPixels
+    end-wanted =
+        let none : recordsFor left ≡ 0 = omega arith in
+        p .wanting ∙ rw none
+
+    end-faulty : (recordFault 4 left here ≡ 0 → ⊥) → Faulty s 4 left (22 + 33 * i)
+    end-faulty h =
+        record { reading = end-due ∙ read-faulty 4 left here readNone h; wanting = end-wanted ∙ wanted-faulty 4 left here (λ body rest. 0) h }
+
+    end-none : recordFault 4 left here ≡ 0 → wanted s ≡ 0
+    end-none e = end-wanted ∙ wanted-sound 4 left here (λ body rest. 0) e
 
     end-sound : recordFault 4 left here ≡ 0 → Judged s 0
     end-sound e =
@@ -218,18 +278,19 @@ module _ (s : List ℕ) (i : ℕ) (p : Passed s i) where
 
 -- ---- the same for any stage
 module _ {s : List ℕ} where
-  stage-faulty : (st : Stage s) → (kindAt st ≡ 4 → ⊥) → (faultAt st ≡ 0 → ⊥) → readFrame s ≡ refused (faultAt st)
+  stage-faulty : (st : Stage s) → (kindAt st ≡ 4 → ⊥) → (faultAt st ≡ 0 → ⊥) → Faulty s (dueAt st) (leftAt st) (placeAt st)
   unfolding due
   stage-faulty start m h = sides-faulty s h
   stage-faulty (sides p) m h =
       let same = left-aside (pixelCount s) (drop 5 s) in
-      parameters-faulty s p (λ e. h (same ∙ e)) ∙ ap refused (sym same)
+      let f = parameters-faulty s p (λ e. h (same ∙ e)) in
+      record { reading = f .reading ∙ ap refused (sym same); wanting = f .wanting ∙ sym (wanted-aside (pixelCount s) (drop 5 s)) }
   stage-faulty (pixels i p) m h =
       ⊎-elim
       (λ z. rw (due-end i p z) (end-faulty s i p z (rw (due-end i p z) at h)))
       (λ l. rw (due-more i p l) (pixels-faulty s i p l (rw (due-more i p l) at h)))
       (eq-zero-or-pos (leftBehind s i))
-  stage-faulty (end at rest j) m h = absurd (m refl)
+  stage-faulty (end at rest j w) m h = absurd (m refl)
 
   abbrev Next : Stage s → ℕ → Type 0
   Next st due = Standing s due (placeAt st + 1 + bodyLength due) (leftAfter s due (leftAt st))
@@ -242,7 +303,7 @@ module _ {s : List ℕ} where
       record { stage = pixels (suc i) (pixels-sound s i p l e); kind-is = refl; at-is = place; left-is = fewer }
 
   next-end : (i : ℕ) (p : Passed s i) → leftBehind s i ≡ 0 → recordFault 4 (leftBehind s i) (drop (22 + 33 * i) s) ≡ 0 → Next (pixels i p) 4
-  next-end i p z e = record { stage = end _ _ (end-sound s i p z e); kind-is = refl; at-is = refl; left-is = refl }
+  next-end i p z e = record { stage = end _ _ (end-sound s i p z e) (end-none s i p z e); kind-is = refl; at-is = refl; left-is = refl }
 
   stage-next : (st : Stage s) → (kindAt st ≡ 4 → ⊥) → faultAt st ≡ 0 → Next st (dueAt st)
   unfolding due bodyLength leftAfter
@@ -254,7 +315,7 @@ module _ {s : List ℕ} where
       (λ z. rw (due-end i p z) (next-end i p z (rw (due-end i p z) at e)))
       (λ l. rw (due-more i p l) (next-pixels i p l (rw (due-more i p l) at e)))
       (eq-zero-or-pos (leftBehind s i))
-  stage-next (end at rest j) m e = absurd (m refl)
+  stage-next (end at rest j w) m e = absurd (m refl)
 
   -- the sides are there
   stage-sides : (st : Stage s) → (kindAt st ≡ 4 → ⊥) → faultAt st ≡ 0 → 5 ≤ length s
@@ -262,22 +323,24 @@ module _ {s : List ℕ} where
   stage-sides start m e = sound 1 0 s e .long
   stage-sides (sides p) m e = p .long
   stage-sides (pixels i p) m e = omega (arith, p .long)
-  stage-sides (end at rest j) m e = absurd (m refl)
+  stage-sides (end at rest j w) m e = absurd (m refl)
 
-  stage-end : (st : Stage s) → kindAt st ≡ 4 → Judged s 0
+  stage-end : (st : Stage s) → kindAt st ≡ 4 → Judged s 0 × (wanted s ≡ 0)
   stage-end start e = absurd (let no : ⊥ = omega arith in no)
   stage-end (sides p) e = absurd (let no : ⊥ = omega arith in no)
   stage-end (pixels zero p) e = absurd (let no : ⊥ = omega arith in no)
   stage-end (pixels (suc i) p) e = absurd (let no : ⊥ = omega arith in no)
-  stage-end (end at rest j) e = j
+  stage-end (end at rest j w) e = (j, w)
 
 -- ---- and for the reader's own kind, place and pixels left
 pub standing-start : (s : List ℕ) → Standing s 0 0 0
 standing-start s = record { stage = start; kind-is = refl; at-is = refl; left-is = refl }
 
 module _ {s : List ℕ} {kind at left : ℕ} (st : Standing s kind at left) where
-  pub standing-end : kind ≡ 4 → Judged s 0
-  standing-end e = stage-end (st .stage) (sym (st .kind-is) ∙ e)
+  pub standing-end : kind ≡ 4 → Stopped s (record { at = at; due = kind; left = left; fault = 0 })
+  standing-end e =
+      let p = stage-end (st .stage) (sym (st .kind-is) ∙ e) in
+      record { judged = p .0; wants = p .1 }
 
   module _ (more : kind ≡ 4 → ⊥) (k n : ℕ) (k-is : k ≡ due kind left) (n-is : n ≡ recordFault k left (drop at s)) where
     due-is : k ≡ dueAt (st .stage)
@@ -289,11 +352,13 @@ module _ {s : List ℕ} {kind at left : ℕ} (st : Standing s kind at left) wher
     going : kindAt (st .stage) ≡ 4 → ⊥
     going e = more (st .kind-is ∙ e)
 
-    pub standing-faulty : (n ≡ 0 → ⊥) → Judged s n
-    standing-faulty h = record {
-      reading = stage-faulty (st .stage) going (λ e. h (fault-is ∙ e)) ∙ ap refused (sym fault-is) ∙ rw (ne-eqb n 0 h);
-      whole = λ e. absurd (h e);
-    }
+    pub standing-faulty : (n ≡ 0 → ⊥) → Stopped s (record { at = at; due = k; left = left; fault = n })
+    standing-faulty h =
+        let f = stage-faulty (st .stage) going (λ e. h (fault-is ∙ e)) in
+        record {
+          judged = record { reading = f .reading ∙ ap refused (sym fault-is) ∙ rw (ne-eqb n 0 h); whole = λ e. absurd (h e) };
+          wants = rw (ne-eqb n 0 h, due-is, st .at-is, st .left-is) (f .wanting);
+        }
 
     module _ (e : n ≡ 0) where
       pub standing-long : at + 1 + bodyLength k ≤ length s

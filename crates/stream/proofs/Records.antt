@@ -1,12 +1,13 @@
--- Laws of one record: its fault by where its judging ends, and what a record without fault is. Assumes nothing.
+-- Laws of one record: its fault by where its judging ends, what a record without fault is, and that bytes behind a record do not change it.
+-- Assumes nothing.
 use Prim.Native.Nat.{ℕ, suc, _+_, _-_, _<_, _≤_}
 use native.Mathlib.Numerals.{add-one}
 use native.Mathlib.Omega.{arith}
 use mathlib.Core.Path.{_≡_, refl, ap, _∙_}
 use mathlib.Core.Bool.{Bool, true, false, not}
-use mathlib.Core.List.{List, [], _∷_}
-use lib.ListN.{length, getD, take, drop, drop-of-length-le, length-drop}
-use lib.Seq.{drop-cons}
+use mathlib.Core.List.{List, [], _∷_, _++_}
+use lib.ListN.{length, getD, take, drop, drop-of-length-le, length-append, length-drop}
+use lib.Seq.{drop-cons, take-append-le, drop-append-le}
 use lib.Dec.{eqb, ltb}
 use borrow.Author.Tests.{lt-ltb, le-ltb, ltb-false, eqb-true, not-false}
 use Rattle.lists.specs.Refusals.{lowest}
@@ -69,3 +70,17 @@ sound due left (kind ∷ rest) e =
     parts false true l n e = absurd (let no : ⊥ = omega arith in no)
     parts false false true n e = absurd (let no : ⊥ = omega arith in no)
     parts false false false n e = (refl, refl, e)
+
+-- ---- a record that is whole in s is the same whatever stands behind s
+pub fault-same : (due left : ℕ) (s t : List ℕ) → 1 + bodyLength due ≤ length s → recordFault due left (s ++ t) ≡ recordFault due left s
+unfolding recordFault
+fault-same due left [] t l = absurd (let no : ⊥ = omega arith in no)
+fault-same due left (kind ∷ rest) t l =
+    let enough : bodyLength due ≤ length rest = omega arith in
+    let more : bodyLength due ≤ length (rest ++ t) = omega (arith, length-append rest t) in
+    rw (take-append-le (bodyLength due) rest t enough, le-ltb (length rest) (bodyLength due) enough, le-ltb (length (rest ++ t)) (bodyLength due) more)
+
+pub body-same : (due : ℕ) (s t : List ℕ) → 1 + bodyLength due ≤ length s → bodyOf due (s ++ t) ≡ bodyOf due s
+body-same due s t l =
+    ap (take (bodyLength due)) (drop-append-le 1 s t (omega arith))
+    ∙ take-append-le (bodyLength due) (drop 1 s) t (omega (arith, length-drop 1 s))

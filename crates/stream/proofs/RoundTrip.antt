@@ -12,7 +12,8 @@ use lib.Dec.{eqb}
 use borrow.Author.Tests.{eq-eqb, le-ltb}
 use Rattle.lists.specs.Places.{any}
 use Rattle.stream.specs.declared.Header.{Header}
-use Rattle.stream.specs.Stream.{known, bodyLength, bodyOf, behind, headerOf, sidesFault, parametersFault, paddingFault, bodyFault, recordFault, Reading, accepted, readRecord, recordsFor, readPixels, readParameters, readFrame, sidesBytes, parametersBytes, pixelBytes, frameBytes}
+use Rattle.stream.specs.Stream.{known, bodyLength, bodyOf, behind, headerOf, sidesFault, parametersFault, paddingFault, bodyFault, recordFault, Reading, accepted, readRecord, recordsFor, readPixels, readParameters, readFrame}
+use Rattle.stream.specs.RoundTrip.{sidesBytes, parametersBytes, pixelBytes, frameBytes, FrameBack}
 use Rattle.stream.proofs.Order.{read-sound}
 
 -- ---- a record that is written without fault is read
@@ -109,18 +110,15 @@ pixels-back h (suc n) left done pixels rest e q =
     ∙ ap (accepted h) (append-assoc done (take 32 pixels) (drop 32 pixels) ∙ ap (λ (l : List ℕ). done ++ l) (take-append-drop 32 pixels)))
 
 -- ---- the whole stream
-pub frame-back : (h : Header) (pixels rest : List ℕ)
-    → sidesFault (h .width) (h .height) ≡ 0
-    → parametersFault (h .ring) (h .window) (h .centroid) (h .«merge_bits») ≡ 0
-    → length pixels ≡ h .width * h .height
-    → readFrame (frameBytes h pixels ++ rest) ≡ accepted h pixels
+pub frame-back : FrameBack
 unfolding readFrame readParameters frameBytes bodyLength
-frame-back h pixels rest e f l =
+frame-back h pixels rest good =
+    let l = good .long in
     let n = h .width * h .height in
     let written = pixelBytes (recordsFor (length pixels)) pixels in
     let behind-sides = (written ++ (4 ∷ [])) ++ rest in
-    record-back 1 0 (sidesBytes h) (2 ∷ (parametersBytes h ++ behind-sides)) readParameters refl refl (sides-good h e)
-    ∙ record-back 2 0 (parametersBytes h) behind-sides (readRest (sidesBytes h)) refl refl (parameters-good h f)
+    record-back 1 0 (sidesBytes h) (2 ∷ (parametersBytes h ++ behind-sides)) readParameters refl refl (sides-good h (good .sides))
+    ∙ record-back 2 0 (parametersBytes h) behind-sides (readRest (sidesBytes h)) refl refl (parameters-good h (good .parameters))
     ∙ ap (λ (k : Header). readPixels (recordsFor (k .width * k .height)) k (k .width * k .height) [] behind-sides) (header-back h)
     ∙ ap (λ (t : List ℕ). readPixels (recordsFor n) h n [] t) (append-assoc written (4 ∷ []) rest ∙ ap (λ (k : ℕ). pixelBytes (recordsFor k) pixels ++ (4 ∷ rest)) l)
     ∙ pixels-back h (recordsFor n) n [] pixels rest refl (sym l)

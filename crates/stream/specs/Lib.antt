@@ -1,3 +1,5 @@
 pub mod Stream
 pub mod Answer
+pub mod Wanted
+pub mod RoundTrip
 pub mod Parts

@@ -10,7 +10,9 @@ use Rattle.lists.specs.Tab.{tab}
 use Rattle.lists.specs.Refusals.{lowest}
 use Rattle.merge_radius.specs.MergeRadius.{radiusOutside}
 use Rattle.stream.specs.declared.Header.{Header}
+use Rattle.stream.specs.declared.Stop.{Stop}
 use Rattle.stream.specs.Stream.{u8, u16, known, headerOf, rangeOutside, accepted, unless, recordsFor, readFrame}
+use Rattle.stream.specs.Wanted.{wantedHere, wanted}
 
 -- the kind that is due behind one of kind `kind`, 0 at the start, where `left` pixels have not come yet
 unfoldable pub due : ℕ → ℕ → ℕ
@@ -59,3 +61,8 @@ pub record Whole (s : List ℕ) : Type 0 where
 pub record Judged (s : List ℕ) (fault : ℕ) : Type 0 where
   pub reading : readFrame s ≡ unless fault (accepted (headerAt s) (tab (pixelCount s) (pixelAt s)))
   pub whole : fault ≡ 0 → Whole s
+
+-- where judging ends: the fault, and the bytes that are wanted there
+pub record Stopped (s : List ℕ) (r : Stop) : Type 0 where
+  pub judged : Judged s (r .fault)
+  pub wants : wanted s ≡ cond (eqb (r .fault) 0) 0 (wantedHere (r .due) (r .left) (drop (r .at) s))

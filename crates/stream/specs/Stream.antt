@@ -1,10 +1,10 @@
 -- The frame stream of document 01 ("The added stream and listing") over a list of bytes: its records, their faults, and what a stream holds.
-use Prim.Native.Nat.{ℕ, zero, suc, _+_, _-_, _*_, _/_, _%_}
+use Prim.Native.Nat.{ℕ, zero, suc, _+_, _-_, _*_, _/_}
 use mathlib.Core.Bool.{Bool, true, cond, not, _&&_, _||_}
 use mathlib.Core.List.{List, [], _∷_, _++_}
-use lib.ListN.{length, getD, take, drop, replicate}
+use lib.ListN.{length, getD, take, drop}
 use lib.Dec.{eqb, ltb, leb}
-use lib.Ieee.{Float, binary32, ofBits}
+use lib.Ieee.{binary32, ofBits}
 use Rattle.lists.specs.Places.{any}
 use Rattle.lists.specs.Refusals.{lowest}
 use Rattle.ring.specs.Ring.{isRing}
@@ -134,29 +134,3 @@ readParameters sides s =
 unfoldable pub readFrame : List ℕ → Reading
 unfolding readParameters
 readFrame s = readRecord 1 0 s readParameters
-
--- ---- writing: the one stream of sides, parameters and pixels
-abbrev pub bytes16 : ℕ → List ℕ
-bytes16 n = n % 256 ∷ n / 256 ∷ []
-
-abbrev pub bytes32 : ℕ → List ℕ
-bytes32 n = bytes16 (n % 65536) ++ bytes16 (n / 65536)
-
-abbrev pub sidesBytes : Header → List ℕ
-sidesBytes h = bytes16 (h .width) ++ bytes16 (h .height)
-
-abbrev pub parametersBytes : Header → List ℕ
-parametersBytes h =
-    (h .ring ∷ bytes32 (h .«threshold_bits»))
-    ++ (h .window ∷ h .least ∷ h .centroid ∷ bytes32 (h .«merge_bits»))
-    ++ (h .levels ∷ bytes16 (h .minimum))
-    ++ (h .search ∷ [])
-
--- "32 pixels in row order, zeros after the last"
-unfoldable pub pixelBytes : ℕ → List ℕ → List ℕ
-pixelBytes zero pixels = []
-pixelBytes (suc n) pixels = 3 ∷ ((take 32 pixels ++ replicate (32 - length pixels) 0) ++ pixelBytes n (drop 32 pixels))
-
-unfoldable pub frameBytes : Header → List ℕ → List ℕ
-unfolding pixelBytes
-frameBytes h pixels = (1 ∷ sidesBytes h) ++ (2 ∷ parametersBytes h) ++ pixelBytes (recordsFor (length pixels)) pixels ++ (4 ∷ [])

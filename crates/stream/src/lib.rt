@@ -6,7 +6,9 @@ ghost use Rattle.lists.specs.Tab.{tab};
 ghost use Rattle.lists.specs.Buffer.{front};
 ghost use Rattle.stream.specs.Stream.{u8, u16, u32, bodyLength, headerOf, sidesFault, parametersFault, paddingFault, bodyFault, recordFault, recordsFor};
 ghost use Rattle.stream.specs.Answer.{FrameRead};
-ghost use Rattle.stream.specs.Parts.{due, kindFault, firstFault, rangeFault, radiusFault, pixelCount, pixelAt, leftAfter, Judged};
+ghost use Rattle.stream.specs.Wanted.{wantedPixelBody, wantedBody, wantedHere};
+ghost use Rattle.stream.specs.Wanted.{wanted as streamWanted};
+ghost use Rattle.stream.specs.Parts.{due, kindFault, firstFault, rangeFault, radiusFault, pixelCount, pixelAt, leftAfter, Stopped, Judged};
 
 // Sides and parameters. Threshold and merge radius are the 32 bits that came: a NaN may have any pattern.
 pub struct Header {
@@ -27,6 +29,15 @@ pub struct Header {
 pub enum FrameStream {
     Frame(Header),
     Refused(u8),
+}
+
+// Where judging ends: the place of a record, the kind that is due there, the pixels that have not come yet, and the record's fault. Without
+// fault it is the end of the stream.
+struct Stop {
+    at: usize,
+    due: u8,
+    left: usize,
+    fault: u8,
 }
 
 // ---- numbers, little-endian
@@ -206,9 +217,9 @@ fn left_after(input: &[u8], kind: u8, left: usize) -> usize
     }
 }
 
-// The number of the earliest fault.
-fn stream_fault(input: &[u8]) -> u8
-    ensures { λ r. ⌜ Judged (now (input .entry)) r ⌝ }
+// Judges the records up to the earliest fault.
+fn judge(input: &[u8]) -> Stop
+    ensures { λ r. ⌜ Stopped (now (input .entry)) r ⌝ }
 {
     let mut at = 0;
     let mut kind = 0;
@@ -217,12 +228,79 @@ fn stream_fault(input: &[u8]) -> u8
         kind = due_after(kind, left);
         let fault = record_fault(input, at, kind, left);
         if fault != 0 {
-            return fault;
+            return Stop {
+                at,
+                due: kind,
+                left,
+                fault,
+            };
         }
         at = at + 1 + body_length(kind);
         left = left_after(input, kind, left);
     }
-    0
+    Stop {
+        at,
+        due: kind,
+        left,
+        fault: 0,
+    }
+}
+
+// The number of the earliest fault.
+fn stream_fault(input: &[u8]) -> u8
+    ensures { λ r. ⌜ Judged (now (input .entry)) r ⌝ }
+{
+    let stop = judge(input);
+    stop.fault
+}
+
+// ---- how much is to be read
+
+// Bytes of the body of kind 3 that are wanted where `came` has come.
+fn wanted_pixels(came: &[u8], left: usize) -> usize
+    ensures { λ r. ⌜ r ≡ wantedPixelBody left (now (came .entry)) ⌝ }
+{
+    if padding_fault(came, left) != 0 {
+        return 0;
+    }
+    let rest = numbers::minus(32, came.len());
+    let pixels = numbers::minus(left, came.len());
+    if pixels < rest { pixels + 1 } else { rest }
+}
+
+fn wanted_body(came: &[u8], due: u8, left: usize) -> usize
+    ensures { λ r. ⌜ r ≡ wantedBody due left (now (came .entry)) ⌝ }
+{
+    if due == 3 {
+        return wanted_pixels(came, left);
+    }
+    numbers::minus(body_length(due), came.len())
+}
+
+// Bytes of the record at a place that are wanted, where it is faulty or cut short.
+fn wanted_here(input: &[u8], at: usize, due: u8, left: usize) -> usize
+    ensures { λ r. ⌜ r ≡ wantedHere due left (drop at (now (input .entry))) ⌝ }
+{
+    if input.len() <= at {
+        return 1;
+    }
+    if input[at] != due {
+        return 0;
+    }
+    let start = at + 1;
+    wanted_body(&input[start..], due, left)
+}
+
+// How many bytes can be read behind those that came before what is read may be decided: 0 once it is, whatever follows. Whoever reads so
+// many at a time reads none that is not needed.
+pub fn wanted(input: &[u8]) -> usize
+    ensures { λ r. ⌜ r ≡ streamWanted (now (input .entry)) ⌝ }
+{
+    let stop = judge(input);
+    if stop.fault == 0 {
+        return 0;
+    }
+    wanted_here(input, stop.at, stop.due, stop.left)
 }
 
 // ---- reading

@@ -1,17 +1,31 @@
--- `corner_list::put_corner` meets its contract, slice by slice. Assumes nothing.
-use Rattle.corner_list.proofs.Corners.{slices-alike}
+-- `corner_list::put_corner` meets its contract: a place of the buffer is one of each slice. Assumes nothing.
+use mathlib.Core.Path.{sym}
+use native.Mathlib.Omega.{arith}
 use borrow.Author.Needs.{needs}
+use Rattle.corner_list.proofs.Corners.{with-corner-inside, with-corner-outside}
 use Rattle.corner_list.proofs.put_corner.Statement.{statement}
 use Rattle.corner_list.proofs.put_corner.Tie as tie
 
-store-requires : tie.Need-store-requires
-store-requires c κs = search needs
+places-requires : tie.Need-places-requires
+places-requires c κs = search needs
 
-store-requires-2 : tie.Need-store-requires-2
-store-requires-2 c κs = search needs
+mul-xs : tie.Need-mul-xs
+mul-xs c = search needs
 
-store-requires-3 : tie.Need-store-requires-3
-store-requires-3 c κs = search needs
+slice-write-xs : tie.Need-slice-write-xs
+slice-write-xs c = search needs
+
+mul-ys : tie.Need-mul-ys
+mul-ys c = search needs
+
+slice-write-ys : tie.Need-slice-write-ys
+slice-write-ys c = search needs
+
+mul-strengths : tie.Need-mul-strengths
+mul-strengths c = search needs
+
+slice-write-strengths : tie.Need-slice-write-strengths
+slice-write-strengths c = search needs
 
 same-length : tie.Need-same-length
 same-length c = search needs
@@ -23,18 +37,24 @@ same-length-3 : tie.Need-same-length-3
 same-length-3 c = search needs
 
 returns : tie.Need-returns
-returns c =
-    let afterYs = c .before .before .before .before .before .before in
-    slices-alike (afterYs .before .before .before .before .store .ensures) (afterYs .store2 .ensures) (c .before .before .store3 .ensures)
+returns c = sym (with-corner-inside _ _ _ (omega arith))
+
+returns-2 : tie.Need-returns-2
+returns-2 c = sym (with-corner-outside _ _ _ (omega arith))
 
 pub put-corner-spec : {M : Type 1} → statement M
 put-corner-spec =
     tie.close
     (tie.spec
-    store-requires
-    store-requires-2
-    store-requires-3
+    places-requires
+    mul-xs
+    slice-write-xs
+    mul-ys
+    slice-write-ys
+    mul-strengths
+    slice-write-strengths
     same-length
     same-length-2
     same-length-3
-    returns)
+    returns
+    returns-2)

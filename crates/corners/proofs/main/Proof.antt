@@ -1,48 +1,88 @@
--- `corners::main` is safe and ends. Assumes the contracts of the C functions that read and write.
-use mathlib.Core.Path.{sym}
+-- `corners::main` is safe and ends: the bytes that came lie in its buffer. Assumes the contracts of the C functions that read and write.
+use Prim.Native.Nat.{ℕ, _≤_}
+use mathlib.Core.Path.{_≡_, sym, subst}
+use mathlib.Core.List.{List}
+use lib.ListN.{length}
 use lib.Seq.{length-take-le}
 use borrow.Author.Needs.{needs}
-use Rattle.finder.proofs.Texts.{written-fits}
+use Rattle.corners.specs.declared.Input.{Input}
+use Rattle.corners.specs.declared.Input.the-variants.{Decided, Ended}
+use Rattle.corners.specs.Read.{Read}
 use Rattle.corners.proofs.main.Statement.{statement}
 use Rattle.corners.proofs.main.Tie as tie
 
-slice-aggregate-read-full : tie.Need-slice-aggregate-read-full
-slice-aggregate-read-full c = search needs
+module _ (input : Input) (s : List ℕ) (read : Read input s) (n : ℕ) where
+  decided-fits : input ≡ Decided n → n ≤ length s
+  decided-fits e = subst (λ (i : Input). Read i s) e read .0
 
-read-full-requires : tie.Need-read-full-requires
-read-full-requires c κs = search needs
+  ended-fits : input ≡ Ended n → n ≤ length s
+  ended-fits e = subst (λ (i : Input). Read i s) e read .0
+
+slice-aggregate-read-stream : tie.Need-slice-aggregate-read-stream
+slice-aggregate-read-stream c = search needs
+
+read-stream-requires : tie.Need-read-stream-requires
+read-stream-requires c κs = search needs
+
+enum-known-input : tie.Need-enum-known-input
+enum-known-input c = search needs
 
 array-share-prefix-stream : tie.Need-array-share-prefix-stream
-array-share-prefix-stream c = search needs
+array-share-prefix-stream c = decided-fits _ _ (c .before .before .before .before .read-stream .ensures) _ (c .before .input .given .1)
 
-slice-aggregate-find : tie.Need-slice-aggregate-find
-slice-aggregate-find c = search needs
+slice-aggregate-print-listing : tie.Need-slice-aggregate-print-listing
+slice-aggregate-print-listing c = sym (length-take-le _ _ (array-share-prefix-stream (c .before)))
 
-find-requires : tie.Need-find-requires
-find-requires c κs = search needs
+print-listing-requires : tie.Need-print-listing-requires
+print-listing-requires c κs = search needs
 
-array-share-prefix-text : tie.Need-array-share-prefix-text
-array-share-prefix-text c = written-fits _ _ _ _ (c .find .ensures)
+enum-known-input-2 : tie.Need-enum-known-input-2
+enum-known-input-2 c = search needs
 
-slice-aggregate-write-all : tie.Need-slice-aggregate-write-all
-slice-aggregate-write-all c = sym (length-take-le _ _ (written-fits _ _ _ _ (c .before .find .ensures)))
+array-share-prefix-stream-2 : tie.Need-array-share-prefix-stream-2
+array-share-prefix-stream-2 c = ended-fits _ _ (c .before .before .before .before .read-stream .ensures) _ (c .before .input2 .given .1)
 
-write-all-requires : tie.Need-write-all-requires
-write-all-requires c κs = search needs
+slice-aggregate-print-listing-2 : tie.Need-slice-aggregate-print-listing-2
+slice-aggregate-print-listing-2 c = sym (length-take-le _ _ (array-share-prefix-stream-2 (c .before)))
+
+print-listing-requires-2 : tie.Need-print-listing-requires-2
+print-listing-requires-2 c κs = search needs
+
+enum-told : tie.Need-enum-told
+enum-told c = search needs
+
+slice-aggregate-fail : tie.Need-slice-aggregate-fail
+slice-aggregate-fail c = search needs
+
+fail-requires : tie.Need-fail-requires
+fail-requires c κs = search needs
 
 returns : tie.Need-returns
 returns c = search needs
+
+returns-2 : tie.Need-returns-2
+returns-2 c = search needs
+
+returns-3 : tie.Need-returns-3
+returns-3 c = search needs
 
 pub main-spec : {M : Type 1} → statement M
 main-spec =
     tie.close
     (tie.spec
-    slice-aggregate-read-full
-    read-full-requires
+    slice-aggregate-read-stream
+    read-stream-requires
+    enum-known-input
     array-share-prefix-stream
-    slice-aggregate-find
-    find-requires
-    array-share-prefix-text
-    slice-aggregate-write-all
-    write-all-requires
-    returns)
+    slice-aggregate-print-listing
+    print-listing-requires
+    enum-known-input-2
+    array-share-prefix-stream-2
+    slice-aggregate-print-listing-2
+    print-listing-requires-2
+    enum-told
+    slice-aggregate-fail
+    fail-requires
+    returns
+    returns-2
+    returns-3)

@@ -2,38 +2,50 @@
 use Prim.Native.Nat.{ℕ}
 use mathlib.Core.Path.{sym, _∙_}
 use mathlib.Core.Bool.{Bool}
-use mathlib.Core.List.{List}
+use mathlib.Core.List.{List, []}
 use lib.ListN.{length}
 use lib.Ieee.{Float}
 use borrow.Author.Needs.{needs}
 use Rattle.corner_list.specs.CornerList.{Slices, slices}
 use Rattle.detect.specs.declared.Search.{Search}
-use Rattle.detect.specs.Detect.{searchOf, conditions}
+use Rattle.detect.specs.declared.Peaks.{Peaks}
+use Rattle.detect.specs.Detect.{searchOf, startsIn, conditions, Found}
 use Rattle.detect.specs.Post.{Searchable}
 use Rattle.detect.proofs.Answers.{Clear, clear, searchable, found-refused, found-clear}
 use Rattle.detect.proofs.detect_peaks_from_response_with_refine_radius.Statement.{statement}
 use Rattle.detect.proofs.detect_peaks_from_response_with_refine_radius.Tie as tie
 
+-- the function's start, from where no fault was found, and what it was given
+abbrev start : tie.Else1 → tie.Start
+start c = c .before .before .before .before .before .before
+
+abbrev conditions-of : tie.Else1 → List (Bool × ℕ)
+conditions-of c = let a = start c .args in conditions (length (a .map .now)) (a .w) (a .h) (a .ring) (a .window) (a .refine-radius)
+
+abbrev map-of : tie.Else1 → List Float
+map-of c = start c .args .map .now
+
+abbrev search-of : tie.Else1 → Search
+search-of c = let a = start c .args in searchOf (a .w) (a .h) (a .ring) (a .threshold) (a .window) (a .least) (a .refine-radius)
+
+abbrev buffer-of : tie.Else1 → Slices
+buffer-of c = let a = start c .args in slices (a .xs .now) (a .ys .now) (a .strengths .now)
+
 -- none of the conditions on the input holds, so its map can be searched
-fine : (c : tie.Else1)
-    → let a = c .before .before .before .before .before .before .args in
-    Clear (conditions (length (a .map .now)) (a .w) (a .h) (a .ring) (a .window) (a .refine-radius))
+fine : (c : tie.Else1) → Clear (conditions-of c)
 fine c = clear _ _ _ _ _ _ (sym (c .before .fault .ensures) ∙ c .if1 .left)
 
-abbrev conditions-of : tie.After-search-of → List (Bool × ℕ)
-conditions-of c = let a = c .before .before .before .before .before .before .before .args in conditions (length (a .map .now)) (a .w) (a .h) (a .ring) (a .window) (a .refine-radius)
-
-abbrev map-of : tie.After-search-of → List Float
-map-of c = c .before .before .before .before .before .before .before .args .map .now
-
-abbrev search-of : tie.After-search-of → Search
-search-of c = let a = c .before .before .before .before .before .before .before .args in searchOf (a .w) (a .h) (a .ring) (a .threshold) (a .window) (a .least) (a .refine-radius)
-
-abbrev buffer-of : tie.After-search-of → Slices
-buffer-of c = let a = c .before .before .before .before .before .before .before .args in slices (a .xs .now) (a .ys .now) (a .strengths .now)
-
-can-search : (c : tie.After-search-of) → Searchable (c .before .before .before .before .before .before .before .args .map .now) (c .search-of .result)
+can-search : (c : tie.After-search-of) → Searchable (map-of (c .before)) (c .search-of .result)
 can-search c = rw (c .search-of .ensures) (searchable _ _ _ _ _ _ _ _ (fine (c .before)))
+
+-- what is added is what the function promises
+adds : (c : tie.After-search-of) (answer : Peaks) (b′ : Slices)
+    → let k = c .before in
+    Found [] (startsIn (map-of k) (c .search-of .result)) (start k .args .held) (buffer-of k) answer b′
+    → Found (conditions-of k) (startsIn (map-of k) (search-of k)) (start k .args .held) (buffer-of k) answer b′
+adds c =
+    let k = c .before in
+    found-clear (map-of k) (c .search-of .result) (search-of k) (c .search-of .ensures) (conditions-of k) (fine k) (start k .args .held) (buffer-of k)
 
 fault-requires : tie.Need-fault-requires
 fault-requires c κs = search needs
@@ -62,8 +74,7 @@ same-length-3 c = search needs
 returns-2 : tie.Need-returns-2
 returns-2 c =
     let add = c .before .before .before .before .before .before .before in
-    let search = add .before .before .before .before .before .before in
-    found-clear (map-of search) (search .search-of .result) (search-of search) (search .search-of .ensures) (conditions-of search) (fine (search .before)) _ (buffer-of search) (add .add-peaks .result) _ (add .add-peaks .ensures)
+    adds (add .before .before .before .before .before .before) (add .add-peaks .result) _ (add .add-peaks .ensures)
 
 slice-aggregate-add-peaks-2 : tie.Need-slice-aggregate-add-peaks-2
 slice-aggregate-add-peaks-2 c = search needs
@@ -83,8 +94,7 @@ same-length-6 c = search needs
 returns-3 : tie.Need-returns-3
 returns-3 c =
     let add = c .before .before .before .before .before .before .before in
-    let search = add .before .before .before .before .before .before in
-    found-clear (map-of search) (search .search-of .result) (search-of search) (search .search-of .ensures) (conditions-of search) (fine (search .before)) _ (buffer-of search) (add .add-peaks2 .result) _ (add .add-peaks2 .ensures)
+    adds (add .before .before .before .before .before .before) (add .add-peaks2 .result) _ (add .add-peaks2 .ensures)
 
 pub detect-peaks-from-response-with-refine-radius-spec : {M : Type 1} → statement M
 detect-peaks-from-response-with-refine-radius-spec =

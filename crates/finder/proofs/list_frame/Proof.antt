@@ -1,4 +1,5 @@
 -- `finder::list_frame` meets its contract, by the laws of `Texts`. Assumes nothing.
+use native.Mathlib.Omega.{arith}
 use lib.Ieee.{ofBits}
 use borrow.Author.Needs.{needs}
 use Rattle.finder.proofs.Texts.{corners-few, corners-written, refusal-written}
@@ -71,7 +72,9 @@ enum-known-answer c = search needs
 
 list-corners-requires : tie.Need-list-corners-requires
 unfolding ofBits
-list-corners-requires c κs = corners-few (at-start c .args .header) _ _ (at-params-of c .params-of .ensures) _ _ (at-find-corners c .find-corners .ensures) _ (at-answer c .answer .given .1)
+list-corners-requires c κs =
+    let found = at-find-corners c .find-corners .ensures in
+    omega (arith, corners-few (at-start c .args .header) _ _ (at-params-of c .params-of .ensures) _ _ found _ (at-answer c .answer .given .1))
 
 enum-known-answer-2 : tie.Need-enum-known-answer-2
 enum-known-answer-2 c = search needs

@@ -7,7 +7,7 @@ use lib.Ieee.{ofBits, lt, fin}
 use lib.IntN.{pos}
 use borrow.Author.Needs.{needs}
 use Rattle.float32.specs.Float32.{signed, roundHalfAway}
-use Rattle.float32.proofs.HalfAway.{rounds, beyond, signed-negative}
+use Rattle.float32.proofs.HalfAway.{rounds, beyond, signed-negative, rounded}
 use Rattle.float32.proofs.round_half_away.Statement.{statement}
 use Rattle.float32.proofs.round_half_away.Tie as tie
 
@@ -29,19 +29,19 @@ add-n c = record { fits = omega (arith, halved c .0) }
 
 returns : tie.Need-returns
 unfolding ofBits
-returns c = rw (c .before .if2 .taken, c .if3 .taken) at (halved (c .before .before) .1)
+returns c = rounded _ _ (rw (c .before .if2 .taken, c .if3 .taken) at (halved (c .before .before) .1))
 
 returns-2 : tie.Need-returns-2
 unfolding ofBits
-returns-2 c = signed-negative _ (c .if3 .left) ∙ (rw (c .before .if2 .taken) at (halved (c .before .before) .1))
+returns-2 c = rounded _ _ (signed-negative _ (c .if3 .left) ∙ (rw (c .before .if2 .taken) at (halved (c .before .before) .1)))
 
 returns-3 : tie.Need-returns-3
 unfolding ofBits
-returns-3 c = rw (c .if2 .left) at (halved (c .before) .1)
+returns-3 c = rounded _ _ (rw (c .if2 .left) at (halved (c .before) .1))
 
 returns-4 : tie.Need-returns-4
 unfolding ofBits
-returns-4 c = beyond (c .before .before .args .x) (c .before .abs .result) (c .before .abs .ensures) (c .if1 .left)
+returns-4 c = rounded _ _ (beyond (c .before .before .args .x) (c .before .abs .result) (c .before .abs .ensures) (c .if1 .left))
 
 pub round-half-away-spec : {M : Type 1} → statement M
 round-half-away-spec =

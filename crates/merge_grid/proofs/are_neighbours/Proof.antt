@@ -27,7 +27,7 @@ is-adjacent-requires-2 c κs = search needs
 -- the cells across, by the test
 across : (c : tie.After-is-adjacent)
     → let a = c .before .before .before .args in
-    adjacent (columnOf (a .g) (a .c)) (columnOf (a .g) (a .o)) ≡ c .is-adjacent .result
+    adjacent (columnOf (a .g) (a .p)) (columnOf (a .g) (a .q)) ≡ c .is-adjacent .result
 across c = sym (c .is-adjacent .ensures ∙ ap₂ adjacent (c .before .before .column-of .ensures) (c .before .column-of2 .ensures))
 
 returns : tie.Need-returns

@@ -1,65 +1,60 @@
 -- `patch_corners::add_patch_corners` meets its contract, by the laws of `Patches`. Assumes nothing.
+use borrow.Author.Needs.{needs}
 use native.Mathlib.Omega.{arith}
 use mathlib.Core.Path.{refl, sym, _∙_}
-use Rattle.patch_corners.proofs.Patches.{when-fault, when-short, is-made, map-small, map-within, map-length, when-made}
-use borrow.Author.Needs.{needs}
+use Rattle.ring.specs.Ring.{ringOf}
+use Rattle.response.specs.Patch.{View}
+use Rattle.patch_corners.proofs.Patches.{Made, when-fault, when-short, is-made, map-small, map-within, map-length, when-added, when-full}
 use Rattle.patch_corners.proofs.add_patch_corners.Statement.{statement}
 use Rattle.patch_corners.proofs.add_patch_corners.Tie as tie
 
--- from one place of the code back to another
-abbrev at-fault : tie.After-enum-told → tie.After-fault
-at-fault c = c .before .before .before .before .before .before .before
+-- from one place of the code back to another: from where the map is known to have been refused, and to have been made
+abbrev at-response-refused : tie.After-enum-told → tie.After-chess-response-u8-patch
+at-response-refused c = c .before .before .before .before
 
-abbrev at-else1 : tie.After-enum-told → tie.Else1
-at-else1 c = c .before .before .before .before .before .before
+abbrev at-else1 : tie.After-chess-response-u8-patch → tie.Else1
+at-else1 c = c .before .before
 
-abbrev at-chess-response-u8-patch : tie.After-enum-told → tie.After-chess-response-u8-patch
-at-chess-response-u8-patch c = c .before .before .before .before
+abbrev at-response : tie.After-known-told → tie.After-chess-response-u8-patch
+at-response c = c .before .before .before .before .before
 
 abbrev at-start : tie.After-known-told → tie.Start
 at-start c = c .before .before .before .before .before .before .before .before .before .before .before .before .before .before
 
-abbrev at-fault-from-known-told : tie.After-known-told → tie.After-fault
-at-fault-from-known-told c = c .before .before .before .before .before .before .before .before
+abbrev at-known : tie.After-add-peaks → tie.After-known-told
+at-known c = c .before .before .before .before .before
 
-abbrev at-else1-from-known-told : tie.After-known-told → tie.Else1
-at-else1-from-known-told c = c .before .before .before .before .before .before .before
+abbrev at-add-peaks : tie.After-known-told2 → tie.After-add-peaks
+at-add-peaks c = c .before .before .before .before .before .before .before .before .before
 
-abbrev at-chess-response-u8-patch-from-known-told : tie.After-known-told → tie.After-chess-response-u8-patch
-at-chess-response-u8-patch-from-known-told c = c .before .before .before .before .before
+abbrev at-add-peaks-full : tie.After-enum-told2 → tie.After-add-peaks
+at-add-peaks-full c = c .before .before .before .before .before .before .before .before
 
-abbrev at-start-from-add-peaks-arg : tie.After-add-peaks-arg → tie.Start
-at-start-from-add-peaks-arg c = c .before .before .before .before .before .before .before .before .before .before .before .before .before .before .before
+abbrev at-full : tie.After-slice-known12 → tie.After-enum-told2
+at-full c = c .before .before .before .before .before .before .before .before .before .before .before .before .before .before
 
-abbrev at-fault-from-add-peaks-arg : tie.After-add-peaks-arg → tie.After-fault
-at-fault-from-add-peaks-arg c = c .before .before .before .before .before .before .before .before .before
+abbrev at-clear : tie.After-slice-known12 → tie.After-clear
+at-clear c = c .before .before .before .before .before .before .before .before .before .before .before .before
 
-abbrev at-else1-from-add-peaks-arg : tie.After-add-peaks-arg → tie.Else1
-at-else1-from-add-peaks-arg c = c .before .before .before .before .before .before .before .before
+abbrev at-clear-list : tie.After-slice-known12 → tie.After-clear-list
+at-clear-list c = c .before .before .before .before .before .before
 
-abbrev at-chess-response-u8-patch-from-add-peaks-arg : tie.After-add-peaks-arg → tie.After-chess-response-u8-patch
-at-chess-response-u8-patch-from-add-peaks-arg c = c .before .before .before .before .before .before
+abbrev at-shared : tie.After-known-told → tie.After-shared-slice-known
+at-shared c = c .before .before .before .before .before .before .before .before .before .before .before .before .before
 
-abbrev at-start-from-slice-known8 : tie.After-slice-known8 → tie.Start
-at-start-from-slice-known8 c = c .before .before .before .before .before .before .before .before .before .before .before .before .before .before .before .before .before .before .before .before .before .before .before .before .before
+-- the box, and the map that was made of it
+abbrev boxAt : tie.Start → View
+boxAt c =
+    let a = c .args in
+    record { img = a .img .now; w = a .w; h = a .h; ring = ringOf (a .p .ring); x0 = a .x0; y0 = a .y0; x1 = a .x1; y1 = a .y1 }
 
-abbrev at-fault-from-slice-known8 : tie.After-slice-known8 → tie.After-fault
-at-fault-from-slice-known8 c = c .before .before .before .before .before .before .before .before .before .before .before .before .before .before .before .before .before .before .before
-
-abbrev at-else1-from-slice-known8 : tie.After-slice-known8 → tie.Else1
-at-else1-from-slice-known8 c = c .before .before .before .before .before .before .before .before .before .before .before .before .before .before .before .before .before .before
-
-abbrev at-chess-response-u8-patch-from-slice-known8 : tie.After-slice-known8 → tie.After-chess-response-u8-patch
-at-chess-response-u8-patch-from-slice-known8 c = c .before .before .before .before .before .before .before .before .before .before .before .before .before .before .before .before
-
-abbrev at-m : tie.After-slice-known8 → tie.After-m
-at-m c = c .before .before .before .before .before .before .before .before .before .before .before .before
-
-abbrev at-shared-slice-known : tie.After-slice-known8 → tie.After-shared-slice-known
-at-shared-slice-known c = c .before .before .before .before .before .before .before .before .before .before .before .before .before .before .before .before .before .before .before .before .before .before .before .before
-
-abbrev at-add-peaks : tie.After-slice-known8 → tie.After-add-peaks
-at-add-peaks c = c .before .before .before .before .before .before
+made : (k : tie.After-known-told)
+    → Made (at-start k .args .p) (boxAt (at-start k)) (at-start k .args .map .now)
+    (at-response k .chess-response-u8-patch .last .1 .1 .1 .1 .1 .1 .1 .1 .0) (k .before .m .given .0 .0) (k .before .m .given .0 .1 .0)
+made k =
+    let r = at-response k in
+    is-made (at-start k .args .p) _ _ (sym (at-else1 r .before .fault .ensures) ∙ at-else1 r .if1 .left) _ _ (r .chess-response-u8-patch .ensures) _ _
+    (k .before .m .given .1)
 
 fault-requires : tie.Need-fault-requires
 fault-requires c κs = search needs
@@ -80,19 +75,33 @@ same-length : tie.Need-same-length
 same-length c = search needs
 
 returns-2 : tie.Need-returns-2
-returns-2 c = when-short _ _ _ _ _ (sym (at-fault c .fault .ensures) ∙ at-else1 c .if1 .left) _ _ (at-chess-response-u8-patch c .chess-response-u8-patch .ensures) _ (c .enum-told .given .1)
+returns-2 c =
+    let r = at-response-refused c in
+    when-short _ _ _ _ _ (sym (at-else1 r .before .fault .ensures) ∙ at-else1 r .if1 .left) _ _ (r .chess-response-u8-patch .ensures) _ (c .enum-told .given .1)
 
 mul-cells : tie.Need-mul-cells
-mul-cells c = omega (arith, map-small _ _ _ _ _ _ (is-made (at-start c .args .p) _ _ (sym (at-fault-from-known-told c .fault .ensures) ∙ at-else1-from-known-told c .if1 .left) _ _ (at-chess-response-u8-patch-from-known-told c .chess-response-u8-patch .ensures) _ _ (c .before .m .given .1)))
+mul-cells c = omega (arith, map-small _ _ _ _ _ _ (made c))
 
 slice-reshare-prefix-add-peaks : tie.Need-slice-reshare-prefix-add-peaks
-slice-reshare-prefix-add-peaks c = map-within _ _ _ _ _ _ (is-made (at-start c .args .p) _ _ (sym (at-fault-from-known-told c .fault .ensures) ∙ at-else1-from-known-told c .if1 .left) _ _ (at-chess-response-u8-patch-from-known-told c .chess-response-u8-patch .ensures) _ _ (c .before .m .given .1))
+slice-reshare-prefix-add-peaks c = map-within _ _ _ _ _ _ (made c)
 
 slice-aggregate-add-peaks : tie.Need-slice-aggregate-add-peaks
-slice-aggregate-add-peaks c = map-length _ _ _ _ _ _ (is-made (at-start-from-add-peaks-arg c .args .p) _ _ (sym (at-fault-from-add-peaks-arg c .fault .ensures) ∙ at-else1-from-add-peaks-arg c .if1 .left) _ _ (at-chess-response-u8-patch-from-add-peaks-arg c .chess-response-u8-patch .ensures) _ _ (c .before .before .m .given .1))
+slice-aggregate-add-peaks c = map-length _ _ _ _ _ _ (made (c .before))
 
 add-peaks-requires : tie.Need-add-peaks-requires
 add-peaks-requires c κs = search needs
+
+enum-known-f : tie.Need-enum-known-f
+enum-known-f c = search needs
+
+enum-told-2 : tie.Need-enum-told-2
+enum-told-2 c = search needs
+
+clear-requires : tie.Need-clear-requires
+clear-requires c κs = search needs
+
+clear-list-requires : tie.Need-clear-list-requires
+clear-list-requires c κs = search needs
 
 same-length-2 : tie.Need-same-length-2
 same-length-2 c = search needs
@@ -107,7 +116,30 @@ same-length-5 : tie.Need-same-length-5
 same-length-5 c = search needs
 
 returns-3 : tie.Need-returns-3
-returns-3 c = when-made _ _ _ _ _ _ (is-made (at-start-from-slice-known8 c .args .p) _ _ (sym (at-fault-from-slice-known8 c .fault .ensures) ∙ at-else1-from-slice-known8 c .if1 .left) _ _ (at-chess-response-u8-patch-from-slice-known8 c .chess-response-u8-patch .ensures) _ _ (at-m c .m .given .1)) (λ i. at-shared-slice-known c .shared-slice-known .given i .fits) refl _ _ _ _ (at-add-peaks c .add-peaks .ensures)
+returns-3 c =
+    let full = at-full c in
+    let call = at-add-peaks-full full in
+    let k = at-known call in
+    when-full _ _ _ _ _ _ (made k) (λ i. at-shared k .shared-slice-known .given i .fits) refl _ _ _ _ (call .add-peaks .ensures) _ (full .enum-told2 .given .1)
+    _ (at-clear c .clear .ensures) _ (at-clear-list c .clear-list .ensures)
+
+same-length-6 : tie.Need-same-length-6
+same-length-6 c = search needs
+
+same-length-7 : tie.Need-same-length-7
+same-length-7 c = search needs
+
+same-length-8 : tie.Need-same-length-8
+same-length-8 c = search needs
+
+same-length-9 : tie.Need-same-length-9
+same-length-9 c = search needs
+
+returns-4 : tie.Need-returns-4
+returns-4 c =
+    let call = at-add-peaks c in
+    let k = at-known call in
+    when-added _ _ _ _ _ _ (made k) (λ i. at-shared k .shared-slice-known .given i .fits) refl _ _ _ _ (call .add-peaks .ensures) _ (c .before .f .given .1)
 
 pub add-patch-corners-spec : {M : Type 1} → statement M
 add-patch-corners-spec =
@@ -124,8 +156,17 @@ add-patch-corners-spec =
     slice-reshare-prefix-add-peaks
     slice-aggregate-add-peaks
     add-peaks-requires
+    enum-known-f
+    enum-told-2
+    clear-requires
+    clear-list-requires
     same-length-2
     same-length-3
     same-length-4
     same-length-5
-    returns-3)
+    returns-3
+    same-length-6
+    same-length-7
+    same-length-8
+    same-length-9
+    returns-4)

@@ -4,7 +4,7 @@ use mathlib.Core.Path.{_≡_, sym, _∙_}
 use Rattle.pyramid_levels.specs.Refusals.{levelRefusal}
 use Rattle.pyramid_levels.proofs.Cells.{cells-exact}
 use Rattle.pyramid_levels.proofs.Refusals.{level-accepted, level-few}
-use Rattle.pyramid_levels.proofs.Answers.{answer-refused, answer-level}
+use Rattle.pyramid_levels.proofs.Answers.{level-refused, level-found}
 use borrow.Author.Needs.{needs}
 use Rattle.pyramid_levels.proofs.level_at.Statement.{statement}
 use Rattle.pyramid_levels.proofs.level_at.Tie as tie
@@ -13,7 +13,7 @@ level-fault-requires : tie.Need-level-fault-requires
 level-fault-requires c κs = search needs
 
 returns : tie.Need-returns
-returns c = answer-refused _ _ _ _ _ _ _ _ (sym (c .before .level-fault .ensures)) (c .if1 .taken)
+returns c = level-refused _ _ _ _ _ _ _ _ (sym (c .before .level-fault .ensures)) (c .if1 .taken)
 
 cells-before-requires : tie.Need-cells-before-requires
 cells-before-requires c κs = search needs
@@ -35,7 +35,7 @@ shr-t12 c = omega (arith, level-few _ _ _ _ _ _ _ (free (c .before)))
 returns-2 : tie.Need-returns-2
 returns-2 c =
     let i = level-accepted _ _ _ _ _ _ _ (free (c .before)) .0 .image in
-    answer-level _ _ _ _ _ _ _ _ (free (c .before)) (c .cells-before .ensures ∙ cells-exact _ _ _ (i .narrow) (i .low))
+    level-found _ _ _ _ _ _ _ _ (free (c .before)) (c .cells-before .ensures ∙ cells-exact _ _ _ (i .narrow) (i .low))
 
 pub level-at-spec : {M : Type 1} → statement M
 level-at-spec =

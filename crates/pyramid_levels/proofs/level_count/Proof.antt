@@ -1,6 +1,7 @@
 -- `pyramid_levels::level_count` meets its contract. The invariant: the levels counted and those still to come above the last of them are all.
--- Assumes nothing.
+-- The measure: those still to come, of which there are fewer than 64 (`count-le`). Assumes nothing.
 use Prim.Native.Nat.{_+_, _-_, _≤_}
+use native.Mathlib.Omega.{arith}
 use mathlib.Core.Path.{_≡_, sym, _∙_}
 use borrow.Author.Needs.{needs}
 use Rattle.pyramid_levels.specs.Levels.{halvings, levelCount}
@@ -12,7 +13,7 @@ abbrev Inv-loop : tie.InvT-loop
 Inv-loop width height count least most w₀ h₀ n₀ w h n = (n ≤ most) × (levelCount width height count least ≡ n + halvings (most - n) w h least)
 
 abbrev μ-loop : tie.MeasureT-loop
-μ-loop width height count least most w₀ h₀ n₀ w h n = most - n
+μ-loop width height count least most w₀ h₀ n₀ w h n = levelCount width height count least - n
 
 returns : tie.Need-returns Inv-loop μ-loop
 returns c = sym (count-none _ _ _ _ (c .if1 .taken))
@@ -35,11 +36,11 @@ returns-3 c = counted-stop _ _ _ _ _ _ (c .before .before .before .loop .inv .1)
 add-n : tie.Need-add-n Inv-loop μ-loop
 add-n c = search needs
 
-loop-less : tie.Need-loop-less Inv-loop μ-loop
-loop-less c = search needs
-
 loop-again : tie.Need-loop-again Inv-loop μ-loop
 loop-again c = (search needs, counted-more _ _ _ _ _ _ (c .before .before .before .loop .inv .1) (c .before .before .loop-test .taken) (sym (c .before .is-too-small .ensures) ∙ c .if3 .left))
+
+loop-less : tie.Need-loop-less Inv-loop μ-loop
+loop-less c = omega (arith, loop-again c .1)
 
 returns-4 : tie.Need-returns-4 Inv-loop μ-loop
 returns-4 c = counted-all _ _ _ _ _ _ (c .before .loop .inv .1) (c .loop-test .left)

@@ -46,7 +46,10 @@ same-length-4 : tie.Need-same-length-4
 same-length-4 c = search needs
 
 returns-2 : tie.Need-returns-2
-returns-2 c = about-added _ _ _ _ _ _ _ (at-box-of c .box-of .ensures) _ _ _ _ (at-b c .b .given .1) _ _ _ _ (box-adds _ _ _ _ _ _ _ _ (at-start-from-slice-known8 c .args .map .now) (at-start-from-slice-known8 c .pre .0) _ _ _ _ _ (at-add-box-corners c .add-box-corners .ensures .found))
+returns-2 c =
+    let start = at-start-from-slice-known8 c in
+    about-added _ _ _ _ _ _ _ (at-box-of c .box-of .ensures) _ _ _ _ (at-b c .b .given .1) _ _ _ _
+    (box-adds _ _ _ _ _ _ _ _ (start .args .map .now) (start .pre .0) _ _ _ _ _ _ (at-add-box-corners c .add-box-corners .ensures))
 
 pub add-patch-spec : {M : Type 1} → statement M
 add-patch-spec =

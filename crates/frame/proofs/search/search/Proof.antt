@@ -52,7 +52,11 @@ same-length-4 : tie.Need-same-length-4
 same-length-4 c = search needs
 
 returns-2 : tie.Need-returns-2
-returns-2 c = search-one _ _ _ _ _ _ _ (at-then2 c .if2 .taken) _ _ (box-adds _ _ _ _ _ _ _ _ (at-start c .args .map .now) (at-start c .pre .0) _ _ _ _ _ (at-add-patch-corners c .add-patch-corners .ensures .found)) _ (c .lists-of2 .ensures)
+returns-2 c =
+    let start = at-start c in
+    search-one _ _ _ _ _ _ _ (at-then2 c .if2 .taken) _ _
+    (box-adds _ _ _ _ _ _ _ _ (start .args .map .now) (start .pre .0) _ _ _ _ _ _ (at-add-patch-corners c .add-patch-corners .ensures)) _
+    (c .lists-of2 .ensures)
 
 search-boxes-requires : tie.Need-search-boxes-requires
 search-boxes-requires c κs = (at-start-from-search-boxes-arg7 c .pre .0, (at-start-from-search-boxes-arg7 c .pre .1, several _ (at-else1 c .if1 .left) (at-else2 c .if2 .left)))

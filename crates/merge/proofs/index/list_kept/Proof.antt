@@ -4,23 +4,22 @@ use Prim.Native.Nat.{_-_}
 use native.Mathlib.Omega.{arith}
 use mathlib.Core.Path.{_≡_, refl, _∙_}
 use lib.ListN.{length}
-use Rattle.corner_list.specs.CornerList.{slices}
 use Rattle.merge.specs.Index.{Indexed}
 use Rattle.merge.proofs.Indexing.{indexed-none, indexed-turn, indexed-fewer}
 use Rattle.merge.proofs.index.list_kept.Statement.{statement}
 use Rattle.merge.proofs.index.list_kept.Tie as tie
 
 abbrev Inv-loop : tie.InvT-loop
-Inv-loop xs ys strengths table₀ g floor k i₀ table i = Indexed g floor table (slices xs ys strengths) i × (length table ≡ length table₀)
+Inv-loop xs ys table₀ g floor k i₀ table i = Indexed g floor table xs ys i × (length table ≡ length table₀)
 
 abbrev μ-loop : tie.MeasureT-loop
-μ-loop xs ys strengths table₀ g floor k i₀ table i = k - i
+μ-loop xs ys table₀ g floor k i₀ table i = k - i
 
 loop-holds : tie.Need-loop-holds Inv-loop μ-loop
-loop-holds c = (indexed-none _ _ _ _ (c .before .before .before .before .pre), refl)
+loop-holds c = (indexed-none _ _ _ _ _ (c .before .before .before .pre), refl)
 
-corner-at-requires : tie.Need-corner-at-requires Inv-loop μ-loop
-corner-at-requires c κs = search needs
+position-at-requires : tie.Need-position-at-requires Inv-loop μ-loop
+position-at-requires c κs = search needs
 
 list-near-requires : tie.Need-list-near-requires Inv-loop μ-loop
 list-near-requires c κs = c .before .before .before .loop .inv .0 .some
@@ -35,13 +34,13 @@ loop-again : tie.Need-loop-again Inv-loop μ-loop
 loop-again c =
     let listed = c .before .before in
     let inv = listed .before .before .before .before .loop .inv in
-    (indexed-turn _ _ _ _ _ (inv .0) _ (listed .before .corner-at .ensures) _ (listed .list-near .ensures), listed .list-near .kept .0 ∙ inv .1)
+    (indexed-turn _ _ _ _ _ _ (inv .0) _ (listed .before .position-at .ensures) _ (listed .list-near .ensures), listed .list-near .kept .0 ∙ inv .1)
 
 same-length : tie.Need-same-length Inv-loop μ-loop
 same-length c = c .before .loop .inv .1
 
 returns : tie.Need-returns Inv-loop μ-loop
-returns c = indexed-fewer _ _ _ _ _ _ (c .before .loop .inv .0) (c .loop-test .left)
+returns c = indexed-fewer _ _ _ _ _ _ _ (c .before .loop .inv .0) (c .loop-test .left)
 
 pub list-kept-spec : {M : Type 1} → statement M
 list-kept-spec =
@@ -50,7 +49,7 @@ list-kept-spec =
     Inv-loop
     μ-loop
     loop-holds
-    corner-at-requires
+    position-at-requires
     list-near-requires
     add-i
     loop-less

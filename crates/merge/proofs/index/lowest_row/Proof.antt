@@ -6,16 +6,16 @@ use Rattle.merge.proofs.index.lowest_row.Statement.{statement}
 use Rattle.merge.proofs.index.lowest_row.Tie as tie
 
 abbrev Inv-loop : tie.InvT-loop
-Inv-loop xs ys strengths g from n low₀ i₀ low i = Unit
+Inv-loop xs ys g from n low₀ i₀ low i = Unit
 
 abbrev μ-loop : tie.MeasureT-loop
-μ-loop xs ys strengths g from n low₀ i₀ low i = n - i
+μ-loop xs ys g from n low₀ i₀ low i = n - i
 
 loop-holds : tie.Need-loop-holds Inv-loop μ-loop
 loop-holds c = tt
 
-corner-at-requires : tie.Need-corner-at-requires Inv-loop μ-loop
-corner-at-requires c κs = search needs
+position-at-requires : tie.Need-position-at-requires Inv-loop μ-loop
+position-at-requires c κs = search needs
 
 row-of-requires : tie.Need-row-of-requires Inv-loop μ-loop
 row-of-requires c κs = search needs
@@ -39,7 +39,7 @@ lowest-row-spec =
     Inv-loop
     μ-loop
     loop-holds
-    corner-at-requires
+    position-at-requires
     row-of-requires
     add-i
     loop-less

@@ -8,6 +8,10 @@ use Rattle.merge.proofs.Nearby.{all-near}
 use Rattle.merge.proofs.search.find_joined.Statement.{statement}
 use Rattle.merge.proofs.search.find_joined.Tie as tie
 
+-- from the test of the row to the function's start
+abbrev start : tie.After-index-holds → tie.Start
+start c = c .before .before .before .before .before
+
 row-of-requires : tie.Need-row-of-requires
 row-of-requires c κs = search needs
 
@@ -33,10 +37,12 @@ lowest-of-two-requires-2 c κs =
 returns : tie.Need-returns
 returns c =
     let cells = c .before .before in
-    let holds = cells .before .before .index-holds .ensures (cells .before .if1 .taken) in
-    let row = cells .before .before .before .row-of .ensures in
+    let asked = cells .before .before in
+    let holds = asked .index-holds .ensures (cells .before .if1 .taken) in
+    let row = asked .before .row-of .ensures in
+    let half : ℕ → ℕ = λ n. n / 2 in
     lowers-first _ _ _ _ (lowers-then _ _ _ _ _ _ (c .before .lowest-of-two .ensures) (c .lowest-of-two2 .ensures))
-    (all-near _ _ _ _ _ (cells .before .before .before .before .before .before .before .before .pre) _ _ _ (ap (λ (n : ℕ). n / 2) (cells .column-of .ensures)) (ap (λ (n : ℕ). n / 2) row) (holds .1) (omega (arith, row, holds .0)))
+    (all-near _ _ _ _ _ _ (start asked .pre) _ _ _ (ap half (cells .column-of .ensures)) (ap half row) (holds .1) (omega (arith, row, holds .0)))
 
 first-joined-requires : tie.Need-first-joined-requires
 first-joined-requires c κs = search needs

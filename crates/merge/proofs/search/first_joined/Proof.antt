@@ -5,34 +5,33 @@ use Prim.Native.Nat.{ℕ, _-_, _<_, _≤_}
 use native.Mathlib.Omega.{arith}
 use mathlib.Core.Path.{_≡_, sym, ap, _∙_}
 use mathlib.Core.Bool.{true, false≢true}
-use Rattle.corner_list.specs.CornerList.{slices}
-use Rattle.merge_grid.specs.MergeGrid.{joins}
+use Rattle.merge_grid.specs.MergeGrid.{meets}
 use Rattle.merge.specs.Search.{joinsAt}
 use Rattle.merge.proofs.search.first_joined.Statement.{statement}
 use Rattle.merge.proofs.search.first_joined.Tie as tie
 
 abbrev Inv-loop : tie.InvT-loop
-Inv-loop xs ys strengths g k c i₀ i = (i ≤ k) × ((m : ℕ) → m < i → joinsAt g c (slices xs ys strengths) m ≡ true → ⊥)
+Inv-loop xs ys g k p i₀ i = (i ≤ k) × ((m : ℕ) → m < i → joinsAt g p xs ys m ≡ true → ⊥)
 
 abbrev μ-loop : tie.MeasureT-loop
-μ-loop xs ys strengths g k c i₀ i = k - i
+μ-loop xs ys g k p i₀ i = k - i
 
 loop-holds : tie.Need-loop-holds Inv-loop μ-loop
 loop-holds c = (omega arith, below-none _)
 
-corner-at-requires : tie.Need-corner-at-requires Inv-loop μ-loop
-corner-at-requires c κs = search needs
+position-at-requires : tie.Need-position-at-requires Inv-loop μ-loop
+position-at-requires c κs = search needs
 
 is-joined-requires : tie.Need-is-joined-requires Inv-loop μ-loop
 is-joined-requires c κs = search needs
 
--- the test, of the corner in the buffer
+-- from the test to the function's start, and the test, of the corner in the buffer
+abbrev from-test : tie.After-is-joined Inv-loop μ-loop → tie.Start Inv-loop μ-loop
+from-test c = c .before .before .before .before .before .before
+
 tested : (c : tie.After-is-joined Inv-loop μ-loop)
-    → let a = c .before .before .before .before .before .before .before .args in
-    joinsAt (a .g) (a .c) (slices (a .xs .now) (a .ys .now) (a .strengths .now)) (c .before .before .before .loop .i) ≡ c .is-joined .result
-tested c =
-    let a = c .before .before .before .before .before .before .before .args in
-    ap (joins (a .g) (a .c)) (sym (c .before .corner-at .ensures)) ∙ sym (c .is-joined .ensures)
+    → let a = from-test c .args in joinsAt (a .g) (a .p) (a .xs .now) (a .ys .now) (c .before .before .before .loop .i) ≡ c .is-joined .result
+tested c = let a = from-test c .args in ap (meets (a .g) (a .p)) (sym (c .before .position-at .ensures)) ∙ sym (c .is-joined .ensures)
 
 returns : tie.Need-returns Inv-loop μ-loop
 returns c = record { at-most = omega arith; passes = λ _. tested (c .before) ∙ c .if1 .taken; before = c .before .before .before .before .loop .inv .1 }
@@ -57,7 +56,7 @@ first-joined-spec =
     Inv-loop
     μ-loop
     loop-holds
-    corner-at-requires
+    position-at-requires
     is-joined-requires
     returns
     add-i

@@ -4,18 +4,17 @@ use Prim.Native.Nat.{_-_, _≤_}
 use native.Mathlib.Omega.{arith}
 use mathlib.Core.Path.{_≡_}
 use lib.ListN.{length}
-use Rattle.corner_list.specs.CornerList.{slices}
 use Rattle.merge.specs.Search.{joinsAt}
 use Rattle.merge.proofs.First.{Looking, looking-none, looking-turn, looking-empty, looking-end}
 use Rattle.merge.proofs.search.lowest_from.Statement.{statement}
 use Rattle.merge.proofs.search.lowest_from.Tie as tie
 
 abbrev Inv-loop : tie.InvT-loop
-Inv-loop xs ys strengths table g home most c low₀ p₀ p-end low p =
-    Looking (joinsAt g c (slices xs ys strengths)) table home most low p × (p ≤ length table) × (p-end ≡ length table)
+Inv-loop xs ys table g home most p low₀ slot₀ slot-end low slot =
+    Looking (joinsAt g p xs ys) table home most low slot × (slot ≤ length table) × (slot-end ≡ length table)
 
 abbrev μ-loop : tie.MeasureT-loop
-μ-loop xs ys strengths table g home most c low₀ p₀ p-end low p = length table - p
+μ-loop xs ys table g home most p low₀ slot₀ slot-end low slot = length table - slot
 
 loop-holds : tie.Need-loop-holds Inv-loop μ-loop
 loop-holds c = (looking-none _ _ _ _, omega arith, omega arith)
@@ -32,13 +31,13 @@ returns c =
     looking-empty _ _ _ _ _ _ (at .loop .inv .0) (c .if1 .taken) (omega arith) (omega arith)
 
 cast-lower-of : tie.Need-cast-lower-of Inv-loop μ-loop
-cast-lower-of c = omega (arith, c .before .shared-slice-known5 .given (c .before .before .before .loop .p))
+cast-lower-of c = omega (arith, c .before .shared-slice-known4 .given (c .before .before .before .loop .slot))
 
 lower-of-requires : tie.Need-lower-of-requires Inv-loop μ-loop
 lower-of-requires c κs = search needs
 
-add-p : tie.Need-add-p Inv-loop μ-loop
-add-p c = omega arith
+add-slot : tie.Need-add-slot Inv-loop μ-loop
+add-slot c = omega arith
 
 loop-less : tie.Need-loop-less Inv-loop μ-loop
 loop-less c = omega arith
@@ -64,7 +63,7 @@ lowest-from-spec =
     returns
     cast-lower-of
     lower-of-requires
-    add-p
+    add-slot
     loop-less
     loop-again
     first-joined-requires

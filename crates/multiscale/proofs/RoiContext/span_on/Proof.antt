@@ -20,7 +20,7 @@ enum-known-centre : tie.Need-enum-known-centre
 enum-known-centre c = search needs
 
 returns : tie.Need-returns
-returns c = no-centre _ _ _ _ (scale-is _ (c .before .before .before .before .pre .0)) _ (c .before .round-half-away .ensures) (c .match .keys2)
+returns c = no-centre _ _ _ _ (scale-is _ (c .before .before .before .before .pre .0)) _ (c .before .round-half-away .ensures .answer) (c .match .keys2)
 
 roi-radius-requires : tie.Need-roi-radius-requires
 roi-radius-requires c κs = search needs
@@ -36,7 +36,8 @@ span-about-requires c κs =
 returns-2 : tie.Need-returns-2
 returns-2 c =
     let start = c .before .before .before .before .before .before .before .before .before in
-    about-centre (start .args .self) (start .args .side) (start .args .x) _ (scale-is (start .args .self) (start .pre .0)) _ (c .before .before .before .before .before .before .round-half-away .ensures) _ _ _ _
+    about-centre (start .args .self) (start .args .side) (start .args .x) _ (scale-is (start .args .self) (start .pre .0)) _
+    (c .before .before .before .before .before .before .round-half-away .ensures .answer) _ _ _ _
     (c .before .before .before .before .centre .given .1) (c .before .before .roi-radius .ensures) (c .before .border .ensures) (c .span-about .ensures)
 
 pub span-on-spec : {M : Type 1} → statement M

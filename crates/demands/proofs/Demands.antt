@@ -1,0 +1,34 @@
+-- The proof of each statement. Assumes nothing.
+use Rattle.demands.specs.Demands.{Demands}
+use Rattle.demands.proofs.Total.{total}
+use Rattle.demands.proofs.Program.{program-total, program-reads, program-decided, program-streams, program-exact}
+use Rattle.demands.proofs.BitForBit.{bit-for-bit}
+use Rattle.demands.proofs.AsPublished.{as-published}
+use Rattle.demands.proofs.Cases.{cases-hold}
+use Rattle.demands.proofs.ResponseAccurate.{response-accurate}
+use Rattle.demands.proofs.ResponsesOrdered.{responses-ordered}
+use Rattle.demands.proofs.PeaksAlike.{peaks-alike}
+use Rattle.demands.proofs.FrameExact.{frame-exact, alike-by-name, maps-searched, maps-alike, frame-without-ties, four-never, peaks-kept}
+
+pub demands : Demands
+demands = record {
+  total = total;
+  four-never = four-never;
+  peaks-kept = peaks-kept;
+  program-total = program-total;
+  program-reads = program-reads;
+  program-decided = program-decided;
+  program-streams = program-streams;
+  bit-for-bit = bit-for-bit;
+  as-published = as-published;
+  cases-hold = cases-hold;
+  response-accurate = response-accurate;
+  responses-ordered = responses-ordered;
+  peaks-alike = peaks-alike;
+  frame-exact = frame-exact;
+  program-exact = program-exact;
+  alike-by-name = alike-by-name;
+  maps-searched = maps-searched;
+  maps-alike = maps-alike;
+  frame-without-ties = frame-without-ties;
+}

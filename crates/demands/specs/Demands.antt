@@ -1,0 +1,54 @@
+-- The demands on the finder as one theorem, a field for each statement. The function `met` promises it, so the check wants a proof of each.
+-- The quotations are the demands' words; the lines that follow say in which file each statement stands.
+use Rattle.demands.specs.Total.{Total}
+use Rattle.demands.specs.Program.{ProgramTotal, ProgramReads, ProgramDecided, ProgramStreams, ProgramExact}
+use Rattle.demands.specs.BitForBit.{BitForBit}
+use Rattle.demands.specs.AsPublished.{AsPublished}
+use Rattle.demands.specs.Cases.{CasesHold}
+use Rattle.demands.specs.ResponseAccurate.{ResponseAccurate}
+use Rattle.demands.specs.ResponsesOrdered.{ResponsesOrdered}
+use Rattle.demands.specs.PeaksAlike.{PeaksAlike}
+use Rattle.demands.specs.FrameExact.{FrameExact, AlikeByName, MapsSearched, MapsAlike, FrameWithoutTies, FourNever, PeaksKept}
+
+pub record Demands : Type 0 where
+  -- ---- 1. Total
+  -- "comes back as a finished corner list or as one of eleven numbered refusals": the numbers that each function can give
+  pub total : Total
+  -- number 4 is none of a frame's
+  pub four-never : FourNever
+  -- and its number 10 is of peaks: the centroid drops none of them
+  pub peaks-kept : PeaksKept
+  -- the same of what the program prints, whatever it reads
+  pub program-total : ProgramTotal
+  -- and it reads as much as can matter
+  pub program-reads : ProgramReads
+  -- no byte more than decides what it prints, and none fewer
+  pub program-decided : ProgramDecided
+  -- a stream says one thing: written and read it is the same, and read and written too
+  pub program-streams : ProgramStreams
+  -- ---- 2. Bit for bit
+  -- "Response maps, peaks, centroids, pyramid levels, search boxes and merged corners": what each call leaves, by the definitions
+  pub bit-for-bit : BitForBit
+  -- "those of the scalar Rust": the definitions give what its text gives, function by function
+  pub as-published : AsPublished
+  -- and what the definitions give in the worked cases
+  pub cases-hold : CasesHold
+  -- ---- 3. Exact choice
+  -- "every computed response is within 1/1024 of the paper's exact value and has its sign, 0 for 0"
+  pub response-accurate : ResponseAccurate
+  -- "any two responses with different exact values stand in the same order as those values"
+  pub responses-ordered : ResponsesOrdered
+  -- "the program's peak list of the response map and the list chosen by exact values are alike .. exactly when no peak .. has .. an equal"
+  pub peaks-alike : PeaksAlike
+  -- "with the two lists alike for each map it looks at, its whole corner list is the one that exact peak choice leads to"
+  pub frame-exact : FrameExact
+  -- and prints it
+  pub program-exact : ProgramExact
+  -- alike is "naming the same places in the same order"
+  pub alike-by-name : AlikeByName
+  -- which nothing but a short buffer keeps from being seen on "each map it looks at"
+  pub maps-searched : MapsSearched
+  -- at a whole threshold each of these maps is alike exactly when it has no such tie
+  pub maps-alike : MapsAlike
+  -- and so a frame without ties has the exact list
+  pub frame-without-ties : FrameWithoutTies

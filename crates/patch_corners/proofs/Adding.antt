@@ -1,0 +1,141 @@
+-- The promise of a box's corners: from the number, from what peak finding answered, for corners that are then replaced, and what a caller learns
+-- from it. Assumes nothing.
+use Prim.Native.Nat.{ℕ, zero, suc, _+_, _-_, _<_, _≤_}
+use native.Mathlib.Omega.{arith}
+use native.Mathlib.Decide.{decLt}
+use mathlib.Core.Path.{_≡_, refl, sym, ap, _∙_}
+use mathlib.Core.Bool.{cond}
+use mathlib.Core.List.{List, [], _∷_, _++_, map}
+use lib.ListN.{length, replicate, length-map}
+use lib.Dec.{ltb, eqb}
+use lib.Ieee.{Float}
+use borrow.Author.Tests.{ltb-false, ne-eqb}
+use Rattle.lists.specs.Buffer.{front, wipedFrom}
+use Rattle.lists.specs.Refusals.{lowest, valuesUnless}
+use Rattle.lists.proofs.Refusals.{lowest-none, lowest-before, lowest-past, lowest-le}
+use Rattle.float32.specs.Float32 as float32
+use Rattle.response.specs.Patch.{View, cells}
+use Rattle.corner_list.specs.declared.Corner.{Corner}
+use Rattle.corner_list.specs.CornerList.{Slices, placesOf, placedCorners}
+use Rattle.detect.specs.declared.Peaks.{Peaks}
+use Rattle.detect.specs.declared.Peaks.the-variants.{Added, Refused}
+use Rattle.detect.specs.Detect.{conditions, refusalOf, answerOf, bufferOf, numberOf, valuesOf, Found}
+use Rattle.detect.proofs.Answers.{number-is, values-are, Clear, Fitted, refusal-input, refusal-short, refusal-none, refused-tells}
+use Rattle.clearing.specs.Clearing.{clearedFrom, leftBy}
+use Rattle.frame_pass.specs.declared.FrameParams.{FrameParams}
+use Rattle.patch_corners.specs.PatchCorners.{patchConditions, patchRefusal, BoxAdded}
+use Rattle.patch_corners.specs.Needs.{Changed}
+use Rattle.patch_corners.proofs.Changing.{changed-fits, changed-placed}
+use Rattle.patch_corners.proofs.Centring.{both}
+
+-- ---- the conditions: each has a number, and 10 is none of them
+pub patch-numbered : (p : FrameParams) (v : View) (places : ℕ) → lowest (patchConditions p v places) ≡ 0 → Clear (patchConditions p v places)
+patch-numbered p v places none = record {
+  numbered = unfold patchConditions conditions in (omega arith, (omega arith, (omega arith, (omega arith, tt))));
+  none = none;
+}
+
+not-ten : (p : FrameParams) (v : View) (places : ℕ) → lowest (patchConditions p v places) < 10
+unfolding patchConditions conditions
+not-ten p v places = let l = lowest-le (patchConditions p v places) 8 (omega arith, (omega arith, (omega arith, (omega arith, tt)))) in omega arith
+
+-- ---- an answer and the buffers, from what led to them
+module _ (p : FrameParams) (v : View) (held : ℕ) (d : List Float) (b : Slices) where
+  by-number : (cs : List Corner) (k : ℕ) → patchRefusal p v cs held d b ≡ k → (answer : Peaks) (d′ : List Float) (b′ : Slices) → answer ≡ answerOf k (length cs)
+      → d′ ≡ leftBy k (front (cells v) d) (wipedFrom 0 float32.zero d) d → b′ ≡ leftBy k (placedCorners held cs b) (clearedFrom 0 b) b
+      → BoxAdded p v cs held d b answer d′ b′
+  by-number cs k e answer d′ b′ a m c = record {
+    answered = a ∙ ap (λ (r : ℕ). answerOf r (length cs)) (sym e);
+    number = ap numberOf a ∙ number-is k (length cs) ∙ sym e;
+    values = ap valuesOf a ∙ values-are k (length cs) ∙ ap (λ (r : ℕ). valuesUnless r (length cs ∷ [])) (sym e);
+    map = m ∙ ap (λ (r : ℕ). leftBy r (front (cells v) d) (wipedFrom 0 float32.zero d) d) (sym e);
+    corners = c ∙ ap (λ (r : ℕ). leftBy r (placedCorners held cs b) (clearedFrom 0 b) b) (sym e);
+  }
+
+  -- a condition holds: both buffers are as they were
+  pub refused-by : (cs : List Corner) (k : ℕ) → lowest (patchConditions p v (length d)) ≡ k → (k ≡ 0 → ⊥) → BoxAdded p v cs held d b (Refused k) d b
+  refused-by cs zero e n = absurd (n refl)
+  refused-by cs (suc k) e n =
+      let l = not-ten p v (length d) in
+      let other : eqb (suc k) 10 ≡ _ = ne-eqb (suc k) 10 (λ (z : suc k ≡ 10). let no : ⊥ = omega arith in no) in
+      by-number cs (suc k) (refusal-input (placesOf b) held (length cs) (patchConditions p v (length d)) (λ z. n (sym e ∙ z)) ∙ e) (Refused (suc k)) d b refl
+      (rw other) (rw other)
+
+  -- peak finding added them, behind the map
+  pub added-by : (cs : List Corner) (n : ℕ) (b′ : Slices) → Found (patchConditions p v (length d)) cs held b (Added n) b′
+      → (d′ : List Float) → d′ ≡ front (cells v) d → BoxAdded p v cs held d b (Added n) d′ b′
+  added-by cs n b′ f d′ m =
+      let e : patchRefusal p v cs held d b ≡ 0 = sym (f .number) in
+      by-number cs 0 e (Added n) d′ b′ (f .answered ∙ ap (λ (r : ℕ). answerOf r (length cs)) e) m (f .buffer ∙ ap (λ (r : ℕ). bufferOf r held cs b) e)
+
+  -- they do not fit, and both buffers were cleared
+  pub cleared-by : Clear (patchConditions p v (length d)) → (cs : List Corner) (answer : Peaks) (b₁ : Slices)
+      → Found (patchConditions p v (length d)) cs held b answer b₁ → (k : ℕ) → answer ≡ Refused k
+      → (d₁ d′ : List Float) → length d₁ ≡ length d → d′ ≡ wipedFrom 0 float32.zero d₁ → (b′ : Slices) → b′ ≡ clearedFrom 0 b₁
+      → BoxAdded p v cs held d b answer d′ b′
+  cleared-by clear cs answer b₁ f k q d₁ d′ l m b′ c =
+      let s = refused-tells (patchConditions p v (length d)) clear cs held b answer b₁ f k q in
+      by-number cs 10 (refusal-short (placesOf b) held (length cs) (patchConditions p v (length d)) clear (s .short)) answer d′ b′ (q ∙ ap Refused (s .number))
+      (m ∙ ap (λ (n : ℕ). replicate (n - 0) float32.zero) l) (c ∙ ap (clearedFrom 0) (s .buffer))
+
+-- ---- what a caller learns
+module _ (p : FrameParams) (v : View) (cs : List Corner) (held : ℕ) (d : List Float) (b : Slices) (answer : Peaks) (d′ : List Float) (b′ : Slices)
+    (added : BoxAdded p v cs held d b answer d′ b′) where
+  -- refused, though no condition holds: they do not fit
+  pub added-short : Clear (patchConditions p v (length d)) → (k : ℕ) → answer ≡ Refused k → placesOf b < held + length cs
+  added-short clear k q =
+      elim (decLt (placesOf b) (held + length cs)) [
+        | yes l ↦ l
+        | no g ↦
+            let e = refusal-none (placesOf b) held (length cs) (patchConditions p v (length d)) clear (omega arith) in
+            both (sym (added .answered ∙ ap (λ (r : ℕ). answerOf r (length cs)) e) ∙ q)
+      ]
+
+  -- refused: so it is for as many other corners
+  pub added-not : (f : Corner → Corner) (k : ℕ) → answer ≡ Refused k → BoxAdded p v (map f cs) held d b answer d′ b′
+  added-not f k q =
+      by-number p v held d b (map f cs) (patchRefusal p v cs held d b) (rw (length-map cs f)) answer d′ b′ (rw (length-map cs f) (added .answered)) (added .map)
+      (added .corners ∙ other (patchRefusal p v cs held d b) (sym (added .answered) ∙ q))
+    where
+      other : (r : ℕ) → answerOf r (length cs) ≡ Refused k
+          → leftBy r (placedCorners held cs b) (clearedFrom 0 b) b ≡ leftBy r (placedCorners held (map f cs) b) (clearedFrom 0 b) b
+      other zero z = both z
+      other (suc j) z = refl
+
+  -- added: no condition holds, and they stand in their places
+  module _ (n : ℕ) (q : answer ≡ Added n) where
+    number-none : patchRefusal p v cs held d b ≡ 0
+    number-none = sym (added .number) ∙ ap numberOf q
+
+    whole-none : lowest (patchConditions p v (length d) ++ ((ltb (placesOf b) (held + length cs), 10) ∷ [])) ≡ 0
+    unfolding refusalOf
+    whole-none = number-none
+
+    pub added-clear : Clear (patchConditions p v (length d))
+    added-clear = patch-numbered p v (length d) (lowest-before (patchConditions p v (length d)) ((ltb (placesOf b) (held + length cs), 10) ∷ []) whole-none)
+
+    pub added-fits : Fitted cs held b n b′
+    added-fits =
+        let e = number-none in
+        let c = added-clear in
+        let last = sym (lowest-past (patchConditions p v (length d)) ((ltb (placesOf b) (held + length cs), 10) ∷ []) (c .numbered) (c .none)) ∙ whole-none in
+        let free = ltb-false (placesOf b) (held + length cs) (lowest-none (ltb (placesOf b) (held + length cs)) 10 [] (omega arith) last .0) in
+        let is : Added n ≡ Added (length cs) = sym q ∙ added .answered ∙ ap (λ (r : ℕ). answerOf r (length cs)) e in
+        let count : n ≡ length cs = cc in
+        record {
+          count = count;
+          fits = omega arith;
+          buffer = added .corners ∙ ap (λ (r : ℕ). leftBy r (placedCorners held cs b) (clearedFrom 0 b) b) e;
+        }
+
+    -- each then replaced in its place
+    module _ (f : Corner → Corner) where
+      pub replaced-fits : held + n ≤ placesOf b′
+      replaced-fits = let t = added-fits in changed-fits f cs held b b′ n (t .count) (t .fits) (t .buffer)
+
+      pub added-replaced : (b″ : Slices) → Changed f held n b′ b″ → BoxAdded p v (map f cs) held d b (Added n) d′ b″
+      added-replaced b″ c =
+          let t = added-fits in
+          by-number p v held d b (map f cs) 0 (rw (length-map cs f) number-none) (Added n) d′ b″ (ap Added (t .count ∙ sym (length-map cs f)))
+          (added .map ∙ ap (λ (r : ℕ). leftBy r (front (cells v) d) (wipedFrom 0 float32.zero d) d) number-none)
+          (changed-placed f cs held b b′ n (t .count) (t .fits) (t .buffer) b″ c)

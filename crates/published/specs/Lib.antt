@@ -1,0 +1,9 @@
+pub mod Rust
+pub mod RingRs
+pub mod ResponseRs
+pub mod PyramidRs
+pub mod NeighborsRs
+pub mod DetectRs
+pub mod CenterOfMassRs
+pub mod MultiscaleRs
+pub mod MergeRs

@@ -1,0 +1,1 @@
+// No code: the original's functions line by line, and that the definitions give the same. See specs/ and proofs/.

@@ -1,0 +1,62 @@
+-- A frame stream and what it holds are one to one: writing, and what reading gives of it. `proofs/` has each statement under its name in small
+-- letters.
+use Prim.Native.Nat.{ℕ, zero, suc, _-_, _*_, _/_, _%_, _<_}
+use mathlib.Core.Path.{_≡_}
+use mathlib.Core.List.{List, [], _∷_, _++_}
+use lib.ListN.{length, take, drop, replicate}
+use Rattle.lists.specs.Places.{All}
+use Rattle.stream.specs.declared.Header.{Header}
+use Rattle.stream.specs.Stream.{sidesFault, parametersFault, accepted, recordsFor, readFrame}
+
+-- ---- writing
+abbrev pub bytes16 : ℕ → List ℕ
+bytes16 n = n % 256 ∷ n / 256 ∷ []
+
+abbrev pub bytes32 : ℕ → List ℕ
+bytes32 n = bytes16 (n % 65536) ++ bytes16 (n / 65536)
+
+abbrev pub sidesBytes : Header → List ℕ
+sidesBytes h = bytes16 (h .width) ++ bytes16 (h .height)
+
+abbrev pub parametersBytes : Header → List ℕ
+parametersBytes h =
+    (h .ring ∷ bytes32 (h .«threshold_bits»))
+    ++ (h .window ∷ h .least ∷ h .centroid ∷ bytes32 (h .«merge_bits»))
+    ++ (h .levels ∷ bytes16 (h .minimum))
+    ++ (h .search ∷ [])
+
+-- "32 pixels in row order, zeros after the last"
+unfoldable pub pixelBytes : ℕ → List ℕ → List ℕ
+pixelBytes zero pixels = []
+pixelBytes (suc n) pixels = 3 ∷ ((take 32 pixels ++ replicate (32 - length pixels) 0) ++ pixelBytes n (drop 32 pixels))
+
+unfoldable pub frameBytes : Header → List ℕ → List ℕ
+unfolding pixelBytes
+frameBytes h pixels = (1 ∷ sidesBytes h) ++ (2 ∷ parametersBytes h) ++ pixelBytes (recordsFor (length pixels)) pixels ++ (4 ∷ [])
+
+-- ---- statements
+
+-- what a stream may hold: sides and parameters without fault, and as many pixels as the sides say
+pub record Accepted (h : Header) (pixels : List ℕ) : Type 0 where
+  pub sides : sidesFault (h .width) (h .height) ≡ 0
+  pub parameters : parametersFault (h .ring) (h .window) (h .centroid) (h .«merge_bits») ≡ 0
+  pub long : length pixels ≡ h .width * h .height
+
+-- what is written for it is read back, whatever stands behind
+abbrev pub FrameBack : Type 0
+FrameBack = (h : Header) (pixels rest : List ℕ) → Accepted h pixels → readFrame (frameBytes h pixels ++ rest) ≡ accepted h pixels
+
+-- nothing else is read from any stream
+abbrev pub AcceptedGood : Type 0
+AcceptedGood = (s : List ℕ) (h : Header) (pixels : List ℕ) → readFrame s ≡ accepted h pixels → Accepted h pixels
+
+-- and from no other stream of bytes: up to its end it is the one that is written
+abbrev pub AcceptedOnly : Type 0
+AcceptedOnly =
+    (s : List ℕ) (h : Header) (pixels : List ℕ) → readFrame s ≡ accepted h pixels → All (λ v. v < 256) s
+    → take (length (frameBytes h pixels)) s ≡ frameBytes h pixels
+
+pub record RoundTrip : Type 0 where
+  pub frame-back : FrameBack
+  pub accepted-good : AcceptedGood
+  pub accepted-only : AcceptedOnly
