@@ -77,6 +77,7 @@ uint8_t zakdomp_peaks(const float *map, size_t map_length, size_t w, size_t h, u
 /* The centre of mass of the positive cells of a map within `radius` columns and rows of a seed.
  *   x, y  the seed, and then the centre of mass; the seed stays where the cells do not all lie in the map or none is positive
  *   mass  the sum of the cells; 0 where the seed stays
+ * In a map that zakdomp_response made, and with a radius of at most 2, x and y are within 1/32 of those by exact responses.
  * Refusals: 1, 2, 3, 4. */
 uint8_t zakdomp_centroid(const float *map, size_t map_length, size_t w, size_t h, uint32_t radius, float *x, float *y, float *mass);
 

@@ -1,4 +1,4 @@
--- The window's centre on one axis: the tests that find it, and that the window then lies within the side. Assumes nothing.
+-- The window's centre on one axis: the tests that find it, and what it then is. Assumes nothing.
 use mathlib.Core.Path.{_≡_, refl}
 use mathlib.Core.Logic.{inl, inr}
 use mathlib.Core.Bool.{Bool, true, false, _||_, cond}
@@ -33,17 +33,22 @@ module _ (r side p : ℕ) where
   pub in-place : r ≤ p → p + r < side → At p ≡ placed r side (Natural p)
   in-place h k = rw (le-ltb p r h, lt-leb (side - r) p (omega arith))
 
--- where there is a centre, the window lies within the side
-placed-in : (r side p : ℕ) (o : Rounded) → At p ≡ placed r side o → (r ≤ p) × (p + r < side)
+-- where there is a centre, it is the rounded seed, and the window lies within the side
+placed-in : (r side p : ℕ) (o : Rounded) → At p ≡ placed r side o → (o ≡ Natural p) × (r ≤ p) × (p + r < side)
 placed-in r side p (Natural q) h = go (ltb q r) (leb (side - r) q) refl refl h
   where
-    go : (a b : Bool) → ltb q r ≡ a → leb (side - r) q ≡ b → At p ≡ cond (a || b) Outside (At q) → (r ≤ p) × (p + r < side)
+    go : (a b : Bool) → ltb q r ≡ a → leb (side - r) q ≡ b → At p ≡ cond (a || b) Outside (At q) → (Natural q ≡ Natural p) × (r ≤ p) × (p + r < side)
     go true b s t e = absurd (let z : _≡_ {A = ℕ} 0 1 = cc in omega arith)
     go false true s t e = absurd (let z : _≡_ {A = ℕ} 0 1 = cc in omega arith)
-    go false false s t e = let k : p ≡ q = cc in (omega (arith, ltb-false q r s), omega (arith, leb-false (side - r) q t))
+    go false false s t e = let k : p ≡ q = cc in ((cc), omega (arith, ltb-false q r s), omega (arith, leb-false (side - r) q t))
 placed-in r side p (Negative n) h = absurd (let z : _≡_ {A = ℕ} 0 1 = cc in omega arith)
 placed-in r side p Beyond h = absurd (let z : _≡_ {A = ℕ} 0 1 = cc in omega arith)
 
-pub window-in : (r side p : ℕ) (x : Float) → At p ≡ centreOn r side x → (r ≤ p) × (p + r < side)
-unfolding centreOn
-window-in r side p x h = placed-in r side p (roundHalfAway x) h
+module _ (r side p : ℕ) (x : Float) (h : At p ≡ centreOn r side x) where
+  pub centre-rounded : roundHalfAway x ≡ Natural p
+  unfolding centreOn
+  centre-rounded = placed-in r side p (roundHalfAway x) h .0
+
+  pub window-in : (r ≤ p) × (p + r < side)
+  unfolding centreOn
+  window-in = let k = placed-in r side p (roundHalfAway x) h in (k .1, k .2)

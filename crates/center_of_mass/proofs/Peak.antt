@@ -69,7 +69,7 @@ module _ (r : ℕ) (m : List Float) (w h px py : ℕ) (u : All Usual m) (i : Ins
       let weight = weightAt m w (record { x = px; y = py }) in
       let above : T (lt zero weight) = subst (λ (z : Float). T (lt zero z)) (lift-above (getD m (py * w + px) nan) (is-true _ p)) p in
       let some = nearly-positive-only weight (unitsOf weight) 0 above (exactly weight (unitsOf weight) (at-centre _ each .0)) in
-      mass-positive m w (window r px py) (window-few r m w h px py i) each (λ none. empty (unitsOf weight) some (at-centre _ none))
+      mass-positive m w (window r px py) (window-few r px py 16 (i .radius)) each (λ none. empty (unitsOf weight) some (at-centre _ none))
     where
       empty : (n : ℕ) → 0 < n → n ≡ 0 → ⊥
       empty n a b = omega arith

@@ -13,14 +13,15 @@ use lib.Ieee.{Float, nan, binary32, lt, add, div, ofInt}
 use Rattle.lists.specs.Places.{All}
 use Rattle.lists.proofs.Places.{length-block}
 use Rattle.lists.proofs.Members.{all-at, all-block}
-use Rattle.float32.specs.Float32.{zero as zero32}
+use Rattle.float32.specs.Float32.{zero as zero32, roundHalfAway}
+use Rattle.float32.specs.declared.Rounded.the-variants.{Natural}
 use Rattle.float32.proofs.Bounds.{UpTo, upto-more, whole-upto, add-upto}
 use Rattle.center_of_mass.specs.declared.Sums.{Sums}
 use Rattle.center_of_mass.specs.declared.Outcome.the-variants.{Accepted, Rejected, IllConditioned}
 use Rattle.center_of_mass.specs.declared.Centre.{Centre}
 use Rattle.center_of_mass.specs.declared.Centre.the-variants.{At, Outside}
 use Rattle.center_of_mass.specs.CenterOfMass.{noSums, weightAt, window, windowSums, refusal, centreOn, meanOf, weighed, outcomeOf, unless, refined}
-use Rattle.center_of_mass.proofs.Axis.{window-in}
+use Rattle.center_of_mass.proofs.Axis.{centre-rounded, window-in}
 use Rattle.center_of_mass.proofs.Judgement.{radius-small, map-fits}
 use Rattle.center_of_mass.proofs.Weights.{Usual, Weighs, weighs, sx-is, sy-is, mean-upto}
 
@@ -32,13 +33,14 @@ pub record Inside (r : ℕ) (m : List Float) (w h cx cy : ℕ) : Type 0 where
   pub sides : (w ≤ 4096) × (h ≤ 4096)
   pub cells : length m ≡ w * h
 
-module _ (r : ℕ) (m : List Float) (w h cx cy : ℕ) (i : Inside r m w h cx cy) where
-  pub window-few : length (window r cx cy) ≤ 1089
-  window-few =
-      let a : cx + r + 1 - (cx - r) ≤ 33 = omega (arith, i .radius, i .across) in
-      let b : cy + r + 1 - (cy - r) ≤ 33 = omega (arith, i .radius, i .down) in
-      subst (λ (n : ℕ). n ≤ 1089) (sym (length-block (cx - r) (cx + r + 1) (cy - r) (cy + r + 1))) (mul-le-mul b a)
+-- the cells of a window whose radius is at most n
+pub window-few : (r cx cy n : ℕ) → r ≤ n → length (window r cx cy) ≤ (2 * n + 1) * (2 * n + 1)
+window-few r cx cy n h =
+    let a : cx + r + 1 - (cx - r) ≤ 2 * n + 1 = omega arith in
+    let b : cy + r + 1 - (cy - r) ≤ 2 * n + 1 = omega arith in
+    subst (λ (k : ℕ). k ≤ (2 * n + 1) * (2 * n + 1)) (sym (length-block (cx - r) (cx + r + 1) (cy - r) (cy + r + 1))) (mul-le-mul b a)
 
+module _ (r : ℕ) (m : List Float) (w h cx cy : ℕ) (i : Inside r m w h cx cy) where
   pub window-weighs : All Usual m → All (λ p. Weighs (weightAt m w p)) (window r cx cy)
   window-weighs u = all-block _ (cx - r) (cx + r + 1) (cy - r) (cy + r + 1) (λ x y a b c d. weighs _ (all-at Usual m u (y * w + x) nan (cell-in x y (omega (arith, i .across)) (omega (arith, i .down)))))
     where
@@ -50,20 +52,20 @@ module _ (r : ℕ) (m : List Float) (w h cx cy : ℕ) (i : Inside r m w h cx cy)
     x-upto =
         upto-more _ (cx + r + 1) w (omega (arith, i .across))
         (rw (sx-is m w noSums (window r cx cy))
-        (mean-upto m w (window r cx cy) window-few (window-weighs u) (λ p. p .x) (cx + r) (omega (arith, i .across, i .sides)) (all-block _ (cx - r) (cx + r + 1) (cy - r) (cy + r + 1) (λ x y a b c d. omega arith)) p))
+        (mean-upto m w (window r cx cy) (window-few r cx cy 16 (i .radius)) (window-weighs u) (λ p. p .x) (cx + r) (omega (arith, i .across, i .sides)) (all-block _ (cx - r) (cx + r + 1) (cy - r) (cy + r + 1) (λ x y a b c d. omega arith)) p))
 
     y-upto : UpTo (div binary32 (windowSums r m w cx cy .sy) (windowSums r m w cx cy .sw)) h
     y-upto =
         upto-more _ (cy + r + 1) h (omega (arith, i .down))
         (rw (sy-is m w noSums (window r cx cy))
-        (mean-upto m w (window r cx cy) window-few (window-weighs u) (λ p. p .y) (cy + r) (omega (arith, i .down, i .sides)) (all-block _ (cx - r) (cx + r + 1) (cy - r) (cy + r + 1) (λ x y a b c d. omega arith)) p))
+        (mean-upto m w (window r cx cy) (window-few r cx cy 16 (i .radius)) (window-weighs u) (λ p. p .y) (cy + r) (omega (arith, i .down, i .sides)) (all-block _ (cx - r) (cx + r + 1) (cy - r) (cy + r + 1) (λ x y a b c d. omega arith)) p))
 
 -- ---- what an accepted outcome says
 pub record Weighing (r : ℕ) (x y : Float) (m : List Float) (w h : ℕ) (cx cy mass : Float) : Type 0 where
   pub px : ℕ
   pub py : ℕ
-  pub column-is : centreOn r w x ≡ At px
-  pub row-is : centreOn r h y ≡ At py
+  pub column-is : roundHalfAway x ≡ Natural px
+  pub row-is : roundHalfAway y ≡ Natural py
   pub inside : Inside r m w h px py
   pub above : T (lt zero32 (windowSums r m w px py .sw))
   pub cx-is : cx ≡ div binary32 (windowSums r m w px py .sx) (windowSums r m w px py .sw)
@@ -87,8 +89,8 @@ module _ (r : ℕ) (x y : Float) (m : List Float) (w h : ℕ) (cx cy mass : Floa
         record {
           px = px;
           py = py;
-          column-is = p;
-          row-is = q;
+          column-is = centre-rounded r w px x (sym p);
+          row-is = centre-rounded r h py y (sym q);
           inside = record { radius = radius; across = window-in r w px x (sym p); down = window-in r h py y (sym q); sides = sides; cells = cells };
           above = k .0;
           cx-is = k .1;

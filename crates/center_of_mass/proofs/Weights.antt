@@ -12,8 +12,8 @@ use lib.IntN.{ℤ, pos}
 use lib.Pow.{pow-pos}
 use lib.Ieee.{Float, nan, inf, fin, binary32, low, fits, lt, le, mul, div, ofInt}
 use lib.Ieee.Bits.{is-true}
-use Rattle.lists.specs.Places.{Place, All}
-use Rattle.lists.proofs.Members.{all-map, all-both, sumOf, sum-weighted, sum-none}
+use Rattle.lists.specs.Places.{Place, All, sumOf}
+use Rattle.lists.proofs.Members.{all-map, all-both, sum-weighted, sum-none}
 use Rattle.float32.specs.Float32.{zero, lift}
 use Rattle.float32.proofs.Values.{ofInt-value}
 use Rattle.float32.proofs.Units.{Units, unitsOf, own-units}
@@ -81,7 +81,7 @@ module _ (m : List Float) (w : ℕ) where
   unitsAt p = unitsOf (weightAt m w p)
 
   module _ (ps : List Place) (few : length ps ≤ 1089) (each : All (λ p. Weighs (weightAt m w p)) ps) where
-    mass-nearly : Nearly (withCells m w noSums ps .sw) (sumOf unitsAt ps) (0 + length ps)
+    pub mass-nearly : Nearly (withCells m w noSums ps .sw) (sumOf unitsAt ps) (0 + length ps)
     mass-nearly =
         rw (sw-is noSums ps)
         (summed-nearly weight unitsAt 0 (8192 * 2 ^ low binary32) ps (omega arith) (in-all (length ps) (2 ^ low binary32) few)
@@ -91,7 +91,7 @@ module _ (m : List Float) (w : ℕ) where
         in-all n L h = let k : n * L ≤ 1089 * L = mul-le-mul-right L h in simp (mul-comm, mul-left-comm) (omega (arith, mul-comm n L))
 
     module _ (co : Place → ℕ) (M : ℕ) (narrow : M ≤ 4095) (side : All (λ p. co p ≤ M) ps) where
-      moment-nearly : Nearly (summed (term co) zero ps) (sumOf (λ p. co p * unitsAt p) ps) (1 + length ps)
+      pub moment-nearly : Nearly (summed (term co) zero ps) (sumOf (λ p. co p * unitsAt p) ps) (1 + length ps)
       moment-nearly =
           summed-nearly (term co) (λ p. co p * unitsAt p) 1 (4095 * (8192 * 2 ^ low binary32)) ps (omega arith) (in-all (length ps) (2 ^ low binary32) few)
           (all-map (λ p. Weighs (weightAt m w p) × (co p ≤ M)) _ (λ p h. one p (h .0) (le-trans (h .1) narrow)) ps (all-both _ _ ps each side))

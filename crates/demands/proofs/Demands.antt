@@ -9,6 +9,7 @@ use Rattle.demands.proofs.ResponseAccurate.{response-accurate}
 use Rattle.demands.proofs.ResponsesOrdered.{responses-ordered}
 use Rattle.demands.proofs.PeaksAlike.{peaks-alike}
 use Rattle.demands.proofs.FrameExact.{frame-exact, alike-by-name, maps-searched, maps-alike, frame-without-ties, four-never, peaks-kept}
+use Rattle.demands.proofs.Tolerance.{centre-tolerance, frame-tolerance}
 
 pub demands : Demands
 demands = record {
@@ -31,4 +32,6 @@ demands = record {
   maps-searched = maps-searched;
   maps-alike = maps-alike;
   frame-without-ties = frame-without-ties;
+  centre-tolerance = centre-tolerance;
+  frame-tolerance = frame-tolerance;
 }

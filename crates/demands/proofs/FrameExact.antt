@@ -57,7 +57,7 @@ alike-by-name p v c same =
 -- ---- the maps of a frame
 
 -- a frame that finished was not refused before its pass
-sound : (c : FrameCall) → Sound (c .parameters) (c .img) (c .w) (c .h)
+pub sound : (c : FrameCall) → Sound (c .parameters) (c .img) (c .w) (c .h)
 unfolding refusalOf
 sound c =
     let cells = length (c .before .map) in

@@ -1,5 +1,5 @@
 -- The demands on the finder as one theorem, a field for each statement. The function `met` promises it, so the check wants a proof of each.
--- The quotations are the demands' words; the lines that follow say in which file each statement stands.
+-- The quotations are the demands' words, and the request's under its heading; the lines that follow say in which file each statement stands.
 use Rattle.demands.specs.Total.{Total}
 use Rattle.demands.specs.Program.{ProgramTotal, ProgramReads, ProgramDecided, ProgramStreams, ProgramExact}
 use Rattle.demands.specs.BitForBit.{BitForBit}
@@ -9,6 +9,7 @@ use Rattle.demands.specs.ResponseAccurate.{ResponseAccurate}
 use Rattle.demands.specs.ResponsesOrdered.{ResponsesOrdered}
 use Rattle.demands.specs.PeaksAlike.{PeaksAlike}
 use Rattle.demands.specs.FrameExact.{FrameExact, AlikeByName, MapsSearched, MapsAlike, FrameWithoutTies, FourNever, PeaksKept}
+use Rattle.demands.specs.Tolerance.{CentreTolerance, FrameTolerance}
 
 pub record Demands : Type 0 where
   -- ---- 1. Total
@@ -52,3 +53,8 @@ pub record Demands : Type 0 where
   pub maps-alike : MapsAlike
   -- and so a frame without ties has the exact list
   pub frame-without-ties : FrameWithoutTies
+  -- ---- Request 14. How far the centre may be off
+  -- "each coordinate lies within 1/32 pixel of the exact centroid"
+  pub centre-tolerance : CentreTolerance
+  -- "It covers seeds and patch corners alike"
+  pub frame-tolerance : FrameTolerance

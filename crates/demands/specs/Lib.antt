@@ -10,4 +10,5 @@ pub mod Numbers
 pub mod Total
 pub mod Program
 pub mod BitForBit
+pub mod Tolerance
 pub mod Demands

@@ -11,8 +11,7 @@ use lib.Dec.{lit<, lit≤}
 use lib.Pow.{pow-pos}
 use lib.Ieee.{Float, binary32, low, add, mul}
 use lib.Ieee.Exact.{HasValue}
-use Rattle.lists.specs.Places.{All}
-use Rattle.lists.proofs.Members.{sumOf}
+use Rattle.lists.specs.Places.{All, sumOf}
 use Rattle.float32.specs.Float32.{zero as zero32}
 use Rattle.float32.proofs.Rounding.{HalfNear}
 use Rattle.float32.proofs.Units.{Units, rounded, units-near, add-units, scale-units}

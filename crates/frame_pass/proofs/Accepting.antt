@@ -103,7 +103,7 @@ module _ (p : FrameParams) (v : View) where
     accepted q k =
         let i = k .inside in
         let a =
-        peak-accepted (p .centroid) (cells v) (cols v) (rows v) (q .x) (q .y) (map-usual p v f) (ranges p (f .fit) .centroid)
+        peak-accepted (p .centroid) (cells v) (cols v) (rows v) (q .x) (q .y) (map-usual v (f .bytes)) (ranges p (f .fit) .centroid)
         (le-trans (cols-le v) (f .narrow)) (le-trans (rows-le v) (f .low)) (cells-length v ∙ mul-comm (rows v) (cols v))
         (omega (arith, i .left)) (omega (arith, i .right)) (omega (arith, i .top)) (omega (arith, i .bottom)) (k .above) in
         rw (a .3)

@@ -58,7 +58,7 @@ module _ (p : FrameParams) (v : View) (choose : Choice) where
     map-inside =
         corners-all Taken
         (λ x y cx cy mass strength e.
-        let u = within-map (p .centroid) x y true (cells v) (cols v) (rows v) cx cy mass (map-usual p v f) e in
+        let u = within-map (p .centroid) x y true (cells v) (cols v) (rows v) cx cy mass (map-usual v (f .bytes)) e in
         inside-upto (record { x = cx; y = cy; strength = strength }) (cols v) (rows v) (le-trans (cols-le v) (f .narrow)) (le-trans (rows-le v) (f .low)) (u .0) (u .1))
 
     -- moved by the box's corner, where the box lies in the image
@@ -67,7 +67,7 @@ module _ (p : FrameParams) (v : View) (choose : Choice) where
         all-mapped Taken (moved (v .x0) (v .y0)) (cornersIn p choose v)
         (corners-all (λ c. Taken (moved (v .x0) (v .y0) c))
         (λ x y cx cy mass strength e.
-        let u = within-image (p .centroid) x y true (cells v) (cols v) (rows v) cx cy mass (map-usual p v f) e (v .x0) (v .y0) (v .w) (v .h) a b (f .narrow) (f .low) in
+        let u = within-image (p .centroid) x y true (cells v) (cols v) (rows v) cx cy mass (map-usual v (f .bytes)) e (v .x0) (v .y0) (v .w) (v .h) a b (f .narrow) (f .low) in
         inside-upto (moved (v .x0) (v .y0) (record { x = cx; y = cy; strength = strength })) (v .w) (v .h) (f .narrow) (f .low) (u .0) (u .1)))
 
 -- ---- the pass

@@ -50,6 +50,10 @@ ranges p e =
       search = leb-true (p .search) 255 (c .1);
     }
 
+-- ---- the cells of a map of an image of bytes are as the centroid takes them
+pub map-usual : (v : View) → Bytes (v .img) → All Usual (cells v)
+map-usual v bytes = all-map (λ x. T (fits binary32 x) × T (le x (floatOf 8192))) Usual (λ x k. record { held = k .0; small = k .1 }) (cells v) (map-small v bytes)
+
 -- ---- a map of an image of bytes that is not too large, by the parameters' ring
 pub record Fine (p : FrameParams) (v : View) : Type 0 where
   pub fit : parametersFit p ≡ true
@@ -57,10 +61,6 @@ pub record Fine (p : FrameParams) (v : View) : Type 0 where
   pub ring : v .ring ≡ ringOf (p .ring)
   pub narrow : v .w ≤ 4096
   pub low : v .h ≤ 4096
-
--- its cells are as the centroid takes them
-pub map-usual : (p : FrameParams) (v : View) → Fine p v → All Usual (cells v)
-map-usual p v f = all-map (λ x. T (fits binary32 x) × T (le x (floatOf 8192))) Usual (λ x k. record { held = k .0; small = k .1 }) (cells v) (map-small v (f .bytes))
 
 -- ---- a sound image
 module _ (p : FrameParams) (img : List ℕ) (w h : ℕ) (s : Sound p img w h) where

@@ -8,7 +8,7 @@ use mathlib.Core.Bool.{Bool, true, false, cond, _||_, false≢true}
 use mathlib.Core.List.{List, [], _∷_, _++_, map, append-assoc, tail-eq-of-cons-eq}
 use lib.ListN.{length, getD}
 use Rattle.lists.specs.Tab.{tab, grid}
-use Rattle.lists.specs.Places.{Place, counted, range, row, rows, block, any, keep, flatMap, All}
+use Rattle.lists.specs.Places.{Place, counted, range, row, rows, block, any, keep, flatMap, sumOf, All}
 use Rattle.lists.proofs.Tests.{is-false, or-neither}
 
 -- ---- each member
@@ -82,9 +82,6 @@ map-only f P only (a ∷ s) (b ∷ t) p q e =
     rw (only a b (p .0) (q .0) head, map-only f P only s t (p .1) (q .1) rest)
 
 -- ---- sums of a number of each member
-abbrev pub sumOf : {A : Type 0} → (A → ℕ) → List A → ℕ
-sumOf X [] = 0
-sumOf X (a ∷ l) = X a + sumOf X l
 
 module _ {A : Type 0} (X : A → ℕ) where
   pub sum-weighted : (Y : A → ℕ) (k : ℕ) (l : List A) → All (λ a. X a ≤ k * Y a) l → sumOf X l ≤ k * sumOf Y l

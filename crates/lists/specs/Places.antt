@@ -1,5 +1,5 @@
 -- Places of a map in row order, and what is asked of a list of them.
-use Prim.Native.Nat.{ℕ, zero, suc, _-_}
+use Prim.Native.Nat.{ℕ, zero, suc, _+_, _-_}
 use mathlib.Core.Bool.{Bool, false, cond, _||_}
 use mathlib.Core.List.{List, [], _∷_, _++_, map}
 use lib.ListN.{length}
@@ -49,6 +49,11 @@ module _ {A : Type 0} (f : A → Bool) where
 abbrev pub flatMap : {A B : Type 0} → (A → List B) → List A → List B
 flatMap f [] = []
 flatMap f (a ∷ l) = f a ++ flatMap f l
+
+-- the sum of a number of each member
+abbrev pub sumOf : {A : Type 0} → (A → ℕ) → List A → ℕ
+sumOf X [] = 0
+sumOf X (a ∷ l) = X a + sumOf X l
 
 -- a fact of each member
 abbrev pub All : {A : Type 0} → (A → Type 0) → List A → Type 0

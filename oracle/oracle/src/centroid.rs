@@ -47,8 +47,13 @@ pub fn refine(radius: u32, x: f32, y: f32, map: Option<Map>) -> Result<Centroid,
     refuse_if(radius > 16, PARAMETER)?;
     refuse_if(seed_refused(x) || seed_refused(y), COORDINATE)?;
     let map = map.map(|m| ResponseMap::new(m.width, m.height, m.cells.to_vec()));
-    let result = refiner(radius).refine([x, y], RefineContext::new(None, map.as_ref()));
-    Ok(Centroid { outcome: result.status, x: result.x, y: result.y, mass: result.score })
+    Ok(refine_on(radius, x, y, map.as_ref()))
+}
+
+/// The same with nothing to refuse.
+pub fn refine_on(radius: u32, x: f32, y: f32, map: Option<&ResponseMap>) -> Centroid {
+    let result = refiner(radius).refine([x, y], RefineContext::new(None, map));
+    Centroid { outcome: result.status, x: result.x, y: result.y, mass: result.score }
 }
 
 #[cfg(test)]

@@ -4,7 +4,7 @@
 //! - The leaves, each the original function behind the checks that document 01 puts before it: [`ring`], [`response`],
 //!   [`peaks`], [`centroid`], [`search_box`], [`pyramid`], [`merge`].
 //! - What document 01 adds: [`pass`] and [`frame`], [`stream`], [`listing`], [`program`]; and [`exact`], the pass by
-//!   exact values.
+//!   exact values, with [`tolerance`], the centroid by them.
 //! - What the oracle is run on: [`generate`], [`wrong`], [`sample`], [`compare`], [`timing`].
 
 pub mod buffers;
@@ -30,6 +30,7 @@ pub mod search_box;
 pub mod stream;
 pub mod tally;
 pub mod timing;
+pub mod tolerance;
 pub mod wrong;
 
 pub use chess_corners_core::{Corner, ResponseMap};

@@ -1,0 +1,4 @@
+pub mod Means
+pub mod Cell
+pub mod Mean
+pub mod Tolerance

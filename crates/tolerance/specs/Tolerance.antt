@@ -1,0 +1,79 @@
+-- How far the centre of mass lies from the exact one, in a map made by the response. Statements; `proofs/Tolerance.antt` proves them.
+use Prim.Native.Nat.{ℕ, _*_, _≤_, _<_}
+use mathlib.Core.Path.{_≡_}
+use mathlib.Core.Bool.{Bool}
+use mathlib.Core.List.{List, [], map}
+use lib.IntN.{ℤ}
+use lib.Ieee.{Float}
+use Rattle.lists.specs.Places.{Place, All, sumOf}
+use Rattle.float32.specs.Float32.{roundHalfAway}
+use Rattle.float32.specs.declared.Rounded.{Rounded}
+use Rattle.float32.specs.declared.Rounded.the-variants.{Natural, Negative, Beyond}
+use Rattle.float32.specs.Value.{Within, plusPart}
+use Rattle.response.specs.Patch.{View, cols, rows, cells}
+use Rattle.response.specs.Exact.{fifthsIn}
+use Rattle.accuracy.specs.Accurate.{Bytes}
+use Rattle.corner_list.specs.declared.Corner.{Corner}
+use Rattle.detect.specs.Detect.{startAt}
+use Rattle.center_of_mass.specs.CenterOfMass.{window, refined}
+use Rattle.center_of_mass.specs.declared.Outcome.the-variants.{Accepted}
+use Rattle.frame_pass.specs.declared.FrameParams.{FrameParams}
+use Rattle.frame_pass.specs.Pass.{Choice, searchOn, localized, lookedAt}
+use Rattle.frame_pass.specs.Theorems.{Sound}
+
+-- ---- "all cells the centroid sums, centre included": its window about the seed (x, y), which is rounded half away from zero
+abbrev pub windowAbout : ℕ → Rounded → Rounded → List Place
+windowAbout r (Natural cx) (Natural cy) = window r cx cy
+windowAbout r (Natural cx) (Negative n) = []
+windowAbout r (Natural cx) Beyond = []
+windowAbout r (Negative n) c = []
+windowAbout r Beyond c = []
+
+abbrev pub summedCells : ℕ → Float → Float → List Place
+summedCells r x y = windowAbout r (roundHalfAway x) (roundHalfAway y)
+
+-- ---- the exact centroid of some cells, "the fraction whose weights are the exact fifths above 0": (exactX / exactMass, exactY / exactMass)
+module _ (fifths : Place → ℤ) (ps : List Place) where
+  -- the weights' sum
+  abbrev pub exactMass : ℕ
+  exactMass = sumOf (λ p. plusPart (fifths p)) ps
+
+  -- with the columns, and with the rows
+  abbrev pub exactX : ℕ
+  exactX = sumOf (λ p. p .x * plusPart (fifths p)) ps
+
+  abbrev pub exactY : ℕ
+  exactY = sumOf (λ p. p .y * plusPart (fifths p)) ps
+
+-- "within 1/32 pixel", "over whole numbers by cross-multiplying": |x - X / M| ≤ 1 / 32 is |32 M x - 32 X| ≤ M, and x is a fraction too, by
+-- whose denominator `Within` multiplies
+abbrev pub Within32nd : Float → ℕ → ℕ → Type 0
+Within32nd x X M = Within x (32 * X) 0 (32 * M) M
+
+-- (cx, cy) is so near the exact centroid of some cells, and there is one
+pub record Close (fifths : Place → ℤ) (ps : List Place) (cx cy : Float) : Type 0 where
+  pub some : 0 < exactMass fifths ps
+  pub across : Within32nd cx (exactX fifths ps) (exactMass fifths ps)
+  pub down : Within32nd cy (exactY fifths ps) (exactMass fifths ps)
+
+-- ---- an accepted outcome in the map of any box, about any seed. Its sides are at most 4,096: a larger map is refused as 1
+abbrev pub CentreTolerance : Type 0
+CentreTolerance =
+    (v : View) → Bytes (v .img) → (r : ℕ) (x y : Float) (hasMap : Bool) (cx cy mass : Float) → r ≤ 2
+    → refined r x y hasMap (cells v) (cols v) (rows v) ≡ Accepted cx cy mass
+    → Close (λ q. fifthsIn v (q .x) (q .y)) (summedCells r x y) cx cy
+
+-- ---- the corners of a map, by its own columns and rows: a peak starts as the corner s, which goes to its centre of mass c
+abbrev pub CloseCorner : FrameParams → View → Corner → Corner → Type 0
+CloseCorner p v s c = Close (λ q. fifthsIn v (q .x) (q .y)) (summedCells (p .centroid) (s .x) (s .y)) (c .x) (c .y)
+
+-- of each peak the corner that it becomes, where it is accepted: one behind the other these are `cornersIn`
+abbrev pub CloseCorners : FrameParams → Choice → View → Type 0
+CloseCorners p choose v = All (λ (s : Corner). All (CloseCorner p v s) (localized p v s)) (map (startAt (cells v) (searchOn p v)) (choose v))
+
+-- those of each map that a frame looks at, by any choice of peaks: the seeds are the corners of the last level's map, and the corners about a
+-- seed those of its box's map, not yet moved by the box's corner
+abbrev pub FrameTolerance : Type 0
+FrameTolerance =
+    (p : FrameParams) (img : List ℕ) (w h : ℕ) (choose : Choice) → Sound p img w h → p .centroid ≤ 2
+    → All (CloseCorners p choose) (lookedAt p img w h choose)

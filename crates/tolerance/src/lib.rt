@@ -1,0 +1,1 @@
+// No code: how far an accepted centre of mass lies from the exact one. See specs/ and proofs/.
