@@ -92,12 +92,44 @@ static void streams(const uint8_t *img) {
     expect(length == 10 && memcmp(output, "refused 7\n", length) == 0, "a stream cut short");
 }
 
+/* The time of a stream of items, and a record: what is behind them. */
+static uint8_t *seconds(uint8_t *at, uint64_t second) {
+    for (int i = 0; i < 8; i++) *at++ = (uint8_t)(second >> 8 * i);
+    return at;
+}
+
+static uint8_t *item(uint8_t *at, uint8_t kind, uint64_t start) {
+    *at = kind;
+    return seconds(at + 1, start);
+}
+
+static void holdings(void) {
+    static const uint64_t time = 7776000, late = (uint64_t)1 << 40; /* the first second of day 90 */
+    static uint8_t input[8 + 5 * 9], output[ZAKDOMP_HOLDINGS];
+    uint8_t letter = '?';
+    expect(zakdomp_holding(2, 86399, time, &letter) == ZAKDOMP_DONE && letter == 'G', "a photograph of day 0 on day 90");
+    expect(zakdomp_holding(2, 86400, time, &letter) == ZAKDOMP_DONE && letter == 'H', "a photograph of day 1");
+    expect(zakdomp_holding(3, 7171200, time, &letter) == ZAKDOMP_DONE && letter == 'G', "a token a week old");
+    expect(zakdomp_holding(1, late, time, &letter) == ZAKDOMP_DONE && letter == 'N', "a file to come");
+    expect(zakdomp_holding(4, late + 1, time, &letter) == ZAKDOMP_KIND, "an unknown kind");
+    expect(zakdomp_holding(1, 0, late + 1, &letter) == ZAKDOMP_LATE && letter == 'N', "refused: the letter as it was");
+    uint8_t *end = seconds(input, time);
+    end = item(item(item(item(item(end, 1, 0), 2, 0), 3, 7171201), 2, time + 1), 9, 0);
+    memset(output, '?', sizeof output);
+    size_t length = zakdomp_holdings(input, (size_t)(end - input), output);
+    expect(length == 18 && memcmp(output, "H\nG\nH\nN\nrefused 6\n?", 19) == 0, "the letters of a stream");
+    expect(zakdomp_holdings(input, 8, output) == 0, "a time alone");
+    length = zakdomp_holdings(input, 12, output);
+    expect(length == 10 && memcmp(output, "refused 7\n", length) == 0, "a record cut short");
+}
+
 int main(void) {
     uint8_t img[CELLS];
     whole_case(img);
     frames(img);
     stages(img);
     streams(img);
+    holdings();
     printf("C: %d passed, %d failed\n", passed, failed);
     return failed != 0;
 }

@@ -6,9 +6,9 @@
  *   - enough stack is free: 192 KB for images of at most 96 by 96 pixels and for zakdomp_corners, 768 KB for any call.
  * Nothing is kept between calls, so calls may run at the same time on other buffers. No function allocates.
  *
- * Each function but the last and zakdomp_level_bytes returns 0, or the number of a refusal, the lowest that applies. A refusal leaves every
- * buffer and every place for a result as it was; the one exception is ZAKDOMP_LIST_SHORT from zakdomp_find_corners. What lies in a buffer
- * behind a result stays as it was; zakdomp_find_corners alone clears map and list buffers behind it.
+ * Each function but zakdomp_level_bytes, zakdomp_corners and zakdomp_holdings returns 0, or the number of a refusal, the lowest that applies.
+ * A refusal leaves every buffer and every place for a result as it was; the one exception is ZAKDOMP_LIST_SHORT from zakdomp_find_corners.
+ * What lies in a buffer behind a result stays as it was; zakdomp_find_corners alone clears map and list buffers behind it.
  *
  * Corners are held in three slices: columns, rows and strengths. The shortest of the three says how many places there are. */
 #ifndef ZAKDOMP_H
@@ -28,9 +28,11 @@ enum {
     ZAKDOMP_PARAMETER = 3,    /* ring not 5 or 10, window or centroid radius above 16, or search radius above 255 */
     ZAKDOMP_COORDINATE = 4,   /* a corner to be merged is not within 0..4096, or a seed not within 1000000 either way */
     ZAKDOMP_MERGE_RADIUS = 5, /* the merge radius is finite and positive, but not within 1/64..4096 */
+    ZAKDOMP_KIND = 6,         /* there is no such kind of item */
     ZAKDOMP_MAP_SHORT = 8,    /* the map buffer is too short */
     ZAKDOMP_LEVELS_SHORT = 9, /* the level buffer is too short */
-    ZAKDOMP_LIST_SHORT = 10   /* the corners do not fit their buffer */
+    ZAKDOMP_LIST_SHORT = 10,  /* the corners do not fit their buffer */
+    ZAKDOMP_LATE = 20         /* a start or a time is above 2^40 */
 };
 
 /* The corners of an image of w by h pixels. Those of each map are found in row order: with one level in that of the image, with more in that of
@@ -103,6 +105,21 @@ uint8_t zakdomp_levels(const uint8_t *img, size_t img_length, size_t w, size_t h
  * ZAKDOMP_LONGEST bytes. Returns the length of the text. */
 #define ZAKDOMP_LONGEST 35340
 size_t zakdomp_corners(const uint8_t *input, size_t input_length, uint8_t *output);
+
+/* Whether an item is held at a time; both are seconds, and a day is seconds div 86400.
+ *   kind    1 a corner file: held from receipt on; 2 a photograph: held on the day of receipt and the 89 days behind it;
+ *           3 a token: held for 604800 seconds
+ *   start   the second of receipt or issue; before it an item is not yet there
+ *   letter  'N' not yet, 'H' held, 'G' gone
+ * Refusals: 6, 20. */
+uint8_t zakdomp_holding(uint8_t kind, uint64_t start, uint64_t time, uint8_t *letter);
+
+/* What the program `retained` prints for a stream of items, first in `output`, which has ZAKDOMP_HOLDINGS bytes. The stream is eight bytes of
+ * time and then at most 65536 records, each a byte of kind and eight bytes of the start, little-endian; bytes behind those are not read. The
+ * text has the letter of each item on a line of its own. A faulty record, or a faulty time, ends it by the line `refused N`, with 6 for an
+ * unknown kind, 7 for bytes that are missing and 20. Returns the length of the text. */
+#define ZAKDOMP_HOLDINGS 131081
+size_t zakdomp_holdings(const uint8_t *input, size_t input_length, uint8_t *output);
 
 #ifdef __cplusplus
 }

@@ -2,6 +2,7 @@
 
     find_corners(pixels, width, height, threshold=30)  ->  [Corner(x, y, strength), ..]
     response(pixels, width, height, ring=5)            ->  ResponseMap(width, height, cells)
+    holding(kind, start, time), holdings(stream)       ->  "N" not yet, "H" held or "G" gone, for an item and for each of a stream
 
 `pixels` is anything with a buffer of bytes, in row order. What the library refuses is raised as `Refusal`. The library is looked for in
 the file that the environment variable ZAKDOMP_LIBRARY names, beside this file, and where `bindings` of the repository leaves it.
@@ -16,12 +17,15 @@ REFUSALS = {
     3: "the ring is not 5 or 10, or a window, centroid or search radius is out of range",
     4: "a coordinate is out of range",
     5: "the merge radius is not within 1/64 to 4096",
+    6: "there is no such kind of item",
     8: "the map buffer is too short",
     9: "the level buffer is too short",
     10: "there are more corners than places for them",
+    20: "a start or a time is above 2^40",
 }
 LARGEST_SIDE = 4096
 LIST_SHORT = 10
+LONGEST_HOLDINGS = 131_081
 
 
 class Refusal(ValueError):
@@ -57,8 +61,11 @@ def _load():
     library.zakdomp_find_corners.argtypes = piece + [size, size] + numbers + 8 * piece + [out]
     library.zakdomp_response.argtypes = piece + [size, size, u32, size, size, size, size] + piece + [out, out]
     library.zakdomp_level_bytes.argtypes = [size, size, u32, size]
-    library.zakdomp_find_corners.restype = library.zakdomp_response.restype = ctypes.c_uint8
-    library.zakdomp_level_bytes.restype = size
+    u8, u64 = ctypes.c_uint8, ctypes.c_uint64
+    library.zakdomp_holding.argtypes = [u8, u64, u64, ctypes.POINTER(u8)]
+    library.zakdomp_holdings.argtypes = piece + [ctypes.c_void_p]
+    library.zakdomp_find_corners.restype = library.zakdomp_response.restype = library.zakdomp_holding.restype = u8
+    library.zakdomp_level_bytes.restype = library.zakdomp_holdings.restype = size
     return library
 
 
@@ -128,3 +135,23 @@ def response(pixels, width, height, *, ring=5, x0=0, y0=0, x1=LARGEST_SIDE, y1=L
     if number:
         raise Refusal(number)
     return ResponseMap(w.value, h.value, buffer[:w.value * h.value])
+
+
+def holding(kind, start, time):
+    """Whether an item of a kind (1 a corner file, 2 a photograph, 3 a token), received or issued at the second `start`, is held at the second
+    `time`: "N" not yet, "H" held or "G" gone."""
+    for name, value, bits in (("kind", kind, 8), ("start", start, 64), ("time", time, 64)):
+        _whole(name, value, bits)
+    letter = ctypes.c_uint8(0)
+    number = _library.zakdomp_holding(kind, start, time, ctypes.byref(letter))
+    if number:
+        raise Refusal(number)
+    return chr(letter.value)
+
+
+def holdings(stream):
+    """What the program `retained` prints for a stream of items: a letter and a newline for each, and a refusal where one is faulty."""
+    held, items = _given(stream)
+    output = ctypes.create_string_buffer(LONGEST_HOLDINGS)
+    length = _library.zakdomp_holdings(*items, ctypes.addressof(output))
+    return output.raw[:length].decode("ascii")

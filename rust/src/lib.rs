@@ -4,8 +4,10 @@
 mod library;
 pub mod raw;
 mod refusal;
+mod retention;
 
 pub use refusal::Refusal;
+pub use retention::{holding, holdings, Holding};
 
 /// A corner, in pixels, and the response at its peak.
 #[derive(Clone, Copy, Debug, PartialEq)]

@@ -1,5 +1,7 @@
 //! The functions of libzakdomp.a that this crate calls, over slices.
-use crate::raw::{zakdomp_find_corners, zakdomp_level_bytes, zakdomp_response};
+use crate::raw::{
+    zakdomp_find_corners, zakdomp_holding, zakdomp_holdings, zakdomp_level_bytes, zakdomp_response, HOLDINGS,
+};
 use crate::{Params, Refusal};
 use std::ops::Range;
 
@@ -53,4 +55,16 @@ pub(crate) fn response(
         )
     };
     unless_refused(number, (w, h))
+}
+
+pub(crate) fn holding(kind: u8, start: u64, time: u64) -> Result<u8, Refusal> {
+    let mut letter = 0;
+    // SAFETY: numbers, and one byte that is the function's own.
+    let number = unsafe { zakdomp_holding(kind, start, time, &mut letter) };
+    unless_refused(number, letter)
+}
+
+pub(crate) fn holdings(stream: &[u8], output: &mut [u8; HOLDINGS]) -> usize {
+    // SAFETY: the slice is whole, the output has its length by its type, and the two do not overlap.
+    unsafe { zakdomp_holdings(stream.as_ptr(), stream.len(), output.as_mut_ptr()) }
 }

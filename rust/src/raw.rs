@@ -4,6 +4,9 @@
 /// The bytes that the output of `zakdomp_corners` has.
 pub const LONGEST: usize = 35_340;
 
+/// The bytes that the output of `zakdomp_holdings` has.
+pub const HOLDINGS: usize = 131_081;
+
 #[rustfmt::skip]
 extern "C" {
     pub fn zakdomp_find_corners(
@@ -36,4 +39,6 @@ extern "C" {
         levels: *mut u8, levels_length: usize, built: *mut usize,
     ) -> u8;
     pub fn zakdomp_corners(input: *const u8, input_length: usize, output: *mut u8) -> usize;
+    pub fn zakdomp_holding(kind: u8, start: u64, time: u64, letter: *mut u8) -> u8;
+    pub fn zakdomp_holdings(input: *const u8, input_length: usize, output: *mut u8) -> usize;
 }

@@ -9,9 +9,11 @@ pub enum Refusal {
     Parameter,
     Coordinate,
     MergeRadius,
+    Kind,
     MapShort,
     LevelsShort,
     ListShort,
+    Late,
     /// A number that this crate does not know.
     Other(u8),
 }
@@ -24,9 +26,11 @@ impl Refusal {
             3 => Self::Parameter,
             4 => Self::Coordinate,
             5 => Self::MergeRadius,
+            6 => Self::Kind,
             8 => Self::MapShort,
             9 => Self::LevelsShort,
             10 => Self::ListShort,
+            20 => Self::Late,
             _ => Self::Other(number),
         }
     }
@@ -39,9 +43,11 @@ impl Refusal {
             Self::Parameter => 3,
             Self::Coordinate => 4,
             Self::MergeRadius => 5,
+            Self::Kind => 6,
             Self::MapShort => 8,
             Self::LevelsShort => 9,
             Self::ListShort => 10,
+            Self::Late => 20,
             Self::Other(number) => number,
         }
     }
@@ -57,9 +63,11 @@ impl std::fmt::Display for Refusal {
             }
             Self::Coordinate => "a coordinate is out of range",
             Self::MergeRadius => "the merge radius is not within 1/64 to 4096",
+            Self::Kind => "there is no such kind of item",
             Self::MapShort => "the map buffer is too short",
             Self::LevelsShort => "the level buffer is too short",
             Self::ListShort => "there are more corners than places for them",
+            Self::Late => "a start or a time is above 2^40",
             Self::Other(_) => "refused",
         };
         write!(f, "{text} (number {})", self.number())

@@ -12,4 +12,5 @@ pub mod Program
 pub mod BitForBit
 pub mod AsPublished
 pub mod Tolerance
+pub mod Retention
 pub mod Demands

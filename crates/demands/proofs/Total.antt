@@ -3,7 +3,7 @@ use Prim.Native.Nat.{ℕ, _+_, _*_, min}
 use native.Mathlib.Omega.{arith}
 use mathlib.Core.Path.{_≡_, sym, ap, _∙_}
 use mathlib.Core.Logic.{inl}
-use mathlib.Core.Bool.{Bool, true, false, cond, not, _&&_}
+use mathlib.Core.Bool.{Bool, true, false, cond, not, _&&_, _||_}
 use mathlib.Core.List.{List, [], _∷_, _++_, map}
 use lib.ListN.{length, take}
 use lib.Dec.{ltb}
@@ -58,6 +58,11 @@ use Rattle.listing.specs.declared.Listing.{Listing}
 use Rattle.listing.specs.declared.Listing.the-variants as listed
 use Rattle.listing.specs.Text.{cornersText}
 use Rattle.listing.specs.Answer as listing
+use Rattle.retention.specs.declared.Holding.{Holding}
+use Rattle.retention.specs.declared.Holding.the-variants as held
+use Rattle.retention.specs.Retention as retention
+use Rattle.retention.specs.Answer.{Told}
+use Rattle.retention.proofs.Items.{lettered}
 use Rattle.demands.specs.ResponseCall.{viewOf}
 use Rattle.demands.specs.Numbers.{OneOf, Refuses}
 use Rattle.demands.specs.Total.{Total}
@@ -157,6 +162,16 @@ listing-refuses b count out out′ r f k e = go (ltb 512 count) (sym (f .answer)
     go true e = inl cc
     go false e = absurd (let z : _≡_ {A = ℕ} 0 1 = cc in omega arith)
 
+holding-refuses : (kind start time : ℕ) (r : Holding) → Told kind start time r → Refuses held.Refused (6 ∷ 20 ∷ []) r
+unfolding retention.refusalOf
+holding-refuses kind start time r f =
+    let state = retention.stateOf kind start time in
+    refused-one held.Refused (λ n. retention.answerBy n state) (λ k q. none k (ap retention.letterOf q)) (λ n k q. sym (ap retention.numberOf q))
+    ((not (retention.known kind), 6) ∷ (retention.isLate start || retention.isLate time, 20) ∷ []) r (f .answer)
+  where
+    none : (k : ℕ) → retention.letterOf (retention.stateOf kind start time) ≡ 0 → ⊥
+    none k e = omega (arith, lettered kind start time)
+
 pub total : Total
 total = record {
   «chess_response_u8_patch» = λ img w h ring x0 y0 x1 y1 d e r f. response-refuses (viewOf img w h ring x0 y0 x1 y1) ring d e r f;
@@ -173,4 +188,5 @@ total = record {
   «find_corners» = frame-refuses;
   «read_frame» = stream-refuses;
   «write_corners» = listing-refuses;
+  holding = holding-refuses;
 }

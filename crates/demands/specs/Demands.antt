@@ -8,6 +8,7 @@ use Rattle.demands.specs.Cases.{CasesHold}
 use Rattle.demands.specs.ResponseAccurate.{ResponseAccurate}
 use Rattle.demands.specs.ResponsesOrdered.{ResponsesOrdered}
 use Rattle.demands.specs.PeaksAlike.{PeaksAlike}
+use Rattle.demands.specs.Retention.{HeldWhen, RetainedTotal, RetainedReads}
 use Rattle.demands.specs.FrameExact.{FrameExact, AlikeByName, MapsSearched, MapsAlike, FrameWithoutTies, FourNever, PeaksKept}
 use Rattle.demands.specs.Tolerance.{CentreTolerance, FrameTolerance}
 
@@ -53,6 +54,13 @@ pub record Demands : Type 0 where
   pub maps-alike : MapsAlike
   -- and so a frame without ties has the exact list
   pub frame-without-ties : FrameWithoutTies
+  -- ---- Request 13: what may be deleted
+  -- "whether we hold it": for each kind the interval in which an item is held
+  pub held-when : HeldWhen
+  -- "Print the letter N, H or G .., a line each": what `retained` prints, whatever it reads
+  pub retained-total : RetainedTotal
+  -- "at most 65,536 records are read and what follows is not"
+  pub retained-reads : RetainedReads
   -- ---- Request 14. How far the centre may be off
   -- "each coordinate lies within 1/32 pixel of the exact centroid"
   pub centre-tolerance : CentreTolerance

@@ -11,4 +11,5 @@ pub mod Total
 pub mod Program
 pub mod BitForBit
 pub mod Tolerance
+pub mod Retention
 pub mod Demands

@@ -2,8 +2,8 @@
 -- numbered refusals. The conditions of each number are fixed, and so is what every lent room holds afterwards."
 -- Every call of a public function ends, and asks nothing of its caller; its promise has the answer and every buffer afterwards by equations.
 -- Here stand the promises of the functions that refuse, word for word, and the numbers that each can give: 0, which the definitions use for
--- "none", is no refusal's. Which condition has which number, lowest first, is in the tables that the promises name. No other public function
--- refuses, and each of these promises one equation over its arguments:
+-- "none", is no refusal's. A request's new number counts with the eleven: 20 of request 13. Which condition has which number, lowest first, is
+-- in the tables that the promises name. No other public function refuses, and each of these promises one equation over its arguments:
 --   numbers         lesser, greater, minus
 --   ring            ring_offsets, is_ring
 --   float32         abs, is_finite, lifted, is_between, from_bits, to_bits, cut_off, round_half_away (with its number, 0, and its values)
@@ -17,8 +17,9 @@
 --   frame_pass      refusal (the number before the pass)
 --   stream          wanted
 --   listing         write_refusal (one for its answer, one for its buffer)
+--   retention       list_holdings (likewise), wanted (one for each number of its answer)
 --   finder          find (likewise)
--- The functions of `capi` and `capi_stages`, for C, hand on these promises and return the number.
+-- The functions of `capi`, `capi_stages` and `capi_tools`, for C, hand on these promises and return the number.
 use Prim.Native.Nat.{ℕ, min}
 use mathlib.Core.Path.{_≡_}
 use mathlib.Core.Bool.{Bool}
@@ -62,6 +63,9 @@ use Rattle.stream.specs.Answer.{FrameRead}
 use Rattle.listing.specs.declared.Listing.{Listing}
 use Rattle.listing.specs.declared.Listing.the-variants as listing
 use Rattle.listing.specs.Answer.{CornersWritten}
+use Rattle.retention.specs.declared.Holding.{Holding}
+use Rattle.retention.specs.declared.Holding.the-variants as retention
+use Rattle.retention.specs.Answer.{Told}
 use Rattle.demands.specs.Numbers.{Refuses}
 use Rattle.demands.specs.ResponseCall.{viewOf}
 
@@ -98,3 +102,5 @@ pub record Total : Type 0 where
       → Refuses stream.Refused (1 ∷ 3 ∷ 5 ∷ 6 ∷ 7 ∷ 11 ∷ []) r
   pub «write_corners» : (b : Slices) (count : ℕ) (out out′ : List ℕ) (r : Listing) → CornersWritten b count out r out′
       → Refuses listing.Refused (10 ∷ []) r
+  pub holding : (kind start time : ℕ) (r : Holding) → Told kind start time r
+      → Refuses retention.Refused (6 ∷ 20 ∷ []) r

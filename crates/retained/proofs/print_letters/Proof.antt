@@ -1,0 +1,45 @@
+-- `retained::print_letters` hands on the text of its stream, is safe and ends. Assumes the contracts of the C functions that write.
+use Prim.Native.Nat.{ℕ, _≤_}
+use native.Mathlib.Omega.{arith}
+use mathlib.Core.Path.{_≡_, sym, ap, _∙_}
+use mathlib.Core.List.{List}
+use lib.ListN.{length, take, drop, length-append}
+use lib.Seq.{length-take-le}
+use borrow.Author.Needs.{needs}
+use Rattle.lists.proofs.Buffer.{front-take}
+use Rattle.retention.specs.Answer.{Written}
+use Rattle.retained.proofs.print_letters.Statement.{statement}
+use Rattle.retained.proofs.print_letters.Tie as tie
+
+-- the text that was written stands first in the buffer
+module _ (text buffer : List ℕ) (end : ℕ) (after : List ℕ) (w : Written text buffer end after) where
+  text-fits : end ≤ length after
+  text-fits = omega (arith, w .ends, ap length (w .holds) ∙ length-append text (drop (length text) buffer))
+
+  text-is : take end after ≡ text
+  text-is = ap (take end) (w .holds) ∙ front-take text buffer end (w .ends)
+
+list-holdings-requires : tie.Need-list-holdings-requires
+list-holdings-requires c κs = search needs
+
+array-share-prefix-text : tie.Need-array-share-prefix-text
+array-share-prefix-text c = text-fits _ _ _ _ (c .list-holdings .ensures)
+
+slice-aggregate-write-letters : tie.Need-slice-aggregate-write-letters
+slice-aggregate-write-letters c = sym (length-take-le _ _ (text-fits _ _ _ _ (c .before .list-holdings .ensures)))
+
+write-letters-requires : tie.Need-write-letters-requires
+write-letters-requires c κs = text-is _ _ _ _ (c .before .list-holdings .ensures)
+
+returns : tie.Need-returns
+returns c = search needs
+
+pub print-letters-spec : {M : Type 1} → statement M
+print-letters-spec =
+    tie.close
+    (tie.spec
+    list-holdings-requires
+    array-share-prefix-text
+    slice-aggregate-write-letters
+    write-letters-requires
+    returns)

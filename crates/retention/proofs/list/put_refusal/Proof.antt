@@ -1,0 +1,59 @@
+-- `retention::list::put_refusal` meets its contract: the listing's own text, copied. Assumes nothing.
+use native.Mathlib.Omega.{arith}
+use mathlib.Core.Path.{sym}
+use lib.Seq.{length-take-le}
+use borrow.Author.Needs.{needs}
+use Rattle.retention.proofs.Texts.{text-fits, text-short, part-holds, copied}
+use Rattle.retention.proofs.list.put_refusal.Statement.{statement}
+use Rattle.retention.proofs.list.put_refusal.Tie as tie
+
+write-refusal-requires : tie.Need-write-refusal-requires
+write-refusal-requires c κs = search needs
+
+add-end : tie.Need-add-end
+add-end c = omega (arith, text-short _ (c .before .before .before .pre .0) _ _ _ (c .write-refusal .ensures))
+
+array-share-prefix-text : tie.Need-array-share-prefix-text
+array-share-prefix-text c = text-fits _ (c .before .before .before .pre .0) _ _ _ (c .write-refusal .ensures)
+
+slice-aggregate-copy : tie.Need-slice-aggregate-copy
+slice-aggregate-copy c = sym (length-take-le _ _ (array-share-prefix-text (c .before)))
+
+sub-copy : tie.Need-sub-copy
+sub-copy c = search needs
+
+part-copy-start : tie.Need-part-copy-start
+part-copy-start c = search needs
+
+part-copy-end : tie.Need-part-copy-end
+part-copy-end c =
+    omega (arith, text-short _ (c .before .before .before .before .pre .0) _ _ _ (c .before .write-refusal .ensures))
+
+copy-requires : tie.Need-copy-requires
+copy-requires c κs =
+    let start = c .before .before .before .before .before in
+    part-holds _ (start .pre .0) _ _ _ (c .before .before .write-refusal .ensures) _ _ (start .pre .1)
+
+same-length : tie.Need-same-length
+same-length c = search needs
+
+returns : tie.Need-returns
+returns c =
+    let start = c .before .before .before .before .before .before .before .before in
+    let written = c .before .before .before .before .before in
+    copied _ (start .pre .0) _ _ _ (written .write-refusal .ensures) _ _ (start .pre .1) _ (c .before .before .copy .ensures .1)
+
+pub put-refusal-spec : {M : Type 1} → statement M
+put-refusal-spec =
+    tie.close
+    (tie.spec
+    write-refusal-requires
+    add-end
+    array-share-prefix-text
+    slice-aggregate-copy
+    sub-copy
+    part-copy-start
+    part-copy-end
+    copy-requires
+    same-length
+    returns)

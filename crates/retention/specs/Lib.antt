@@ -1,0 +1,5 @@
+pub mod Retention
+pub mod Stream
+pub mod Wanted
+pub mod Answer
+pub mod Parts

@@ -1,0 +1,62 @@
+-- What may be deleted (RULES 32): whether an item is held at a time. Times are seconds.
+use Prim.Native.Nat.{ℕ, zero, suc, _+_, _/_, _^_}
+use mathlib.Core.Bool.{Bool, true, cond, not, _&&_, _||_}
+use mathlib.Core.List.{List, [], _∷_}
+use lib.Dec.{eqb, ltb, leb}
+use Rattle.lists.specs.Refusals.{lowest}
+use Rattle.retention.specs.declared.Holding.{Holding}
+use Rattle.retention.specs.declared.Holding.the-variants.{NotYet, Held, Gone, Refused}
+
+-- "kind 1 file, kind 2 photograph, kind 3 token"
+abbrev pub known : ℕ → Bool
+known kind = leb 1 kind && leb kind 3
+
+-- "a day is seconds div 86,400"
+abbrev pub dayOf : ℕ → ℕ
+dayOf second = second / 86400
+
+-- whether an item that has come is not gone. "Corner files: always from receipt. Photographs received on day d: days d to d+89, gone on d+90.
+-- Tokens issued at second t: from t up to but excluding t + 604,800."
+unfoldable pub stays : ℕ → ℕ → ℕ → Bool
+stays kind start time = cond (eqb kind 1) true (cond (eqb kind 2) (leb (dayOf time) (dayOf start + 89)) (ltb time (start + 604800)))
+
+-- "Before the second of receipt or issue the item is "not yet", a photograph's own day included."
+unfoldable pub stateOf : ℕ → ℕ → ℕ → Holding
+stateOf kind start time = cond (ltb time start) NotYet (cond (stays kind start time) Held Gone)
+
+-- ---- refusals
+
+-- 20: "start or time above 2^40"
+abbrev pub isLate : ℕ → Bool
+isLate second = ltb (2 ^ 40) second
+
+-- 6: "Unknown kind"; then 20
+unfoldable pub refusalOf : ℕ → ℕ → ℕ → ℕ
+refusalOf kind start time = lowest ((not (known kind), 6) ∷ (isLate start || isLate time, 20) ∷ [])
+
+-- the state of an item, unless this number, 0 for none, refuses it
+abbrev pub answerBy : ℕ → Holding → Holding
+answerBy zero state = state
+answerBy (suc n) state = Refused (suc n)
+
+-- ---- an answer's number and values
+
+-- its number (RULES 2.2)
+abbrev pub numberOf : Holding → ℕ
+numberOf NotYet = 0
+numberOf Held = 0
+numberOf Gone = 0
+numberOf (Refused n) = n
+
+-- "the letter N, H or G for not yet, held, gone"; a refusal has none
+abbrev pub letterOf : Holding → ℕ
+letterOf NotYet = 78
+letterOf Held = 72
+letterOf Gone = 71
+letterOf (Refused n) = 0
+
+abbrev pub valuesOf : Holding → List ℕ
+valuesOf NotYet = letterOf NotYet ∷ []
+valuesOf Held = letterOf Held ∷ []
+valuesOf Gone = letterOf Gone ∷ []
+valuesOf (Refused n) = []
