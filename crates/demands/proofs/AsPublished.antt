@@ -1,6 +1,7 @@
 -- From the laws of `published`. Assumes nothing.
 use Rattle.published.proofs.Ring.{ring-as-published}
 use Rattle.published.proofs.Response.{response-as-published, patch-as-published}
+use Rattle.published.proofs.Whole.{whole-as-published}
 use Rattle.published.proofs.Pyramid.{pyramid-as-published}
 use Rattle.published.proofs.Window.{window-as-published}
 use Rattle.published.proofs.Peaks.{peaks-as-published}
@@ -15,6 +16,7 @@ as-published = record {
   ring = ring-as-published;
   response = response-as-published;
   patch = patch-as-published;
+  whole = whole-as-published;
   pyramid = pyramid-as-published;
   window = window-as-published;
   peaks = peaks-as-published;

@@ -2,7 +2,7 @@
 -- all that isn't refused, NaN matching NaN." The promises are equations with definitions; that a definition gives what the Rust's text gives is a
 -- field here. `published` has the text, function by function in the order of its operations, in a file named as the Rust's.
 use Rattle.published.specs.RingRs.{RingAsPublished}
-use Rattle.published.specs.ResponseRs.{ResponseAsPublished, PatchAsPublished}
+use Rattle.published.specs.ResponseRs.{ResponseAsPublished, PatchAsPublished, WholeAsPublished}
 use Rattle.published.specs.PyramidRs.{PyramidAsPublished}
 use Rattle.published.specs.NeighborsRs.{WindowAsPublished}
 use Rattle.published.specs.DetectRs.{PeaksAsPublished}
@@ -13,9 +13,11 @@ use Rattle.published.specs.MergeRs.{CellsAsPublished, MergeAsPublished}
 pub record AsPublished : Type 0 where
   -- ring.rs: signed offsets
   pub ring : RingAsPublished
-  -- response.rs: a cell, whose cross is summed in floats, and the map of a box, whose rows are cut where the ring leaves the image
+  -- response.rs: a cell, whose cross is summed in floats; the map of a box, whose rows are cut where the ring leaves the image; and that of a
+  -- whole image
   pub response : ResponseAsPublished
   pub patch : PatchAsPublished
+  pub whole : WholeAsPublished
   -- pyramid.rs: halving again and again, and level k's scale of 2^-k
   pub pyramid : PyramidAsPublished
   -- neighbors.rs and detect.rs: windows that are clipped cell by cell, and a threshold lifted to either zero

@@ -1,6 +1,7 @@
 pub mod Integers
 pub mod Ring
 pub mod Response
+pub mod Whole
 pub mod Pyramid
 pub mod Loops
 pub mod Window

@@ -12,7 +12,7 @@ use Rattle.float32.specs.Float32.{zero, abs}
 use Rattle.float32.specs.Value.{total}
 use Rattle.ring.specs.Ring.{Ring, IsRing, ringOf}
 use Rattle.response.specs.Response.{sixteen, five, floatOf, response}
-use Rattle.response.specs.Patch.{View, cols, rows, cells}
+use Rattle.response.specs.Patch.{View, whole, cols, rows, cells}
 use Rattle.accuracy.specs.Accurate.{Bytes}
 use Rattle.published.specs.Rust.{asUsize, lessUsize}
 use Rattle.published.specs.RingRs.{Offset, ringOffsets, ringRadius, offsetsOf}
@@ -98,3 +98,18 @@ PatchAsPublished =
     (img : List ℕ) (w h radius x0 y0 x1 y1 : ℕ) → Bytes img → w ≤ 4096 → h ≤ 4096
     → patchRs img w h radius x0 y0 x1 y1
     ≡ mapOf (record { img = img; w = w; h = h; ring = ringOf radius; x0 = x0; y0 = y0; x1 = x1; y1 = y1 })
+
+-- ---- `chess_response_u8` of a whole image, by `compute_response_sequential`
+unfoldable pub wholeRs : List ℕ → ℕ → ℕ → ℕ → List Float
+wholeRs img w h radius =
+    let r = ringRadius radius in
+    let x1 = w - r in
+    let y1 = h - r in
+    grid w h (λ x y.
+    cond (leb r y && ltb y y1) (cond (leb r x && ltb x x1) (responseRs img w (pos x) (pos y) (ringOffsets radius)) zero) zero)
+
+-- "The whole image is one box", wherever the Rust has an answer: it panics on narrower images
+abbrev pub WholeAsPublished : Type 0
+WholeAsPublished =
+    (img : List ℕ) (w h radius : ℕ) → Bytes img → 2 * ringRadius radius ≤ w → ringRadius radius ≤ h
+    → wholeRs img w h radius ≡ cells (whole img w h (ringOf radius))
