@@ -1,6 +1,7 @@
 /* A smoke test of zakdomp.h over libzakdomp.a. Prints 'N passed, M failed' and returns 0 if none failed. */
 #include "zakdomp.h"
 
+#include <math.h>
 #include <stdio.h>
 #include <string.h>
 
@@ -17,7 +18,7 @@ static void expect(int holds, const char *what) {
 
 enum { SIDE = 11, CELLS = SIDE * SIDE, PLACES = 4 };
 
-/* Document 01's whole case: one corner in the middle of 11 by 11 pixels. */
+/* The whole case (RULES 14): one corner in the middle of 11 by 11 pixels. */
 static void whole_case(uint8_t *img) {
     static const int bright[8][2] = {{0, -5}, {2, -5}, {3, -3}, {5, -2}, {0, 5}, {-2, 5}, {-3, 3}, {-5, 2}};
     static const int cross[5][2] = {{0, 0}, {0, -1}, {0, 1}, {1, 0}, {-1, 0}};
@@ -30,49 +31,77 @@ struct buffers {
     float map[CELLS], seeds[3][PLACES], corners[3][PLACES];
     uint8_t levels[CELLS];
     size_t count;
+    uint64_t ties;
 };
 
 static uint8_t find(const uint8_t *img, size_t length, uint32_t ring, float radius, size_t places, struct buffers *b) {
     return zakdomp_find_corners(img, length, SIDE, SIDE, ring, 0, 0, 0, 0, radius, 1, 1, 0, b->map, CELLS, b->levels, CELLS, b->seeds[0],
                                 PLACES, b->seeds[1], PLACES, b->seeds[2], PLACES, b->corners[0], PLACES, b->corners[1], PLACES,
-                                b->corners[2], places, &b->count);
+                                b->corners[2], places, &b->count, &b->ties);
 }
 
 static void frames(const uint8_t *img) {
     struct buffers b;
     memset(&b, 0x41, sizeof b);
-    expect(find(img, CELLS, 5, 3, PLACES, &b) == ZAKDOMP_DONE && b.count == 1, "one corner");
+    expect(find(img, CELLS, 5, 3, PLACES, &b) == ZAKDOMP_DONE && b.count == 1 && b.ties == 0, "one corner, no tie");
     expect(b.corners[0][0] == 5 && b.corners[1][0] == 5 && b.corners[2][0] == 2032, "at (5, 5), of strength 2032");
     expect(b.corners[0][1] == 0 && b.map[60] == 0, "cleared behind it");
     b.count = 77;
+    b.ties = 78;
     b.map[60] = 7;
     expect(find(img, CELLS - 1, 5, 3, PLACES, &b) == ZAKDOMP_LENGTH, "a pixel short");
     expect(find(img, CELLS, 6, 3, PLACES, &b) == ZAKDOMP_PARAMETER, "a ring of 6");
     expect(find(img, CELLS, 5, 5000, PLACES, &b) == ZAKDOMP_MERGE_RADIUS, "a radius of 5000");
-    expect(b.count == 77 && b.map[60] == 7 && b.corners[0][0] == 5, "refused: as it was");
+    expect(b.count == 77 && b.ties == 78 && b.map[60] == 7 && b.corners[0][0] == 5, "refused: as it was");
     expect(find(img, CELLS, 5, 3, 0, &b) == ZAKDOMP_LIST_SHORT, "no place for a corner");
-    expect(b.count == 77 && b.map[60] == 0 && b.corners[0][0] == 0, "refused by 10: cleared");
+    expect(b.count == 77 && b.ties == 78 && b.map[60] == 0 && b.corners[0][0] == 0, "refused by 10: cleared");
 }
 
 static void stages(const uint8_t *img) {
     float map[CELLS], x[2] = {1, 2}, y[2] = {1, 1}, s[2] = {3, 4}, mass = 9;
     uint8_t levels[CELLS];
     size_t width = 9, height = 9, n = 9;
+    uint64_t ties = 9;
     expect(zakdomp_response(img, CELLS, SIDE, SIDE, 5, 4, 5, 6, 99, map, CELLS, &width, &height) == 0, "the response of a box");
     expect(width == 2 && height == 6 && map[0] == 0 && map[1] == 2032, "its sides and cells");
     expect(zakdomp_response(img, CELLS, SIDE, SIDE, 5, 0, 0, 11, 11, map, CELLS, &width, &height) == 0, "the whole map");
     expect(zakdomp_response(img, CELLS, SIDE, SIDE, 5, 0, 0, 11, 11, map, 120, &width, &height) == ZAKDOMP_MAP_SHORT, "a short map");
     expect(width == 11 && height == 11, "refused: sides as they were");
     expect(zakdomp_merge(x, 2, y, 2, s, 2, 2, 3, &n) == 0 && n == 1 && x[0] == 2 && s[0] == 4, "two corners merged");
-    expect(zakdomp_peaks(map, CELLS, SIDE, SIDE, 5, 0, 0, 0, 0, x, 2, y, 2, s, 2, 1, &n) == 0, "peaks");
+    expect(zakdomp_peaks(map, CELLS, SIDE, SIDE, 5, 0, 0, 0, 0, x, 2, y, 2, s, 2, 1, &n, &ties) == 0 && ties == 0, "peaks");
     expect(n == 1 && x[0] == 2 && x[1] == 5 && y[1] == 5 && s[1] == 2032, "behind the one that is held");
-    expect(zakdomp_peaks(map, CELLS, SIDE, SIDE, 5, 0, 0, 0, 0, x, 2, y, 2, s, 2, 2, &n) == ZAKDOMP_LIST_SHORT, "a full buffer");
+    ties = 79;
+    expect(zakdomp_peaks(map, CELLS, SIDE, SIDE, 5, 0, 0, 0, 0, x, 2, y, 2, s, 2, 2, &n, &ties) == ZAKDOMP_LIST_SHORT, "a full buffer");
+    expect(n == 1 && ties == 79, "refused: count and ties as they were");
     expect(zakdomp_centroid(map, CELLS, SIDE, SIDE, 1, x + 1, y + 1, &mass) == 0, "the centre of mass");
     expect(x[1] == 5 && y[1] == 5 && mass == 2032, "its place and mass");
     expect(zakdomp_centroid(map, CELLS, SIDE, SIDE, 17, x, y, &mass) == ZAKDOMP_PARAMETER && mass == 2032, "a radius of 17");
     expect(zakdomp_level_bytes(SIDE, SIDE, 9, 0) == 25 + 4 + 1, "the bytes of the levels");
     expect(zakdomp_levels(img, CELLS, SIDE, SIDE, 9, 0, levels, 30, &n) == 0 && n == 4, "four levels");
     expect(zakdomp_levels(img, CELLS, SIDE, SIDE, 9, 0, levels, 29, &n) == ZAKDOMP_LEVELS_SHORT && n == 4, "a byte short");
+}
+
+/* The peaks of a map of `fill` but for two cells, `left` at (6, 6) and `right` at (7, 6). With a ring of 5 and a window of 1 the border is 6. */
+static void peaks_tied(size_t w, size_t h, float fill, float left, float right, size_t peaks, uint64_t due, const char *what) {
+    enum { MOST = 42 * 32 };
+    static float map[MOST], x[MOST], y[MOST], s[MOST];
+    size_t added = 9999;
+    uint64_t ties = 9999;
+    for (size_t i = 0; i < w * h; i++) map[i] = fill;
+    map[6 * w + 6] = left;
+    map[6 * w + 7] = right;
+    expect(zakdomp_peaks(map, w * h, w, h, 5, 0, 1, 0, 0, x, MOST, y, MOST, s, MOST, 0, &added, &ties) == 0, what);
+    expect(added == peaks && ties == due, what);
+}
+
+static void ties(void) {
+    peaks_tied(14, 13, 0, 2, 2, 2, 2, "two peaks that tie");
+    peaks_tied(13, 13, 0, 2, 2, 1, 1, "a peak that ties with a cell of the border");
+    peaks_tied(13, 13, 0, 2, 3, 0, 0, "a cell that is beaten");
+    peaks_tied(13, 13, NAN, NAN, NAN, 1, 0, "NaN equals nothing");
+    peaks_tied(13, 13, NAN, INFINITY, INFINITY, 1, 1, "infinity equals infinity");
+    peaks_tied(18, 17, 1, 1, 1, 30, 240, "a map of ones");
+    peaks_tied(42, 32, 1, 1, 1, 600, 4800, "more peaks than the table has places");
 }
 
 static void streams(const uint8_t *img) {
@@ -128,6 +157,7 @@ int main(void) {
     whole_case(img);
     frames(img);
     stages(img);
+    ties();
     streams(img);
     holdings();
     printf("C: %d passed, %d failed\n", passed, failed);

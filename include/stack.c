@@ -36,6 +36,7 @@ struct call {
     const struct frame *frame; /* of zakdomp_find_corners; NULL: zakdomp_corners reads `stream` */
     uint8_t number;
     size_t count;
+    uint64_t ties;
     size_t used; /* bytes of the thread's stack */
     uint8_t *levels, *text;
     float *map, *lists[6];
@@ -59,7 +60,8 @@ static void run(struct call *c) {
     uint32_t search = f->side <= 96 ? 255 : 1;
     float **l = c->lists;
     c->number = zakdomp_find_corners(img, cells, f->side, f->side, f->ring, 0, 0, 0, 0, radius, f->levels, 1, search, c->map, cells, c->levels,
-                                     cells, l[0], PLACES, l[1], PLACES, l[2], PLACES, l[3], PLACES, l[4], PLACES, l[5], PLACES, &c->count);
+                                     cells, l[0], PLACES, l[1], PLACES, l[2], PLACES, l[3], PLACES, l[4], PLACES, l[5], PLACES, &c->count,
+                                     &c->ties);
 }
 
 /* Marks the thread's stack below its own frame, runs the call, and looks how far the marks are gone. */
@@ -80,15 +82,15 @@ static void *on_thread(void *call) {
     return NULL;
 }
 
-static void *room(size_t bytes) {
+static void *buffer(size_t bytes) {
     void *p = malloc(bytes);
     if (p == NULL) exit(2);
     return memset(p, 0x41, bytes);
 }
 
 static struct call fresh(const struct frame *f) {
-    struct call c = {f, 0, 0, 0, room(CELLS), room(ZAKDOMP_LONGEST), room(CELLS * sizeof(float)), {0}};
-    for (int i = 0; i < 6; i++) c.lists[i] = room(PLACES * sizeof(float));
+    struct call c = {f, 0, 0, 0, 0, buffer(CELLS), buffer(ZAKDOMP_LONGEST), buffer(CELLS * sizeof(float)), {0}};
+    for (int i = 0; i < 6; i++) c.lists[i] = buffer(PLACES * sizeof(float));
     return c;
 }
 
@@ -100,7 +102,7 @@ static void drop(struct call *c) {
 }
 
 static int same(const struct call *a, const struct call *b) {
-    int s = a->number == b->number && a->count == b->count && memcmp(a->levels, b->levels, CELLS) == 0 &&
+    int s = a->number == b->number && a->count == b->count && a->ties == b->ties && memcmp(a->levels, b->levels, CELLS) == 0 &&
             memcmp(a->text, b->text, ZAKDOMP_LONGEST) == 0 && memcmp(a->map, b->map, CELLS * sizeof(float)) == 0;
     for (int i = 0; i < 6; i++) s = s && memcmp(a->lists[i], b->lists[i], PLACES * sizeof(float)) == 0;
     return s;

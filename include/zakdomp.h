@@ -1,4 +1,4 @@
-/* Zakdomp: the corners of a chessboard in a grey image. Link libzakdomp.a, which `library` writes.
+/* Zakdomp: the corners of a chessboard in a grey image. Link libzakdomp.a, which `tools/library` writes.
  *
  * Every function is proved to end and to do what is said here, for every value of its numbers. What C has to see to:
  *   - a slice is a pointer and a length, in elements; the pointer is to that many elements, and is not NULL even where the length is 0;
@@ -16,6 +16,9 @@
 
 #include <stddef.h>
 #include <stdint.h>
+
+/* The version of this header and of the library, as semantic versioning counts; CHANGELOG.md says what each brought. */
+#define ZAKDOMP_VERSION "0.1.0"
 
 #ifdef __cplusplus
 extern "C" {
@@ -53,12 +56,14 @@ enum {
  *   sx, sy, ss   a place for each seed; the seeds stand first, and 0 behind them
  *   cx, cy, cs   a place for each corner before merging; the corners stand first, and 0 behind them
  *   count        the number of corners
- * Refusals: 1, 2, 3, 5, 8, 9, 10. After 10 all buffers are 0 in their whole length, and count is as it was. */
+ *   ties         how often a cell of a peak's window has the peak's response, over all peaks found before merging; seeds do not count, and a
+ *                peak that is found about two seeds counts twice
+ * Refusals: 1, 2, 3, 5, 8, 9, 10. After 10 all buffers are 0 in their whole length, and count and ties are as they were. */
 uint8_t zakdomp_find_corners(const uint8_t *img, size_t img_length, size_t w, size_t h, uint32_t ring, float threshold, uint32_t window,
                              uint32_t least, uint32_t centroid, float radius, uint32_t level_count, size_t minimum, uint32_t search,
                              float *map, size_t map_length, uint8_t *levels, size_t levels_length, float *sx, size_t sx_length, float *sy,
                              size_t sy_length, float *ss, size_t ss_length, float *cx, size_t cx_length, float *cy, size_t cy_length,
-                             float *cs, size_t cs_length, size_t *count);
+                             float *cs, size_t cs_length, size_t *count, uint64_t *ties);
 
 /* The responses of the cells in the columns x0 up to, not including, x1 of the rows y0 up to y1. The box is clipped to the image.
  *   map            at least as many floats as the clipped box has cells; they stand first in it, in row order
@@ -71,10 +76,11 @@ uint8_t zakdomp_response(const uint8_t *img, size_t img_length, size_t w, size_t
  * zakdomp_find_corners; no peak lies within ring + window + centroid of the map's edge. A NaN cell is not at or below any threshold and is
  * beaten by none, so it is a peak where it has enough positive neighbours.
  *   added  the number of peaks
+ *   ties   how often a cell of a peak's window, other than the peak, has the peak's value; NaN equals nothing
  * Refusals: 1, 2, 3, 10. */
 uint8_t zakdomp_peaks(const float *map, size_t map_length, size_t w, size_t h, uint32_t ring, float threshold, uint32_t window,
                       uint32_t least, uint32_t centroid, float *xs, size_t xs_length, float *ys, size_t ys_length, float *strengths,
-                      size_t strengths_length, size_t held, size_t *added);
+                      size_t strengths_length, size_t held, size_t *added, uint64_t *ties);
 
 /* The centre of mass of the positive cells of a map within `radius` columns and rows of a seed.
  *   x, y  the seed, and then the centre of mass; the seed stays where the cells do not all lie in the map or none is positive

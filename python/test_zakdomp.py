@@ -9,13 +9,32 @@ PLAIN = dict(window=0, least_neighbours=0, centroid_radius=0, search_radius=0)
 
 
 def whole_case():
-    """Document 01's whole case: one corner in the middle of 11 by 11 pixels."""
+    """The whole case (RULES 14): one corner in the middle of 11 by 11 pixels."""
     image = bytearray(SIDE * SIDE)
     for dx, dy in ((0, -5), (2, -5), (3, -3), (5, -2), (0, 5), (-2, 5), (-3, 3), (-5, 2)):
         image[(5 + dy) * SIDE + 5 + dx] = 255
     for dx, dy in ((0, 0), (0, -1), (0, 1), (1, 0), (-1, 0)):
         image[(5 + dy) * SIDE + 5 + dx] = 128
     return image
+
+
+def ties_of(image, side, window, border):
+    """The ties of the peaks of a square image's map at threshold 0, by RULES 4.3 and 23.1, a second time."""
+    cells = zakdomp.response(image, side, side).cells
+    total = 0
+    for y in range(border, side - border):
+        for x in range(border, side - border):
+            rows, columns = range(y - window, y + window + 1), range(x - window, x + window + 1)
+            value, about = cells[y * side + x], [cells[v * side + u] for v in rows for u in columns if (u, v) != (x, y)]
+            if value > 0 and all(cell <= value for cell in about):
+                total += about.count(value)
+    return total
+
+
+def half(image, side):
+    """A square image at half size (RULES 6.1)."""
+    places = ((x, y) for y in range(0, side - 1, 2) for x in range(0, side - 1, 2))
+    return bytes((sum(image[(y + v) * side + x + u] for v in (0, 1) for u in (0, 1)) + 2) // 4 for x, y in places)
 
 
 class Finding(unittest.TestCase):
@@ -43,6 +62,31 @@ class Finding(unittest.TestCase):
         self.assertGreater(len(found), 1024)
         self.refused(10, image, 512, 512, most=1000, **dense)
         self.assertEqual(zakdomp.find_corners(image, 512, 512, most=len(found), **dense), found)
+
+    def test_ties_of_one_level(self):
+        dense = dict(least_neighbours=0, centroid_radius=0, merge_radius=0)
+        for seed in range(6):
+            numbers = random.Random(seed)
+            image = bytes(numbers.choice((0, 255)) for _ in range(40 * 40))
+            for window in (0, 1, 2):
+                found = zakdomp.find(image, 40, 40, window=window, **dense)
+                self.assertEqual(found.ties, ties_of(image, 40, window, 5 + window))
+                self.assertEqual(found.corners, zakdomp.find_corners(image, 40, 40, window=window, **dense))
+        self.assertGreater(found.ties, 0)
+
+    def test_ties_of_the_seeds_do_not_count(self):
+        image = random.Random(9).randbytes(48 * 48)
+        dense = dict(window=1, least_neighbours=0, centroid_radius=0, merge_radius=0)
+        self.assertEqual(zakdomp.find(half(image, 48), 24, 24, **dense).ties, 2)
+        found = zakdomp.find(image, 48, 48, levels=2, **dense)
+        self.assertEqual((len(found.corners), found.ties), (8, 0))
+
+    def test_ties_before_merging(self):
+        numbers = random.Random(2)
+        image = bytes(numbers.choice((0, 255)) for _ in range(40 * 40))
+        apart, merged = (zakdomp.find(image, 40, 40, window=1, least_neighbours=0, merge_radius=radius) for radius in (0, 4096))
+        self.assertEqual((len(merged.corners), merged.ties), (1, apart.ties))
+        self.assertGreater(merged.ties, 0)
 
     def test_refusals(self):
         image = whole_case()

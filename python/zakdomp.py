@@ -1,15 +1,18 @@
 """The corners of a chessboard in a grey image, by the proved library libzakdomp.so.
 
     find_corners(pixels, width, height, threshold=30)  ->  [Corner(x, y, strength), ..]
+    find(pixels, width, height, threshold=30)          ->  Frame(corners, ties)
     response(pixels, width, height, ring=5)            ->  ResponseMap(width, height, cells)
     holding(kind, start, time), holdings(stream)       ->  "N" not yet, "H" held or "G" gone, for an item and for each of a stream
 
 `pixels` is anything with a buffer of bytes, in row order. What the library refuses is raised as `Refusal`. The library is looked for in
-the file that the environment variable ZAKDOMP_LIBRARY names, beside this file, and where `bindings` of the repository leaves it.
+the file that the environment variable ZAKDOMP_LIBRARY names, beside this file, and where `tools/bindings` of the repository leaves it.
 """
 import ctypes
 import os
 from typing import NamedTuple
+
+__version__ = "0.1.0"
 
 REFUSALS = {
     1: "a side is above 4096",
@@ -42,6 +45,12 @@ class Corner(NamedTuple):
     strength: float
 
 
+class Frame(NamedTuple):
+    """The corners of an image, and how many cells of the peaks' windows equalled the peak, over all peaks before merging, seeds not counted."""
+    corners: list
+    ties: int
+
+
 class ResponseMap(NamedTuple):
     width: int
     height: int
@@ -58,13 +67,14 @@ def _load():
     size, u32, f32 = ctypes.c_size_t, ctypes.c_uint32, ctypes.c_float
     piece, out = [ctypes.c_void_p, size], ctypes.POINTER(size)
     numbers = [u32, f32, u32, u32, u32, f32, u32, size, u32]
-    library.zakdomp_find_corners.argtypes = piece + [size, size] + numbers + 8 * piece + [out]
+    u8, u64 = ctypes.c_uint8, ctypes.c_uint64
+    library.zakdomp_find_corners.argtypes = piece + [size, size] + numbers + 8 * piece + [out, ctypes.POINTER(u64)]
     library.zakdomp_response.argtypes = piece + [size, size, u32, size, size, size, size] + piece + [out, out]
     library.zakdomp_level_bytes.argtypes = [size, size, u32, size]
-    u8, u64 = ctypes.c_uint8, ctypes.c_uint64
     library.zakdomp_holding.argtypes = [u8, u64, u64, ctypes.POINTER(u8)]
     library.zakdomp_holdings.argtypes = piece + [ctypes.c_void_p]
-    library.zakdomp_find_corners.restype = library.zakdomp_response.restype = library.zakdomp_holding.restype = u8
+    for function in ("find_corners", "response", "holding"):
+        getattr(library, "zakdomp_" + function).restype = u8
     library.zakdomp_level_bytes.restype = library.zakdomp_holdings.restype = size
     return library
 
@@ -91,9 +101,9 @@ def _whole(name, value, bits):
     return value
 
 
-def find_corners(pixels, width, height, *, ring=5, threshold=0.0, window=2, least_neighbours=2, centroid_radius=2, merge_radius=3.0, levels=1,
-                 minimum_side=1, search_radius=3, most=1 << 22):
-    """The corners of an image, at most `most` of them before merging. The parameters are those of include/zakdomp.h."""
+def find(pixels, width, height, *, ring=5, threshold=0.0, window=2, least_neighbours=2, centroid_radius=2, merge_radius=3.0, levels=1,
+         minimum_side=1, search_radius=3, most=1 << 22):
+    """The corners of an image, at most `most` of them before merging, and its ties. The parameters are those of include/zakdomp.h."""
     small = {"ring": ring, "window": window, "least_neighbours": least_neighbours, "centroid_radius": centroid_radius, "levels": levels,
              "search_radius": search_radius}
     large = {"width": width, "height": height, "minimum_side": minimum_side, "most": most}
@@ -105,21 +115,26 @@ def find_corners(pixels, width, height, *, ring=5, threshold=0.0, window=2, leas
     map_buffer, cells = _floats(width * height if fits else 0)
     needed = _library.zakdomp_level_bytes(width, height, levels, minimum_side) if fits else 0
     level_buffer = (ctypes.c_uint8 * max(needed, 1))()
-    count = ctypes.c_size_t(0)
+    count, ties = ctypes.c_size_t(0), ctypes.c_uint64(0)
     places = min(1024, most)
     while True:
         lists = [_floats(places) for _ in range(6)]
         pieces = [word for _, piece in lists for word in piece]
         number = _library.zakdomp_find_corners(
             *image, width, height, ring, threshold, window, least_neighbours, centroid_radius, merge_radius, levels, minimum_side,
-            search_radius, *cells, ctypes.addressof(level_buffer), needed, *pieces, ctypes.byref(count))
+            search_radius, *cells, ctypes.addressof(level_buffer), needed, *pieces, ctypes.byref(count), ctypes.byref(ties))
         if number != LIST_SHORT or places == most:
             break
         places = min(4 * places, most)
     if number:
         raise Refusal(number)
     x, y, strength = (buffer for buffer, _ in lists[3:])
-    return [Corner(x[i], y[i], strength[i]) for i in range(count.value)]
+    return Frame([Corner(x[i], y[i], strength[i]) for i in range(count.value)], ties.value)
+
+
+def find_corners(pixels, width, height, **named):
+    """The corners alone, as `find` finds them."""
+    return find(pixels, width, height, **named).corners
 
 
 def response(pixels, width, height, *, ring=5, x0=0, y0=0, x1=LARGEST_SIDE, y1=LARGEST_SIDE):

@@ -1,4 +1,4 @@
-//! Links libzakdomp.a, from the folder that the environment variable ZAKDOMP_DIR names, and else from where `library` leaves it.
+//! Links libzakdomp.a, from the folder that the environment variable ZAKDOMP_DIR names, and else from where `tools/library` leaves it.
 
 fn main() {
     println!("cargo::rerun-if-env-changed=ZAKDOMP_DIR");

@@ -56,13 +56,13 @@ pub fn c_response(pixels: &[u8], w: usize, h: usize, ring: u32, map: &mut [f32])
 }
 
 pub fn peaks(map: &[f32], w: usize, h: usize, p: &Params, list: &mut List) -> usize {
-    let mut added = 0;
+    let (mut added, mut ties) = (0, 0);
     let [x, y, s] = &mut list.0;
     #[rustfmt::skip]
     let number = unsafe {
         zakdomp_peaks(
             map.as_ptr(), map.len(), w, h, p.ring, p.threshold, p.window, p.least, p.centroid,
-            x.as_mut_ptr(), x.len(), y.as_mut_ptr(), y.len(), s.as_mut_ptr(), s.len(), 0, &mut added,
+            x.as_mut_ptr(), x.len(), y.as_mut_ptr(), y.len(), s.as_mut_ptr(), s.len(), 0, &mut added, &mut ties,
         )
     };
     assert_eq!(number, 0);
@@ -122,7 +122,7 @@ impl Buffers {
 
 #[rustfmt::skip]
 pub fn frame(pixels: &[u8], w: usize, h: usize, p: &Params, b: &mut Buffers) -> usize {
-    let mut count = 0;
+    let (mut count, mut ties) = (0, 0);
     let [sx, sy, ss] = &mut b.seeds.0;
     let [cx, cy, cs] = &mut b.corners.0;
     let number = unsafe {
@@ -132,7 +132,7 @@ pub fn frame(pixels: &[u8], w: usize, h: usize, p: &Params, b: &mut Buffers) -> 
             b.map.as_mut_ptr(), b.map.len(), b.levels.as_mut_ptr(), b.levels.len(),
             sx.as_mut_ptr(), sx.len(), sy.as_mut_ptr(), sy.len(), ss.as_mut_ptr(), ss.len(),
             cx.as_mut_ptr(), cx.len(), cy.as_mut_ptr(), cy.len(), cs.as_mut_ptr(), cs.len(),
-            &mut count,
+            &mut count, &mut ties,
         )
     };
     assert_eq!(number, 0);

@@ -87,6 +87,7 @@ pub struct Finder {
     corners: Lists,
     places: usize,
     most: usize,
+    ties: u64,
 }
 
 impl Default for Finder {
@@ -104,7 +105,15 @@ impl Finder {
     /// Takes at most so many corners, before merging: an image with more is refused.
     pub fn with_most(most: usize) -> Self {
         let lists = Lists::default;
-        Self { map: vec![], levels: vec![], seeds: lists(), corners: lists(), places: most.min(1024), most }
+        Self {
+            map: vec![],
+            levels: vec![],
+            seeds: lists(),
+            corners: lists(),
+            places: most.min(1024),
+            most,
+            ties: 0,
+        }
     }
 
     /// The corners of an image of `width` by `height` pixels, in the order of include/zakdomp.h.
@@ -126,13 +135,25 @@ impl Finder {
             let map = &mut self.map;
             let (seeds, corners) = (&mut self.seeds.0, &mut self.corners.0);
             match library::find_corners(image, width, height, params, map, &mut self.levels, seeds, corners) {
-                Ok(count) => return Ok(self.list(count)),
+                Ok((count, ties)) => {
+                    self.ties = ties;
+                    return Ok(self.list(count));
+                }
                 Err(Refusal::ListShort) if self.places < self.most => {
                     self.places = (self.places * 4).min(self.most);
                 }
-                Err(refusal) => return Err(refusal),
+                Err(refusal) => {
+                    self.ties = 0;
+                    return Err(refusal);
+                }
             }
         }
+    }
+
+    /// How many cells of the peaks' windows equalled the peak, over all peaks of the last image before merging, seeds not counted; 0 where it
+    /// was refused.
+    pub fn ties(&self) -> u64 {
+        self.ties
     }
 
     fn list(&self, count: usize) -> Vec<Corner> {

@@ -24,8 +24,8 @@ pub(crate) fn level_bytes(width: usize, height: usize, p: &Params) -> usize {
 pub(crate) fn find_corners(
     image: &[u8], width: usize, height: usize, p: &Params,
     map: &mut [f32], levels: &mut [u8], seeds: &mut [Vec<f32>; 3], corners: &mut [Vec<f32>; 3],
-) -> Result<usize, Refusal> {
-    let mut count = 0;
+) -> Result<(usize, u64), Refusal> {
+    let (mut count, mut ties) = (0, 0);
     let [sx, sy, ss] = seeds;
     let [cx, cy, cs] = corners;
     // SAFETY: every slice is whole, none overlaps another, and the call keeps none. It is proved to stay within their lengths.
@@ -36,10 +36,10 @@ pub(crate) fn find_corners(
             map.as_mut_ptr(), map.len(), levels.as_mut_ptr(), levels.len(),
             sx.as_mut_ptr(), sx.len(), sy.as_mut_ptr(), sy.len(), ss.as_mut_ptr(), ss.len(),
             cx.as_mut_ptr(), cx.len(), cy.as_mut_ptr(), cy.len(), cs.as_mut_ptr(), cs.len(),
-            &mut count,
+            &mut count, &mut ties,
         )
     };
-    unless_refused(number, count)
+    unless_refused(number, (count, ties))
 }
 
 #[rustfmt::skip]

@@ -15,7 +15,7 @@ extern "C" {
         map: *mut f32, map_length: usize, levels: *mut u8, levels_length: usize,
         sx: *mut f32, sx_length: usize, sy: *mut f32, sy_length: usize, ss: *mut f32, ss_length: usize,
         cx: *mut f32, cx_length: usize, cy: *mut f32, cy_length: usize, cs: *mut f32, cs_length: usize,
-        count: *mut usize,
+        count: *mut usize, ties: *mut u64,
     ) -> u8;
     pub fn zakdomp_response(
         img: *const u8, img_length: usize, w: usize, h: usize, ring: u32, x0: usize, y0: usize, x1: usize, y1: usize,
@@ -24,7 +24,7 @@ extern "C" {
     pub fn zakdomp_peaks(
         map: *const f32, map_length: usize, w: usize, h: usize, ring: u32, threshold: f32, window: u32, least: u32, centroid: u32,
         xs: *mut f32, xs_length: usize, ys: *mut f32, ys_length: usize, strengths: *mut f32, strengths_length: usize,
-        held: usize, added: *mut usize,
+        held: usize, added: *mut usize, ties: *mut u64,
     ) -> u8;
     pub fn zakdomp_centroid(
         map: *const f32, map_length: usize, w: usize, h: usize, radius: u32, x: *mut f32, y: *mut f32, mass: *mut f32,

@@ -3,7 +3,7 @@ use zakdomp::{response, Corner, Finder, Params, Refusal};
 
 const SIDE: usize = 11;
 
-/// Document 01's whole case: one corner in the middle of 11 by 11 pixels.
+/// The whole case (RULES 14): one corner in the middle of 11 by 11 pixels.
 fn whole_case() -> Vec<u8> {
     let bright = [(0, -5), (2, -5), (3, -3), (5, -2), (0, 5), (-2, 5), (-3, 3), (-5, 2)];
     let cross = [(0, 0), (0, -1), (0, 1), (1, 0), (-1, 0)];
@@ -71,6 +71,49 @@ fn more_corners_than_places_at_first() {
     assert!(found.len() > 1024, "{}", found.len());
     assert_eq!(Finder::with_most(1000).find(&image, 512, 512, &params), Err(Refusal::ListShort));
     assert_eq!(Finder::with_most(found.len()).find(&image, 512, 512, &params), Ok(found));
+}
+
+/// Pixels of two greys in no order, so that responses are often equal.
+fn two_greys(pixels: usize) -> Vec<u8> {
+    noise(pixels).iter().map(|grey| if grey % 2 == 0 { 0 } else { 255 }).collect()
+}
+
+/// How many cells of the peaks' windows equal the peak, by RULES 4.3 and 23.1, a second time: at threshold 0, in a square map.
+fn ties_of(map: &[f32], side: usize, window: usize, border: usize) -> u64 {
+    let mut total = 0;
+    for at in 0..side * side {
+        let (x, y) = (at % side, at / side);
+        let inside = |n: usize| border <= n && n + border < side;
+        if !inside(x) || !inside(y) || map[at] <= 0.0 {
+            continue;
+        }
+        let rows = y - window..=y + window;
+        let about: Vec<usize> =
+            rows.flat_map(|v| (x - window..=x + window).map(move |u| v * side + u)).collect();
+        if about.iter().all(|&cell| map[cell] <= map[at]) {
+            total += about.iter().filter(|&&cell| cell != at && map[cell] == map[at]).count() as u64;
+        }
+    }
+    total
+}
+
+#[test]
+fn ties_of_the_last_image() {
+    let image = two_greys(48 * 48);
+    let map = response(&image, 48, 48, 5, 0..48, 0..48).unwrap();
+    let mut finder = Finder::new();
+    assert_eq!(finder.ties(), 0);
+    for window in 0..3 {
+        let due = ties_of(&map.cells, 48, window, 5 + window);
+        assert_eq!(due > 0, window > 0);
+        for merge_radius in [0.0, 4096.0] {
+            let params = Params { window: window as u32, merge_radius, ..PLAIN };
+            finder.find(&image, 48, 48, &params).unwrap();
+            assert_eq!(finder.ties(), due);
+        }
+    }
+    assert_eq!(finder.find(&image, 48, 47, &PLAIN), Err(Refusal::Length));
+    assert_eq!(finder.ties(), 0);
 }
 
 #[test]

@@ -12,13 +12,13 @@ use lib.Ieee.{Float, binary32, fits, le}
 use lib.Ieee.Fits.{sub-fits, cond-fits}
 use Rattle.lists.specs.Places.{All}
 use Rattle.lists.proofs.Tab.{getD-tab-any}
-use Rattle.float32.specs.Float32.{zero}
+use Rattle.float32.specs.Float32.{zero, floatOf}
 use Rattle.float32.specs.Value.{IsWhole, plusPart}
 use Rattle.float32.proofs.Sums.{total-bound}
 use Rattle.float32.proofs.Values.{of-HasValue, ofInt-value}
 use Rattle.ring.specs.Ring.{Ring}
-use Rattle.response.specs.Response.{samples, srOf, drOf, ringSumOf, crossOf, floatOf, responseOf, inside, response, responseAt}
-use Rattle.response.specs.Patch.{View, cols, rows, cells, Patched}
+use Rattle.response.specs.Response.{samples, srOf, drOf, ringSumOf, crossOf, responseOf, inside, response, responseAt}
+use Rattle.response.specs.Patch.{View, mapWidth, mapHeight, cells, Patched}
 use Rattle.response.specs.Exact.{credit, fifthsAt, fifthsIn}
 use Rattle.response.specs.declared.Patch.{Patch}
 use Rattle.response.specs.declared.Patch.the-variants.{Cells}
@@ -66,12 +66,12 @@ unfolding responseAt response fifthsAt
 cell-accurate img w h t x y bytes = either (inside w h t x y) _ _ (response-accurate _ _ _ _ (in-range img w t x y bytes))
 
 -- in a map
-pub map-accurate : (v : View) → Bytes (v .img) → (i j : ℕ) (d : Float) → i < cols v → j < rows v
-    → Accurate (getD (cells v) (j * cols v + i) d) (fifthsIn v i j)
+pub map-accurate : (v : View) → Bytes (v .img) → (i j : ℕ) (d : Float) → i < mapWidth v → j < mapHeight v
+    → Accurate (getD (cells v) (j * mapWidth v + i) d) (fifthsIn v i j)
 map-accurate v bytes i j d p q = rw (cells-at v i j d p q) (cell-accurate (v .img) (v .w) (v .h) (v .ring) _ _ bytes)
 
 -- in the buffer e that `chess_response_u8_patch` leaves
-pub patch-accurate : (v : View) (radius : ℕ) (d e : List Float) (r : Patch) (pw ph : ℕ) → Patched v radius d e r → r ≡ Cells pw ph → Bytes (v .img)
+pub patch-accurate : (v : View) (radius : ℕ) (d e : List Float) (r : Patch) (pw ph : ℕ) → Patched v radius d r e → r ≡ Cells pw ph → Bytes (v .img)
     → (i j : ℕ) (z : Float) → i < pw → j < ph → Accurate (getD e (j * pw + i) z) (fifthsIn v i j)
 patch-accurate v radius d e r pw ph p c bytes i j z a b =
     rw (cell-at v d e pw ph (filled v radius d e r p pw ph c) i j z a b) (cell-accurate (v .img) (v .w) (v .h) (v .ring) _ _ bytes)

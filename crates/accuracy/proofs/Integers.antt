@@ -13,7 +13,8 @@ use Rattle.float32.specs.Value.{plusPart, minusPart}
 pub sub-parts : (c d : ℕ) → c + minusPart (subℕ c d) ≡ plusPart (subℕ c d) + d
 sub-parts c d = go (ltb c d) (ltb→lt c d) (nltb→le c d)
   where
-    go : (w : Bool) → (T w → c < d) → (T (not w) → d ≤ c) → c + minusPart (cond w (negsuc (d - suc c)) (pos (c - d))) ≡ plusPart (cond w (negsuc (d - suc c)) (pos (c - d))) + d
+    go : (w : Bool) → (T w → c < d) → (T (not w) → d ≤ c)
+        → c + minusPart (cond w (negsuc (d - suc c)) (pos (c - d))) ≡ plusPart (cond w (negsuc (d - suc c)) (pos (c - d))) + d
     go true h k = let x = h tt in omega arith
     go false h k = let x = k tt in omega arith
 

@@ -26,10 +26,12 @@ move x c d P N e k = record {
   level = λ h. k .level (omega arith);
 }
 
-in-fifths : (sr dr ring cross : ℕ) → InRange sr dr ring cross → Computed (responseOf sr dr ring cross) (plusPart (fifths sr dr ring cross)) (minusPart (fifths sr dr ring cross))
+in-fifths : (sr dr ring cross : ℕ) → InRange sr dr ring cross
+    → Computed (responseOf sr dr ring cross) (plusPart (fifths sr dr ring cross)) (minusPart (fifths sr dr ring cross))
 in-fifths sr dr ring cross i =
     let E = fifths sr dr ring cross in
-    move (responseOf sr dr ring cross) (credit sr) (debit dr ring cross) (plusPart E) (minusPart E) (sub-parts (credit sr) (debit dr ring cross)) (computed sr dr ring cross i)
+    move (responseOf sr dr ring cross) (credit sr) (debit dr ring cross) (plusPart E) (minusPart E)
+    (sub-parts (credit sr) (debit dr ring cross)) (computed sr dr ring cross i)
 
 -- ---- x, near (P - N) fifths, against a whole number k, which it is exactly where P - N is 5 k
 module _ (t x : Float) (k P N : ℕ) (w : IsWhole t k) (near : Within x (1024 * P) (1024 * N) 5120 5) (level : P ≡ 5 * k + N → IsValue x k 0 1) where
@@ -54,7 +56,8 @@ module _ (t x : Float) (k P N : ℕ) (w : IsWhole t k) (near : Within x (1024 * 
       equal : 5 * k + N ≡ P → ⊥
       equal e = let m = lt-value x t k 0 k 0 1 (lit< tt) (level (sym e)) w .0 l in omega arith
 
-module _ (t x : Float) (k : ℕ) (E : ℤ) (w : IsWhole t k) (near : Within x (1024 * plusPart E) (1024 * minusPart E) 5120 5) (level : plusPart E ≡ 5 * k + minusPart E → IsValue x k 0 1) where
+module _ (t x : Float) (k : ℕ) (E : ℤ) (w : IsWhole t k) (near : Within x (1024 * plusPart E) (1024 * minusPart E) 5120 5)
+    (level : plusPart E ≡ 5 * k + minusPart E → IsValue x k 0 1) where
   above-fifths : T (lt t x) ↔ (pos (5 * k) <ℤ E)
   above-fifths = (
     λ l. less-parts (pos (5 * k)) E .1 (omega (arith, above-only t x k (plusPart E) (minusPart E) w near level l)),
@@ -93,7 +96,8 @@ zero-accurate = subst (λ (x : Float). Accurate x (pos 0)) (computed 0 0 0 0 non
 -- a smaller exact value is computed as a smaller float, whatever maps the two stand in
 pub ordered : (x y : Float) (E F : ℤ) → Accurate x E → Accurate y F → E <ℤ F → T (lt x y)
 ordered x y E F v w h =
-    lt-within x y (1024 * plusPart E) (1024 * minusPart E) (1024 * plusPart F) (1024 * minusPart F) 5120 5 5 (lit< tt) (v .near) (w .near) (omega (arith, less-parts E F .0 h))
+    lt-within x y (1024 * plusPart E) (1024 * minusPart E) (1024 * plusPart F) (1024 * minusPart F) 5120 5 5 (lit< tt) (v .near) (w .near)
+    (omega (arith, less-parts E F .0 h))
 
 -- x is above a whole number exactly where E / 5 is
 pub above-whole : (t x : Float) (k : ℕ) (E : ℤ) → IsWhole t k → Accurate x E → T (lt t x) ↔ (pos (5 * k) <ℤ E)

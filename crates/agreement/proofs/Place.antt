@@ -47,7 +47,8 @@ module _ (m : List Float) (fifths : Place → ℤ) (t : Float) (k w h : ℕ) (wh
           go false q = absurd (f (λ l. false≢true (sym q ∙ less-is _ E .1 l)))
 
   larger-kept : (q p : Place) → q .x < w → q .y < h → p .x < w → p .y < h → ltZ (fifths p) (fifths q) ≡ true → largerIn m w q p ≡ true
-  larger-kept q p qx qy px py e = from-T _ (ordered (valueAt m w p) (valueAt m w q) (fifths p) (fifths q) (cells p px py) (cells q qx qy) (less-is (fifths p) (fifths q) .0 e))
+  larger-kept q p qx qy px py e =
+      from-T _ (ordered (valueAt m w p) (valueAt m w q) (fifths p) (fifths q) (cells p px py) (cells q qx qy) (less-is (fifths p) (fifths q) .0 e))
 
   positive-both : (q : Place) → q .x < w → q .y < h → (positiveIn m w q ≡ true) ↔ (ltZ (pos 0) (fifths q) ≡ true)
   positive-both q qx qy = (
@@ -59,7 +60,8 @@ module _ (m : List Float) (fifths : Place → ℤ) (t : Float) (k w h : ℕ) (wh
   equal-of : (q p : Place) → q .x < w → q .y < h → p .x < w → p .y < h → largerIn m w q p ≡ true → (ltZ (fifths p) (fifths q) ≡ true → ⊥) → fifths q ≡ fifths p
   equal-of q p qx qy px py l f =
       level (fifths q) (fifths p)
-      (λ e. lt-asym (valueAt m w p) (valueAt m w q) (cells p px py .near .is-finite) (cells q qx qy .near .is-finite) (to-T l) (to-T (larger-kept p q px py qx qy e)))
+      (λ e. lt-asym (valueAt m w p) (valueAt m w q) (cells p px py .near .is-finite) (cells q qx qy .near .is-finite) (to-T l)
+      (to-T (larger-kept p q px py qx qy e)))
       f
 
   -- so a computed peak is an exact one (`peak-stands`)
@@ -95,7 +97,8 @@ module _ (m : List Float) (fifths : Place → ℤ) (t : Float) (k w h : ℕ) (wh
     unfolding positives count
     enough =
         le-trans (peak-supported (exact fifths t) w h r least p top)
-        (keep-fewer (λ q. ltZ (pos 0) (fifths q)) (positiveIn m w) (window w h r p) (window-in (Implies (λ q. ltZ (pos 0) (fifths q)) (positiveIn m w)) w h r p (λ q a b. positive-both q a b .1)))
+        (keep-fewer (λ q. ltZ (pos 0) (fifths q)) (positiveIn m w) (window w h r p)
+        (window-in (Implies (λ q. ltZ (pos 0) (fifths q)) (positiveIn m w)) w h r p (λ q a b. positive-both q a b .1)))
 
     pub peak-both : (isPeak (computed m w t) w h r least p ≡ true) ↔ All (λ q. Tied m fifths w p q → ⊥) (window w h r p)
     peak-both = (

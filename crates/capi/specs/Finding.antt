@@ -5,11 +5,12 @@ use mathlib.Core.List.{List}
 use lib.ListN.{length}
 use lib.Ieee.{Float}
 use Rattle.corner_list.specs.declared.Corner.{Corner}
-use Rattle.frame_pass.specs.declared.FrameParams.{FrameParams}
-use Rattle.frame_pass.specs.Pass.{framePass, computedChoice}
+use Rattle.patch_corners.specs.declared.FrameParams.{FrameParams}
+use Rattle.patch_corners.specs.OneMap.{computedChoice}
+use Rattle.frame_pass.specs.Pass.{framePass}
 use Rattle.frame.specs.declared.FrameAnswer.{FrameAnswer}
 use Rattle.frame.specs.declared.FrameAnswer.the-variants.{Corners, Refused}
-use Rattle.frame.specs.Frame.{Buffers, answerOf, Found}
+use Rattle.frame.specs.Frame.{Buffers, answerOf, FrameFound}
 use Rattle.capi_stages.specs.Results.{resultOr}
 
 -- the parameters, in the order in which they are given
@@ -19,24 +20,33 @@ params ring threshold window least centroid radius levels minimum search =
       ring = ring;
       threshold = threshold;
       window = window;
-      least = least;
-      centroid = centroid;
-      radius = radius;
+      «least_neighbours» = least;
+      «centroid_radius» = centroid;
+      «merge_radius» = radius;
       levels = levels;
-      minimum = minimum;
-      search = search;
+      «minimum_side» = minimum;
+      «search_radius» = search;
     }
 
 -- the corners that an answer counts, or what was there before
 abbrev pub countOf : FrameAnswer → ℕ → ℕ
-countOf (Corners n) before = n
+countOf (Corners n ties) before = n
 countOf (Refused k) before = before
 
--- the pass's list of an image's corners
-abbrev pub cornersIn : FrameParams → List ℕ → ℕ → ℕ → List Corner
-cornersIn p img w h = framePass p img w h (computedChoice p) .corners
+-- and the ties
+abbrev pub tiesOf : FrameAnswer → ℕ → ℕ
+tiesOf (Corners n ties) before = ties
+tiesOf (Refused k) before = before
 
--- the number r that is returned is that of the answer, and the buffers and the count are those of the answer
-pub record CornersFound (p : FrameParams) (img : List ℕ) (w h : ℕ) (b : Buffers) (count r : ℕ) (b′ : Buffers) (count′ : ℕ) : Type 0 where
-  pub answer : Found p img w h b (answerOf r (length (cornersIn p img w h))) b′
-  pub count-is : count′ ≡ resultOr r (length (cornersIn p img w h)) count
+-- the pass's list of an image's corners, and its ties
+abbrev pub cornersFound : FrameParams → List ℕ → ℕ → ℕ → List Corner
+cornersFound p img w h = framePass p img w h (computedChoice p) .corners
+
+abbrev pub tiesFound : FrameParams → List ℕ → ℕ → ℕ → ℕ
+tiesFound p img w h = framePass p img w h (computedChoice p) .ties
+
+-- the number r that is returned is that of the answer, and the buffers, the count and the ties are those of the answer
+pub record CornersFound (p : FrameParams) (img : List ℕ) (w h : ℕ) (b : Buffers) (count ties r : ℕ) (b′ : Buffers) (count′ ties′ : ℕ) : Type 0 where
+  pub answer : FrameFound p img w h b (answerOf r (length (cornersFound p img w h)) (tiesFound p img w h)) b′
+  pub count-is : count′ ≡ resultOr r (length (cornersFound p img w h)) count
+  pub ties-are : ties′ ≡ resultOr r (tiesFound p img w h) ties

@@ -1,6 +1,7 @@
 // What the program `corners` prints for a stream.
 use listing::LONGEST;
-ghost use Rattle.finder.specs.Finder.{outputOf, Written};
+ghost use Rattle.finder.specs.Finder.{outputOf};
+ghost use Rattle.lists.specs.Buffer.{Written};
 
 // Writes the listing of a frame stream first in `output`, and returns its length.
 #[no_mangle]

@@ -7,7 +7,7 @@ use lib.ListN.{length}
 use lib.Ieee.{Float}
 use Rattle.center_of_mass.specs.declared.Outcome.{Outcome}
 use Rattle.center_of_mass.specs.declared.Outcome.the-variants.{Accepted, Rejected, OutOfBounds, IllConditioned, Refused}
-use Rattle.center_of_mass.specs.CenterOfMass.{refined, refusal, valuesOf}
+use Rattle.center_of_mass.specs.CenterOfMass.{refined, refusalOf, valuesOf}
 use Rattle.capi_stages.specs.declared.centroid.Seed.{Seed}
 
 -- the three numbers of a seed
@@ -27,5 +27,5 @@ located (Refused n) before = before
 
 -- the number r that is returned is that of the outcome, and x, y and mass are its values, or as before where it is refused
 pub record Located (radius : ℕ) (m : List Float) (w h : ℕ) (before : Seed) (r : ℕ) (after : List Float) : Type 0 where
-  pub number : r ≡ refusal radius (before .x) (before .y) true (length m) w h
+  pub number : r ≡ refusalOf radius (before .x) (before .y) true (length m) w h
   pub values : after ≡ located (refined radius (before .x) (before .y) true m w h) (three before)

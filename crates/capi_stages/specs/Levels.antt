@@ -15,5 +15,5 @@ builtOf (Refused k) before = before
 
 -- the number r that is returned is that of the answer, and the level buffer and the count are those of the answer
 pub record LevelsBuilt (img : List ℕ) (w h count minimum : ℕ) (levels : List ℕ) (built r : ℕ) (levels′ : List ℕ) (built′ : ℕ) : Type 0 where
-  pub answer : Built img w h count minimum levels (answerOf (levelCount w h count minimum) r) levels′
+  pub answer : Built img w h count minimum levels (answerOf r (levelCount w h count minimum)) levels′
   pub built-is : built′ ≡ resultOr r (levelCount w h count minimum) built

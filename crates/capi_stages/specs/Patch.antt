@@ -5,7 +5,7 @@ use mathlib.Core.List.{List}
 use lib.Ieee.{Float}
 use Rattle.response.specs.declared.Patch.{Patch}
 use Rattle.response.specs.declared.Patch.the-variants.{Cells, Refused}
-use Rattle.response.specs.Patch.{View, cols, rows, answerOf, Patched}
+use Rattle.response.specs.Patch.{View, mapWidth, mapHeight, answerOf, Patched}
 use Rattle.capi_stages.specs.Results.{resultOr}
 
 -- the sides of an answer's map, or what was there before
@@ -19,6 +19,6 @@ heightOf (Refused n) before = before
 
 -- the number r that is returned is that of the answer, and the map and its sides are those of the answer
 pub record Responded (v : View) (radius : ℕ) (map : List Float) (width height r : ℕ) (map′ : List Float) (width′ height′ : ℕ) : Type 0 where
-  pub answer : Patched v radius map map′ (answerOf v r)
-  pub width-is : width′ ≡ resultOr r (cols v) width
-  pub height-is : height′ ≡ resultOr r (rows v) height
+  pub answer : Patched v radius map (answerOf r v) map′
+  pub width-is : width′ ≡ resultOr r (mapWidth v) width
+  pub height-is : height′ ≡ resultOr r (mapHeight v) height

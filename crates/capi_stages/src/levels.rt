@@ -27,10 +27,10 @@ fn built_of(a: Pyramid, before: usize) -> usize
 
 // How many bytes the level buffer of such an image needs; the largest number where there are more.
 #[no_mangle]
-pub extern "C" fn zakdomp_level_bytes(w: usize, h: usize, count: u32, minimum: usize) -> usize
-    ensures { λ r. ⌜ r ≡ capped (cellsAbove w h (levelCount w h count minimum)) ⌝ }
+pub extern "C" fn zakdomp_level_bytes(w: usize, h: usize, count: u32, minimum_side: usize) -> usize
+    ensures { λ r. ⌜ r ≡ capped (cellsAbove w h (levelCount w h count «minimum_side»)) ⌝ }
 {
-    pyramid_levels::cells_above(w, h, count, minimum)
+    pyramid_levels::cells_above(w, h, count, minimum_side)
 }
 
 // Builds the levels above an image first in `levels`, and puts their number, the image included, into `built`.
@@ -40,14 +40,14 @@ pub extern "C" fn zakdomp_levels(
     w: usize,
     h: usize,
     count: u32,
-    minimum: usize,
+    minimum_side: usize,
     levels: &mut [u8],
     built: &mut usize,
 ) -> u8
-    ensures { λ r. ⌜ LevelsBuilt (now (img .entry)) w h count minimum (now (levels .entry)) (now (built .entry))
+    ensures { λ r. ⌜ LevelsBuilt (now (img .entry)) w h count «minimum_side» (now (levels .entry)) (now (built .entry))
         r (now (levels .exit)) (now (built .exit)) ⌝ }
 {
-    let a = pyramid::build_pyramid(img, w, h, count, minimum, levels);
+    let a = pyramid::build_pyramid(img, w, h, count, minimum_side, levels);
     *built = built_of(a, *built);
     number_of(a)
 }

@@ -3,15 +3,15 @@ use detect::Peaks;
 ghost use mathlib.Core.Path.{_≡_};
 ghost use lib.ListN.{length};
 ghost use Rattle.corner_list.specs.CornerList.{slices};
-ghost use Rattle.detect.specs.Detect.{searchOf, startsIn, conditions, numberOf};
-ghost use Rattle.capi_stages.specs.Peaks.{addedOf, PeaksFound};
+ghost use Rattle.detect.specs.Detect.{searchOf, startsIn, tiesIn, conditions, numberOf};
+ghost use Rattle.capi_stages.specs.Peaks.{addedOf, tiesOf, PeaksFound};
 
 // The number of an answer, 0 where peaks were added.
 fn number_of(a: Peaks) -> u8
     ensures { λ r. ⌜ r ≡ numberOf a ⌝ }
 {
     match a {
-        Peaks::Added(_) => 0,
+        Peaks::Added(_, _) => 0,
         Peaks::Refused(n) => n,
     }
 }
@@ -21,12 +21,22 @@ fn added_of(a: Peaks, before: usize) -> usize
     ensures { λ r. ⌜ r ≡ addedOf a before ⌝ }
 {
     match a {
-        Peaks::Added(n) => n,
+        Peaks::Added(n, _) => n,
         Peaks::Refused(_) => before,
     }
 }
 
-// Puts the peaks of a map behind the first `held` corners of a buffer, and their number into `added`.
+// How many ties they have, or `before` where refused.
+fn ties_of(a: Peaks, before: u64) -> u64
+    ensures { λ r. ⌜ r ≡ tiesOf a before ⌝ }
+{
+    match a {
+        Peaks::Added(_, ties) => ties,
+        Peaks::Refused(_) => before,
+    }
+}
+
+// Puts the peaks of a map behind the first `held` corners of a buffer, their number into `added` and the number of their ties into `ties`.
 #[no_mangle]
 pub extern "C" fn zakdomp_peaks(
     map: &[f32],
@@ -35,18 +45,20 @@ pub extern "C" fn zakdomp_peaks(
     ring: u32,
     threshold: f32,
     window: u32,
-    least: u32,
-    centroid: u32,
+    least_neighbours: u32,
+    centroid_radius: u32,
     xs: &mut [f32],
     ys: &mut [f32],
     strengths: &mut [f32],
     held: usize,
     added: &mut usize,
+    ties: &mut u64,
 ) -> u8
-    ensures { λ r. ⌜ PeaksFound (conditions (length (now (map .entry))) w h ring window centroid)
-        (startsIn (now (map .entry)) (searchOf w h ring threshold window least centroid))
-        held (slices (now (xs .entry)) (now (ys .entry)) (now (strengths .entry))) (now (added .entry))
-        r (slices (now (xs .exit)) (now (ys .exit)) (now (strengths .exit))) (now (added .exit)) ⌝ }
+    ensures { λ r. ⌜ PeaksFound (conditions (length (now (map .entry))) w h ring window «centroid_radius»)
+        (startsIn (now (map .entry)) (searchOf w h ring threshold window «least_neighbours» «centroid_radius»))
+        (tiesIn (now (map .entry)) (searchOf w h ring threshold window «least_neighbours» «centroid_radius»))
+        held (slices (now (xs .entry)) (now (ys .entry)) (now (strengths .entry))) (now (added .entry)) (now (ties .entry))
+        r (slices (now (xs .exit)) (now (ys .exit)) (now (strengths .exit))) (now (added .exit)) (now (ties .exit)) ⌝ }
 {
     let a = detect::detect_peaks_from_response_with_refine_radius(
         map,
@@ -55,13 +67,14 @@ pub extern "C" fn zakdomp_peaks(
         ring,
         threshold,
         window,
-        least,
-        centroid,
+        least_neighbours,
+        centroid_radius,
         xs,
         ys,
         strengths,
         held,
     );
     *added = added_of(a, *added);
+    *ties = ties_of(a, *ties);
     number_of(a)
 }

@@ -1,4 +1,4 @@
--- The entry's promise from that of the function it calls. Assumes nothing.
+-- Each entry's promise from that of the function it calls. Assumes nothing.
 use Prim.Native.Nat.{ℕ, zero, suc}
 use mathlib.Core.Path.{_≡_, refl, subst}
 use mathlib.Core.Bool.{Bool, true, false, cond}
@@ -12,6 +12,7 @@ use Rattle.capi_stages.specs.Results.{resultOr}
 use Rattle.capi_stages.proofs.Answers.{answer, result}
 use Rattle.capi_tools.specs.Holding.{letterOr, HoldingTold}
 
+-- ---- an item
 module _ (kind start time : ℕ) where
   abbrev state : Holding
   state = stateOf kind start time

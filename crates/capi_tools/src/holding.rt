@@ -2,9 +2,9 @@
 use retention::Holding;
 use retention::LONGEST;
 ghost use mathlib.Core.Path.{_≡_};
+ghost use Rattle.lists.specs.Buffer.{Written};
 ghost use Rattle.retention.specs.Retention.{numberOf};
 ghost use Rattle.retention.specs.Stream.{outputOf};
-ghost use Rattle.retention.specs.Answer.{Written};
 ghost use Rattle.capi_tools.specs.Holding.{letterOr, HoldingTold};
 
 // The number of an answer, 0 where there is no refusal.

@@ -15,26 +15,26 @@ use Rattle.float32.specs.Float32.{roundHalfAway}
 use Rattle.float32.specs.declared.Rounded.{Rounded}
 use Rattle.float32.specs.declared.Rounded.the-variants.{Natural, Negative, Beyond}
 use Rattle.center_of_mass.specs.declared.Centre.the-variants.{At, Outside}
-use Rattle.center_of_mass.specs.CenterOfMass.{placed, centreOn}
+use Rattle.center_of_mass.specs.CenterOfMass.{centreFrom, centreOn}
 
-pub not-natural : (r side : ℕ) (o : Rounded) → OneOf (1 ∷ 2 ∷ []) (tagOf rounded-type o) → Outside ≡ placed r side o
+pub not-natural : (r side : ℕ) (o : Rounded) → OneOf (1 ∷ 2 ∷ []) (tagOf rounded-type o) → Outside ≡ centreFrom r side o
 not-natural r side (Natural p) (inl h) = absurd (omega arith)
 not-natural r side (Natural p) (inr h) = absurd (omega arith)
 not-natural r side (Negative n) h = refl
 not-natural r side Beyond h = refl
 
 module _ (r side p : ℕ) where
-  pub too-low : p < r → Outside ≡ placed r side (Natural p)
+  pub too-low : p < r → Outside ≡ centreFrom r side (Natural p)
   too-low h = rw (lt-ltb p r h)
 
-  pub too-high : r ≤ p → side ≤ p + r → Outside ≡ placed r side (Natural p)
+  pub too-high : r ≤ p → side ≤ p + r → Outside ≡ centreFrom r side (Natural p)
   too-high h k = rw (le-ltb p r h, le-leb (side - r) p (omega arith))
 
-  pub in-place : r ≤ p → p + r < side → At p ≡ placed r side (Natural p)
+  pub in-place : r ≤ p → p + r < side → At p ≡ centreFrom r side (Natural p)
   in-place h k = rw (le-ltb p r h, lt-leb (side - r) p (omega arith))
 
 -- where there is a centre, it is the rounded seed, and the window lies within the side
-placed-in : (r side p : ℕ) (o : Rounded) → At p ≡ placed r side o → (o ≡ Natural p) × (r ≤ p) × (p + r < side)
+placed-in : (r side p : ℕ) (o : Rounded) → At p ≡ centreFrom r side o → (o ≡ Natural p) × (r ≤ p) × (p + r < side)
 placed-in r side p (Natural q) h = go (ltb q r) (leb (side - r) q) refl refl h
   where
     go : (a b : Bool) → ltb q r ≡ a → leb (side - r) q ≡ b → At p ≡ cond (a || b) Outside (At q) → (Natural q ≡ Natural p) × (r ≤ p) × (p + r < side)

@@ -1,4 +1,5 @@
--- A seed at a positive cell is accepted: it is refused by nothing, its window is about that cell, and the cell's weight makes the mass one above 0. Assumes nothing.
+-- A seed at a positive cell is accepted: it is refused by nothing, its window is about that cell, and the cell's weight makes the mass one
+-- above 0. Assumes nothing.
 use mathlib.Core.Path.{_≡_, refl, sym, ap, _∙_, subst}
 use mathlib.Core.Bool.{true, false, true≢false}
 use mathlib.Core.List.{List}
@@ -24,7 +25,7 @@ use Rattle.float32.proofs.Running.{exactly}
 use Rattle.float32.proofs.Bounds.{nearly-positive-only}
 use Rattle.center_of_mass.specs.declared.Centre.the-variants.{At}
 use Rattle.center_of_mass.specs.declared.Outcome.the-variants.{Accepted}
-use Rattle.center_of_mass.specs.CenterOfMass.{weightAt, window, windowSums, seedFits, centreOn, refined}
+use Rattle.center_of_mass.specs.CenterOfMass.{weightAt, cellsAbout, windowSums, seedFits, centreOn, refined}
 use Rattle.center_of_mass.proofs.Axis.{in-place}
 use Rattle.center_of_mass.proofs.Judgement.{none}
 use Rattle.center_of_mass.proofs.Outcomes.{with-mass}
@@ -48,7 +49,8 @@ module _ (p : ℕ) (h : p ≤ 4096) where
 
   rounds-to-itself : roundHalfAway (ofInt binary32 (pos p)) ≡ Natural p
   rounds-to-itself =
-      natural-of-value (ofInt binary32 (pos p)) false p 1 (lit< tt) (omega arith) (λ e. absurd (true≢false (sym e))) (ofInt-value binary32 p (omega arith)) ∙ ap Natural (half p)
+      natural-of-value (ofInt binary32 (pos p)) false p 1 (lit< tt) (omega arith) (λ e. absurd (true≢false (sym e)))
+      (ofInt-value binary32 p (omega arith)) ∙ ap Natural (half p)
     where
       half : (p : ℕ) → (2 * p + 1) / (2 * 1) ≡ p
       half p = omega arith
@@ -60,7 +62,7 @@ module _ (p : ℕ) (h : p ≤ 4096) where
 -- ---- the mass of a window about a positive cell
 module _ (r : ℕ) (m : List Float) (w h px py : ℕ) (u : All Usual m) (i : Inside r m w h px py) (p : T (lt zero (getD m (py * w + px) nan))) where
   -- what is known of each place of the window, at its centre
-  at-centre : (P : Place → Type 0) → All P (window r px py) → P (record { x = px; y = py })
+  at-centre : (P : Place → Type 0) → All P (cellsAbout r px py) → P (record { x = px; y = py })
   at-centre P h = at-block P (px - r) (px + r + 1) (py - r) (py + r + 1) h px py (omega arith) (omega arith) (omega arith) (omega arith)
 
   peak-mass : T (lt zero (windowSums r m w px py .sw))
@@ -69,7 +71,7 @@ module _ (r : ℕ) (m : List Float) (w h px py : ℕ) (u : All Usual m) (i : Ins
       let weight = weightAt m w (record { x = px; y = py }) in
       let above : T (lt zero weight) = subst (λ (z : Float). T (lt zero z)) (lift-above (getD m (py * w + px) nan) (is-true _ p)) p in
       let some = nearly-positive-only weight (unitsOf weight) 0 above (exactly weight (unitsOf weight) (at-centre _ each .0)) in
-      mass-positive m w (window r px py) (window-few r px py 16 (i .radius)) each (λ none. empty (unitsOf weight) some (at-centre _ none))
+      mass-positive m w (cellsAbout r px py) (window-few r px py 16 (i .radius)) each (λ none. empty (unitsOf weight) some (at-centre _ none))
     where
       empty : (n : ℕ) → 0 < n → n ≡ 0 → ⊥
       empty n a b = omega arith
@@ -86,9 +88,10 @@ peak-accepted r m w h px py u R W H e X X' Y Y' p =
     let a : px ≤ 4096 = omega arith in
     let b : py ≤ 4096 = omega arith in
     let i : Inside r m w h px py = record { radius = R; across = (X, X'); down = (Y, Y'); sides = (W, H); cells = e } in
-    let n = none r x y (length m) w h true (inl (refl, W, H, e)) R (sym (seed-whole px a)) (sym (seed-whole py b)) in (
+    let n = none r x y (length m) w h true (inl (refl, record { narrow = W; low = H; sized = e })) R (sym (seed-whole px a)) (sym (seed-whole py b)) in (
       div binary32 (s .sx) (s .sw),
       div binary32 (s .sy) (s .sw),
       s .sw,
-      rw (← n) (sym (with-mass r x y m w h px py (centre-itself px a r w X X') (centre-itself py b r h Y Y') s refl (is-true _ (peak-mass r m w h px py u i p)))),
+      rw (← n) (sym (with-mass r x y m w h px py (centre-itself px a r w X X') (centre-itself py b r h Y Y') s refl
+          (is-true _ (peak-mass r m w h px py u i p)))),
     )

@@ -6,14 +6,14 @@ use Prim.Native.Nat.{ℕ, zero, suc, _<_}
 use native.Mathlib.Omega.{arith}
 use lib.ListN.{length}
 use lib.Ieee.{Float, binary32, div, lt}
-use Rattle.lists.specs.Refusals.{valuesUnless}
+use Rattle.lists.specs.Refusals.{unless, valuesUnless}
 use Rattle.float32.specs.Float32.{zero as zero32}
 use Rattle.center_of_mass.specs.declared.Sums.{Sums}
 use Rattle.center_of_mass.specs.declared.Centre.{Centre}
 use Rattle.center_of_mass.specs.declared.Centre.the-variants.{At, Outside}
 use Rattle.center_of_mass.specs.declared.Outcome.{Outcome}
 use Rattle.center_of_mass.specs.declared.Outcome.the-variants.{Accepted, Rejected, OutOfBounds, IllConditioned, Refused}
-use Rattle.center_of_mass.specs.CenterOfMass.{windowSums, refusal, centreOn, meanOf, weighed, outcomeOf, unless, refined, numberOf, valuesOf}
+use Rattle.center_of_mass.specs.CenterOfMass.{windowSums, refusalOf, centreOn, meanOf, weighed, outcomeOf, refined, numberOf, valuesOf}
 use Rattle.center_of_mass.specs.CenterOfMass.{unmoved, meanValues, weighedValues, refinedValues}
 use Rattle.center_of_mass.specs.Promise.{Refined}
 
@@ -60,20 +60,20 @@ module _ (r : ℕ) (x y : Float) (hasMap : Bool) (m : List Float) (w h : ℕ) wh
   outcome-unrefused true k e = weighed-unrefused r x y m w (centreOn r w x) (centreOn r h y) k e
   outcome-unrefused false k e = let z : _≡_ {A = ℕ} 0 1 = cc in omega arith
 
-  number-is : numberOf (refined r x y hasMap m w h) ≡ refusal r x y hasMap (length m) w h
+  number-is : numberOf (refined r x y hasMap m w h) ≡ refusalOf r x y hasMap (length m) w h
   unfolding refined
-  number-is = numbered (refusal r x y hasMap (length m) w h) _ (outcome-unrefused hasMap)
+  number-is = numbered (refusalOf r x y hasMap (length m) w h) _ (outcome-unrefused hasMap)
     where
-      numbered : (k : ℕ) (o : Outcome) → Unrefused o → numberOf (unless k o) ≡ k
+      numbered : (k : ℕ) (o : Outcome) → Unrefused o → numberOf (unless Refused k o) ≡ k
       numbered zero o u = number-none o u
       numbered (suc k) o u = refl
 
   values-are : valuesOf (refined r x y hasMap m w h) ≡ refinedValues r x y hasMap m w h
   unfolding refined refinedValues outcomeOf
-  values-are = of (refusal r x y hasMap (length m) w h) hasMap
+  values-are = of (refusalOf r x y hasMap (length m) w h) hasMap
     where
       of : (k : ℕ) (b : Bool)
-          → valuesOf (unless k (cond b (weighed r x y m w (centreOn r w x) (centreOn r h y)) (Rejected x y)))
+          → valuesOf (unless Refused k (cond b (weighed r x y m w (centreOn r w x) (centreOn r h y)) (Rejected x y)))
           ≡ valuesUnless k (cond b (weighedValues r x y m w (centreOn r w x) (centreOn r h y)) (unmoved x y))
       of zero true = weighed-values r x y m w (centreOn r w x) (centreOn r h y)
       of zero false = refl
@@ -82,22 +82,22 @@ module _ (r : ℕ) (x y : Float) (hasMap : Bool) (m : List Float) (w h : ℕ) wh
   -- a refusal has a number
   pub refused-numbered : (n : ℕ) → refined r x y hasMap m w h ≡ Refused n → 0 < n
   unfolding refined
-  refused-numbered n e = go (refusal r x y hasMap (length m) w h) e
+  refused-numbered n e = go (refusalOf r x y hasMap (length m) w h) e
     where
-      go : (k : ℕ) → unless k (cond hasMap (outcomeOf r x y m w h) (Rejected x y)) ≡ Refused n → 0 < n
+      go : (k : ℕ) → unless Refused k (cond hasMap (outcomeOf r x y m w h) (Rejected x y)) ≡ Refused n → 0 < n
       go zero e = absurd (outcome-unrefused hasMap n e)
       go (suc k) e = let z : suc k ≡ n = cc in omega arith
 
   promised : (o : Outcome) → o ≡ refined r x y hasMap m w h → Refined r x y hasMap m w h o
-  promised o e = record { outcome = e; number = ap numberOf e ∙ number-is; values = ap valuesOf e ∙ values-are }
+  promised o e = record { answer = e; number = ap numberOf e ∙ number-is; values = ap valuesOf e ∙ values-are }
 
   -- ---- n is the number of the refusal
-  module _ (n : ℕ) (e : n ≡ refusal r x y hasMap (length m) w h) where
+  module _ (n : ℕ) (e : n ≡ refusalOf r x y hasMap (length m) w h) where
     pub refused : (n ≡ 0 → ⊥) → Refined r x y hasMap m w h (Refused n)
     unfolding refined
-    refused k = promised (Refused n) (ap Refused e ∙ go (refusal r x y hasMap (length m) w h) (λ z. k (e ∙ z)))
+    refused k = promised (Refused n) (ap Refused e ∙ go (refusalOf r x y hasMap (length m) w h) (λ z. k (e ∙ z)))
       where
-        go : (k : ℕ) → (k ≡ 0 → ⊥) → Refused k ≡ unless k (cond hasMap (outcomeOf r x y m w h) (Rejected x y))
+        go : (k : ℕ) → (k ≡ 0 → ⊥) → Refused k ≡ unless Refused k (cond hasMap (outcomeOf r x y m w h) (Rejected x y))
         go zero z = absurd (z refl)
         go (suc k) z = refl
 

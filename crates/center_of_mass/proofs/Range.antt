@@ -10,6 +10,7 @@ use lib.Dec.{T}
 use lib.ListN.{length}
 use lib.IntN.{pos}
 use lib.Ieee.{Float, nan, binary32, lt, add, div, ofInt}
+use Rattle.lists.specs.Refusals.{unless}
 use Rattle.lists.specs.Places.{All}
 use Rattle.lists.proofs.Places.{length-block}
 use Rattle.lists.proofs.Members.{all-at, all-block}
@@ -17,10 +18,10 @@ use Rattle.float32.specs.Float32.{zero as zero32, roundHalfAway}
 use Rattle.float32.specs.declared.Rounded.the-variants.{Natural}
 use Rattle.float32.proofs.Bounds.{UpTo, upto-more, whole-upto, add-upto}
 use Rattle.center_of_mass.specs.declared.Sums.{Sums}
-use Rattle.center_of_mass.specs.declared.Outcome.the-variants.{Accepted, Rejected, IllConditioned}
+use Rattle.center_of_mass.specs.declared.Outcome.the-variants.{Accepted, Rejected, IllConditioned, Refused}
 use Rattle.center_of_mass.specs.declared.Centre.{Centre}
 use Rattle.center_of_mass.specs.declared.Centre.the-variants.{At, Outside}
-use Rattle.center_of_mass.specs.CenterOfMass.{noSums, weightAt, window, windowSums, refusal, centreOn, meanOf, weighed, outcomeOf, unless, refined}
+use Rattle.center_of_mass.specs.CenterOfMass.{noSums, weightAt, cellsAbout, windowSums, refusalOf, centreOn, meanOf, weighed, outcomeOf, refined}
 use Rattle.center_of_mass.proofs.Axis.{centre-rounded, window-in}
 use Rattle.center_of_mass.proofs.Judgement.{radius-small, map-fits}
 use Rattle.center_of_mass.proofs.Weights.{Usual, Weighs, weighs, sx-is, sy-is, mean-upto}
@@ -34,15 +35,17 @@ pub record Inside (r : ℕ) (m : List Float) (w h cx cy : ℕ) : Type 0 where
   pub cells : length m ≡ w * h
 
 -- the cells of a window whose radius is at most n
-pub window-few : (r cx cy n : ℕ) → r ≤ n → length (window r cx cy) ≤ (2 * n + 1) * (2 * n + 1)
+pub window-few : (r cx cy n : ℕ) → r ≤ n → length (cellsAbout r cx cy) ≤ (2 * n + 1) * (2 * n + 1)
 window-few r cx cy n h =
     let a : cx + r + 1 - (cx - r) ≤ 2 * n + 1 = omega arith in
     let b : cy + r + 1 - (cy - r) ≤ 2 * n + 1 = omega arith in
     subst (λ (k : ℕ). k ≤ (2 * n + 1) * (2 * n + 1)) (sym (length-block (cx - r) (cx + r + 1) (cy - r) (cy + r + 1))) (mul-le-mul b a)
 
 module _ (r : ℕ) (m : List Float) (w h cx cy : ℕ) (i : Inside r m w h cx cy) where
-  pub window-weighs : All Usual m → All (λ p. Weighs (weightAt m w p)) (window r cx cy)
-  window-weighs u = all-block _ (cx - r) (cx + r + 1) (cy - r) (cy + r + 1) (λ x y a b c d. weighs _ (all-at Usual m u (y * w + x) nan (cell-in x y (omega (arith, i .across)) (omega (arith, i .down)))))
+  pub window-weighs : All Usual m → All (λ p. Weighs (weightAt m w p)) (cellsAbout r cx cy)
+  window-weighs u =
+      all-block _ (cx - r) (cx + r + 1) (cy - r) (cy + r + 1)
+      (λ x y a b c d. weighs _ (all-at Usual m u (y * w + x) nan (cell-in x y (omega (arith, i .across)) (omega (arith, i .down)))))
     where
       cell-in : (x y : ℕ) → x < w → y < h → y * w + x < length m
       cell-in x y a b = omega (arith, i .cells, mul-comm w h, suc-mul y w, mul-le-mul-right w b)
@@ -51,14 +54,16 @@ module _ (r : ℕ) (m : List Float) (w h cx cy : ℕ) (i : Inside r m w h cx cy)
     x-upto : UpTo (div binary32 (windowSums r m w cx cy .sx) (windowSums r m w cx cy .sw)) w
     x-upto =
         upto-more _ (cx + r + 1) w (omega (arith, i .across))
-        (rw (sx-is m w noSums (window r cx cy))
-        (mean-upto m w (window r cx cy) (window-few r cx cy 16 (i .radius)) (window-weighs u) (λ p. p .x) (cx + r) (omega (arith, i .across, i .sides)) (all-block _ (cx - r) (cx + r + 1) (cy - r) (cy + r + 1) (λ x y a b c d. omega arith)) p))
+        (rw (sx-is m w noSums (cellsAbout r cx cy))
+        (mean-upto m w (cellsAbout r cx cy) (window-few r cx cy 16 (i .radius)) (window-weighs u) (λ p. p .x) (cx + r)
+        (omega (arith, i .across, i .sides)) (all-block _ (cx - r) (cx + r + 1) (cy - r) (cy + r + 1) (λ x y a b c d. omega arith)) p))
 
     y-upto : UpTo (div binary32 (windowSums r m w cx cy .sy) (windowSums r m w cx cy .sw)) h
     y-upto =
         upto-more _ (cy + r + 1) h (omega (arith, i .down))
-        (rw (sy-is m w noSums (window r cx cy))
-        (mean-upto m w (window r cx cy) (window-few r cx cy 16 (i .radius)) (window-weighs u) (λ p. p .y) (cy + r) (omega (arith, i .down, i .sides)) (all-block _ (cx - r) (cx + r + 1) (cy - r) (cy + r + 1) (λ x y a b c d. omega arith)) p))
+        (rw (sy-is m w noSums (cellsAbout r cx cy))
+        (mean-upto m w (cellsAbout r cx cy) (window-few r cx cy 16 (i .radius)) (window-weighs u) (λ p. p .y) (cy + r)
+        (omega (arith, i .down, i .sides)) (all-block _ (cx - r) (cx + r + 1) (cy - r) (cy + r + 1) (λ x y a b c d. omega arith)) p))
 
 -- ---- what an accepted outcome says
 pub record Weighing (r : ℕ) (x y : Float) (m : List Float) (w h : ℕ) (cx cy mass : Float) : Type 0 where
@@ -73,7 +78,8 @@ pub record Weighing (r : ℕ) (x y : Float) (m : List Float) (w h : ℕ) (cx cy 
   pub mass-is : mass ≡ windowSums r m w px py .sw
 
 module _ (r : ℕ) (x y : Float) (m : List Float) (w h : ℕ) (cx cy mass : Float) where
-  mean-accepted : (s : Sums) → meanOf x y s ≡ Accepted cx cy mass → T (lt zero32 (s .sw)) × (cx ≡ div binary32 (s .sx) (s .sw)) × (cy ≡ div binary32 (s .sy) (s .sw)) × (mass ≡ s .sw)
+  mean-accepted : (s : Sums) → meanOf x y s ≡ Accepted cx cy mass
+      → T (lt zero32 (s .sw)) × (cx ≡ div binary32 (s .sx) (s .sw)) × (cy ≡ div binary32 (s .sy) (s .sw)) × (mass ≡ s .sw)
   mean-accepted s e = go (lt zero32 (s .sw)) e
     where
       go : (b : Bool) → cond b (Accepted (div binary32 (s .sx) (s .sw)) (div binary32 (s .sy) (s .sw)) (s .sw)) (IllConditioned x y) ≡ Accepted cx cy mass
@@ -102,9 +108,10 @@ module _ (r : ℕ) (x y : Float) (m : List Float) (w h : ℕ) (cx cy mass : Floa
 
   pub weighing : (hasMap : Bool) → refined r x y hasMap m w h ≡ Accepted cx cy mass → Weighing r x y m w h cx cy mass
   unfolding refined outcomeOf
-  weighing hasMap e = judged (refusal r x y hasMap (length m) w h) refl hasMap refl e
+  weighing hasMap e = judged (refusalOf r x y hasMap (length m) w h) refl hasMap refl e
     where
-      judged : (k : ℕ) → refusal r x y hasMap (length m) w h ≡ k → (b : Bool) → hasMap ≡ b → unless k (cond b (outcomeOf r x y m w h) (Rejected x y)) ≡ Accepted cx cy mass → Weighing r x y m w h cx cy mass
+      judged : (k : ℕ) → refusalOf r x y hasMap (length m) w h ≡ k → (b : Bool) → hasMap ≡ b
+          → unless Refused k (cond b (outcomeOf r x y m w h) (Rejected x y)) ≡ Accepted cx cy mass → Weighing r x y m w h cx cy mass
       judged zero n true t e =
           let f = map-fits r x y (length m) w h hasMap n t in
           weighing-at (radius-small r x y (length m) w h hasMap n) (f .narrow, f .low) (f .sized) (centreOn r w x) (centreOn r h y) refl refl e

@@ -34,8 +34,11 @@ Weighs y = Units binary32 y (unitsOf y) × (unitsOf y ≤ 8192 * 2 ^ low binary3
 plain : (m : ℕ) (e : ℤ) → fits binary32 (fin false m e) ≡ true → T (le (fin false m e) (ofInt binary32 (pos 8192))) → Weighs (fin false m e)
 plain m e f h =
     let top = ofInt binary32 (pos 8192) in
-    let v = own-units m e f in
-    (v, value-le (fin false m e) top (unitsOf (fin false m e)) (8192 * 2 ^ low binary32) (2 ^ low binary32) (pow-pos 149) v (whole-over top 8192 (2 ^ low binary32) (ofInt-value binary32 8192 (lit< tt))) h)
+    let v = own-units m e f in (
+      v,
+      value-le (fin false m e) top (unitsOf (fin false m e)) (8192 * 2 ^ low binary32) (2 ^ low binary32) (pow-pos 149) v
+          (whole-over top 8192 (2 ^ low binary32) (ofInt-value binary32 8192 (lit< tt))) h,
+    )
 
 positive : (x : Float) → lt zero x ≡ true → fits binary32 x ≡ true → T (le x (ofInt binary32 (pos 8192))) → Weighs x
 unfolding lt le ofInt
@@ -102,15 +105,20 @@ module _ (m : List Float) (w : ℕ) where
           in-one : (a L : ℕ) → a ≤ 4095 * (8192 * L) → a ≤ 2 ^ 60 * L
           in-one a L h = omega arith
 
-          one : (p : Place) → Weighs (weightAt m w p) → co p ≤ 4095 → Nearly (term co p) (co p * unitsAt p) 1 × (co p * unitsAt p ≤ 4095 * (8192 * 2 ^ low binary32))
+          one : (p : Place) → Weighs (weightAt m w p) → co p ≤ 4095
+              → Nearly (term co p) (co p * unitsAt p) 1 × (co p * unitsAt p ≤ 4095 * (8192 * 2 ^ low binary32))
           one p h k =
-              let b : co p * unitsAt p ≤ 4095 * (8192 * 2 ^ low binary32) = mul-le-mul k (h .1) in
-              (scale-nearly (ofInt binary32 (pos (co p))) (weight p) (co p) (unitsAt p) (ofInt-value binary32 (co p) (lt-of-le-of-lt k (lit< tt))) (h .0) (in-one (co p * unitsAt p) (2 ^ low binary32) b), b)
+              let b : co p * unitsAt p ≤ 4095 * (8192 * 2 ^ low binary32) = mul-le-mul k (h .1) in (
+                scale-nearly (ofInt binary32 (pos (co p))) (weight p) (co p) (unitsAt p)
+                    (ofInt-value binary32 (co p) (lt-of-le-of-lt k (lit< tt))) (h .0) (in-one (co p * unitsAt p) (2 ^ low binary32) b),
+                b,
+              )
 
       -- a coordinate of the centre of mass
       pub mean-upto : T (lt zero (withCells m w noSums ps .sw)) → UpTo (div binary32 (summed (term co) zero ps) (withCells m w noSums ps .sw)) (M + 1)
       mean-upto p =
-          quotient-upto (summed (term co) zero ps) (withCells m w noSums ps .sw) (sumOf (λ p. co p * unitsAt p) ps) (sumOf unitsAt ps) (1 + length ps) (0 + length ps) M
+          quotient-upto (summed (term co) zero ps) (withCells m w noSums ps .sw) (sumOf (λ p. co p * unitsAt p) ps) (sumOf unitsAt ps)
+          (1 + length ps) (0 + length ps) M
           (nearly-positive-only (withCells m w noSums ps .sw) (sumOf unitsAt ps) (0 + length ps) p mass-nearly)
           (sum-weighted (λ p. co p * unitsAt p) unitsAt M ps (all-map (λ p. co p ≤ M) _ (λ p h. mul-le-mul-right (unitsAt p) h) ps side))
           (omega arith) (steps M (length ps) narrow few) (omega arith) moment-nearly mass-nearly

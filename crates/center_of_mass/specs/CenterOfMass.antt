@@ -4,11 +4,10 @@ use mathlib.Core.Bool.{Bool, not, _&&_, _||_, cond}
 use mathlib.Core.List.{List, [], _∷_}
 use lib.Dec.{ltb, leb}
 use lib.ListN.{length, getD}
-use lib.IntN.{pos}
 use lib.Ieee.{Float, nan, binary32, add, mul, div, ofInt, lt, le}
 use Rattle.lists.specs.Places.{Place, block}
-use Rattle.lists.specs.Refusals.{lowest, valuesUnless, isLarge, isMisfit}
-use Rattle.float32.specs.Float32.{zero as zero32, abs, lift, roundHalfAway}
+use Rattle.lists.specs.Refusals.{unless, lowest, valuesUnless, isLarge, isMisfit}
+use Rattle.float32.specs.Float32.{zero as zero32, abs, lift, roundHalfAway, floatOf}
 use Rattle.float32.specs.declared.Rounded.{Rounded}
 use Rattle.float32.specs.declared.Rounded.the-variants.{Natural, Negative, Beyond}
 use Rattle.center_of_mass.specs.declared.Sums.{Sums}
@@ -28,8 +27,8 @@ weightAt m w p = lift (getD m (p .y * w + p .x) nan)
 -- one cell more
 abbrev pub withCell : List Float → ℕ → Sums → Place → Sums
 withCell m w s p = record {
-  sx = add binary32 (s .sx) (mul binary32 (ofInt binary32 (pos (p .x))) (weightAt m w p));
-  sy = add binary32 (s .sy) (mul binary32 (ofInt binary32 (pos (p .y))) (weightAt m w p));
+  sx = add binary32 (s .sx) (mul binary32 (floatOf (p .x)) (weightAt m w p));
+  sy = add binary32 (s .sy) (mul binary32 (floatOf (p .y)) (weightAt m w p));
   sw = add binary32 (s .sw) (weightAt m w p);
 }
 
@@ -41,17 +40,17 @@ withCells m w s (p ∷ ps) = withCells m w (withCell m w s p) ps
 
 -- the window of radius r about column cx and row cy, in row order. It lies within the map: the Rust's clamp never acts (`RefineAsPublished` of
 -- published)
-abbrev pub window : ℕ → ℕ → ℕ → List Place
-window r cx cy = block (cx - r) (cx + r + 1) (cy - r) (cy + r + 1)
+abbrev pub cellsAbout : ℕ → ℕ → ℕ → List Place
+cellsAbout r cx cy = block (cx - r) (cx + r + 1) (cy - r) (cy + r + 1)
 
 abbrev pub windowSums : ℕ → List Float → ℕ → ℕ → ℕ → Sums
-windowSums r m w cx cy = withCells m w noSums (window r cx cy)
+windowSums r m w cx cy = withCells m w noSums (cellsAbout r cx cy)
 
 -- ---- refusals
 -- finite, and at most 1,000,000 either way
 unfoldable pub seedFits : Float → Bool
 unfolding abs le ofInt
-seedFits x = le (abs x) (ofInt binary32 (pos 1000000))
+seedFits x = le (abs x) (floatOf 1000000)
 
 -- the conditions and their numbers; `cells` is the map's length. 1 and 2 are not judged without a map
 abbrev pub conditions : ℕ → Float → Float → Bool → ℕ → ℕ → ℕ → List (Bool × ℕ)
@@ -63,20 +62,20 @@ conditions r x y hasMap cells w h =
     ∷ []
 
 -- the lowest number, 0 for none
-unfoldable pub refusal : ℕ → Float → Float → Bool → ℕ → ℕ → ℕ → ℕ
-refusal r x y hasMap cells w h = lowest (conditions r x y hasMap cells w h)
+unfoldable pub refusalOf : ℕ → Float → Float → Bool → ℕ → ℕ → ℕ → ℕ
+refusalOf r x y hasMap cells w h = lowest (conditions r x y hasMap cells w h)
 
 -- ---- the outcome
 -- the window's centre on one axis, from the rounded seed: `Outside` at x < r and at x ≥ side - r
-abbrev pub placed : ℕ → ℕ → Rounded → Centre
-placed r side (Natural p) = cond (ltb p r || leb (side - r) p) Outside (At p)
-placed r side (Negative n) = Outside
-placed r side Beyond = Outside
+abbrev pub centreFrom : ℕ → ℕ → Rounded → Centre
+centreFrom r side (Natural p) = cond (ltb p r || leb (side - r) p) Outside (At p)
+centreFrom r side (Negative n) = Outside
+centreFrom r side Beyond = Outside
 
 -- the seed is rounded half away from zero
 unfoldable pub centreOn : ℕ → ℕ → Float → Centre
 unfolding roundHalfAway
-centreOn r side x = placed r side (roundHalfAway x)
+centreOn r side x = centreFrom r side (roundHalfAway x)
 
 -- the quotients of the sums, where the mass is above 0
 abbrev pub meanOf : Float → Float → Sums → Outcome
@@ -92,17 +91,12 @@ unfoldable pub outcomeOf : ℕ → Float → Float → List Float → ℕ → �
 unfolding withCells centreOn lt
 outcomeOf r x y m w h = weighed r x y m w (centreOn r w x) (centreOn r h y)
 
--- an outcome, unless there is a refusal
-abbrev pub unless : ℕ → Outcome → Outcome
-unless zero o = o
-unless (suc n) o = Refused (suc n)
-
 -- refusals come before outcomes
 unfoldable pub refined : ℕ → Float → Float → Bool → List Float → ℕ → ℕ → Outcome
-unfolding refusal outcomeOf
-refined r x y hasMap m w h = unless (refusal r x y hasMap (length m) w h) (cond hasMap (outcomeOf r x y m w h) (Rejected x y))
+unfolding refusalOf outcomeOf
+refined r x y hasMap m w h = unless Refused (refusalOf r x y hasMap (length m) w h) (cond hasMap (outcomeOf r x y m w h) (Rejected x y))
 
--- ---- document 01's number and values of each case: 0 for no refusal; x, y and the mass, which is 0 where the seed is unmoved
+-- ---- the number and the values of each case (RULES 5.3): 0 for no refusal; x, y and the mass, which is 0 where the seed is unmoved
 abbrev pub numberOf : Outcome → ℕ
 numberOf (Accepted x y m) = 0
 numberOf (Rejected x y) = 0
@@ -118,11 +112,11 @@ valuesOf (IllConditioned x y) = x ∷ y ∷ zero32 ∷ []
 valuesOf (Refused n) = []
 
 -- ---- and the values by the arguments
--- "the unmoved seed and 0"
+-- the unmoved seed and 0 (RULES 5.3)
 abbrev pub unmoved : Float → Float → List Float
 unmoved x y = x ∷ y ∷ zero32 ∷ []
 
--- "accepted with x, y and mass": the quotients of the sums, where the mass is above 0
+-- accepted with x, y and mass (RULES 5.3): the quotients of the sums, where the mass is above 0
 abbrev pub meanValues : Float → Float → Sums → List Float
 meanValues x y s = cond (lt zero32 (s .sw)) (div binary32 (s .sx) (s .sw) ∷ div binary32 (s .sy) (s .sw) ∷ s .sw ∷ []) (unmoved x y)
 
@@ -134,6 +128,6 @@ weighedValues r x y m w Outside c = unmoved x y
 
 -- with a map w wide and h high, or without one
 unfoldable pub refinedValues : ℕ → Float → Float → Bool → List Float → ℕ → ℕ → List Float
-unfolding refusal withCells centreOn lt
+unfolding refusalOf withCells centreOn lt
 refinedValues r x y hasMap m w h =
-    valuesUnless (refusal r x y hasMap (length m) w h) (cond hasMap (weighedValues r x y m w (centreOn r w x) (centreOn r h y)) (unmoved x y))
+    valuesUnless (refusalOf r x y hasMap (length m) w h) (cond hasMap (weighedValues r x y m w (centreOn r w x) (centreOn r h y)) (unmoved x y))

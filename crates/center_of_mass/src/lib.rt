@@ -3,7 +3,7 @@ ghost use mathlib.Core.Path.{_≡_};
 ghost use Prim.Native.Nat.{_+_, _*_, _≤_, _<_};
 ghost use lib.ListN.{length};
 ghost use Rattle.lists.specs.Places.{row, block};
-ghost use Rattle.center_of_mass.specs.CenterOfMass.{noSums, withCells, seedFits, refusal as refusalOf, centreOn, outcomeOf};
+ghost use Rattle.center_of_mass.specs.CenterOfMass.{noSums, withCells, seedFits, refusalOf, centreOn, outcomeOf};
 ghost use Rattle.center_of_mass.specs.Promise.{Refined};
 
 pub struct CenterOfMassRefiner {
@@ -80,14 +80,9 @@ fn refusal(radius: u32, x: f32, y: f32, has_map: bool, cells: usize, w: usize, h
     ensures { λ r. ⌜ r ≡ refusalOf radius x y «has_map» cells w h ⌝ }
 {
     if has_map {
-        if 4096 < w {
-            return 1;
-        }
-        if 4096 < h {
-            return 1;
-        }
-        if cells != w * h {
-            return 2;
+        let no = image_size::refusal(cells, w, h);
+        if no != 0 {
+            return no;
         }
     }
     if 16 < radius {

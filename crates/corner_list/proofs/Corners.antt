@@ -15,10 +15,10 @@ use Rattle.corner_list.specs.declared.Corner.{Corner}
 use Rattle.corner_list.specs.CornerList.{Slices, slices, xOf, yOf, strengthOf, placesOf, cornerAt, cornersOf, setCorner, withCorner, frontCorners}
 
 -- a field of each corner, one of them replaced
-map-set : (g : Corner → Float) (cs : List Corner) (i : ℕ) (c : Corner) → map g (set cs i c) ≡ set (map g cs) i (g c)
+map-set : {A : Type 0} (g : Corner → A) (cs : List Corner) (i : ℕ) (c : Corner) → map g (set cs i c) ≡ set (map g cs) i (g c)
 map-set g [] i c = refl
 map-set g (a ∷ cs) zero c = refl
-map-set g (a ∷ cs) (suc i) c = ap (λ (l : List Float). g a ∷ l) (map-set g cs i c)
+map-set {A} g (a ∷ cs) (suc i) c = ap (λ (l : List A). g a ∷ l) (map-set g cs i c)
 
 -- ---- a place of the buffer is one of each slice
 module _ (b : Slices) (n : ℕ) (h : n ≤ placesOf b) where
@@ -35,7 +35,8 @@ module _ (b : Slices) (n : ℕ) (h : n ≤ placesOf b) where
 pub slices-alike : {xs ys ss xs′ ys′ ss′ : List Float} → xs ≡ xs′ → ys ≡ ys′ → ss ≡ ss′ → slices xs ys ss ≡ slices xs′ ys′ ss′
 slices-alike p q r = rw (p, q, r)
 
-pub same-places : (b b′ : Slices) → length (b .xs) ≡ length (b′ .xs) → length (b .ys) ≡ length (b′ .ys) → length (b .strengths) ≡ length (b′ .strengths) → placesOf b ≡ placesOf b′
+pub same-places : (b b′ : Slices) → length (b .xs) ≡ length (b′ .xs) → length (b .ys) ≡ length (b′ .ys)
+    → length (b .strengths) ≡ length (b′ .strengths) → placesOf b ≡ placesOf b′
 same-places b b′ p q r = rw (p, q, r)
 
 -- ---- the first n corners
@@ -47,30 +48,32 @@ module _ (b : Slices) (n : ℕ) where
   corners-at i d h = getD-tab n (cornerAt b) i d h
 
   -- one slice of them
-  fields : (g : Corner → Float) (s : List Float) → ((i : ℕ) → g (cornerAt b i) ≡ getD s i nan) → n ≤ length s → map g (cornersOf b n) ≡ take n s
-  fields g s e h =
+  fields : {A : Type 0} (z : A) (g : Corner → A) (s : List A) → ((i : ℕ) → g (cornerAt b i) ≡ getD s i z) → n ≤ length s
+      → map g (cornersOf b n) ≡ take n s
+  fields z g s e h =
       let long : length (map g (cornersOf b n)) ≡ n = length-map (cornersOf b n) g ∙ corners-length in
       ext-getD (g (cornerAt b 0)) (map g (cornersOf b n)) (take n s) (long ∙ sym (length-take-le n s h))
       (λ i l.
       let k : i < n = rw long at l in
       List·getD-map g (cornersOf b n) i (cornerAt b 0) ∙ ap g (corners-at i (cornerAt b 0) k) ∙ e i
-      ∙ getD-any s i nan (g (cornerAt b 0)) (omega arith) ∙ sym (getD-take n s i (g (cornerAt b 0)) k))
+      ∙ getD-any s i z (g (cornerAt b 0)) (omega arith) ∙ sym (getD-take n s i (g (cornerAt b 0)) k))
 
   pub corners-xs : n ≤ length (b .xs) → map xOf (cornersOf b n) ≡ take n (b .xs)
-  corners-xs h = fields xOf (b .xs) (λ i. refl) h
+  corners-xs h = fields nan xOf (b .xs) (λ i. refl) h
 
   pub corners-ys : n ≤ length (b .ys) → map yOf (cornersOf b n) ≡ take n (b .ys)
-  corners-ys h = fields yOf (b .ys) (λ i. refl) h
+  corners-ys h = fields nan yOf (b .ys) (λ i. refl) h
 
   pub corners-strengths : n ≤ length (b .strengths) → map strengthOf (cornersOf b n) ≡ take n (b .strengths)
-  corners-strengths h = fields strengthOf (b .strengths) (λ i. refl) h
+  corners-strengths h = fields nan strengthOf (b .strengths) (λ i. refl) h
 
 -- ---- corners that were written are read back
 module _ (cs : List Corner) (b : Slices) (n : ℕ) (e : n ≡ length cs) where
-  field-front : (g : Corner → Float) (s : List Float) (i : ℕ) (d : Corner) → i < n → getD (front (map g cs) s) i nan ≡ g (getD cs i d)
-  field-front g s i d h =
+  field-front : {A : Type 0} (z : A) (g : Corner → A) (s : List A) (i : ℕ) (d : Corner) → i < n
+      → getD (front (map g cs) s) i z ≡ g (getD cs i d)
+  field-front z g s i d h =
       let l : i < length (map g cs) = rw (length-map cs g) (omega arith) in
-      List·getD-append (map g cs) (drop (length (map g cs)) s) nan i l ∙ getD-any (map g cs) i nan (g d) l ∙ List·getD-map g cs i d
+      List·getD-append (map g cs) (drop (length (map g cs)) s) z i l ∙ getD-any (map g cs) i z (g d) l ∙ List·getD-map g cs i d
 
   pub corners-front : cornersOf (frontCorners cs b) n ≡ cs
   corners-front =
@@ -79,7 +82,7 @@ module _ (cs : List Corner) (b : Slices) (n : ℕ) (e : n ≡ length cs) where
       (λ i l.
       let h : i < n = rw (corners-length (frontCorners cs b) n) at l in
       corners-at (frontCorners cs b) n i z h
-      ∙ corner-alike (field-front xOf (b .xs) i z h) (field-front yOf (b .ys) i z h) (field-front strengthOf (b .strengths) i z h))
+      ∙ corner-alike (field-front nan xOf (b .xs) i z h) (field-front nan yOf (b .ys) i z h) (field-front nan strengthOf (b .strengths) i z h))
     where
       corner-alike : {x y s : Float} {c : Corner} → x ≡ c .x → y ≡ c .y → s ≡ c .strength → record { x = x; y = y; strength = s } ≡ c
       corner-alike p q r = rw (p, q, r)
@@ -138,23 +141,23 @@ corners-same b n h =
     (same yOf (b .ys) (omega arith) (corners-ys b n (omega arith)))
     (same strengthOf (b .strengths) (omega arith) (corners-strengths b n (omega arith)))
   where
-    same : (g : Corner → Float) (s : List Float) → n ≤ length s → map g (cornersOf b n) ≡ take n s → s ≡ front (map g (cornersOf b n)) s
-    same g s h e = front-same n s h ∙ ap (λ (l : List Float). front l s) (sym e)
+    same : {A : Type 0} (g : Corner → A) (s : List A) → n ≤ length s → map g (cornersOf b n) ≡ take n s → s ≡ front (map g (cornersOf b n)) s
+    same {A} g s h e = front-same n s h ∙ ap (λ (l : List A). front l s) (sym e)
 
 module _ (cs : List Corner) (b : Slices) where
   -- other corners over them, at least as many
   pub corners-again : (ds : List Corner) → length cs ≤ length ds → frontCorners ds (frontCorners cs b) ≡ frontCorners ds b
   corners-again ds h = slices-alike (again xOf (b .xs)) (again yOf (b .ys)) (again strengthOf (b .strengths))
     where
-      again : (g : Corner → Float) (s : List Float) → front (map g ds) (front (map g cs) s) ≡ front (map g ds) s
+      again : {A : Type 0} (g : Corner → A) (s : List A) → front (map g ds) (front (map g cs) s) ≡ front (map g ds) s
       again g s = front-again (map g cs) (map g ds) s (omega (arith, length-map cs g, length-map ds g))
 
   -- a corner behind them
   pub corners-behind : (i : ℕ) → length cs ≤ i → cornerAt (frontCorners cs b) i ≡ cornerAt b i
-  corners-behind i h = rw (behind xOf (b .xs), behind yOf (b .ys), behind strengthOf (b .strengths))
+  corners-behind i h = rw (behind nan xOf (b .xs), behind nan yOf (b .ys), behind nan strengthOf (b .strengths))
     where
-      behind : (g : Corner → Float) (s : List Float) → getD (front (map g cs) s) i nan ≡ getD s i nan
-      behind g s = front-behind (map g cs) s i nan (omega (arith, length-map cs g))
+      behind : {A : Type 0} (z : A) (g : Corner → A) (s : List A) → getD (front (map g cs) s) i z ≡ getD s i z
+      behind z g s = front-behind (map g cs) s i z (omega (arith, length-map cs g))
 
   -- one of them replaced
   pub corners-set : (i : ℕ) (c : Corner) → i < length cs → withCorner i c (frontCorners cs b) ≡ frontCorners (set cs i c) b
@@ -162,12 +165,12 @@ module _ (cs : List Corner) (b : Slices) where
       with-corner-inside i c (frontCorners cs b) (omega (arith, long xOf (b .xs), long yOf (b .ys), long strengthOf (b .strengths)))
       ∙ slices-alike (put xOf (b .xs)) (put yOf (b .ys)) (put strengthOf (b .strengths))
     where
-      long : (g : Corner → Float) (s : List Float) → length cs ≤ length (front (map g cs) s)
+      long : {A : Type 0} (g : Corner → A) (s : List A) → length cs ≤ length (front (map g cs) s)
       long g s = omega (arith, length-append (map g cs) (drop (length (map g cs)) s), length-map cs g)
 
-      put : (g : Corner → Float) (s : List Float) → set (front (map g cs) s) i (g c) ≡ front (map g (set cs i c)) s
-      put g s =
-          front-set (map g cs) s i (g c) (omega (arith, length-map cs g)) ∙ ap (λ (l : List Float). front l s) (sym (map-set g cs i c))
+      put : {A : Type 0} (g : Corner → A) (s : List A) → set (front (map g cs) s) i (g c) ≡ front (map g (set cs i c)) s
+      put {A} g s =
+          front-set (map g cs) s i (g c) (omega (arith, length-map cs g)) ∙ ap (λ (l : List A). front l s) (sym (map-set g cs i c))
 
   -- one corner more
   pub corners-next : (n : ℕ) (c : Corner) → n ≡ length cs → n < placesOf b → withCorner n c (frontCorners cs b) ≡ frontCorners (cs ++ (c ∷ [])) b
@@ -176,6 +179,6 @@ module _ (cs : List Corner) (b : Slices) where
       with-corner-inside n c (frontCorners cs b) (omega (arith, front-xs cs b n e l, front-ys cs b n e l, front-strengths cs b n e l))
       ∙ slices-alike (put xOf (b .xs) (omega arith)) (put yOf (b .ys) (omega arith)) (put strengthOf (b .strengths) (omega arith))
     where
-      put : (g : Corner → Float) (s : List Float) → n < length s → set (front (map g cs) s) n (g c) ≡ front (map g (cs ++ (c ∷ []))) s
-      put g s l =
-          front-next (map g cs) s n (g c) (e ∙ sym (length-map cs g)) l ∙ ap (λ (l : List Float). front l s) (sym (map-append g cs (c ∷ [])))
+      put : {A : Type 0} (g : Corner → A) (s : List A) → n < length s → set (front (map g cs) s) n (g c) ≡ front (map g (cs ++ (c ∷ []))) s
+      put {A} g s l =
+          front-next (map g cs) s n (g c) (e ∙ sym (length-map cs g)) l ∙ ap (λ (l : List A). front l s) (sym (map-append g cs (c ∷ [])))

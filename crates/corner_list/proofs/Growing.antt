@@ -4,7 +4,6 @@ use native.Mathlib.Omega.{arith}
 use mathlib.Core.Path.{_≡_, refl, sym, ap, _∙_}
 use mathlib.Core.List.{List, [], _∷_, _++_, map, map-append, append-assoc, append-nil}
 use lib.ListN.{length, set, length-append, length-map}
-use lib.Ieee.{Float}
 use Rattle.lists.specs.Buffer.{front, placed}
 use Rattle.lists.proofs.Buffer.{placed-none, placed-set, placed-length, front-more}
 use Rattle.corner_list.specs.declared.Corner.{Corner}
@@ -12,13 +11,13 @@ use Rattle.corner_list.specs.CornerList.{Slices, xOf, yOf, strengthOf, p
 use Rattle.corner_list.proofs.Corners.{slices-alike, same-places, with-corner-inside}
 
 -- ---- one slice
-module _ (g : Corner → Float) (done : List Corner) (held k : ℕ) (d : List Float) (e : k ≡ length done) where
+module _ {A : Type 0} (g : Corner → A) (done : List Corner) (held k : ℕ) (d : List A) (e : k ≡ length done) where
   slice-put : (c : Corner) → held + k < length d → set (placed held (map g done) d) (held + k) (g c) ≡ placed held (map g (done ++ (c ∷ []))) d
   slice-put c h =
       let n : held + k ≡ held + length (map g done) = omega (arith, length-map done g) in
       ap (λ (i : ℕ). set (placed held (map g done) d) i (g c)) n
       ∙ placed-set held (map g done) d (g c) (omega (arith, length-map done g))
-      ∙ ap (λ (l : List Float). placed held l d) (sym (map-append g done (c ∷ [])))
+      ∙ ap (λ (l : List A). placed held l d) (sym (map-append g done (c ∷ [])))
 
   slice-length : held + k ≤ length d → length (placed held (map g done) d) ≡ length d
   slice-length h = placed-length held (map g done) d (omega (arith, length-map done g))
@@ -46,7 +45,8 @@ module _ (all rest : List Corner) (held k : ℕ) (b₀ b : Slices) (at : Growing
 
   -- the same corners left, by another name
   pub growing-to : (rest′ : List Corner) → rest ≡ rest′ → Growing all rest′ held k b₀ b
-  growing-to rest′ e = record { done = at .done; count = at .count; split = at .split ∙ ap (λ (l : List Corner). at .done ++ l) e; fits = at .fits; is = at .is }
+  growing-to rest′ e =
+      record { done = at .done; count = at .count; split = at .split ∙ ap (λ (l : List Corner). at .done ++ l) e; fits = at .fits; is = at .is }
 
   pub growing-xs : length (b .xs) ≡ length (b₀ .xs)
   growing-xs = ap (λ (s : Slices). length (s .xs)) (at .is) ∙ slice-length xOf (at .done) held k (b₀ .xs) (at .count) (omega (arith, upto, at .fits))
@@ -55,7 +55,9 @@ module _ (all rest : List Corner) (held k : ℕ) (b₀ b : Slices) (at : Growing
   growing-ys = ap (λ (s : Slices). length (s .ys)) (at .is) ∙ slice-length yOf (at .done) held k (b₀ .ys) (at .count) (omega (arith, upto, at .fits))
 
   pub growing-strengths : length (b .strengths) ≡ length (b₀ .strengths)
-  growing-strengths = ap (λ (s : Slices). length (s .strengths)) (at .is) ∙ slice-length strengthOf (at .done) held k (b₀ .strengths) (at .count) (omega (arith, upto, at .fits))
+  growing-strengths =
+      ap (λ (s : Slices). length (s .strengths)) (at .is)
+      ∙ slice-length strengthOf (at .done) held k (b₀ .strengths) (at .count) (omega (arith, upto, at .fits))
 
   -- there is a place for the next corner, and it is put there
   module _ (c : Corner) (rest′ : List Corner) (e : rest ≡ c ∷ rest′) where
@@ -77,7 +79,7 @@ module _ (all rest : List Corner) (held k : ℕ) (b₀ b : Slices) (at : Growing
               ∙ slices-alike (one xOf (b₀ .xs) (omega arith)) (one yOf (b₀ .ys) (omega arith)) (one strengthOf (b₀ .strengths) (omega arith));
         }
       where
-        one : (g : Corner → Float) (d : List Float) → held + k < length d
+        one : {A : Type 0} (g : Corner → A) (d : List A) → held + k < length d
             → set (placed held (map g (at .done)) d) (held + k) (g c) ≡ placed held (map g (at .done ++ (c ∷ []))) d
         one g d l = slice-put g (at .done) held k d (at .count) c l
 
@@ -89,8 +91,9 @@ module _ (all rest : List Corner) (held k : ℕ) (b₀ b : Slices) (at : Growing
 
 -- ---- a list behind another, with which the buffer begins
 module _ (cs more : List Corner) (held : ℕ) (b : Slices) (e : held ≡ length cs) where
-  slice-more : (g : Corner → Float) (d : List Float) → placed held (map g more) (front (map g cs) d) ≡ front (map g (cs ++ more)) d
-  slice-more g d = front-more (map g cs) (map g more) d held (e ∙ sym (length-map cs g)) ∙ ap (λ (l : List Float). front l d) (sym (map-append g cs more))
+  slice-more : {A : Type 0} (g : Corner → A) (d : List A) → placed held (map g more) (front (map g cs) d) ≡ front (map g (cs ++ more)) d
+  slice-more {A} g d =
+      front-more (map g cs) (map g more) d held (e ∙ sym (length-map cs g)) ∙ ap (λ (l : List A). front l d) (sym (map-append g cs more))
 
   pub corners-more : placedCorners held more (frontCorners cs b) ≡ frontCorners (cs ++ more) b
   corners-more = slices-alike (slice-more xOf (b .xs)) (slice-more yOf (b .ys)) (slice-more strengthOf (b .strengths))

@@ -6,16 +6,16 @@ use Rattle.lists.proofs.Tests.{and-parts, and-on}
 use Rattle.float32.specs.Float32.{zero, between}
 use Rattle.float32.proofs.Bounds.{UpTo, upto-between}
 use Rattle.corner_list.specs.declared.Corner.{Corner}
-use Rattle.corner_list.specs.CornerList.{largest, isInside}
+use Rattle.corner_list.specs.CornerList.{largestSide, isInside}
 
 module _ (c : Corner) where
-  pub inside-parts : isInside c ≡ true → (between zero largest (c .x) ≡ true) × (between zero largest (c .y) ≡ true)
+  pub inside-parts : isInside c ≡ true → (between zero largestSide (c .x) ≡ true) × (between zero largestSide (c .y) ≡ true)
   unfolding isInside
-  inside-parts e = and-parts (between zero largest (c .x)) (between zero largest (c .y)) e
+  inside-parts e = and-parts (between zero largestSide (c .x)) (between zero largestSide (c .y)) e
 
   -- a corner of an image with sides up to 4,096
   pub inside-upto : (w h : ℕ) → w ≤ 4096 → h ≤ 4096 → UpTo (c .x) w → UpTo (c .y) h → isInside c ≡ true
   unfolding isInside
   inside-upto w h p q u v =
-      sym (and-on (between zero largest (c .x)) (between zero largest (c .y)) (upto-between (c .x) largest w 4096 p (refl, refl) u))
-      ∙ upto-between (c .y) largest h 4096 q (refl, refl) v
+      sym (and-on (between zero largestSide (c .x)) (between zero largestSide (c .y)) (upto-between (c .x) largestSide w 4096 p (refl, refl) u))
+      ∙ upto-between (c .y) largestSide h 4096 q (refl, refl) v

@@ -1,4 +1,4 @@
--- A list of corners in a buffer of three slices, the shortest counting ("corner room" in document 01).
+-- A list of corners in a buffer of three slices, the shortest counting (RULES 1.5, 1.6).
 use Prim.Native.Nat.{ℕ, min}
 use mathlib.Core.Bool.{Bool, false, _&&_, cond}
 use mathlib.Core.List.{List, map}
@@ -12,12 +12,12 @@ use Rattle.float32.specs.Float32.{zero, between}
 use Rattle.corner_list.specs.declared.Corner.{Corner}
 
 -- 4,096, the largest side of an image
-abbrev pub largest : Float
-largest = fin false 1 (pos 12)
+abbrev pub largestSide : Float
+largestSide = fin false 1 (pos 12)
 
 -- a corner that the box and the merge take: its coordinates are from 0 to 4,096
 unfoldable pub isInside : Corner → Bool
-isInside c = between zero largest (c .x) && between zero largest (c .y)
+isInside c = between zero largestSide (c .x) && between zero largestSide (c .y)
 
 -- the contents of the three slices
 pub record Slices : Type 0 where

@@ -10,8 +10,8 @@ use lib.Ieee.{Float}
 use Rattle.lists.specs.Places.{All}
 use Rattle.lists.proofs.Members.{all-map}
 use Rattle.corner_list.proofs.Placed.{corners-placed}
-use Rattle.detect.specs.Peaks.{Reading}
-use Rattle.detect.specs.Detect.{readIn, peaksIn, peaksBy, startAt, startsIn, conditions}
+use Rattle.detect.specs.Peaks.{CellTests}
+use Rattle.detect.specs.Detect.{readIn, peaksIn, peaksBy, startAt, startsIn, tiesIn, conditions}
 use Rattle.detect.proofs.Choice.{peaks-in-map}
 use Rattle.detect.proofs.Answers.{Clear, Fitted, clear, sound, unrefused, added-tells}
 use Rattle.demands.specs.PeakCall.{PeakCall, searchIn}
@@ -20,10 +20,13 @@ use Rattle.demands.proofs.Names.{Small, names-only}
 
 module _ (m : List Float) (w h : ℕ) (p : PeakCall m w h) where
   no-fault : Clear (conditions (length m) w h (p .ring) (p .window) (p .radius))
-  no-fault = clear (length m) w h (p .ring) (p .window) (p .radius) (unrefused _ _ _ _ _ _ (p .promise))
+  no-fault = clear (length m) w h (p .ring) (p .window) (p .radius) (unrefused _ _ _ _ _ _ _ _ (p .promise))
 
-  fitted : Fitted (startsIn m (searchIn p)) (p .held) (p .before) (p .added) (p .after)
-  fitted = added-tells _ no-fault _ _ _ _ _ (p .promise) (p .added) refl
+  fitted : Fitted (startsIn m (searchIn p)) (tiesIn m (searchIn p)) (p .held) (p .before) (p .added) (p .ties) (p .after)
+  fitted = added-tells _ no-fault _ _ _ _ _ _ (p .promise) (p .added) (p .ties) refl
+
+  pub ties-are : p .ties ≡ tiesIn m (searchIn p)
+  ties-are = fitted .tied
 
   pub added-are : programList p ≡ startsIn m (searchIn p)
   added-are = rw (fitted .buffer) (corners-placed (p .held) (startsIn m (searchIn p)) (p .before) (omega (arith, fitted .fits)) (p .added) (fitted .count))
@@ -31,13 +34,13 @@ module _ (m : List Float) (w h : ℕ) (p : PeakCall m w h) where
   names-are : map position (programList p) ≡ map nameOf (peaksIn m (searchIn p))
   names-are = ap (map position) added-are ∙ map-map position (startAt m (searchIn p)) (peaksIn m (searchIn p))
 
-  peaks-small : (v : Reading) → All Small (peaksBy v (searchIn p))
+  peaks-small : (v : CellTests) → All Small (peaksBy v (searchIn p))
   peaks-small v =
       let k = sound (length m) w h (p .ring) (p .window) (p .radius) no-fault in
       all-map (λ q. (q .x < w) × (q .y < h)) Small (λ q i. (omega (arith, i .0, k .wide), omega (arith, i .1, k .high))) (peaksBy v (searchIn p))
-      (peaks-in-map v w h (searchIn p .border) (p .window) (p .least))
+      (peaks-in-map v w h (searchIn p .border) (p .window) (p .«least_neighbours»))
 
-  pub named : (v : Reading) → (map position (programList p) ≡ map nameOf (peaksBy v (searchIn p))) ↔ (peaksIn m (searchIn p) ≡ peaksBy v (searchIn p))
+  pub named : (v : CellTests) → (map position (programList p) ≡ map nameOf (peaksBy v (searchIn p))) ↔ (peaksIn m (searchIn p) ≡ peaksBy v (searchIn p))
   named v = (
     λ e. names-only _ _ (peaks-small (readIn m (searchIn p))) (peaks-small v) (sym names-are ∙ e),
     λ e. names-are ∙ ap (map nameOf) e,

@@ -40,7 +40,7 @@ map-is c =
 refined-is : (radius : ℕ) (x y : Float) (hasMap : Bool) (m : List Float) (w h : ℕ) (r : Outcome) → Refined radius x y hasMap m w h r → center.numberOf r ≡ 0
     → r ≡ cond hasMap (center.outcomeOf radius x y m w h) (Rejected x y)
 unfolding center.refined
-refined-is radius x y hasMap m w h r f none = f .outcome ∙ rw (sym (f .number) ∙ none)
+refined-is radius x y hasMap m w h r f none = f .answer ∙ rw (sym (f .number) ∙ none)
 
 box-is : (c : RoiContext) (s : Corner) (r : RoiAnswer) → Boxed c s r → multiscale.numberOf r ≡ 0
     → r ≡ multiscale.bounds (multiscale.spanOn c (c .width) (s .x)) (multiscale.spanOn c (c .height) (s .y))
@@ -56,14 +56,14 @@ merged-is : (radius : Float) (places count : ℕ) (b b′ : Slices) (n : ℕ) �
     → cornersOf b′ n ≡ merge.resultOf radius (cornersOf b count)
 merged-is radius places count b b′ n f =
     let left = merge.resultOf radius (cornersOf b count) in
-    let k = kept-is (merge.refusalOf radius places count b) n (length left) (f .answered) in
+    let k = kept-is (merge.refusalOf radius places count b) n (length left) (f .answer) in
     ap (λ (s : Slices). cornersOf s n) (f .buffer ∙ ap (λ (j : ℕ). merge.bufferOf j left b) (k .0)) ∙ corners-front left b n (k .1)
 
 slice-is : (radius : Float) (count : ℕ) (cs cs′ : List Corner) (b b′ : Slices) (n : ℕ) → MergesSlice radius count cs b (Kept n) cs′ b′
     → take n cs′ ≡ merge.resultOf radius (take count cs)
 slice-is radius count cs cs′ b b′ n f =
     let left = merge.resultOf radius (take count cs) in
-    let k = kept-is (refusalFor radius count cs b) n (length left) (f .answered) in
+    let k = kept-is (refusalFor radius count cs b) n (length left) (f .answer) in
     ap (take n) (f .corners ∙ ap (λ (j : ℕ). cornersAfter j left cs) (k .0)) ∙ front-take left cs n (k .1)
 
 pub bit-for-bit : BitForBit
@@ -76,6 +76,6 @@ bit-for-bit = record {
   «compute_roi» = box-is;
   «merge_corners_simple» = λ radius count b b′ n f. merged-is radius _ count b b′ n f;
   «merge_corner_slice» = slice-is;
-  «find_corners» = λ c. finished-tells (c .parameters) (c .img) (c .w) (c .h) (c .before) (c .count) (c .after) (c .promise) .corners;
+  «find_corners» = λ c. finished-tells (c .parameters) (c .img) (c .w) (c .h) (c .before) (c .count) (c .ties) (c .after) (c .promise) .corners;
   find = λ input text text′ end f. rw (f .holds) (front-take (outputOf input) text end (f .ends));
 }

@@ -1,4 +1,4 @@
--- Each case of the table comes out as document 01 says, by computation. Assumes nothing.
+-- Each case of the table comes out as RULES 14 says, by computation. Assumes nothing.
 use mathlib.Core.Path.{refl}
 use lib.Ieee.{mul, le, ofInt}
 use Rattle.multiscale.specs.Multiscale.{roiOf}

@@ -11,7 +11,9 @@ use borrow.Author.Tests.{eqb-false}
 use Rattle.lists.specs.Places.{any}
 use Rattle.merge_radius.specs.MergeRadius.{radiusOutside}
 use Rattle.stream.specs.declared.Header.{Header}
-use Rattle.stream.specs.Stream.{u8, u16, u32, known as isKnown, bodyLength, bodyOf, behind, headerOf, rangeOutside, Reading, accepted, refused, sidesFault, parametersFault, paddingFault, bodyFault, recordFault, readRecord, recordsFor, readPixels, readParameters, readFrame}
+use Rattle.stream.specs.Stream.{u8, u16, u32, known as isKnown, bodyLength, bodyOf, behind, headerOf, rangeOutside, Reading, accepted}
+use Rattle.stream.specs.Stream.{refused, sidesFault, parametersFault, paddingFault, bodyFault, recordFault, readRecord, recordsFor}
+use Rattle.stream.specs.Stream.{readPixels, readParameters, readFrame}
 use Rattle.demands.specs.Numbers.{OneOf, Refuses}
 use Rattle.demands.proofs.Tables.{listed, cond-one, above-zero}
 
@@ -49,7 +51,8 @@ body-known kind left body =
     let parameters = parametersFault (u8 body 0) (u8 body 5) (u8 body 7) (u32 body 8) in
     let padding = paddingFault left body in
     either (eqb kind 1) sides (cond (eqb kind 2) parameters (cond (eqb kind 3) padding 0)) (sides-known (u16 body 0) (u16 body 2))
-    (either (eqb kind 2) parameters (cond (eqb kind 3) padding 0) (parameters-known (u8 body 0) (u8 body 5) (u8 body 7) (u32 body 8)) (either (eqb kind 3) padding 0 (padding-known left body) (known 0 refl)))
+    (either (eqb kind 2) parameters (cond (eqb kind 3) padding 0) (parameters-known (u8 body 0) (u8 body 5) (u8 body 7) (u32 body 8))
+    (either (eqb kind 3) padding 0 (padding-known left body) (known 0 refl)))
 
 record-known : (due left : ℕ) (s : List ℕ) → Known (recordFault due left s)
 unfolding recordFault
@@ -81,7 +84,8 @@ unfolding readPixels
 pixels-few zero header left pixels s =
     record-few 4 left s (λ body rest. accepted header pixels) (λ body rest k e. let z : _≡_ {A = ℕ} 0 1 = cc in absurd (let no : ⊥ = omega arith in no))
 pixels-few (suc n) header left pixels s =
-    record-few 3 left s (λ body rest. readPixels n header (left - 32) (pixels ++ take left body) rest) (λ body rest. pixels-few n header (left - 32) (pixels ++ take left body) rest)
+    record-few 3 left s (λ body rest. readPixels n header (left - 32) (pixels ++ take left body) rest)
+    (λ body rest. pixels-few n header (left - 32) (pixels ++ take left body) rest)
 
 pub frame-few : (s : List ℕ) → Refuses refused (1 ∷ 3 ∷ 5 ∷ 6 ∷ 7 ∷ 11 ∷ []) (readFrame s)
 unfolding readFrame readParameters

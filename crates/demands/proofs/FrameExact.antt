@@ -1,6 +1,5 @@
 -- From `finished-tells` of frame and `pass-same` of frame_pass; the maps alike from `peaks-alike` of agreement. Assumes nothing.
 use Prim.Native.Nat.{ℕ}
-use native.Mathlib.Nat.{le-trans, mul-comm}
 use mathlib.Core.Path.{_≡_, sym, ap, _∙_, subst}
 use mathlib.Core.Logic.{_↔_}
 use mathlib.Core.List.{[], _∷_, map}
@@ -8,30 +7,26 @@ use lib.ListN.{length}
 use lib.Ieee.{nan}
 use Rattle.lists.specs.Places.{All}
 use Rattle.lists.specs.Refusals.{lowest}
-use Rattle.lists.proofs.Tests.{and-parts}
 use Rattle.lists.proofs.Members.{all-map, all-both}
 use Rattle.float32.specs.Float32.{lift}
 use Rattle.float32.specs.Value.{IsWhole}
-use Rattle.response.specs.Patch.{View, cols, rows, cells}
+use Rattle.response.specs.Patch.{View, mapWidth, mapHeight, cells}
 use Rattle.response.specs.Exact.{fifthsIn}
-use Rattle.response.proofs.Outcome.{cols-le, rows-le}
-use Rattle.response.proofs.Map.{cells-length}
 use Rattle.accuracy.proofs.Cells.{map-accurate}
 use Rattle.agreement.proofs.Lists.{peaks-alike}
 use Rattle.detect.specs.declared.Search.{Search}
-use Rattle.ring.specs.Ring.{isRing}
 use Rattle.detect.specs.Detect.{peaksIn}
 use Rattle.detect.specs.Detect as detect
 use Rattle.detect.specs.Exact.{exact, exactPeaks}
-use Rattle.detect.proofs.Answers.{sound-clear}
-use Rattle.frame_pass.specs.declared.FrameParams.{FrameParams}
-use Rattle.frame_pass.specs.Refusals.{parametersFit, conditions}
-use Rattle.frame_pass.specs.Pass.{Pass, searchOn, computedChoice, exactChoice, framePass}
-use Rattle.frame_pass.specs.Theorems.{Sound}
+use Rattle.patch_corners.specs.declared.FrameParams.{FrameParams}
+use Rattle.patch_corners.specs.OneMap.{searchOn, computedChoice, exactChoice}
+use Rattle.patch_corners.proofs.Fine.{Fine}
+use Rattle.frame_pass.specs.Refusals.{conditions}
+use Rattle.frame_pass.specs.Pass.{Pass, framePass}
+use Rattle.frame_pass.specs.Theorems.{SoundFrame}
 use Rattle.frame_pass.proofs.Refusals.{admitted, admitted-sound}
-use Rattle.frame_pass.proofs.Maps.{ranges, Fine, looked-fine}
+use Rattle.frame_pass.proofs.Maps.{map-clear, looked-fine, none-dropped}
 use Rattle.frame_pass.proofs.Same.{pass-same}
-use Rattle.frame_pass.proofs.Accepting.{none-dropped}
 use Rattle.frame_pass.proofs.Inside.{corners-inside, boxes-answered}
 use Rattle.frame.specs.Frame.{tooMany, refusalOf}
 use Rattle.frame.proofs.Callers.{finished-tells}
@@ -44,20 +39,21 @@ use Rattle.demands.proofs.Added.{named}
 
 pub frame-exact : FrameExact
 frame-exact c alike =
-    let f = finished-tells (c .parameters) (c .img) (c .w) (c .h) (c .before) (c .count) (c .after) (c .promise) in
+    let f = finished-tells (c .parameters) (c .img) (c .w) (c .h) (c .before) (c .count) (c .ties) (c .after) (c .promise) in
     let same = ap (λ (q : Pass). q .corners) (pass-same (c .parameters) (c .img) (c .w) (c .h) alike) in
     record { corners = f .corners ∙ same; count = f .count ∙ ap length same }
 
 -- ---- alike, by what peak finding adds
 pub alike-by-name : AlikeByName
 alike-by-name p v c same =
-    subst (λ (s : Search). (map position (programList c) ≡ map nameOf (exactPeaks (λ q. fifthsIn v (q .x) (q .y)) s)) ↔ (peaksIn (cells v) s ≡ exactPeaks (λ q. fifthsIn v (q .x) (q .y)) s))
-    same (named (cells v) (cols v) (rows v) c (exact (λ q. fifthsIn v (q .x) (q .y)) (searchIn c .threshold)))
+    subst (λ (s : Search). (map position (programList c) ≡ map nameOf (exactPeaks (λ q. fifthsIn v (q .x) (q .y)) s))
+    ↔ (peaksIn (cells v) s ≡ exactPeaks (λ q. fifthsIn v (q .x) (q .y)) s))
+    same (named (cells v) (mapWidth v) (mapHeight v) c (exact (λ q. fifthsIn v (q .x) (q .y)) (searchIn c .threshold)))
 
 -- ---- the maps of a frame
 
 -- a frame that finished was not refused before its pass
-pub sound : (c : FrameCall) → Sound (c .parameters) (c .img) (c .w) (c .h)
+pub sound : (c : FrameCall) → SoundFrame (c .parameters) (c .img) (c .w) (c .h)
 unfolding refusalOf
 sound c =
     let cells = length (c .before .map) in
@@ -66,31 +62,20 @@ sound c =
     ((tooMany (framePass (c .parameters) (c .img) (c .w) (c .h) (computedChoice (c .parameters))) (c .before), 10) ∷ []) (sym (c .promise .number)) in
     admitted-sound (c .parameters) (c .img) (c .w) (c .h) cells places (admitted (c .parameters) (length (c .img)) (c .w) (c .h) cells places none) (c .bytes)
 
-fine-maps : (c : FrameCall) → All (Fine (c .parameters)) (mapsIn c)
+pub fine-maps : (c : FrameCall) → All (Fine (c .parameters)) (mapsIn c)
 fine-maps c = looked-fine (c .parameters) (c .img) (c .w) (c .h) (exactChoice (c .parameters)) (sound c)
-
-map-searched : (p : FrameParams) (v : View) → Fine p v → lowest (detect.conditions (length (cells v)) (cols v) (rows v) (p .ring) (p .window) (p .centroid)) ≡ 0
-unfolding parametersFit
-map-searched p v f =
-    sound-clear (length (cells v)) (cols v) (rows v) (p .ring) (p .window) (p .centroid)
-    (record {
-      wide = le-trans (cols-le v) (f .narrow);
-      high = le-trans (rows-le v) (f .low);
-      whole = cells-length v ∙ mul-comm (rows v) (cols v);
-      ring-is = and-parts (isRing (p .ring)) _ (f .fit) .0;
-      in-window = ranges p (f .fit) .window;
-      in-radius = ranges p (f .fit) .centroid;
-    }) .none
 
 pub maps-searched : MapsSearched
 maps-searched c =
     let p = c .parameters in
-    all-map (Fine p) (λ v. lowest (detect.conditions (length (cells v)) (cols v) (rows v) (p .ring) (p .window) (p .centroid)) ≡ 0) (map-searched p) (mapsIn c) (fine-maps c)
+    all-map (Fine p) (λ v. lowest (detect.conditions (length (cells v)) (mapWidth v) (mapHeight v) (p .ring) (p .window)
+    (p .«centroid_radius»)) ≡ 0) (λ v f. map-clear p v f .none) (mapsIn c) (fine-maps c)
 
 -- ---- alike, by ties
 map-alike : (p : FrameParams) (k : ℕ) → IsWhole (lift (p .threshold)) k → (v : View) → Fine p v → Alike p v ↔ WithoutTie p v
 map-alike p k whole v f =
-    peaks-alike (cells v) (λ q. fifthsIn v (q .x) (q .y)) (lift (p .threshold)) k (cols v) (rows v) (searchOn p v .border) (p .window) (p .least) whole
+    peaks-alike (cells v) (λ q. fifthsIn v (q .x) (q .y)) (lift (p .threshold)) k (mapWidth v) (mapHeight v) (searchOn p v .border)
+    (p .window) (p .«least_neighbours») whole
     (λ q x y. map-accurate v (f .bytes) (q .x) (q .y) nan x y)
 
 pub maps-alike : MapsAlike

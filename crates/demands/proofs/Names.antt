@@ -7,8 +7,8 @@ use mathlib.Core.List.{List, map}
 use lib.Ieee.{Float, binary32}
 use Rattle.lists.specs.Places.{Place, All}
 use Rattle.lists.proofs.Members.{map-only}
+use Rattle.float32.specs.Float32.{floatOf}
 use Rattle.float32.proofs.Values.{ofInt-value, value-unique}
-use Rattle.response.specs.Response.{floatOf}
 use Rattle.demands.specs.PeaksAlike.{nameOf}
 
 -- a place of a map whose sides are at most 4096

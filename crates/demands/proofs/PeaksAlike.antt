@@ -23,5 +23,6 @@ map-accurate c p x y =
 pub peaks-alike : PeaksAlike
 peaks-alike c p k whole =
     let n = named (mapOf c) (c .pw) (c .ph) p (exact (exactAt c) (lift (p .threshold))) in
-    let a = agreement.peaks-alike (mapOf c) (exactAt c) (lift (p .threshold)) k (c .pw) (c .ph) (searchIn p .border) (p .window) (p .least) whole (map-accurate c) in
+    let a = agreement.peaks-alike (mapOf c) (exactAt c) (lift (p .threshold)) k (c .pw) (c .ph) (searchIn p .border) (p .window)
+    (p .«least_neighbours») whole (map-accurate c) in
     (λ e. a .0 (n .0 e), λ e. n .1 (a .1 e))

@@ -12,8 +12,9 @@ use Rattle.lists.specs.Refusals.{lowest}
 use Rattle.pyramid_levels.specs.Levels.{levelCount, cellsAbove}
 use Rattle.pyramid_levels.proofs.Cells.{cells-le}
 use Rattle.merge_radius.specs.MergeRadius.{radiusOutside}
+use Rattle.patch_corners.specs.OneMap.{computedChoice}
 use Rattle.frame_pass.specs.Refusals.{parametersFit, conditions}
-use Rattle.frame_pass.specs.Pass.{Pass, framePass, computedChoice}
+use Rattle.frame_pass.specs.Pass.{Pass, framePass}
 use Rattle.frame_pass.proofs.Same.{pass-same}
 use Rattle.frame.specs.Frame.{tooMany, refusalOf}
 use Rattle.stream.specs.declared.Header.{Header}
@@ -26,7 +27,8 @@ use Rattle.stream.proofs.Prefix.{frame-prefix}
 use Rattle.listing.specs.Text.{cornersText, decimal, refusedText}
 use Rattle.listing.proofs.Numbers.{places-one}
 use Rattle.finder.specs.Finder.{paramsOf, programBuffers, textOf, frameText, readingText, outputOf}
-use Rattle.demands.specs.Program.{ProgramReads, Undecided, ProgramDecided, Lists, Refusal, ProgramTotal, ProgramExact, ProgramStreams}
+use Rattle.demands.specs.Program.{ProgramReads, ProgramUndecided, ProgramDecided, PrintsCorners, PrintsRefusal, ProgramTotal}
+use Rattle.demands.specs.Program.{ProgramExact, ProgramStreams}
 use Rattle.demands.proofs.Tables.{widen, numbered-one}
 use Rattle.demands.proofs.Faults.{frame-few}
 
@@ -43,7 +45,7 @@ digit-is n l =
     let small : n % 10 ≡ n = omega arith in
     rw (places-one n n l, small, lt-ltb n 10 l)
 
-undecided : (input : List ℕ) → Open readFrame input → Undecided input
+undecided : (input : List ℕ) → Open readFrame input → ProgramUndecided input
 unfolding outputOf
 undecided input o = record {
   more = o .more;
@@ -74,7 +76,7 @@ module _ (input : List ℕ) where
     abbrev table : List (Bool × ℕ)
     table =
         (not (parametersFit (paramsOf h)), 3)
-        ∷ (radiusOutside (paramsOf h .radius), 5)
+        ∷ (radiusOutside (paramsOf h .«merge_radius»), 5)
         ∷ (tooMany found programBuffers, 10)
         ∷ []
 
@@ -84,7 +86,7 @@ module _ (input : List ℕ) where
         let good = accepted-good input h pixels r in
         let small = small-sides (h .width) (h .height) (good .sides) in
         let most : h .width * h .height ≤ 9216 = omega (arith, mul-le-mul (small .0) (small .1)) in
-        let n = levelCount (h .width) (h .height) (h .levels) (h .minimum) in
+        let n = levelCount (h .width) (h .height) (h .levels) (h .«minimum_side») in
         rw (
           le-ltb 4096 (h .width) (omega (arith, small .0)),
           le-ltb 4096 (h .height) (omega (arith, small .1)),
@@ -97,17 +99,21 @@ module _ (input : List ℕ) where
     unfolding outputOf frameText
     printed n e = rw (r, e)
 
-    by-number : (n : ℕ) → number ≡ n → Lists input ⊎ Refusal input
+    by-number : (n : ℕ) → number ≡ n → PrintsCorners input ⊎ PrintsRefusal input
     by-number zero e = inl (record { header = h; pixels = pixels; reading = r; finished = e; prints = printed 0 e })
     by-number (suc n) e =
         let one = numbered-one table (suc n) (sym e ∙ number-is) (omega arith) in
         inr (record { number = suc n; numbered = widen (suc n) (3 ∷ 5 ∷ 10 ∷ []) (1 ∷ 3 ∷ 5 ∷ 6 ∷ 7 ∷ 10 ∷ 11 ∷ []) refl one; prints = printed (suc n) e })
 
-  by-reading : (r : Reading) → readFrame input ≡ r → Lists input ⊎ Refusal input
+  by-reading : (r : Reading) → readFrame input ≡ r → PrintsCorners input ⊎ PrintsRefusal input
   unfolding outputOf
   by-reading (accepted h pixels) e = by-number h pixels e (number h pixels e) refl
   by-reading (refused n) e =
-      inr (record { number = n; numbered = widen n (1 ∷ 3 ∷ 5 ∷ 6 ∷ 7 ∷ 11 ∷ []) (1 ∷ 3 ∷ 5 ∷ 6 ∷ 7 ∷ 10 ∷ 11 ∷ []) refl (frame-few input n e); prints = ap readingText e })
+      inr (record {
+        number = n;
+        numbered = widen n (1 ∷ 3 ∷ 5 ∷ 6 ∷ 7 ∷ 11 ∷ []) (1 ∷ 3 ∷ 5 ∷ 6 ∷ 7 ∷ 10 ∷ 11 ∷ []) refl (frame-few input n e);
+        prints = ap readingText e;
+      })
 
 pub program-total : ProgramTotal
 program-total input = by-reading input (readFrame input) refl

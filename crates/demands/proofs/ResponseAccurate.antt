@@ -8,4 +8,5 @@ use Rattle.demands.specs.ResponseAccurate.{ResponseAccurate}
 
 pub response-accurate : ResponseAccurate
 response-accurate c p at =
-    patch-accurate (viewIn c) (c .ring) (c .before) (c .after) (Cells (c .pw) (c .ph)) (c .pw) (c .ph) (c .promise) refl (c .bytes) (p .x) (p .y) nan (at .0) (at .1)
+    patch-accurate (viewIn c) (c .ring) (c .before) (c .after) (Cells (c .pw) (c .ph)) (c .pw) (c .ph) (c .promise) refl (c .bytes) (p .x)
+    (p .y) nan (at .0) (at .1)

@@ -15,7 +15,7 @@ use Rattle.listing.specs.Text.{newline, refusedText}
 use Rattle.retention.specs.declared.Holding.{Holding}
 use Rattle.retention.specs.declared.Holding.the-variants.{NotYet, Held, Gone}
 use Rattle.retention.specs.Retention.{known, dayOf, stays, stateOf, isLate, answerBy, letterOf}
-use Rattle.retention.specs.Stream.{timeOf, timeFault, kindAt, startAt, recordFault, recordAnswer, placeOf, linesFrom, outputOf}
+use Rattle.retention.specs.Stream.{timeOf, timeFault, kindAt, secondAt, recordFault, recordAnswer, placeOf, linesFrom, outputOf}
 use Rattle.retention.specs.Wanted.{itemFault, wantedItem, passedFrom, wantedFrom, items, wanted}
 use Rattle.retention.proofs.Records.{timed, time-cut, whole, fault-end, fault-cut}
 use Rattle.retention.proofs.Append.{settled-none}
@@ -24,7 +24,7 @@ use Rattle.retention.proofs.Passing.{Before, before-none, before-passing, passe
 use Rattle.retention.proofs.Decided.{decided, most, refused-time, listed-time}
 use Rattle.retention.proofs.Open.{open-text, fewer}
 use Rattle.demands.specs.Numbers.{OneOf}
-use Rattle.demands.specs.Retention.{HoldingCall, HeldWhen, lineOf, linesTo, Lists, Refusal, RetainedTotal, Undecided, RetainedReads}
+use Rattle.demands.specs.Retention.{HoldingCall, HeldWhen, lineOf, linesTo, PrintsLetters, EndsRefused, RetainedTotal, RetainedUndecided, RetainedReads}
 use Rattle.demands.proofs.Tables.{widen, numbered-one}
 
 -- ---- a state by its two tests: before the start, and still held
@@ -165,7 +165,7 @@ held-when = record {
 -- ---- what is printed
 module _ (s : List ℕ) where
   -- a record without fault is printed as its state
-  answer-state : (at : ℕ) → recordFault s at ≡ 0 → recordAnswer s at ≡ stateOf (kindAt s at) (startAt s at) (timeOf s)
+  answer-state : (at : ℕ) → recordFault s at ≡ 0 → recordAnswer s at ≡ stateOf (kindAt s at) (secondAt s at) (timeOf s)
   unfolding recordAnswer
   answer-state at e = rw e
 
@@ -209,7 +209,7 @@ module _ (s : List ℕ) where
         ∙ lines-of c left 0 (λ i m l. b .sound (suc i) (omega arith))
         ∙ ap (λ (k : ℕ). linesTo s c ++ linesFrom s left k) first
 
-    lists : linesFrom s left c ≡ [] → (length s ≡ placeOf c) ⊎ (c ≡ 65536) → Lists s
+    lists : linesFrom s left c ≡ [] → (length s ≡ placeOf c) ⊎ (c ≡ 65536) → PrintsLetters s
     lists none end = record {
       count = c;
       few = few;
@@ -219,13 +219,13 @@ module _ (s : List ℕ) where
     }
 
     -- all 65,536 of them
-    all-read : 65536 ≤ c → Lists s
+    all-read : 65536 ≤ c → PrintsLetters s
     all-read l =
         let none : left ≡ 0 = omega arith in
         lists (ap (λ (n : ℕ). linesFrom s n c) none ∙ lines-none s c) (inr (omega (arith, few)))
 
     -- no byte more
-    all-ended : length s ≤ placeOf c → Lists s
+    all-ended : length s ≤ placeOf c → PrintsLetters s
     all-ended l = lists (lines-end s left c l) (inl (omega (arith, reached c b)))
 
     -- record c has a fault
@@ -240,11 +240,11 @@ module _ (s : List ℕ) where
         ((leb (length s) (placeOf c), 7)
         ∷ (not (known (kindAt s (placeOf c))), 6)
         ∷ (ltb (length s) (placeOf c + 9), 7)
-        ∷ (isLate (startAt s (placeOf c)), 20)
+        ∷ (isLate (secondAt s (placeOf c)), 20)
         ∷ [])
         fault refl l)
 
-    refused : c < 65536 → placeOf c < length s → (fault ≡ 0 → ⊥) → Refusal s
+    refused : c < 65536 → placeOf c < length s → (fault ≡ 0 → ⊥) → EndsRefused s
     refused l some h =
         let one : left ≡ suc (65536 - suc c) = omega arith in
         let back : suc c - 1 ≡ c = omega arith in
@@ -269,7 +269,7 @@ module _ (s : List ℕ) where
       widen (timeFault s) (7 ∷ 20 ∷ []) (6 ∷ 7 ∷ 20 ∷ []) refl
       (numbered-one ((ltb (length s) 8, 7) ∷ (isLate (timeOf s), 20) ∷ []) (timeFault s) refl l)
 
-  time-refused : (timeFault s ≡ 0 → ⊥) → Refusal s
+  time-refused : (timeFault s ≡ 0 → ⊥) → EndsRefused s
   unfolding counted
   time-refused h = record {
     item = 0;
@@ -282,7 +282,7 @@ module _ (s : List ℕ) where
   }
 
   -- ---- by the first item that is not passed
-  by-passed : (p : ℕ) → Before s p → (p < items → itemFault s p ≡ 0 → ⊥) → Lists s ⊎ Refusal s
+  by-passed : (p : ℕ) → Before s p → (p < items → itemFault s p ≡ 0 → ⊥) → PrintsLetters s ⊎ EndsRefused s
   by-passed zero b stops = inr (time-refused (stops (omega arith)))
   by-passed (suc c) b stops =
       elim (decLt c 65536) [
@@ -345,7 +345,7 @@ module _ (s : List ℕ) where
   some-number : (n : ℕ) → OneOf n (6 ∷ 7 ∷ 20 ∷ []) → 0 < n
   some-number n o = ⊎-elim (λ e. omega arith) (λ p. ⊎-elim (λ e. omega arith) (λ q. ⊎-elim (λ e. omega arith) (λ no. absurd no) q) p) o
 
-  behind-fault : (r : Refusal s) → (r .number ≡ 7 → ⊥) → (t : List ℕ) → outputOf (s ++ t) ≡ outputOf s
+  behind-fault : (r : EndsRefused s) → (r .number ≡ 7 → ⊥) → (t : List ℕ) → outputOf (s ++ t) ≡ outputOf s
   behind-fault r h t =
       let k = r .item in
       let some = some-number (r .number) (r .numbered) in
@@ -357,7 +357,7 @@ module _ (s : List ℕ) where
       ∙ item-settled k (λ e. h (sym (r .fault) ∙ e)) in
       decided s t none
 
-undecided : (s t : List ℕ) → length t < wanted s → Undecided (s ++ t)
+undecided : (s t : List ℕ) → length t < wanted s → RetainedUndecided (s ++ t)
 undecided s t l = let o = open-text (s ++ t) (fewer s t l) in record { more = o .more; bytes = o .bytes; differs = o .differs }
 
 pub retained-reads : RetainedReads

@@ -47,7 +47,8 @@ pub numbered-one : (cs : List (Bool × ℕ)) (k : ℕ) → k ≡ lowest cs → 0
 numbered-one cs k e l = above-zero k (map (λ c. c .1) cs) (subst (λ (j : ℕ). OneOf j (0 ∷ map (λ c. c .1) cs)) (sym e) (lowest-one cs)) l
 
 -- an answer by a table's number, where that of 0 is no refusal and any other is the refusal with that number
-module _ {A : Type 0} (refused : ℕ → A) (answer : ℕ → A) (none : (k : ℕ) → answer 0 ≡ refused k → ⊥) (some : (n k : ℕ) → answer (suc n) ≡ refused k → k ≡ suc n) where
+module _ {A : Type 0} (refused : ℕ → A) (answer : ℕ → A) (none : (k : ℕ) → answer 0 ≡ refused k → ⊥)
+    (some : (n k : ℕ) → answer (suc n) ≡ refused k → k ≡ suc n) where
   by-number : (n k : ℕ) → answer n ≡ refused k → (k ≡ n) × (0 < k)
   by-number zero k e = absurd (none k e)
   by-number (suc n) k e = let s = some n k e in (s, omega arith)

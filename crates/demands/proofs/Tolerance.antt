@@ -13,7 +13,7 @@ centre-tolerance c r x y hasMap cx cy mass R f =
     let v = viewIn c in
     let q = filled v (c .ring) (c .before) (c .after) (Cells (c .pw) (c .ph)) (c .promise) (c .pw) (c .ph) refl in
     tolerance.centre-tolerance v (c .bytes) r x y hasMap cx cy mass R
-    (sym (rw (bit-for-bit .«chess_response_u8_patch» c, q .cols-are, q .rows-are) at (f .outcome)))
+    (sym (rw (bit-for-bit .«chess_response_u8_patch» c, q .cols-are, q .rows-are) at (f .answer)))
 
 pub frame-tolerance : FrameTolerance
 frame-tolerance c choose R = tolerance.frame-tolerance (c .parameters) (c .img) (c .w) (c .h) choose (sound c) R

@@ -19,7 +19,7 @@ use Rattle.pyramid.specs.declared.Pyramid.the-variants as built
 use Rattle.pyramid_levels.specs.declared.LevelAnswer.{LevelAnswer}
 use Rattle.pyramid_levels.specs.declared.LevelAnswer.the-variants as level
 use Rattle.pyramid_levels.specs.Levels.{levelCount}
-use Rattle.pyramid_levels.specs.Refusals.{isAbsent, isShort, buildRefusal, levelRefusal}
+use Rattle.pyramid_levels.specs.Refusals.{isAbsent, isShort, buildRefusalOf, levelRefusalOf}
 use Rattle.pyramid.specs.Build as build
 use Rattle.pyramid_levels.specs.Level as lookup
 use Rattle.corner_list.specs.declared.Corner.{Corner}
@@ -39,15 +39,16 @@ use Rattle.multiscale.specs.Multiscale as multiscale
 use Rattle.multiscale.specs.Promise.{Boxed}
 use Rattle.multiscale.proofs.Box as box
 use Rattle.merge_radius.specs.MergeRadius.{isOff, radiusOutside}
-use Rattle.merge_refusal.specs.MergeRefusal.{isOutside}
+use Rattle.merge.specs.Refusals.{isOutside}
 use Rattle.merge.specs.declared.Merged.{Merged}
 use Rattle.merge.specs.declared.Merged.the-variants as merged
 use Rattle.merge.specs.Merge as merge
 use Rattle.merge_slice.specs.MergeSlice.{sharedPlaces, refusalFor}
-use Rattle.frame_pass.specs.declared.FrameParams.{FrameParams}
+use Rattle.patch_corners.specs.declared.FrameParams.{FrameParams}
+use Rattle.patch_corners.specs.OneMap.{computedChoice}
+use Rattle.patch_corners.specs.PatchCorners.{conditionsOf, BoxAdded}
 use Rattle.frame_pass.specs.Refusals.{conditions}
-use Rattle.frame_pass.specs.Pass.{framePass, computedChoice}
-use Rattle.patch_corners.specs.PatchCorners.{patchConditions, BoxAdded}
+use Rattle.frame_pass.specs.Pass.{framePass}
 use Rattle.frame.specs.declared.FrameAnswer.{FrameAnswer}
 use Rattle.frame.specs.declared.FrameAnswer.the-variants as answer
 use Rattle.frame.specs.Frame as frame
@@ -69,59 +70,64 @@ use Rattle.demands.specs.Total.{Total}
 use Rattle.demands.proofs.Tables.{numbered-one, refused-one}
 use Rattle.demands.proofs.Faults.{frame-few}
 
-response-refuses : (v : response.View) (radius : ℕ) (d e : List Float) (r : Patch) → response.Patched v radius d e r → Refuses patch.Refused (1 ∷ 2 ∷ 3 ∷ 8 ∷ []) r
-unfolding response.refusalOf
+response-refuses : (v : response.View) (radius : ℕ) (d e : List Float) (r : Patch) → response.Patched v radius d r e
+    → Refuses patch.Refused (1 ∷ 2 ∷ 3 ∷ 8 ∷ []) r
+unfolding response.refusalFor
 response-refuses v radius d e r f =
-    refused-one patch.Refused (response.answerOf v) (λ k q. let z : _≡_ {A = ℕ} 0 1 = cc in omega arith) (λ n k q. sym (ap response.numberOf q))
+    refused-one patch.Refused (λ k. response.answerOf k v) (λ k q. let z : _≡_ {A = ℕ} 0 1 = cc in omega arith) (λ n k q. sym (ap response.numberOf q))
     ((isLarge (v .w) (v .h), 1)
     ∷ (isMisfit (length (v .img)) (v .w) (v .h), 2)
     ∷ (not (isRing radius), 3)
-    ∷ (ltb (length d) (response.rows v * response.cols v), 8)
+    ∷ (ltb (length d) (response.mapHeight v * response.mapWidth v), 8)
     ∷ [])
     r (f .answer)
 
-build-refuses : (base : List ℕ) (w h count least : ℕ) (d e : List ℕ) (r : Pyramid) → build.Built base w h count least d r e → Refuses built.Refused (1 ∷ 2 ∷ 9 ∷ []) r
-unfolding buildRefusal
+build-refuses : (base : List ℕ) (w h count least : ℕ) (d e : List ℕ) (r : Pyramid) → build.Built base w h count least d r e
+    → Refuses built.Refused (1 ∷ 2 ∷ 9 ∷ []) r
+unfolding buildRefusalOf
 build-refuses base w h count least d e r f =
-    refused-one built.Refused (build.answerOf (levelCount w h count least)) (λ k q. let z : _≡_ {A = ℕ} 0 1 = cc in omega arith) (λ n k q. sym (ap build.numberOf q))
+    refused-one built.Refused (λ k. build.answerOf k (levelCount w h count least)) (λ k q. let z : _≡_ {A = ℕ} 0 1 = cc in omega arith)
+    (λ n k q. sym (ap build.numberOf q))
     ((isLarge w h, 1) ∷ (isMisfit (length base) w h, 2) ∷ (isShort (length d) w h count least, 9) ∷ []) r (f .answer)
 
 level-refuses : (pixels places w h count least k : ℕ) (r : LevelAnswer) → lookup.LevelFound pixels places w h count least k r
     → Refuses level.Refused (1 ∷ 2 ∷ 3 ∷ 9 ∷ []) r
-unfolding lookup.levelAnswer levelRefusal
+unfolding lookup.levelAnswer levelRefusalOf
 level-refuses pixels places w h count least k r f =
-    refused-one level.Refused (lookup.answerOf w h k) (λ k q. let z : _≡_ {A = ℕ} 0 1 = cc in omega arith) (λ n k q. sym (ap lookup.numberOf q))
+    refused-one level.Refused (λ n. lookup.answerOf n w h k) (λ k q. let z : _≡_ {A = ℕ} 0 1 = cc in omega arith) (λ n k q. sym (ap lookup.numberOf q))
     ((isLarge w h, 1) ∷ (isMisfit pixels w h, 2) ∷ (isAbsent w h count least k, 3) ∷ (isShort places w h count least, 9) ∷ []) r (f .answer)
 
 -- peak finding, and what promises as it does
-peaks-refuse : (conds : List (Bool × ℕ)) (cs : List Corner) (held : ℕ) (b : Slices) (r : Peaks)
-    → r ≡ detect.answerOf (detect.refusalOf conds (placesOf b) held (length cs)) (length cs)
+peaks-refuse : (conds : List (Bool × ℕ)) (cs : List Corner) (ties held : ℕ) (b : Slices) (r : Peaks)
+    → r ≡ detect.answerOf (detect.refusalOf conds (placesOf b) held (length cs)) (length cs) ties
     → Refuses peaks.Refused (map (λ c. c .1) (conds ++ ((ltb (placesOf b) (held + length cs), 10) ∷ []))) r
 unfolding detect.refusalOf
-peaks-refuse conds cs held b r f =
-    refused-one peaks.Refused (λ n. detect.answerOf n (length cs)) (λ k q. let z : _≡_ {A = ℕ} 0 1 = cc in omega arith) (λ n k q. sym (ap detect.numberOf q))
+peaks-refuse conds cs ties held b r f =
+    refused-one peaks.Refused (λ n. detect.answerOf n (length cs) ties) (λ k q. let z : _≡_ {A = ℕ} 0 1 = cc in omega arith)
+    (λ n k q. sym (ap detect.numberOf q))
     (conds ++ ((ltb (placesOf b) (held + length cs), 10) ∷ [])) r f
 
-peaks-of : (size w h ring window radius : ℕ) (cs : List Corner) (held : ℕ) (b b′ : Slices) (r : Peaks)
-    → detect.Found (detect.conditions size w h ring window radius) cs held b r b′ → Refuses peaks.Refused (1 ∷ 2 ∷ 3 ∷ 10 ∷ []) r
+peaks-of : (size w h ring window radius : ℕ) (cs : List Corner) (ties held : ℕ) (b b′ : Slices) (r : Peaks)
+    → detect.PeaksAdded (detect.conditions size w h ring window radius) cs ties held b r b′ → Refuses peaks.Refused (1 ∷ 2 ∷ 3 ∷ 10 ∷ []) r
 unfolding detect.conditions
-peaks-of size w h ring window radius cs held b b′ r f = peaks-refuse (detect.conditions size w h ring window radius) cs held b r (f .answered)
+peaks-of size w h ring window radius cs ties held b b′ r f = peaks-refuse (detect.conditions size w h ring window radius) cs ties held b r (f .answer)
 
-corners-of : (p : FrameParams) (v : response.View) (cs : List Corner) (held : ℕ) (d d′ : List Float) (b b′ : Slices) (r : Peaks)
-    → BoxAdded p v cs held d b r d′ b′ → Refuses peaks.Refused (1 ∷ 2 ∷ 3 ∷ 8 ∷ 10 ∷ []) r
-unfolding patchConditions detect.conditions
-corners-of p v cs held d d′ b b′ r f = peaks-refuse (patchConditions p v (length d)) cs held b r (f .answered)
+corners-of : (p : FrameParams) (v : response.View) (cs : List Corner) (ties held : ℕ) (d d′ : List Float) (b b′ : Slices) (r : Peaks)
+    → BoxAdded p v cs ties held d b r d′ b′ → Refuses peaks.Refused (1 ∷ 2 ∷ 3 ∷ 8 ∷ 10 ∷ []) r
+unfolding conditionsOf detect.conditions
+corners-of p v cs ties held d d′ b b′ r f = peaks-refuse (conditionsOf p v (length d)) cs ties held b r (f .answer)
 
 refine-refuses : (radius : ℕ) (x y : Float) (hasMap : Bool) (m : List Float) (w h : ℕ) (r : Outcome) → Refined radius x y hasMap m w h r
     → Refuses outcome.Refused (1 ∷ 2 ∷ 3 ∷ 4 ∷ []) r
-unfolding center.refusal
+unfolding center.refusalOf
 refine-refuses radius x y hasMap m w h r f k e =
     numbered-one (center.conditions radius x y hasMap (length m) w h) k (sym (ap center.numberOf e) ∙ f .number)
-    (refused-numbered radius x y hasMap m w h k (sym (f .outcome) ∙ e))
+    (refused-numbered radius x y hasMap m w h k (sym (f .answer) ∙ e))
 
 roi-refuses : (c : RoiContext) (s : Corner) (r : RoiAnswer) → Boxed c s r → Refuses roi.Refused (1 ∷ 3 ∷ 4 ∷ []) r
-unfolding multiscale.refusal
-roi-refuses c s r f k e = numbered-one (multiscale.conditions c s) k (sym (ap multiscale.numberOf e) ∙ f .number) (box.refused-numbered c s k (sym (f .answer) ∙ e))
+unfolding multiscale.refusalOf
+roi-refuses c s r f k e =
+    numbered-one (multiscale.conditions c s) k (sym (ap multiscale.numberOf e) ∙ f .number) (box.refused-numbered c s k (sym (f .answer) ∙ e))
 
 -- the three merge entries
 merge-numbers : (four five ten : Bool) (n : ℕ) (r : Merged) → r ≡ merge.answerOf (lowest ((four, 4) ∷ (five, 5) ∷ (ten, 10) ∷ [])) n
@@ -142,12 +148,13 @@ unfolding refusalFor
 slice-refuses radius count cs b n r f =
     merge-numbers (not (isOff radius) && any isOutside (take count cs)) (radiusOutside radius) (ltb (sharedPlaces cs b) count) n r f
 
-frame-refuses : (p : FrameParams) (img : List ℕ) (w h : ℕ) (b b′ : frame.Buffers) (r : FrameAnswer) → frame.Found p img w h b r b′
+frame-refuses : (p : FrameParams) (img : List ℕ) (w h : ℕ) (b b′ : frame.Buffers) (r : FrameAnswer) → frame.FrameFound p img w h b r b′
     → Refuses answer.Refused (1 ∷ 2 ∷ 3 ∷ 5 ∷ 8 ∷ 9 ∷ 10 ∷ []) r
 unfolding frame.frameOf frame.refusalOf conditions
 frame-refuses p img w h b b′ r f =
     let q = framePass p img w h (computedChoice p) in
-    refused-one answer.Refused (λ n. frame.answerOf n (length (q .corners))) (λ k e. let z : _≡_ {A = ℕ} 0 1 = cc in omega arith) (λ n k e. sym (ap frame.numberOf e))
+    refused-one answer.Refused (λ n. frame.answerOf n (length (q .corners)) (q .ties)) (λ k e. let z : _≡_ {A = ℕ} 0 1 = cc in omega arith)
+    (λ n k e. sym (ap frame.numberOf e))
     (conditions p (length img) w h (length (b .map)) (length (b .levels)) ++ ((frame.tooMany q b, 10) ∷ []))
     r (ap (λ (z : frame.Frame). z .answer) (f .is))
 
@@ -177,14 +184,15 @@ total = record {
   «chess_response_u8_patch» = λ img w h ring x0 y0 x1 y1 d e r f. response-refuses (viewOf img w h ring x0 y0 x1 y1) ring d e r f;
   «build_pyramid» = build-refuses;
   «level_at» = level-refuses;
-  «detect_peaks_from_response_with_refine_radius» = λ m w h ring t window least radius b b′ held r f. peaks-of (length m) w h ring window radius _ held b b′ r f;
-  «add_patch_corners» = λ p img w h x0 y0 x1 y1 held d d′ b b′ r f. corners-of p (viewOf img w h (p .ring) x0 y0 x1 y1) _ held d d′ b b′ r f;
-  «add_box_corners» = λ p img w h x0 y0 x1 y1 held d d′ b b′ r f. corners-of p (viewOf img w h (p .ring) x0 y0 x1 y1) _ held d d′ b b′ r f;
+  «detect_peaks_from_response_with_refine_radius» = λ m w h ring t window least radius b b′ held r f. peaks-of
+      (length m) w h ring window radius _ _ held b b′ r f;
+  «add_patch_corners» = λ p img w h x0 y0 x1 y1 held d d′ b b′ r f. corners-of p (viewOf img w h (p .ring) x0 y0 x1 y1) _ _ held d d′ b b′ r f;
+  «add_box_corners» = λ p img w h x0 y0 x1 y1 held d d′ b b′ r f. corners-of p (viewOf img w h (p .ring) x0 y0 x1 y1) _ _ held d d′ b b′ r f;
   refine = refine-refuses;
   «compute_roi» = roi-refuses;
-  «merge_corners_simple» = λ radius count b b′ r f. merge-refuses radius (placesOf b) count b _ r (f .answered);
-  «merge_within» = λ radius places count b b′ r f. merge-refuses radius (min places (placesOf b)) count b _ r (f .answered);
-  «merge_corner_slice» = λ radius count cs cs′ b b′ r f. slice-refuses radius count cs b _ r (f .answered);
+  «merge_corners_simple» = λ radius count b b′ r f. merge-refuses radius (placesOf b) count b _ r (f .answer);
+  «merge_within» = λ radius places count b b′ r f. merge-refuses radius (min places (placesOf b)) count b _ r (f .answer);
+  «merge_corner_slice» = λ radius count cs cs′ b b′ r f. slice-refuses radius count cs b _ r (f .answer);
   «find_corners» = frame-refuses;
   «read_frame» = stream-refuses;
   «write_corners» = listing-refuses;

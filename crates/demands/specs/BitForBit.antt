@@ -7,6 +7,7 @@ use mathlib.Core.Bool.{Bool, cond}
 use mathlib.Core.List.{List}
 use lib.ListN.{take}
 use lib.Ieee.{Float}
+use Rattle.lists.specs.Buffer.{Written}
 use Rattle.response.specs.Patch.{cells}
 use Rattle.pyramid.specs.declared.Pyramid.the-variants.{Levels}
 use Rattle.pyramid.specs.Pyramid.{levelPixels}
@@ -26,8 +27,9 @@ use Rattle.multiscale.specs.Promise.{Boxed}
 use Rattle.merge.specs.declared.Merged.the-variants.{Kept}
 use Rattle.merge.specs.Merge.{resultOf, Merges}
 use Rattle.merge_slice.specs.MergeSlice.{MergesSlice}
-use Rattle.frame_pass.specs.Pass.{computedChoice, framePass}
-use Rattle.finder.specs.Finder.{outputOf, Written}
+use Rattle.patch_corners.specs.OneMap.{computedChoice}
+use Rattle.frame_pass.specs.Pass.{framePass}
+use Rattle.finder.specs.Finder.{outputOf}
 use Rattle.demands.specs.ResponseCall.{ResponseCall, viewIn, mapOf}
 use Rattle.demands.specs.PeakCall.{PeakCall, searchIn}
 use Rattle.demands.specs.PeaksAlike.{programList}

@@ -1,12 +1,12 @@
--- The worked cases that document 01 marks P, as one table: what the definitions give, and what the document says, both as lists of integers.
+-- The worked cases that RULES 14 marks P, as one table: what the definitions give, and what the rules say, both as lists of integers.
 use Prim.Native.Nat.{ℕ}
 use mathlib.Core.Path.{_≡_}
 use mathlib.Core.List.{List, [], _∷_, map}
 use lib.IntN.{ℤ, pos, negsuc}
 use lib.ListN.{length, replicate, set}
 use mathlib.Core.Bool.{false}
-use lib.Ieee.{Float, fin, binary32, ofInt}
-use Rattle.float32.specs.Float32 as float32
+use lib.Ieee.{Float, fin}
+use Rattle.float32.specs.Float32.{zero, floatOf}
 use Rattle.corner_list.specs.declared.Corner.{Corner}
 use Rattle.multiscale.specs.declared.RoiContext.{RoiContext}
 use Rattle.multiscale.specs.Multiscale.{roiOf, numberOf, valuesOf}
@@ -54,13 +54,10 @@ brighter = set wholeCase 60 129
 
 -- ---- boxes: base 200 by 200, border 9, scale 1/2, search 3
 abbrev context : RoiContext
-context = record { width = 200; height = 200; ring = 5; window = 2; centroid = 2; search = 3; level = 1 }
-
-abbrev wholeFloat : ℕ → Float
-wholeFloat n = ofInt binary32 (pos n)
+context = record { width = 200; height = 200; ring = 5; window = 2; «centroid_radius» = 2; «search_radius» = 3; level = 1 }
 
 abbrev seed : Float → Float → Corner
-seed x y = record { x = x; y = y; strength = float32.zero }
+seed x y = record { x = x; y = y; strength = zero }
 
 -- the refusal's number, 0 for none, and the box, which is empty for "no box"
 abbrev box : Corner → List ℕ
@@ -84,9 +81,9 @@ cases =
     ∷ case (fifthsAt wholeCase 11 11 ring5 5 5 ∷ []) (pos 10160 ∷ [])
     ∷ case (fifthsAt brighter 11 11 ring5 5 5 ∷ []) (pos 10144 ∷ [])
     -- seed (50,40) → (89,69,112,92); (7.5,50) → no box; (8,50) → box with x from 9 to 28
-    ∷ naturals (box (seed (wholeFloat 50) (wholeFloat 40))) (0 ∷ 89 ∷ 69 ∷ 112 ∷ 92 ∷ [])
-    ∷ naturals (box (seed (fin false 15 (negsuc 0)) (wholeFloat 50))) (0 ∷ [])
-    ∷ naturals (box (seed (wholeFloat 8) (wholeFloat 50))) (0 ∷ 9 ∷ 89 ∷ 28 ∷ 112 ∷ [])
+    ∷ naturals (box (seed (floatOf 50) (floatOf 40))) (0 ∷ 89 ∷ 69 ∷ 112 ∷ 92 ∷ [])
+    ∷ naturals (box (seed (fin false 15 (negsuc 0)) (floatOf 50))) (0 ∷ [])
+    ∷ naturals (box (seed (floatOf 8) (floatOf 50))) (0 ∷ 9 ∷ 89 ∷ 28 ∷ 112 ∷ [])
     ∷ []
 
 -- each comes out as it is said

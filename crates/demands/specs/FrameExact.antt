@@ -9,18 +9,19 @@ use Rattle.lists.specs.Places.{All}
 use Rattle.lists.specs.Refusals.{lowest}
 use Rattle.float32.specs.Float32.{lift}
 use Rattle.float32.specs.Value.{IsWhole}
-use Rattle.response.specs.Patch.{View, cols, rows, cells}
+use Rattle.response.specs.Patch.{View, mapWidth, mapHeight, cells}
 use Rattle.response.specs.Exact.{fifthsIn}
 use Rattle.accuracy.specs.Accurate.{Bytes}
 use Rattle.agreement.specs.Agreement.{NoTie}
 use Rattle.corner_list.specs.CornerList.{cornersOf}
 use Rattle.corner_list.specs.declared.Corner.{Corner}
 use Rattle.detect.specs.Detect.{conditions}
-use Rattle.frame_pass.specs.declared.FrameParams.{FrameParams}
-use Rattle.frame_pass.specs.Pass.{Choice, searchOn, computedChoice, exactChoice, framePass, lookedAt}
+use Rattle.patch_corners.specs.declared.FrameParams.{FrameParams}
+use Rattle.patch_corners.specs.OneMap.{Choice, searchOn, computedChoice, exactChoice}
+use Rattle.frame_pass.specs.Pass.{framePass, lookedAt}
 use Rattle.frame_pass.specs.Theorems.{CornersInside, BoxesAnswered, NoneDropped}
 use Rattle.frame.specs.declared.FrameAnswer.the-variants.{Corners}
-use Rattle.frame.specs.Frame.{Buffers, Found}
+use Rattle.frame.specs.Frame.{Buffers, FrameFound}
 use Rattle.demands.specs.PeakCall.{PeakCall, searchIn}
 use Rattle.demands.specs.PeaksAlike.{programList, position, nameOf}
 
@@ -32,11 +33,12 @@ pub record FrameCall : Type 0 where
   pub h : ℕ
   -- the pixels are of type u8
   pub bytes : Bytes img
-  -- the buffers before and after, and how many corners were found
+  -- the buffers before and after, how many corners were found, and the ties
   pub before : Buffers
   pub after : Buffers
   pub count : ℕ
-  pub promise : Found parameters img w h before (Corners count) after
+  pub ties : ℕ
+  pub promise : FrameFound parameters img w h before (Corners count ties) after
 
 -- "its whole corner list": it stands first in the corner buffer
 abbrev pub frameList : FrameCall → List Corner
@@ -65,17 +67,19 @@ FrameExact = (c : FrameCall) → All (Alike (c .parameters)) (mapsIn c) → IsEx
 -- buffer and the exact list name the same places in the same order exactly then.
 abbrev pub AlikeByName : Type 0
 AlikeByName =
-    (p : FrameParams) (v : View) (c : PeakCall (cells v) (cols v) (rows v)) → searchIn c ≡ searchOn p v
+    (p : FrameParams) (v : View) (c : PeakCall (cells v) (mapWidth v) (mapHeight v)) → searchIn c ≡ searchOn p v
     → (map position (programList c) ≡ map nameOf (exactChoice p v)) ↔ Alike p v
 
 -- and on a map that the frame looks at nothing but a buffer that is too short refuses such a call
 abbrev pub MapsSearched : Type 0
 MapsSearched =
-    (c : FrameCall) → All (λ v. lowest (conditions (length (cells v)) (cols v) (rows v) (c .parameters .ring) (c .parameters .window) (c .parameters .centroid)) ≡ 0) (mapsIn c)
+    (c : FrameCall) → All (λ v. lowest
+    (conditions (length (cells v)) (mapWidth v) (mapHeight v) (c .parameters .ring) (c .parameters .window)
+    (c .parameters .«centroid_radius»)) ≡ 0) (mapsIn c)
 
 -- "no peak of the exact list has in its window an equal exact value with a larger computed one"
 abbrev pub WithoutTie : FrameParams → View → Type 0
-WithoutTie p v = NoTie (cells v) (λ q. fifthsIn v (q .x) (q .y)) (cols v) (rows v) (p .window) (exactChoice p v)
+WithoutTie p v = NoTie (cells v) (λ q. fifthsIn v (q .x) (q .y)) (mapWidth v) (mapHeight v) (p .window) (exactChoice p v)
 
 -- at a threshold that is the whole number k once it is lifted, each map is alike exactly when it has no such tie, and so without ties the
 -- frame's list is the exact one

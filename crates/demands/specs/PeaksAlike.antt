@@ -1,4 +1,4 @@
--- Demand 3: "Whatever the image, box, parameters and rooms not refused, as long as the threshold is a whole number once negatives and NaN are
+-- Demand 3 (RULES 10.5): "Whatever the image, box, parameters and .. not refused, as long as the threshold is a whole number once negatives and NaN are
 -- lifted to 0: the program's peak list of the response map and the list chosen by exact values are alike, naming the same places in the same
 -- order, exactly when no peak of the exact list has in its window an equal exact value with a larger computed one."
 use Prim.Native.Nat.{ℕ, _+_}
@@ -8,9 +8,8 @@ use mathlib.Core.List.{List, map}
 use lib.Ieee.{Float}
 use Rattle.lists.specs.Tab.{tab}
 use Rattle.lists.specs.Places.{Place}
-use Rattle.float32.specs.Float32.{lift}
+use Rattle.float32.specs.Float32.{lift, floatOf}
 use Rattle.float32.specs.Value.{IsWhole}
-use Rattle.response.specs.Response.{floatOf}
 use Rattle.corner_list.specs.CornerList.{cornerAt}
 use Rattle.corner_list.specs.declared.Corner.{Corner}
 use Rattle.detect.specs.Exact.{exactPeaks}
@@ -18,7 +17,7 @@ use Rattle.agreement.specs.Agreement.{NoTie}
 use Rattle.demands.specs.ResponseCall.{ResponseCall, mapOf, exactAt}
 use Rattle.demands.specs.PeakCall.{PeakCall, searchIn}
 
--- document 01: "The program's list of a map is what peak finding adds to its room", the corners behind those that the buffer held
+-- the program's list of a map (RULES 10.4) is what peak finding adds to its buffer, the corners behind those that the buffer held
 abbrev pub programList : {m : List Float} {w h : ℕ} → PeakCall m w h → List Corner
 programList p = tab (p .added) (λ i. cornerAt (p .after) (p .held + i))
 

@@ -6,8 +6,9 @@ use mathlib.Core.Logic.{_⊎_}
 use mathlib.Core.List.{List, [], _∷_, _++_}
 use lib.ListN.{length, take}
 use Rattle.lists.specs.Places.{All}
-use Rattle.frame_pass.specs.declared.FrameParams.{FrameParams}
-use Rattle.frame_pass.specs.Pass.{Choice, computedChoice, exactChoice, framePass, lookedAt}
+use Rattle.patch_corners.specs.declared.FrameParams.{FrameParams}
+use Rattle.patch_corners.specs.OneMap.{Choice, computedChoice, exactChoice}
+use Rattle.frame_pass.specs.Pass.{framePass, lookedAt}
 use Rattle.frame.specs.Frame.{refusalOf}
 use Rattle.stream.specs.declared.Header.{Header}
 use Rattle.stream.specs.Stream.{accepted, readFrame}
@@ -23,7 +24,7 @@ abbrev pub ProgramReads : Type 0
 ProgramReads = (input : List ℕ) → outputOf (take 9527 input) ≡ outputOf input
 
 -- some bytes that may follow make it print something else
-pub record Undecided (input : List ℕ) : Type 0 where
+pub record ProgramUndecided (input : List ℕ) : Type 0 where
   pub more : List ℕ
   pub bytes : All (λ v. v < 256) more
   pub differs : outputOf (input ++ more) ≡ outputOf input → ⊥
@@ -32,7 +33,7 @@ pub record Undecided (input : List ℕ) : Type 0 where
 -- nothing, and with fewer something may
 pub record Reads (input : List ℕ) : Type 0 where
   pub decided : wanted input ≡ 0 → (t : List ℕ) → outputOf (input ++ t) ≡ outputOf input
-  pub undecided : (t : List ℕ) → length t < wanted input → Undecided (input ++ t)
+  pub undecided : (t : List ℕ) → length t < wanted input → ProgramUndecided (input ++ t)
   pub most : 0 < wanted input → length input + wanted input ≤ 9527
 
 abbrev pub ProgramDecided : Type 0
@@ -43,7 +44,7 @@ abbrev pub textBy : (FrameParams → Choice) → Header → List ℕ → List �
 textBy choose h pixels = cornersText (framePass (paramsOf h) pixels (h .width) (h .height) (choose (paramsOf h)) .corners)
 
 -- the input is a frame stream, and its frame is not refused: the program prints the frame's corners
-pub record Lists (input : List ℕ) : Type 0 where
+pub record PrintsCorners (input : List ℕ) : Type 0 where
   pub header : Header
   pub pixels : List ℕ
   pub reading : readFrame input ≡ accepted header pixels
@@ -51,20 +52,21 @@ pub record Lists (input : List ℕ) : Type 0 where
   pub prints : outputOf input ≡ textBy computedChoice header pixels
 
 -- it prints `refused` and a number. 2, 8 and 9 do not arise, since its buffers are large enough for what the reader accepts, and neither does 4
-pub record Refusal (input : List ℕ) : Type 0 where
+pub record PrintsRefusal (input : List ℕ) : Type 0 where
   pub number : ℕ
   pub numbered : OneOf number (1 ∷ 3 ∷ 5 ∷ 6 ∷ 7 ∷ 10 ∷ 11 ∷ [])
   pub prints : outputOf input ≡ refusedText number
 
 -- demand 1: "comes back as a finished corner list or as one of eleven numbered refusals"
 abbrev pub ProgramTotal : Type 0
-ProgramTotal = (input : List ℕ) → Lists input ⊎ Refusal input
+ProgramTotal = (input : List ℕ) → PrintsCorners input ⊎ PrintsRefusal input
 
 -- demand 3: "its whole corner list is the one that exact peak choice leads to"
 abbrev pub ProgramExact : Type 0
 ProgramExact =
-    (input : List ℕ) (l : Lists input)
-    → All (Alike (paramsOf (l .header))) (lookedAt (paramsOf (l .header)) (l .pixels) (l .header .width) (l .header .height) (exactChoice (paramsOf (l .header))))
+    (input : List ℕ) (l : PrintsCorners input)
+    → All (Alike (paramsOf (l .header)))
+    (lookedAt (paramsOf (l .header)) (l .pixels) (l .header .width) (l .header .height) (exactChoice (paramsOf (l .header))))
     → outputOf input ≡ textBy exactChoice (l .header) (l .pixels)
 
 -- "A frame handed in": every frame that the stream's form allows has a stream, and each stream says one frame

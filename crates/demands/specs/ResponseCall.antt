@@ -32,7 +32,7 @@ pub record ResponseCall : Type 0 where
   pub after : List Float
   pub pw : ℕ
   pub ph : ℕ
-  pub promise : Patched (viewOf img w h ring x0 y0 x1 y1) ring before after (Cells pw ph)
+  pub promise : Patched (viewOf img w h ring x0 y0 x1 y1) ring before (Cells pw ph) after
 
 -- a cell of the map, by column and row
 abbrev pub InMap : ResponseCall → Place → Type 0

@@ -10,7 +10,7 @@ use Rattle.listing.specs.Text.{newline, refusedText}
 use Rattle.retention.specs.declared.Holding.{Holding}
 use Rattle.retention.specs.declared.Holding.the-variants.{NotYet, Held, Gone}
 use Rattle.retention.specs.Retention.{dayOf, stateOf, numberOf, letterOf}
-use Rattle.retention.specs.Stream.{timeOf, kindAt, startAt, placeOf, outputOf}
+use Rattle.retention.specs.Stream.{timeOf, kindAt, secondAt, placeOf, outputOf}
 use Rattle.retention.specs.Wanted.{itemFault, items, wanted}
 use Rattle.retention.specs.Answer.{Told}
 use Rattle.demands.specs.Numbers.{OneOf}
@@ -36,7 +36,7 @@ pub record HeldWhen : Type 0 where
   -- "Tokens issued at second t: from t up to but excluding t + 604,800."
   pub token-held : (c : HoldingCall 3) → (c .answer ≡ Held) ↔ ((c .start ≤ c .time) × (c .time < c .start + 604800))
   pub token-gone : (c : HoldingCall 3) → (c .answer ≡ Gone) ↔ (c .start + 604800 ≤ c .time)
-  -- "Before the second of receipt or issue the item is "not yet", a photograph's own day included."
+  -- before its second an item is not yet, a photograph on its own day too (RULES 32.2)
   pub not-yet : {kind : ℕ} (c : HoldingCall kind) → (c .answer ≡ NotYet) ↔ (c .time < c .start)
   -- what is gone stays so
   pub gone-for-good : {kind : ℕ} (c d : HoldingCall kind) → c .start ≡ d .start → c .time ≤ d .time → c .answer ≡ Gone → d .answer ≡ Gone
@@ -45,14 +45,14 @@ pub record HeldWhen : Type 0 where
 
 -- the line of record i, the first being record 0: "the letter N, H or G .., a line each"
 abbrev pub lineOf : List ℕ → ℕ → List ℕ
-lineOf input i = letterOf (stateOf (kindAt input (placeOf i)) (startAt input (placeOf i)) (timeOf input)) ∷ newline ∷ []
+lineOf input i = letterOf (stateOf (kindAt input (placeOf i)) (secondAt input (placeOf i)) (timeOf input)) ∷ newline ∷ []
 
 -- the lines of the first k records, "in input order"
 abbrev pub linesTo : List ℕ → ℕ → List ℕ
 linesTo input k = flatMap (lineOf input) (counted 0 k)
 
 -- no fault: the stream ends behind k records, or k is 65,536
-pub record Lists (input : List ℕ) : Type 0 where
+pub record PrintsLetters (input : List ℕ) : Type 0 where
   pub count : ℕ
   pub few : count ≤ 65536
   pub sound : (i : ℕ) → i ≤ count → itemFault input i ≡ 0
@@ -61,7 +61,7 @@ pub record Lists (input : List ℕ) : Type 0 where
 
 -- "at a faulty record or time, a line `refused N` with its number ends the output": the first item with a fault, item 0 being the time and
 -- record k item k + 1
-pub record Refusal (input : List ℕ) : Type 0 where
+pub record EndsRefused (input : List ℕ) : Type 0 where
   pub item : ℕ
   pub few : item < items
   pub before : (i : ℕ) → i < item → itemFault input i ≡ 0
@@ -72,12 +72,12 @@ pub record Refusal (input : List ℕ) : Type 0 where
 
 -- letters, then nothing or one refusal
 abbrev pub RetainedTotal : Type 0
-RetainedTotal = (input : List ℕ) → Lists input ⊎ Refusal input
+RetainedTotal = (input : List ℕ) → PrintsLetters input ⊎ EndsRefused input
 
 -- ---- what is read
 
 -- some bytes that may follow make it print something else
-pub record Undecided (input : List ℕ) : Type 0 where
+pub record RetainedUndecided (input : List ℕ) : Type 0 where
   pub more : List ℕ
   pub bytes : All (λ v. v < 256) more
   pub differs : outputOf (input ++ more) ≡ outputOf input → ⊥
@@ -86,8 +86,8 @@ pub record RetainedReads : Type 0 where
   -- "at most 65,536 records are read and what follows is not"
   pub most : (input : List ℕ) → outputOf (take 589832 input) ≡ outputOf input
   -- neither is what follows a fault, unless that is the end of the bytes
-  pub behind-fault : (input : List ℕ) (r : Refusal input) → (r .number ≡ 7 → ⊥) → (t : List ℕ) → outputOf (input ++ t) ≡ outputOf input
+  pub behind-fault : (input : List ℕ) (r : EndsRefused input) → (r .number ≡ 7 → ⊥) → (t : List ℕ) → outputOf (input ++ t) ≡ outputOf input
   -- it reads as many bytes as are `wanted` behind those so far, until that is 0. Then what follows changes nothing, and with fewer something may
   pub decided : (input : List ℕ) → wanted input ≡ 0 → (t : List ℕ) → outputOf (input ++ t) ≡ outputOf input
-  pub undecided : (input t : List ℕ) → length t < wanted input → Undecided (input ++ t)
+  pub undecided : (input t : List ℕ) → length t < wanted input → RetainedUndecided (input ++ t)
   pub within : (input : List ℕ) → 0 < wanted input → length input + wanted input ≤ 589832

@@ -6,7 +6,8 @@ use lib.Ieee.{Float}
 use Rattle.lists.specs.Places.{All}
 use Rattle.center_of_mass.specs.declared.Outcome.the-variants.{Accepted}
 use Rattle.center_of_mass.specs.Promise.{Refined}
-use Rattle.frame_pass.specs.Pass.{Choice, lookedAt}
+use Rattle.patch_corners.specs.OneMap.{Choice}
+use Rattle.frame_pass.specs.Pass.{lookedAt}
 use Rattle.tolerance.specs.Tolerance.{summedCells, Close, CloseCorners}
 use Rattle.demands.specs.ResponseCall.{ResponseCall, mapOf, exactAt}
 use Rattle.demands.specs.FrameExact.{FrameCall}
@@ -22,5 +23,5 @@ CentreTolerance =
 -- a frame looks at, by the program's choice of peaks and by any other
 abbrev pub FrameTolerance : Type 0
 FrameTolerance =
-    (c : FrameCall) (choose : Choice) → c .parameters .centroid ≤ 2
+    (c : FrameCall) (choose : Choice) → c .parameters .«centroid_radius» ≤ 2
     → All (CloseCorners (c .parameters) choose) (lookedAt (c .parameters) (c .img) (c .w) (c .h) choose)

@@ -1,19 +1,20 @@
--- Demand 1: "A frame handed in, with sides, pixels and parameters of any kind, comes back as a finished corner list or as one of eleven
--- numbered refusals. The conditions of each number are fixed, and so is what every lent room holds afterwards."
+-- Demand 1 (RULES 2): "A frame handed in, with sides, pixels and parameters of any kind, comes back as a finished corner list or as one of eleven
+-- numbered refusals. The conditions of each number are fixed", and so is what every buffer holds afterwards.
 -- Every call of a public function ends, and asks nothing of its caller; its promise has the answer and every buffer afterwards by equations.
 -- Here stand the promises of the functions that refuse, word for word, and the numbers that each can give: 0, which the definitions use for
--- "none", is no refusal's. A request's new number counts with the eleven: 20 of request 13. Which condition has which number, lowest first, is
--- in the tables that the promises name. No other public function refuses, and each of these promises one equation over its arguments:
+-- "none", is no refusal's. A request's new number counts with the eleven: 20 of request 13.
+-- Which condition has which number, lowest first, is in the tables that the promises name. No other public function refuses, and each
+-- of these promises one equation over its arguments:
 --   numbers         lesser, greater, minus
+--   image_size      is_large, refusal (the number alone)
 --   ring            ring_offsets, is_ring
 --   float32         abs, is_finite, lifted, is_between, from_bits, to_bits, cut_off, round_half_away (with its number, 0, and its values)
 --   corner_list     is_inside, corner_at, put_corner, places
---   pyramid_levels  level_count, cells_before, cells_above, build_fault and level_fault (the number alone)
+--   detect          refusal (the number alone)
+--   pyramid_levels  level_count, cells_before, cells_above, build_refusal and level_refusal (the number alone)
 --   pyramid         level (nothing where `level_at` refuses)
 --   merge_radius    is_off, is_sized, is_outside
---   merge_refusal   refusal (the number alone)
---   merge_grid      position_of, position_at, grid_of, column_of, row_of, is_joined
---   clearing        clear, clear_bytes, clear_list
+--   patch_corners   clear, clear_bytes, clear_list (of its module `clearing`)
 --   frame_pass      refusal (the number before the pass)
 --   stream          wanted
 --   listing         write_refusal (one for its answer, one for its buffer)
@@ -51,12 +52,12 @@ use Rattle.merge.specs.declared.Merged.{Merged}
 use Rattle.merge.specs.declared.Merged.the-variants as merge
 use Rattle.merge.specs.Merge.{Merges}
 use Rattle.merge_slice.specs.MergeSlice.{MergesSlice}
-use Rattle.frame_pass.specs.declared.FrameParams.{FrameParams}
+use Rattle.patch_corners.specs.declared.FrameParams.{FrameParams}
 use Rattle.patch_corners.specs.PatchCorners.{AddedCorners}
-use Rattle.box_corners.specs.BoxCorners.{AddedBox}
+use Rattle.patch_corners.specs.BoxCorners.{AddedBox}
 use Rattle.frame.specs.declared.FrameAnswer.{FrameAnswer}
 use Rattle.frame.specs.declared.FrameAnswer.the-variants as frame
-use Rattle.frame.specs.Frame.{Buffers, Found}
+use Rattle.frame.specs.Frame.{Buffers, FrameFound}
 use Rattle.stream.specs.declared.FrameStream.{FrameStream}
 use Rattle.stream.specs.declared.FrameStream.the-variants as stream
 use Rattle.stream.specs.Answer.{FrameRead}
@@ -71,14 +72,18 @@ use Rattle.demands.specs.ResponseCall.{viewOf}
 
 -- a field for each function, by its name
 pub record Total : Type 0 where
-  pub «chess_response_u8_patch» : (img : List ℕ) (w h ring x0 y0 x1 y1 : ℕ) (d e : List Float) (r : Patch) → Patched (viewOf img w h ring x0 y0 x1 y1) ring d e r
+  pub «chess_response_u8_patch» : (img : List ℕ) (w h ring x0 y0 x1 y1 : ℕ) (d e : List Float) (r : Patch)
+      → Patched (viewOf img w h ring x0 y0 x1 y1) ring d r e
       → Refuses response.Refused (1 ∷ 2 ∷ 3 ∷ 8 ∷ []) r
   pub «build_pyramid» : (base : List ℕ) (w h count least : ℕ) (d e : List ℕ) (r : Pyramid) → Built base w h count least d r e
       → Refuses pyramid.Refused (1 ∷ 2 ∷ 9 ∷ []) r
   pub «level_at» : (pixels places w h count least k : ℕ) (r : LevelAnswer) → LevelFound pixels places w h count least k r
       → Refuses levels.Refused (1 ∷ 2 ∷ 3 ∷ 9 ∷ []) r
-  pub «detect_peaks_from_response_with_refine_radius» : (m : List Float) (w h ring : ℕ) (threshold : Float) (window least radius : ℕ) (b b′ : Slices) (held : ℕ) (r : Peaks)
-      → detect.Found (detect.conditions (length m) w h ring window radius) (detect.startsIn m (detect.searchOf w h ring threshold window least radius)) held b r b′
+  pub «detect_peaks_from_response_with_refine_radius» : (m : List Float) (w h ring : ℕ) (threshold : Float) (window least radius : ℕ)
+      (b b′ : Slices) (held : ℕ) (r : Peaks)
+      → detect.PeaksAdded (detect.conditions (length m) w h ring window radius)
+      (detect.startsIn m (detect.searchOf w h ring threshold window least radius)) (detect.tiesIn m (detect.searchOf w h ring threshold window least radius))
+      held b r b′
       → Refuses peaks.Refused (1 ∷ 2 ∷ 3 ∷ 10 ∷ []) r
   pub «add_patch_corners» : (p : FrameParams) (img : List ℕ) (w h x0 y0 x1 y1 held : ℕ) (d d′ : List Float) (b b′ : Slices) (r : Peaks)
       → AddedCorners p (viewOf img w h (p .ring) x0 y0 x1 y1) held d b r d′ b′
@@ -96,7 +101,7 @@ pub record Total : Type 0 where
       → Refuses merge.Refused (4 ∷ 5 ∷ 10 ∷ []) r
   pub «merge_corner_slice» : (radius : Float) (count : ℕ) (cs cs′ : List Corner) (b b′ : Slices) (r : Merged) → MergesSlice radius count cs b r cs′ b′
       → Refuses merge.Refused (4 ∷ 5 ∷ 10 ∷ []) r
-  pub «find_corners» : (p : FrameParams) (img : List ℕ) (w h : ℕ) (b b′ : Buffers) (r : FrameAnswer) → Found p img w h b r b′
+  pub «find_corners» : (p : FrameParams) (img : List ℕ) (w h : ℕ) (b b′ : Buffers) (r : FrameAnswer) → FrameFound p img w h b r b′
       → Refuses frame.Refused (1 ∷ 2 ∷ 3 ∷ 5 ∷ 8 ∷ 9 ∷ 10 ∷ []) r
   pub «read_frame» : (input pixels pixels′ : List ℕ) (r : FrameStream) → FrameRead input pixels r pixels′
       → Refuses stream.Refused (1 ∷ 3 ∷ 5 ∷ 6 ∷ 7 ∷ 11 ∷ []) r

@@ -1,10 +1,10 @@
 -- Inputs without a fault, and the answers of peak finding: each from the tests that lead to it, and what a caller learns from it.
 -- Assumes nothing.
-use Prim.Native.Nat.{ℕ, zero, suc, _+_, _-_, _*_, _<_, _≤_}
+use Prim.Native.Nat.{ℕ, zero, suc, _+_, _*_, _<_, _≤_}
 use native.Mathlib.Nat.{eq-zero-or-pos}
 use native.Mathlib.Omega.{arith}
 use native.Mathlib.Decide.{decLt}
-use mathlib.Core.Path.{_≡_, refl, sym, ap, _∙_}
+use mathlib.Core.Path.{_≡_, refl, sym, ap, ap₂, _∙_}
 use mathlib.Core.Logic.{⊎-elim}
 use mathlib.Core.Bool.{Bool, true, false, not}
 use mathlib.Core.List.{List, [], _∷_}
@@ -22,8 +22,9 @@ use Rattle.corner_list.specs.declared.Corner.{Corner}
 use Rattle.detect.specs.declared.Search.{Search}
 use Rattle.detect.specs.declared.Peaks.{Peaks}
 use Rattle.detect.specs.declared.Peaks.the-variants.{Added, Refused}
-use Rattle.detect.specs.Detect.{searchOf, peaksIn, startAt, startsIn, isRing, conditions, refusalOf, answerOf, bufferOf, numberOf, valuesOf, Found}
-use Rattle.detect.specs.Post.{Searchable}
+use Rattle.detect.specs.Detect.{searchOf, peaksIn, startAt, startsIn, tiesIn, isRing}
+use Rattle.detect.specs.Detect.{conditions, refusalOf, answerOf, bufferOf, numberOf, valuesOf, PeaksAdded}
+use Rattle.detect.specs.Internal.{Searchable}
 
 -- ---- inputs
 
@@ -64,18 +65,27 @@ module _ (size w h ring window radius : ℕ) where
   pub sound-clear : Sound size w h ring window radius → Clear (conditions size w h ring window radius)
   unfolding conditions
   sound-clear k =
+      let in-window = le-ltb 16 window (k .in-window) in
+      let in-radius = le-ltb 16 radius (k .in-radius) in
       clear
-      (rw (le-ltb 4096 w (k .wide), le-ltb 4096 h (k .high), eq-eqb size (w * h) (k .whole), k .ring-is, le-ltb 16 window (k .in-window), le-ltb 16 radius (k .in-radius)))
+      (rw (le-ltb 4096 w (k .wide), le-ltb 4096 h (k .high), eq-eqb size (w * h) (k .whole), k .ring-is, in-window, in-radius))
 
 -- so its map can be searched
-pub searchable : (m : List Float) (w h ring : ℕ) (t : Float) (window least radius : ℕ) → Clear (conditions (length m) w h ring window radius)
-    → Searchable m (searchOf w h ring t window least radius)
+pub searchable : (m : List Float) (w h ring : ℕ) (t : Float) (window least radius : ℕ)
+    → Clear (conditions (length m) w h ring window radius) → Searchable m (searchOf w h ring t window least radius)
 searchable m w h ring t window least radius e =
-    let k = sound (length m) w h ring window radius e in
-    record { size = k .whole; wide = k .wide; high = k .high; radius = k .in-window; inside = omega arith; narrow = omega (arith, ring-small ring (k .ring-is), k .in-window, k .in-radius) }
+    let k = sound (length m) w h ring window radius e in record {
+      size = k .whole;
+      wide = k .wide;
+      high = k .high;
+      radius = k .in-window;
+      inside = omega arith;
+      narrow = omega (arith, ring-small ring (k .ring-is), k .in-window, k .in-radius);
+    }
 
 -- ---- whether the corners fit a buffer b of so many places, by the test of the peaks' number
-module _ (m : List Float) (s : Search) (b : Slices) (places held : ℕ) (is : places ≡ placesOf b) (t : Bool) (e : t ≡ ltb places (held + length (peaksIn m s))) where
+module _ (m : List Float) (s : Search) (b : Slices) (places held : ℕ) (is : places ≡ placesOf b)
+    (t : Bool) (e : t ≡ ltb places (held + length (peaksIn m s))) where
   pub fits-behind : t ≡ false → held + length (startsIn m s) ≤ placesOf b
   fits-behind q = omega (arith, length-map (peaksIn m s) (startAt m s), ltb-false places (held + length (peaksIn m s)) (sym e ∙ q))
 
@@ -98,46 +108,53 @@ module _ (places held n : ℕ) where
     refusal-none l = lowest-past cs _ (c .numbered) (c .none) ∙ rw (le-ltb places (held + n) l)
 
 -- ---- answers, by what led to them
-pub number-is : (k n : ℕ) → numberOf (answerOf k n) ≡ k
-number-is zero n = refl
-number-is (suc k) n = refl
+pub number-is : (k n ties : ℕ) → numberOf (answerOf k n ties) ≡ k
+number-is zero n ties = refl
+number-is (suc k) n ties = refl
 
-pub values-are : (k n : ℕ) → valuesOf (answerOf k n) ≡ valuesUnless k (n ∷ [])
-values-are zero n = refl
-values-are (suc k) n = refl
+pub values-are : (k n ties : ℕ) → valuesOf (answerOf k n ties) ≡ valuesUnless k (n ∷ ties ∷ [])
+values-are zero n ties = refl
+values-are (suc k) n ties = refl
 
-module _ (conds : List (Bool × ℕ)) (cs : List Corner) (held : ℕ) (b : Slices) where
+module _ (conds : List (Bool × ℕ)) (cs : List Corner) (ties held : ℕ) (b : Slices) where
   -- by the refusal's number
   pub found-by : (k : ℕ) → refusalOf conds (placesOf b) held (length cs) ≡ k → (answer : Peaks) (b′ : Slices)
-      → answer ≡ answerOf k (length cs) → b′ ≡ bufferOf k held cs b → Found conds cs held b answer b′
+      → answer ≡ answerOf k (length cs) ties → b′ ≡ bufferOf k held cs b → PeaksAdded conds cs ties held b answer b′
   found-by k e answer b′ p q = record {
-    answered = p ∙ ap (λ (r : ℕ). answerOf r (length cs)) (sym e);
-    number = ap numberOf p ∙ number-is k (length cs) ∙ sym e;
-    values = ap valuesOf p ∙ values-are k (length cs) ∙ ap (λ (r : ℕ). valuesUnless r (length cs ∷ [])) (sym e);
+    answer = p ∙ ap (λ (r : ℕ). answerOf r (length cs) ties) (sym e);
+    number = ap numberOf p ∙ number-is k (length cs) ties ∙ sym e;
+    values = ap valuesOf p ∙ values-are k (length cs) ties ∙ ap (λ (r : ℕ). valuesUnless r (length cs ∷ ties ∷ [])) (sym e);
     buffer = q ∙ ap (λ (r : ℕ). bufferOf r held cs b) (sym e);
   }
 
-  pub found-refused : (k : ℕ) → k ≡ lowest conds → (k ≡ 0 → ⊥) → Found conds cs held b (Refused k) b
+  pub found-refused : (k : ℕ) → k ≡ lowest conds → (k ≡ 0 → ⊥) → PeaksAdded conds cs ties held b (Refused k) b
   found-refused zero e n = absurd (n refl)
-  found-refused (suc k) e n = found-by (suc k) (refusal-input (placesOf b) held (length cs) conds (λ z. n (e ∙ z)) ∙ sym e) (Refused (suc k)) b refl refl
+  found-refused (suc k) e n =
+      let number = refusal-input (placesOf b) held (length cs) conds (λ z. n (e ∙ z)) ∙ sym e in
+      found-by (suc k) number (Refused (suc k)) b refl refl
 
 -- where there are no conditions
-module _ (cs : List Corner) (held : ℕ) (b : Slices) where
+module _ (cs : List Corner) (ties held : ℕ) (b : Slices) where
   none : Clear []
   none = record { numbered = tt; none = refl }
 
-  pub found-short : placesOf b < held + length cs → Found [] cs held b (Refused 10) b
-  found-short l = found-by [] cs held b 10 (refusal-short (placesOf b) held (length cs) [] none l) (Refused 10) b refl refl
+  pub found-short : placesOf b < held + length cs → PeaksAdded [] cs ties held b (Refused 10) b
+  found-short l = found-by [] cs ties held b 10 (refusal-short (placesOf b) held (length cs) [] none l) (Refused 10) b refl refl
 
-  pub found-added : held + length cs ≤ placesOf b → (n : ℕ) (b′ : Slices) → n ≡ length cs → b′ ≡ placedCorners held cs b → Found [] cs held b (Added n) b′
-  found-added l n b′ e w = found-by [] cs held b 0 (refusal-none (placesOf b) held (length cs) [] none l) (Added n) b′ (ap Added e) w
+  pub found-added : held + length cs ≤ placesOf b → (n t : ℕ) (b′ : Slices) → n ≡ length cs → t ≡ ties → b′ ≡ placedCorners held cs b
+      → PeaksAdded [] cs ties held b (Added n t) b′
+  found-added l n t b′ e f w =
+      found-by [] cs ties held b 0 (refusal-none (placesOf b) held (length cs) [] none l) (Added n t) b′ (ap₂ Added e f) w
 
 -- and where they do not hold
-pub found-clear : (m : List Float) (s t : Search) → s ≡ t → (conds : List (Bool × ℕ)) → Clear conds → (held : ℕ) (b : Slices) (answer : Peaks) (b′ : Slices)
-    → Found [] (startsIn m s) held b answer b′ → Found conds (startsIn m t) held b answer b′
+pub found-clear : (m : List Float) (s t : Search) → s ≡ t → (conds : List (Bool × ℕ)) → Clear conds
+    → (held : ℕ) (b : Slices) (answer : Peaks) (b′ : Slices)
+    → PeaksAdded [] (startsIn m s) (tiesIn m s) held b answer b′ → PeaksAdded conds (startsIn m t) (tiesIn m t) held b answer b′
 found-clear m s t same conds clear held b answer b′ f =
+    let places = placesOf b in
+    let n = length (startsIn m s) in
     rw (← same)
-    (found-by conds (startsIn m s) held b (refusalOf [] (placesOf b) held (length (startsIn m s))) (past (placesOf b) (length (startsIn m s))) answer b′ (f .answered) (f .buffer))
+    (found-by conds (startsIn m s) (tiesIn m s) held b (refusalOf [] places held n) (past places n) answer b′ (f .answer) (f .buffer))
   where
     past : (places n : ℕ) → refusalOf conds places held n ≡ refusalOf [] places held n
     past places n = unfold refusalOf in (lowest-past conds _ (clear .numbered) (clear .none))
@@ -145,13 +162,17 @@ found-clear m s t same conds clear held b answer b′ f =
 -- ---- and what they tell
 
 -- where corners were added, no condition on the input holds
-pub unrefused : (conds : List (Bool × ℕ)) (cs : List Corner) (held : ℕ) (b : Slices) (n : ℕ) (b′ : Slices) → Found conds cs held b (Added n) b′ → lowest conds ≡ 0
-unrefused conds cs held b n b′ f =
-    ⊎-elim (λ z. z) (λ l. sym (f .number ∙ refusal-input (placesOf b) held (length cs) conds (λ z. let no : ⊥ = omega arith in no))) (eq-zero-or-pos (lowest conds))
+pub unrefused : (conds : List (Bool × ℕ)) (cs : List Corner) (ties held : ℕ) (b : Slices) (n t : ℕ) (b′ : Slices)
+    → PeaksAdded conds cs ties held b (Added n t) b′ → lowest conds ≡ 0
+unrefused conds cs ties held b n t b′ f = ⊎-elim (λ z. z) (λ l. sym (f .number ∙ refused l)) (eq-zero-or-pos (lowest conds))
+  where
+    refused : 0 < lowest conds → refusalOf conds (placesOf b) held (length cs) ≡ lowest conds
+    refused l = refusal-input (placesOf b) held (length cs) conds (λ z. let no : ⊥ = omega arith in no)
 
 -- where the conditions on the input do not hold
-pub record Fitted (cs : List Corner) (held : ℕ) (b : Slices) (n : ℕ) (b′ : Slices) : Type 0 where
+pub record Fitted (cs : List Corner) (ties held : ℕ) (b : Slices) (n t : ℕ) (b′ : Slices) : Type 0 where
   pub count : n ≡ length cs
+  pub tied : t ≡ ties
   pub fits : held + n ≤ placesOf b
   pub buffer : b′ ≡ placedCorners held cs b
 
@@ -160,19 +181,24 @@ pub record Short (cs : List Corner) (held : ℕ) (b : Slices) (k : ℕ) (b′ : 
   pub short : placesOf b < held + length cs
   pub buffer : b′ ≡ b
 
-module _ (conds : List (Bool × ℕ)) (clear : Clear conds) (cs : List Corner) (held : ℕ) (b : Slices) (answer : Peaks) (b′ : Slices) (f : Found conds cs held b answer b′) where
-  by-number : (k : ℕ) → refusalOf conds (placesOf b) held (length cs) ≡ k → (answer ≡ answerOf k (length cs)) × (b′ ≡ bufferOf k held cs b)
-  by-number k r = (f .answered ∙ ap (λ (j : ℕ). answerOf j (length cs)) r, f .buffer ∙ ap (λ (j : ℕ). bufferOf j held cs b) r)
+module _ (conds : List (Bool × ℕ)) (clear : Clear conds) (cs : List Corner) (ties held : ℕ) (b : Slices)
+    (answer : Peaks) (b′ : Slices) (f : PeaksAdded conds cs ties held b answer b′) where
+  by-number : (k : ℕ) → refusalOf conds (placesOf b) held (length cs) ≡ k
+      → (answer ≡ answerOf k (length cs) ties) × (b′ ≡ bufferOf k held cs b)
+  by-number k r = (f .answer ∙ ap (λ (j : ℕ). answerOf j (length cs) ties) r, f .buffer ∙ ap (λ (j : ℕ). bufferOf j held cs b) r)
 
-  pub added-tells : (n : ℕ) → answer ≡ Added n → Fitted cs held b n b′
-  added-tells n q =
+  pub added-tells : (n t : ℕ) → answer ≡ Added n t → Fitted cs ties held b n t b′
+  added-tells n t q =
       elim (decLt (placesOf b) (held + length cs)) [
-        | yes l ↦ let z = sym q ∙ by-number 10 (refusal-short (placesOf b) held (length cs) conds clear l) .0 in absurd (let y : _≡_ {A = ℕ} 0 1 = cc in let no : ⊥ = omega arith in no)
+        | yes l ↦
+            let z = sym q ∙ by-number 10 (refusal-short (placesOf b) held (length cs) conds clear l) .0 in
+            absurd (let y : _≡_ {A = ℕ} 0 1 = cc in let no : ⊥ = omega arith in no)
         | no g ↦
             let r = by-number 0 (refusal-none (placesOf b) held (length cs) conds clear (omega arith)) in
             let z = sym q ∙ r .0 in
             let c : n ≡ length cs = cc in
-            record { count = c; fits = omega arith; buffer = r .1 }
+            let d : t ≡ ties = cc in
+            record { count = c; tied = d; fits = omega arith; buffer = r .1 }
       ]
 
   pub refused-tells : (k : ℕ) → answer ≡ Refused k → Short cs held b k b′
@@ -183,5 +209,7 @@ module _ (conds : List (Bool × ℕ)) (clear : Clear conds) (cs : List Corner) (
             let z = sym q ∙ r .0 in
             let c : k ≡ 10 = cc in
             record { number = c; short = l; buffer = r .1 }
-        | no g ↦ let z = sym q ∙ by-number 0 (refusal-none (placesOf b) held (length cs) conds clear (omega arith)) .0 in absurd (let y : _≡_ {A = ℕ} 0 1 = cc in let no : ⊥ = omega arith in no)
+        | no g ↦
+            let z = sym q ∙ by-number 0 (refusal-none (placesOf b) held (length cs) conds clear (omega arith)) .0 in
+            absurd (let y : _≡_ {A = ℕ} 0 1 = cc in let no : ⊥ = omega arith in no)
       ]

@@ -16,13 +16,13 @@ use Rattle.lists.proofs.Members.{all-map, all-keep, all-block}
 use Rattle.float32.specs.Float32.{lift}
 use Rattle.float32.proofs.Classes.{above-lifted}
 use Rattle.detect.specs.declared.Search.{Search}
-use Rattle.detect.specs.Peaks.{Reading, beaten, positives, isPeak, peakPlaces, Inside, valueAt, largerIn, positiveIn}
+use Rattle.detect.specs.Peaks.{CellTests, beaten, positives, isPeak, peakPlaces, Inside, valueAt, largerIn, positiveIn}
 use Rattle.detect.specs.Detect.{readIn, peakIn}
-use Rattle.detect.specs.Post.{place}
+use Rattle.detect.specs.Internal.{place}
 
 -- ---- a place by its tests
 
-module _ (v : Reading) (w h r least : ℕ) (p : Place) where
+module _ (v : CellTests) (w h r least : ℕ) (p : Place) where
   pub peak-below : v .above p ≡ false → false ≡ isPeak v w h r least p
   unfolding isPeak
   peak-below e = rw e
@@ -31,7 +31,8 @@ module _ (v : Reading) (w h r least : ℕ) (p : Place) where
   unfolding isPeak
   peak-beaten e = rw e (sym (and-false (v .above p)))
 
-  pub peak-counted : v .above p ≡ true → not (beaten (v .larger) w h r p) ≡ true → leb least (positives (v .positive) w h r p) ≡ isPeak v w h r least p
+  pub peak-counted : v .above p ≡ true → not (beaten (v .larger) w h r p) ≡ true
+      → leb least (positives (v .positive) w h r p) ≡ isPeak v w h r least p
   unfolding isPeak
   peak-counted e m = rw (e, m)
 
@@ -50,27 +51,36 @@ module _ (v : Reading) (w h r least : ℕ) (p : Place) where
 
 -- ---- a cell of a list of floats, whose value is u, by the tests of the search
 module _ (m : List Float) (s : Search) (p : Place) (u : Float) (e : u ≡ valueAt m (s .w) p) where
+  above-is : (b : Bool) → le u (s .threshold) ≡ b → readIn m s .above p ≡ not b
+  above-is b l = ap not (ap (λ (x : Float). le x (s .threshold)) (sym e) ∙ l)
+
   pub cell-below : le u (s .threshold) ≡ true → false ≡ peakIn m s p
-  cell-below l = peak-below (readIn m s) (s .w) (s .h) (s .window) (s .least) p (ap not (ap (λ (x : Float). le x (s .threshold)) (sym e) ∙ l))
+  cell-below l = peak-below (readIn m s) (s .w) (s .h) (s .window) (s .«least_neighbours») p (above-is true l)
 
   module _ (t : Bool) (top : t ≡ not (beaten (largerIn m (s .w)) (s .w) (s .h) (s .window) p)) where
     pub cell-beaten : t ≡ false → false ≡ peakIn m s p
-    cell-beaten b = peak-beaten (readIn m s) (s .w) (s .h) (s .window) (s .least) p (sym top ∙ b)
+    cell-beaten b = peak-beaten (readIn m s) (s .w) (s .h) (s .window) (s .«least_neighbours») p (sym top ∙ b)
 
-    pub cell-counted : le u (s .threshold) ≡ false → t ≡ true → (n : ℕ) → n ≡ positives (positiveIn m (s .w)) (s .w) (s .h) (s .window) p → leb (s .least) n ≡ peakIn m s p
+    pub cell-counted : le u (s .threshold) ≡ false → t ≡ true
+        → (n : ℕ) → n ≡ positives (positiveIn m (s .w)) (s .w) (s .h) (s .window) p → leb (s .«least_neighbours») n ≡ peakIn m s p
     cell-counted l b n c =
-        ap (leb (s .least)) c
-        ∙ peak-counted (readIn m s) (s .w) (s .h) (s .window) (s .least) p (ap not (ap (λ (x : Float). le x (s .threshold)) (sym e) ∙ l)) (sym top ∙ b)
+        ap (leb (s .«least_neighbours»)) c
+        ∙ peak-counted (readIn m s) (s .w) (s .h) (s .window) (s .«least_neighbours») p (above-is false l) (sym top ∙ b)
 
 -- a peak's own value is above 0, unless it is NaN: its threshold was lifted
-pub peak-positive : (m : List Float) (s : Search) (t : Float) → s .threshold ≡ lift t → (p : Place) → peakIn m s p ≡ true → T (not (isNan (valueAt m (s .w) p))) → positiveIn m (s .w) p ≡ true
+pub peak-positive : (m : List Float) (s : Search) (t : Float) → s .threshold ≡ lift t
+    → (p : Place) → peakIn m s p ≡ true → T (not (isNan (valueAt m (s .w) p))) → positiveIn m (s .w) p ≡ true
 peak-positive m s t e p k h =
     above-lifted t (valueAt m (s .w) p) h
-    (ap (le (valueAt m (s .w) p)) (sym e) ∙ not-true _ (peak-above (readIn m s) (s .w) (s .h) (s .window) (s .least) p k))
+    (ap (le (valueAt m (s .w) p)) (sym e) ∙ not-true _ (peak-above (readIn m s) (s .w) (s .h) (s .window) (s .«least_neighbours») p k))
 
 -- ---- where peaks lie, and how many there can be
 
-module _ (v : Reading) (w h border r least : ℕ) where
+-- the cells inside the border
+abbrev cellsInside : ℕ → ℕ → ℕ → List Place
+cellsInside w h border = block border (w - border) border (h - border)
+
+module _ (v : CellTests) (w h border r least : ℕ) where
   -- a side at most twice the border leaves none
   pub none-narrow : w ≤ 2 * border → peakPlaces v w h border r least ≡ []
   unfolding peakPlaces
@@ -86,18 +96,21 @@ module _ (v : Reading) (w h border r least : ℕ) where
   peaks-at-most =
       let a : w - border - border ≡ w - 2 * border = omega arith in
       let b : h - border - border ≡ h - 2 * border = omega arith in
-      let c : (h - border - border) * (w - border - border) ≡ (w - 2 * border) * (h - 2 * border) = ap₂ (λ (x y : ℕ). x * y) b a ∙ mul-comm (h - 2 * border) (w - 2 * border) in
-      omega (arith, keep-le (isPeak v w h r least) (block border (w - border) border (h - border)), length-block border (w - border) border (h - border))
+      let c = ap₂ (λ (x y : ℕ). x * y) b a ∙ mul-comm (h - 2 * border) (w - 2 * border) in
+      let kept = keep-le (isPeak v w h r least) (cellsInside w h border) in
+      omega (arith, kept, length-block border (w - border) border (h - border))
 
   -- each lies inside the border, and is one
   pub peaks-are : All (λ p. Inside w h border p × (isPeak v w h r least p ≡ true)) (peakPlaces v w h border r least)
   unfolding peakPlaces
   peaks-are =
-      all-keep (Inside w h border) (isPeak v w h r least) (block border (w - border) border (h - border))
-      (all-block (Inside w h border) border (w - border) border (h - border) (λ x y a b c d. record { left = a; right = omega arith; top = c; bottom = omega arith }))
+      all-keep (Inside w h border) (isPeak v w h r least) (cellsInside w h border)
+      (all-block (Inside w h border) border (w - border) border (h - border)
+      (λ x y a b c d. record { left = a; right = omega arith; top = c; bottom = omega arith }))
 
   -- so its column and row are the map's
   pub peaks-in-map : All (λ p. (p .x < w) × (p .y < h)) (peakPlaces v w h border r least)
   peaks-in-map =
-      all-map (λ p. Inside w h border p × (isPeak v w h r least p ≡ true)) (λ p. (p .x < w) × (p .y < h)) (λ p k. (omega (arith, k .0 .right), omega (arith, k .0 .bottom)))
+      all-map (λ p. Inside w h border p × (isPeak v w h r least p ≡ true)) (λ p. (p .x < w) × (p .y < h))
+      (λ p k. (omega (arith, k .0 .right), omega (arith, k .0 .bottom)))
       (peakPlaces v w h border r least) peaks-are

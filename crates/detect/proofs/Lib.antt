@@ -3,9 +3,11 @@ pub mod Window
 pub mod Agreement
 pub mod Answers
 pub mod Cells
-pub mod Neighbors
+pub mod Ahead
+pub mod WindowRows
 pub mod Rows
 pub mod Scanning
-pub mod Table
+pub mod FirstPeaks
+pub mod Ties
 pub mod Writing
 pub mod Sample

@@ -11,12 +11,12 @@ use lib.Ieee.{Float, nan, le}
 use borrow.Author.Count as passed
 use Rattle.lists.specs.Places.{count}
 use Rattle.lists.proofs.Scan.{count-every}
-use Rattle.lists.proofs.Parts.{keep-skip}
 use Rattle.lists.proofs.Rows.{rowPart}
 use Rattle.detect.specs.declared.Search.{Search}
 use Rattle.detect.specs.Peaks.{valueAt, isLow}
 use Rattle.detect.specs.Detect.{readIn, peakIn}
-use Rattle.detect.specs.Post.{place, Below, Skipped}
+use Rattle.detect.specs.Internal.{place, Below, Skipped}
+use Rattle.detect.proofs.Ahead.{keep-skip}
 use Rattle.detect.proofs.Choice.{peak-below}
 
 -- the element at k of a part
@@ -32,7 +32,8 @@ module _ (cells : List Float) (t : Float) where
   below-more i b h e = record { within = omega arith; below = passed.below-more (λ k. le (getD cells k nan) t ≡ true) i (b .below) e }
 
   -- a part more
-  pub below-part : (i e n : ℕ) → Below cells t i → e ≤ length cells → n ≡ count (isLow t) (take (e - i) (drop i cells)) → n ≡ e - i → Below cells t e
+  pub below-part : (i e n : ℕ) → Below cells t i → e ≤ length cells
+      → n ≡ count (isLow t) (take (e - i) (drop i cells)) → n ≡ e - i → Below cells t e
   below-part i e n b h p q = record { within = h; below = at }
     where
       long : length (take (e - i) (drop i cells)) ≡ e - i
@@ -44,7 +45,8 @@ module _ (cells : List Float) (t : Float) where
             | yes o ↦ b .below k o
             | no o ↦
                 let z : i + (k - i) ≡ k = omega arith in
-                ap (λ (j : ℕ). le (getD cells j nan) t) (sym z) ∙ ap (λ (x : Float). le x t) (sym (part-at cells i e (k - i) (omega arith)))
+                ap (λ (j : ℕ). le (getD cells j nan) t) (sym z)
+                ∙ ap (λ (x : Float). le x t) (sym (part-at cells i e (k - i) (omega arith)))
                 ∙ count-every (isLow t) (take (e - i) (drop i cells)) (k - i) nan (sym p ∙ q ∙ sym long) (rw long (omega arith))
           ]
 
@@ -61,13 +63,14 @@ module _ (m : List Float) (s : Search) (x y : ℕ) where
       record {
         onward = omega arith;
         same-ahead =
-            keep-skip (peakIn m s) (s .border) (s .w - s .border) (s .h - s .border) x y n (omega arith) j
-            (λ k i. sym (peak-below (readIn m s) (s .w) (s .h) (s .window) (s .least) (place (x + k) y) (ap not (at k i))));
+            keep-skip s x y n (omega arith) j (peakIn m s)
+            (λ k i. sym (peak-below (readIn m s) (s .w) (s .h) (s .window) (s .«least_neighbours») (place (x + k) y) (ap not (at k i))));
       }
     where
       at : (k : ℕ) → k < n → le (valueAt m (s .w) (place (x + k) y)) (s .threshold) ≡ true
       at k i =
           let z : y * s .w + x + k ≡ y * s .w + (x + k) = omega arith in
+          let in-part : k < y * s .w + x1 - (y * s .w + x) = omega (arith, simp (length-take, length-drop) at (b .within)) in
           ap (λ (j : ℕ). le (getD m j nan) (s .threshold)) (sym z)
-          ∙ ap (λ (v : Float). le v (s .threshold)) (sym (part-at m (y * s .w + x) (y * s .w + x1) k (omega (arith, simp (length-take, length-drop) at (b .within)))))
+          ∙ ap (λ (v : Float). le v (s .threshold)) (sym (part-at m (y * s .w + x) (y * s .w + x1) k in-part))
           ∙ b .below k i

@@ -6,11 +6,11 @@ use mathlib.Core.Bool.{Bool, true, false}
 use mathlib.Core.List.{List, [], _∷_}
 use lib.Ieee.{Float}
 use Rattle.lists.specs.Places.{Place, keep}
-use Rattle.lists.proofs.Places.{keep-hit, keep-miss, ahead-start, ahead-row, ahead-end}
 use Rattle.detect.specs.declared.Search.{Search}
 use Rattle.detect.specs.Peaks.{peakPlaces, Inside}
 use Rattle.detect.specs.Detect.{peakIn, peaksIn}
-use Rattle.detect.specs.Post.{place, behind, peaksFrom, Skipped, NextPeak}
+use Rattle.detect.specs.Internal.{place, placeBehind, peaksFrom, Skipped, NextPeak}
+use Rattle.detect.proofs.Ahead.{keep-hit, keep-miss, ahead-start, ahead-row, ahead-end}
 
 -- from p on, the places before q are no peaks, and q lies behind the border's left and upper part
 pub record Passed (m : List Float) (s : Search) (p q : Place) : Type 0 where
@@ -35,7 +35,7 @@ module _ (m : List Float) (s : Search) (p : Place) (x y : ℕ) (a : Passed m s p
       passed-cell e = record {
         left = omega (arith, a .left);
         top = a .top;
-        same-ahead = a .same-ahead ∙ keep-miss (peakIn m s) (s .border) (s .w - s .border) (s .h - s .border) x y i j (sym tested ∙ e);
+        same-ahead = a .same-ahead ∙ keep-miss s x y i j (peakIn m s) (sym tested ∙ e);
       }
 
       pub passed-peak : t ≡ true → NextPeak m s p (place x y)
@@ -46,7 +46,7 @@ module _ (m : List Float) (s : Search) (p : Place) (x y : ℕ) (a : Passed m s p
   passed-row i j = record {
     left = omega arith;
     top = omega (arith, a .top);
-    same-ahead = a .same-ahead ∙ ap (keep (peakIn m s)) (ahead-row (s .border) (s .w - s .border) (s .h - s .border) x y i j);
+    same-ahead = a .same-ahead ∙ ap (keep (peakIn m s)) (ahead-row s x y i j);
   }
 
   -- behind the last row
@@ -57,10 +57,10 @@ module _ (m : List Float) (s : Search) (p : Place) (x y : ℕ) (a : Passed m s p
 
 pub peaks-start : (m : List Float) (s : Search) → peaksIn m s ≡ peaksFrom m s (place (s .border) (s .border))
 unfolding peakPlaces
-peaks-start m s = ap (keep (peakIn m s)) (ahead-start (s .border) (s .w - s .border) (s .border) (s .h - s .border))
+peaks-start m s = ap (keep (peakIn m s)) (ahead-start s (s .border))
 
 peaks-end : (m : List Float) (s : Search) (p : Place) → s .h - s .border ≤ p .y → peaksFrom m s p ≡ []
-peaks-end m s p l = ap (keep (peakIn m s)) (ahead-end (s .border) (s .w - s .border) (s .h - s .border) (p .x) (p .y) l)
+peaks-end m s p l = ap (keep (peakIn m s)) (ahead-end s (p .x) (p .y) l)
 
 -- q is the next from p on
 module _ (m : List Float) (s : Search) (p q : Place) (a : NextPeak m s p q) where
@@ -69,14 +69,17 @@ module _ (m : List Float) (s : Search) (p q : Place) (a : NextPeak m s p q) wher
 
   -- past the last row one place is like another
   pub next-past : (r : Place) → s .h - s .border ≤ q .y → s .h - s .border ≤ r .y → NextPeak m s p r
-  next-past r l k = record { same-ahead = next-none l ∙ sym (peaks-end m s r k); is-peak = λ o. absurd (let no : ⊥ = omega arith in no) }
+  next-past r l k = record {
+    same-ahead = next-none l ∙ sym (peaks-end m s r k);
+    is-peak = λ o. absurd (let no : ⊥ = omega arith in no);
+  }
 
   module _ (l : q .y < s .h - s .border) where
     pub next-inside : Inside (s .w) (s .h) (s .border) q
     next-inside = a .is-peak l .0
 
-    pub next-first : peaksFrom m s p ≡ q ∷ peaksFrom m s (behind q)
+    pub next-first : peaksFrom m s p ≡ q ∷ peaksFrom m s (placeBehind q)
     next-first =
         let i = next-inside in
         a .same-ahead
-        ∙ keep-hit (peakIn m s) (s .border) (s .w - s .border) (s .h - s .border) (q .x) (q .y) (omega (arith, i .right)) (omega (arith, i .bottom)) (a .is-peak l .1)
+        ∙ keep-hit s (q .x) (q .y) (omega (arith, i .right)) (omega (arith, i .bottom)) (peakIn m s) (a .is-peak l .1)

@@ -10,12 +10,12 @@ use lib.Ieee.{Float, lt}
 use borrow.Author.Tests.{eq-eqb, eqb-true, not-false}
 use Rattle.lists.specs.Places.{Place, block, any, keep, count, All}
 use Rattle.lists.proofs.Tests.{and-parts}
+use Rattle.lists.proofs.Places.{count-block-le}
 use Rattle.lists.proofs.Scan.{any-kept, count-kept}
 use Rattle.lists.proofs.Parts.{keep-only}
 use Rattle.lists.proofs.Members.{all-map, all-keep, all-block}
-use Rattle.float32.specs.Float32.{zero}
 use Rattle.float32.proofs.Classes.{lt-self}
-use Rattle.detect.specs.Peaks.{same, square, window, beaten, positives, valueAt, largerIn, positiveIn, Inside}
+use Rattle.detect.specs.Peaks.{same, square, window, beaten, valueAt, largerIn, Inside}
 
 -- ---- tests of places
 
@@ -38,15 +38,31 @@ same-other u v p n = pick (eqb u (p .x)) (eqb v (p .y)) refl refl
     pick false b e f = refl
 
 -- ---- a fact of each cell of a map is one of each cell of a window
-pub window-in : (P : Place → Type 0) (w h r : ℕ) (p : Place) → ((q : Place) → q .x < w → q .y < h → P q) → All P (window w h r p)
+pub window-in : (P : Place → Type 0) (w h r : ℕ) (p : Place) → ((q : Place) → q .x < w → q .y < h → P q)
+    → All P (window w h r p)
 unfolding window square
 window-in P w h r p f =
     all-map (λ q. P q × (not (same q p) ≡ true)) P (λ q k. k .0) (window w h r p)
     (all-keep P (λ q. not (same q p)) (square w h r p)
-    (all-block P (p .x - r) (min (p .x + r + 1) w) (p .y - r) (min (p .y + r + 1) h) (λ x y a b c d. f (record { x = x; y = y }) (omega arith) (omega arith))))
+    (all-block P (p .x - r) (min (p .x + r + 1) w) (p .y - r) (min (p .y + r + 1) h)
+    (λ x y a b c d. f (record { x = x; y = y }) (omega arith) (omega arith))))
+
+-- ---- at most 1,089 cells of a window pass a test, clipped or not
+pub window-few : (w h r : ℕ) (p : Place) (f : Place → Bool) → r ≤ 16 → count f (window w h r p) ≤ 1089
+unfolding window square
+window-few w h r p f k =
+    let most =
+    count-block-le f (p .x - r) (min (p .x + r + 1) w) (p .y - r) (min (p .y + r + 1) h) 33 33 (omega arith) (omega arith)
+    in
+    omega (arith, most, count-kept f (λ q. not (same q p)) (square w h r p))
 
 -- ---- inside the border a window that is no wider is not clipped
-square-whole : (w h border r : ℕ) (p : Place) → r ≤ border → Inside w h border p → square w h r p ≡ block (p .x - r) (p .x + r + 1) (p .y - r) (p .y + r + 1)
+
+-- the square of 2r + 1 cells a side about p
+abbrev about : ℕ → Place → List Place
+about r p = block (p .x - r) (p .x + r + 1) (p .y - r) (p .y + r + 1)
+
+square-whole : (w h border r : ℕ) (p : Place) → r ≤ border → Inside w h border p → square w h r p ≡ about r p
 unfolding square
 square-whole w h border r p k i =
     let ex : min (p .x + r + 1) w ≡ p .x + r + 1 = omega (arith, i .right) in
@@ -70,25 +86,32 @@ module _ (m : List Float) (w h r : ℕ) (p : Place) where
       (ap (λ (t : Bool). not (not t)) (same-self p)) (λ u v n. ap (λ (t : Bool). not (not t)) (same-other u v p n))
       (omega arith) (omega arith) (omega arith) (omega arith)
 
-  positives-square : p .x < w → p .y < h → count (positiveIn m w) (square w h r p) ≡ positives (positiveIn m w) w h r p + cond (positiveIn m w p) 1 0
-  unfolding positives window
-  positives-square px py =
-      count-kept (positiveIn m w) (λ q. not (same q p)) (square w h r p)
-      ∙ ap (λ (n : ℕ). count (positiveIn m w) (window w h r p) + n) (ap (count (positiveIn m w)) (centre-only px py) ∙ one (positiveIn m w) p)
+  count-square : (f : Place → Bool) → p .x < w → p .y < h → count f (square w h r p) ≡ count f (window w h r p) + cond (f p) 1 0
+  unfolding window
+  count-square f px py =
+      count-kept f (λ q. not (same q p)) (square w h r p)
+      ∙ ap (λ (n : ℕ). count f (window w h r p) + n) (ap (count f) (centre-only px py) ∙ one)
     where
-      one : (f : Place → Bool) (p : Place) → count f (p ∷ []) ≡ cond (f p) 1 0
-      one f p = unfold count in (pick (f p))
+      one : count f (p ∷ []) ≡ cond (f p) 1 0
+      one = unfold count in (pick (f p))
         where
           pick : (b : Bool) → length (cond b (p ∷ []) []) ≡ cond b 1 0
           pick true = refl
           pick false = refl
 
 -- ---- the tests of a window inside the border, over the whole square, where the centre's value is v
-module _ (m : List Float) (w h border r : ℕ) (p : Place) (v : Float) (k : r ≤ border) (i : Inside w h border p) (e : v ≡ valueAt m w p) where
-  pub beaten-whole : any (λ q. lt v (valueAt m w q)) (block (p .x - r) (p .x + r + 1) (p .y - r) (p .y + r + 1)) ≡ beaten (largerIn m w) w h r p
-  beaten-whole = rw e (sym (beaten-square m w h r p ∙ ap (any (λ q. lt (valueAt m w p) (valueAt m w q))) (square-whole w h border r p k i)))
+module _ (m : List Float) (w h border r : ℕ) (p : Place) (v : Float) (k : r ≤ border)
+    (i : Inside w h border p) (e : v ≡ valueAt m w p) where
+  whole : square w h r p ≡ about r p
+  whole = square-whole w h border r p k i
 
-  pub positives-whole : count (positiveIn m w) (block (p .x - r) (p .x + r + 1) (p .y - r) (p .y + r + 1)) ≡ positives (positiveIn m w) w h r p + cond (lt zero v) 1 0
-  positives-whole =
-      ap (count (positiveIn m w)) (sym (square-whole w h border r p k i)) ∙ positives-square m w h r p (omega (arith, i .right)) (omega (arith, i .bottom))
-      ∙ ap (λ (x : Float). positives (positiveIn m w) w h r p + cond (lt zero x) 1 0) (sym e)
+  pub beaten-whole : any (λ q. lt v (valueAt m w q)) (about r p) ≡ beaten (largerIn m w) w h r p
+  beaten-whole = rw e (sym (beaten-square m w h r p ∙ ap (any (λ q. lt (valueAt m w p) (valueAt m w q))) whole))
+
+  -- how many cells pass a test of their values
+  pub count-whole : (f : Float → Bool)
+      → count (λ q. f (valueAt m w q)) (about r p) ≡ count (λ q. f (valueAt m w q)) (window w h r p) + cond (f v) 1 0
+  count-whole f =
+      ap (count (λ q. f (valueAt m w q))) (sym whole)
+      ∙ count-square m w h r p (λ q. f (valueAt m w q)) (omega (arith, i .right)) (omega (arith, i .bottom))
+      ∙ ap (λ (x : Float). count (λ q. f (valueAt m w q)) (window w h r p) + cond (f x) 1 0) (sym e)

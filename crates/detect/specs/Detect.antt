@@ -1,52 +1,62 @@
--- Peak finding: the corners that a map's peaks start as, the refusals, and what is promised of the answer and the buffer.
+-- Peak finding (RULES 4): the corners that a map's peaks start as, the refusals, and what is promised of the answer and the buffer.
 use Prim.Native.Nat.{ℕ, zero, suc, _+_}
 use mathlib.Core.Path.{_≡_}
 use mathlib.Core.Bool.{Bool, not, _||_}
 use mathlib.Core.List.{List, [], _∷_, _++_, map}
 use lib.ListN.{length}
-use lib.IntN.{pos}
 use lib.Dec.{ltb}
-use lib.Ieee.{Float, ofInt, binary32}
-use Rattle.lists.specs.Places.{Place}
+use lib.Ieee.{Float}
+use Rattle.lists.specs.Places.{Place, sumOf}
 use Rattle.lists.specs.Refusals.{lowest, valuesUnless, isLarge, isMisfit}
-use Rattle.float32.specs.Float32.{lift}
+use Rattle.float32.specs.Float32.{lift, floatOf}
 pub use Rattle.ring.specs.Ring.{isRing}
 use Rattle.corner_list.specs.CornerList.{Slices, placesOf, placedCorners}
 use Rattle.corner_list.specs.declared.Corner.{Corner}
 use Rattle.detect.specs.declared.Search.{Search}
 use Rattle.detect.specs.declared.Peaks.{Peaks}
 use Rattle.detect.specs.declared.Peaks.the-variants.{Added, Refused}
-use Rattle.detect.specs.Peaks.{Reading, isPeak, peakPlaces, valueAt, computed}
+use Rattle.detect.specs.declared.WindowTest.{WindowTest}
+use Rattle.detect.specs.Peaks.{CellTests, isPeak, peakPlaces, valueAt, largerIn, equalIn, computed, windowTest, tiesOf}
 
--- ---- what a map is searched with: border = ring + window + refine radius; a threshold that is NaN or negative counts as 0
+-- ---- RULES 4.1, what a map is searched with: border = ring + window + refine radius; a threshold that is NaN or negative counts as 0
 abbrev pub searchOf : ℕ → ℕ → ℕ → Float → ℕ → ℕ → ℕ → Search
 searchOf w h ring threshold window least radius =
-    record { w = w; h = h; border = ring + window + radius; window = window; threshold = lift threshold; least = least }
+    record { w = w; h = h; border = ring + window + radius; window = window; threshold = lift threshold; «least_neighbours» = least }
 
 -- the peaks of a map that is read by v
-abbrev pub peaksBy : Reading → Search → List Place
-peaksBy v s = peakPlaces v (s .w) (s .h) (s .border) (s .window) (s .least)
+abbrev pub peaksBy : CellTests → Search → List Place
+peaksBy v s = peakPlaces v (s .w) (s .h) (s .border) (s .window) (s .«least_neighbours»)
 
 -- the peaks of a list of floats
-abbrev pub readIn : List Float → Search → Reading
+abbrev pub readIn : List Float → Search → CellTests
 readIn m s = computed m (s .w) (s .threshold)
 
 abbrev pub peakIn : List Float → Search → Place → Bool
-peakIn m s = isPeak (readIn m s) (s .w) (s .h) (s .window) (s .least)
+peakIn m s = isPeak (readIn m s) (s .w) (s .h) (s .window) (s .«least_neighbours»)
 
 abbrev pub peaksIn : List Float → Search → List Place
 peaksIn m s = peaksBy (readIn m s) s
 
--- ---- the corner that a peak starts as: its column and row, and the cell's value as strength
+-- ---- RULES 4.5, the corner that a peak starts as: its column and row, and the cell's value as strength
 abbrev pub startAt : List Float → Search → Place → Corner
-startAt m s p = record { x = ofInt binary32 (pos (p .x)); y = ofInt binary32 (pos (p .y)); strength = valueAt m (s .w) p }
+startAt m s p = record { x = floatOf (p .x); y = floatOf (p .y); strength = valueAt m (s .w) p }
 
 abbrev pub startsIn : List Float → Search → List Corner
 startsIn m s = map (startAt m s) (peaksIn m s)
 
+-- ---- RULES 23.2, the ties of a peak, by the window test of its cell, and those of a list of peaks
+abbrev pub testAt : List Float → Search → Place → WindowTest
+testAt m s = windowTest (largerIn m (s .w)) (equalIn m (s .w)) (s .w) (s .h) (s .window)
+
+abbrev pub tiesAt : List Float → Search → Place → ℕ
+tiesAt m s p = tiesOf (testAt m s p)
+
+abbrev pub tiesIn : List Float → Search → ℕ
+tiesIn m s = sumOf (tiesAt m s) (peaksIn m s)
+
 -- ---- refusals
 
--- the conditions on the input, a map of `size` cells and the parameters, with their numbers
+-- RULES 2.4: the conditions on the input, a map of `size` cells and the parameters, with their numbers
 unfoldable pub conditions : ℕ → ℕ → ℕ → ℕ → ℕ → ℕ → List (Bool × ℕ)
 conditions size w h ring window radius =
     (isLarge w h, 1)
@@ -54,36 +64,36 @@ conditions size w h ring window radius =
     ∷ (not (isRing ring) || (ltb 16 window || ltb 16 radius), 3)
     ∷ []
 
--- The refusal's number, 0 for none: those conditions, and then 10 where n corners do not fit behind the first `held` of a buffer of
--- so many places, as where `held` alone exceeds them.
+-- RULES 4.6: the refusal's number, 0 for none: those conditions, and then 10 where n corners do not fit behind the first `held` of a
+-- buffer of so many places, as where `held` alone exceeds them.
 unfoldable pub refusalOf : List (Bool × ℕ) → ℕ → ℕ → ℕ → ℕ
 refusalOf conds places held n = lowest (conds ++ ((ltb places (held + n), 10) ∷ []))
 
 -- ---- the promise
 
--- the answer for a number: how many peaks were added, or the refusal
-abbrev pub answerOf : ℕ → ℕ → Peaks
-answerOf zero n = Added n
-answerOf (suc k) n = Refused (suc k)
+-- the answer for a number: how many peaks were added and how many ties they have, or the refusal
+abbrev pub answerOf : ℕ → ℕ → ℕ → Peaks
+answerOf zero n ties = Added n ties
+answerOf (suc k) n ties = Refused (suc k)
 
--- the buffer after: the corners cs behind its first `held`, or as it was
+-- RULES 2.5: the buffer after: the corners cs behind its first `held`, or as it was
 abbrev pub bufferOf : ℕ → ℕ → List Corner → Slices → Slices
 bufferOf zero held cs b = placedCorners held cs b
 bufferOf (suc k) held cs b = b
 
--- document 01's number and values of each case
+-- RULES 15.1: the number and the values of each case
 abbrev pub numberOf : Peaks → ℕ
-numberOf (Added n) = 0
+numberOf (Added n ties) = 0
 numberOf (Refused k) = k
 
 abbrev pub valuesOf : Peaks → List ℕ
-valuesOf (Added n) = n ∷ []
+valuesOf (Added n ties) = n ∷ ties ∷ []
 valuesOf (Refused k) = []
 
--- What peak finding promises, under the conditions conds on the input, of a map whose peaks start as the corners cs and of a buffer b
--- that holds `held`: the answer, its number and values, and the buffer after
-pub record Found (conds : List (Bool × ℕ)) (cs : List Corner) (held : ℕ) (b : Slices) (answer : Peaks) (b′ : Slices) : Type 0 where
-  pub answered : answer ≡ answerOf (refusalOf conds (placesOf b) held (length cs)) (length cs)
-  pub number : numberOf answer ≡ refusalOf conds (placesOf b) held (length cs)
-  pub values : valuesOf answer ≡ valuesUnless (refusalOf conds (placesOf b) held (length cs)) (length cs ∷ [])
+-- What peak finding promises, under the conditions conds on the input, of a map whose peaks start as the corners cs and have so many ties,
+-- and of a buffer b that holds `held`: the answer, its number and values, and the buffer after
+pub record PeaksAdded (conds : List (Bool × ℕ)) (cs : List Corner) (ties held : ℕ) (b : Slices) (r : Peaks) (b′ : Slices) : Type 0 where
+  pub answer : r ≡ answerOf (refusalOf conds (placesOf b) held (length cs)) (length cs) ties
+  pub number : numberOf r ≡ refusalOf conds (placesOf b) held (length cs)
+  pub values : valuesOf r ≡ valuesUnless (refusalOf conds (placesOf b) held (length cs)) (length cs ∷ ties ∷ [])
   pub buffer : b′ ≡ bufferOf (refusalOf conds (placesOf b) held (length cs)) held cs b

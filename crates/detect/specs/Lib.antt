@@ -1,4 +1,4 @@
 pub mod Peaks
 pub mod Detect
 pub mod Exact
-pub mod Post
+pub mod Internal

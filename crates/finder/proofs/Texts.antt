@@ -6,10 +6,12 @@ use mathlib.Core.List.{List}
 use lib.ListN.{length, take, drop, length-take, length-append}
 use borrow.Author.Tests.{le-ltb}
 use Rattle.lists.proofs.Buffer.{front-length}
+use Rattle.lists.specs.Buffer.{Written}
 use Rattle.corner_list.specs.CornerList.{Slices, cornersOf}
-use Rattle.frame_pass.specs.declared.FrameParams.{FrameParams}
-use Rattle.frame_pass.specs.Pass.{framePass, computedChoice}
-use Rattle.frame.specs.Frame.{Buffers, Found}
+use Rattle.patch_corners.specs.declared.FrameParams.{FrameParams}
+use Rattle.patch_corners.specs.OneMap.{computedChoice}
+use Rattle.frame_pass.specs.Pass.{framePass}
+use Rattle.frame.specs.Frame.{Buffers, FrameFound}
 use Rattle.frame.specs.declared.FrameAnswer.{FrameAnswer}
 use Rattle.frame.specs.declared.FrameAnswer.the-variants.{Corners, Refused}
 use Rattle.frame.proofs.Callers.{Finished, finished-tells, refused-tells, refusal-positive}
@@ -17,13 +19,13 @@ use Rattle.stream.specs.declared.Header.{Header}
 use Rattle.stream.specs.declared.FrameStream.{FrameStream}
 use Rattle.stream.specs.declared.FrameStream.the-variants as stream
 use Rattle.stream.specs.Answer.{FrameRead}
-use Rattle.stream.proofs.Callers.{FrameFound, frame-found, refusal-found}
+use Rattle.stream.proofs.Callers.{FrameStands, frame-found, refusal-found}
 use Rattle.listing.specs.declared.Listing.{Listing}
 use Rattle.listing.specs.declared.Listing.the-variants as listing
 use Rattle.listing.specs.Text.{cornersText}
 use Rattle.listing.specs.Answer.{listing as listingOf, CornersWritten, RefusalWritten}
 use Rattle.listing.proofs.Texts.{listed}
-use Rattle.finder.specs.Finder.{paramsOf, programBuffers, textOf, frameText, outputOf, Written}
+use Rattle.finder.specs.Finder.{paramsOf, programBuffers, textOf, frameText, outputOf}
 
 -- ---- a text that was written lies in the buffer
 pub written-fits : (text buffer : List ℕ) (end : ℕ) (after : List ℕ) → Written text buffer end after → end ≤ length after
@@ -42,24 +44,26 @@ module _ (b : Slices) (count : ℕ) (before : List ℕ) (r : Listing) (after : L
 
 -- ---- the text of a frame
 module _ (h : Header) (pixels : List ℕ) (p : FrameParams) (is : p ≡ paramsOf h) (answer : FrameAnswer) (b′ : Buffers)
-    (f : Found p pixels (h .width) (h .height) programBuffers answer b′) where
-  answered : (a : FrameAnswer) → answer ≡ a → Found (paramsOf h) pixels (h .width) (h .height) programBuffers a b′
+    (f : FrameFound p pixels (h .width) (h .height) programBuffers answer b′) where
+  answered : (a : FrameAnswer) → answer ≡ a → FrameFound (paramsOf h) pixels (h .width) (h .height) programBuffers a b′
   answered a e = rw (← is, ← e) f
 
   -- its corners, which are at most 512
-  module _ (n : ℕ) (e : answer ≡ Corners n) where
-    finished : Finished (paramsOf h) pixels (h .width) (h .height) programBuffers n b′
-    finished = finished-tells _ _ _ _ _ n b′ (answered (Corners n) e)
+  module _ (n t : ℕ) (e : answer ≡ Corners n t) where
+    finished : Finished (paramsOf h) pixels (h .width) (h .height) programBuffers n t b′
+    finished = finished-tells _ _ _ _ _ n t b′ (answered (Corners n t) e)
 
     pub corners-few : n ≤ 512
     corners-few = omega (arith, finished .fits)
 
-    pub corners-written : (before : List ℕ) (end : ℕ) (after : List ℕ) → Written (cornersText (cornersOf (b′ .corners) n)) before end after → Written (frameText h pixels) before end after
+    pub corners-written : (before : List ℕ) (end : ℕ) (after : List ℕ) → Written (cornersText (cornersOf (b′ .corners) n)) before end after
+        → Written (frameText h pixels) before end after
     unfolding frameText
     corners-written before end after w = rw (finished .number, ← finished .corners) w
 
   -- or the refusal
-  pub refusal-written : (n : ℕ) → answer ≡ Refused n → (before : List ℕ) (end : ℕ) (after : List ℕ) → RefusalWritten n before end after → Written (frameText h pixels) before end after
+  pub refusal-written : (n : ℕ) → answer ≡ Refused n → (before : List ℕ) (end : ℕ) (after : List ℕ) → RefusalWritten n before end after
+      → Written (frameText h pixels) before end after
   unfolding frameText
   refusal-written n e before end after w =
       rw (refused-tells _ _ _ _ _ n b′ (answered (Refused n) e)) (of n (refusal-positive _ _ _ _ _ n b′ (answered (Refused n) e)) w)
@@ -72,7 +76,7 @@ module _ (h : Header) (pixels : List ℕ) (p : FrameParams) (is : p ≡ paramsOf
 -- ---- the text of a stream
 module _ (input buffer : List ℕ) (answer : FrameStream) (after : List ℕ) (r : FrameRead input buffer answer after) where
   module _ (h : Header) (e : answer ≡ stream.Frame h) where
-    pub found-frame : FrameFound input buffer h after
+    pub found-frame : FrameStands input buffer h after
     found-frame = frame-found input buffer h after (subst (λ (a : FrameStream). FrameRead input buffer a after) e r)
 
     -- the buffer is as long as it was
@@ -81,11 +85,13 @@ module _ (input buffer : List ℕ) (answer : FrameStream) (after : List ℕ) (r 
         let n = h .width * h .height in
         ap length (found-frame .buffer-is) ∙ front-length (take n after) buffer (omega (arith, l, found-frame .fits, length-take n after)) ∙ l
 
-    pub frame-listed : (before : List ℕ) (end : ℕ) (out : List ℕ) → Written (frameText h (take (h .width * h .height) after)) before end out → Written (outputOf input) before end out
+    pub frame-listed : (before : List ℕ) (end : ℕ) (out : List ℕ) → Written (frameText h (take (h .width * h .height) after)) before end out
+        → Written (outputOf input) before end out
     unfolding outputOf
     frame-listed before end out w = rw (found-frame .reading) w
 
-  pub refusal-listed : (n : ℕ) → answer ≡ stream.Refused n → (before : List ℕ) (end : ℕ) (out : List ℕ) → RefusalWritten n before end out → Written (outputOf input) before end out
+  pub refusal-listed : (n : ℕ) → answer ≡ stream.Refused n → (before : List ℕ) (end : ℕ) (out : List ℕ) → RefusalWritten n before end out
+      → Written (outputOf input) before end out
   unfolding outputOf
   refusal-listed n e before end out w =
       rw (refusal-found input buffer n after (subst (λ (a : FrameStream). FrameRead input buffer a after) e r) .0) (record { ends = w .long; holds = w .text })

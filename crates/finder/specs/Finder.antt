@@ -4,12 +4,13 @@ use mathlib.Core.Path.{_≡_}
 use mathlib.Core.List.{List}
 use lib.ListN.{length, replicate}
 use lib.Ieee.{binary32, ofBits}
-use Rattle.lists.specs.Buffer.{front}
+use Rattle.lists.specs.Buffer.{front, Written}
 use Rattle.float32.specs.Float32 as float32
 use Rattle.corner_list.specs.CornerList.{Slices, slices}
 use Rattle.corner_list.specs.declared.Corner.{Corner}
-use Rattle.frame_pass.specs.declared.FrameParams.{FrameParams}
-use Rattle.frame_pass.specs.Pass.{framePass, computedChoice}
+use Rattle.patch_corners.specs.declared.FrameParams.{FrameParams}
+use Rattle.patch_corners.specs.OneMap.{computedChoice}
+use Rattle.frame_pass.specs.Pass.{framePass}
 use Rattle.frame.specs.Frame.{Buffers, buffers, refusalOf}
 use Rattle.stream.specs.declared.Header.{Header}
 use Rattle.stream.specs.Stream.{Reading, accepted, refused, readFrame}
@@ -22,15 +23,15 @@ paramsOf h =
       ring = h .ring;
       threshold = ofBits binary32 (h .«threshold_bits»);
       window = h .window;
-      least = h .least;
-      centroid = h .centroid;
-      radius = ofBits binary32 (h .«merge_bits»);
+      «least_neighbours» = h .«least_neighbours»;
+      «centroid_radius» = h .«centroid_radius»;
+      «merge_radius» = ofBits binary32 (h .«merge_bits»);
       levels = h .levels;
-      minimum = h .minimum;
-      search = h .search;
+      «minimum_side» = h .«minimum_side»;
+      «search_radius» = h .«search_radius»;
     }
 
--- "`corners` has 512 places for seeds and 512 for corners"; 9,216 map cells and 3,072 level pixels are enough for 96 by 96
+-- `corners` has 512 places for seeds and 512 for corners (RULES 12.4); 9,216 map cells and 3,072 level pixels are enough for 96 by 96
 abbrev pub places512 : Slices
 places512 = slices (replicate 512 float32.zero) (replicate 512 float32.zero) (replicate 512 float32.zero)
 
@@ -56,8 +57,3 @@ readingText (refused n) = refusedText n
 -- what `corners` prints for its input
 unfoldable pub outputOf : List ℕ → List ℕ
 outputOf input = readingText (readFrame input)
-
--- the promise: the text stands first in the buffer, which is as it was behind it, and its length is returned
-pub record Written (text buffer : List ℕ) (end : ℕ) (after : List ℕ) : Type 0 where
-  pub ends : end ≡ length text
-  pub holds : after ≡ front text buffer

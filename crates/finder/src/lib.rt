@@ -1,15 +1,16 @@
 // From the bytes of a frame stream to the bytes of its listing: reader, frame pass and listing, one after the other.
 use frame::FrameAnswer;
-use frame_pass::FrameParams;
 use listing::LONGEST;
 use listing::Listing;
+use patch_corners::FrameParams;
 use stream::FrameStream;
 use stream::Header;
 ghost use mathlib.Core.Path.{_≡_};
 ghost use Prim.Native.Nat.{_≤_};
+ghost use Rattle.lists.specs.Buffer.{Written};
 ghost use Rattle.corner_list.specs.CornerList.{slices, cornersOf};
 ghost use Rattle.listing.specs.Text.{cornersText};
-ghost use Rattle.finder.specs.Finder.{paramsOf, frameText, outputOf, Written};
+ghost use Rattle.finder.specs.Finder.{paramsOf, frameText, outputOf};
 
 // The parameters that a header states.
 fn params_of(header: Header) -> FrameParams
@@ -19,12 +20,12 @@ fn params_of(header: Header) -> FrameParams
         ring: header.ring,
         threshold: float32::from_bits(header.threshold_bits),
         window: header.window,
-        least: header.least,
-        centroid: header.centroid,
-        radius: float32::from_bits(header.merge_bits),
+        least_neighbours: header.least_neighbours,
+        centroid_radius: header.centroid_radius,
+        merge_radius: float32::from_bits(header.merge_bits),
         levels: header.levels,
-        minimum: header.minimum,
-        search: header.search,
+        minimum_side: header.minimum_side,
+        search_radius: header.search_radius,
     }
 }
 
@@ -73,7 +74,7 @@ fn list_frame(pixels: &[u8], header: Header, out: &mut [u8; LONGEST]) -> usize
         &mut cs,
     );
     match answer {
-        FrameAnswer::Corners(count) => list_corners(&cx, &cy, &cs, count, out),
+        FrameAnswer::Corners(count, _) => list_corners(&cx, &cy, &cs, count, out),
         FrameAnswer::Refused(number) => listing::write_refusal(number, out),
     }
 }

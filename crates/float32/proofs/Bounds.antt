@@ -1,7 +1,8 @@
 -- Bounds by whole numbers go through a rounding unharmed, since the format holds the whole number: sums and quotients of what is not negative. Assumes nothing.
 use mathlib.Core.Path.{_≡_, refl, sym, ap, _∙_, subst}
 use Prim.Native.Nat.{ℕ, zero as none, suc, _+_, _*_, _^_, _≤_, _<_}
-use native.Mathlib.Nat.{le-trans, le-of-eq, lt-of-le-of-lt, mul-comm, mul-right-comm, mul-one, zero-mul, mul-pos, mul-le-mul-right, mul-le-mul-left, mul-lt-mul-of-pos-right, le-of-mul-le-mul-right, eq-of-mul-eq-mul-right}
+use native.Mathlib.Nat.{le-trans, le-of-eq, lt-of-le-of-lt, mul-comm, mul-right-comm, mul-one, zero-mul, mul-pos, mul-le-mul-right}
+use native.Mathlib.Nat.{mul-le-mul-left, mul-lt-mul-of-pos-right, le-of-mul-le-mul-right, eq-of-mul-eq-mul-right}
 use native.Mathlib.Omega.{arith}
 use mathlib.Core.Bool.{Bool, true, false, cond, true≢false}
 use lib.Dec.{T, eqb, lit<}
@@ -41,7 +42,8 @@ pub upto-above : (x : Float) (n : ℕ) → UpTo x n → T (le zero x)
 upto-above x n u = le-of-values zero x 0 1 (u .top) (u .bottom) (lit< tt) (u .bottom-pos) (refl, refl) (u .value) (omega (arith, zero-mul (u .bottom)))
 
 pub upto-more : (x : Float) (n m : ℕ) → n ≤ m → UpTo x n → UpTo x m
-upto-more x n m h u = record { top = u .top; bottom = u .bottom; bottom-pos = u .bottom-pos; value = u .value; at-most = le-trans (u .at-most) (mul-le-mul-right (u .bottom) h) }
+upto-more x n m h u =
+    record { top = u .top; bottom = u .bottom; bottom-pos = u .bottom-pos; value = u .value; at-most = le-trans (u .at-most) (mul-le-mul-right (u .bottom) h) }
 
 -- it is in a range from 0 that ends at n or later
 pub upto-between : (x top : Float) (n b : ℕ) → n ≤ b → HasValue top false b 1 → UpTo x n → between zero top x ≡ true
@@ -78,14 +80,16 @@ round-upto f a c n C h l =
       bottom-pos = pow-pos (low f);
       value = v;
       at-most =
-          value-le (round f false a c) (ofInt f (pos n)) (grid f a c) (n * 2 ^ low f) (2 ^ low f) (pow-pos (low f)) v (whole-over (ofInt f (pos n)) n (2 ^ low f) (ofInt-value f n h))
+          value-le (round f false a c) (ofInt f (pos n)) (grid f a c) (n * 2 ^ low f) (2 ^ low f) (pow-pos (low f)) v
+          (whole-over (ofInt f (pos n)) n (2 ^ low f) (ofInt-value f n h))
           (round-mono f a c n 1 C (lit< tt) (le-trans (le-of-eq (mul-one a)) l));
     }
 
 -- ---- sums
 pub add-upto : (f : Format) (x y : Float) (n m : ℕ) → n + m < 2 ^ prec f → UpTo x n → UpTo y m → UpTo (add f x y) (n + m)
 add-upto f x y n m h u v =
-    subst (λ (z : Float). UpTo z (n + m)) (sym (add-round f x y (u .top) (u .bottom) (v .top) (v .bottom) (u .bottom-pos) (v .bottom-pos) (u .value) (v .value)))
+    subst (λ (z : Float). UpTo z (n + m))
+    (sym (add-round f x y (u .top) (u .bottom) (v .top) (v .bottom) (u .bottom-pos) (v .bottom-pos) (u .value) (v .value)))
     (round-upto f (u .top * v .bottom + v .top * u .bottom) (u .bottom * v .bottom) (n + m) (mul-pos (u .bottom-pos) (v .bottom-pos)) h
     (both (u .top) (u .bottom) (v .top) (v .bottom) (u .at-most) (v .at-most)))
   where
@@ -133,7 +137,8 @@ quotient-bound A W X Y c d M h r n m =
     let h′ = simp poly at h in
     le-of-mul-le-mul-right {k = 16775168} (simp poly (omega (arith, n .0))) (lit< tt)
 
-pub quotient-upto : (x y : Float) (X Y c d M : ℕ) → 0 < Y → X ≤ M * Y → d < 16775168 → M * (c + d) + d ≤ 16775168 → M < 16777215 → Nearly x X c → Nearly y Y d → UpTo (div binary32 x y) (M + 1)
+pub quotient-upto : (x y : Float) (X Y c d M : ℕ) → 0 < Y → X ≤ M * Y → d < 16775168 → M * (c + d) + d ≤ 16775168 → M < 16777215
+    → Nearly x X c → Nearly y Y d → UpTo (div binary32 x y) (M + 1)
 quotient-upto x y X Y c d M P h k r s u v =
     let W = above-zero (v .size) Y d P k (v .near) in
     subst (λ (z : Float). UpTo z (M + 1)) (sym (div-round binary32 x y (u .size) (v .size) (2 ^ low binary32) (pow-pos (low binary32)) W (u .units) (v .units)))
@@ -143,7 +148,8 @@ quotient-upto x y X Y c d M P h k r s u v =
 pub nearly-positive : (y : Float) (Y d : ℕ) → 0 < Y → d < 16775168 → Nearly y Y d → T (lt zero y)
 nearly-positive y Y d P k v =
     let L = 2 ^ low binary32 in
-    lt-value zero y 0 0 (v .size) 0 L (pow-pos (low binary32)) nought (of-HasValue y false (v .size) L (v .units)) .1 (more (v .size) (above-zero (v .size) Y d P k (v .near)))
+    lt-value zero y 0 0 (v .size) 0 L (pow-pos (low binary32)) nought (of-HasValue y false (v .size) L (v .units)) .1
+    (more (v .size) (above-zero (v .size) Y d P k (v .near)))
   where
     nought : IsValue zero 0 0 (2 ^ low binary32)
     nought = record { is-finite = tt; equal = refl }
@@ -154,7 +160,8 @@ nearly-positive y Y d P k v =
 pub nearly-positive-only : (y : Float) (Y d : ℕ) → T (lt zero y) → Nearly y Y d → 0 < Y
 nearly-positive-only y Y d h v =
     let L = 2 ^ low binary32 in
-    not-none (v .size) Y d (lt-value zero y 0 0 (v .size) 0 L (pow-pos (low binary32)) (record { is-finite = tt; equal = refl }) (of-HasValue y false (v .size) L (v .units)) .0 h) (v .near .0)
+    not-none (v .size) Y d (lt-value zero y 0 0 (v .size) 0 L (pow-pos (low binary32)) (record { is-finite = tt; equal = refl })
+    (of-HasValue y false (v .size) L (v .units)) .0 h) (v .near .0)
   where
     not-none : (A Y d : ℕ) → 0 + 0 < A + 0 → A * 16775168 ≤ Y * 16775168 + Y * d → 0 < Y
     not-none A none d p q = absurd (omega (arith, zero-mul d))

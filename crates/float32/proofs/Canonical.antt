@@ -3,7 +3,9 @@
 use mathlib.Core.Path.{_≡_, refl, sym, ap, _∙_}
 use mathlib.Core.Bool.{Bool, true, false, _&&_}
 use Prim.Native.Nat.{ℕ, zero, suc, _+_, _-_, _*_, _%_, _^_, _≤_, _<_}
-use native.Mathlib.Nat.{mul-one, one-mul, mul-assoc, mul-comm, mul-left-comm, mul-right-comm, mul-mul-mul-comm, zero-mul, pow-succ', mul-pos, mul-lt-mul-of-pos-right, eq-of-mul-eq-mul-right, le-of-eq, lt-of-le-of-lt, lt-of-lt-of-le, two-pow-succ, zero-lt-suc}
+use native.Mathlib.Nat.{mul-one, one-mul, mul-assoc, mul-comm, mul-left-comm, mul-right-comm, mul-mul-mul-comm, zero-mul, pow-succ'}
+use native.Mathlib.Nat.{mul-pos, mul-lt-mul-of-pos-right, eq-of-mul-eq-mul-right, le-of-eq, lt-of-le-of-lt, lt-of-lt-of-le, two-pow-succ}
+use native.Mathlib.Nat.{zero-lt-suc}
 use native.Mathlib.Omega.{arith}
 use borrow.Author.Tests.{eqb-true, leb-true, leb-false, ltb-true}
 use lib.IntN.{ℤ, pos, negsuc}
@@ -25,7 +27,8 @@ pub own-zero : (s : Bool) (e : ℤ) → fits binary32 (fin s zero e) ≡ true �
 unfolding fits
 own-zero s e h = unit-power e (eqb-true (up e * down e) 1 h)
 
-own-parts : (s : Bool) (m : ℕ) (e : ℤ) → fits binary32 (fin s (suc m) e) ≡ true → (suc m % 2 ≡ 1) × (suc m < 2 ^ 24) × (down e ≤ 2 ^ 149) × (suc m * up e < 2 ^ 128 * down e)
+own-parts : (s : Bool) (m : ℕ) (e : ℤ) → fits binary32 (fin s (suc m) e) ≡ true
+    → (suc m % 2 ≡ 1) × (suc m < 2 ^ 24) × (down e ≤ 2 ^ 149) × (suc m * up e < 2 ^ 128 * down e)
 unfolding fits
 own-parts s m e h =
     let A = eqb (suc m % 2) 1 in
@@ -170,10 +173,12 @@ module _ (s : Bool) (m : ℕ) (e : ℤ) (k : ℕ) (f : fits binary32 (fin s m e)
       (equal num den (m * up e * 2 ^ k) (down e) (2 ^ rest e) (2 ^ 149) (m * 2 ^ (place e + k)) r shifted h)
     where
       bound : (X E R B L Q : ℕ) → 0 < R → E * R ≡ L → X * R ≡ Q → X < B * E → Q < B * L
-      bound X E R B L Q P r q l = lt-of-lt-of-le (lt-of-le-of-lt (le-of-eq (sym q)) (mul-lt-mul-of-pos-right l P)) (le-of-eq (mul-assoc B E R ∙ ap (λ (z : ℕ). B * z) r))
+      bound X E R B L Q P r q l =
+          lt-of-lt-of-le (lt-of-le-of-lt (le-of-eq (sym q)) (mul-lt-mul-of-pos-right l P)) (le-of-eq (mul-assoc B E R ∙ ap (λ (z : ℕ). B * z) r))
 
       equal : (n d X E R L Q : ℕ) → E * R ≡ L → X * R ≡ Q → n * E ≡ X * d → n * L ≡ Q * d
-      equal n d X E R L Q r q l = ap (λ (z : ℕ). n * z) (sym r) ∙ sym (mul-assoc n E R) ∙ ap (λ (z : ℕ). z * R) l ∙ mul-right-comm X d R ∙ ap (λ (z : ℕ). z * d) q
+      equal n d X E R L Q r q l =
+          ap (λ (z : ℕ). n * z) (sym r) ∙ sym (mul-assoc n E R) ∙ ap (λ (z : ℕ). z * R) l ∙ mul-right-comm X d R ∙ ap (λ (z : ℕ). z * d) q
 
 -- far from overflow
 pub far-below : (n d : ℕ) → 0 < d → n ≤ 2 ^ 26 * d → n < 2 ^ 128 * d

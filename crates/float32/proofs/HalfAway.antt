@@ -26,12 +26,14 @@ use Rattle.float32.proofs.Poly.{poly}
 use Rattle.float32.proofs.Truncation.{cut-value}
 
 -- ---- the sum of a float with itself is exact
-doubled : (m : ℕ) (e : ℤ) → fits binary32 (fin false m e) ≡ true → m * up e ≤ 2 ^ 24 * down e → HasValue (add binary32 (fin false m e) (fin false m e)) false (2 * (m * up e)) (down e)
+doubled : (m : ℕ) (e : ℤ) → fits binary32 (fin false m e) ≡ true → m * up e ≤ 2 ^ 24 * down e
+    → HasValue (add binary32 (fin false m e) (fin false m e)) false (2 * (m * up e)) (down e)
 unfolding add sum
 doubled m e f small =
     let d = down-pos e in
     subst (λ (z : Float). HasValue z false (2 * (m * up e)) (down e)) (sym (over-one (m * up e) (down e) d))
-    (round-shifted false m e 1 f (far-below (m * up e * 2) (down e) d (omega (arith, small))) (2 * (m * up e)) (down e) d (ap (λ (z : ℕ). z * down e) (mul-comm 2 (m * up e))))
+    (round-shifted false m e 1 f (far-below (m * up e * 2) (down e) d (omega (arith, small))) (2 * (m * up e)) (down e) d
+    (ap (λ (z : ℕ). z * down e) (mul-comm 2 (m * up e))))
   where
     over-one : (n d : ℕ) → 0 < d → round binary32 false (n * d + n * d) (d * d) ≡ round binary32 false (2 * n) d
     over-one n d p = round-same binary32 false (n * d + n * d) (d * d) (2 * n) d (mul-pos p p) p (simp poly (omega arith))
@@ -45,7 +47,8 @@ twice-small n d p h = div-lt-iff-lt-mul {k = d} {x = 2 * n} {y = 2 ^ 26} p .1 (o
 
 pub size-within : (m : ℕ) (e : ℤ) → le (fin false m e) (fin false 1 (pos 24)) ≡ true → m * up e ≤ 2 ^ 24 * down e
 size-within m e h =
-    value-le (fin false m e) (fin false 1 (pos 24)) (m * up e) (2 ^ 24 * down e) (down e) (down-pos e) (refl, refl) (whole-over (fin false 1 (pos 24)) (2 ^ 24) (down e) (refl, refl)) (to-T h)
+    value-le (fin false m e) (fin false 1 (pos 24)) (m * up e) (2 ^ 24 * down e) (down e) (down-pos e) (refl, refl)
+    (whole-over (fin false 1 (pos 24)) (2 ^ 24) (down e) (refl, refl)) (to-T h)
 
 whole-twice : (x : Float) → fits binary32 x ≡ true → le (abs x) (fin false 1 (pos 24)) ≡ true
     → (toUnsigned 64 (add binary32 (abs x) (abs x)) ≡ 2 * num x / den x) × (2 * num x / den x < 2 ^ 26)
@@ -55,7 +58,8 @@ whole-twice (inf s) f h = absurd (true≢false (sym h))
 whole-twice (fin s m e) f h =
     let small = size-within m e h in
     let l = twice-small (m * up e) (down e) (down-pos e) small in (
-      cut-value 64 (add binary32 (fin false m e) (fin false m e)) false (2 * (m * up e)) (down e) (down-pos e) (λ t. absurd (true≢false (sym t))) (omega (arith, l))
+      cut-value 64 (add binary32 (fin false m e) (fin false m e)) false (2 * (m * up e)) (down e) (down-pos e)
+          (λ t. absurd (true≢false (sym t))) (omega (arith, l))
           (doubled m e (sym (fits-plain s m e) ∙ f) small),
       l,
     )
@@ -106,12 +110,17 @@ unfolding lt
 not-below false m e z = le-ltb (m * up e * 1) (0 * 1 * down e) (omega (arith, zero-mul (down e)))
 not-below true m e z = le-ltb 0 (m * up e * 1 + 0 * 1 * down e) (omega (arith, zero-mul (down e), z refl))
 
-pub natural-of-value : (v : Float) (s : Bool) (a c : ℕ) → 0 < c → a ≤ 2 ^ 24 * c → (s ≡ true → a ≡ 0) → HasValue v s a c → roundHalfAway v ≡ Natural ((2 * a + c) / (2 * c))
+pub natural-of-value : (v : Float) (s : Bool) (a c : ℕ) → 0 < c → a ≤ 2 ^ 24 * c → (s ≡ true → a ≡ 0) → HasValue v s a c
+    → roundHalfAway v ≡ Natural ((2 * a + c) / (2 * c))
 unfolding roundHalfAway
 natural-of-value nan s a c p l z h = absurd h
 natural-of-value (inf t) s a c p l z h = absurd h
 natural-of-value (fin t m e) s a c p l z h =
-    rw (judged-small m e a c p l (h .1), not-below t m e (λ q. zero-size (m * up e) (down e) a c p (h .1) (z (sym (h .0) ∙ q))), same-nearest (m * up e) (down e) a c (down-pos e) p (h .1))
+    rw (
+      judged-small m e a c p l (h .1),
+      not-below t m e (λ q. zero-size (m * up e) (down e) a c p (h .1) (z (sym (h .0) ∙ q))),
+      same-nearest (m * up e) (down e) a c (down-pos e) p (h .1),
+    )
   where
     zero-size : (n d a c : ℕ) → 0 < c → n * c ≡ a * d → a ≡ 0 → n ≡ 0
     zero-size n d a c p q z = eq-of-mul-eq-mul-right c p n 0 (q ∙ ap (λ (x : ℕ). x * d) z ∙ zero-mul d ∙ sym (zero-mul c))

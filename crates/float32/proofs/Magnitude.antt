@@ -23,7 +23,9 @@ abs-below (inf true) f h = refl
 abs-below (inf false) f h = absurd (true≢false (sym h))
 abs-below (fin true m e) f h = simp (zero-mul, zero-add, mul-one, one-mul) (round-own false m e (sym (fits-plain true m e) ∙ f))
 abs-below (fin false ℕ.zero e) f h = rw (own-zero false e f) refl
-abs-below (fin false (suc m) e) f h = absurd (let k = value-le (fin false (suc m) e) zero (suc m * up e) 0 (down e) (down-pos e) (refl, refl) (refl, zero-mul (down e)) (to-T h) in let no : ⊥ = omega (arith, size-pos m e) in no)
+abs-below (fin false (suc m) e) f h =
+    absurd (let k = value-le (fin false (suc m) e) zero (suc m * up e) 0 (down e) (down-pos e) (refl, refl) (refl, zero-mul (down e))
+    (to-T h) in let no : ⊥ = omega (arith, size-pos m e) in no)
 
 pub abs-above : (x : Float) → le x zero ≡ false → x ≡ abs x
 unfolding le abs

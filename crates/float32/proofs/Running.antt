@@ -1,4 +1,5 @@
--- A running sum of floats that are not negative, against the exact sum: the relative error grows by one part in 2 ^ 24 - 2048 with each addition, up to 2048 of them.
+-- A running sum of floats that are not negative, against the exact sum: the relative error grows by one part in 2 ^ 24 - 2048 with each
+-- addition, up to 2048 of them.
 -- Numbers of units throughout (`Units`). Assumes nothing.
 use mathlib.Core.Path.{_≡_, refl}
 use mathlib.Core.List.{List, [], _∷_}
@@ -60,7 +61,8 @@ add-nearly x y X Y c d l h m v w =
     let n = sum-near (v .size) (w .size) X Y c (v .near) (looser (w .size) Y d c l (w .near)) in
     record {
       size = rounded binary32 (v .size + w .size);
-      units = add-units binary32 x y (v .size) (w .size) (v .units) (w .units) (small-of (v .size + w .size) (X + Y) c (2 ^ low binary32) (pow-pos (low binary32)) (below c h) n m);
+      units = add-units binary32 x y (v .size) (w .size) (v .units) (w .units)
+          (small-of (v .size + w .size) (X + Y) c (2 ^ low binary32) (pow-pos (low binary32)) (below c h) n m);
       near = rounded-near (rounded binary32 (v .size + w .size)) (v .size + w .size) (X + Y) c h (units-near binary32 (v .size + w .size)) n;
     }
 
@@ -84,7 +86,8 @@ module _ {A : Type 0} (t : A → Float) where
   summed a (p ∷ ps) = summed (add binary32 a (t p)) ps
 
   module _ (X : A → ℕ) (d H B : ℕ) (top : B ≤ 2 ^ 60 * 2 ^ low binary32) where
-    summed-on : (ps : List A) → All (λ p. Nearly (t p) (X p) d × (X p ≤ H)) ps → (a : Float) (S c : ℕ) → Nearly a S c → d ≤ c → c + length ps ≤ 2048 → S + length ps * H ≤ B
+    summed-on : (ps : List A) → All (λ p. Nearly (t p) (X p) d × (X p ≤ H)) ps → (a : Float) (S c : ℕ) → Nearly a S c → d ≤ c
+        → c + length ps ≤ 2048 → S + length ps * H ≤ B
         → Nearly (summed a ps) (S + sumOf X ps) (c + length ps)
     unfolding summed
     summed-on [] h a S c v l n b = rw (add-zero S, add-zero c) v
@@ -94,7 +97,8 @@ module _ {A : Type 0} (t : A → Float) where
         let s = add-nearly a (t p) S (X p) c d l (omega arith) (le-trans (omega arith) top) v (h .0 .0) in
         rw (← add-assoc S (X p) (sumOf X ps), k) (summed-on ps (h .1) (add binary32 a (t p)) (S + X p) (suc c) s (omega arith) (omega arith) m)
 
-  pub summed-nearly : (X : A → ℕ) (d H : ℕ) (ps : List A) → d + length ps ≤ 2048 → length ps * H ≤ 2 ^ 60 * 2 ^ low binary32 → All (λ p. Nearly (t p) (X p) d × (X p ≤ H)) ps
+  pub summed-nearly : (X : A → ℕ) (d H : ℕ) (ps : List A) → d + length ps ≤ 2048 → length ps * H ≤ 2 ^ 60 * 2 ^ low binary32
+      → All (λ p. Nearly (t p) (X p) d × (X p ≤ H)) ps
       → Nearly (summed zero32 ps) (sumOf X ps) (d + length ps)
   summed-nearly X d H ps n b h =
       let none : Nearly zero32 0 d = record { size = 0; units = (refl, refl); near = omega arith } in

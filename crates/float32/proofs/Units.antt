@@ -1,9 +1,11 @@
--- Floats that are not negative as whole numbers of units, the format's smallest value 2 ^ -low. A sum of two, and a product with a whole number, are whole numbers of units
+-- Floats that are not negative as whole numbers of units, the format's smallest value 2 ^ -low. A sum of two, and a product with a whole
+-- number, are whole numbers of units
 -- before they are rounded, so the relative error is at most one part in 2 ^ prec everywhere, subnormal results included. Assumes nothing.
 use mathlib.Core.Path.{_≡_, refl, sym, ap, _∙_, subst}
 use mathlib.Core.Logic.{⊎-elim}
 use Prim.Native.Nat.{ℕ, suc, _+_, _-_, _*_, _/_, _^_, _≤_, _<_}
-use native.Mathlib.Nat.{le-trans, le-of-eq, lt-of-lt-of-le, one-mul, mul-one, le-of-mul-le-mul-right, eq-of-mul-eq-mul-right, mul-pos, mul-div-cancel, eq-zero-or-pos, mul-assoc, mul-comm}
+use native.Mathlib.Nat.{le-trans, le-of-eq, lt-of-lt-of-le, one-mul, mul-one, le-of-mul-le-mul-right, eq-of-mul-eq-mul-right, mul-pos}
+use native.Mathlib.Nat.{mul-div-cancel, eq-zero-or-pos, mul-assoc, mul-comm}
 use native.Mathlib.Omega.{arith}
 use mathlib.Core.Bool.{true, false, true≢false}
 use lib.Dec.{lit<}
@@ -32,9 +34,11 @@ lighter g s L P K h = (
 units-exact : (f : Format) (s : ℕ) → s < 2 ^ prec f → rounded f s ≡ s
 units-exact f s h =
     let L = 2 ^ low f in
-    let o : s * 2 ^ 0 < overflow f = lt-of-lt-of-le (subst (λ (z : ℕ). z < 2 ^ prec f) (sym (mul-one s)) h) (pow-mono (more (prec f) (low f) (suc (emax f)) (reach f))) in
+    let o : s * 2 ^ 0 < overflow f = lt-of-lt-of-le (subst (λ (z : ℕ). z < 2 ^ prec f) (sym (mul-one s)) h)
+    (pow-mono (more (prec f) (low f) (suc (emax f)) (reach f))) in
     let e : HasValue (round f false s L) false s L = round-exact f false s L s 0 (pow-pos (low f)) h o (ap (λ (z : ℕ). z * L) (sym (mul-one s))) in
-    let g : rounded f s < overflow f = grid-under f s L 0 (pow-pos (low f)) (none (emax f)) (lt-of-lt-of-le h (le-trans (pow-mono (fewer f)) (le-of-eq (sym (one-mul L))))) in
+    let g : rounded f s < overflow f = grid-under f s L 0 (pow-pos (low f)) (none (emax f))
+    (lt-of-lt-of-le h (le-trans (pow-mono (fewer f)) (le-of-eq (sym (one-mul L))))) in
     eq-of-mul-eq-mul-right L (pow-pos (low f)) (rounded f s) s (value-unique (round f false s L) false (rounded f s) L s L (round-val f false s L g) e)
   where
     more : (p l e : ℕ) → p ≤ e → p ≤ l + e
@@ -99,7 +103,8 @@ round-units f s h = round-val f false s (2 ^ low f) (grid-under f s (2 ^ low f) 
     same e = omega arith
 
 -- a sum of two that are not negative
-pub add-round : (f : Format) (x y : Float) (a c b d : ℕ) → 0 < c → 0 < d → HasValue x false a c → HasValue y false b d → add f x y ≡ round f false (a * d + b * c) (c * d)
+pub add-round : (f : Format) (x y : Float) (a c b d : ℕ) → 0 < c → 0 < d → HasValue x false a c → HasValue y false b d
+    → add f x y ≡ round f false (a * d + b * c) (c * d)
 unfolding add sum
 add-round f nan y a c b d C D v w = absurd v
 add-round f (inf s) y a c b d C D v w = absurd v

@@ -3,7 +3,9 @@
 use mathlib.Core.Path.{_≡_, refl, sym, ap, _∙_, subst}
 use mathlib.Core.Logic.{_⊎_, inl, inr, _↔_, ⊎-elim}
 use Prim.Native.Nat.{ℕ, zero, suc, _+_, _-_, _*_, _^_, _≤_, _<_}
-use native.Mathlib.Nat.{le-trans, le-of-eq, le-antisymm, le-of-lt, lt-of-lt-of-le, mul-comm, mul-right-comm, mul-add, add-mul, zero-mul, mul-zero, mul-one, mul-le-mul-right, mul-lt-mul-of-pos-right, lt-of-mul-lt-mul-right, le-of-mul-le-mul-right, eq-of-mul-eq-mul-right, mul-pos, mul-mul-mul-comm, mul-sub, lt-irrefl, eq-or-lt-of-le, eq-zero-or-pos}
+use native.Mathlib.Nat.{le-trans, le-of-eq, le-antisymm, le-of-lt, lt-of-lt-of-le, mul-comm, mul-right-comm, mul-add, add-mul, zero-mul}
+use native.Mathlib.Nat.{mul-zero, mul-one, mul-le-mul-right, mul-lt-mul-of-pos-right, lt-of-mul-lt-mul-right, le-of-mul-le-mul-right}
+use native.Mathlib.Nat.{eq-of-mul-eq-mul-right, mul-pos, mul-mul-mul-comm, mul-sub, lt-irrefl, eq-or-lt-of-le, eq-zero-or-pos}
 use native.Mathlib.Omega.{arith}
 use mathlib.Core.Bool.{Bool, true, false, not, _&&_, _||_, cond, true≢false}
 use lib.Dec.{T, ltb, eqb, ltb→lt, lt→ltb, nltb→le, eqb·suc-zero, eqb→eq}
@@ -35,7 +37,8 @@ value-unique nan s a c b d h k = absurd h
 value-unique (inf t) s a c b d h k = absurd h
 value-unique (fin t m e) s a c b d h k =
     eq-of-mul-eq-mul-right (down e) (down-pos e) (a * d) (b * c)
-    (mul-right-comm a d (down e) ∙ ap (λ (z : ℕ). z * d) (sym (h .1)) ∙ mul-right-comm (m * up e) c d ∙ ap (λ (z : ℕ). z * c) (k .1) ∙ mul-right-comm b (down e) c)
+    (mul-right-comm a d (down e) ∙ ap (λ (z : ℕ). z * d) (sym (h .1)) ∙ mul-right-comm (m * up e) c d ∙ ap (λ (z : ℕ). z * c) (k .1)
+    ∙ mul-right-comm b (down e) c)
 
 -- ---- the same number as another fraction
 -- (p - n) / c = (q - m) / d
@@ -78,10 +81,12 @@ down-past a b c p n q m d h e k = omega (arith, spread d b a, mul-le-mul-right d
 swap : (s : Bool) (a c p n q m d : ℕ) → IsFrac s a c (q + p) (m + n) d → IsFrac s a c (p + q) (n + m) d
 swap s a c p n q m d e = omega (arith, add-mul p q c, add-mul n m c, add-mul q p c, add-mul m n c)
 
-sum-frac : (f : Format) (s : Bool) (a : ℕ) (t : Bool) (b c p n q m d : ℕ) → 0 < c → IsFrac s a c p n d → IsFrac t b c q m d → SignedFrac f (sum f s a t b c) (p + q) (n + m) d
+sum-frac : (f : Format) (s : Bool) (a : ℕ) (t : Bool) (b c p n q m d : ℕ) → 0 < c → IsFrac s a c p n d → IsFrac t b c q m d
+    → SignedFrac f (sum f s a t b c) (p + q) (n + m) d
 unfolding sum
 sum-frac f true a true b c p n q m d C e k = record { sign = true; top = a + b; bottom = c; bottom-pos = C; is = refl; frac = alike true a b c p n q m d e k }
-sum-frac f false a false b c p n q m d C e k = record { sign = false; top = a + b; bottom = c; bottom-pos = C; is = refl; frac = alike false a b c p n q m d e k }
+sum-frac f false a false b c p n q m d C e k =
+    record { sign = false; top = a + b; bottom = c; bottom-pos = C; is = refl; frac = alike false a b c p n q m d e k }
 sum-frac f false a true b c p n q m d C e k = go (ltb a b) (ltb→lt a b) (nltb→le a b)
   where
     go : (w : Bool) → (T w → a < b) → (T (not w) → b ≤ a) → SignedFrac f (cond w (round f true (b - a) c) (round f false (a - b) c)) (p + q) (n + m) d
@@ -89,9 +94,19 @@ sum-frac f false a true b c p n q m d C e k = go (ltb a b) (ltb→lt a b) (nltb�
     go false h l = record { sign = false; top = a - b; bottom = c; bottom-pos = C; is = refl; frac = down-to a b c p n q m d (l tt) e k }
 sum-frac f true a false b c p n q m d C e k = go (ltb a b) (ltb b a) (ltb→lt a b) (nltb→le a b) (nltb→le b a)
   where
-    go : (w v : Bool) → (T w → a < b) → (T (not w) → b ≤ a) → (T (not v) → a ≤ b) → SignedFrac f (cond w (round f false (b - a) c) (round f v (a - b) c)) (p + q) (n + m) d
-    go true v h l l′ = record { sign = false; top = b - a; bottom = c; bottom-pos = C; is = refl; frac = swap false (b - a) c p n q m d (down-to b a c q m p n d (le-of-lt (h tt)) k e) }
-    go false true h l l′ = record { sign = true; top = a - b; bottom = c; bottom-pos = C; is = refl; frac = swap true (a - b) c p n q m d (down-past b a c q m p n d (l tt) k e) }
+    go : (w v : Bool) → (T w → a < b) → (T (not w) → b ≤ a) → (T (not v) → a ≤ b)
+        → SignedFrac f (cond w (round f false (b - a) c) (round f v (a - b) c)) (p + q) (n + m) d
+    go true v h l l′ =
+        record {
+          sign = false;
+          top = b - a;
+          bottom = c;
+          bottom-pos = C;
+          is = refl;
+          frac = swap false (b - a) c p n q m d (down-to b a c q m p n d (le-of-lt (h tt)) k e);
+        }
+    go false true h l l′ =
+        record { sign = true; top = a - b; bottom = c; bottom-pos = C; is = refl; frac = swap true (a - b) c p n q m d (down-past b a c q m p n d (l tt) k e) }
     go false false h l l′ =
         record {
           sign = false;
@@ -141,13 +156,23 @@ product A B p n A' B' q m e k =
     let w = simp mul-add at (ap (λ (z : ℕ). n * z) k) in
     omega arith
 
-product-frac : (s t : Bool) (X Y D E p n q m c d : ℕ) → IsFrac s X D p n c → IsFrac t Y E q m d → IsFrac (unlike s t) (X * Y) (D * E) (p * q + n * m) (p * m + n * q) (c * d)
-product-frac true true X Y D E p n q m c d e k = let h = simp (zero-mul, mul-zero, poly) at (product (0 * c) (X * c) (p * D) (n * D) (0 * d) (Y * d) (q * E) (m * E) e k) in simp (zero-mul, poly) (omega arith)
-product-frac true false X Y D E p n q m c d e k = let h = simp (zero-mul, mul-zero, poly) at (product (0 * c) (X * c) (p * D) (n * D) (Y * d) (0 * d) (q * E) (m * E) e k) in simp (zero-mul, poly) (omega arith)
-product-frac false true X Y D E p n q m c d e k = let h = simp (zero-mul, mul-zero, poly) at (product (X * c) (0 * c) (p * D) (n * D) (0 * d) (Y * d) (q * E) (m * E) e k) in simp (zero-mul, poly) (omega arith)
-product-frac false false X Y D E p n q m c d e k = let h = simp (zero-mul, mul-zero, poly) at (product (X * c) (0 * c) (p * D) (n * D) (Y * d) (0 * d) (q * E) (m * E) e k) in simp (zero-mul, poly) (omega arith)
+product-frac : (s t : Bool) (X Y D E p n q m c d : ℕ) → IsFrac s X D p n c → IsFrac t Y E q m d
+    → IsFrac (unlike s t) (X * Y) (D * E) (p * q + n * m) (p * m + n * q) (c * d)
+product-frac true true X Y D E p n q m c d e k =
+    let h = simp (zero-mul, mul-zero, poly) at (product (0 * c) (X * c) (p * D) (n * D) (0 * d) (Y * d) (q * E) (m * E) e k) in
+    simp (zero-mul, poly) (omega arith)
+product-frac true false X Y D E p n q m c d e k =
+    let h = simp (zero-mul, mul-zero, poly) at (product (0 * c) (X * c) (p * D) (n * D) (Y * d) (0 * d) (q * E) (m * E) e k) in
+    simp (zero-mul, poly) (omega arith)
+product-frac false true X Y D E p n q m c d e k =
+    let h = simp (zero-mul, mul-zero, poly) at (product (X * c) (0 * c) (p * D) (n * D) (0 * d) (Y * d) (q * E) (m * E) e k) in
+    simp (zero-mul, poly) (omega arith)
+product-frac false false X Y D E p n q m c d e k =
+    let h = simp (zero-mul, mul-zero, poly) at (product (X * c) (0 * c) (p * D) (n * D) (Y * d) (0 * d) (q * E) (m * E) e k) in
+    simp (zero-mul, poly) (omega arith)
 
-pub mul-frac : (f : Format) (x y : Float) (p n c q m d : ℕ) → IsValue x p n c → IsValue y q m d → SignedFrac f (mul f x y) (p * q + n * m) (p * m + n * q) (c * d)
+pub mul-frac : (f : Format) (x y : Float) (p n c q m d : ℕ) → IsValue x p n c → IsValue y q m d
+    → SignedFrac f (mul f x y) (p * q + n * m) (p * m + n * q) (c * d)
 unfolding mul
 mul-frac f nan y p n c q m d e k = absurd (e .is-finite)
 mul-frac f (inf s) y p n c q m d e k = absurd (e .is-finite)
@@ -171,8 +196,12 @@ not-eqb (suc n) h = eqb·suc-zero n
 
 -- ---- quotients by a whole number k above 0
 quotient-frac : (s : Bool) (X D Y E k p n c : ℕ) → Y * 1 ≡ k * E → IsFrac s X D p n c → IsFrac s (X * E) (Y * D) p n (k * c)
-quotient-frac true X D Y E k p n c v e = let x = simp poly at (ap (λ (z : ℕ). z * (k * E)) e) in let y : Y ≡ k * E = sym (mul-one Y) ∙ v in rw y (simp poly (omega arith))
-quotient-frac false X D Y E k p n c v e = let x = simp poly at (ap (λ (z : ℕ). z * (k * E)) e) in let y : Y ≡ k * E = sym (mul-one Y) ∙ v in rw y (simp poly (omega arith))
+quotient-frac true X D Y E k p n c v e = let x = simp poly at (ap (λ (z : ℕ). z * (k * E)) e) in
+    let y : Y ≡ k * E = sym (mul-one Y) ∙ v in
+    rw y (simp poly (omega arith))
+quotient-frac false X D Y E k p n c v e = let x = simp poly at (ap (λ (z : ℕ). z * (k * E)) e) in
+    let y : Y ≡ k * E = sym (mul-one Y) ∙ v in
+    rw y (simp poly (omega arith))
 
 pub same-sign : (s : Bool) → unlike s false ≡ s
 same-sign true = refl
@@ -191,7 +220,8 @@ div-frac f (fin s a i) (fin false b o) k p n c K v e = record {
   bottom = b * up o * down i;
   bottom-pos = mul-pos Y (down-pos i);
   is =
-      ap (λ (z : Bool). cond z (cond (eqb a 0) nan (inf (unlike s false))) (round f (unlike s false) (a * up i * down o) (b * up o * down i))) (not-eqb b (first-pos b (up o) Y))
+      ap (λ (z : Bool). cond z (cond (eqb a 0) nan (inf (unlike s false)))
+      (round f (unlike s false) (a * up i * down o) (b * up o * down i))) (not-eqb b (first-pos b (up o) Y))
       ∙ ap (λ (z : Bool). round f z (a * up i * down o) (b * up o * down i)) (same-sign s);
   frac = quotient-frac s (a * up i) (down i) (b * up o) (down o) k p n c (v .1) (e .equal);
 }
@@ -203,7 +233,8 @@ div-frac f (fin s a i) (fin false b o) k p n c K v e = record {
 cross-mul : (X De Y Dd a c b d : ℕ) → X * c ≡ a * De → Y * d ≡ b * Dd → X * Y * (c * d) ≡ a * b * (De * Dd)
 cross-mul X De Y Dd a c b d h k = mul-mul-mul-comm X Y c d ∙ ap (λ (z : ℕ). z * (Y * d)) h ∙ ap (λ (z : ℕ). a * De * z) k ∙ mul-mul-mul-comm a De b Dd
 
-pub mul-round : (f : Format) (x y : Float) (s t : Bool) (a c b d : ℕ) → 0 < c → 0 < d → HasValue x s a c → HasValue y t b d → mul f x y ≡ round f (unlike s t) (a * b) (c * d)
+pub mul-round : (f : Format) (x y : Float) (s t : Bool) (a c b d : ℕ) → 0 < c → 0 < d → HasValue x s a c → HasValue y t b d
+    → mul f x y ≡ round f (unlike s t) (a * b) (c * d)
 unfolding mul
 mul-round f nan y s t a c b d C D h k = absurd h
 mul-round f (inf u) y s t a c b d C D h k = absurd h
@@ -268,7 +299,8 @@ sub-equal f (fin false m e) (fin true n d) a c C h k = absurd (true≢false (k .
 sub-equal f (fin false m e) (fin false n d) a c C h k =
     sum-equal f (m * up e * down d) (n * up d * down e) (down e * down d) (mul-pos (down-pos e) (down-pos d))
     (eq-of-mul-eq-mul-right c C (m * up e * down d) (n * up d * down e)
-    (mul-right-comm (m * up e) (down d) c ∙ ap (λ (z : ℕ). z * down d) (h .1) ∙ mul-right-comm a (down e) (down d) ∙ ap (λ (z : ℕ). z * down e) (sym (k .1)) ∙ mul-right-comm (n * up d) c (down e)))
+    (mul-right-comm (m * up e) (down d) c ∙ ap (λ (z : ℕ). z * down d) (h .1) ∙ mul-right-comm a (down e) (down d)
+    ∙ ap (λ (z : ℕ). z * down e) (sym (k .1)) ∙ mul-right-comm (n * up d) c (down e)))
 
 -- ---- the order
 lt-parts : (x y : Float) → T (finite x) → T (finite y) → (T (lt x y) ↔ (gain x * den y + loss y * den x < gain y * den x + loss x * den y))
@@ -277,10 +309,13 @@ lt-parts nan y h k = absurd h
 lt-parts (inf s) y h k = absurd h
 lt-parts (fin s m e) nan h k = absurd k
 lt-parts (fin s m e) (inf t) h k = absurd k
-lt-parts (fin false m e) (fin false n d) h k = (λ l. let z = ltb→lt (m * up e * down d) (n * up d * down e) l in omega arith, λ l. lt→ltb (m * up e * down d) (n * up d * down e) (omega arith))
+lt-parts (fin false m e) (fin false n d) h k =
+    (λ l. let z = ltb→lt (m * up e * down d) (n * up d * down e) l in omega arith, λ l. lt→ltb (m * up e * down d) (n * up d * down e) (omega arith))
 lt-parts (fin false m e) (fin true n d) h k = (λ l. absurd l, λ l. absurd (omega arith))
-lt-parts (fin true m e) (fin false n d) h k = (λ l. let z = ltb→lt 0 (m * up e * down d + n * up d * down e) l in omega arith, λ l. lt→ltb 0 (m * up e * down d + n * up d * down e) (omega arith))
-lt-parts (fin true m e) (fin true n d) h k = (λ l. let z = ltb→lt (n * up d * down e) (m * up e * down d) l in omega arith, λ l. lt→ltb (n * up d * down e) (m * up e * down d) (omega arith))
+lt-parts (fin true m e) (fin false n d) h k =
+    (λ l. let z = ltb→lt 0 (m * up e * down d + n * up d * down e) l in omega arith, λ l. lt→ltb 0 (m * up e * down d + n * up d * down e) (omega arith))
+lt-parts (fin true m e) (fin true n d) h k =
+    (λ l. let z = ltb→lt (n * up d * down e) (m * up e * down d) l in omega arith, λ l. lt→ltb (n * up d * down e) (m * up e * down d) (omega arith))
 
 -- over any common denominator
 order-eq : (G L D G' L' D' p n q m c : ℕ) → 0 < c → 0 < D → 0 < D' → G * c + n * D ≡ p * D + L * c → G' * c + m * D' ≡ q * D' + L' * c
@@ -288,8 +323,11 @@ order-eq : (G L D G' L' D' p n q m c : ℕ) → 0 < c → 0 < D → 0 < D' → G
 order-eq G L D G' L' D' p n q m c C P Q e k =
     let x : G * D' * c + n * (D * D') ≡ p * (D * D') + L * D' * c = simp poly (simp poly at (ap (λ (z : ℕ). z * D') e)) in
     let y : G' * D * c + m * (D * D') ≡ q * (D * D') + L' * D * c = simp poly (simp poly at (ap (λ (z : ℕ). z * D) k)) in (
-      λ l. lt-of-mul-lt-mul-right (D * D') (let w = mul-lt-mul-of-pos-right l C in omega (arith, add-mul (G * D') (L' * D) c, add-mul (G' * D) (L * D') c, add-mul p m (D * D'), add-mul q n (D * D'))),
-      λ l. lt-of-mul-lt-mul-right c (let w = mul-lt-mul-of-pos-right l (mul-pos P Q) in omega (arith, add-mul (G * D') (L' * D) c, add-mul (G' * D) (L * D') c, add-mul p m (D * D'), add-mul q n (D * D'))),
+      λ l. lt-of-mul-lt-mul-right (D * D')
+          (let w = mul-lt-mul-of-pos-right l C in
+          omega (arith, add-mul (G * D') (L' * D) c, add-mul (G' * D) (L * D') c, add-mul p m (D * D'), add-mul q n (D * D'))),
+      λ l. lt-of-mul-lt-mul-right c (let w = mul-lt-mul-of-pos-right l (mul-pos P Q) in omega
+          (arith, add-mul (G * D') (L' * D) c, add-mul (G' * D) (L * D') c, add-mul p m (D * D'), add-mul q n (D * D'))),
     )
 
 pub lt-value : (x y : Float) (p n q m c : ℕ) → 0 < c → IsValue x p n c → IsValue y q m c → T (lt x y) ↔ (p + m < q + n)
@@ -318,10 +356,13 @@ eq-parts nan y h k = absurd h
 eq-parts (inf s) y h k = absurd h
 eq-parts (fin s m e) nan h k = absurd k
 eq-parts (fin s m e) (inf t) h k = absurd k
-eq-parts (fin false m e) (fin false n d) h k = let o = level-same (m * up e * down d) (n * up d * down e) in (λ l. omega (arith, o .0 l), λ l. o .1 (omega arith))
+eq-parts (fin false m e) (fin false n d) h k = let o = level-same (m * up e * down d) (n * up d * down e) in
+    (λ l. omega (arith, o .0 l), λ l. o .1 (omega arith))
 eq-parts (fin true m e) (fin true n d) h k = let o = level-same (m * up e * down d) (n * up d * down e) in (λ l. omega (arith, o .0 l), λ l. o .1 (omega arith))
-eq-parts (fin false m e) (fin true n d) h k = let o = level-other (m * up e * down d) (n * up d * down e) in (λ l. omega (arith, o .0 l), λ l. o .1 (omega arith))
-eq-parts (fin true m e) (fin false n d) h k = let o = level-other (m * up e * down d) (n * up d * down e) in (λ l. omega (arith, o .0 l), λ l. o .1 (omega arith))
+eq-parts (fin false m e) (fin true n d) h k = let o = level-other (m * up e * down d) (n * up d * down e) in
+    (λ l. omega (arith, o .0 l), λ l. o .1 (omega arith))
+eq-parts (fin true m e) (fin false n d) h k = let o = level-other (m * up e * down d) (n * up d * down e) in
+    (λ l. omega (arith, o .0 l), λ l. o .1 (omega arith))
 
 at-most : (a b : ℕ) → (b < a → ⊥) → a ≤ b
 at-most a b h = ⊎-elim (λ z. omega arith) (λ z. absurd (h (omega arith))) (eq-zero-or-pos (a - b))
@@ -343,7 +384,8 @@ turned a b c d i = (λ l. at-most c d (λ z. omega (arith, i .1 z)), λ l. at-mo
 pub le-value : (x y : Float) (p n q m c : ℕ) → 0 < c → IsValue x p n c → IsValue y q m c → T (le x y) ↔ (p + m ≤ q + n)
 le-value x y p n q m c C e k =
     let a = le-parts x y (e .is-finite) (k .is-finite) in
-    let b = turned (gain x * den y + loss y * den x) (gain y * den x + loss x * den y) (p + m) (q + n) (order-eq (gain y) (loss y) (den y) (gain x) (loss x) (den x) q m p n c C (den-pos y) (den-pos x) (k .equal) (e .equal)) in
+    let b = turned (gain x * den y + loss y * den x) (gain y * den x + loss x * den y) (p + m) (q + n)
+    (order-eq (gain y) (loss y) (den y) (gain x) (loss x) (den x) q m p n c C (den-pos y) (den-pos x) (k .equal) (e .equal)) in
     (λ t. b .0 (a .0 t), λ l. a .1 (b .1 l))
 
 pub le-not-lt : (x y : Float) → T (finite x) → T (finite y) → T (le x y) ↔ (T (lt y x) → ⊥)
@@ -370,7 +412,8 @@ within-ge G L D c d p n q m C v e =
     C
 
 -- (p - n) / c is within r / d of (q - m) / d
-pub within-value : (x : Float) (p n c q m d r : ℕ) → 0 < c → IsValue x p n c → p * d + m * c ≤ (q + r) * c + n * d → q * c + n * d ≤ p * d + (m + r) * c → Within x q m d r
+pub within-value : (x : Float) (p n c q m d r : ℕ) → 0 < c → IsValue x p n c → p * d + m * c ≤ (q + r) * c + n * d
+    → q * c + n * d ≤ p * d + (m + r) * c → Within x q m d r
 within-value x p n c q m d r C v h k = record {
   is-finite = v .is-finite;
   at-most = within-le (gain x) (loss x) (den x) c d p n (q + r) m C (v .equal) h;

@@ -4,7 +4,7 @@ use mathlib.Core.Path.{_≡_}
 use mathlib.Core.Bool.{Bool, true, false, cond, _&&_}
 use mathlib.Core.List.{List, [], _∷_}
 use lib.IntN.{ℤ, pos, negℤ}
-use lib.Ieee.{Float, nan, inf, fin, lt, le}
+use lib.Ieee.{Float, nan, inf, fin, binary32, ofInt, lt, le}
 use lib.Ieee.Positive.{num, den}
 use Rattle.float32.specs.declared.Rounded.{Rounded}
 use Rattle.float32.specs.declared.Rounded.the-variants.{Natural, Negative, Beyond}
@@ -19,7 +19,7 @@ abs nan = nan
 abs (inf s) = inf false
 abs (fin s m e) = fin false m e
 
--- Rust's `x.max(0.0)`, "NaN and negatives become 0"; so does -0.0 (Rust leaves open which zero it gives there)
+-- lifted (RULES 1.3), Rust's `x.max(0.0)`: NaN and negatives become 0, and so does -0.0 (Rust leaves open which zero it gives there)
 unfoldable pub lift : Float → Float
 lift x = cond (lt zero x) x zero
 
@@ -73,3 +73,7 @@ pub record Rounds (x : Float) (r : Rounded) : Type 0 where
   pub answer : r ≡ roundHalfAway x
   pub number : numberOf r ≡ 0
   pub values : valuesOf r ≡ cond (isJudged x) (wholeOf x ∷ []) []
+
+-- the float of a whole number, rounded (RULES 1.2)
+abbrev pub floatOf : ℕ → Float
+floatOf n = ofInt binary32 (pos n)

@@ -1,15 +1,15 @@
 -- Lists of corners added to a buffer: those of a box, and one behind the other. Assumes nothing.
-use Prim.Native.Nat.{ℕ, _+_, _-_, _<_, _≤_}
+use Prim.Native.Nat.{ℕ, _+_, _-_, _*_, _<_, _≤_}
 use native.Mathlib.Nat.{le-trans}
 use native.Mathlib.Omega.{arith}
 use native.Mathlib.Numerals.{add-one}
-use mathlib.Core.Path.{_≡_, refl, sym, ap, subst, _∙_}
+use mathlib.Core.Path.{_≡_, refl, sym, ap, _∙_}
 use mathlib.Core.Bool.{true}
 use mathlib.Core.List.{List, [], _∷_, _++_, map, map-append, append-nil}
 use lib.ListN.{length, length-append, length-map}
 use lib.Ieee.{Float}
 use Rattle.lists.specs.Tab.{tab}
-use Rattle.lists.specs.Places.{flatMap}
+use Rattle.lists.specs.Places.{flatMap, sumOf}
 use Rattle.lists.specs.Buffer.{placed}
 use Rattle.lists.proofs.Tab.{tab-add}
 use Rattle.lists.proofs.Tests.{and-parts}
@@ -24,37 +24,41 @@ use Rattle.corner_list.proofs.Corners.{slices-alike}
 use Rattle.detect.specs.declared.Peaks.{Peaks}
 use Rattle.detect.specs.declared.Peaks.the-variants.{Added, Refused}
 use Rattle.detect.proofs.Answers.{Clear}
-use Rattle.frame_pass.specs.declared.FrameParams.{FrameParams}
-use Rattle.frame_pass.specs.Refusals.{parametersFit}
-use Rattle.frame_pass.proofs.Maps.{ranges}
-use Rattle.patch_corners.specs.PatchCorners.{patchConditions, BoxAdded}
+use Rattle.patch_corners.specs.declared.FrameParams.{FrameParams}
+use Rattle.patch_corners.specs.PatchCorners.{conditionsOf, BoxAdded}
 use Rattle.patch_corners.proofs.Changing.{placed-places}
 use Rattle.patch_corners.proofs.Centring.{both}
 use Rattle.patch_corners.proofs.Adding.{added-fits, added-short}
 use Rattle.patch_corners.proofs.Patches.{patch-clear}
-use Rattle.frame.specs.Needs.{Ready, Adds}
+use Rattle.frame_pass.specs.Refusals.{parametersFit}
+use Rattle.frame_pass.proofs.Maps.{ranges}
+use Rattle.frame.specs.Internal.{Ready, Adds}
 
-module _ (cs : List Corner) (held : ℕ) (b : Slices) where
+module _ (cs : List Corner) (ties held : ℕ) (b : Slices) where
   -- corners that fit
-  pub adds : (n : ℕ) (b′ : Slices) → n ≡ length cs → held + n ≤ placesOf b → b′ ≡ placedCorners held cs b → Adds cs held b (Added n) b′
-  adds n b′ e fits is = record {
-    added = λ m q. let same : n ≡ m = cc in (sym same ∙ e, omega arith, is);
+  pub adds : (n t : ℕ) (b′ : Slices) → n ≡ length cs → held + n ≤ placesOf b → b′ ≡ placedCorners held cs b → t ≡ ties
+      → Adds cs ties held b (Added n t) b′
+  adds n t b′ e fits is tied = record {
+    added = λ m u q. let same : n ≡ m = cc in let also : t ≡ u = cc in (sym same ∙ e, omega arith, is, sym also ∙ tied);
     refused = λ k q. both q;
   }
 
   -- and corners that do not
-  pub adds-not : (answer : Peaks) (k : ℕ) (b′ : Slices) → answer ≡ Refused k → placesOf b < held + length cs → Adds cs held b answer b′
-  adds-not answer k b′ e short = record { added = λ n q. both (sym q ∙ e); refused = λ j q. short }
+  pub adds-not : (answer : Peaks) (k : ℕ) (b′ : Slices) → answer ≡ Refused k → placesOf b < held + length cs → Adds cs ties held b answer b′
+  adds-not answer k b′ e short = record { added = λ n t q. both (sym q ∙ e); refused = λ j q. short }
 
   -- no corners
-  pub adds-none : cs ≡ [] → held ≤ placesOf b → Adds cs held b (Added 0) b
-  adds-none e h =
-      adds 0 b (ap length (sym e)) (omega arith)
-      (slices-alike (placed-none held (b .xs)) (placed-none held (b .ys)) (placed-none held (b .strengths)) ∙ ap (λ (l : List Corner). placedCorners held l b) (sym e))
+  pub adds-none : cs ≡ [] → ties ≡ 0 → held ≤ placesOf b → Adds cs ties held b (Added 0 0) b
+  adds-none e t h =
+      adds 0 0 b (ap length (sym e)) (omega arith)
+      (slices-alike (placed-none held (b .xs)) (placed-none held (b .ys)) (placed-none held (b .strengths))
+      ∙ ap (λ (l : List Corner). placedCorners held l b) (sym e))
+      (sym t)
 
-  -- the same corners by another name
-  pub adds-to : (ds : List Corner) (answer : Peaks) (b′ : Slices) → cs ≡ ds → Adds cs held b answer b′ → Adds ds held b answer b′
-  adds-to ds answer b′ e a = subst (λ (l : List Corner). Adds l held b answer b′) e a
+  -- the same corners and ties by another name
+  pub adds-to : (ds : List Corner) (u : ℕ) (answer : Peaks) (b′ : Slices) → cs ≡ ds → ties ≡ u → Adds cs ties held b answer b′
+      → Adds ds u held b answer b′
+  adds-to ds u answer b′ e t a = rw (← e, ← t) a
 
 -- ---- the corners of a box of an image
 abbrev pub boxIn : FrameParams → List ℕ → ℕ → ℕ → ℕ → ℕ → ℕ → ℕ → View
@@ -66,9 +70,9 @@ unfolding parametersFit
 ring-is p e = and-parts (isRing (p .ring)) _ e .0
 
 -- added as a box's list cs is
-module _ (p : FrameParams) (img : List ℕ) (w h x0 y0 x1 y1 : ℕ) (d : List Float) (ready : Ready p img w h (length d)) (cs : List Corner) (held : ℕ)
-    (b : Slices) (answer : Peaks) (d′ : List Float) (b′ : Slices) (added : BoxAdded p (boxIn p img w h x0 y0 x1 y1) cs held d b answer d′ b′) where
-  unrefused : Clear (patchConditions p (boxIn p img w h x0 y0 x1 y1) (length d))
+module _ (p : FrameParams) (img : List ℕ) (w h x0 y0 x1 y1 : ℕ) (d : List Float) (ready : Ready p img w h (length d)) (cs : List Corner) (ties held : ℕ)
+    (b : Slices) (answer : Peaks) (d′ : List Float) (b′ : Slices) (added : BoxAdded p (boxIn p img w h x0 y0 x1 y1) cs ties held d b answer d′ b′) where
+  unrefused : Clear (conditionsOf p (boxIn p img w h x0 y0 x1 y1) (length d))
   unrefused =
       let r = ranges p (ready .sound .fit) in
       patch-clear p (boxIn p img w h x0 y0 x1 y1) (length d)
@@ -78,20 +82,20 @@ module _ (p : FrameParams) (img : List ℕ) (w h x0 y0 x1 y1 : ℕ) (d : List Fl
         whole = ready .sound .sized;
         ring-is = ring-is p (ready .sound .fit);
         in-window = r .window;
-        in-radius = r .centroid;
+        in-radius = r .«centroid_radius»;
       })
       (le-trans (area-in (boxIn p img w h x0 y0 x1 y1)) (ready .enough))
 
-  pub box-adds : Adds cs held b answer b′
+  pub box-adds : Adds cs ties held b answer b′
   box-adds = record {
-    added = λ n q. let t = added-fits p (boxIn p img w h x0 y0 x1 y1) cs held d b answer d′ b′ added n q in (t .count, t .fits, t .buffer);
-    refused = λ k q. added-short p (boxIn p img w h x0 y0 x1 y1) cs held d b answer d′ b′ added unrefused k q;
+    added = λ n u q. let t = added-fits p (boxIn p img w h x0 y0 x1 y1) cs ties held d b answer d′ b′ added n u q in (t .count, t .fits, t .buffer, t .tied);
+    refused = λ k q. added-short p (boxIn p img w h x0 y0 x1 y1) cs ties held d b answer d′ b′ added unrefused k q;
   }
 
 -- ---- one list behind another: cs stand first in b, which was b₀
-module _ (cs : List Corner) (held : ℕ) (b₀ b : Slices) (a : Adds cs 0 b₀ (Added held) b) where
-  abbrev fitted : (held ≡ length cs) × (0 + held ≤ placesOf b₀) × (b ≡ placedCorners 0 cs b₀)
-  fitted = a .added held refl
+module _ (cs : List Corner) (ties held t : ℕ) (b₀ b : Slices) (a : Adds cs ties 0 b₀ (Added held t) b) where
+  abbrev fitted : (held ≡ length cs) × (0 + held ≤ placesOf b₀) × (b ≡ placedCorners 0 cs b₀) × (t ≡ ties)
+  fitted = a .added held t refl
 
   pub adds-places : placesOf b ≡ placesOf b₀
   adds-places = ap placesOf (fitted .2) ∙ placed-places cs 0 b₀ (omega (arith, fitted .0, fitted .1))
@@ -99,23 +103,32 @@ module _ (cs : List Corner) (held : ℕ) (b₀ b : Slices) (a : Adds cs 0 b₀ (
   pub adds-held : held ≤ placesOf b
   adds-held = omega (arith, fitted .1, adds-places)
 
-  module _ (ds : List Corner) (answer : Peaks) (b′ : Slices) (d : Adds ds held b answer b′) where
-    adds-more : (n : ℕ) → answer ≡ Added n → Adds (cs ++ ds) 0 b₀ (Added (held + n)) b′
-    adds-more n e =
-        let t = d .added n e in
-        adds (cs ++ ds) 0 b₀ (held + n) b′ (omega (arith, fitted .0, t .0, length-append cs ds)) (omega (arith, t .1, adds-places))
-        (t .2 ∙ ap (placedCorners held ds) (fitted .2) ∙ slices-alike (more xOf (b₀ .xs)) (more yOf (b₀ .ys)) (more strengthOf (b₀ .strengths)))
+  module _ (ds : List Corner) (more-ties : ℕ) (answer : Peaks) (b′ : Slices) (d : Adds ds more-ties held b answer b′) where
+    adds-more : (n u : ℕ) → answer ≡ Added n u → Adds (cs ++ ds) (ties + more-ties) 0 b₀ (Added (held + n) (t + u)) b′
+    adds-more n u e =
+        let k = d .added n u e in
+        adds (cs ++ ds) (ties + more-ties) 0 b₀ (held + n) (t + u) b′ (omega (arith, fitted .0, k .0, length-append cs ds)) (omega (arith, k .1, adds-places))
+        (k .2 ∙ ap (placedCorners held ds) (fitted .2) ∙ slices-alike (more xOf (b₀ .xs)) (more yOf (b₀ .ys)) (more strengthOf (b₀ .strengths)))
+        (omega (arith, fitted .3, k .3))
       where
-        more : (g : Corner → Float) (s : List Float) → placed held (map g ds) (placed 0 (map g cs) s) ≡ placed 0 (map g (cs ++ ds)) s
-        more g s =
+        more : {A : Type 0} (g : Corner → A) (s : List A) → placed held (map g ds) (placed 0 (map g cs) s) ≡ placed 0 (map g (cs ++ ds)) s
+        more {A} g s =
             placed-more 0 held (map g cs) (map g ds) s (omega arith) (omega (arith, fitted .0, length-map cs g))
-            ∙ ap (λ (l : List Float). placed 0 l s) (sym (map-append g cs ds))
+            ∙ ap (λ (l : List A). placed 0 l s) (sym (map-append g cs ds))
 
     -- the first that does not fit, of a list that goes on
-    adds-full : (k : ℕ) → answer ≡ Refused k → (all : List Corner) → length cs + length ds ≤ length all → Adds all 0 b₀ answer b′
-    adds-full k e all l = adds-not all 0 b₀ answer k b′ e (omega (arith, d .refused k e, fitted .0, adds-places))
+    adds-full : (k : ℕ) → answer ≡ Refused k → (all : List Corner) (all-ties : ℕ) → length cs + length ds ≤ length all → Adds all all-ties 0 b₀ answer b′
+    adds-full k e all all-ties l = adds-not all all-ties 0 b₀ answer k b′ e (omega (arith, d .refused k e, fitted .0, adds-places))
 
--- ---- the lists of the first members
+-- ---- the lists of the first members, and the sums of a number of each
+sum-append : {A : Type 0} (X : A → ℕ) (s t : List A) → sumOf X (s ++ t) ≡ sumOf X s + sumOf X t
+sum-append X [] t = omega arith
+sum-append X (a ∷ s) t = omega (arith, sum-append X s t)
+
+sum-next : {A : Type 0} (X : A → ℕ) (g : ℕ → A) (i : ℕ) → sumOf X (tab i g) + X (g i) ≡ sumOf X (tab (i + 1) g)
+unfolding tab
+sum-next X g i = omega (arith, sum-append X (tab i g) (g i ∷ []), ap (λ (k : ℕ). sumOf X (tab k g)) (add-one i))
+
 module _ {A B : Type 0} (f : A → List B) (g : ℕ → A) where
   flat-next : (i : ℕ) → flatMap f (tab i g) ++ f (g i) ≡ flatMap f (tab (i + 1) g)
   unfolding tab
@@ -131,21 +144,35 @@ module _ {A B : Type 0} (f : A → List B) (g : ℕ → A) where
       let rest = tab k (λ j. g (i + 1 + j)) in
       let split : flatMap f (tab n g) ≡ flatMap f (tab (i + 1) g) ++ flatMap f rest =
       ap (λ (m : ℕ). flatMap f (tab m g)) e ∙ ap (flatMap f) (tab-add (i + 1) k g) ∙ flatMap-append f (tab (i + 1) g) rest in
-      omega (arith, ap length split, length-append (flatMap f (tab (i + 1) g)) (flatMap f rest), ap length (flat-next i), length-append (flatMap f (tab i g)) (f (g i)))
+      omega (
+        arith,
+        ap length split,
+        length-append (flatMap f (tab (i + 1) g)) (flatMap f rest),
+        ap length (flat-next i),
+        length-append (flatMap f (tab i g)) (f (g i)),
+      )
 
-pub turn-none : {A : Type 0} (f : A → List Corner) (g : ℕ → A) (b : Slices) → Adds (flatMap f (tab 0 g)) 0 b (Added 0) b
+pub turn-none : {A : Type 0} (f : A → List Corner) (X : A → ℕ) (g : ℕ → A) (b : Slices)
+    → Adds (flatMap f (tab 0 g)) (sumOf X (tab 0 g)) 0 b (Added 0 0) b
 unfolding tab
-turn-none f g b = adds-none [] 0 b refl (omega arith)
+turn-none f X g b = adds-none [] 0 0 b refl refl (omega arith)
 
 -- the list of one member more, s
-module _ {A : Type 0} (f : A → List Corner) (g : ℕ → A) (i held : ℕ) (b₀ b : Slices) (a : Adds (flatMap f (tab i g)) 0 b₀ (Added held) b)
-    (s : A) (e : s ≡ g i) (answer : Peaks) (b′ : Slices) (d : Adds (f s) held b answer b′) where
-  pub turn-more : (n : ℕ) → answer ≡ Added n → Adds (flatMap f (tab (i + 1) g)) 0 b₀ (Added (held + n)) b′
-  turn-more n z =
-      adds-to (flatMap f (tab i g) ++ f s) 0 b₀ _ (Added (held + n)) b′ (ap (λ (r : A). flatMap f (tab i g) ++ f r) e ∙ flat-next f g i)
-      (adds-more (flatMap f (tab i g)) held b₀ b a (f s) answer b′ d n z)
+module _ {A : Type 0} (f : A → List Corner) (X : A → ℕ) (g : ℕ → A) (i held t : ℕ) (b₀ b : Slices)
+    (a : Adds (flatMap f (tab i g)) (sumOf X (tab i g)) 0 b₀ (Added held t) b)
+    (s : A) (e : s ≡ g i) (answer : Peaks) (b′ : Slices) (d : Adds (f s) (X s) held b answer b′) where
+  pub turn-more : (n u : ℕ) → answer ≡ Added n u
+      → Adds (flatMap f (tab (i + 1) g)) (sumOf X (tab (i + 1) g)) 0 b₀ (Added (held + n) (t + u)) b′
+  turn-more n u z =
+      adds-to (flatMap f (tab i g) ++ f s) (sumOf X (tab i g) + X s) 0 b₀ _ _ (Added (held + n) (t + u)) b′
+      (ap (λ (r : A). flatMap f (tab i g) ++ f r) e ∙ flat-next f g i) (ap (λ (r : A). sumOf X (tab i g) + X r) e ∙ sum-next X g i)
+      (adds-more (flatMap f (tab i g)) (sumOf X (tab i g)) held t b₀ b a (f s) (X s) answer b′ d n u z)
 
-  pub turn-full : (k : ℕ) → answer ≡ Refused k → (n : ℕ) → i < n → Adds (flatMap f (tab n g)) 0 b₀ answer b′
+  pub turn-full : (k : ℕ) → answer ≡ Refused k → (n : ℕ) → i < n → Adds (flatMap f (tab n g)) (sumOf X (tab n g)) 0 b₀ answer b′
   turn-full k z n l =
-      adds-full (flatMap f (tab i g)) held b₀ b a (f s) answer b′ d k z (flatMap f (tab n g))
+      adds-full (flatMap f (tab i g)) (sumOf X (tab i g)) held t b₀ b a (f s) (X s) answer b′ d k z (flatMap f (tab n g)) (sumOf X (tab n g))
       (omega (arith, flat-within f g i n l, ap (λ (r : A). length (f r)) e))
+
+-- ties of at most 2^24 lists, each with few, as a u64
+pub sum-fits : (t s l n : ℕ) → t ≡ s → s ≤ 18270388224 * l → (i : ℕ) → l ≡ i + 1 → i < n → n ≤ 16777216 → t ≤ 18446744073709551615
+sum-fits t s l n e few i is below most = omega arith

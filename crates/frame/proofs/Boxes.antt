@@ -1,12 +1,13 @@
--- The corners of a seed's box: those of the box's map, moved by its corner. Assumes nothing.
+-- The corners of a seed's box, those of the box's map, moved by its corner, and their peaks' ties. Assumes nothing.
 use Prim.Native.Nat.{ℕ, _≤_}
 use native.Mathlib.Omega.{arith}
+use native.Mathlib.Nat.{add-zero}
 use mathlib.Core.Path.{_≡_, refl, sym, ap, _∙_}
 use mathlib.Core.Logic.{inl, inr}
 use mathlib.Core.List.{List, [], _∷_, map, append-nil}
 use types.Run.{OneOf}
 use denote.Enum.Declared.{tagOf}
-use Rattle.lists.specs.Places.{flatMap}
+use Rattle.lists.specs.Places.{flatMap, sumOf}
 use Rattle.response.proofs.Map.{box-left, box-top}
 use Rattle.corner_list.specs.declared.Corner.{Corner}
 use Rattle.corner_list.specs.CornerList.{Slices, placesOf}
@@ -17,10 +18,11 @@ use Rattle.multiscale.specs.declared.RoiAnswer.{RoiAnswer}
 use Rattle.multiscale.specs.declared.RoiAnswer.the-variants as roi
 use Rattle.multiscale.specs.Promise.{Boxed}
 use Rattle.multiscale.proofs.Box.{box-inside}
-use Rattle.frame_pass.specs.declared.FrameParams.{FrameParams}
-use Rattle.frame_pass.specs.Pass.{computedChoice, moved, contextAt, patchOf, cornersIn, cornersOn, cornersAbout}
-use Rattle.box_corners.specs.BoxCorners.{boxCorners}
-use Rattle.frame.specs.Needs.{Adds}
+use Rattle.patch_corners.specs.declared.FrameParams.{FrameParams}
+use Rattle.patch_corners.specs.OneMap.{computedChoice, moved, cornersIn, tiesOn}
+use Rattle.patch_corners.specs.BoxCorners.{boxCorners}
+use Rattle.frame_pass.specs.Pass.{contextAt, patchOf, cornersOn, cornersAbout, tiesAbout}
+use Rattle.frame.specs.Internal.{Adds}
 use Rattle.frame.proofs.Adding.{adds-none, adds-to, boxIn}
 
 module _ (p : FrameParams) (img : List ℕ) (w h : ℕ) (k : ℕ) (s : Corner) (a : RoiAnswer) (boxed : Boxed (contextAt p img w h k) s a) where
@@ -31,10 +33,14 @@ module _ (p : FrameParams) (img : List ℕ) (w h : ℕ) (k : ℕ) (s : Corner) (
   no-patch roi.NoRoi e = refl
   no-patch (roi.Refused n) e = refl
 
-  pub about-none : OneOf (1 ∷ 2 ∷ []) (tagOf answer-type a) → (held : ℕ) (b : Slices) → held ≤ placesOf b → Adds (cornersAbout p img w h (computedChoice p) k s) held b (Added 0) b
+  pub about-none : OneOf (1 ∷ 2 ∷ []) (tagOf answer-type a) → (held : ℕ) (b : Slices) → held ≤ placesOf b
+      → Adds (cornersAbout p img w h (computedChoice p) k s) (tiesAbout p img w h (computedChoice p) k s) held b (Added 0 0) b
   about-none o held b l =
-      adds-none (cornersAbout p img w h (computedChoice p) k s) held b
-      (ap (λ (r : RoiAnswer). flatMap (cornersOn p img w h (computedChoice p)) (patchOf p img w h r)) (sym (boxed .answer)) ∙ ap (flatMap (cornersOn p img w h (computedChoice p))) (no-patch a o)) l
+      adds-none (cornersAbout p img w h (computedChoice p) k s) (tiesAbout p img w h (computedChoice p) k s) held b
+      (ap (λ (r : RoiAnswer). flatMap (cornersOn p img w h (computedChoice p)) (patchOf p img w h r)) (sym (boxed .answer))
+      ∙ ap (flatMap (cornersOn p img w h (computedChoice p))) (no-patch a o))
+      (ap (λ (r : RoiAnswer). sumOf (tiesOn p (computedChoice p)) (patchOf p img w h r)) (sym (boxed .answer))
+      ∙ ap (sumOf (tiesOn p (computedChoice p))) (no-patch a o)) l
 
   -- ---- a box: it lies in the image, so that its corner is that of the clipped box
   module _ (x0 y0 x1 y1 : ℕ) (q : a ≡ roi.Bounds x0 y0 x1 y1) where
@@ -46,6 +52,12 @@ module _ (p : FrameParams) (img : List ℕ) (w h : ℕ) (k : ℕ) (s : Corner) (
         (sym (append-nil (map (moved x0 y0) (cornersIn p (computedChoice p) v))))
         ∙ ap (λ (r : RoiAnswer). flatMap (cornersOn p img w h (computedChoice p)) (patchOf p img w h r)) (sym q ∙ boxed .answer)
 
-    pub about-added : (held : ℕ) (b : Slices) (answer : Peaks) (b′ : Slices) → Adds (boxCorners p (boxIn p img w h x0 y0 x1 y1)) held b answer b′
-        → Adds (cornersAbout p img w h (computedChoice p) k s) held b answer b′
-    about-added held b answer b′ d = adds-to _ held b _ answer b′ about d
+    tied : tiesOn p (computedChoice p) (boxIn p img w h x0 y0 x1 y1) ≡ tiesAbout p img w h (computedChoice p) k s
+    tied =
+        sym (add-zero (tiesOn p (computedChoice p) (boxIn p img w h x0 y0 x1 y1)))
+        ∙ ap (λ (r : RoiAnswer). sumOf (tiesOn p (computedChoice p)) (patchOf p img w h r)) (sym q ∙ boxed .answer)
+
+    pub about-added : (held : ℕ) (b : Slices) (answer : Peaks) (b′ : Slices)
+        → Adds (boxCorners p (boxIn p img w h x0 y0 x1 y1)) (tiesOn p (computedChoice p) (boxIn p img w h x0 y0 x1 y1)) held b answer b′
+        → Adds (cornersAbout p img w h (computedChoice p) k s) (tiesAbout p img w h (computedChoice p) k s) held b answer b′
+    about-added held b answer b′ d = adds-to _ _ held b _ _ answer b′ about tied d

@@ -20,11 +20,12 @@ use Rattle.corner_list.specs.declared.Corner.{Corner}
 use Rattle.corner_list.specs.CornerList.{Slices, xOf, yOf, strengthOf, placesOf, cornersOf}
 use Rattle.corner_list.proofs.Corners.{slices-alike, corners-front}
 use Rattle.merge.proofs.Result.{result-length}
-use Rattle.frame_pass.specs.declared.FrameParams.{FrameParams}
-use Rattle.frame_pass.specs.Pass.{framePass, computedChoice, levelsIn, foundOf}
-use Rattle.frame.specs.declared.FrameAnswer.the-variants.{Corners, Refused}
+use Rattle.patch_corners.specs.declared.FrameParams.{FrameParams}
+use Rattle.patch_corners.specs.OneMap.{computedChoice}
+use Rattle.frame_pass.specs.Pass.{framePass, levelsIn, foundOf}
 use Rattle.frame_pass.specs.Refusals.{conditions}
-use Rattle.frame.specs.Frame.{Buffers, tooMany, refusalOf, paddedCorners, finished, leaving, answerOf, Frame, frame, frameOf, Found}
+use Rattle.frame.specs.declared.FrameAnswer.the-variants.{Corners, Refused}
+use Rattle.frame.specs.Frame.{Buffers, tooMany, refusalOf, paddedCorners, finished, leaving, answerOf, Frame, frame, frameOf, FrameFound}
 use Rattle.frame.proofs.Numbers.{number-before, number-in-pass}
 
 -- corners that stand first in a buffer are read back
@@ -36,10 +37,11 @@ corners-padded cs b n e =
     ap (λ (s : Slices). cornersOf s n) (slices-alike (own-front (map xOf cs) _) (own-front (map yOf cs) _) (own-front (map strengthOf cs) _))
     ∙ corners-front cs (paddedCorners cs b) n e
 
--- a finished frame: its corners, by the pass, and the buffers
-pub record Finished (p : FrameParams) (img : List ℕ) (w h : ℕ) (b : Buffers) (n : ℕ) (b′ : Buffers) : Type 0 where
+-- a finished frame: its corners and ties, by the pass, and the buffers
+pub record Finished (p : FrameParams) (img : List ℕ) (w h : ℕ) (b : Buffers) (n t : ℕ) (b′ : Buffers) : Type 0 where
   pub number : refusalOf p img w h b ≡ 0
   pub count : n ≡ length (framePass p img w h (computedChoice p) .corners)
+  pub tied : t ≡ framePass p img w h (computedChoice p) .ties
   pub fits : n ≤ placesOf (b .corners)
   pub corners : cornersOf (b′ .corners) n ≡ framePass p img w h (computedChoice p) .corners
   pub left : b′ ≡ finished (above img w h (levelsIn p img w h)) (framePass p img w h (computedChoice p)) b
@@ -58,37 +60,39 @@ module _ (p : FrameParams) (img : List ℕ) (w h : ℕ) (b : Buffers) where
   few e =
       let q = framePass p img w h (computedChoice p) in
       let l = ltb-false (placesOf (b .corners)) (length (q .found)) (or-neither (ltb (placesOf (b .seeds)) (length (q .seeds))) _ (not-many e) .1) in
-      omega (arith, l, result-length (p .radius) (foundOf p img w h (computedChoice p) (levelsIn p img w h)))
+      omega (arith, l, result-length (p .«merge_radius») (foundOf p img w h (computedChoice p) (levelsIn p img w h)))
 
-  pub finished-tells : (n : ℕ) (b′ : Buffers) → Found p img w h b (Corners n) b′ → Finished p img w h b n b′
+  pub finished-tells : (n t : ℕ) (b′ : Buffers) → FrameFound p img w h b (Corners n t) b′ → Finished p img w h b n t b′
   unfolding frameOf
-  finished-tells n b′ f =
+  finished-tells n t b′ f =
       let q = framePass p img w h (computedChoice p) in
       let none : refusalOf p img w h b ≡ 0 = sym (f .number) in
-      let is : frame (Corners n) b′ ≡ frame (Corners (length (q .corners))) (finished (above img w h (levelsIn p img w h)) q b) =
-      f .is ∙ ap (λ (k : ℕ). frame (answerOf k (length (q .corners))) (leaving k (above img w h (levelsIn p img w h)) q b)) none in
+      let is : frame (Corners n t) b′ ≡ frame (Corners (length (q .corners)) (q .ties)) (finished (above img w h (levelsIn p img w h)) q b) =
+      f .is ∙ ap (λ (k : ℕ). frame (answerOf k (length (q .corners)) (q .ties)) (leaving k (above img w h (levelsIn p img w h)) q b)) none in
       let left = ap (λ (z : Frame). z .left) is in
-      let answer : Corners n ≡ Corners (length (q .corners)) = ap (λ (z : Frame). z .answer) is in
+      let answer : Corners n t ≡ Corners (length (q .corners)) (q .ties) = ap (λ (z : Frame). z .answer) is in
       let count : n ≡ length (q .corners) = cc in
+      let tied : t ≡ q .ties = cc in
       record {
         number = none;
         count = count;
+        tied = tied;
         fits = omega (arith, count, few none);
         corners = ap (λ (z : Buffers). cornersOf (z .corners) n) left ∙ corners-padded (q .corners) (b .corners) n count;
         left = left;
       }
 
   -- a refused one: its number
-  pub refused-tells : (k : ℕ) (b′ : Buffers) → Found p img w h b (Refused k) b′ → refusalOf p img w h b ≡ k
+  pub refused-tells : (k : ℕ) (b′ : Buffers) → FrameFound p img w h b (Refused k) b′ → refusalOf p img w h b ≡ k
   refused-tells k b′ f = sym (f .number)
 
   -- which is none of a finished one
-  pub refusal-positive : (k : ℕ) (b′ : Buffers) → Found p img w h b (Refused k) b′ → k ≡ 0 → ⊥
+  pub refusal-positive : (k : ℕ) (b′ : Buffers) → FrameFound p img w h b (Refused k) b′ → k ≡ 0 → ⊥
   unfolding frameOf
   refusal-positive k b′ f z =
       let q = framePass p img w h (computedChoice p) in
       let none : refusalOf p img w h b ≡ 0 = sym (f .number) ∙ z in
-      let is : frame (Refused k) b′ ≡ frame (Corners (length (q .corners))) (finished (above img w h (levelsIn p img w h)) q b) =
-      f .is ∙ ap (λ (k : ℕ). frame (answerOf k (length (q .corners))) (leaving k (above img w h (levelsIn p img w h)) q b)) none in
-      let answer : Refused k ≡ Corners (length (q .corners)) = ap (λ (z : Frame). z .answer) is in
+      let is : frame (Refused k) b′ ≡ frame (Corners (length (q .corners)) (q .ties)) (finished (above img w h (levelsIn p img w h)) q b) =
+      f .is ∙ ap (λ (k : ℕ). frame (answerOf k (length (q .corners)) (q .ties)) (leaving k (above img w h (levelsIn p img w h)) q b)) none in
+      let answer : Refused k ≡ Corners (length (q .corners)) (q .ties) = ap (λ (z : Frame). z .answer) is in
       let no : _≡_ {A = ℕ} 0 1 = cc in omega arith

@@ -17,53 +17,57 @@ use Rattle.pyramid.specs.Pyramid.{above}
 use Rattle.pyramid.specs.Build.{Built}
 use Rattle.pyramid.specs.declared.Pyramid.{Pyramid}
 use Rattle.pyramid.specs.declared.Pyramid.the-variants as pyramid
-use Rattle.pyramid_levels.proofs.Refusals.{Accepted}
+use Rattle.pyramid_levels.specs.Internal.{LevelsAccepted}
 use Rattle.pyramid.proofs.Levels.{builds}
 use Rattle.corner_list.specs.CornerList.{Slices, placesOf, isInside, cornersOf, frontCorners}
 use Rattle.corner_list.specs.declared.Corner.{Corner}
 use Rattle.corner_list.proofs.Corners.{corners-front, same-places}
 use Rattle.merge.specs.declared.Merged.{Merged}
 use Rattle.merge.specs.Merge as merge
-use Rattle.merge_refusal.proofs.Judged.{judged-none-off, judged-none-on}
+use Rattle.merge.proofs.Judged.{judged-none-off, judged-none-on}
 use Rattle.merge.proofs.Result.{result-length, merges-done}
-use Rattle.frame_pass.specs.declared.FrameParams.{FrameParams}
-use Rattle.frame_pass.specs.Pass.{Pass, framePass, computedChoice, levelsIn, seedsOf, foundOf}
+use Rattle.patch_corners.specs.declared.FrameParams.{FrameParams}
+use Rattle.patch_corners.specs.OneMap.{computedChoice}
+use Rattle.patch_corners.specs.Clearing.{clearedFrom}
+use Rattle.frame_pass.specs.Pass.{Pass, framePass, levelsIn, seedsOf, foundOf, tiesFound}
+use Rattle.frame_pass.specs.Refusals.{conditions}
+use Rattle.frame_pass.proofs.Refusals.{Admitted, not-ten}
 use Rattle.frame.specs.declared.FrameAnswer.{FrameAnswer}
 use Rattle.frame.specs.declared.FrameAnswer.the-variants.{Corners, Refused}
 use Rattle.frame.specs.declared.search.Lists.{Lists}
-use Rattle.frame_pass.specs.Refusals.{conditions}
-use Rattle.frame.specs.Frame.{Buffers, buffers, tooMany, refusalOf, paddedCorners, padded, finished, wiped, leaving}
-use Rattle.frame.specs.Frame.{answerOf, numberOf, valuesOf, frame, frameOf, Found}
-use Rattle.clearing.specs.Clearing.{clearedFrom}
-use Rattle.frame.specs.Needs.{Searched, keptOf, Merging}
-use Rattle.frame_pass.proofs.Refusals.{Admitted, not-ten}
+use Rattle.frame.specs.Frame.{Buffers, buffers, tooMany, refusalOf, paddedCorners, padded, finished, wiped, leaving, answerOf}
+use Rattle.frame.specs.Frame.{numberOf, valuesOf, frame, frameOf, FrameFound}
+use Rattle.frame.specs.Internal.{Searched, keptOf, Merging}
 use Rattle.frame.proofs.Numbers.{number-before, number-ten, number-none}
 use Rattle.frame.proofs.Padded.{SameLengths, padded-none, cleared-front, cleared-none}
 
-number-is : (k n : ℕ) → numberOf (answerOf k n) ≡ k
-number-is zero n = refl
-number-is (suc k) n = refl
+number-is : (k n t : ℕ) → numberOf (answerOf k n t) ≡ k
+number-is zero n t = refl
+number-is (suc k) n t = refl
 
-values-are : (k n : ℕ) → valuesOf (answerOf k n) ≡ valuesUnless k (n ∷ [])
-values-are zero n = refl
-values-are (suc k) n = refl
+values-are : (k n t : ℕ) → valuesOf (answerOf k n t) ≡ valuesUnless k (n ∷ t ∷ [])
+values-are zero n t = refl
+values-are (suc k) n t = refl
 
 module _ (p : FrameParams) (img : List ℕ) (w h : ℕ) (b : Buffers) where
   abbrev pub pass : Pass
   pass = framePass p img w h (computedChoice p)
 
   -- an answer and buffers by the number
-  found-by : (k : ℕ) → refusalOf p img w h b ≡ k → (answer : FrameAnswer) (b′ : Buffers) → answer ≡ answerOf k (length (pass .corners))
-      → b′ ≡ leaving k (above img w h (levelsIn p img w h)) pass b → Found p img w h b answer b′
+  found-by : (k : ℕ) → refusalOf p img w h b ≡ k → (answer : FrameAnswer) (b′ : Buffers) → answer ≡ answerOf k (length (pass .corners)) (pass .ties)
+      → b′ ≡ leaving k (above img w h (levelsIn p img w h)) pass b → FrameFound p img w h b answer b′
   unfolding frameOf
   found-by k e answer b′ a l = record {
-    is = ap₂ frame a l ∙ ap (λ (n : ℕ). frame (answerOf n (length (pass .corners))) (leaving n (above img w h (levelsIn p img w h)) pass b)) (sym e);
-    number = ap numberOf a ∙ number-is k (length (pass .corners)) ∙ sym e;
-    values = ap valuesOf a ∙ values-are k (length (pass .corners)) ∙ ap (λ (n : ℕ). valuesUnless n (length (pass .corners) ∷ [])) (sym e);
+    is = ap₂ frame a l ∙ ap (λ (n : ℕ). frame (answerOf n (length (pass .corners)) (pass .ties))
+        (leaving n (above img w h (levelsIn p img w h)) pass b)) (sym e);
+    number = ap numberOf a ∙ number-is k (length (pass .corners)) (pass .ties) ∙ sym e;
+    values = ap valuesOf a ∙ values-are k (length (pass .corners)) (pass .ties)
+        ∙ ap (λ (n : ℕ). valuesUnless n (length (pass .corners) ∷ pass .ties ∷ [])) (sym e);
   }
 
   -- refused before the pass
-  pub found-refused : (k : ℕ) → k ≡ lowest (conditions p (length img) w h (length (b .map)) (length (b .levels))) → (k ≡ 0 → ⊥) → Found p img w h b (Refused k) b
+  pub found-refused : (k : ℕ) → k ≡ lowest (conditions p (length img) w h (length (b .map)) (length (b .levels))) → (k ≡ 0 → ⊥)
+      → FrameFound p img w h b (Refused k) b
   found-refused zero e n = absurd (n refl)
   found-refused (suc k) e n =
       let ten = not-ten p (length img) w h (length (b .map)) (length (b .levels)) in
@@ -72,16 +76,17 @@ module _ (p : FrameParams) (img : List ℕ) (w h : ℕ) (b : Buffers) where
 
   module _ (none : lowest (conditions p (length img) w h (length (b .map)) (length (b .levels))) ≡ 0) where
     -- a list does not fit
-    pub found-short : tooMany pass b ≡ true → (b′ : Buffers) → b′ ≡ wiped b → Found p img w h b (Refused 10) b′
+    pub found-short : tooMany pass b ≡ true → (b′ : Buffers) → b′ ≡ wiped b → FrameFound p img w h b (Refused 10) b′
     found-short t b′ e = found-by 10 (number-ten p img w h b none t) (Refused 10) b′ refl e
 
     -- finished
-    pub found-done : tooMany pass b ≡ false → (k : ℕ) (b′ : Buffers) → k ≡ length (pass .corners)
-        → b′ ≡ finished (above img w h (levelsIn p img w h)) pass b → Found p img w h b (Corners k) b′
-    found-done t k b′ c e = found-by 0 (number-none p img w h b none t) (Corners k) b′ (ap Corners c) e
+    pub found-done : tooMany pass b ≡ false → (k u : ℕ) (b′ : Buffers) → k ≡ length (pass .corners) → u ≡ pass .ties
+        → b′ ≡ finished (above img w h (levelsIn p img w h)) pass b → FrameFound p img w h b (Corners k u) b′
+    found-done t k u b′ c d e = found-by 0 (number-none p img w h b none t) (Corners k u) b′ (ap₂ Corners c d) e
 
 -- ---- the pyramid is built
-pub build-free : (img : List ℕ) (w h count least : ℕ) (d : List ℕ) (r : Pyramid) (e : List ℕ) → Built img w h count least d r e → Accepted (length img) (length d) w h count least
+pub build-free : (img : List ℕ) (w h count least : ℕ) (d : List ℕ) (r : Pyramid) (e : List ℕ) → Built img w h count least d r e
+    → LevelsAccepted (length img) (length d) w h count least
     → (x : ℕ) → r ≡ pyramid.Refused x → ⊥
 build-free img w h count least d r e b a x q =
     let z = sym (builds img w h count least d r e b a) ∙ q in
@@ -102,7 +107,8 @@ none-read c = refl
 -- ---- after the search of n levels, which answered `answer` and left s′ and c′
 module _ (p : FrameParams) (img : List ℕ) (w h : ℕ) (m : List Float) (levels : List ℕ) (s c : Slices) (n : ℕ) (counted : n ≡ levelsIn p img w h)
     (answer : Lists) (s′ c′ : Slices)
-    (found : Searched (seedsOf p img w h (computedChoice p) n) (foundOf p img w h (computedChoice p) n) s c answer s′ c′) where
+    (found : Searched (seedsOf p img w h (computedChoice p) n) (foundOf p img w h (computedChoice p) n) (tiesFound p img w h (computedChoice p) n) s c
+    answer s′ c′) where
   seeds-are : framePass p img w h (computedChoice p) .seeds ≡ seedsOf p img w h (computedChoice p) n
   unfolding framePass
   seeds-are = ap (seedsOf p img w h (computedChoice p)) (sym counted)
@@ -111,9 +117,13 @@ module _ (p : FrameParams) (img : List ℕ) (w h : ℕ) (m : List Float) (levels
   unfolding framePass
   found-are = ap (foundOf p img w h (computedChoice p)) (sym counted)
 
-  corners-are : framePass p img w h (computedChoice p) .corners ≡ merge.resultOf (p .radius) (foundOf p img w h (computedChoice p) n)
+  corners-are : framePass p img w h (computedChoice p) .corners ≡ merge.resultOf (p .«merge_radius») (foundOf p img w h (computedChoice p) n)
   unfolding framePass
-  corners-are = ap (λ (k : ℕ). merge.resultOf (p .radius) (foundOf p img w h (computedChoice p) k)) (sym counted)
+  corners-are = ap (λ (k : ℕ). merge.resultOf (p .«merge_radius») (foundOf p img w h (computedChoice p) k)) (sym counted)
+
+  ties-are : framePass p img w h (computedChoice p) .ties ≡ tiesFound p img w h (computedChoice p) n
+  unfolding framePass
+  ties-are = ap (tiesFound p img w h (computedChoice p)) (sym counted)
 
   -- the corners that are merged: those found, or none
   found-read : answer .fit ≡ true → cornersOf c′ (answer .corners) ≡ foundOf p img w h (computedChoice p) n
@@ -128,15 +138,16 @@ module _ (p : FrameParams) (img : List ℕ) (w h : ℕ) (m : List Float) (levels
 
     -- merging is not refused
     pub merge-free : Admitted p (length img) w h (length m) (length levels) → All (λ z. isInside z ≡ true) (framePass p img w h (computedChoice p) .found)
-        → merge.refusalOf (p .radius) (placesOf c′) (answer .corners) c′ ≡ 0
+        → merge.refusalOf (p .«merge_radius») (placesOf c′) (answer .corners) c′ ≡ 0
     merge-free ad inside = of (answer .fit) refl
       where
-        free : answer .corners ≤ placesOf c′ → All (λ z. isInside z ≡ true) (cornersOf c′ (answer .corners)) → merge.refusalOf (p .radius) (placesOf c′) (answer .corners) c′ ≡ 0
+        free : answer .corners ≤ placesOf c′ → All (λ z. isInside z ≡ true) (cornersOf c′ (answer .corners))
+            → merge.refusalOf (p .«merge_radius») (placesOf c′) (answer .corners) c′ ≡ 0
         free fits all =
-            ⊎-elim (λ off. judged-none-off (p .radius) (placesOf c′) (answer .corners) c′ fits off)
-            (λ on. judged-none-on (p .radius) (placesOf c′) (answer .corners) c′ fits (on .0) (on .1) all) (ad .radius)
+            ⊎-elim (λ off. judged-none-off (p .«merge_radius») (placesOf c′) (answer .corners) c′ fits off)
+            (λ on. judged-none-on (p .«merge_radius») (placesOf c′) (answer .corners) c′ fits (on .0) (on .1) all) (ad .radius)
 
-        of : (fit : Bool) → answer .fit ≡ fit → merge.refusalOf (p .radius) (placesOf c′) (answer .corners) c′ ≡ 0
+        of : (fit : Bool) → answer .fit ≡ fit → merge.refusalOf (p .«merge_radius») (placesOf c′) (answer .corners) c′ ≡ 0
         of true e = free (omega (arith, found .both e .4, places-kept)) (rw (found-read e, ← found-are) inside)
         of false e = free (omega (arith, found .short e .1)) (rw (short-read e) tt)
 
@@ -144,37 +155,47 @@ module _ (p : FrameParams) (img : List ℕ) (w h : ℕ) (m : List Float) (levels
     pub entry-closed : lowest (conditions p (length img) w h (length m) (length levels)) ≡ 0
         → (m₁ : List Float) → length m₁ ≡ length m → (levels₁ : List ℕ) → levels₁ ≡ front (above img w h n) levels → length levels₁ ≡ length levels
         → (m′ : List Float) → m′ ≡ wipedFrom 0 float32.zero m₁ → (levels′ : List ℕ) → levels′ ≡ cond (answer .fit) levels₁ (replicate (length levels₁) 0)
-        → (s″ : Slices) → s″ ≡ clearedFrom (answer .seeds) s′ → (k : ℕ) (c″ : Slices) → Merging (p .radius) (answer .corners) c′ k c″
-        → (r : FrameAnswer) → r ≡ cond (answer .fit) (Corners k) (Refused 10) → Found p img w h (buffers m levels s c) r (buffers m′ levels′ s″ c″)
+        → (s″ : Slices) → s″ ≡ clearedFrom (answer .seeds) s′ → (k : ℕ) (c″ : Slices) → Merging (p .«merge_radius») (answer .corners) c′ k c″
+        → (r : FrameAnswer) → r ≡ cond (answer .fit) (Corners k (answer .ties)) (Refused 10)
+        → FrameFound p img w h (buffers m levels s c) r (buffers m′ levels′ s″ c″)
     entry-closed none m₁ em levels₁ el ll m′ wm levels′ wl s″ ws k c″ merged r is = of (answer .fit) refl
       where
-        cleared : (cs : List Corner) → cornersOf c′ (answer .corners) ≡ cs → length (merge.resultOf (p .radius) cs) ≤ placesOf c
-            → (k ≡ length (merge.resultOf (p .radius) cs)) × (c″ ≡ paddedCorners (merge.resultOf (p .radius) cs) c)
+        cleared : (cs : List Corner) → cornersOf c′ (answer .corners) ≡ cs → length (merge.resultOf (p .«merge_radius») cs) ≤ placesOf c
+            → (k ≡ length (merge.resultOf (p .«merge_radius») cs)) × (c″ ≡ paddedCorners (merge.resultOf (p .«merge_radius») cs) c)
         cleared cs e fits =
-            let left = merge.resultOf (p .radius) cs in
-            let count : k ≡ length left = merged .count ∙ ap (λ (l : List Corner). length (merge.resultOf (p .radius) l)) e in
-            (count, merged .is ∙ ap (λ (l : List Corner). clearedFrom k (frontCorners (merge.resultOf (p .radius) l) c′)) e ∙ cleared-front c c′ same′ left k count (omega (arith, count, fits)))
+            let left = merge.resultOf (p .«merge_radius») cs in
+            let count : k ≡ length left = merged .count ∙ ap (λ (l : List Corner). length (merge.resultOf (p .«merge_radius») l)) e in (
+              count,
+              merged .is ∙ ap (λ (l : List Corner). clearedFrom k (frontCorners (merge.resultOf (p .«merge_radius») l) c′)) e
+                  ∙ cleared-front c c′ same′ left k count (omega (arith, count, fits)),
+            )
 
-        wiped-map : m′ ≡ padded [] m
-        wiped-map = wm ∙ padded-none m m₁ em
+        wiped-map : m′ ≡ padded float32.zero [] m
+        wiped-map = wm ∙ padded-none float32.zero m m₁ em
 
-        of : (fit : Bool) → answer .fit ≡ fit → Found p img w h (buffers m levels s c) r (buffers m′ levels′ s″ c″)
+        of : (fit : Bool) → answer .fit ≡ fit → FrameFound p img w h (buffers m levels s c) r (buffers m′ levels′ s″ c″)
         of true e =
             let q = found .both e in
             let seeds = seedsOf p img w h (computedChoice p) n in
             let all = foundOf p img w h (computedChoice p) n in
-            let done = cleared all (found-read e) (omega (arith, result-length (p .radius) all, q .3, q .4)) in
-            let es : s″ ≡ paddedCorners seeds s = ws ∙ ap (clearedFrom (answer .seeds)) (q .2) ∙ cleared-front s s (record { xs = refl; ys = refl; strengths = refl }) seeds (answer .seeds) (q .0) (q .1) in
+            let done = cleared all (found-read e) (omega (arith, result-length (p .«merge_radius») all, q .3, q .4)) in
+            let es : s″ ≡ paddedCorners seeds s = ws ∙ ap (clearedFrom (answer .seeds)) (q .2)
+            ∙ cleared-front s s (record { xs = refl; ys = refl; strengths = refl }) seeds (answer .seeds) (q .0) (q .1) in
             let levels-left : levels′ ≡ front (above img w h n) levels = wl ∙ rw e el in
-            let answered : r ≡ Corners k = is ∙ rw e in
+            let answered : r ≡ Corners k (answer .ties) = is ∙ rw e in
             rw answered
             (found-done p img w h (buffers m levels s c) none
-            (rw (seeds-are, found-are, le-ltb (placesOf s) (length seeds) (omega (arith, q .0, q .1)), le-ltb (placesOf c) (length all) (omega (arith, q .3, q .4))))
-            k (buffers m′ levels′ s″ c″) (rw corners-are (done .0))
+            (rw (
+              seeds-are,
+              found-are,
+              le-ltb (placesOf s) (length seeds) (omega (arith, q .0, q .1)),
+              le-ltb (placesOf c) (length all) (omega (arith, q .3, q .4)),
+            ))
+            k (answer .ties) (buffers m′ levels′ s″ c″) (rw corners-are (done .0)) (rw ties-are (q .6))
             (rw (wiped-map, levels-left, es, done .1, seeds-are, corners-are, ← counted)))
         of false e =
             let q = found .short e in
-            let left : merge.resultOf (p .radius) [] ≡ [] = none-left (p .radius) in
+            let left : merge.resultOf (p .«merge_radius») [] ≡ [] = none-left (p .«merge_radius») in
             let done = cleared [] (short-read e) (omega (arith, ap length left)) in
             let es : s″ ≡ paddedCorners [] s = ws ∙ ap (λ (j : ℕ). clearedFrom j s′) (q .0) ∙ cleared-none s s′ same in
             let ec : c″ ≡ paddedCorners [] c = done .1 ∙ ap (λ (l : List Corner). paddedCorners l c) left in
@@ -185,7 +206,8 @@ module _ (p : FrameParams) (img : List ℕ) (w h : ℕ) (m : List Float) (levels
             (rw (wiped-map, levels-left, es, ec)))
 
 -- ---- merging, where it is not refused
-module _ (radius : Float) (n : ℕ) (c : Slices) (free : merge.refusalOf radius (placesOf c) n c ≡ 0) (kept : Merged) (c′ : Slices) (merges : merge.Merges radius (placesOf c) n c kept c′) where
+module _ (radius : Float) (n : ℕ) (c : Slices) (free : merge.refusalOf radius (placesOf c) n c ≡ 0) (kept : Merged) (c′ : Slices)
+    (merges : merge.Merges radius (placesOf c) n c kept c′) where
   pub merge-done : (k : ℕ) → k ≡ keptOf kept → (c″ : Slices) → c″ ≡ clearedFrom k c′ → Merging radius n c k c″
   merge-done k e c″ is =
       let done = merges-done radius (placesOf c) n c c′ kept (cornersOf c n) refl free merges in

@@ -6,9 +6,10 @@ use mathlib.Core.List.{List, [], _∷_}
 use lib.ListN.{length}
 use Rattle.lists.specs.Refusals.{lowest}
 use Rattle.lists.proofs.Refusals.{lowest-some, lowest-past}
-use Rattle.frame_pass.specs.declared.FrameParams.{FrameParams}
+use Rattle.patch_corners.specs.declared.FrameParams.{FrameParams}
+use Rattle.patch_corners.specs.OneMap.{computedChoice}
 use Rattle.frame_pass.specs.Refusals.{conditions}
-use Rattle.frame_pass.specs.Pass.{framePass, computedChoice}
+use Rattle.frame_pass.specs.Pass.{framePass}
 use Rattle.frame_pass.proofs.Refusals.{numbered}
 use Rattle.frame.specs.Frame.{Buffers, tooMany, refusalOf}
 
@@ -16,12 +17,15 @@ module _ (p : FrameParams) (img : List ℕ) (w h : ℕ) (b : Buffers) where
   pub number-before : (lowest (conditions p (length img) w h (length (b .map)) (length (b .levels))) ≡ 0 → ⊥)
       → refusalOf p img w h b ≡ lowest (conditions p (length img) w h (length (b .map)) (length (b .levels)))
   unfolding refusalOf
-  number-before n = lowest-some (conditions p (length img) w h (length (b .map)) (length (b .levels))) ((tooMany (framePass p img w h (computedChoice p)) b, 10) ∷ []) n
+  number-before n =
+      lowest-some (conditions p (length img) w h (length (b .map)) (length (b .levels))) ((tooMany (framePass p img w h (computedChoice p)) b, 10) ∷ []) n
 
   module _ (none : lowest (conditions p (length img) w h (length (b .map)) (length (b .levels))) ≡ 0) where
     pub number-in-pass : refusalOf p img w h b ≡ lowest ((tooMany (framePass p img w h (computedChoice p)) b, 10) ∷ [])
     unfolding refusalOf
-    number-in-pass = lowest-past (conditions p (length img) w h (length (b .map)) (length (b .levels))) ((tooMany (framePass p img w h (computedChoice p)) b, 10) ∷ []) (numbered p (length img) w h (length (b .map)) (length (b .levels))) none
+    number-in-pass =
+        lowest-past (conditions p (length img) w h (length (b .map)) (length (b .levels)))
+        ((tooMany (framePass p img w h (computedChoice p)) b, 10) ∷ []) (numbered p (length img) w h (length (b .map)) (length (b .levels))) none
 
     pub number-ten : tooMany (framePass p img w h (computedChoice p)) b ≡ true → refusalOf p img w h b ≡ 10
     number-ten e = number-in-pass ∙ ap (λ (t : Bool). lowest ((t, 10) ∷ [])) e

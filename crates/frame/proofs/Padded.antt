@@ -4,7 +4,6 @@ use native.Mathlib.Omega.{arith}
 use mathlib.Core.Path.{_≡_, refl, sym, ap, _∙_}
 use mathlib.Core.List.{List, [], _++_, map}
 use lib.ListN.{length, replicate, length-map}
-use lib.Ieee.{Float}
 use Rattle.lists.specs.Buffer.{front, wipedFrom}
 use Rattle.lists.proofs.Buffer.{wiped-front}
 use Rattle.float32.specs.Float32.{zero}
@@ -12,7 +11,7 @@ use Rattle.corner_list.specs.declared.Corner.{Corner}
 use Rattle.corner_list.specs.CornerList.{Slices, xOf, yOf, strengthOf, placesOf, frontCorners}
 use Rattle.corner_list.proofs.Corners.{slices-alike}
 use Rattle.frame.specs.Frame.{padded, paddedCorners}
-use Rattle.clearing.specs.Clearing.{clearedFrom}
+use Rattle.patch_corners.specs.Clearing.{clearedFrom}
 
 -- two buffers with slices of the same lengths
 pub record SameLengths (b b′ : Slices) : Type 0 where
@@ -21,19 +20,26 @@ pub record SameLengths (b b′ : Slices) : Type 0 where
   pub strengths : length (b′ .strengths) ≡ length (b .strengths)
 
 -- ---- one slice
-pub padded-front : (vs d d′ : List Float) (n : ℕ) → n ≡ length vs → length vs ≤ length d → length d′ ≡ length d → wipedFrom n zero (front vs d′) ≡ padded vs d
-padded-front vs d d′ n e h l = wiped-front vs d′ zero n e (rw l h) ∙ ap (λ (k : ℕ). vs ++ replicate (k - length vs) zero) l
+module _ {A : Type 0} (z : A) where
+  pub padded-front : (vs d d′ : List A) (n : ℕ) → n ≡ length vs → length vs ≤ length d → length d′ ≡ length d
+      → wipedFrom n z (front vs d′) ≡ padded z vs d
+  padded-front vs d d′ n e h l = wiped-front vs d′ z n e (rw l h) ∙ ap (λ (k : ℕ). vs ++ replicate (k - length vs) z) l
 
-pub padded-none : (d d′ : List Float) → length d′ ≡ length d → wipedFrom 0 zero d′ ≡ padded [] d
-padded-none d d′ l = padded-front [] d d′ 0 refl (omega arith) l
+  pub padded-none : (d d′ : List A) → length d′ ≡ length d → wipedFrom 0 z d′ ≡ padded z [] d
+  padded-none d d′ l = padded-front [] d d′ 0 refl (omega arith) l
 
 -- ---- a buffer of corners
 module _ (b b′ : Slices) (same : SameLengths b b′) where
   pub cleared-front : (cs : List Corner) (n : ℕ) → n ≡ length cs → n ≤ placesOf b → clearedFrom n (frontCorners cs b′) ≡ paddedCorners cs b
-  cleared-front cs n e h = slices-alike (each xOf (b .xs) (b′ .xs) (omega arith) (same .xs)) (each yOf (b .ys) (b′ .ys) (omega arith) (same .ys)) (each strengthOf (b .strengths) (b′ .strengths) (omega arith) (same .strengths))
+  cleared-front cs n e h =
+      slices-alike (each zero xOf (b .xs) (b′ .xs) (omega arith) (same .xs)) (each zero yOf (b .ys) (b′ .ys) (omega arith) (same .ys))
+      (each zero strengthOf (b .strengths) (b′ .strengths) (omega arith) (same .strengths))
     where
-      each : (g : Corner → Float) (d d′ : List Float) → n ≤ length d → length d′ ≡ length d → wipedFrom n zero (front (map g cs) d′) ≡ padded (map g cs) d
-      each g d d′ k l = padded-front (map g cs) d d′ n (e ∙ sym (length-map cs g)) (omega (arith, length-map cs g)) l
+      each : {A : Type 0} (z : A) (g : Corner → A) (d d′ : List A) → n ≤ length d → length d′ ≡ length d
+          → wipedFrom n z (front (map g cs) d′) ≡ padded z (map g cs) d
+      each z g d d′ k l = padded-front z (map g cs) d d′ n (e ∙ sym (length-map cs g)) (omega (arith, length-map cs g)) l
 
   pub cleared-none : clearedFrom 0 b′ ≡ paddedCorners [] b
-  cleared-none = slices-alike (padded-none (b .xs) (b′ .xs) (same .xs)) (padded-none (b .ys) (b′ .ys) (same .ys)) (padded-none (b .strengths) (b′ .strengths) (same .strengths))
+  cleared-none =
+      slices-alike (padded-none zero (b .xs) (b′ .xs) (same .xs)) (padded-none zero (b .ys) (b′ .ys) (same .ys))
+      (padded-none zero (b .strengths) (b′ .strengths) (same .strengths))

@@ -12,10 +12,11 @@ use Rattle.float32.specs.Float32 as float32
 use Rattle.pyramid.specs.Pyramid.{above}
 use Rattle.corner_list.specs.CornerList.{Slices, slices, xOf, yOf, strengthOf, placesOf}
 use Rattle.corner_list.specs.declared.Corner.{Corner}
-use Rattle.clearing.specs.Clearing.{leftBy}
-use Rattle.frame_pass.specs.declared.FrameParams.{FrameParams}
+use Rattle.patch_corners.specs.declared.FrameParams.{FrameParams}
+use Rattle.patch_corners.specs.OneMap.{computedChoice}
+use Rattle.patch_corners.specs.Clearing.{leftBy}
 use Rattle.frame_pass.specs.Refusals.{conditions}
-use Rattle.frame_pass.specs.Pass.{Pass, framePass, computedChoice, levelsIn}
+use Rattle.frame_pass.specs.Pass.{Pass, framePass, levelsIn}
 use Rattle.frame.specs.declared.FrameAnswer.{FrameAnswer}
 use Rattle.frame.specs.declared.FrameAnswer.the-variants.{Corners, Refused}
 
@@ -38,24 +39,28 @@ tooMany q b = ltb (placesOf (b .seeds)) (length (q .seeds)) || ltb (placesOf (b 
 -- the lowest number, 0 for none
 unfoldable pub refusalOf : FrameParams → List ℕ → ℕ → ℕ → Buffers → ℕ
 unfolding conditions framePass
-refusalOf p img w h b = lowest (conditions p (length img) w h (length (b .map)) (length (b .levels)) ++ ((tooMany (framePass p img w h (computedChoice p)) b, 10) ∷ []))
+refusalOf p img w h b =
+    lowest (conditions p (length img) w h (length (b .map)) (length (b .levels)) ++ ((tooMany (framePass p img w h (computedChoice p)) b, 10) ∷ []))
 
 -- ---- the buffers after
 
 -- a list first, and zero behind it; zero in every place
-abbrev pub padded : List Float → List Float → List Float
-padded vs d = vs ++ replicate (length d - length vs) float32.zero
+abbrev pub padded : {A : Type 0} → A → List A → List A → List A
+padded z vs d = vs ++ replicate (length d - length vs) z
 
 abbrev pub paddedCorners : List Corner → Slices → Slices
-paddedCorners cs b = slices (padded (map xOf cs) (b .xs)) (padded (map yOf cs) (b .ys)) (padded (map strengthOf cs) (b .strengths))
+paddedCorners cs b =
+    slices (padded float32.zero (map xOf cs) (b .xs)) (padded float32.zero (map yOf cs) (b .ys))
+    (padded float32.zero (map strengthOf cs) (b .strengths))
 
 -- finished: the map buffer zero, the levels above the base first in theirs and behind them as before, the lists first and zero behind
 abbrev pub finished : List ℕ → Pass → Buffers → Buffers
-finished levels q b = buffers (padded [] (b .map)) (front levels (b .levels)) (paddedCorners (q .seeds) (b .seeds)) (paddedCorners (q .corners) (b .corners))
+finished levels q b =
+    buffers (padded float32.zero [] (b .map)) (front levels (b .levels)) (paddedCorners (q .seeds) (b .seeds)) (paddedCorners (q .corners) (b .corners))
 
 -- 10: all zero in their whole length
 abbrev pub wiped : Buffers → Buffers
-wiped b = buffers (padded [] (b .map)) (replicate (length (b .levels)) 0) (paddedCorners [] (b .seeds)) (paddedCorners [] (b .corners))
+wiped b = buffers (padded float32.zero [] (b .map)) (replicate (length (b .levels)) 0) (paddedCorners [] (b .seeds)) (paddedCorners [] (b .corners))
 
 -- by the number: any other refusal changes nothing
 abbrev pub leaving : ℕ → List ℕ → Pass → Buffers → Buffers
@@ -63,18 +68,18 @@ leaving n levels q b = leftBy n (finished levels q b) (wiped b) b
 
 -- ---- the promise
 
--- the answer for a number, 0 for none: how many corners there are, or the number
-abbrev pub answerOf : ℕ → ℕ → FrameAnswer
-answerOf zero n = Corners n
-answerOf (suc k) n = Refused (suc k)
+-- the answer for a number, 0 for none: how many corners there are and how many ties (RULES 23.3), or the number
+abbrev pub answerOf : ℕ → ℕ → ℕ → FrameAnswer
+answerOf zero n ties = Corners n ties
+answerOf (suc k) n ties = Refused (suc k)
 
--- document 01's number and values of each case
+-- the number (RULES 2.2) and the values of each case
 abbrev pub numberOf : FrameAnswer → ℕ
-numberOf (Corners n) = 0
+numberOf (Corners n ties) = 0
 numberOf (Refused k) = k
 
 abbrev pub valuesOf : FrameAnswer → List ℕ
-valuesOf (Corners n) = n ∷ []
+valuesOf (Corners n ties) = n ∷ ties ∷ []
 valuesOf (Refused k) = []
 
 -- an answer with the buffers that it leaves
@@ -90,10 +95,11 @@ unfolding refusalOf framePass
 frameOf p img w h b =
     let q = framePass p img w h (computedChoice p) in
     let n = refusalOf p img w h b in
-    frame (answerOf n (length (q .corners))) (leaving n (above img w h (levelsIn p img w h)) q b)
+    frame (answerOf n (length (q .corners)) (q .ties)) (leaving n (above img w h (levelsIn p img w h)) q b)
 
 -- what `find_corners` promises: answer and buffers by one equation, and the answer's number and values
-pub record Found (p : FrameParams) (img : List ℕ) (w h : ℕ) (b : Buffers) (answer : FrameAnswer) (b′ : Buffers) : Type 0 where
+pub record FrameFound (p : FrameParams) (img : List ℕ) (w h : ℕ) (b : Buffers) (answer : FrameAnswer) (b′ : Buffers) : Type 0 where
   pub is : frame answer b′ ≡ frameOf p img w h b
   pub number : numberOf answer ≡ refusalOf p img w h b
-  pub values : valuesOf answer ≡ valuesUnless (refusalOf p img w h b) (length (framePass p img w h (computedChoice p) .corners) ∷ [])
+  pub values : let q = framePass p img w h (computedChoice p) in
+      valuesOf answer ≡ valuesUnless (refusalOf p img w h b) (length (q .corners) ∷ q .ties ∷ [])

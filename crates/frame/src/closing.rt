@@ -5,9 +5,10 @@ ghost use lib.ListN.{length, replicate};
 ghost use Rattle.corner_list.specs.CornerList.{slices, placesOf};
 ghost use Rattle.merge.specs.Merge.{refusalOf};
 ghost use Rattle.frame.specs.declared.FrameAnswer.the-variants.{Corners, Refused};
-ghost use Rattle.frame.specs.Needs.{keptOf, Merging};
+ghost use Rattle.frame.specs.Internal.{keptOf, Merging};
 use crate::FrameAnswer;
 use merge::Merged;
+use patch_corners::clearing;
 
 // How many corners merging left, none where it was refused.
 fn kept(m: Merged) -> usize
@@ -46,12 +47,12 @@ pub(crate) fn clear_levels(levels: &mut [u8], fit: bool)
     clearing::clear_bytes(levels);
 }
 
-// The answer of k corners, or that a list does not fit.
-pub(crate) fn answer_of(fit: bool, k: usize) -> FrameAnswer
-    ensures { λ r. ⌜ r ≡ cond fit (Corners k) (Refused 10) ⌝ }
+// The answer of k corners and so many ties, or that a list does not fit.
+pub(crate) fn answer_of(fit: bool, k: usize, ties: u64) -> FrameAnswer
+    ensures { λ r. ⌜ r ≡ cond fit (Corners k ties) (Refused 10) ⌝ }
 {
     if fit {
-        FrameAnswer::Corners(k)
+        FrameAnswer::Corners(k, ties)
     } else {
         FrameAnswer::Refused(10)
     }

@@ -3,25 +3,26 @@ mod closing;
 mod search;
 
 ghost use lib.ListN.{length};
-ghost use Rattle.pyramid_levels.proofs.Refusals.{Accepted};
-ghost use Rattle.pyramid.proofs.Levels.{Complete};
+ghost use Rattle.pyramid_levels.specs.Internal.{LevelsAccepted};
+ghost use Rattle.pyramid.specs.Internal.{LevelsComplete};
 ghost use Rattle.corner_list.specs.CornerList.{slices};
-ghost use Rattle.frame.specs.Frame.{buffers, Found};
-use frame_pass::FrameParams;
+ghost use Rattle.frame.specs.Frame.{buffers, FrameFound};
+use patch_corners::FrameParams;
+use patch_corners::clearing;
 use pyramid::Pyramid;
 
-// How many corners stand in the corner buffer, or the number of the refusal.
+// How many corners stand in the corner buffer and how many ties the peaks found before merging have, or the number of the refusal.
 pub enum FrameAnswer {
-    Corners(usize),
+    Corners(usize, u64),
     Refused(u8),
 }
 
 // Builds the levels above the base first in their buffer, and counts all of them.
 fn build(img: &[u8], w: usize, h: usize, p: FrameParams, levels: &mut [u8]) -> usize
-    requires { ⌜ Accepted (length (now img)) (length (now levels)) w h (p .levels) (p .minimum) ⌝ }
-    ensures { λ n. ⌜ Complete (now (img .entry)) w h (p .levels) (p .minimum) (now (levels .entry)) (now (levels .exit)) n ⌝ }
+    requires { ⌜ LevelsAccepted (length (now img)) (length (now levels)) w h (p .levels) (p .«minimum_side») ⌝ }
+    ensures { λ n. ⌜ LevelsComplete (now (img .entry)) w h (p .levels) (p .«minimum_side») (now (levels .entry)) (now (levels .exit)) n ⌝ }
 {
-    let built = pyramid::build_pyramid(img, w, h, p.levels, p.minimum, levels);
+    let built = pyramid::build_pyramid(img, w, h, p.levels, p.minimum_side, levels);
     let Pyramid::Levels(n) = built else {
         return 0;
     };
@@ -44,7 +45,7 @@ pub fn find_corners(
     cy: &mut [f32],
     cs: &mut [f32],
 ) -> FrameAnswer
-    ensures { λ r. ⌜ Found p (now (img .entry)) w h
+    ensures { λ r. ⌜ FrameFound p (now (img .entry)) w h
         (buffers (now (map .entry)) (now (levels .entry)) (slices (now (sx .entry)) (now (sy .entry)) (now (ss .entry))) (slices (now (cx .entry)) (now (cy .entry)) (now (cs .entry))))
         r
         (buffers (now (map .exit)) (now (levels .exit)) (slices (now (sx .exit)) (now (sy .exit)) (now (ss .exit))) (slices (now (cx .exit)) (now (cy .exit)) (now (cs .exit)))) ⌝ }
@@ -58,6 +59,6 @@ pub fn find_corners(
     clearing::clear(map, 0);
     closing::clear_levels(levels, found.fit);
     clearing::clear_list(sx, sy, ss, found.seeds);
-    let k = closing::finish_corners(cx, cy, cs, found.corners, p.radius);
-    closing::answer_of(found.fit, k)
+    let k = closing::finish_corners(cx, cy, cs, found.corners, p.merge_radius);
+    closing::answer_of(found.fit, k, found.ties)
 }

@@ -3,16 +3,17 @@ ghost use Prim.Native.Nat.{_<_, _≤_};
 ghost use mathlib.Core.Path.{_≡_};
 ghost use mathlib.Core.List.{[]};
 ghost use lib.ListN.{length};
-ghost use Rattle.lists.specs.Places.{flatMap};
+ghost use Rattle.lists.specs.Places.{flatMap, sumOf};
 ghost use Rattle.corner_list.specs.CornerList.{slices, placesOf, cornersOf};
 ghost use Rattle.multiscale.specs.Promise.{Boxed};
-ghost use Rattle.frame_pass.specs.Pass.{computedChoice, contextAt, cornersAbout, seedsOf, foundOf};
-ghost use Rattle.frame.specs.Needs.{Ready, BuiltLevels, Adds, addedOf, listsOf, Searched};
+ghost use Rattle.patch_corners.specs.OneMap.{computedChoice};
+ghost use Rattle.frame_pass.specs.Pass.{contextAt, cornersAbout, tiesAbout, seedsOf, foundOf, tiesFound};
+ghost use Rattle.frame.specs.Internal.{Ready, BuiltLevels, Adds, addedOf, listsOf, Searched};
 use corner_list::Corner;
 use detect::Peaks;
-use frame_pass::FrameParams;
 use multiscale::RoiAnswer;
 use multiscale::RoiContext;
+use patch_corners::FrameParams;
 
 // The box of a seed of level k.
 fn box_of(w: usize, h: usize, p: FrameParams, k: usize, seed: Corner) -> RoiAnswer
@@ -24,8 +25,8 @@ fn box_of(w: usize, h: usize, p: FrameParams, k: usize, seed: Corner) -> RoiAnsw
         height: h,
         ring: p.ring,
         window: p.window,
-        centroid: p.centroid,
-        search: p.search,
+        centroid_radius: p.centroid_radius,
+        search_radius: p.search_radius,
         level: k as u32,
     };
     context.compute_roi(seed)
@@ -35,7 +36,7 @@ fn box_of(w: usize, h: usize, p: FrameParams, k: usize, seed: Corner) -> RoiAnsw
 fn added(f: Peaks) -> usize
     ensures { λ n. ⌜ n ≡ addedOf f ⌝ }
 {
-    let Peaks::Added(n) = f else {
+    let Peaks::Added(n, _) = f else {
         return 0;
     };
     n
@@ -57,17 +58,17 @@ fn add_patch(
 ) -> Peaks
     requires { ⌜ Ready p (now img) w h (length (now map)) ⌝ }
     requires { ⌜ (held ≤ placesOf (slices (now xs) (now ys) (now strengths))) × (k ≤ 12) ⌝ }
-    ensures { λ r. ⌜ Adds (cornersAbout p (now (img .entry)) w h (computedChoice p) k seed)
+    ensures { λ r. ⌜ Adds (cornersAbout p (now (img .entry)) w h (computedChoice p) k seed) (tiesAbout p (now (img .entry)) w h (computedChoice p) k seed)
         held (slices (now (xs .entry)) (now (ys .entry)) (now (strengths .entry))) r (slices (now (xs .exit)) (now (ys .exit)) (now (strengths .exit))) ⌝ }
 {
     let b = box_of(w, h, p, k, seed);
     let RoiAnswer::Bounds(x0, y0, x1, y1) = b else {
-        return Peaks::Added(0);
+        return Peaks::Added(0, 0);
     };
-    box_corners::add_box_corners(img, w, h, p, x0, y0, x1, y1, map, xs, ys, strengths, held)
+    patch_corners::add_box_corners(img, w, h, p, x0, y0, x1, y1, map, xs, ys, strengths, held)
 }
 
-// Puts the corners of the boxes of the first n seeds, which are of level k, first in a buffer.
+// Puts the corners of the boxes of the first n seeds, which are of level k, first in a buffer, and sums the ties of their peaks.
 fn add_patches(
     img: &[u8],
     w: usize,
@@ -84,29 +85,34 @@ fn add_patches(
     cs: &mut [f32],
 ) -> Peaks
     requires { ⌜ Ready p (now img) w h (length (now map)) ⌝ }
-    requires { ⌜ k ≤ 12 ⌝ }
+    requires { ⌜ (k ≤ 12) × (n ≤ 16777216) ⌝ }
     ensures { λ r. ⌜ Adds (flatMap (cornersAbout p (now (img .entry)) w h (computedChoice p) k) (cornersOf (slices (now (sx .entry)) (now (sy .entry)) (now (ss .entry))) n))
+        (sumOf (tiesAbout p (now (img .entry)) w h (computedChoice p) k) (cornersOf (slices (now (sx .entry)) (now (sy .entry)) (now (ss .entry))) n))
         0 (slices (now (cx .entry)) (now (cy .entry)) (now (cs .entry))) r (slices (now (cx .exit)) (now (cy .exit)) (now (cs .exit))) ⌝ }
 {
     let mut held = 0usize;
+    let mut ties = 0u64;
     let mut i = 0usize;
     while i < n {
         let seed = corner_list::corner_at(sx, sy, ss, i);
         let f = add_patch(img, w, h, p, k, seed, map, cx, cy, cs, held);
-        let Peaks::Added(m) = f else {
+        let Peaks::Added(m, t) = f else {
             return f;
         };
         held += m;
+        ties += t;
         i += 1;
     }
-    Peaks::Added(held)
+    Peaks::Added(held, ties)
 }
 
-// Whether both lists fit their buffers, and how many seeds and corners stand first in them; none where one does not fit.
+// Whether both lists fit their buffers, how many seeds and corners stand first in them, and the ties of the corners' peaks; none where a list does
+// not fit.
 pub(crate) struct Lists {
     pub fit: bool,
     pub seeds: usize,
     pub corners: usize,
+    pub ties: u64,
 }
 
 // The two lists, by the answers of adding the seeds and the corners.
@@ -117,17 +123,19 @@ fn lists_of(f: Peaks, g: Peaks) -> Lists
         fit: false,
         seeds: 0,
         corners: 0,
+        ties: 0,
     };
-    let Peaks::Added(seeds) = f else {
+    let Peaks::Added(seeds, _) = f else {
         return none;
     };
-    let Peaks::Added(corners) = g else {
+    let Peaks::Added(corners, ties) = g else {
         return none;
     };
     Lists {
         fit: true,
         seeds,
         corners,
+        ties,
     }
 }
 
@@ -151,11 +159,11 @@ fn search_boxes<'a>(
     requires { ⌜ BuiltLevels p (now img) w h n (now levels) ⌝ }
     requires { ⌜ 1 < n ⌝ }
     ensures { λ r. ⌜ Searched (seedsOf p (now (img .entry)) w h (computedChoice p) n) (foundOf p (now (img .entry)) w h (computedChoice p) n)
-        (slices (now (sx .entry)) (now (sy .entry)) (now (ss .entry))) (slices (now (cx .entry)) (now (cy .entry)) (now (cs .entry))) r
+        (tiesFound p (now (img .entry)) w h (computedChoice p) n) (slices (now (sx .entry)) (now (sy .entry)) (now (ss .entry))) (slices (now (cx .entry)) (now (cy .entry)) (now (cs .entry))) r
         (slices (now (sx .exit)) (now (sy .exit)) (now (ss .exit))) (slices (now (cx .exit)) (now (cy .exit)) (now (cs .exit))) ⌝ }
 {
     let k = n - 1;
-    let last = pyramid::level(img, levels, w, h, p.levels, p.minimum, k);
+    let last = pyramid::level(img, levels, w, h, p.levels, p.minimum_side, k);
     let lw = w >> k;
     let lh = h >> k;
     let f = patch_corners::add_patch_corners(last, lw, lh, p, 0, 0, lw, lh, map, sx, sy, ss, 0);
@@ -182,15 +190,15 @@ pub(crate) fn search<'a>(
     requires { ⌜ Ready p (now img) w h (length (now map)) ⌝ }
     requires { ⌜ BuiltLevels p (now img) w h n (now levels) ⌝ }
     ensures { λ r. ⌜ Searched (seedsOf p (now (img .entry)) w h (computedChoice p) n) (foundOf p (now (img .entry)) w h (computedChoice p) n)
-        (slices (now (sx .entry)) (now (sy .entry)) (now (ss .entry))) (slices (now (cx .entry)) (now (cy .entry)) (now (cs .entry))) r
+        (tiesFound p (now (img .entry)) w h (computedChoice p) n) (slices (now (sx .entry)) (now (sy .entry)) (now (ss .entry))) (slices (now (cx .entry)) (now (cy .entry)) (now (cs .entry))) r
         (slices (now (sx .exit)) (now (sy .exit)) (now (ss .exit))) (slices (now (cx .exit)) (now (cy .exit)) (now (cs .exit))) ⌝ }
 {
     if n == 0 {
-        return lists_of(Peaks::Added(0), Peaks::Added(0));
+        return lists_of(Peaks::Added(0, 0), Peaks::Added(0, 0));
     }
     if n == 1 {
         let f = patch_corners::add_patch_corners(img, w, h, p, 0, 0, w, h, map, cx, cy, cs, 0);
-        return lists_of(Peaks::Added(0), f);
+        return lists_of(Peaks::Added(0, 0), f);
     }
     search_boxes(img, w, h, p, n, levels, map, sx, sy, ss, cx, cy, cs)
 }

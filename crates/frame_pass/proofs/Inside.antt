@@ -9,8 +9,9 @@ use lib.Ieee.{Float}
 use Rattle.lists.specs.Places.{All}
 use Rattle.lists.proofs.Members.{all-map, all-mapped, all-flat, all-of}
 use Rattle.ring.specs.Ring.{ringOf}
+use Rattle.ring.proofs.Places.{ring-is}
 use Rattle.pyramid_levels.proofs.Sides.{count-few}
-use Rattle.response.specs.Patch.{View, cols, rows, cells}
+use Rattle.response.specs.Patch.{View, mapWidth, mapHeight, cells}
 use Rattle.response.proofs.Outcome.{cols-le, rows-le}
 use Rattle.response.proofs.Map.{box-cols, box-rows}
 use Rattle.corner_list.specs.CornerList.{isInside}
@@ -24,13 +25,14 @@ use Rattle.center_of_mass.proofs.Range.{within-map, within-image}
 use Rattle.multiscale.specs.declared.RoiAnswer.{RoiAnswer}
 use Rattle.multiscale.specs.declared.RoiAnswer.the-variants as roi
 use Rattle.multiscale.specs.Multiscale.{roiOf}
-use Rattle.multiscale.specs.Promise as multiscale
+use Rattle.multiscale.specs.Internal as multiscale
 use Rattle.multiscale.proofs.Box.{box-inside, not-refused}
-use Rattle.frame_pass.specs.declared.FrameParams.{FrameParams}
-use Rattle.frame_pass.specs.Pass.{Choice, searchOn, landed, moved, localized, cornersIn}
+use Rattle.patch_corners.specs.declared.FrameParams.{FrameParams}
+use Rattle.patch_corners.specs.OneMap.{Choice, searchOn, landed, moved, localized, cornersIn}
+use Rattle.patch_corners.proofs.Fine.{Fine, map-usual}
 use Rattle.frame_pass.specs.Pass.{levelsIn, levelView, contextAt, patchOf, seedPatch, cornersOn, cornersAbout, seedsOf, foundOf, framePass}
-use Rattle.frame_pass.specs.Theorems.{Sound, CornersInside, BoxesAnswered}
-use Rattle.frame_pass.proofs.Maps.{ranges, Fine, map-usual, fine-box, fine-level}
+use Rattle.frame_pass.specs.Theorems.{SoundFrame, CornersInside, BoxesAnswered}
+use Rattle.frame_pass.proofs.Maps.{ranges, fine-box, fine-level}
 
 abbrev Taken : Corner → Type 0
 Taken c = isInside c ≡ true
@@ -39,8 +41,9 @@ Taken c = isInside c ≡ true
 module _ (p : FrameParams) (v : View) (choose : Choice) where
   -- what holds of every accepted centre of mass, whatever the strength, holds of each corner
   module _ (P : Corner → Type 0)
-      (f : (x y cx cy mass strength : Float) → refined (p .centroid) x y true (cells v) (cols v) (rows v) ≡ Accepted cx cy mass → P (record { x = cx; y = cy; strength = strength })) where
-    landed-all : (c : Corner) (o : Outcome) → refined (p .centroid) (c .x) (c .y) true (cells v) (cols v) (rows v) ≡ o → All P (landed o c)
+      (f : (x y cx cy mass strength : Float) → refined (p .«centroid_radius») x y true (cells v) (mapWidth v) (mapHeight v) ≡ Accepted cx cy mass
+      → P (record { x = cx; y = cy; strength = strength })) where
+    landed-all : (c : Corner) (o : Outcome) → refined (p .«centroid_radius») (c .x) (c .y) true (cells v) (mapWidth v) (mapHeight v) ≡ o → All P (landed o c)
     landed-all c (Accepted x y mass) e = (f (c .x) (c .y) x y mass (c .strength) e, tt)
     landed-all c (Rejected x y) e = tt
     landed-all c (OutOfBounds x y) e = tt
@@ -58,36 +61,48 @@ module _ (p : FrameParams) (v : View) (choose : Choice) where
     map-inside =
         corners-all Taken
         (λ x y cx cy mass strength e.
-        let u = within-map (p .centroid) x y true (cells v) (cols v) (rows v) cx cy mass (map-usual v (f .bytes)) e in
-        inside-upto (record { x = cx; y = cy; strength = strength }) (cols v) (rows v) (le-trans (cols-le v) (f .narrow)) (le-trans (rows-le v) (f .low)) (u .0) (u .1))
+        let u = within-map (p .«centroid_radius») x y true (cells v) (mapWidth v) (mapHeight v) cx cy mass (map-usual v (f .bytes)) e in
+        inside-upto (record { x = cx; y = cy; strength = strength }) (mapWidth v) (mapHeight v)
+        (le-trans (cols-le v) (f .narrow)) (le-trans (rows-le v) (f .low)) (u .0) (u .1))
 
     -- moved by the box's corner, where the box lies in the image
-    pub moved-inside : v .x0 + cols v ≤ v .w → v .y0 + rows v ≤ v .h → All (λ c. isInside c ≡ true) (map (moved (v .x0) (v .y0)) (cornersIn p choose v))
+    pub moved-inside : v .x0 + mapWidth v ≤ v .w → v .y0 + mapHeight v ≤ v .h
+        → All (λ c. isInside c ≡ true) (map (moved (v .x0) (v .y0)) (cornersIn p choose v))
     moved-inside a b =
         all-mapped Taken (moved (v .x0) (v .y0)) (cornersIn p choose v)
         (corners-all (λ c. Taken (moved (v .x0) (v .y0) c))
         (λ x y cx cy mass strength e.
-        let u = within-image (p .centroid) x y true (cells v) (cols v) (rows v) cx cy mass (map-usual v (f .bytes)) e (v .x0) (v .y0) (v .w) (v .h) a b (f .narrow) (f .low) in
+        let u = within-image (p .«centroid_radius») x y true (cells v) (mapWidth v) (mapHeight v) cx cy mass (map-usual v (f .bytes)) e
+        (v .x0) (v .y0) (v .w) (v .h) a b (f .narrow) (f .low) in
         inside-upto (moved (v .x0) (v .y0) (record { x = cx; y = cy; strength = strength })) (v .w) (v .h) (f .narrow) (f .low) (u .0) (u .1)))
 
 -- ---- the pass
 module _ (p : FrameParams) (img : List ℕ) (w h : ℕ) where
   -- no seed's box is refused for its context
-  roi-sound : Sound p img w h → (k : ℕ) → k ≤ 12 → multiscale.Sound (contextAt p img w h k)
+  roi-sound : SoundFrame p img w h → (k : ℕ) → k ≤ 12 → multiscale.SoundContext (contextAt p img w h k)
   roi-sound s k l =
       let r = ranges p (s .fit) in
-      record { width = s .narrow; height = s .low; ring = r .ring; window = r .window; centroid = r .centroid; search = r .search; level = l }
+      record {
+        width = s .narrow;
+        height = s .low;
+        ring = ring-is (p .ring) (r .ring);
+        window = r .window;
+        «centroid_radius» = r .«centroid_radius»;
+        «search_radius» = r .«search_radius»;
+        level = l;
+      }
 
-  module _ (s : Sound p img w h) (choose : Choice) where
+  module _ (s : SoundFrame p img w h) (choose : Choice) where
     about-inside : (k : ℕ) (c : Corner) → All (λ c. isInside c ≡ true) (cornersAbout p img w h choose k c)
     about-inside k c = all-flat Taken (cornersOn p img w h choose) (seedPatch p img w h k c) (go (roiOf (contextAt p img w h k) c) refl)
       where
-        go : (a : RoiAnswer) → roiOf (contextAt p img w h k) c ≡ a → All (λ v. All (λ c. isInside c ≡ true) (cornersOn p img w h choose v)) (patchOf p img w h a)
+        go : (a : RoiAnswer) → roiOf (contextAt p img w h k) c ≡ a
+            → All (λ v. All (λ c. isInside c ≡ true) (cornersOn p img w h choose v)) (patchOf p img w h a)
         go (roi.Bounds x0 y0 x1 y1) e =
             let v : View = record { img = img; w = w; h = h; ring = ringOf (p .ring); x0 = x0; y0 = y0; x1 = x1; y1 = y1 } in
             let b = box-inside (contextAt p img w h k) c x0 y0 x1 y1 e in
-            let i : x0 + cols v ≤ w = rw (box-cols v (b .0) (b .2) (b .1) (b .3)) (omega (arith, b .0, b .1)) in
-            let j : y0 + rows v ≤ h = rw (box-rows v (b .0) (b .2) (b .1) (b .3)) (omega (arith, b .2, b .3)) in
+            let i : x0 + mapWidth v ≤ w = rw (box-cols v (b .0) (b .2) (b .1) (b .3)) (omega (arith, b .0, b .1)) in
+            let j : y0 + mapHeight v ≤ h = rw (box-rows v (b .0) (b .2) (b .1) (b .3)) (omega (arith, b .2, b .3)) in
             (moved-inside p v choose (fine-box p img w h s x0 y0 x1 y1) i j, tt)
         go roi.NoRoi e = tt
         go (roi.Refused n) e = tt
@@ -112,7 +127,7 @@ corners-inside p img w h choose s = (seeds-inside p img w h s choose (levelsIn p
 
 pub boxes-answered : (p : FrameParams) (img : List ℕ) (w h : ℕ) (choose : Choice) → BoxesAnswered p img w h choose
 boxes-answered p img w h choose s =
-    let k : levelsIn p img w h - 1 ≤ 12 = omega (arith, count-few w h (p .levels) (p .minimum) (s .narrow)) in
+    let k : levelsIn p img w h - 1 ≤ 12 = omega (arith, count-few w h (p .levels) (p .«minimum_side») (s .narrow)) in
     all-map Taken (λ (c : Corner). (n : ℕ) → roiOf (contextAt p img w h (levelsIn p img w h - 1)) c ≡ roi.Refused n → ⊥)
     (λ c i. not-refused (contextAt p img w h (levelsIn p img w h - 1)) c (roi-sound p img w h s (levelsIn p img w h - 1) k) i)
     (framePass p img w h choose .seeds) (corners-inside p img w h choose s .0)

@@ -1,6 +1,5 @@
 pub mod Refusals
 pub mod Maps
-pub mod Centred
-pub mod Accepting
 pub mod Inside
 pub mod Same
+pub mod Ties

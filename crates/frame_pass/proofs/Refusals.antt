@@ -6,20 +6,21 @@ use mathlib.Core.Logic.{_⊎_, inl, inr}
 use mathlib.Core.Bool.{Bool, true, false, not, _&&_}
 use mathlib.Core.List.{List}
 use lib.ListN.{length}
-use borrow.Author.Tests.{ltb-false, not-false, lt-ltb, le-ltb, le-leb, eq-eqb}
+use borrow.Author.Tests.{ltb-false, not-false, lt-ltb, le-ltb, le-leb}
 use Rattle.lists.specs.Places.{All}
-use Rattle.lists.specs.Refusals.{lowest}
+use Rattle.lists.specs.Refusals.{lowest, Sized}
 use Rattle.lists.proofs.Tests.{and-all}
 use Rattle.lists.proofs.Refusals.{all-clear, lowest-le, sized-of}
 use Rattle.ring.specs.Ring.{isRing}
 use Rattle.accuracy.specs.Accurate.{Bytes}
 use Rattle.pyramid_levels.specs.Levels.{levelCount, cellsAbove, capped}
+use Rattle.pyramid_levels.specs.Refusals.{isShort}
 use Rattle.pyramid_levels.proofs.Cells.{cells-exact}
-use Rattle.pyramid_levels.proofs.Refusals.{Accepted}
-use Rattle.merge_radius.specs.MergeRadius.{isOff, isSized, radiusOutside}
-use Rattle.frame_pass.specs.declared.FrameParams.{FrameParams}
+use Rattle.pyramid_levels.specs.Internal.{LevelsAccepted}
+use Rattle.merge_radius.specs.MergeRadius.{isOff, isSized}
+use Rattle.patch_corners.specs.declared.FrameParams.{FrameParams}
 use Rattle.frame_pass.specs.Refusals.{parametersFit, conditions}
-use Rattle.frame_pass.specs.Theorems.{Sound}
+use Rattle.frame_pass.specs.Theorems.{SoundFrame}
 
 -- a merge radius that is not refused
 radius-fits : (off sized : Bool) → (not off && not sized) ≡ false → (off ≡ true) ⊎ ((off ≡ false) × (sized ≡ true))
@@ -29,9 +30,9 @@ radius-fits false false e = let z : _≡_ {A = Bool} true false = e in absurd (l
 
 -- no refusal before the pass
 pub record Admitted (p : FrameParams) (pixels w h cells places : ℕ) : Type 0 where
-  pub accepted : Accepted pixels places w h (p .levels) (p .minimum)
+  pub accepted : LevelsAccepted pixels places w h (p .levels) (p .«minimum_side»)
   pub fit : parametersFit p ≡ true
-  pub radius : (isOff (p .radius) ≡ true) ⊎ ((isOff (p .radius) ≡ false) × (isSized (p .radius) ≡ true))
+  pub radius : (isOff (p .«merge_radius») ≡ true) ⊎ ((isOff (p .«merge_radius») ≡ false) × (isSized (p .«merge_radius») ≡ true))
   pub enough : w * h ≤ cells
 
 module _ (p : FrameParams) (pixels w h cells places : ℕ) where
@@ -41,7 +42,9 @@ module _ (p : FrameParams) (pixels w h cells places : ℕ) where
 
   pub not-ten : lowest (conditions p pixels w h cells places) < 10
   unfolding conditions
-  not-ten = let l = lowest-le (conditions p pixels w h cells places) 9 (omega arith, (omega arith, (omega arith, (omega arith, (omega arith, (omega arith, tt)))))) in omega arith
+  not-ten =
+      let l = lowest-le (conditions p pixels w h cells places) 9 (omega arith, (omega arith, (omega arith, (omega arith, (omega arith, (omega arith, tt)))))) in
+      omega arith
 
   pub admitted : lowest (conditions p pixels w h cells places) ≡ 0 → Admitted p pixels w h cells places
   unfolding conditions
@@ -49,46 +52,28 @@ module _ (p : FrameParams) (pixels w h cells places : ℕ) where
       let q = all-clear (conditions p pixels w h cells places) numbered e in record {
         accepted = record { image = sized-of pixels w h (q .0) (q .1 .0); fits = ltb-false _ _ (q .1 .1 .1 .1 .1 .0) };
         fit = not-false (parametersFit p) (q .1 .1 .0);
-        radius = radius-fits (isOff (p .radius)) (isSized (p .radius)) (q .1 .1 .1 .0);
+        radius = radius-fits (isOff (p .«merge_radius»)) (isSized (p .«merge_radius»)) (q .1 .1 .1 .0);
         enough = ltb-false cells (w * h) (q .1 .1 .1 .1 .0);
       }
 
--- ---- the number by the tests, each with those before it passed
-pub ring-decides : (p : FrameParams) → p .window ≤ 16 → p .centroid ≤ 16 → p .search ≤ 255 → isRing (p .ring) ≡ parametersFit p
+-- ---- the number by the tests
+pub ring-decides : (p : FrameParams) → p .window ≤ 16 → p .«centroid_radius» ≤ 16 → p .«search_radius» ≤ 255 → isRing (p .ring) ≡ parametersFit p
 unfolding parametersFit
-ring-decides p window centroid search = rw (le-leb (p .window) 16 window, le-leb (p .centroid) 16 centroid, le-leb (p .search) 255 search) (sym (and-all (isRing (p .ring))))
+ring-decides p window centroid search =
+    rw (le-leb (p .window) 16 window, le-leb (p .«centroid_radius») 16 centroid, le-leb (p .«search_radius») 255 search) (sym (and-all (isRing (p .ring))))
 
-module _ (p : FrameParams) (pixels w h cells places : ℕ) (wide : w ≤ 4096) (high : h ≤ 4096) (size : pixels ≡ w * h) where
-  pub number-three : (t : Bool) → t ≡ parametersFit p → t ≡ false → 3 ≡ lowest (conditions p pixels w h cells places)
-  unfolding conditions
-  number-three t e z = simp (le-ltb 4096 w wide, le-ltb 4096 h high, eq-eqb pixels (w * h) size, sym e ∙ z)
+-- of an image the count of its levels' pixels, n, is exact
+module _ (p : FrameParams) (pixels w h places : ℕ) (image : Sized pixels w h) (n : ℕ)
+    (e : n ≡ capped (cellsAbove w h (levelCount w h (p .levels) (p .«minimum_side»)))) where
+  exactly : n ≡ cellsAbove w h (levelCount w h (p .levels) (p .«minimum_side»))
+  exactly = e ∙ cells-exact w h (levelCount w h (p .levels) (p .«minimum_side»)) (image .narrow) (image .low)
 
-  module _ (t : Bool) (fit : t ≡ parametersFit p) (fits : t ≡ true) (r : Bool) (outside : r ≡ radiusOutside (p .radius)) where
-    pub number-five : r ≡ true → 5 ≡ lowest (conditions p pixels w h cells places)
-    unfolding conditions
-    number-five z = simp (le-ltb 4096 w wide, le-ltb 4096 h high, eq-eqb pixels (w * h) size, sym fit ∙ fits, sym outside ∙ z)
+  pub short : places < n → isShort places w h (p .levels) (p .«minimum_side») ≡ true
+  short l = lt-ltb places _ (rw exactly at l)
 
-    module _ (inside : r ≡ false) where
-      pub number-eight : cells < w * h → 8 ≡ lowest (conditions p pixels w h cells places)
-      unfolding conditions
-      number-eight l = simp (le-ltb 4096 w wide, le-ltb 4096 h high, eq-eqb pixels (w * h) size, sym fit ∙ fits, sym outside ∙ inside, lt-ltb cells (w * h) l)
+  pub enough : n ≤ places → isShort places w h (p .levels) (p .«minimum_side») ≡ false
+  enough l = le-ltb places _ (rw exactly at l)
 
-      module _ (enough : w * h ≤ cells) (n : ℕ) (above : n ≡ capped (cellsAbove w h (levelCount w h (p .levels) (p .minimum)))) where
-        exactly : n ≡ cellsAbove w h (levelCount w h (p .levels) (p .minimum))
-        exactly = above ∙ cells-exact w h (levelCount w h (p .levels) (p .minimum)) wide high
-
-        pub number-nine : places < n → 9 ≡ lowest (conditions p pixels w h cells places)
-        unfolding conditions
-        number-nine l =
-            simp
-            (le-ltb 4096 w wide, le-ltb 4096 h high, eq-eqb pixels (w * h) size, sym fit ∙ fits, sym outside ∙ inside, le-ltb cells (w * h) enough, lt-ltb places _ (rw exactly at l))
-
-        pub number-zero : n ≤ places → 0 ≡ lowest (conditions p pixels w h cells places)
-        unfolding conditions
-        number-zero l =
-            simp
-            (le-ltb 4096 w wide, le-ltb 4096 h high, eq-eqb pixels (w * h) size, sym fit ∙ fits, sym outside ∙ inside, le-ltb cells (w * h) enough, le-ltb places _ (rw exactly at l))
-
-pub admitted-sound : (p : FrameParams) (img : List ℕ) (w h cells places : ℕ) → Admitted p (length img) w h cells places → Bytes img → Sound p img w h
+pub admitted-sound : (p : FrameParams) (img : List ℕ) (w h cells places : ℕ) → Admitted p (length img) w h cells places → Bytes img → SoundFrame p img w h
 admitted-sound p img w h cells places a b =
     record { fit = a .fit; narrow = a .accepted .image .narrow; low = a .accepted .image .low; sized = a .accepted .image .sized; bytes = b }

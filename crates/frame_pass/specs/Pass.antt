@@ -1,85 +1,50 @@
--- The frame pass of document 01 over lists, by a choice of peaks: the program's pass and the exact pass are this one definition, at two choices.
+-- The frame pass over lists, by a choice of peaks (RULES 9 and 10.2): the program's pass and the exact pass are this one definition, at two choices.
 use Prim.Native.Nat.{ℕ, zero, suc}
-use mathlib.Core.Bool.{true}
 use mathlib.Core.List.{List, [], _∷_, map}
-use lib.IntN.{pos}
-use lib.Ieee.{binary32, add, ofInt}
-use Rattle.lists.specs.Places.{Place, flatMap}
+use Rattle.lists.specs.Places.{flatMap, sumOf}
 use Rattle.ring.specs.Ring.{ringOf}
-use Rattle.response.specs.Patch.{View, whole, cols, rows, cells}
-use Rattle.response.specs.Exact.{fifthsIn}
+use Rattle.response.specs.Patch.{View, whole}
 use Rattle.pyramid_levels.specs.Levels.{levelSide, levelCount}
 use Rattle.pyramid.specs.Pyramid.{levelPixels}
 use Rattle.corner_list.specs.declared.Corner.{Corner}
-use Rattle.detect.specs.declared.Search.{Search}
-use Rattle.detect.specs.Detect.{searchOf, peaksIn, startAt}
-use Rattle.detect.specs.Exact.{exactPeaks}
-use Rattle.center_of_mass.specs.declared.Outcome.{Outcome}
-use Rattle.center_of_mass.specs.declared.Outcome.the-variants.{Accepted, Rejected, OutOfBounds, IllConditioned, Refused}
-use Rattle.center_of_mass.specs.CenterOfMass.{refined}
 use Rattle.multiscale.specs.declared.RoiContext.{RoiContext}
 use Rattle.multiscale.specs.declared.RoiAnswer.{RoiAnswer}
 use Rattle.multiscale.specs.declared.RoiAnswer.the-variants as roi
 use Rattle.multiscale.specs.Multiscale.{roiOf}
 use Rattle.merge.specs.Merge.{resultOf}
-use Rattle.frame_pass.specs.declared.FrameParams.{FrameParams}
+use Rattle.patch_corners.specs.declared.FrameParams.{FrameParams}
+use Rattle.patch_corners.specs.OneMap.{Choice, moved, cornersIn, tiesOn}
 
--- the places of a map that are its peaks, in row order
-abbrev pub Choice : Type 0
-Choice = View → List Place
-
--- an accepted corner goes to its centre of mass, and its strength stays; any other is dropped
-abbrev pub landed : Outcome → Corner → List Corner
-landed (Accepted x y mass) c = record { x = x; y = y; strength = c .strength } ∷ []
-landed (Rejected x y) c = []
-landed (OutOfBounds x y) c = []
-landed (IllConditioned x y) c = []
-landed (Refused n) c = []
-
--- a corner moved by a box's corner
-abbrev pub moved : ℕ → ℕ → Corner → Corner
-moved x0 y0 c = record { x = add binary32 (c .x) (ofInt binary32 (pos x0)); y = add binary32 (c .y) (ofInt binary32 (pos y0)); strength = c .strength }
-
--- ---- one map, with the parameters p
-module _ (p : FrameParams) where
-  -- what it is searched with
-  abbrev pub searchOn : View → Search
-  searchOn v = searchOf (cols v) (rows v) (p .ring) (p .threshold) (p .window) (p .least) (p .centroid)
-
-  -- the choice by computed values: what peak finding adds to its buffer
-  abbrev pub computedChoice : Choice
-  computedChoice v = peaksIn (cells v) (searchOn v)
-
-  -- and by exact values: "each map's peaks are its exact list"
-  abbrev pub exactChoice : Choice
-  exactChoice v = exactPeaks (λ q. fifthsIn v (q .x) (q .y)) (searchOn v)
-
-  -- a peak's corner at the centre of mass
-  abbrev pub localized : View → Corner → List Corner
-  localized v c = landed (refined (p .centroid) (c .x) (c .y) true (cells v) (cols v) (rows v)) c
-
-  -- "map, peaks, centroids": the corners of a map, by its own columns and rows
-  unfoldable pub cornersIn : Choice → View → List Corner
-  cornersIn choose v = flatMap (localized v) (map (startAt (cells v) (searchOn v)) (choose v))
-
--- ---- the pass over an image of w by h
+-- the lists of a pass, and the ties of the peaks behind `found`
 pub record Pass : Type 0 where
   pub seeds : List Corner
   -- the corners before merging
   pub found : List Corner
   pub corners : List Corner
+  pub ties : ℕ
 
+-- ---- the pass over an image of w by h
 module _ (p : FrameParams) (img : List ℕ) (w h : ℕ) where
+  -- how many levels it has (RULES 6.2)
   abbrev pub levelsIn : ℕ
-  levelsIn = levelCount w h (p .levels) (p .minimum)
+  levelsIn = levelCount w h (p .levels) (p .«minimum_side»)
 
   -- level k as one box
   abbrev pub levelView : ℕ → View
   levelView k = whole (levelPixels img w h k) (levelSide w k) (levelSide h k) (ringOf (p .ring))
 
-  -- the box in the image of a seed of level k
+  -- the box in the image of a seed of level k (RULES 7)
   abbrev pub contextAt : ℕ → RoiContext
-  contextAt k = record { width = w; height = h; ring = p .ring; window = p .window; centroid = p .centroid; search = p .search; level = k }
+  contextAt k =
+      record {
+        width = w;
+        height = h;
+        ring = p .ring;
+        window = p .window;
+        «centroid_radius» = p .«centroid_radius»;
+        «search_radius» = p .«search_radius»;
+        level = k;
+      }
 
   -- one patch, or none where there is no box
   abbrev pub patchOf : RoiAnswer → List View
@@ -99,7 +64,7 @@ module _ (p : FrameParams) (img : List ℕ) (w h : ℕ) where
     abbrev pub cornersAbout : ℕ → Corner → List Corner
     cornersAbout k s = flatMap cornersOn (seedPatch k s)
 
-    -- the seeds, by the number of levels: with more than one, the corners of the last
+    -- the seeds, by the number of levels: with more than one, the corners of the last (RULES 9.3)
     unfoldable pub seedsOf : ℕ → List Corner
     unfolding cornersIn
     seedsOf zero = []
@@ -113,11 +78,29 @@ module _ (p : FrameParams) (img : List ℕ) (w h : ℕ) where
     foundOf (suc zero) = cornersIn p choose (levelView 0)
     foundOf (suc (suc k)) = flatMap (cornersAbout (suc k)) (seedsOf (suc (suc k)))
 
-    unfoldable pub framePass : Pass
-    unfolding seedsOf foundOf
-    framePass = record { seeds = seedsOf levelsIn; found = foundOf levelsIn; corners = resultOf (p .radius) (foundOf levelsIn) }
+    -- the ties of a seed's patch
+    abbrev pub tiesAbout : ℕ → Corner → ℕ
+    tiesAbout k s = sumOf (tiesOn p choose) (seedPatch k s)
 
-    -- "the maps a frame looks at": the last level's whole map and, with more than one level, the patch map of each seed that has a box
+    -- RULES 23.3: the ties of the peaks found before merging, in the same maps as `foundOf`; a peak of two patches counts in each, seeds in none
+    unfoldable pub tiesFound : ℕ → ℕ
+    unfolding seedsOf
+    tiesFound zero = 0
+    tiesFound (suc zero) = tiesOn p choose (levelView 0)
+    tiesFound (suc (suc k)) = sumOf (tiesAbout (suc k)) (seedsOf (suc (suc k)))
+
+    -- and merged (RULES 9.4)
+    unfoldable pub framePass : Pass
+    unfolding seedsOf foundOf tiesFound
+    framePass =
+        record {
+          seeds = seedsOf levelsIn;
+          found = foundOf levelsIn;
+          corners = resultOf (p .«merge_radius») (foundOf levelsIn);
+          ties = tiesFound levelsIn;
+        }
+
+    -- "the maps a frame looks at" (RULES 10.3): the last level's whole map and, with more than one level, the patch map of each seed that has a box
     unfoldable pub mapsOf : ℕ → List View
     unfolding seedsOf
     mapsOf zero = []

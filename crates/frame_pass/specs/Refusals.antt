@@ -1,4 +1,4 @@
--- The refusals of a frame before its pass: document 01's numbers 1, 2, 3, 5, 8 and 9.
+-- The refusals of a frame before its pass, 1, 2, 3, 5, 8 and 9 (RULES 2.2 and 9.1).
 use Prim.Native.Nat.{ℕ, _*_}
 use mathlib.Core.Bool.{Bool, not, _&&_}
 use mathlib.Core.List.{List, [], _∷_}
@@ -7,11 +7,11 @@ use Rattle.lists.specs.Refusals.{isLarge, isMisfit}
 use Rattle.ring.specs.Ring.{isRing}
 use Rattle.pyramid_levels.specs.Refusals.{isShort}
 use Rattle.merge_radius.specs.MergeRadius.{radiusOutside}
-use Rattle.frame_pass.specs.declared.FrameParams.{FrameParams}
+use Rattle.patch_corners.specs.declared.FrameParams.{FrameParams}
 
--- the parameters that have a range are in it: a ring of 5 or 10, window and centroid radius at most 16, search radius at most 255
+-- the parameters that have a range are in it (RULES 1.7): a ring of 5 or 10, window and centroid radius at most 16, search radius at most 255
 unfoldable pub parametersFit : FrameParams → Bool
-parametersFit p = isRing (p .ring) && (leb (p .window) 16 && (leb (p .centroid) 16 && leb (p .search) 255))
+parametersFit p = isRing (p .ring) && (leb (p .window) 16 && (leb (p .«centroid_radius») 16 && leb (p .«search_radius») 255))
 
 -- the conditions on the input, an image of `pixels` pixels, a map buffer and a level buffer of so many places, with their numbers
 unfoldable pub conditions : FrameParams → ℕ → ℕ → ℕ → ℕ → ℕ → List (Bool × ℕ)
@@ -19,7 +19,7 @@ conditions p pixels w h cells places =
     (isLarge w h, 1)
     ∷ (isMisfit pixels w h, 2)
     ∷ (not (parametersFit p), 3)
-    ∷ (radiusOutside (p .radius), 5)
+    ∷ (radiusOutside (p .«merge_radius»), 5)
     ∷ (ltb cells (w * h), 8)
-    ∷ (isShort places w h (p .levels) (p .minimum), 9)
+    ∷ (isShort places w h (p .levels) (p .«minimum_side»), 9)
     ∷ []

@@ -2,7 +2,6 @@
 use Prim.Native.Nat.{ℕ, _-_, _*_, _≤_}
 use mathlib.Core.Path.{_≡_}
 use mathlib.Core.Bool.{true}
-use mathlib.Core.Logic.{_⊎_}
 use mathlib.Core.List.{List}
 use lib.ListN.{length}
 use Rattle.lists.specs.Places.{All}
@@ -12,34 +11,32 @@ use Rattle.corner_list.specs.CornerList.{isInside}
 use Rattle.corner_list.specs.declared.Corner.{Corner}
 use Rattle.multiscale.specs.declared.RoiAnswer.the-variants.{Refused}
 use Rattle.multiscale.specs.Multiscale.{roiOf}
-use Rattle.frame_pass.specs.declared.FrameParams.{FrameParams}
+use Rattle.patch_corners.specs.declared.FrameParams.{FrameParams}
+use Rattle.patch_corners.specs.OneMap.{Choice, IsChoice, cornersIn}
 use Rattle.frame_pass.specs.Refusals.{parametersFit}
-use Rattle.frame_pass.specs.Pass.{Choice, computedChoice, exactChoice, cornersIn, levelsIn, contextAt, framePass, lookedAt}
+use Rattle.frame_pass.specs.Pass.{levelsIn, contextAt, framePass, lookedAt}
 
 -- an image of w by h bytes, and parameters in their ranges
-pub record Sound (p : FrameParams) (img : List ℕ) (w h : ℕ) : Type 0 where
+pub record SoundFrame (p : FrameParams) (img : List ℕ) (w h : ℕ) : Type 0 where
   pub fit : parametersFit p ≡ true
   pub narrow : w ≤ 4096
   pub low : h ≤ 4096
   pub sized : length img ≡ w * h
   pub bytes : Bytes img
 
--- by computed or by exact values
-abbrev pub IsChoice : FrameParams → Choice → Type 0
-IsChoice p choose = (choose ≡ computedChoice p) ⊎ (choose ≡ exactChoice p)
-
 module _ (p : FrameParams) (img : List ℕ) (w h : ℕ) (choose : Choice) where
   -- the centroid accepts every peak of every map that the frame looks at
   abbrev pub NoneDropped : Type 0
   NoneDropped =
-      Sound p img w h → IsChoice p choose → All (λ (v : View). length (cornersIn p choose v) ≡ length (choose v)) (lookedAt p img w h choose)
+      SoundFrame p img w h → IsChoice p choose → All (λ (v : View). length (cornersIn p choose v) ≡ length (choose v)) (lookedAt p img w h choose)
 
   -- by any choice, seeds and corners have coordinates from 0 to 4,096: number 4 does not arise, in a seed's box or in merging
   abbrev pub CornersInside : Type 0
   CornersInside =
-      Sound p img w h → All (λ c. isInside c ≡ true) (framePass p img w h choose .seeds) × All (λ c. isInside c ≡ true) (framePass p img w h choose .found)
+      SoundFrame p img w h → All (λ c. isInside c ≡ true) (framePass p img w h choose .seeds) × All (λ c. isInside c ≡ true) (framePass p img w h choose .found)
 
   -- so no seed of the last level is refused a box: it has one, or "no box" is the answer
   abbrev pub BoxesAnswered : Type 0
   BoxesAnswered =
-      Sound p img w h → All (λ (s : Corner). (n : ℕ) → roiOf (contextAt p img w h (levelsIn p img w h - 1)) s ≡ Refused n → ⊥) (framePass p img w h choose .seeds)
+      SoundFrame p img w h
+      → All (λ (s : Corner). (n : ℕ) → roiOf (contextAt p img w h (levelsIn p img w h - 1)) s ≡ Refused n → ⊥) (framePass p img w h choose .seeds)

@@ -1,22 +1,8 @@
-// The parameters of a frame, and its refusals before the pass. The frame pass over lists is defined in specs/, and proofs/ has
-// what is true of it.
+// The refusals of a frame before its pass. The frame pass over lists is defined in specs/, and proofs/ has what is true of it.
 ghost use mathlib.Core.Path.{_≡_};
 ghost use Rattle.lists.specs.Refusals.{lowest};
 ghost use Rattle.frame_pass.specs.Refusals.{parametersFit, conditions};
-
-// The ring's radius, the threshold of a peak, the radius of its window and the least number of positive neighbours, the
-// centroid's radius, the merge radius, the level count and the minimum size of a level, and the search radius of a seed.
-pub struct FrameParams {
-    pub ring: u32,
-    pub threshold: f32,
-    pub window: u32,
-    pub least: u32,
-    pub centroid: u32,
-    pub radius: f32,
-    pub levels: u32,
-    pub minimum: usize,
-    pub search: u32,
-}
+use patch_corners::FrameParams;
 
 // Whether the parameters that have a range are in it.
 fn parameters_fit(p: FrameParams) -> bool
@@ -25,10 +11,10 @@ fn parameters_fit(p: FrameParams) -> bool
     if 16 < p.window {
         return false;
     }
-    if 16 < p.centroid {
+    if 16 < p.centroid_radius {
         return false;
     }
-    if 255 < p.search {
+    if 255 < p.search_radius {
         return false;
     }
     ring::is_ring(p.ring)
@@ -38,25 +24,20 @@ fn parameters_fit(p: FrameParams) -> bool
 pub fn refusal(pixels: usize, w: usize, h: usize, p: FrameParams, cells: usize, places: usize) -> u8
     ensures { λ r. ⌜ r ≡ lowest (conditions p pixels w h cells places) ⌝ }
 {
-    if 4096 < w {
-        return 1;
-    }
-    if 4096 < h {
-        return 1;
-    }
-    if pixels != w * h {
-        return 2;
+    let no = image_size::refusal(pixels, w, h);
+    if no != 0 {
+        return no;
     }
     if !parameters_fit(p) {
         return 3;
     }
-    if merge_radius::is_outside(p.radius) {
+    if merge_radius::is_outside(p.merge_radius) {
         return 5;
     }
     if cells < w * h {
         return 8;
     }
-    if places < pyramid_levels::cells_above(w, h, p.levels, p.minimum) {
+    if places < pyramid_levels::cells_above(w, h, p.levels, p.minimum_side) {
         return 9;
     }
     0

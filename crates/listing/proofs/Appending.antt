@@ -10,14 +10,15 @@ use lib.Seq.{take-suc, take-all}
 use Rattle.lists.specs.Buffer.{placed}
 use Rattle.lists.proofs.Buffer.{placed-none, placed-set, placed-more, placed-cons, placed-length}
 use Rattle.listing.specs.Text.{digitOf, digits}
-use Rattle.listing.specs.Writing.{Wrote}
+use Rattle.listing.specs.Internal.{Wrote}
 
 -- ---- any bytes
 pub wrote-length : {bytes : List ℕ} {at end : ℕ} {before after : List ℕ} → Wrote bytes at before end after → length after ≡ length before
 wrote-length {bytes} {at} {end} {before} w = ap length (w .holds) ∙ placed-length at bytes before (w .fits)
 
 -- one behind the other
-pub wrote-more : {a b : List ℕ} {at middle end : ℕ} {before between after : List ℕ} → Wrote a at before middle between → Wrote b middle between end after → Wrote (a ++ b) at before end after
+pub wrote-more : {a b : List ℕ} {at middle end : ℕ} {before between after : List ℕ} → Wrote a at before middle between
+    → Wrote b middle between end after → Wrote (a ++ b) at before end after
 wrote-more {a} {b} {at} {middle} {end} {before} {between} {after} v w =
     record {
       fits = omega (arith, v .fits, v .ends, w .fits, wrote-length v, length-append a b);
@@ -26,7 +27,8 @@ wrote-more {a} {b} {at} {middle} {end} {before} {between} {after} v w =
     }
 
 -- what is left of the buffer behind bytes of at most k
-pub wrote-leaves : {bytes : List ℕ} {at end : ℕ} {before after : List ℕ} → Wrote bytes at before end after → (k n : ℕ) → length bytes ≤ k → at + (k + n) ≤ length before → end + n ≤ length after
+pub wrote-leaves : {bytes : List ℕ} {at end : ℕ} {before after : List ℕ} → Wrote bytes at before end after → (k n : ℕ) → length bytes ≤ k
+    → at + (k + n) ≤ length before → end + n ≤ length after
 wrote-leaves {bytes} {at} {end} {before} {after} w k n h l = omega (arith, w .ends, wrote-length w)
 
 -- the same bytes by another name
@@ -86,7 +88,8 @@ module _ (base count n at : ℕ) (before : List ℕ) where
           split = a .split ∙ ap (λ (l : List ℕ). l ++ a .behind) first ∙ append-assoc (digits base (i - 1) (rest / base)) (d ∷ []) (a .behind);
           long = omega (arith, a .long);
           fits = a .fits;
-          holds = ap (λ (s : List ℕ). set s (at + (i - 1)) d) (a .holds ∙ ap (λ (k : ℕ). placed k (a .behind) before) place) ∙ placed-cons (at + (i - 1)) (a .behind) before d (omega (arith, a .long, a .fits));
+          holds = ap (λ (s : List ℕ). set s (at + (i - 1)) d) (a .holds ∙ ap (λ (k : ℕ). placed k (a .behind) before) place)
+              ∙ placed-cons (at + (i - 1)) (a .behind) before d (omega (arith, a .long, a .fits));
         }
 
     pub ahead-none : i ≡ 0 → Wrote (digits base count n) at before (at + count) out

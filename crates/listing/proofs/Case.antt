@@ -1,4 +1,4 @@
--- The whole case of document 01, "corners 1" and "1280 1280 40a00000 40a00000 44fe0000", computed from the definition. Assumes nothing.
+-- The whole case (RULES 14), "corners 1" and "1280 1280 40a00000 40a00000 44fe0000", computed from the definition. Assumes nothing.
 use Prim.Native.Nat.{ℕ, _-_, _^_}
 use mathlib.Core.Bool.{false}
 use mathlib.Core.Path.{_≡_, refl}

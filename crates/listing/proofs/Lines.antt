@@ -13,8 +13,8 @@ use Rattle.lists.specs.Tab.{tab}
 use Rattle.lists.specs.Places.{flatMap}
 use Rattle.lists.proofs.Members.{flatMap-append}
 use Rattle.corner_list.specs.declared.Corner.{Corner}
-use Rattle.listing.specs.Text.{decimal, hexadecimal, unitsOf, columns, line, cornersWord, heading}
-use Rattle.listing.specs.Writing.{ended}
+use Rattle.listing.specs.Text.{decimal, hexadecimal, unitsOf, fields, line, cornersWord, heading}
+use Rattle.listing.specs.Internal.{ended}
 use Rattle.listing.proofs.Numbers.{decimal-long, hexadecimal-long}
 
 -- ---- columns
@@ -32,18 +32,26 @@ unfolding unitsOf
 units-long x = let h = toUnsigned-lt 64 (mul binary32 x (fin false 1 (pos 8))) in decimal-long 19 (unitsOf x) (omega arith)
 
 -- ---- a line
-pub line-long : (c : Corner) → length (line (columns c)) ≤ 69
+pub line-long : (c : Corner) → length (line (fields c)) ≤ 69
 line-long c =
     simp length-append
-    (omega (arith, units-long (c .x), units-long (c .y), hexadecimal-long (toBits binary32 (c .x)), hexadecimal-long (toBits binary32 (c .y)), hexadecimal-long (toBits binary32 (c .strength))))
+    (omega (
+      arith,
+      units-long (c .x),
+      units-long (c .y),
+      hexadecimal-long (toBits binary32 (c .x)),
+      hexadecimal-long (toBits binary32 (c .y)),
+      hexadecimal-long (toBits binary32 (c .strength)),
+    ))
 
 -- ---- a heading, and one line more
 pub heading-long : (n : ℕ) → n ≤ 512 → length (heading cornersWord n) ≤ 12
 heading-long n h = omega (arith, ended-long (decimal n) 10, decimal-long 2 n (omega arith))
 
 abbrev pub lines : List Corner → List ℕ
-lines cs = flatMap (λ c. line (columns c)) cs
+lines cs = flatMap (λ c. line (fields c)) cs
 
-pub lines-more : (f : ℕ → Corner) (i : ℕ) → lines (tab (i + 1) f) ≡ lines (tab i f) ++ line (columns (f i))
+pub lines-more : (f : ℕ → Corner) (i : ℕ) → lines (tab (i + 1) f) ≡ lines (tab i f) ++ line (fields (f i))
 unfolding tab
-lines-more f i = rw (add-one i) (flatMap-append (λ c. line (columns c)) (tab i f) (f i ∷ []) ∙ ap (λ (l : List ℕ). lines (tab i f) ++ l) (append-nil (line (columns (f i)))))
+lines-more f i =
+    rw (add-one i) (flatMap-append (λ c. line (fields c)) (tab i f) (f i ∷ []) ∙ ap (λ (l : List ℕ). lines (tab i f) ++ l) (append-nil (line (fields (f i)))))

@@ -14,8 +14,8 @@ use Rattle.corner_list.specs.declared.Corner.{Corner}
 use Rattle.corner_list.specs.CornerList.{Slices, cornersOf}
 use Rattle.corner_list.proofs.Corners.{corners-length}
 use Rattle.listing.specs.declared.Listing.the-variants.{Text, Refused}
-use Rattle.listing.specs.Text.{newline, columns, line, cornersWord, heading, cornersText, refusedText}
-use Rattle.listing.specs.Writing.{longest, Wrote}
+use Rattle.listing.specs.Text.{newline, fields, line, cornersWord, heading, cornersText, refusedText}
+use Rattle.listing.specs.Internal.{longest, Wrote}
 use Rattle.listing.specs.Answer.{listing, CornersWritten}
 use Rattle.listing.proofs.Appending.{wrote-length, wrote-more, wrote-as, wrote-none, wrote-leaves}
 use Rattle.listing.proofs.Lines.{decimal-ended, line-long, heading-long, lines, lines-more}
@@ -27,18 +27,20 @@ pub record Lines (f : ℕ → Corner) (count start : ℕ) (before : List ℕ) (i
   pub left : at + 69 * count ≤ length out + 69 * i
 
 -- the heading leaves a place for the longest lines
-pub lines-none : (f : ℕ → Corner) (count at : ℕ) (before out : List ℕ) → count ≤ 512 → length before ≡ longest → Wrote (heading cornersWord count) 0 before at out → Lines f count at out 0 at out
+pub lines-none : (f : ℕ → Corner) (count at : ℕ) (before out : List ℕ) → count ≤ 512 → length before ≡ longest
+    → Wrote (heading cornersWord count) 0 before at out → Lines f count at out 0 at out
 unfolding tab
 lines-none f count at before out h l w =
     let ample = wrote-leaves w 12 (69 * count) (heading-long count h) (omega arith) in
     record { upto = omega arith; wrote = wrote-none at out (omega arith); left = omega arith }
 
 module _ (f : ℕ → Corner) (count start : ℕ) (before : List ℕ) (i at : ℕ) (out : List ℕ) (s : Lines f count start before i at out) where
-  pub lines-next : (end : ℕ) (after : List ℕ) (c : Corner) → i < count → c ≡ f i → Wrote (line (columns c)) at out end after → Lines f count start before (i + 1) end after
+  pub lines-next : (end : ℕ) (after : List ℕ) (c : Corner) → i < count → c ≡ f i → Wrote (line (fields c)) at out end after
+      → Lines f count start before (i + 1) end after
   lines-next end after c h e w =
       record {
         upto = omega arith;
-        wrote = wrote-as (ap (λ (c : Corner). lines (tab i f) ++ line (columns c)) e ∙ sym (lines-more f i)) (wrote-more (s .wrote) w);
+        wrote = wrote-as (ap (λ (c : Corner). lines (tab i f) ++ line (fields c)) e ∙ sym (lines-more f i)) (wrote-more (s .wrote) w);
         left = omega (arith, s .left, w .ends, wrote-length w, line-long c);
       }
 
@@ -60,7 +62,8 @@ module _ (b : Slices) (count : ℕ) (before : List ℕ) where
       let t = lt-ltb 512 count h in
       record { answer = rw t; number = rw t; values = rw t; text = rw t }
 
-  pub all-written : count ≤ 512 → (end : ℕ) (after : List ℕ) → Wrote (cornersText (cornersOf b count)) 0 before end after → CornersWritten b count before (Text end) after
+  pub all-written : count ≤ 512 → (end : ℕ) (after : List ℕ) → Wrote (cornersText (cornersOf b count)) 0 before end after
+      → CornersWritten b count before (Text end) after
   unfolding listing
   all-written h end after w =
       let t = le-ltb 512 count h in
@@ -71,7 +74,7 @@ module _ (b : Slices) (count : ℕ) (before : List ℕ) where
 
 lines-long : (cs : List Corner) → length (lines cs) ≤ 69 * length cs
 lines-long [] = omega arith
-lines-long (c ∷ cs) = omega (arith, length-append (line (columns c)) (lines cs), line-long c, lines-long cs)
+lines-long (c ∷ cs) = omega (arith, length-append (line (fields c)) (lines cs), line-long c, lines-long cs)
 
 pub corners-long : (cs : List Corner) → length cs ≤ 512 → length (cornersText cs) ≤ longest
 unfolding cornersText
@@ -88,7 +91,8 @@ pub record Listed (b : Slices) (count : ℕ) (before : List ℕ) (end : ℕ) (af
   pub text : after ≡ front (cornersText (cornersOf b count)) before
   pub fits : end ≤ longest
 
-pub listed : (b : Slices) (count : ℕ) (before : List ℕ) (end : ℕ) (after : List ℕ) → CornersWritten b count before (Text end) after → Listed b count before end after
+pub listed : (b : Slices) (count : ℕ) (before : List ℕ) (end : ℕ) (after : List ℕ) → CornersWritten b count before (Text end) after
+    → Listed b count before end after
 unfolding listing
 listed b count before end after w =
     elim (decLt 512 count) [
@@ -98,5 +102,10 @@ listed b count before end after w =
           let t = le-ltb 512 count few in
           let r = rw t at (w .answer) in
           let ends : end ≡ length (cornersText (cornersOf b count)) = cc in
-          record { few = few; ends = ends; text = rw t at (w .text); fits = omega (arith, ends, corners-long (cornersOf b count) (omega (arith, corners-length b count))) }
+          record {
+            few = few;
+            ends = ends;
+            text = rw t at (w .text);
+            fits = omega (arith, ends, corners-long (cornersOf b count) (omega (arith, corners-length b count)));
+          }
     ]

@@ -12,7 +12,7 @@ use Rattle.listing.specs.declared.Listing.{Listing}
 use Rattle.listing.specs.declared.Listing.the-variants.{Text, Refused}
 use Rattle.listing.specs.Text.{cornersText, refusedText}
 
--- a listing in 01's terms: its text, or the number of its refusal
+-- a listing (RULES 12.3): its text, or the number of its refusal
 pub data Outcome : Type 0 where
   written : List ℕ → Outcome
   refused : ℕ → Outcome
@@ -22,7 +22,7 @@ abbrev pub answerOf : Outcome → Listing
 answerOf (written text) = Text (length text)
 answerOf (refused n) = Refused n
 
--- document 01's number and values of each case
+-- the number (RULES 2.2) and the values of each case
 abbrev pub numberOf : Listing → ℕ
 numberOf (Text n) = 0
 numberOf (Refused k) = k
@@ -36,7 +36,7 @@ abbrev pub bufferAfter : Outcome → List ℕ → List ℕ
 bufferAfter (written text) buffer = front text buffer
 bufferAfter (refused n) buffer = buffer
 
--- 10: "a list's stated count exceeds its room", which has 512 places
+-- 10: the stated count exceeds the 512 places (RULES 12.3)
 abbrev pub refusalOf : ℕ → ℕ
 refusalOf count = lowest ((ltb 512 count, 10) ∷ [])
 

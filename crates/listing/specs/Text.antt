@@ -1,4 +1,4 @@
--- The text of a corner list (document 01, "The added stream and listing"), as a list of bytes.
+-- The text of a corner list (RULES 12.1, 12.2), as a list of bytes.
 use Prim.Native.Nat.{ℕ, zero, suc, _+_, _/_, _%_}
 use mathlib.Core.Bool.{false, cond}
 use mathlib.Core.List.{List, [], _∷_, _++_}
@@ -30,7 +30,7 @@ unfoldable pub decimal : ℕ → List ℕ
 unfolding digits places
 decimal n = digits 10 (places n n) n
 
--- "eight hexadecimal digits"
+-- eight hexadecimal digits (RULES 12.1)
 unfoldable pub hexadecimal : ℕ → List ℕ
 unfolding digits
 hexadecimal n = digits 16 8 n
@@ -42,13 +42,13 @@ space = 32
 abbrev pub newline : ℕ
 newline = 10
 
--- "in 256ths of a pixel, cut off"
+-- 256 x, cut off (RULES 12.1)
 unfoldable pub unitsOf : Float → ℕ
 unitsOf x = toUnsigned 64 (mul binary32 x (fin false 1 (pos 8)))
 
--- "x and y in 256ths of a pixel, cut off, then x, y and strength as eight hexadecimal digits of their bits"
-abbrev pub columns : Corner → List (List ℕ)
-columns c =
+-- x and y in 256ths of a pixel, cut off, "then x, y and strength as eight hexadecimal digits of their bits"
+abbrev pub fields : Corner → List (List ℕ)
+fields c =
     decimal (unitsOf (c .x))
     ∷ decimal (unitsOf (c .y))
     ∷ hexadecimal (toBits binary32 (c .x))
@@ -75,10 +75,10 @@ refusedWord = 114 ∷ 101 ∷ 102 ∷ 117 ∷ 115 ∷ 101 ∷ 100 ∷ 32 ∷ []
 abbrev pub heading : List ℕ → ℕ → List ℕ
 heading word n = word ++ (decimal n ++ (newline ∷ []))
 
--- "prints `corners N`, then a line for each corner"
+-- `corners N`, then a line for each corner (RULES 12.1)
 unfoldable pub cornersText : List Corner → List ℕ
-cornersText cs = heading cornersWord (length cs) ++ flatMap (λ c. line (columns c)) cs
+cornersText cs = heading cornersWord (length cs) ++ flatMap (λ c. line (fields c)) cs
 
--- "A refused stream prints `refused N` alone"
+-- `refused N` alone (RULES 12.2)
 unfoldable pub refusedText : ℕ → List ℕ
 refusedText n = heading refusedWord n

@@ -5,8 +5,8 @@ ghost use Prim.Native.Nat.{_+_, _*_, _≤_, _<_};
 ghost use lib.Ieee.{binary32, toBits};
 ghost use lib.ListN.{length};
 ghost use Rattle.corner_list.specs.CornerList.{slices, cornersOf};
-ghost use Rattle.listing.specs.Text.{digitOf, digits, places, decimal, hexadecimal, unitsOf, columns, line, heading, cornersText};
-ghost use Rattle.listing.specs.Writing.{longest, Wrote, ended};
+ghost use Rattle.listing.specs.Text.{digitOf, digits, places, decimal, hexadecimal, unitsOf, fields, line, heading, cornersText};
+ghost use Rattle.listing.specs.Internal.{longest, Wrote, ended};
 ghost use Rattle.listing.specs.Answer.{CornersWritten, RefusalWritten};
 
 // The longest text: a heading of 12 bytes and 512 lines of 69.
@@ -113,7 +113,7 @@ fn units(x: f32) -> usize
 
 fn put_line(out: &mut [u8], at: usize, c: corner_list::Corner) -> usize
     requires { ⌜ at + 69 ≤ length (now out) ⌝ }
-    ensures { λ r. ⌜ Wrote (line (columns c)) at (now (out .entry)) r (now (out .exit)) ⌝ }
+    ensures { λ r. ⌜ Wrote (line (fields c)) at (now (out .entry)) r (now (out .exit)) ⌝ }
 {
     let behind_x = put_decimal(out, at, units(c.x), b' ');
     let behind_y = put_decimal(out, behind_x, units(c.y), b' ');

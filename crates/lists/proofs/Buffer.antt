@@ -4,8 +4,10 @@ use native.Mathlib.Nat.{add-zero, zero-add}
 use native.Mathlib.Omega.{arith}
 use mathlib.Core.Path.{_≡_, refl, sym, ap, ap₂, _∙_}
 use mathlib.Core.List.{List, [], _∷_, _++_, map, map-append, append-assoc, append-nil}
-use lib.ListN.{length, getD, take, drop, set, replicate, length-append, length-drop, length-take, length-replicate, length-map, take-append-drop, List·getD-append, length-set}
-use lib.Seq.{take-append-seam, drop-append-add, drop-append-le, drop-drop, drop-cons, set-at, take-at, drop-at, take-suc, length-take-le, getD-take, getD-append-add, getD-drop, set-append-left}
+use lib.ListN.{length, getD, take, drop, set, replicate, length-append, length-drop, length-take, length-replicate, length-map}
+use lib.ListN.{take-append-drop, List·getD-append, length-set}
+use lib.Seq.{take-append-seam, drop-append-add, drop-append-le, drop-drop, drop-cons, set-at, take-at, drop-at, take-suc, length-take-le}
+use lib.Seq.{getD-take, getD-append-add, getD-drop, set-append-left}
 use borrow.Rule.Slice.PartMut.{putMid}
 use native.Mathlib.Numerals.{add-one}
 use Rattle.lists.specs.Tab.{tab}
@@ -70,7 +72,8 @@ module _ {A : Type 0} where
   pub placed-first : (vs d : List A) → placed 0 vs d ≡ front vs d
   placed-first vs d = ap (λ (k : ℕ). vs ++ drop k d) (zero-add (length vs))
 
-  pub placed-set : (held : ℕ) (vs d : List A) (v : A) → held + length vs < length d → set (placed held vs d) (held + length vs) v ≡ placed held (vs ++ (v ∷ [])) d
+  pub placed-set : (held : ℕ) (vs d : List A) (v : A) → held + length vs < length d
+      → set (placed held vs d) (held + length vs) v ≡ placed held (vs ++ (v ∷ [])) d
   placed-set held vs d v h =
       let n = held + length vs in
       let l : length (take held d ++ vs) ≡ n = length-append (take held d) vs ∙ ap (λ (k : ℕ). k + length vs) (length-take-le held d (omega arith)) in
@@ -143,7 +146,8 @@ module _ {A : Type 0} where
   wiped-length n z d h = simp (length-append, length-take, length-replicate) (omega arith)
 
   -- a list that stands first, wiped behind it
-  pub wiped-front : (vs d : List A) (z : A) (n : ℕ) → n ≡ length vs → length vs ≤ length d → wipedFrom n z (front vs d) ≡ vs ++ replicate (length d - length vs) z
+  pub wiped-front : (vs d : List A) (z : A) (n : ℕ) → n ≡ length vs → length vs ≤ length d
+      → wipedFrom n z (front vs d) ≡ vs ++ replicate (length d - length vs) z
   wiped-front vs d z n e h =
       let k : length (front vs d) - n ≡ length d - length vs = omega (arith, front-length vs d h) in
       ap₂ (λ (a : List A) (k : ℕ). a ++ replicate k z) (front-take vs d n e) k

@@ -8,7 +8,7 @@ use mathlib.Core.Bool.{Bool, true, false, cond, _||_, false≢true}
 use mathlib.Core.List.{List, [], _∷_, _++_, map, append-assoc, tail-eq-of-cons-eq}
 use lib.ListN.{length, getD}
 use Rattle.lists.specs.Tab.{tab, grid}
-use Rattle.lists.specs.Places.{Place, counted, range, row, rows, block, any, keep, flatMap, sumOf, All}
+use Rattle.lists.specs.Places.{Place, counted, range, row, rowsFrom, block, any, keep, flatMap, sumOf, All}
 use Rattle.lists.proofs.Tests.{is-false, or-neither}
 
 -- ---- each member
@@ -72,7 +72,8 @@ all-unmapped P g [] h = tt
 all-unmapped P g (a ∷ l) h = (h .0, all-unmapped P g l (h .1))
 
 -- the members of two lists, by what a function makes of them that tells them apart
-pub map-only : {A B : Type 0} (f : A → B) (P : A → Type 0) → ((a b : A) → P a → P b → f a ≡ f b → a ≡ b) → (s t : List A) → All P s → All P t → map f s ≡ map f t → s ≡ t
+pub map-only : {A B : Type 0} (f : A → B) (P : A → Type 0) → ((a b : A) → P a → P b → f a ≡ f b → a ≡ b) → (s t : List A) → All P s
+    → All P t → map f s ≡ map f t → s ≡ t
 map-only f P only [] [] p q e = refl
 map-only f P only [] (b ∷ t) p q e = absurd (let no : ⊥ = omega (arith, ap length e) in no)
 map-only f P only (a ∷ s) [] p q e = absurd (let no : ⊥ = omega (arith, ap length e) in no)
@@ -129,7 +130,8 @@ pub all-grid : {A : Type 0} (P : A → Type 0) (w h : ℕ) (f : ℕ → ℕ → 
 unfolding grid
 all-grid P w zero f p = tt
 all-grid P w (suc h) f p =
-    all-append P (grid w h f) (tab w (λ x. f x h)) (all-grid P w h f (λ x y i j. p x y i (omega arith))) (all-tab P w (λ x. f x h) (λ x i. p x h i (omega arith)))
+    all-append P (grid w h f) (tab w (λ x. f x h)) (all-grid P w h f (λ x y i j. p x y i (omega arith)))
+    (all-tab P w (λ x. f x h) (λ x i. p x h i (omega arith)))
 
 -- ---- each place of a block, by its column and row
 
@@ -147,25 +149,28 @@ at-counted P a (suc n) h k p q =
 module _ (P : Place → Type 0) where
   pub all-row : (y a b : ℕ) → ((x : ℕ) → a ≤ x → x < b → P (record { x = x; y = y })) → All P (row y a b)
   unfolding row range
-  all-row y a b f = all-mapped P (λ x. record { x = x; y = y }) (counted a (b - a)) (all-counted (λ x. P (record { x = x; y = y })) a (b - a) (λ k p q. f k p (omega arith)))
+  all-row y a b f =
+      all-mapped P (λ x. record { x = x; y = y }) (counted a (b - a)) (all-counted (λ x. P (record { x = x; y = y })) a (b - a) (λ k p q. f k p (omega arith)))
 
   at-row : (y a b : ℕ) → All P (row y a b) → (x : ℕ) → a ≤ x → x < b → P (record { x = x; y = y })
   unfolding row range
-  at-row y a b h x p q = at-counted (λ x. P (record { x = x; y = y })) a (b - a) (all-unmapped P (λ x. record { x = x; y = y }) (counted a (b - a)) h) x p (omega arith)
+  at-row y a b h x p q =
+      at-counted (λ x. P (record { x = x; y = y })) a (b - a) (all-unmapped P (λ x. record { x = x; y = y }) (counted a (b - a)) h) x p (omega arith)
 
-  all-rows : (a b : ℕ) (ys : List ℕ) → All (λ y. All P (row y a b)) ys → All P (rows a b ys)
-  unfolding rows
+  all-rows : (a b : ℕ) (ys : List ℕ) → All (λ y. All P (row y a b)) ys → All P (rowsFrom a b ys)
+  unfolding rowsFrom
   all-rows a b [] h = tt
-  all-rows a b (y ∷ ys) h = all-append P (row y a b) (rows a b ys) (h .0) (all-rows a b ys (h .1))
+  all-rows a b (y ∷ ys) h = all-append P (row y a b) (rowsFrom a b ys) (h .0) (all-rows a b ys (h .1))
 
-  at-rows : (a b : ℕ) (ys : List ℕ) → All P (rows a b ys) → All (λ y. All P (row y a b)) ys
-  unfolding rows
+  at-rows : (a b : ℕ) (ys : List ℕ) → All P (rowsFrom a b ys) → All (λ y. All P (row y a b)) ys
+  unfolding rowsFrom
   at-rows a b [] h = tt
-  at-rows a b (y ∷ ys) h = (all-left P (row y a b) (rows a b ys) h, at-rows a b ys (all-right P (row y a b) (rows a b ys) h))
+  at-rows a b (y ∷ ys) h = (all-left P (row y a b) (rowsFrom a b ys) h, at-rows a b ys (all-right P (row y a b) (rowsFrom a b ys) h))
 
   pub all-block : (a b c d : ℕ) → ((x y : ℕ) → a ≤ x → x < b → c ≤ y → y < d → P (record { x = x; y = y })) → All P (block a b c d)
   unfolding block range
-  all-block a b c d f = all-rows a b (counted c (d - c)) (all-counted (λ y. All P (row y a b)) c (d - c) (λ y p q. all-row y a b (λ x s t. f x y s t p (omega arith))))
+  all-block a b c d f =
+      all-rows a b (counted c (d - c)) (all-counted (λ y. All P (row y a b)) c (d - c) (λ y p q. all-row y a b (λ x s t. f x y s t p (omega arith))))
 
   pub at-block : (a b c d : ℕ) → All P (block a b c d) → (x y : ℕ) → a ≤ x → x < b → c ≤ y → y < d → P (record { x = x; y = y })
   unfolding block range

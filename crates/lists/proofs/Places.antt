@@ -1,5 +1,4 @@
--- Laws of scans in row order: a range, a row and a block lose their first part; `any`, `keep` and `count` go over `++`; what a scan has ahead.
--- Assumes nothing.
+-- Laws of scans in row order: a range, a row and a block lose their first part; `any`, `keep` and `count` go over `++`. Assumes nothing.
 use Prim.Native.Nat.{ℕ, zero, suc, _+_, _-_, _*_, _<_, _≤_}
 use native.Mathlib.Nat.{sub-eq-zero-of-le, mul-le-mul, mul-le-mul-right, eq-or-lt-of-le, le-of-suc-le-suc, not-suc-le-zero}
 use native.Mathlib.Numerals.{add-one}
@@ -9,10 +8,8 @@ use mathlib.Core.Logic.{⊎-elim}
 use mathlib.Core.Bool.{Bool, true, false, cond, _||_}
 use mathlib.Core.List.{List, [], _∷_, _++_}
 use lib.ListN.{length, length-append, length-map}
-use lib.Dec.{ltb}
-use borrow.Author.Tests.{lt-ltb, le-ltb, ltb-true, ltb-false}
 use Rattle.lists.specs.Tab.{tab}
-use Rattle.lists.specs.Places.{Place, counted, range, row, rows, block, any, keep, count}
+use Rattle.lists.specs.Places.{Place, counted, range, row, rowsFrom, block, any, keep, count}
 use Rattle.lists.proofs.Tests.{or-right}
 
 -- the place of a cell lies in the map
@@ -40,55 +37,21 @@ unfolding row
 row-step y a b h = rw (range-step a b h)
 
 pub block-end : (a b c d : ℕ) → d ≤ c → block a b c d ≡ []
-unfolding block rows
+unfolding block rowsFrom
 block-end a b c d h = rw (range-end c d h)
 
 pub block-step : (a b c d : ℕ) → c < d → block a b c d ≡ row c a b ++ block a b (c + 1) d
-unfolding block rows
+unfolding block rowsFrom
 block-step a b c d h = rw (range-step c d h)
 
-rows-none : (a b : ℕ) (ys : List ℕ) → b ≤ a → rows a b ys ≡ []
-unfolding rows
+rows-none : (a b : ℕ) (ys : List ℕ) → b ≤ a → rowsFrom a b ys ≡ []
+unfolding rowsFrom
 rows-none a b [] h = refl
 rows-none a b (y ∷ ys) h = rw (row-end y a b h) (rows-none a b ys h)
 
 pub block-thin : (a b c d : ℕ) → b ≤ a → block a b c d ≡ []
 unfolding block
 block-thin a b c d h = rows-none a b (range c d) h
-
--- ---- a scan by cells: what columns a to b in rows up to d have ahead at a place, the rest of its row and then the rows below
-
-unfoldable pub ahead : ℕ → ℕ → ℕ → Place → List Place
-ahead a b d p = cond (ltb (p .y) d) (row (p .y) (p .x) b ++ block a b (p .y + 1) d) []
-
-pub ahead-cell : (a b d x y : ℕ) → x < b → y < d → ahead a b d (record { x = x; y = y }) ≡ record { x = x; y = y } ∷ ahead a b d (record { x = x + 1; y = y })
-unfolding ahead
-ahead-cell a b d x y p q = rw (lt-ltb y d q, row-step y x b p)
-
-pub ahead-end : (a b d x y : ℕ) → d ≤ y → ahead a b d (record { x = x; y = y }) ≡ []
-unfolding ahead
-ahead-end a b d x y q = rw (le-ltb y d q)
-
-pub ahead-start : (a b c d : ℕ) → block a b c d ≡ ahead a b d (record { x = a; y = c })
-unfolding ahead
-ahead-start a b c d = go (ltb c d) refl
-  where
-    go : (t : Bool) → ltb c d ≡ t → block a b c d ≡ cond t (row c a b ++ block a b (c + 1) d) []
-    go true e = block-step a b c d (ltb-true c d e)
-    go false e = block-end a b c d (ltb-false c d e)
-
-pub ahead-row : (a b d x y : ℕ) → b ≤ x → y < d → ahead a b d (record { x = x; y = y }) ≡ ahead a b d (record { x = a; y = y + 1 })
-ahead-row a b d x y p q = unfold ahead in (rw (lt-ltb y d q, row-end y x b p) (ahead-start a b (y + 1) d))
-
--- what is left to pass, to find and to count, by whether the first cell ahead passes the test
-module _ (f : Place → Bool) (a b d x y : ℕ) (p : x < b) (q : y < d) where
-  pub keep-hit : f (record { x = x; y = y }) ≡ true
-      → keep f (ahead a b d (record { x = x; y = y })) ≡ record { x = x; y = y } ∷ keep f (ahead a b d (record { x = x + 1; y = y }))
-  keep-hit e = rw (ahead-cell a b d x y p q, e)
-
-  pub keep-miss : f (record { x = x; y = y }) ≡ false
-      → keep f (ahead a b d (record { x = x; y = y })) ≡ keep f (ahead a b d (record { x = x + 1; y = y }))
-  keep-miss e = rw (ahead-cell a b d x y p q, e)
 
 -- ---- two lists in a row
 
@@ -153,10 +116,10 @@ length-row : (y a b : ℕ) → length (row y a b) ≡ b - a
 unfolding row range
 length-row y a b = length-map (counted a (b - a)) (λ (x : ℕ). record { x = x; y = y }) ∙ length-counted a (b - a)
 
-length-rows : (a b : ℕ) (ys : List ℕ) → length (rows a b ys) ≡ length ys * (b - a)
-unfolding rows
+length-rows : (a b : ℕ) (ys : List ℕ) → length (rowsFrom a b ys) ≡ length ys * (b - a)
+unfolding rowsFrom
 length-rows a b [] = omega arith
-length-rows a b (y ∷ ys) = length-append (row y a b) (rows a b ys) ∙ omega (arith, length-row y a b, length-rows a b ys)
+length-rows a b (y ∷ ys) = length-append (row y a b) (rowsFrom a b ys) ∙ omega (arith, length-row y a b, length-rows a b ys)
 
 pub length-block : (a b c d : ℕ) → length (block a b c d) ≡ (d - c) * (b - a)
 unfolding block range

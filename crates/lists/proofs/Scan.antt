@@ -72,7 +72,8 @@ module _ {A : Type 0} (f : A → Bool) where
   count-every [] i d e h = absurd (not-suc-le-zero h)
   count-every (a ∷ l) i d e h = pick (f a) refl i e h (λ k. count-every l k d) (keep-le f l)
     where
-      pick : (b : Bool) → f a ≡ b → (i : ℕ) → length (cond b (a ∷ keep f l) (keep f l)) ≡ suc (length l) → i < suc (length l) → ((k : ℕ) → length (keep f l) ≡ length l → k < length l → f (getD l k d) ≡ true) → length (keep f l) ≤ length l → f (getD (a ∷ l) i d) ≡ true
+      pick : (b : Bool) → f a ≡ b → (i : ℕ) → length (cond b (a ∷ keep f l) (keep f l)) ≡ suc (length l) → i < suc (length l)
+          → ((k : ℕ) → length (keep f l) ≡ length l → k < length l → f (getD l k d) ≡ true) → length (keep f l) ≤ length l → f (getD (a ∷ l) i d) ≡ true
       pick true p zero e h r m = p
       pick true p (suc i) e h r m = r i (omega arith) (le-of-suc-le-suc h)
       pick false p i e h r m = absurd (let no : ⊥ = omega arith in no)
@@ -115,7 +116,8 @@ module _ {A B : Type 0} (f : B → Bool) (g : A → B) where
   keep-map [] = refl
   keep-map (a ∷ l) = pick (f (g a)) (keep-map l)
     where
-      pick : (b : Bool) → keep f (map g l) ≡ map g (keep (λ a. f (g a)) l) → cond b (g a ∷ keep f (map g l)) (keep f (map g l)) ≡ map g (cond b (a ∷ keep (λ a. f (g a)) l) (keep (λ a. f (g a)) l))
+      pick : (b : Bool) → keep f (map g l) ≡ map g (keep (λ a. f (g a)) l)
+          → cond b (g a ∷ keep f (map g l)) (keep f (map g l)) ≡ map g (cond b (a ∷ keep (λ a. f (g a)) l) (keep (λ a. f (g a)) l))
       pick true e = ap (λ (k : List B). g a ∷ k) e
       pick false e = e
 

@@ -105,7 +105,8 @@ module _ {A : Type 0} where
   grid-none w f d = refl
 
   -- one row more, put in the place of the next w elements
-  pub grid-put : (w j a n : ℕ) (f : ℕ → ℕ → A) (d s ys : List A) → s ≡ grid w j f ++ drop a d → a ≡ j * w → ys ≡ tab n (λ x. f x j) → n ≡ w → putMid a (a + w - a) s ys ≡ grid w (j + 1) f ++ drop (a + w) d
+  pub grid-put : (w j a n : ℕ) (f : ℕ → ℕ → A) (d s ys : List A) → s ≡ grid w j f ++ drop a d → a ≡ j * w → ys ≡ tab n (λ x. f x j) → n ≡ w
+      → putMid a (a + w - a) s ys ≡ grid w (j + 1) f ++ drop (a + w) d
   unfolding grid
   grid-put w j a n f d s ys p e q m =
       let k : a + w - a ≡ w = omega arith in
@@ -132,7 +133,8 @@ module _ {A : Type 0} (len : ℕ) (f : ℕ → A) where
       }
 
   -- a part more
-  pub prefix-put : (n k m : ℕ) (s ys : List A) → Prefix len f n s → n + k ≤ len → ys ≡ tab m (λ i. f (n + i)) → m ≡ k → Prefix len f (n + k) (putMid n (n + k - n) s ys)
+  pub prefix-put : (n k m : ℕ) (s ys : List A) → Prefix len f n s → n + k ≤ len → ys ≡ tab m (λ i. f (n + i)) → m ≡ k
+      → Prefix len f (n + k) (putMid n (n + k - n) s ys)
   prefix-put n k m s ys p h e q =
       let l : length (take n s) ≡ n = length-take-le n s (omega (arith, p .long)) in
       let ml : length ys ≡ k = ap length e ∙ length-tab m (λ i. f (n + i)) ∙ q in

@@ -1,5 +1,6 @@
--- What a buffer, a slice that the caller lends ("room" in document 01), holds after a call.
+-- What a buffer, a slice that a call borrows (RULES 1.6), holds after the call.
 use Prim.Native.Nat.{ℕ, _+_, _-_}
+use mathlib.Core.Path.{_≡_}
 use mathlib.Core.List.{List, _++_}
 use lib.ListN.{length, take, drop, replicate}
 
@@ -15,3 +16,8 @@ module _ {A : Type 0} where
   -- the first n elements, and z in every place behind them
   abbrev pub wipedFrom : ℕ → A → List A → List A
   wipedFrom n z d = take n d ++ replicate (length d - n) z
+
+-- a text written into a buffer from its first place: where it ends, and the buffer behind it as it was
+pub record Written (text buffer : List ℕ) (end : ℕ) (after : List ℕ) : Type 0 where
+  pub ends : end ≡ length text
+  pub holds : after ≡ front text buffer

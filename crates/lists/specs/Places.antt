@@ -22,13 +22,13 @@ range a b = counted a (b - a)
 unfoldable pub row : ℕ → ℕ → ℕ → List Place
 row y a b = map (λ (x : ℕ). record { x = x; y = y }) (range a b)
 
-unfoldable pub rows : ℕ → ℕ → List ℕ → List Place
-rows a b [] = []
-rows a b (y ∷ ys) = row y a b ++ rows a b ys
+unfoldable pub rowsFrom : ℕ → ℕ → List ℕ → List Place
+rowsFrom a b [] = []
+rowsFrom a b (y ∷ ys) = row y a b ++ rowsFrom a b ys
 
 -- columns a to b of rows c to d, the ends b and d left out, in row order
 unfoldable pub block : ℕ → ℕ → ℕ → ℕ → List Place
-block a b c d = rows a b (range c d)
+block a b c d = rowsFrom a b (range c d)
 
 module _ {A : Type 0} (f : A → Bool) where
   -- whether one passes the test

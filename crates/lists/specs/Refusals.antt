@@ -1,4 +1,4 @@
--- Numbered conditions of refusal, "lowest number first", an answer's values by its number, and the two conditions on every image and every map.
+-- Numbered conditions of refusal, the lowest first (RULES 2.3), an answer's values by its number, and the two conditions on every image and every map.
 use Prim.Native.Nat.{ℕ, zero, suc, _*_, _≤_}
 use mathlib.Core.Path.{_≡_}
 use mathlib.Core.Bool.{Bool, cond, not, _||_}
@@ -15,11 +15,16 @@ abbrev pub valuesUnless : {A : Type 0} → ℕ → List A → List A
 valuesUnless zero values = values
 valuesUnless (suc number) values = []
 
--- 1: "A side above 4,096"
+-- an answer with this number: the one that is due where it is 0, and the refusal where it is not
+abbrev pub unless : {A : Type 0} → (ℕ → A) → ℕ → A → A
+unless refused zero due = due
+unless refused (suc number) due = refused (suc number)
+
+-- 1: a side is above 4,096 (RULES 2.2)
 abbrev pub isLarge : ℕ → ℕ → Bool
 isLarge w h = ltb 4096 w || ltb 4096 h
 
--- 2: "A slice's length is not width × height"
+-- 2: the length of an image or a map is not width × height (RULES 2.2)
 abbrev pub isMisfit : ℕ → ℕ → ℕ → Bool
 isMisfit size w h = not (eqb size (w * h))
 

@@ -1,4 +1,4 @@
--- Document 01's case of merging, by computation: with radius 1 the corners (1 - 2^-24, 0), (2, 0) and (0, 100) all stay, though the first two
+-- The worked case of merging (RULES 14), by computation: with radius 1 the corners (1 - 2^-24, 0), (2, 0) and (0, 100) all stay, though the first two
 -- are as near as the radius: the cell numbers 0 and 2 keep them apart. By distance alone two would be left. Assumes nothing.
 use mathlib.Core.Path.{_≡_, refl}
 use mathlib.Core.Bool.{Bool, true, false, cond}
@@ -8,7 +8,7 @@ use lib.Ieee.{Float, fin, lt, le, add, sub, mul, div, toUnsigned}
 use Rattle.float32.specs.Float32.{zero}
 use Rattle.corner_list.specs.declared.Corner.{Corner}
 use Rattle.merge_radius.specs.MergeRadius.{isOff}
-use Rattle.merge_grid.specs.MergeGrid.{positionOf, gridOf, near, neighbours}
+use Rattle.merge.specs.Grid.{positionOf, gridOf, near, neighbours}
 use Rattle.merge.specs.Merge.{merged, resultOf}
 
 module _ (s t u : Float) where

@@ -13,8 +13,7 @@ use lib.Dec.{ltb}
 use borrow.Author.Count.{below-more}
 use borrow.Author.Tests.{ltb-true, ltb-false, lt-ltb, le-ltb}
 use Rattle.lists.proofs.Tests.{and-none}
-use Rattle.merge.specs.Search.{IsFirst, Lowers}
-use Rattle.merge.specs.Index.{empty, Listed}
+use Rattle.merge.specs.Internal.{IsFirst, Lowers, empty, PlaceListed}
 
 -- ---- the lower of two places, by the tests
 module _ (i low : ℕ) (t : Bool) where
@@ -37,10 +36,11 @@ module _ (f : ℕ → Bool) where
   }
 
   -- two homes, by other names
-  pub lowers-two : (table : List ℕ) (g h g′ h′ n r s : ℕ) → g ≡ g′ → h ≡ h′ → Lowers f (Listed table g) n r → Lowers f (Listed table h) r s
-      → Lowers f (λ i. Listed table g′ i ⊎ Listed table h′ i) n s
+  pub lowers-two : (table : List ℕ) (g h g′ h′ n r s : ℕ) → g ≡ g′ → h ≡ h′ → Lowers f (PlaceListed table g) n r → Lowers f (PlaceListed table h) r s
+      → Lowers f (λ i. PlaceListed table g′ i ⊎ PlaceListed table h′ i) n s
   lowers-two table g h g′ h′ n r s d e p q =
-      lowers-then (Listed table g′) (Listed table h′) n r s (subst (λ (m : ℕ). Lowers f (Listed table m) n r) d p) (subst (λ (m : ℕ). Lowers f (Listed table m) r s) e q)
+      lowers-then (PlaceListed table g′) (PlaceListed table h′) n r s (subst (λ (m : ℕ). Lowers f (PlaceListed table m) n r) d p)
+      (subst (λ (m : ℕ). Lowers f (PlaceListed table m) r s) e q)
 
   -- all that pass are looked at
   pub lowers-first : (L : ℕ → Type 0) (n r : ℕ) → Lowers f L n r → ((i : ℕ) → i < n → f i ≡ true → L i) → IsFirst f n r
@@ -87,10 +87,10 @@ module _ (f : ℕ → Bool) where
           go false b x y e = kept (λ l. absurd (let no : ⊥ = omega (arith, ltb-false i low x) in no)) e
 
       -- slot p is empty
-      pub looking-empty : getD table p 0 ≡ empty → p < length table → most ≤ empty → Lowers f (Listed table home) most low
+      pub looking-empty : getD table p 0 ≡ empty → p < length table → most ≤ empty → Lowers f (PlaceListed table home) most low
       looking-empty e h small = record { at-most = at .at-most; passes = at .passes; before = none }
         where
-          none : (i : ℕ) → i < low → Listed table home i → f i ≡ true → ⊥
+          none : (i : ℕ) → i < low → PlaceListed table home i → f i ≡ true → ⊥
           none i l d t =
               elim (decLt p (d .slot)) [
                 | yes m ↦ d .full p (at .from) m e
@@ -106,9 +106,10 @@ module _ (f : ℕ → Bool) where
               ]
 
       -- the table's end: every place is looked at
-      pub looking-end : (r : ℕ) → IsFirst f low r → Lowers f (Listed table home) most r
+      pub looking-end : (r : ℕ) → IsFirst f low r → Lowers f (PlaceListed table home) most r
       looking-end r first = record {
         at-most = omega (arith, at .at-most, first .at-most);
-        passes = ⊎-elim (λ (e : r ≡ low). subst (λ (m : ℕ). (m ≡ most) ⊎ (f m ≡ true)) (sym e) (at .passes)) (λ l. inr (first .passes l)) (eq-or-lt-of-le (first .at-most));
+        passes = ⊎-elim (λ (e : r ≡ low). subst (λ (m : ℕ). (m ≡ most) ⊎ (f m ≡ true)) (sym e) (at .passes)) (λ l. inr (first .passes l))
+            (eq-or-lt-of-le (first .at-most));
         before = λ i l d t. first .before i l t;
       }

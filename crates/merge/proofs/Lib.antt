@@ -1,3 +1,6 @@
+pub mod Judged
+pub mod Joined
+pub mod Cells
 pub mod First
 pub mod Slots
 pub mod Indexing

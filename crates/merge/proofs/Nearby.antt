@@ -8,12 +8,11 @@ use mathlib.Core.Bool.{true}
 use mathlib.Core.List.{List}
 use lib.ListN.{length}
 use lib.Ieee.{Float}
-use Rattle.merge_grid.specs.declared.Grid.{Grid}
-use Rattle.merge_grid.specs.declared.Position.{Position}
-use Rattle.merge_grid.specs.MergeGrid.{positionAt, columnOf, rowOf}
-use Rattle.merge_grid.proofs.Joined.{Beside, joined-cells}
-use Rattle.merge.specs.Search.{joinsAt}
-use Rattle.merge.specs.Index.{empty, pairOf, homeOf, Listed, Indexed}
+use Rattle.merge.specs.declared.grid.Grid.{Grid}
+use Rattle.merge.specs.declared.grid.Position.{Position}
+use Rattle.merge.specs.Grid.{positionAt, columnOf, rowOf}
+use Rattle.merge.proofs.Joined.{Beside, joined-cells}
+use Rattle.merge.specs.Internal.{joinsAt, empty, pairOf, homeOf, PlaceListed, Indexed}
 
 pairs-near : (a n : ℕ) → Beside a n → (pairOf n ≡ a / 2) ⊎ (pairOf n ≡ a / 2 + 1)
 pairs-near a n w = elim (decLt (a / 2) (pairOf n)) [ yes l ↦ inr (omega arith) | no l ↦ inl (omega arith) ]
@@ -21,7 +20,7 @@ pairs-near a n w = elim (decLt (a / 2) (pairOf n)) [ yes l ↦ inr (omega arith)
 module _ (g : Grid) (floor : ℕ) (table : List ℕ) (xs ys : List Float) (k : ℕ) (index : Indexed g floor table xs ys k) (p : Position) (x y : ℕ)
     (ex : x ≡ columnOf g p / 2) (ey : y ≡ rowOf g p / 2) where
   abbrev At : ℕ → ℕ → ℕ → Type 0
-  At u v i = Listed table (homeOf (length table) u v) i
+  At u v i = PlaceListed table (homeOf (length table) u v) i
 
   -- one of the four homes
   abbrev Near : ℕ → Type 0

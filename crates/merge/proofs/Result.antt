@@ -12,8 +12,8 @@ use Rattle.corner_list.specs.CornerList.{Slices, cornersOf, frontCorners}
 use Rattle.merge.specs.declared.Merged.{Merged}
 use Rattle.merge.specs.declared.Merged.the-variants.{Kept}
 use Rattle.merge_radius.specs.MergeRadius.{isOff}
-use Rattle.merge_refusal.specs.MergeRefusal.{refusalOf}
-use Rattle.merge_grid.specs.MergeGrid.{gridOf, joins}
+use Rattle.merge.specs.Refusals.{refusalOf}
+use Rattle.merge.specs.Grid.{gridOf, joins}
 use Rattle.merge.specs.Merge.{stronger, settle, merged, resultOf, answerOf, bufferOf, Merges}
 use Rattle.merge.proofs.Settle.{settle-one}
 
@@ -60,9 +60,10 @@ module _ (P : Corner → Type 0) where
       pick false r = r
 
 -- ---- where nothing is refused (proofs/Judged.antt) the answer is the number of corners left, which stand first in the buffer
-pub merges-done : (radius : Float) (places count : ℕ) (b b′ : Slices) (answer : Merged) (cs : List Corner) → cornersOf b count ≡ cs → refusalOf radius places count b ≡ 0 → Merges radius places count b answer b′
+pub merges-done : (radius : Float) (places count : ℕ) (b b′ : Slices) (answer : Merged) (cs : List Corner) → cornersOf b count ≡ cs
+    → refusalOf radius places count b ≡ 0 → Merges radius places count b answer b′
     → (answer ≡ Kept (length (resultOf radius cs))) × (b′ ≡ frontCorners (resultOf radius cs) b)
 merges-done radius places count b b′ answer cs is none m = (
-  m .answered ∙ ap (λ (k : ℕ). answerOf k (length (resultOf radius (cornersOf b count)))) none ∙ ap (λ (l : List Corner). Kept (length (resultOf radius l))) is,
+  m .answer ∙ ap (λ (k : ℕ). answerOf k (length (resultOf radius (cornersOf b count)))) none ∙ ap (λ (l : List Corner). Kept (length (resultOf radius l))) is,
   m .buffer ∙ ap (λ (k : ℕ). bufferOf k (resultOf radius (cornersOf b count)) b) none ∙ ap (λ (l : List Corner). frontCorners (resultOf radius l) b) is,
 )

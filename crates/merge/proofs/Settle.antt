@@ -15,8 +15,7 @@ use Rattle.corner_list.specs.declared.Corner.{Corner}
 use Rattle.corner_list.specs.CornerList.{Slices, placesOf, cornerAt, cornersOf, withCorner, frontCorners}
 use Rattle.corner_list.proofs.Corners.{with-corner-outside, corners-length, corners-at, corners-same, corners-set, corners-next}
 use Rattle.merge.specs.Merge.{stronger, settle}
-use Rattle.merge.specs.Search.{IsFirst, countWith, Settled, Takes}
-use Rattle.merge.specs.Index.{empty}
+use Rattle.merge.specs.Internal.{IsFirst, countWith, Settled, Takes, empty}
 
 -- ---- lists
 

@@ -7,7 +7,7 @@ use mathlib.Core.Logic.{inl, inr, ⊎-elim}
 use mathlib.Core.List.{List}
 use lib.ListN.{length, getD, set, length-set}
 use lib.Seq.{getD-set-same, getD-set-other, set-getD}
-use Rattle.merge.specs.Index.{empty, mixOf, homeOf, Listed, SlotFor, Lists}
+use Rattle.merge.specs.Internal.{empty, mixOf, homeOf, PlaceListed, SlotFor, ListsPlace}
 
 home-below : (slots x y : ℕ) → 0 < slots → homeOf slots x y < slots
 unfolding homeOf
@@ -23,7 +23,7 @@ module _ (table : List ℕ) (p place : ℕ) (free : getD table p 0 ≡ empty) wh
   still-full : (q : ℕ) → (getD table q 0 ≡ empty → ⊥) → getD (set table p place) q 0 ≡ getD table q 0
   still-full q h = getD-set-other table p q place 0 (λ e. h (ap (λ (n : ℕ). getD table n 0) e ∙ free))
 
-  still-listed : (h i : ℕ) → i < empty → Listed table h i → Listed (set table p place) h i
+  still-listed : (h i : ℕ) → i < empty → PlaceListed table h i → PlaceListed (set table p place) h i
   still-listed h i small d = record {
     slot = d .slot;
     from = d .from;
@@ -36,18 +36,18 @@ module _ (table : List ℕ) (p place : ℕ) (free : getD table p 0 ≡ empty) wh
   }
 
 module _ (table : List ℕ) (home place : ℕ) where
-  pub lists-none : empty ≤ place → Lists table home place table
+  pub lists-none : empty ≤ place → ListsPlace table home place table
   lists-none h = record { long = refl; listed = λ l. absurd (let no : ⊥ = omega arith in no); still = λ h i l d. d }
 
   module _ (p : ℕ) (s : SlotFor table home place p) where
-    pub lists-end : length table ≤ p → Lists table home place table
+    pub lists-end : length table ≤ p → ListsPlace table home place table
     lists-end h = record {
       long = refl;
       listed = λ l. record { slot = p; from = s .from; full = s .full; here = inl h };
       still = λ h i l d. d;
     }
 
-    pub lists-at : p < length table → Lists table home place (set table p place)
+    pub lists-at : p < length table → ListsPlace table home place (set table p place)
     lists-at h = record {
       long = length-set table p place;
       listed = λ l. record {
@@ -63,10 +63,10 @@ module _ (table : List ℕ) (home place : ℕ) where
           (λ w.
           ⊎-elim
           (λ (free : getD table p 0 ≡ empty). still-listed table p place free h′ i l d)
-          (λ (same : getD table p 0 ≡ place). subst (λ (t : List ℕ). Listed t h′ i) (sym (ap (set table p) (sym same) ∙ set-getD table p 0)) d)
+          (λ (same : getD table p 0 ≡ place). subst (λ (t : List ℕ). PlaceListed t h′ i) (sym (ap (set table p) (sym same) ∙ set-getD table p 0)) d)
           w)
           (s .here);
     }
 
-pub lists-home : (table : List ℕ) (h home place : ℕ) (table′ : List ℕ) → h ≡ home → Lists table h place table′ → Lists table home place table′
-lists-home table h home place table′ e l = subst (λ (n : ℕ). Lists table n place table′) e l
+pub lists-home : (table : List ℕ) (h home place : ℕ) (table′ : List ℕ) → h ≡ home → ListsPlace table h place table′ → ListsPlace table home place table′
+lists-home table h home place table′ e l = subst (λ (n : ℕ). ListsPlace table n place table′) e l

@@ -12,12 +12,11 @@ use Rattle.lists.specs.Tab.{tab}
 use Rattle.lists.proofs.Tab.{length-tab, tab-ext, tab-add}
 use Rattle.corner_list.specs.declared.Corner.{Corner}
 use Rattle.corner_list.specs.CornerList.{Slices, placesOf, cornerAt, cornersOf, frontCorners}
-use Rattle.corner_list.proofs.Corners.{corners-length, corners-at, corners-front, corners-same, corners-again, corners-behind}
-use Rattle.corner_list.proofs.Corners.{front-xs, front-ys, front-strengths, same-places}
+use Rattle.corner_list.proofs.Corners.{corners-length, corners-at, corners-front, corners-same, corners-again, corners-behind, front-xs}
+use Rattle.corner_list.proofs.Corners.{front-ys, front-strengths, same-places}
 use Rattle.merge.specs.declared.settling.Step.{Step}
 use Rattle.merge.specs.Merge.{settle, merged}
-use Rattle.merge.specs.Search.{Settled, Left}
-use Rattle.merge.specs.Steps.{step, start, IsStep, unsettled, Goes, Comes, Reaches}
+use Rattle.merge.specs.Internal.{Settled, Left, step, start, IsStep, unsettled, Goes, Comes, Reaches}
 use Rattle.merge.proofs.Settle.{settle-longer, settle-one}
 
 -- ---- the corners of the list that are not settled

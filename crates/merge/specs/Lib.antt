@@ -1,4 +1,4 @@
+pub mod Internal
+pub mod Refusals
+pub mod Grid
 pub mod Merge
-pub mod Search
-pub mod Index
-pub mod Steps

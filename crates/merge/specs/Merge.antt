@@ -10,8 +10,8 @@ use Rattle.lists.specs.Refusals.{valuesUnless}
 use Rattle.corner_list.specs.declared.Corner.{Corner}
 use Rattle.corner_list.specs.CornerList.{Slices, cornersOf, frontCorners}
 use Rattle.merge_radius.specs.MergeRadius.{isOff}
-unfoldable pub use Rattle.merge_refusal.specs.MergeRefusal.{refusalOf}
-use Rattle.merge_grid.specs.MergeGrid.{joins, gridOf}
+unfoldable pub use Rattle.merge.specs.Refusals.{refusalOf}
+use Rattle.merge.specs.Grid.{joins, gridOf}
 use Rattle.merge.specs.declared.Merged.{Merged}
 use Rattle.merge.specs.declared.Merged.the-variants.{Kept, Refused}
 
@@ -42,7 +42,7 @@ abbrev pub answerOf : ℕ → ℕ → Merged
 answerOf zero n = Kept n
 answerOf (suc k) n = Refused (suc k)
 
--- document 01's number and values of each case
+-- the number (RULES 2.2) and the values of each case
 abbrev pub numberOf : Merged → ℕ
 numberOf (Kept n) = 0
 numberOf (Refused k) = k
@@ -57,8 +57,8 @@ bufferOf zero left b = frontCorners left b
 bufferOf (suc k) left b = b
 
 -- What merging the first `count` corners of a buffer of so many places promises of the answer, its number and values, and the buffer after
-pub record Merges (radius : Float) (places count : ℕ) (b : Slices) (answer : Merged) (b′ : Slices) : Type 0 where
-  pub answered : answer ≡ answerOf (refusalOf radius places count b) (length (resultOf radius (cornersOf b count)))
-  pub number : numberOf answer ≡ refusalOf radius places count b
-  pub values : valuesOf answer ≡ valuesUnless (refusalOf radius places count b) (length (resultOf radius (cornersOf b count)) ∷ [])
+pub record Merges (radius : Float) (places count : ℕ) (b : Slices) (r : Merged) (b′ : Slices) : Type 0 where
+  pub answer : r ≡ answerOf (refusalOf radius places count b) (length (resultOf radius (cornersOf b count)))
+  pub number : numberOf r ≡ refusalOf radius places count b
+  pub values : valuesOf r ≡ valuesUnless (refusalOf radius places count b) (length (resultOf radius (cornersOf b count)) ∷ [])
   pub buffer : b′ ≡ bufferOf (refusalOf radius places count b) (resultOf radius (cornersOf b count)) b

@@ -9,10 +9,10 @@ ghost use mathlib.Core.Logic.{_⊎_};
 ghost use Prim.Native.Nat.{_+_, _<_, _≤_};
 ghost use lib.ListN.{length};
 ghost use lib.Dec.{leb};
-ghost use Rattle.merge_grid.specs.MergeGrid.{rowOf};
-ghost use Rattle.merge.specs.Index.{pairOf, homeOf, homeAt, SlotFor, Lists, Indexed};
-use merge_grid::Grid;
-use merge_grid::Position;
+ghost use Rattle.merge.specs.Grid.{rowOf};
+ghost use Rattle.merge.specs.Internal.{pairOf, homeOf, homeAt, SlotFor, ListsPlace, Indexed};
+use crate::grid::Grid;
+use crate::grid::Position;
 
 // What an empty slot holds.
 pub(crate) const EMPTY: u32 = 4294967295;
@@ -38,8 +38,8 @@ fn home_at(g: Grid, slots: usize, p: Position) -> usize
     requires { ⌜ 0 < slots ⌝ }
     ensures { λ r. ⌜ r ≡ homeAt g slots p ⌝ }
 {
-    let x = pair_of(merge_grid::column_of(g, p));
-    let y = pair_of(merge_grid::row_of(g, p));
+    let x = pair_of(crate::grid::column_of(g, p));
+    let y = pair_of(crate::grid::row_of(g, p));
     home_of(slots, x, y)
 }
 
@@ -63,7 +63,7 @@ fn slot_for(table: &[u32], home: usize, place: usize) -> usize
 // Lists the place of a corner that is at p, if it is one that a slot can hold.
 pub(crate) fn list_place(table: &mut [u32], g: Grid, place: usize, p: Position)
     requires { ⌜ 0 < length (now table) ⌝ }
-    ensures { λ _. ⌜ Lists (now (table .entry)) (homeAt g (length (now (table .entry))) p) place (now (table .exit)) ⌝ }
+    ensures { λ _. ⌜ ListsPlace (now (table .entry)) (homeAt g (length (now (table .entry))) p) place (now (table .exit)) ⌝ }
 {
     if place < EMPTY as usize {
         let slot = slot_for(table, home_at(g, table.len(), p), place);
@@ -91,9 +91,9 @@ fn clear(table: &mut [u32]) {
 fn list_near(table: &mut [u32], g: Grid, floor: usize, place: usize, p: Position)
     requires { ⌜ 0 < length (now table) ⌝ }
     ensures { λ _. ⌜ ((rowOf g p + 1 < floor) × (now (table .exit) ≡ now (table .entry)))
-        ⊎ Lists (now (table .entry)) (homeAt g (length (now (table .entry))) p) place (now (table .exit)) ⌝ }
+        ⊎ ListsPlace (now (table .entry)) (homeAt g (length (now (table .entry))) p) place (now (table .exit)) ⌝ }
 {
-    if reaches(floor, merge_grid::row_of(g, p)) {
+    if reaches(floor, crate::grid::row_of(g, p)) {
         list_place(table, g, place, p);
     }
 }
@@ -104,7 +104,7 @@ pub(crate) fn list_kept(xs: &[f32], ys: &[f32], table: &mut [u32], g: Grid, floo
     ensures { λ _. ⌜ Indexed g floor (now (table .exit)) (now (xs .entry)) (now (ys .entry)) k ⌝ }
 {
     for i in 0..k {
-        list_near(table, g, floor, i, merge_grid::position_at(xs, ys, i));
+        list_near(table, g, floor, i, crate::grid::position_at(xs, ys, i));
     }
 }
 
@@ -112,7 +112,7 @@ pub(crate) fn list_kept(xs: &[f32], ys: &[f32], table: &mut [u32], g: Grid, floo
 fn lowest_row(xs: &[f32], ys: &[f32], g: Grid, from: usize, n: usize) -> usize {
     let mut low = 18446744073709551615;
     for i in from..n {
-        let row = merge_grid::row_of(g, merge_grid::position_at(xs, ys, i));
+        let row = crate::grid::row_of(g, crate::grid::position_at(xs, ys, i));
         if row < low {
             low = row;
         }

@@ -2,7 +2,9 @@
 // its own by at most one each way, for the lowest place with a corner at most the radius away. It replaces that corner, in its place, if it is
 // strictly stronger, and is dropped if not; where there is none it is kept behind the others. So two corners nearer than the radius may both
 // stay, and the strongest of several need not: the grid decides who is looked at, and the list's order who is joined.
+mod grid;
 mod index;
+mod refusing;
 mod search;
 mod settling;
 
@@ -28,7 +30,7 @@ pub fn merge_within(
     ensures { λ r. ⌜ Merges radius (min places (placesOf (slices (now (xs .entry)) (now (ys .entry)) (now (strengths .entry))))) count
         (slices (now (xs .entry)) (now (ys .entry)) (now (strengths .entry))) r (slices (now (xs .exit)) (now (ys .exit)) (now (strengths .exit))) ⌝ }
 {
-    let number = merge_refusal::refusal(xs, ys, strengths, places, count, radius);
+    let number = crate::refusing::refusal(xs, ys, strengths, places, count, radius);
     if number != 0 {
         return Merged::Refused(number);
     }

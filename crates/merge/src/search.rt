@@ -6,12 +6,11 @@ ghost use Prim.Native.Nat.{_+_, _^_, _<_, _≤_};
 ghost use lib.ListN.{length};
 ghost use lib.Dec.{ltb};
 ghost use Rattle.corner_list.specs.CornerList.{slices, placesOf};
-ghost use Rattle.merge_grid.specs.MergeGrid.{joins};
-ghost use Rattle.merge.specs.Search.{joinsAt, IsFirst, Lowers, Takes};
-ghost use Rattle.merge.specs.Index.{empty, homeOf, Listed, Indexed};
+ghost use Rattle.merge.specs.Grid.{joins};
+ghost use Rattle.merge.specs.Internal.{joinsAt, IsFirst, Lowers, Takes, empty, homeOf, PlaceListed, Indexed};
+use crate::grid::Grid;
+use crate::grid::Position;
 use corner_list::Corner;
-use merge_grid::Grid;
-use merge_grid::Position;
 
 // What stands for no place: no buffer has it, and no slot holds it.
 const NOWHERE: usize = 18446744073709551615;
@@ -21,7 +20,7 @@ fn first_joined(xs: &[f32], ys: &[f32], g: Grid, k: usize, p: Position) -> usize
     ensures { λ r. ⌜ IsFirst (joinsAt g p (now (xs .entry)) (now (ys .entry))) k r ⌝ }
 {
     for i in 0..k {
-        if merge_grid::is_joined(g, p, merge_grid::position_at(xs, ys, i)) {
+        if crate::grid::is_joined(g, p, crate::grid::position_at(xs, ys, i)) {
             return i;
         }
     }
@@ -33,7 +32,7 @@ fn lower_of(xs: &[f32], ys: &[f32], g: Grid, i: usize, low: usize, p: Position) 
     ensures { λ r. ⌜ r ≡ cond (ltb i low && joinsAt g p (now (xs .entry)) (now (ys .entry)) i) i low ⌝ }
 {
     if i < low {
-        if merge_grid::is_joined(g, p, merge_grid::position_at(xs, ys, i)) {
+        if crate::grid::is_joined(g, p, crate::grid::position_at(xs, ys, i)) {
             return i;
         }
     }
@@ -51,7 +50,7 @@ fn lowest_from(
     p: Position,
 ) -> usize
     requires { ⌜ (home ≤ length (now table)) × (most ≤ empty) ⌝ }
-    ensures { λ r. ⌜ Lowers (joinsAt g p (now (xs .entry)) (now (ys .entry))) (Listed (now (table .entry)) home) most r ⌝ }
+    ensures { λ r. ⌜ Lowers (joinsAt g p (now (xs .entry)) (now (ys .entry))) (PlaceListed (now (table .entry)) home) most r ⌝ }
 {
     let mut low = most;
     for slot in home..table.len() {
@@ -77,7 +76,7 @@ fn lowest_of_two(
 ) -> usize
     requires { ⌜ (0 < length (now table)) × (most ≤ empty) × (x + 1 < 2 ^ 64) ⌝ }
     ensures { λ r. ⌜ Lowers (joinsAt g p (now (xs .entry)) (now (ys .entry)))
-        (λ i. Listed (now (table .entry)) (homeOf (length (now (table .entry))) x y) i ⊎ Listed (now (table .entry)) (homeOf (length (now (table .entry))) (x + 1) y) i) most r ⌝ }
+        (λ i. PlaceListed (now (table .entry)) (homeOf (length (now (table .entry))) x y) i ⊎ PlaceListed (now (table .entry)) (homeOf (length (now (table .entry))) (x + 1) y) i) most r ⌝ }
 {
     let slots = table.len();
     let home = crate::index::home_of(slots, x, y);
@@ -110,9 +109,9 @@ fn find_joined(
     requires { ⌜ Indexed g floor (now table) (now xs) (now ys) k ⌝ }
     ensures { λ r. ⌜ IsFirst (joinsAt g p (now (xs .entry)) (now (ys .entry))) k r ⌝ }
 {
-    let row = merge_grid::row_of(g, p);
+    let row = crate::grid::row_of(g, p);
     if index_holds(floor, row, k) {
-        let x = merge_grid::column_of(g, p) / 2;
+        let x = crate::grid::column_of(g, p) / 2;
         let y = row / 2;
         let low = lowest_of_two(xs, ys, table, g, x, y, k, p);
         return lowest_of_two(xs, ys, table, g, x, y + 1, low, p);
@@ -136,7 +135,7 @@ pub(crate) fn place_for(
     requires { ⌜ Indexed g floor (now table) (now xs) (now ys) k ⌝ }
     ensures { λ r. ⌜ Takes (joins g) k c (slices (now (xs .entry)) (now (ys .entry)) (now (strengths .entry))) r ⌝ }
 {
-    let i = find_joined(xs, ys, table, g, floor, k, merge_grid::position_of(c));
+    let i = find_joined(xs, ys, table, g, floor, k, crate::grid::position_of(c));
     if k <= i {
         return k;
     }

@@ -4,13 +4,11 @@ ghost use mathlib.Core.Path.{_≡_};
 ghost use Prim.Native.Nat.{_+_, _^_, _<_, _≤_};
 ghost use lib.ListN.{length};
 ghost use Rattle.corner_list.specs.CornerList.{slices, cornersOf, placesOf};
-ghost use Rattle.merge_grid.specs.MergeGrid.{joins};
+ghost use Rattle.merge.specs.Grid.{joins};
 ghost use Rattle.merge.specs.Merge.{resultOf};
-ghost use Rattle.merge.specs.Index.{Indexed};
-ghost use Rattle.merge.specs.Search.{countWith, Settled, Left};
-ghost use Rattle.merge.specs.Steps.{start, IsStep, Reaches};
+ghost use Rattle.merge.specs.Internal.{Indexed, countWith, Settled, Left, start, IsStep, Reaches};
+use crate::grid::Grid;
 use corner_list::Corner;
-use merge_grid::Grid;
 
 // How far merging a list has come: so many of its corners are settled, and so many of these are kept.
 struct Step {
@@ -45,7 +43,7 @@ fn settle_corner(
 {
     let at = crate::search::place_for(xs, ys, strengths, table, g, floor, k, c);
     corner_list::put_corner(xs, ys, strengths, at, c);
-    crate::index::list_place(table, g, at, merge_grid::position_of(c));
+    crate::index::list_place(table, g, at, crate::grid::position_of(c));
     count_with(k, at)
 }
 
@@ -173,7 +171,7 @@ pub(crate) fn merge_list(
     if merge_radius::is_off(radius) {
         return n;
     }
-    let g = merge_grid::grid_of(xs, ys, n, radius);
+    let g = crate::grid::grid_of(xs, ys, n, radius);
     let s = merge_up_to(xs, ys, strengths, g, n, n);
     s.kept
 }

@@ -5,7 +5,7 @@ use lib.Ieee.{Float, fin, le}
 use lib.Ieee.Scale.{finite}
 use Rattle.float32.specs.Float32.{zero, between}
 
--- "an off radius (not finite or ≤ 0)"
+-- off: not finite, or at most 0 (RULES 8.1)
 unfoldable pub isOff : Float → Bool
 isOff radius = not (finite radius) || le radius zero
 
@@ -13,6 +13,6 @@ isOff radius = not (finite radius) || le radius zero
 unfoldable pub isSized : Float → Bool
 isSized radius = between (fin false 1 (negsuc 5)) (fin false 1 (pos 12)) radius
 
--- 5: "Merge radius finite, positive, outside 1/64..4,096"
+-- 5: the radius is finite, above 0 and outside 1/64..4,096 (RULES 2.2)
 abbrev pub radiusOutside : Float → Bool
 radiusOutside radius = not (isOff radius) && not (isSized radius)

@@ -14,7 +14,7 @@ use Rattle.corner_list.specs.CornerList.{Slices, slices, xOf, yOf, strengthOf, 
 use Rattle.corner_list.proofs.Corners.{slices-alike, corners-length, corners-at}
 use Rattle.merge.specs.declared.Merged.{Merged}
 use Rattle.merge.specs.Merge.{resultOf, refusalOf, answerOf, bufferOf, Merges}
-use Rattle.merge_refusal.proofs.Judged.{judged-fits}
+use Rattle.merge.proofs.Judged.{judged-fits}
 use Rattle.merge_slice.specs.MergeSlice.{sharedPlaces, refusalFor, cornersAfter, MergesSlice}
 use Rattle.merge_slice.proofs.Turns.{nowhere, take-counted}
 
@@ -83,7 +83,7 @@ module _ (radius : Float) (count : ℕ) (cs : List Corner) where
       → MergesSlice radius count cs scratch answer cs′ scratch′ → Merges radius (placesOf (columns cs)) count (columns cs) answer (columns cs′)
   as-core scratch scratch′ answer cs′ h m =
       let same = same-number scratch h in record {
-        answered = m .answered ∙ ap (λ (k : ℕ). answerOf k (length left)) same ∙ same-answer number refl;
+        answer = m .answer ∙ ap (λ (k : ℕ). answerOf k (length left)) same ∙ same-answer number refl;
         number = m .number ∙ same;
         values = m .values ∙ ap (λ (k : ℕ). valuesUnless k (length left ∷ [])) same ∙ same-values number refl;
         buffer = ap columns (m .corners ∙ ap (λ (k : ℕ). cornersAfter k left cs) same) ∙ same-buffer number refl;

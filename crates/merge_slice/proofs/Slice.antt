@@ -22,8 +22,8 @@ use Rattle.corner_list.specs.CornerList.{Slices, xOf, yOf, strengthOf, placesOf
 use Rattle.corner_list.proofs.Corners.{slices-alike, same-places, corners-length, corners-front, corners-same, corners-again}
 use Rattle.corner_list.proofs.Corners.{front-xs, front-ys, front-strengths}
 use Rattle.merge_radius.specs.MergeRadius.{isOff, radiusOutside}
-use Rattle.merge_refusal.specs.MergeRefusal.{isOutside}
-use Rattle.merge_refusal.proofs.Judged.{judged-fits}
+use Rattle.merge.specs.Refusals.{isOutside}
+use Rattle.merge.proofs.Judged.{judged-fits}
 use Rattle.merge.specs.declared.Merged.{Merged}
 use Rattle.merge.specs.declared.Merged.the-variants.{Refused}
 use Rattle.merge.specs.Merge.{resultOf, refusalOf, answerOf, numberOf, valuesOf, bufferOf, Merges}
@@ -199,7 +199,7 @@ module _ (radius : Float) (count : ℕ) (cs : List Corner) (scratch : Slices) (n
       → r ≡ cond (not (isOff radius) && o) (Refused 4) core-answer
       → MergesSlice radius count cs scratch r cs₂ b₃
   slice-merged o cs₁ b₁ b₂ core-answer cs₂ b₃ r d e m f g = record {
-    answered = answered;
+    answer = answered;
     number = ap numberOf answered ∙ numbered number (length left);
     values = ap valuesOf answered ∙ values-are number (length left);
     corners = corners;
@@ -212,7 +212,7 @@ module _ (radius : Float) (count : ℕ) (cs : List Corner) (scratch : Slices) (n
           (subst (λ (b : Slices). Merges radius (min n (placesOf b)) count b core-answer b₂) (e .1) m)
 
       answered : r ≡ answerOf number (length left)
-      answered = g ∙ ap₂ (λ (t : Bool) (a : Merged). cond (not (isOff radius) && t) (Refused 4) a) d (own .answered) ∙ answer-judged outside refl
+      answered = g ∙ ap₂ (λ (t : Bool) (a : Merged). cond (not (isOff radius) && t) (Refused 4) a) d (own .answer) ∙ answer-judged outside refl
 
       buffer : b₂ ≡ frontCorners (after number) scratch
       buffer = own .buffer ∙ buffer-judged outside refl

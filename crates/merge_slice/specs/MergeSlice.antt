@@ -1,4 +1,4 @@
--- Merging corners that lie in one slice (document 01's second merge entry), by the definitions of merging in three.
+-- Merging corners that lie in one slice (RULES 8.6), by the definitions of merging in three.
 use Prim.Native.Nat.{ℕ, zero, suc, min}
 use mathlib.Core.Path.{_≡_}
 use mathlib.Core.Bool.{not, _&&_}
@@ -12,7 +12,7 @@ use Rattle.lists.specs.Refusals.{lowest, valuesUnless}
 use Rattle.corner_list.specs.declared.Corner.{Corner}
 use Rattle.corner_list.specs.CornerList.{Slices, placesOf}
 use Rattle.merge_radius.specs.MergeRadius.{isOff, radiusOutside}
-use Rattle.merge_refusal.specs.MergeRefusal.{isOutside}
+use Rattle.merge.specs.Refusals.{isOutside}
 use Rattle.merge.specs.declared.Merged.{Merged}
 use Rattle.merge.specs.Merge.{resultOf, answerOf, numberOf, valuesOf}
 
@@ -20,7 +20,7 @@ use Rattle.merge.specs.Merge.{resultOf, answerOf, numberOf, valuesOf}
 abbrev pub sharedPlaces : List Corner → Slices → ℕ
 sharedPlaces cs scratch = min (length cs) (placesOf scratch)
 
--- Document 01's number, 0 for none, of merging the first `count` corners of a slice:
+-- The number (RULES 8.6), 0 for none, of merging the first `count` corners of a slice:
 -- 4: a coordinate of the counted corners that the slice has is not finite or outside 0..4,096
 -- 5: the radius is outside 1/64..4,096
 -- 10: the slice of corners, or the scratch, has fewer places than the stated count
@@ -39,9 +39,9 @@ cornersAfter zero left cs = front left cs
 cornersAfter (suc k) left cs = cs
 
 -- What merging the first `count` corners of a slice promises of the answer, its number and values, of the corners after and of the scratch after
-pub record MergesSlice (radius : Float) (count : ℕ) (cs : List Corner) (scratch : Slices) (answer : Merged) (cs′ : List Corner) (scratch′ : Slices) : Type 0 where
-  pub answered : answer ≡ answerOf (refusalFor radius count cs scratch) (length (resultOf radius (take count cs)))
-  pub number : numberOf answer ≡ refusalFor radius count cs scratch
-  pub values : valuesOf answer ≡ valuesUnless (refusalFor radius count cs scratch) (length (resultOf radius (take count cs)) ∷ [])
+pub record MergesSlice (radius : Float) (count : ℕ) (cs : List Corner) (scratch : Slices) (r : Merged) (cs′ : List Corner) (scratch′ : Slices) : Type 0 where
+  pub answer : r ≡ answerOf (refusalFor radius count cs scratch) (length (resultOf radius (take count cs)))
+  pub number : numberOf r ≡ refusalFor radius count cs scratch
+  pub values : valuesOf r ≡ valuesUnless (refusalFor radius count cs scratch) (length (resultOf radius (take count cs)) ∷ [])
   pub corners : cs′ ≡ cornersAfter (refusalFor radius count cs scratch) (resultOf radius (take count cs)) cs
   pub given-back : scratch′ ≡ scratch

@@ -79,7 +79,8 @@ module _ (b r c : ℕ) where
   in-order side h k = omega arith
 
 -- ---- about a seed's centre; n is the scale
-module _ (c : RoiContext) (side : ℕ) (x : Float) (n : ℕ) (e : n ≡ 2 ^ c .level) (o : Rounded) (f : o ≡ roundHalfAway (mul binary32 x (ofInt binary32 (pos n)))) where
+module _ (c : RoiContext) (side : ℕ) (x : Float) (n : ℕ) (e : n ≡ 2 ^ c .level) (o : Rounded)
+    (f : o ≡ roundHalfAway (mul binary32 x (ofInt binary32 (pos n)))) where
   centred : o ≡ centreOf (c .level) x
   unfolding centreOf
   centred = rw e at f

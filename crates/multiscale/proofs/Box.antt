@@ -1,9 +1,11 @@
--- What a caller has of the answer: a box lies between the image's borders and is wider than two of them, and a sound context refuses no seed that is inside. Assumes nothing.
+-- What a caller has of the answer: a box lies between the image's borders and is wider than two of them, and a sound context refuses no
+-- seed that is inside. Assumes nothing.
 use mathlib.Core.Path.{_≡_, sym, _∙_}
 use mathlib.Core.Bool.{true}
 use Prim.Native.Nat.{ℕ, zero, suc, _≤_, _<_}
 use native.Mathlib.Omega.{arith}
 use lib.Ieee.{Float}
+use Rattle.lists.specs.Refusals.{unless}
 use Rattle.float32.specs.declared.Rounded.{Rounded}
 use Rattle.float32.specs.declared.Rounded.the-variants.{Natural, Negative, Beyond}
 use Rattle.corner_list.specs.CornerList.{isInside}
@@ -12,8 +14,8 @@ use Rattle.multiscale.specs.declared.RoiContext.{RoiContext}
 use Rattle.multiscale.specs.declared.RoiAnswer.the-variants.{Bounds, Refused}
 use Rattle.multiscale.specs.declared.Span.{Span}
 use Rattle.multiscale.specs.declared.Span.the-variants.{Ends, Nothing}
-use Rattle.multiscale.specs.Multiscale.{refusal, border, roiRadius, centreOf, spanAt, spanOn, bounds, unless, roiOf}
-use Rattle.multiscale.specs.Promise.{Sound}
+use Rattle.multiscale.specs.Multiscale.{refusalOf, border, roiRadius, centreOf, spanAt, spanOn, bounds, roiOf}
+use Rattle.multiscale.specs.Internal.{SoundContext}
 use Rattle.multiscale.proofs.Axis.{Between, ends-between}
 use Rattle.multiscale.proofs.Contexts.{never-refused}
 
@@ -43,9 +45,10 @@ module _ (c : RoiContext) (s : Corner) where
   module _ (x0 y0 x1 y1 : ℕ) (e : roiOf c s ≡ Bounds x0 y0 x1 y1) where
     pub box-between : Between (border c) (c .width) x0 x1 × Between (border c) (c .height) y0 y1
     unfolding roiOf
-    box-between = go (refusal c s) e
+    box-between = go (refusalOf c s) e
       where
-        go : (k : ℕ) → unless k (bounds (spanOn c (c .width) (s .x)) (spanOn c (c .height) (s .y))) ≡ Bounds x0 y0 x1 y1 → Between (border c) (c .width) x0 x1 × Between (border c) (c .height) y0 y1
+        go : (k : ℕ) → unless Refused k (bounds (spanOn c (c .width) (s .x)) (spanOn c (c .height) (s .y))) ≡ Bounds x0 y0 x1 y1
+            → Between (border c) (c .width) x0 x1 × Between (border c) (c .height) y0 y1
         go zero e =
             let b = bounds-are (spanOn c (c .width) (s .x)) (spanOn c (c .height) (s .y)) x0 y0 x1 y1 e in
             (span-between c (c .width) (s .x) x0 x1 (b .0), span-between c (c .height) (s .y) y0 y1 (b .1))
@@ -56,7 +59,7 @@ module _ (c : RoiContext) (s : Corner) where
     box-inside = let b = box-between in (omega arith, omega arith, omega arith, omega arith)
 
   -- ---- no refusal
-  module _ (k : Sound c) (i : isInside s ≡ true) where
+  module _ (k : SoundContext c) (i : isInside s ≡ true) where
     pub answered : roiOf c s ≡ bounds (spanOn c (c .width) (s .x)) (spanOn c (c .height) (s .y))
     unfolding roiOf
     answered = rw (never-refused c s k i)
@@ -67,8 +70,8 @@ module _ (c : RoiContext) (s : Corner) where
   -- a refusal has a number
   pub refused-numbered : (n : ℕ) → roiOf c s ≡ Refused n → 0 < n
   unfolding roiOf
-  refused-numbered n e = go (refusal c s) e
+  refused-numbered n e = go (refusalOf c s) e
     where
-      go : (k : ℕ) → unless k (bounds (spanOn c (c .width) (s .x)) (spanOn c (c .height) (s .y))) ≡ Refused n → 0 < n
+      go : (k : ℕ) → unless Refused k (bounds (spanOn c (c .width) (s .x)) (spanOn c (c .height) (s .y))) ≡ Refused n → 0 < n
       go zero e = absurd (bounds-unrefused (spanOn c (c .width) (s .x)) (spanOn c (c .height) (s .y)) n e)
       go (suc k) e = let z : suc k ≡ n = cc in omega arith

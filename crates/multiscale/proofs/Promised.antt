@@ -1,14 +1,14 @@
 -- What `compute_roi` promises, by the way that it goes: refused, no box, or a box. Assumes nothing.
 use mathlib.Core.Path.{_≡_, refl, sym, ap, _∙_}
 use Prim.Native.Nat.{ℕ, zero, suc}
-use Rattle.lists.specs.Refusals.{valuesUnless}
+use Rattle.lists.specs.Refusals.{unless, valuesUnless}
 use Rattle.corner_list.specs.declared.Corner.{Corner}
 use Rattle.multiscale.specs.declared.RoiContext.{RoiContext}
 use Rattle.multiscale.specs.declared.RoiAnswer.{RoiAnswer}
 use Rattle.multiscale.specs.declared.RoiAnswer.the-variants.{Bounds, NoRoi, Refused}
 use Rattle.multiscale.specs.declared.Span.{Span}
 use Rattle.multiscale.specs.declared.Span.the-variants.{Ends, Nothing}
-use Rattle.multiscale.specs.Multiscale.{refusal, spanOn, bounds, unless, roiOf, numberOf, valuesOf, endsOf}
+use Rattle.multiscale.specs.Multiscale.{refusalOf, spanOn, bounds, roiOf, numberOf, valuesOf, endsOf}
 use Rattle.multiscale.specs.Promise.{Boxed}
 
 bounds-number : (s t : Span) → numberOf (bounds s t) ≡ 0
@@ -22,19 +22,19 @@ bounds-values (Ends x0 x1) Nothing = refl
 bounds-values Nothing t = refl
 
 module _ (c : RoiContext) (s : Corner) where
-  number-is : numberOf (roiOf c s) ≡ refusal c s
+  number-is : numberOf (roiOf c s) ≡ refusalOf c s
   unfolding roiOf
-  number-is = go (refusal c s)
+  number-is = go (refusalOf c s)
     where
-      go : (k : ℕ) → numberOf (unless k (bounds (spanOn c (c .width) (s .x)) (spanOn c (c .height) (s .y)))) ≡ k
+      go : (k : ℕ) → numberOf (unless Refused k (bounds (spanOn c (c .width) (s .x)) (spanOn c (c .height) (s .y)))) ≡ k
       go zero = bounds-number (spanOn c (c .width) (s .x)) (spanOn c (c .height) (s .y))
       go (suc k) = refl
 
-  values-are : valuesOf (roiOf c s) ≡ valuesUnless (refusal c s) (endsOf (spanOn c (c .width) (s .x)) (spanOn c (c .height) (s .y)))
+  values-are : valuesOf (roiOf c s) ≡ valuesUnless (refusalOf c s) (endsOf (spanOn c (c .width) (s .x)) (spanOn c (c .height) (s .y)))
   unfolding roiOf
-  values-are = go (refusal c s)
+  values-are = go (refusalOf c s)
     where
-      go : (k : ℕ) → valuesOf (unless k (bounds (spanOn c (c .width) (s .x)) (spanOn c (c .height) (s .y))))
+      go : (k : ℕ) → valuesOf (unless Refused k (bounds (spanOn c (c .width) (s .x)) (spanOn c (c .height) (s .y))))
           ≡ valuesUnless k (endsOf (spanOn c (c .width) (s .x)) (spanOn c (c .height) (s .y)))
       go zero = bounds-values (spanOn c (c .width) (s .x)) (spanOn c (c .height) (s .y))
       go (suc k) = refl
@@ -43,12 +43,12 @@ module _ (c : RoiContext) (s : Corner) where
   promised a e = record { answer = e; number = ap numberOf e ∙ number-is; values = ap valuesOf e ∙ values-are }
 
   -- n is the number of the refusal
-  module _ (n : ℕ) (e : n ≡ refusal c s) where
+  module _ (n : ℕ) (e : n ≡ refusalOf c s) where
     pub refused : (n ≡ 0 → ⊥) → Boxed c s (Refused n)
     unfolding roiOf
-    refused k = promised (Refused n) (ap Refused e ∙ go (refusal c s) (λ z. k (e ∙ z)))
+    refused k = promised (Refused n) (ap Refused e ∙ go (refusalOf c s) (λ z. k (e ∙ z)))
       where
-        go : (k : ℕ) → (k ≡ 0 → ⊥) → Refused k ≡ unless k (bounds (spanOn c (c .width) (s .x)) (spanOn c (c .height) (s .y)))
+        go : (k : ℕ) → (k ≡ 0 → ⊥) → Refused k ≡ unless Refused k (bounds (spanOn c (c .width) (s .x)) (spanOn c (c .height) (s .y)))
         go zero z = absurd (z refl)
         go (suc k) z = refl
 

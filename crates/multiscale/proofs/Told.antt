@@ -8,13 +8,13 @@ use Rattle.corner_list.specs.declared.Corner.{Corner}
 use Rattle.multiscale.specs.declared.RoiContext.{RoiContext}
 use Rattle.multiscale.specs.declared.RoiAnswer.the-variants.{Bounds, NoRoi}
 use Rattle.multiscale.specs.declared.Span.the-variants.{Ends, Nothing}
-use Rattle.multiscale.specs.Multiscale.{refusal, border, roiRadius, centreOf, lowEnd, highEnd, spanAbout, spanOn, bounds, roiOf}
+use Rattle.multiscale.specs.Multiscale.{refusalOf, border, roiRadius, centreOf, lowEnd, highEnd, spanAbout, spanOn, bounds, roiOf}
 
 -- nothing about a centre p on one axis
 abbrev pub isOff : ℕ → ℕ → ℕ → ℕ → Bool
 isOff b r side p = ltb p (b + 1) || (leb (side - (b + 1)) p || leb (highEnd b r side p - lowEnd b r p) (2 * b))
 
-pub roi-told : (c : RoiContext) (s : Corner) (p q : ℕ) → refusal c s ≡ 0 → centreOf (c .level) (s .x) ≡ Natural p → centreOf (c .level) (s .y) ≡ Natural q
+pub roi-told : (c : RoiContext) (s : Corner) (p q : ℕ) → refusalOf c s ≡ 0 → centreOf (c .level) (s .x) ≡ Natural p → centreOf (c .level) (s .y) ≡ Natural q
     → let b = border c in
     let r = roiRadius c in
     roiOf c s

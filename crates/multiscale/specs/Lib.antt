@@ -1,2 +1,3 @@
 pub mod Multiscale
 pub mod Promise
+pub mod Internal

@@ -3,10 +3,9 @@ use Prim.Native.Nat.{ℕ, zero, suc, _+_, _-_, _*_, _^_, min, max}
 use mathlib.Core.Bool.{Bool, cond, not, _&&_, _||_}
 use mathlib.Core.List.{List, [], _∷_}
 use lib.Dec.{leb, ltb}
-use lib.IntN.{pos}
-use lib.Ieee.{Float, binary32, mul, ofInt}
-use Rattle.lists.specs.Refusals.{lowest, isLarge}
-use Rattle.float32.specs.Float32.{roundHalfAway}
+use lib.Ieee.{Float, binary32, mul}
+use Rattle.lists.specs.Refusals.{unless, lowest, isLarge}
+use Rattle.float32.specs.Float32.{roundHalfAway, floatOf}
 use Rattle.float32.specs.declared.Rounded.{Rounded}
 use Rattle.float32.specs.declared.Rounded.the-variants.{Natural, Negative, Beyond}
 use Rattle.ring.specs.Ring.{isRing}
@@ -21,7 +20,7 @@ use Rattle.multiscale.specs.declared.Span.the-variants.{Ends, Nothing}
 -- ---- refusals
 -- window and centroid radius at most 16, search radius at most 255, level at most 12, and a ring of 5 or 10
 unfoldable pub parametersFit : RoiContext → Bool
-parametersFit c = leb (c .window) 16 && (leb (c .centroid) 16 && (leb (c .search) 255 && (leb (c .level) 12 && isRing (c .ring))))
+parametersFit c = leb (c .window) 16 && (leb (c .«centroid_radius») 16 && (leb (c .«search_radius») 255 && (leb (c .level) 12 && isRing (c .ring))))
 
 -- the conditions and their numbers
 abbrev pub conditions : RoiContext → Corner → List (Bool × ℕ)
@@ -32,24 +31,24 @@ conditions c s =
     ∷ []
 
 -- the lowest number, 0 for none
-unfoldable pub refusal : RoiContext → Corner → ℕ
+unfoldable pub refusalOf : RoiContext → Corner → ℕ
 unfolding parametersFit isInside
-refusal c s = lowest (conditions c s)
+refusalOf c s = lowest (conditions c s)
 
 -- ---- the sizes
 -- as far as ring, window and centroid reach
 abbrev pub border : RoiContext → ℕ
-border c = c .ring + c .window + c .centroid
+border c = c .ring + c .window + c .«centroid_radius»
 
 -- the box's radius: the search radius in the base's pixels, and at least two more than the border
 unfoldable pub roiRadius : RoiContext → ℕ
-roiRadius c = max (c .search * 2 ^ c .level) (border c + 2)
+roiRadius c = max (c .«search_radius» * 2 ^ c .level) (border c + 2)
 
 -- ---- one axis
 -- a seed's coordinate in the base, rounded half away from zero
 unfoldable pub centreOf : ℕ → Float → Rounded
 unfolding roundHalfAway
-centreOf level x = roundHalfAway (mul binary32 x (ofInt binary32 (pos (2 ^ level))))
+centreOf level x = roundHalfAway (mul binary32 x (floatOf (2 ^ level)))
 
 -- r pixels both ways of a centre c, clipped to the border b
 abbrev pub lowEnd : ℕ → ℕ → ℕ → ℕ
@@ -78,15 +77,11 @@ bounds (Ends x0 x1) (Ends y0 y1) = Bounds x0 y0 x1 y1
 bounds (Ends x0 x1) Nothing = NoRoi
 bounds Nothing v = NoRoi
 
-abbrev pub unless : ℕ → RoiAnswer → RoiAnswer
-unless zero a = a
-unless (suc n) a = Refused (suc n)
-
 unfoldable pub roiOf : RoiContext → Corner → RoiAnswer
-unfolding refusal spanOn
-roiOf c s = unless (refusal c s) (bounds (spanOn c (c .width) (s .x)) (spanOn c (c .height) (s .y)))
+unfolding refusalOf spanOn
+roiOf c s = unless Refused (refusalOf c s) (bounds (spanOn c (c .width) (s .x)) (spanOn c (c .height) (s .y)))
 
--- ---- document 01's number and values of each case: 0 for no refusal, and the box's ends, none where there is no box
+-- ---- the number and the values of each case (RULES 7.3): 0 for no refusal, and the box's ends, none where there is no box
 abbrev pub numberOf : RoiAnswer → ℕ
 numberOf (Bounds x0 y0 x1 y1) = 0
 numberOf NoRoi = 0

@@ -1,8 +1,9 @@
 // The box of the base image in which a corner of a coarser level, the seed, is looked for again: its region of interest (ROI).
 ghost use mathlib.Core.Path.{_≡_};
 ghost use Prim.Native.Nat.{_≤_};
-ghost use Rattle.multiscale.specs.Multiscale.{parametersFit, refusal as refusalOf, border as borderOf, roiRadius, spanAbout, spanOn};
-ghost use Rattle.multiscale.specs.Promise.{Sound, Boxed};
+ghost use Rattle.multiscale.specs.Multiscale.{parametersFit, refusalOf, border as borderOf, roiRadius, spanAbout, spanOn};
+ghost use Rattle.multiscale.specs.Promise.{Boxed};
+ghost use Rattle.multiscale.specs.Internal.{SoundContext};
 use corner_list::Corner;
 
 // The base's sides, the radii of ring, window, centroid and search, and the number of the seed's level.
@@ -11,8 +12,8 @@ pub struct RoiContext {
     pub height: usize,
     pub ring: u32,
     pub window: u32,
-    pub centroid: u32,
-    pub search: u32,
+    pub centroid_radius: u32,
+    pub search_radius: u32,
     pub level: u32,
 }
 
@@ -62,10 +63,10 @@ impl RoiContext {
         if 16 < self.window {
             return false;
         }
-        if 16 < self.centroid {
+        if 16 < self.centroid_radius {
             return false;
         }
-        if 255 < self.search {
+        if 255 < self.search_radius {
             return false;
         }
         if 12 < self.level {
@@ -78,10 +79,7 @@ impl RoiContext {
     fn refusal(self, c: Corner) -> u8
         ensures { λ r. ⌜ r ≡ refusalOf self c ⌝ }
     {
-        if 4096 < self.width {
-            return 1;
-        }
-        if 4096 < self.height {
+        if image_size::is_large(self.width, self.height) {
             return 1;
         }
         if self.parameters_fit() {
@@ -94,25 +92,25 @@ impl RoiContext {
     }
 
     fn border(self) -> usize
-        requires { ⌜ Sound self ⌝ }
+        requires { ⌜ SoundContext self ⌝ }
         ensures { λ r. ⌜ r ≡ borderOf self ⌝ }
     {
-        (self.ring + self.window + self.centroid) as usize
+        (self.ring + self.window + self.centroid_radius) as usize
     }
 
     // The box's radius about its centre.
     fn roi_radius(self) -> usize
-        requires { ⌜ Sound self ⌝ }
+        requires { ⌜ SoundContext self ⌝ }
         ensures { λ r. ⌜ r ≡ roiRadius self ⌝ }
     {
         let least = self.border() + 2;
-        let search = (self.search << self.level) as usize;
+        let search = (self.search_radius << self.level) as usize;
         if search < least { least } else { search }
     }
 
     // The box's ends on the axis of a side, for a seed's coordinate.
     fn span_on(self, side: usize, x: f32) -> Span
-        requires { ⌜ Sound self × (side ≤ 4096) ⌝ }
+        requires { ⌜ SoundContext self × (side ≤ 4096) ⌝ }
         ensures { λ s. ⌜ s ≡ spanOn self side x ⌝ }
     {
         let scale = (1u32 << self.level) as f32;

@@ -11,55 +11,59 @@ use Rattle.corner_list.specs.declared.Corner.{Corner}
 use Rattle.corner_list.specs.CornerList.{Slices, placesOf}
 use Rattle.detect.specs.declared.Peaks.{Peaks}
 use Rattle.detect.specs.declared.Peaks.the-variants.{Added, Refused}
-use Rattle.detect.specs.Detect.{refusalOf, answerOf, bufferOf, Found}
+use Rattle.detect.specs.Detect.{refusalOf, answerOf, bufferOf, PeaksAdded}
 use Rattle.detect.proofs.Answers.{Clear, Fitted, found-by, unrefused, added-tells}
-use Rattle.patch_corners.specs.Needs.{Changed}
+use Rattle.patch_corners.specs.Internal.{Changed}
 use Rattle.patch_corners.proofs.Changing.{changed-fits, changed-placed}
 
 -- an answer is one of the two
-pub both : {n k : ℕ} {A : Type 0} → Added n ≡ Refused k → A
+pub both : {n t k : ℕ} {A : Type 0} → Added n t ≡ Refused k → A
 both e = let z : _≡_ {A = ℕ} 0 1 = cc in absurd (omega arith)
 
-module _ (f : Corner → Corner) (conds : List (Bool × ℕ)) (cs : List Corner) (held : ℕ) (b : Slices) (answer : Peaks) (b′ : Slices) (found : Found conds cs held b answer b′) where
-  found-map : (b″ : Slices) → b″ ≡ bufferOf (refusalOf conds (placesOf b) held (length cs)) held (map f cs) b → Found conds (map f cs) held b answer b″
+module _ (f : Corner → Corner) (conds : List (Bool × ℕ)) (cs : List Corner) (ties held : ℕ) (b : Slices) (answer : Peaks) (b′ : Slices)
+    (found : PeaksAdded conds cs ties held b answer b′) where
+  found-map : (b″ : Slices) → b″ ≡ bufferOf (refusalOf conds (placesOf b) held (length cs)) held (map f cs) b
+      → PeaksAdded conds (map f cs) ties held b answer b″
   found-map b″ e =
       let n = length-map cs f in
-      found-by conds (map f cs) held b (refusalOf conds (placesOf b) held (length cs)) (ap (refusalOf conds (placesOf b) held) n)
-      answer b″ (rw n (found .answered)) e
+      found-by conds (map f cs) ties held b (refusalOf conds (placesOf b) held (length cs)) (ap (refusalOf conds (placesOf b) held) n)
+      answer b″ (rw n (found .answer)) e
 
   -- refused: the buffer is as it was, whatever the list
-  pub found-not : (k : ℕ) → answer ≡ Refused k → Found conds (map f cs) held b answer b′
-  found-not k e = found-map b′ (found .buffer ∙ kept (refusalOf conds (placesOf b) held (length cs)) (sym (found .answered) ∙ e))
+  pub found-not : (k : ℕ) → answer ≡ Refused k → PeaksAdded conds (map f cs) ties held b answer b′
+  found-not k e = found-map b′ (found .buffer ∙ kept (refusalOf conds (placesOf b) held (length cs)) (sym (found .answer) ∙ e))
     where
-      kept : (r : ℕ) → answerOf r (length cs) ≡ Refused k → bufferOf r held cs b ≡ bufferOf r held (map f cs) b
+      kept : (r : ℕ) → answerOf r (length cs) ties ≡ Refused k → bufferOf r held cs b ≡ bufferOf r held (map f cs) b
       kept zero z = both z
       kept (suc j) z = refl
 
   -- added, and replaced in their places
-  module _ (clear : lowest conds ≡ 0 → Clear conds) (n : ℕ) (e : answer ≡ Added n) where
-    fitted : Fitted cs held b n b′
+  module _ (clear : lowest conds ≡ 0 → Clear conds) (n t : ℕ) (e : answer ≡ Added n t) where
+    fitted : Fitted cs ties held b n t b′
     fitted =
-        added-tells conds (clear (unrefused conds cs held b n b′ (subst (λ (r : Peaks). Found conds cs held b r b′) e found))) cs held b answer b′ found n e
+        added-tells conds (clear (unrefused conds cs ties held b n t b′ (subst (λ (r : Peaks). PeaksAdded conds cs ties held b r b′) e found))) cs ties
+        held b answer b′ found n t e
 
     pub found-fits : held + n ≤ placesOf b′
     found-fits = changed-fits f cs held b b′ n (fitted .count) (fitted .fits) (fitted .buffer)
 
-    pub found-changed : (b″ : Slices) → Changed f held n b′ b″ → Found conds (map f cs) held b (Added n) b″
+    pub found-changed : (b″ : Slices) → Changed f held n b′ b″ → PeaksAdded conds (map f cs) ties held b (Added n t) b″
     found-changed b″ c =
-        subst (λ (r : Peaks). Found conds (map f cs) held b r b″) e
+        subst (λ (r : Peaks). PeaksAdded conds (map f cs) ties held b r b″) e
         (found-map b″
-        (changed-placed f cs held b b′ n (fitted .count) (fitted .fits) (fitted .buffer) b″ c ∙ of (refusalOf conds (placesOf b) held (length cs)) (sym (found .answered) ∙ e)))
+        (changed-placed f cs held b b′ n (fitted .count) (fitted .fits) (fitted .buffer) b″ c
+        ∙ of (refusalOf conds (placesOf b) held (length cs)) (sym (found .answer) ∙ e)))
       where
-        of : (r : ℕ) → answerOf r (length cs) ≡ Added n → bufferOf 0 held (map f cs) b ≡ bufferOf r held (map f cs) b
+        of : (r : ℕ) → answerOf r (length cs) ties ≡ Added n t → bufferOf 0 held (map f cs) b ≡ bufferOf r held (map f cs) b
         of zero z = refl
         of (suc j) z = both (sym z)
 
 -- the same list under other conditions, where none of either holds
-pub found-to : (conds conds′ : List (Bool × ℕ)) → Clear conds → Clear conds′ → (cs cs′ : List Corner) → cs ≡ cs′ → (held : ℕ) (b : Slices) (answer : Peaks) (b′ : Slices)
-    → Found conds cs held b answer b′ → Found conds′ cs′ held b answer b′
-found-to conds conds′ c c′ cs cs′ e held b answer b′ found =
-    subst (λ (l : List Corner). Found conds′ l held b answer b′) e
-    (found-by conds′ cs held b (refusalOf conds (placesOf b) held (length cs)) same answer b′ (found .answered) (found .buffer))
+pub found-to : (conds conds′ : List (Bool × ℕ)) → Clear conds → Clear conds′ → (cs cs′ : List Corner) → cs ≡ cs′ → (ties ties′ : ℕ) → ties ≡ ties′
+    → (held : ℕ) (b : Slices) (answer : Peaks) (b′ : Slices) → PeaksAdded conds cs ties held b answer b′ → PeaksAdded conds′ cs′ ties′ held b answer b′
+found-to conds conds′ c c′ cs cs′ e ties ties′ t held b answer b′ found =
+    rw (← e, ← t)
+    (found-by conds′ cs ties held b (refusalOf conds (placesOf b) held (length cs)) same answer b′ (found .answer) (found .buffer))
   where
     same : refusalOf conds′ (placesOf b) held (length cs) ≡ refusalOf conds (placesOf b) held (length cs)
     same = unfold refusalOf in (lowest-past conds′ _ (c′ .numbered) (c′ .none) ∙ sym (lowest-past conds _ (c .numbered) (c .none)))

@@ -1,9 +1,9 @@
 -- The corners behind the first `held` of a buffer, each replaced by a function of it, one a turn. Assumes nothing.
-use Prim.Native.Nat.{ℕ, zero, suc, _+_, _-_, _<_, _≤_}
+use Prim.Native.Nat.{ℕ, _+_, _-_, _<_, _≤_}
 use native.Mathlib.Omega.{arith}
 use native.Mathlib.Numerals.{add-one}
 use mathlib.Core.Path.{_≡_, refl, sym, ap, ap₂, _∙_}
-use mathlib.Core.List.{List, [], _∷_, _++_, map, map-append, append-assoc, append-nil}
+use mathlib.Core.List.{List, [], _∷_, _++_, map, append-assoc, append-nil}
 use lib.ListN.{length, take, drop, getD, length-append, length-map}
 use lib.Seq.{length-take-le, take-at, drop-at, getD-append-add, getD-drop}
 use lib.Ieee.{Float, nan}
@@ -16,7 +16,7 @@ use Rattle.corner_list.specs.CornerList.{Slices, xOf, yOf, strengthOf, placesOf
 use Rattle.corner_list.proofs.Corners.{slices-alike, same-places}
 use Rattle.corner_list.proofs.Growing.{Growing, growing-put, growing-all, growing-xs, growing-ys, growing-strengths}
 use Rattle.corner_list.proofs.Placed.{corners-placed}
-use Rattle.patch_corners.specs.Needs.{Changed}
+use Rattle.patch_corners.specs.Internal.{Changed}
 
 -- ---- what stands behind elements that were placed, and others placed over them
 module _ {A : Type 0} (held : ℕ) (vs d : List A) (h : held ≤ length d) where
@@ -88,7 +88,9 @@ module _ (f : Corner → Corner) (held n : ℕ) (b₀ : Slices) where
 
     -- one more
     same-corner : cornerAt b (held + i) ≡ cornerAt b₀ (held + i)
-    same-corner = ap (λ (s : Slices). cornerAt s (held + i)) (at .is) ∙ corner-behind held (tab i read) b₀ (omega arith) (held + i) (omega (arith, length-tab i read))
+    same-corner =
+        ap (λ (s : Slices). cornerAt s (held + i)) (at .is)
+        ∙ corner-behind held (tab i read) b₀ (omega arith) (held + i) (omega (arith, length-tab i read))
 
     growing : i < n → Growing (tab (i + 1) read) (read i ∷ []) held i b₀ b
     unfolding tab
@@ -100,10 +102,12 @@ module _ (f : Corner → Corner) (held n : ℕ) (b₀ : Slices) where
       is = at .is;
     }
 
-    pub changing-put : i < n → (c d : Corner) (b′ : Slices) → c ≡ cornerAt b (held + i) → d ≡ f c → b′ ≡ withCorner (held + i) d b → Changing f held n (i + 1) b₀ b′
+    pub changing-put : i < n → (c d : Corner) (b′ : Slices) → c ≡ cornerAt b (held + i) → d ≡ f c → b′ ≡ withCorner (held + i) d b
+        → Changing f held n (i + 1) b₀ b′
     changing-put l c d b′ p q put =
         let e : d ≡ read i = q ∙ ap f (p ∙ same-corner) in
-        let next = growing-put (tab (i + 1) read) (read i ∷ []) held i b₀ b (growing l) (read i) [] refl b′ (put ∙ ap (λ (a : Corner). withCorner (held + i) a b) e) in
+        let same = put ∙ ap (λ (a : Corner). withCorner (held + i) a b) e in
+        let next = growing-put (tab (i + 1) read) (read i ∷ []) held i b₀ b (growing l) (read i) [] refl b′ same in
         record { upto = omega arith; is = growing-all (tab (i + 1) read) [] held (i + 1) b₀ b′ next refl .1 }
 
     -- all
@@ -123,7 +127,8 @@ module _ (cs : List Corner) (held : ℕ) (b : Slices) (h : held + length cs ≤ 
       (growing-ys cs [] held (length cs) b (placedCorners held cs b) placed-grown)
       (growing-strengths cs [] held (length cs) b (placedCorners held cs b) placed-grown)
 
-module _ (f : Corner → Corner) (cs : List Corner) (held : ℕ) (b b′ : Slices) (n : ℕ) (e : n ≡ length cs) (fits : held + n ≤ placesOf b) (is : b′ ≡ placedCorners held cs b) where
+module _ (f : Corner → Corner) (cs : List Corner) (held : ℕ) (b b′ : Slices) (n : ℕ) (e : n ≡ length cs) (fits : held + n ≤ placesOf b)
+    (is : b′ ≡ placedCorners held cs b) where
   -- they have their places in the buffer as it is now
   pub changed-fits : held + n ≤ placesOf b′
   changed-fits = let h : held + length cs ≤ placesOf b = omega (arith, e, fits) in omega (arith, fits, ap placesOf is, placed-places cs held b h)

@@ -9,7 +9,7 @@ use Rattle.corner_list.specs.declared.Corner.{Corner}
 use Rattle.center_of_mass.proofs.Outcome.{the-type as outcome-type}
 use Rattle.center_of_mass.specs.declared.Outcome.{Outcome}
 use Rattle.center_of_mass.specs.declared.Outcome.the-variants.{Accepted, Rejected, OutOfBounds, IllConditioned, Refused}
-use Rattle.frame_pass.proofs.Centred.{landing}
+use Rattle.patch_corners.specs.Internal.{landing}
 
 pub not-accepted : (o : Outcome) (c : Corner) → OneOf (1 ∷ 2 ∷ 3 ∷ 4 ∷ []) (tagOf outcome-type o) → c ≡ landing o c
 not-accepted (Accepted x y m) c (inl h) = absurd (omega arith)

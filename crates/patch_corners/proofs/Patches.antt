@@ -19,7 +19,7 @@ use Rattle.lists.proofs.Refusals.{lowest-some, lowest-past}
 use Rattle.float32.specs.Float32.{zero}
 use Rattle.ring.specs.Ring.{ringOf}
 use Rattle.ring.proofs.Places.{ring-is}
-use Rattle.response.specs.Patch.{View, rows, cols, Patched}
+use Rattle.response.specs.Patch.{View, mapHeight, mapWidth, Patched}
 use Rattle.response.specs.declared.Patch.{Patch}
 use Rattle.response.specs.declared.Patch.the-variants as patch
 use Rattle.response.proofs.Outcome.{cols-le, rows-le, allowed}
@@ -28,54 +28,53 @@ use Rattle.accuracy.specs.Accurate.{Bytes}
 use Rattle.corner_list.specs.CornerList.{Slices}
 use Rattle.detect.specs.declared.Peaks.{Peaks}
 use Rattle.detect.specs.declared.Peaks.the-variants.{Added, Refused}
-use Rattle.detect.specs.Detect.{conditions, Found}
+use Rattle.detect.specs.Detect.{conditions, PeaksAdded}
 use Rattle.detect.proofs.Answers.{Clear, Sound, clear, sound, sound-clear}
-use Rattle.clearing.specs.Clearing.{clearedFrom}
-use Rattle.frame_pass.specs.declared.FrameParams.{FrameParams}
-use Rattle.frame_pass.specs.Pass.{computedChoice, cornersIn}
-use Rattle.frame_pass.proofs.Refusals.{ring-decides}
-use Rattle.frame_pass.proofs.Maps.{Fine}
-use Rattle.frame_pass.proofs.Accepting.{corners-centred}
-use Rattle.patch_corners.specs.PatchCorners.{patchConditions, AddedCorners}
-use Rattle.patch_corners.specs.Needs.{centresIn}
+use Rattle.patch_corners.specs.declared.FrameParams.{FrameParams}
+use Rattle.patch_corners.specs.OneMap.{computedChoice, cornersIn, tiesOn}
+use Rattle.patch_corners.specs.Clearing.{clearedFrom}
+use Rattle.patch_corners.specs.PatchCorners.{conditionsOf, AddedCorners}
+use Rattle.patch_corners.specs.Internal.{centresIn, tiesWith}
+use Rattle.patch_corners.proofs.Fine.{Fine}
+use Rattle.patch_corners.proofs.Accepting.{corners-centred}
 use Rattle.patch_corners.proofs.Centring.{found-to}
 use Rattle.patch_corners.proofs.Adding.{patch-numbered, refused-by, added-by, cleared-by}
 
 module _ (p : FrameParams) (v : View) where
   -- the conditions on image and parameters
   abbrev pub inputConditions : List (Bool × ℕ)
-  inputConditions = conditions (length (v .img)) (v .w) (v .h) (p .ring) (p .window) (p .centroid)
+  inputConditions = conditions (length (v .img)) (v .w) (v .h) (p .ring) (p .window) (p .«centroid_radius»)
 
   -- a table that begins with them
-  input-first : (places : ℕ) → (lowest inputConditions ≡ 0 → ⊥) → lowest (patchConditions p v places) ≡ lowest inputConditions
-  unfolding patchConditions
+  input-first : (places : ℕ) → (lowest inputConditions ≡ 0 → ⊥) → lowest (conditionsOf p v places) ≡ lowest inputConditions
+  unfolding conditionsOf
   input-first places e = lowest-some inputConditions _ e
 
-  input-past : (places : ℕ) → Clear inputConditions → lowest (patchConditions p v places) ≡ lowest ((ltb places (rows v * cols v), 8) ∷ [])
-  unfolding patchConditions
+  input-past : (places : ℕ) → Clear inputConditions → lowest (conditionsOf p v places) ≡ lowest ((ltb places (mapHeight v * mapWidth v), 8) ∷ [])
+  unfolding conditionsOf
   input-past places c = lowest-past inputConditions _ (c .numbered) (c .none)
 
   -- ---- refused: both buffers are as they were
   module _ (held : ℕ) (d : List Float) (b : Slices) where
     pub when-fault : (k : ℕ) → k ≡ lowest inputConditions → (k ≡ 0 → ⊥) → AddedCorners p v held d b (Refused k) d b
-    when-fault k e n = refused-by p v held d b _ k (input-first (length d) (λ z. n (e ∙ z)) ∙ sym e) n
+    when-fault k e n = refused-by p v held d b _ _ k (input-first (length d) (λ z. n (e ∙ z)) ∙ sym e) n
 
-    module _ (none : lowest inputConditions ≡ 0) (e : List Float) (m : Patch) (patched : Patched v (p .ring) d e m) where
-      input-sound : Sound (length (v .img)) (v .w) (v .h) (p .ring) (p .window) (p .centroid)
+    module _ (none : lowest inputConditions ≡ 0) (e : List Float) (m : Patch) (patched : Patched v (p .ring) d m e) where
+      input-sound : Sound (length (v .img)) (v .w) (v .h) (p .ring) (p .window) (p .«centroid_radius»)
       input-sound = sound _ _ _ _ _ _ (clear _ _ _ _ _ _ none)
 
       -- no map: only its buffer can be short
       pub when-short : (k : ℕ) → m ≡ patch.Refused k → AddedCorners p v held d b (Refused 8) e b
       when-short k q =
-          elim (decLt (length d) (rows v * cols v)) [
+          elim (decLt (length d) (mapHeight v * mapWidth v)) [
             | yes l ↦
                 rw (refused v (p .ring) d e m patched k q .1)
-                (refused-by p v held d b _ 8 (input-past (length d) (clear _ _ _ _ _ _ none) ∙ rw (lt-ltb (length d) (rows v * cols v) l))
+                (refused-by p v held d b _ _ 8 (input-past (length d) (clear _ _ _ _ _ _ none) ∙ rw (lt-ltb (length d) (mapHeight v * mapWidth v) l))
                 (λ z. let no : ⊥ = omega arith in no))
             | no g ↦
                 absurd
                 (never-refused v (p .ring) d e m patched
-                (allowed (length (v .img)) (v .w) (v .h) (p .ring) (rows v * cols v) (length d)
+                (allowed (length (v .img)) (v .w) (v .h) (p .ring) (mapHeight v * mapWidth v) (length d)
                 (record {
                   narrow = input-sound .wide;
                   low = input-sound .high;
@@ -88,8 +87,8 @@ module _ (p : FrameParams) (v : View) where
 
 -- ---- the whole table
 -- no condition holds: image and parameters are sound
-pub patch-sound : (p : FrameParams) (v : View) (places : ℕ) → lowest (patchConditions p v places) ≡ 0
-    → Sound (length (v .img)) (v .w) (v .h) (p .ring) (p .window) (p .centroid)
+pub patch-sound : (p : FrameParams) (v : View) (places : ℕ) → lowest (conditionsOf p v places) ≡ 0
+    → Sound (length (v .img)) (v .w) (v .h) (p .ring) (p .window) (p .«centroid_radius»)
 patch-sound p v places none =
     let c = inputConditions p v in
     sound _ _ _ _ _ _
@@ -97,16 +96,16 @@ patch-sound p v places none =
     (⊎-elim (λ z. z) (λ l. sym (input-first p v places (λ (z : lowest c ≡ 0). let no : ⊥ = omega arith in no)) ∙ none) (eq-zero-or-pos (lowest c))))
 
 -- and none does where these are, and the map buffer has places enough
-pub patch-clear : (p : FrameParams) (v : View) (places : ℕ) → Sound (length (v .img)) (v .w) (v .h) (p .ring) (p .window) (p .centroid) → rows v * cols v ≤ places
-    → Clear (patchConditions p v places)
-patch-clear p v places s l = patch-numbered p v places (input-past p v places (sound-clear _ _ _ _ _ _ s) ∙ rw (le-ltb places (rows v * cols v) l))
+pub patch-clear : (p : FrameParams) (v : View) (places : ℕ) → Sound (length (v .img)) (v .w) (v .h) (p .ring) (p .window) (p .«centroid_radius»)
+    → mapHeight v * mapWidth v ≤ places → Clear (conditionsOf p v places)
+patch-clear p v places s l = patch-numbered p v places (input-past p v places (sound-clear _ _ _ _ _ _ s) ∙ rw (le-ltb places (mapHeight v * mapWidth v) l))
 
 -- ---- the buffer e after the map of v, pw by ph, was made in d
 pub record Made (p : FrameParams) (v : View) (d e : List Float) (pw ph : ℕ) : Type 0 where
-  pub sound : Sound (length (v .img)) (v .w) (v .h) (p .ring) (p .window) (p .centroid)
+  pub sound : Sound (length (v .img)) (v .w) (v .h) (p .ring) (p .window) (p .«centroid_radius»)
   pub holds : Filled v d e pw ph
 
-pub is-made : (p : FrameParams) (v : View) (d : List Float) → lowest (inputConditions p v) ≡ 0 → (e : List Float) (m : Patch) → Patched v (p .ring) d e m
+pub is-made : (p : FrameParams) (v : View) (d : List Float) → lowest (inputConditions p v) ≡ 0 → (e : List Float) (m : Patch) → Patched v (p .ring) d m e
     → (pw ph : ℕ) → m ≡ patch.Cells pw ph → Made p v d e pw ph
 is-made p v d none e m patched pw ph q =
     record { sound = sound _ _ _ _ _ _ (clear _ _ _ _ _ _ none); holds = filled v (p .ring) d e m patched pw ph q }
@@ -128,9 +127,9 @@ module _ (p : FrameParams) (v : View) (d e : List Float) (pw ph : ℕ) (made : M
   map-length = sym (length-take-le (ph * pw) e map-within)
 
   -- the map is searched
-  searched : Clear (conditions (length (take (ph * pw) e)) pw ph (p .ring) (p .window) (p .centroid))
+  searched : Clear (conditions (length (take (ph * pw) e)) pw ph (p .ring) (p .window) (p .«centroid_radius»))
   searched =
-      sound-clear (length (take (ph * pw) e)) pw ph (p .ring) (p .window) (p .centroid)
+      sound-clear (length (take (ph * pw) e)) pw ph (p .ring) (p .window) (p .«centroid_radius»)
       (record {
         wide = wide;
         high = high;
@@ -141,23 +140,11 @@ module _ (p : FrameParams) (v : View) (d e : List Float) (pw ph : ℕ) (made : M
       })
 
   module _ (bytes : Bytes (v .img)) (ring : v .ring ≡ ringOf (p .ring)) where
-    -- the parameters with another search radius, on which no map depends
-    abbrev plain : FrameParams
-    plain = record {
-      ring = p .ring;
-      threshold = p .threshold;
-      window = p .window;
-      least = p .least;
-      centroid = p .centroid;
-      radius = p .radius;
-      levels = p .levels;
-      minimum = p .minimum;
-      search = 0;
-    }
-
-    fine : Fine plain v
+    fine : Fine p v
     fine = record {
-      fit = sym (ring-decides plain (made .sound .in-window) (made .sound .in-radius) (omega arith)) ∙ made .sound .ring-is;
+      ring-is = made .sound .ring-is;
+      in-window = made .sound .in-window;
+      in-radius = made .sound .in-radius;
       bytes = bytes;
       ring = ring;
       narrow = made .sound .wide;
@@ -169,24 +156,30 @@ module _ (p : FrameParams) (v : View) (d e : List Float) (pw ph : ℕ) (made : M
     unfolding cornersIn
     centres =
         rw (front-is v d e pw ph (made .holds), made .holds .cols-are, made .holds .rows-are)
-        (sym (corners-centred plain v (computedChoice p) fine (inl refl)))
+        (sym (corners-centred p v (computedChoice p) fine (inl refl)))
+
+    -- and their ties the box's
+    ties : tiesWith p (take (ph * pw) e) pw ph ≡ tiesOn p (computedChoice p) v
+    ties = rw (front-is v d e pw ph (made .holds), made .holds .cols-are, made .holds .rows-are)
 
     module _ (held : ℕ) (b : Slices) (answer : Peaks) (b′ : Slices)
-        (f : Found (conditions (length (take (ph * pw) e)) pw ph (p .ring) (p .window) (p .centroid)) (centresIn p (take (ph * pw) e) pw ph)
-        held b answer b′) where
-      taken : Clear (patchConditions p v (length d))
+        (f : PeaksAdded (conditions (length (take (ph * pw) e)) pw ph (p .ring) (p .window) (p .«centroid_radius»)) (centresIn p (take (ph * pw) e) pw ph)
+        (tiesWith p (take (ph * pw) e) pw ph) held b answer b′) where
+      taken : Clear (conditionsOf p v (length d))
       taken = patch-clear p v (length d) (made .sound) (rw (← made .holds .cols-are, ← made .holds .rows-are) (made .holds .enough))
 
-      of-box : Found (patchConditions p v (length d)) (cornersIn p (computedChoice p) v) held b answer b′
-      of-box = found-to _ (patchConditions p v (length d)) searched taken _ _ centres held b answer b′ f
+      of-box : PeaksAdded (conditionsOf p v (length d)) (cornersIn p (computedChoice p) v) (tiesOn p (computedChoice p) v) held b answer b′
+      of-box = found-to _ (conditionsOf p v (length d)) searched taken _ _ centres _ _ ties held b answer b′ f
 
       -- they were added
-      pub when-added : (n : ℕ) → answer ≡ Added n → AddedCorners p v held d b (Added n) e b′
-      when-added n q =
-          added-by p v held d b _ n b′ (subst (λ (r : Peaks). Found (patchConditions p v (length d)) (cornersIn p (computedChoice p) v) held b r b′) q of-box)
+      pub when-added : (n t : ℕ) → answer ≡ Added n t → AddedCorners p v held d b (Added n t) e b′
+      when-added n t q =
+          added-by p v held d b _ _ n t b′
+          (subst (λ (r : Peaks). PeaksAdded (conditionsOf p v (length d)) (cornersIn p (computedChoice p) v)
+          (tiesOn p (computedChoice p) v) held b r b′) q of-box)
           e (made .holds .fills)
 
       -- or they do not fit, and both buffers were cleared
       pub when-full : (k : ℕ) → answer ≡ Refused k → (e′ : List Float) → e′ ≡ wipedFrom 0 zero e → (b″ : Slices) → b″ ≡ clearedFrom 0 b′
           → AddedCorners p v held d b answer e′ b″
-      when-full k q e′ w b″ c = cleared-by p v held d b taken _ answer b′ of-box k q e e′ (same-length v d e pw ph (made .holds)) w b″ c
+      when-full k q e′ w b″ c = cleared-by p v held d b taken _ _ answer b′ of-box k q e e′ (same-length v d e pw ph (made .holds)) w b″ c

@@ -1,2 +1,5 @@
+pub mod OneMap
+pub mod Clearing
 pub mod PatchCorners
-pub mod Needs
+pub mod BoxCorners
+pub mod Internal

@@ -1,38 +1,32 @@
-// The corners of a box of an image, added to a buffer: the box's response map, the map's peaks, and their centres of mass.
-mod localizing;
+// The corners of a box of an image, added to a buffer: the box's response map, the map's peaks, and their centres of mass. The corners of one map
+// by any choice of its peaks are defined in specs/OneMap.antt.
+mod box_corners; // add_box_corners: the corners by the image's columns and rows
+pub mod clearing; // clear, clear_bytes, clear_list: buffers set to zero behind what they hold
+mod localizing; // corners put at their centres of mass
+mod shifting; // corners moved by a box's corner
 
-ghost use mathlib.Core.Path.{_≡_};
+pub use box_corners::add_box_corners;
 ghost use lib.ListN.{length};
-ghost use Rattle.lists.specs.Refusals.{lowest};
 ghost use Rattle.ring.specs.Ring.{ringOf};
 ghost use Rattle.corner_list.specs.CornerList.{slices};
-ghost use Rattle.detect.specs.Detect.{conditions, Found};
+ghost use Rattle.detect.specs.Detect.{conditions, PeaksAdded};
 ghost use Rattle.patch_corners.specs.PatchCorners.{AddedCorners};
-ghost use Rattle.patch_corners.specs.Needs.{centresIn};
+ghost use Rattle.patch_corners.specs.Internal.{centresIn, tiesWith};
 use detect::Peaks;
-use frame_pass::FrameParams;
 use response::Patch;
 
-// The number of the first condition on the image and the parameters that holds, 0 for none.
-fn fault(pixels: usize, w: usize, h: usize, p: FrameParams) -> u8
-    ensures { λ k. ⌜ k ≡ lowest (conditions pixels w h (p .ring) (p .window) (p .centroid)) ⌝ }
-{
-    if 4096 < w {
-        return 1;
-    }
-    if 4096 < h {
-        return 1;
-    }
-    if pixels != w * h {
-        return 2;
-    }
-    if 16 < p.window {
-        return 3;
-    }
-    if 16 < p.centroid {
-        return 3;
-    }
-    if ring::is_ring(p.ring) { 0 } else { 3 }
+// The parameters of a frame (RULES 1.7): the ring's radius, the threshold of a peak, the radius of its window and the least number of positive
+// neighbours, the centroid's radius, the merge radius, the level count and the minimum size of a level, and the search radius of a seed.
+pub struct FrameParams {
+    pub ring: u32,
+    pub threshold: f32,
+    pub window: u32,
+    pub least_neighbours: u32,
+    pub centroid_radius: u32,
+    pub merge_radius: f32,
+    pub levels: u32,
+    pub minimum_side: usize,
+    pub search_radius: u32,
 }
 
 // Adds the peaks of a map of w by h, at their centres of mass, behind the first `held` of a buffer.
@@ -46,8 +40,8 @@ fn add_peaks(
     strengths: &mut [f32],
     held: usize,
 ) -> Peaks
-    ensures { λ r. ⌜ Found (conditions (length (now (map .entry))) w h (p .ring) (p .window) (p .centroid)) (centresIn p (now (map .entry)) w h)
-        held (slices (now (xs .entry)) (now (ys .entry)) (now (strengths .entry))) r (slices (now (xs .exit)) (now (ys .exit)) (now (strengths .exit))) ⌝ }
+    ensures { λ r. ⌜ PeaksAdded (conditions (length (now (map .entry))) w h (p .ring) (p .window) (p .«centroid_radius»)) (centresIn p (now (map .entry)) w h)
+        (tiesWith p (now (map .entry)) w h) held (slices (now (xs .entry)) (now (ys .entry)) (now (strengths .entry))) r (slices (now (xs .exit)) (now (ys .exit)) (now (strengths .exit))) ⌝ }
 {
     let f = detect::detect_peaks_from_response_with_refine_radius(
         map,
@@ -56,18 +50,18 @@ fn add_peaks(
         p.ring,
         p.threshold,
         p.window,
-        p.least,
-        p.centroid,
+        p.least_neighbours,
+        p.centroid_radius,
         xs,
         ys,
         strengths,
         held,
     );
-    let Peaks::Added(n) = f else {
+    let Peaks::Added(n, sum) = f else {
         return f;
     };
-    localizing::centre_all(map, w, h, p.centroid, xs, ys, strengths, held, n);
-    Peaks::Added(n)
+    localizing::centre_all(map, w, h, p.centroid_radius, xs, ys, strengths, held, n);
+    Peaks::Added(n, sum)
 }
 
 // Adds the corners of a box of an image of w by h, the columns x0 up to, not including, x1 of the rows y0 up to y1, behind the
@@ -91,7 +85,7 @@ pub fn add_patch_corners(
         held (now (map .entry)) (slices (now (xs .entry)) (now (ys .entry)) (now (strengths .entry)))
         r (now (map .exit)) (slices (now (xs .exit)) (now (ys .exit)) (now (strengths .exit))) ⌝ }
 {
-    let number = fault(img.len(), w, h, p);
+    let number = detect::refusal(img.len(), w, h, p.ring, p.window, p.centroid_radius);
     if number != 0 {
         return Peaks::Refused(number);
     }
@@ -101,10 +95,10 @@ pub fn add_patch_corners(
     };
     let cells = ph * pw;
     let f = add_peaks(&map[..cells], pw, ph, p, xs, ys, strengths, held);
-    let Peaks::Added(n) = f else {
+    let Peaks::Added(n, ties) = f else {
         clearing::clear(map, 0);
         clearing::clear_list(xs, ys, strengths, 0);
         return f;
     };
-    Peaks::Added(n)
+    Peaks::Added(n, ties)
 }

@@ -2,7 +2,7 @@
 ghost use mathlib.Core.Path.{_≡_};
 ghost use Prim.Native.Nat.{_+_, _≤_};
 ghost use Rattle.corner_list.specs.CornerList.{slices, placesOf};
-ghost use Rattle.patch_corners.specs.Needs.{centred, Changed};
+ghost use Rattle.patch_corners.specs.Internal.{centred, Changed};
 use center_of_mass::CenterOfMassRefiner;
 use center_of_mass::Outcome;
 use corner_list::Corner;

@@ -19,10 +19,10 @@ use Rattle.float32.proofs.Poly.{poly}
 use Rattle.float32.proofs.Values.{of-HasValue, rescale}
 use Rattle.float32.proofs.Bounds.{div-round, whole-over}
 use Rattle.corner_list.specs.declared.Corner.{Corner}
-use Rattle.corner_list.specs.CornerList.{xOf, yOf, largest}
+use Rattle.corner_list.specs.CornerList.{xOf, yOf, largestSide}
 use Rattle.corner_list.proofs.Inside.{inside-parts}
 use Rattle.merge_radius.specs.MergeRadius.{isSized}
-use Rattle.merge_grid.specs.MergeGrid.{cellOf, leastFrom, gridOf}
+use Rattle.merge.specs.Grid.{cellOf, leastFrom, gridOf}
 use Rattle.published.specs.Rust.{wholeFloat, floorF, cutUsize}
 use Rattle.published.specs.PyramidRs.{one32}
 use Rattle.published.specs.MergeRs.{greatestFrom, gridRs, sideRs, cellRs, CellsAsPublished}
@@ -160,12 +160,15 @@ inverse-most radius e =
     (record { sign = false; top = 1 * den radius; bottom = num radius; bottom-pos = top; is = is; none = λ q. absurd (true≢false (sym q)); frac = refl })
 
 -- ---- the coordinates
-pub coordinate : (x : Float) → between32 zero largest x ≡ true → Most x 4096
+pub coordinate : (x : Float) → between32 zero largestSide x ≡ true → Most x 4096
 coordinate x e =
-    let p = and-parts (le zero x) (le x largest) e in
-    let plain : Plain x = record { above = to-T (p .0); bounded = finite-below x largest (to-T (p .0)) (to-T (p .1)) tt } in
-    let top = of-HasValue largest false (4096 * den x) (den x) (whole-over largest 4096 (den x) (refl, refl)) in
-    record { plain = plain; most = order x largest (num x) (4096 * den x) (den x) (den-pos x) (own-is x (plain .above) (plain .bounded)) top .0 (to-T (p .1)) }
+    let p = and-parts (le zero x) (le x largestSide) e in
+    let plain : Plain x = record { above = to-T (p .0); bounded = finite-below x largestSide (to-T (p .0)) (to-T (p .1)) tt } in
+    let top = of-HasValue largestSide false (4096 * den x) (den x) (whole-over largestSide 4096 (den x) (refl, refl)) in
+    record {
+      plain = plain;
+      most = order x largestSide (num x) (4096 * den x) (den x) (den-pos x) (own-is x (plain .above) (plain .bounded)) top .0 (to-T (p .1));
+    }
 
 -- from the least to the greatest of a list
 abbrev Between : List Float → Float → Type 0

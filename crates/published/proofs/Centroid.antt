@@ -26,7 +26,7 @@ use Rattle.float32.proofs.Bounds.{value-le, whole-over}
 use Rattle.float32.proofs.Running.{summed}
 use Rattle.center_of_mass.specs.declared.Outcome.{Outcome}
 use Rattle.center_of_mass.specs.declared.Outcome.the-variants.{OutOfBounds}
-use Rattle.center_of_mass.specs.CenterOfMass.{window, weightAt, seedFits, conditions, refusal, outcomeOf, refined}
+use Rattle.center_of_mass.specs.CenterOfMass.{cellsAbout, weightAt, seedFits, conditions, refusalOf, outcomeOf, refined}
 use Rattle.center_of_mass.proofs.Weights.{term}
 use Rattle.center_of_mass.proofs.Judgement.{radius-small, map-fits}
 use Rattle.center_of_mass.proofs.Told.{isOut, meanBy, outcome-out, outcome-in}
@@ -66,7 +66,7 @@ module _ (r w h cx cy : ℕ) (left : r ≤ cx) (right : cx + r < w) (above : r �
       (λ i a b. ap (λ (q : Place). q ∷ []) (cell-is j i a b c d))
       ∙ ap (λ (n : ℕ). flatMap (λ u. record { x = u; y = cy + j - r } ∷ []) (range (cx - r) n)) (omega arith)
 
-  pub cells-are : cellsRs r w h (pos cx) (pos cy) ≡ window r cx cy
+  pub cells-are : cellsRs r w h (pos cx) (pos cy) ≡ cellsAbout r cx cy
   unfolding cellsRs around
   cells-are =
       flat-map (λ dy. flatMap (turn dy) (around r)) (λ (j : ℕ). subℕ j r) (range 0 (2 * r + 1))
@@ -76,7 +76,7 @@ module _ (r w h cx cy : ℕ) (left : r ≤ cx) (right : cx + r < w) (above : r �
       line-is
       ∙ ap (λ (n : ℕ). flatMap line (range (cy - r) n)) (omega arith)
       ∙ rows-block (λ q. q ∷ []) (cx - r) (cx + r + 1) (cy - r) (cy + r + 1)
-      ∙ flat-each (window r cx cy)
+      ∙ flat-each (cellsAbout r cx cy)
 
 -- ---- the sums
 sum-is : (term : Place → Float) (s : Float) (ps : List Place) → sumRs term s ps ≡ summed term s ps
@@ -164,8 +164,8 @@ module _ (r : ℕ) (x y : Float) (m : List Float) (w h : ℕ) (weight : Place �
   module _ (small : r ≤ 16) (narrow : w ≤ 4096) (low : h ≤ 4096) where
     weighed-is : (p q : ℕ) → isOut r w (Natural p) ≡ false → isOut r h (Natural q) ≡ false
         → meanRs (cellsRs r w h (pos p) (pos q))
-        ≡ meanBy x y (summed (term m w (λ c. c .x)) zero32 (window r p q)) (summed (term m w (λ c. c .y)) zero32 (window r p q))
-        (summed (weightAt m w) zero32 (window r p q))
+        ≡ meanBy x y (summed (term m w (λ c. c .x)) zero32 (cellsAbout r p q)) (summed (term m w (λ c. c .y)) zero32 (cellsAbout r p q))
+        (summed (weightAt m w) zero32 (cellsAbout r p q))
     weighed-is p q a b =
         let i = or-neither (ltb p r) (leb (w - r) p) a in
         let j = or-neither (ltb q r) (leb (h - r) q) b in
@@ -173,7 +173,7 @@ module _ (r : ℕ) (x y : Float) (m : List Float) (w h : ℕ) (weight : Place �
         let below : q + r < h = omega (arith, leb-false (h - r) q (j .1)) in
         let columns = all-block (λ c. c .x < 2 ^ 24) (p - r) (p + r + 1) (q - r) (q + r + 1) (λ u v _ k _ _. omega arith) in
         let rows = all-block (λ c. c .y < 2 ^ 24) (p - r) (p + r + 1) (q - r) (q + r + 1) (λ u v _ _ _ k. omega arith) in
-        let cells = window r p q in
+        let cells = cellsAbout r p q in
         rw (cells-are r w h p q (ltb-false p r (i .0)) right (ltb-false q r (j .0)) below)
         (rw (mass-is m w weight max cells, moment-is m w weight max (λ c. c .x) cells columns, moment-is m w weight max (λ c. c .y) cells rows))
 
@@ -197,8 +197,8 @@ module _ (r : ℕ) (x y : Float) (m : List Float) (w h : ℕ) (weight : Place �
             let b : isOut r h (Natural (v .0)) ≡ false = rw (v .1) at q in
             rw (u .1, v .1) (weighed-is (u .0) (v .0) a b ∙ sym (outcome-in r x y m w h (u .0) (v .0) (u .1) (v .1) a b))
 
-seeds-fit : (r : ℕ) (x y : Float) (has-map : Bool) (cells w h : ℕ) → refusal r x y has-map cells w h ≡ 0 → (seedFits x ≡ true) × (seedFits y ≡ true)
-unfolding refusal
+seeds-fit : (r : ℕ) (x y : Float) (has-map : Bool) (cells w h : ℕ) → refusalOf r x y has-map cells w h ≡ 0 → (seedFits x ≡ true) × (seedFits y ≡ true)
+unfolding refusalOf
 seeds-fit r x y has-map cells w h e =
     let clear = all-clear (conditions r x y has-map cells w h) (lit< tt, (lit< tt, (lit< tt, (lit< tt, tt)))) e in
     and-parts (seedFits x) (seedFits y) (not-false (seedFits x && seedFits y) (clear .1 .1 .1 .0))

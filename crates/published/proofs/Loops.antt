@@ -5,7 +5,7 @@ use mathlib.Core.Bool.{Bool, true, false, cond}
 use mathlib.Core.List.{List, [], _∷_, _++_, map, append-nil}
 use Prim.Native.Nat.{ℕ, zero, suc, _+_, _-_, _*_, _≤_, _<_, min}
 use native.Mathlib.Omega.{arith}
-use Rattle.lists.specs.Places.{Place, counted, range, row, rows, block, keep, flatMap}
+use Rattle.lists.specs.Places.{Place, counted, range, row, rowsFrom, block, keep, flatMap}
 use Rattle.lists.proofs.Members.{flatMap-append}
 use Rattle.lists.proofs.Parts.{counted-add}
 
@@ -73,12 +73,12 @@ module _ (r x w : ℕ) where
 
 -- a loop over columns in one over rows goes over the block in row order
 module _ {B : Type 0} (f : Place → List B) (a b : ℕ) where
-  rows-rows : (ys : List ℕ) → flatMap (λ y. flatMap (λ x. f (record { x = x; y = y })) (range a b)) ys ≡ flatMap f (rows a b ys)
-  unfolding rows row
+  rows-rows : (ys : List ℕ) → flatMap (λ y. flatMap (λ x. f (record { x = x; y = y })) (range a b)) ys ≡ flatMap f (rowsFrom a b ys)
+  unfolding rowsFrom row
   rows-rows [] = refl
   rows-rows (y ∷ ys) =
       ap₂ (λ (s t : List B). s ++ t) (sym (flat-map f (λ (x : ℕ). record { x = x; y = y }) (range a b))) (rows-rows ys)
-      ∙ sym (flatMap-append f (row y a b) (rows a b ys))
+      ∙ sym (flatMap-append f (row y a b) (rowsFrom a b ys))
 
   pub rows-block : (c d : ℕ) → flatMap (λ y. flatMap (λ x. f (record { x = x; y = y })) (range a b)) (range c d) ≡ flatMap f (block a b c d)
   unfolding block

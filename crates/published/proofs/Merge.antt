@@ -18,8 +18,8 @@ use Rattle.corner_list.specs.CornerList.{Slices, xOf, yOf, isInside, cornersOf}
 use Rattle.corner_list.proofs.Inside.{inside-parts}
 use Rattle.corner_list.proofs.Corners.{corners-length}
 use Rattle.merge_radius.specs.MergeRadius.{isOff, isSized, radiusOutside}
-use Rattle.merge_refusal.specs.MergeRefusal.{isOutside, refusalOf}
-use Rattle.merge_grid.specs.MergeGrid.{joins, leastFrom, gridOf}
+use Rattle.merge.specs.Refusals.{isOutside, refusalOf}
+use Rattle.merge.specs.Grid.{joins, leastFrom, gridOf}
 use Rattle.merge.specs.Merge.{merged, resultOf}
 use Rattle.published.specs.MergeRs.{greatestFrom, GridRs, gridRs, indexRs, noHit, mergeRs, MergeAsPublished}
 use Rattle.published.proofs.Extremes.{Plain, extremes}

@@ -11,16 +11,16 @@ use lib.IntN.{pos, natAbs, subℕ, _+ℤ_, _-ℤ_}
 use lib.ListN.{length, getD, length-map, List·getD-map}
 use lib.Ieee.{Float, binary32, add}
 use borrow.Author.Tests.{lt-ltb, le-ltb, le-leb, lt-leb, eq-eqb, ne-eqb, eqb-true}
-use Rattle.lists.specs.Tab.{grid}
+use Rattle.lists.specs.Tab.{grid, pixel}
 use Rattle.lists.proofs.Tests.{and-none}
 use Rattle.lists.proofs.Tab.{getD-any, getD-tab, grid-ext}
-use Rattle.float32.specs.Float32.{zero as zero32}
+use Rattle.float32.specs.Float32.{zero as zero32, floatOf}
 use Rattle.float32.specs.Value.{dist, total}
 use Rattle.float32.proofs.Approx.{add-whole}
 use Rattle.ring.specs.Ring.{Ring, IsRing, dx, dy, ringOf}
 use Rattle.ring.proofs.Table.{ringOf-is}
 use Rattle.ring.proofs.Places.{radius-pos}
-use Rattle.response.specs.Response.{pixel, samples, srOf, drOf, ringSumOf, floatOf, responseOf, response, responseAt}
+use Rattle.response.specs.Response.{samples, srOf, drOf, ringSumOf, responseOf, response, responseAt}
 use Rattle.response.specs.Patch.{cells}
 use Rattle.response.proofs.Inside.{out-left, out-right, out-above, out-below, at-outside, at-inside}
 use Rattle.accuracy.specs.Accurate.{Bytes}

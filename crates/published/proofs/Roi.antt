@@ -27,8 +27,8 @@ use Rattle.corner_list.proofs.Inside.{inside-parts}
 use Rattle.multiscale.specs.declared.RoiContext.{RoiContext}
 use Rattle.multiscale.specs.declared.RoiAnswer.{RoiAnswer}
 use Rattle.multiscale.specs.declared.RoiAnswer.the-variants.{Bounds, NoRoi}
-use Rattle.multiscale.specs.Multiscale.{conditions, refusal, border, roiRadius, centreOf, lowEnd, highEnd}
-use Rattle.multiscale.specs.Promise.{Sound}
+use Rattle.multiscale.specs.Multiscale.{conditions, refusalOf, border, roiRadius, centreOf, lowEnd, highEnd}
+use Rattle.multiscale.specs.Internal.{SoundContext}
 use Rattle.multiscale.proofs.Contexts.{sound}
 use Rattle.multiscale.proofs.Centre.{centre-is}
 use Rattle.multiscale.proofs.Told.{isOff, roi-told}
@@ -90,13 +90,14 @@ context c =
       base-h = pos (c .height);
     }
 
-context-is : (c : RoiContext) → Sound c
-    → contextRs (c .width) (c .height) (scaleOf (c .level)) (borderRs (c .ring) (c .window)) (pos (c .centroid)) (c .search) ≡ context c
+context-is : (c : RoiContext) → SoundContext c
+    → contextRs (c .width) (c .height) (scaleOf (c .level)) (borderRs (c .ring) (c .window)) (pos (c .«centroid_radius»)) (c .«search_radius») ≡ context c
 unfolding contextRs roiRadius
 context-is c s =
-    rw (le-ltb (c .ring + c .window) 0 (omega arith), le-ltb (c .ring + c .window + c .centroid) 0 (omega arith))
-    (ap₂ with-sizes (inverse-is (c .level)) (ap (λ (n : ℤ). maxZ n (pos (border c + 2))) (search-is (c .search) (c .level) (s .search) (s .level))
-    ∙ larger (c .search * 2 ^ c .level) (border c + 2)))
+    rw (le-ltb (c .ring + c .window) 0 (omega arith), le-ltb (c .ring + c .window + c .«centroid_radius») 0 (omega arith))
+    (ap₂ with-sizes (inverse-is (c .level))
+    (ap (λ (n : ℤ). maxZ n (pos (border c + 2))) (search-is (c .«search_radius») (c .level) (s .«search_radius») (s .level))
+    ∙ larger (c .«search_radius» * 2 ^ c .level) (border c + 2)))
   where
     with-sizes : Float → ℤ → ContextRs
     with-sizes inverse radius =
@@ -193,8 +194,8 @@ module _ (c : RoiContext) (p q : ℕ) where
       go false false false true s t = rw (or-right (narrow (c .width) p))
       go false false false false s t = sized-is (omega (arith, leb-false (c .width - margin) p s)) (omega (arith, leb-false (c .height - margin) q t))
 
-seed-inside : (c : RoiContext) (s : Corner) → refusal c s ≡ 0 → isInside s ≡ true
-unfolding refusal
+seed-inside : (c : RoiContext) (s : Corner) → refusalOf c s ≡ 0 → isInside s ≡ true
+unfolding refusalOf
 seed-inside c s e = not-false (isInside s) (all-clear (conditions c s) (lit< tt, (lit< tt, (lit< tt, tt))) e .1 .1 .0)
 
 pub roi-as-published : RoiAsPublished

@@ -12,8 +12,8 @@ use borrow.Author.Tests.{le-leb, leb-true}
 use Rattle.lists.specs.Places.{flatMap}
 use Rattle.lists.proofs.Tests.{and-parts}
 use Rattle.corner_list.specs.declared.Corner.{Corner}
-use Rattle.merge_grid.specs.declared.Grid.{Grid}
-use Rattle.merge_grid.specs.MergeGrid.{positionOf, columnOf, rowOf, adjacent, neighbours}
+use Rattle.merge.specs.declared.grid.Grid.{Grid}
+use Rattle.merge.specs.Grid.{positionOf, columnOf, rowOf, adjacent, neighbours}
 use Rattle.published.specs.MergeRs.{GridRs, widthRs, heightRs, columnRs, rowRs, indexRs, outAt, aroundRs, scannedRs}
 use Rattle.published.proofs.Indices.{In, range-in, in-range}
 use Rattle.published.proofs.Grid.{Holds}
@@ -42,7 +42,8 @@ by-near : (a b side : ℕ) → a - 1 ≤ b → b < min (a + 1) (side - 1) + 1 �
 by-near a b side p q = rw (le-leb a (b + 1) (omega arith), le-leb b (a + 1) (omega arith))
 
 module _ (g : GridRs) (G : Grid) (out : List Corner) (grid : ℕ → List ℕ) (h : Holds (indexRs g) (Placed g G) out grid) (c : Corner) (at : Placed g G c) where
-  neighbours-are : (o : Corner) → Placed g G o → neighbours G (positionOf c) (positionOf o) ≡ (adjacent (columnRs g c) (columnRs g o) && adjacent (rowRs g c) (rowRs g o))
+  neighbours-are : (o : Corner) → Placed g G o
+      → neighbours G (positionOf c) (positionOf o) ≡ (adjacent (columnRs g c) (columnRs g o) && adjacent (rowRs g c) (rowRs g o))
   unfolding neighbours
   neighbours-are o p = rw (at .0, at .1, p .0, p .1)
 

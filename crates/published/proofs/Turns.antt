@@ -14,8 +14,8 @@ use borrow.Author.Tests.{eqb-true, eqb-false}
 use Rattle.lists.specs.Places.{All}
 use Rattle.lists.proofs.Tests.{and-parts}
 use Rattle.corner_list.specs.declared.Corner.{Corner}
-use Rattle.merge_grid.specs.declared.Grid.{Grid}
-use Rattle.merge_grid.specs.MergeGrid.{positionOf, near, neighbours, joins}
+use Rattle.merge.specs.declared.grid.Grid.{Grid}
+use Rattle.merge.specs.Grid.{positionOf, near, neighbours, joins}
 use Rattle.merge.specs.Merge.{stronger, settle, merged}
 use Rattle.merge.proofs.Settle.{settle-none, settle-some, settle-one}
 use Rattle.published.specs.MergeRs.{GridRs, StateRs, widthRs, indexRs, columnRs, rowRs, nowhere, outAt}

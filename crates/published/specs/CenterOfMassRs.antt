@@ -11,7 +11,7 @@ use Rattle.lists.specs.Places.{Place, flatMap}
 use Rattle.float32.specs.Float32.{zero}
 use Rattle.center_of_mass.specs.declared.Outcome.{Outcome}
 use Rattle.center_of_mass.specs.declared.Outcome.the-variants.{Accepted, Rejected, OutOfBounds, IllConditioned}
-use Rattle.center_of_mass.specs.CenterOfMass.{refusal, refined}
+use Rattle.center_of_mass.specs.CenterOfMass.{refusalOf, refined}
 use Rattle.published.specs.Rust.{asUsize, clampZ, around, roundF, cutI32, IsMax}
 
 -- one turn of its loops: the cell that is weighed
@@ -44,5 +44,5 @@ refineRs r seed-x seed-y has-map weight w h =
 -- a call that is not refused, whatever `max` gives
 abbrev pub RefineAsPublished : Type 0
 RefineAsPublished =
-    (r : ℕ) (x y : Float) (has-map : Bool) (m : List Float) (w h : ℕ) (weight : Place → Float) → refusal r x y has-map (length m) w h ≡ 0
+    (r : ℕ) (x y : Float) (has-map : Bool) (m : List Float) (w h : ℕ) (weight : Place → Float) → refusalOf r x y has-map (length m) w h ≡ 0
     → ((p : Place) → IsMax (getD m (p .y * w + p .x) nan) zero (weight p)) → refineRs r x y has-map weight w h ≡ refined r x y has-map m w h

@@ -12,8 +12,8 @@ use Rattle.float32.specs.Float32.{zero}
 use Rattle.corner_list.specs.declared.Corner.{Corner}
 use Rattle.corner_list.specs.CornerList.{Slices, xOf, yOf, isInside, cornersOf}
 use Rattle.merge_radius.specs.MergeRadius.{isSized}
-use Rattle.merge_refusal.specs.MergeRefusal.{refusalOf}
-use Rattle.merge_grid.specs.MergeGrid.{leastFrom, positionOf, columnOf, rowOf, gridOf}
+use Rattle.merge.specs.Refusals.{refusalOf}
+use Rattle.merge.specs.Grid.{leastFrom, positionOf, columnOf, rowOf, gridOf}
 use Rattle.merge.specs.Merge.{merged, resultOf}
 use Rattle.published.specs.Rust.{floorF, cutUsize}
 use Rattle.published.specs.PyramidRs.{one32}
@@ -68,7 +68,8 @@ rowRs g c = cellRs (g .min-y) (g .inv-cell) (heightRs g) (c .y)
 abbrev pub CellsAsPublished : Type 0
 CellsAsPublished =
     (radius : Float) (cs : List Corner) → isSized radius ≡ true → All (λ c. isInside c ≡ true) cs
-    → All (λ c. (columnRs (gridRs radius cs) c ≡ columnOf (gridOf radius cs) (positionOf c)) × (rowRs (gridRs radius cs) c ≡ rowOf (gridOf radius cs) (positionOf c))) cs
+    → All (λ c. (columnRs (gridRs radius cs) c ≡ columnOf (gridOf radius cs) (positionOf c))
+    × (rowRs (gridRs radius cs) c ≡ rowOf (gridOf radius cs) (positionOf c))) cs
 
 -- ---- the loop
 

@@ -10,7 +10,7 @@ use Rattle.corner_list.specs.declared.Corner.{Corner}
 use Rattle.multiscale.specs.declared.RoiContext.{RoiContext}
 use Rattle.multiscale.specs.declared.RoiAnswer.{RoiAnswer}
 use Rattle.multiscale.specs.declared.RoiAnswer.the-variants.{Bounds, NoRoi}
-use Rattle.multiscale.specs.Multiscale.{refusal, roiOf}
+use Rattle.multiscale.specs.Multiscale.{refusalOf, roiOf}
 use Rattle.published.specs.Rust.{asUsize, maxZ, roundF, ceilF, cutI32}
 use Rattle.published.specs.PyramidRs.{one32, scaleOf}
 
@@ -71,5 +71,6 @@ roiRs c s =
 -- a seed that is not refused, at the scale of its level; its coordinates are of type f32
 abbrev pub RoiAsPublished : Type 0
 RoiAsPublished =
-    (c : RoiContext) (s : Corner) → T (fits binary32 (s .x)) → T (fits binary32 (s .y)) → refusal c s ≡ 0
-    → roiRs (contextRs (c .width) (c .height) (scaleOf (c .level)) (borderRs (c .ring) (c .window)) (pos (c .centroid)) (c .search)) s ≡ roiOf c s
+    (c : RoiContext) (s : Corner) → T (fits binary32 (s .x)) → T (fits binary32 (s .y)) → refusalOf c s ≡ 0
+    → roiRs (contextRs (c .width) (c .height) (scaleOf (c .level)) (borderRs (c .ring) (c .window)) (pos (c .«centroid_radius»))
+    (c .«search_radius»)) s ≡ roiOf c s

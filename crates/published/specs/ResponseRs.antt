@@ -8,11 +8,11 @@ use lib.IntN.{ℤ, pos, natAbs, _+ℤ_, _-ℤ_}
 use lib.ListN.{getD}
 use lib.Ieee.{Float, binary32, add, sub, mul, div}
 use Rattle.lists.specs.Tab.{grid}
-use Rattle.float32.specs.Float32.{zero, abs}
+use Rattle.float32.specs.Float32.{zero, abs, floatOf}
 use Rattle.float32.specs.Value.{total}
 use Rattle.ring.specs.Ring.{Ring, IsRing, ringOf}
-use Rattle.response.specs.Response.{sixteen, five, floatOf, response}
-use Rattle.response.specs.Patch.{View, whole, cols, rows, cells}
+use Rattle.response.specs.Response.{sixteen, five, response}
+use Rattle.response.specs.Patch.{View, whole, mapWidth, mapHeight, cells}
 use Rattle.accuracy.specs.Accurate.{Bytes}
 use Rattle.published.specs.Rust.{asUsize, lessUsize}
 use Rattle.published.specs.RingRs.{Offset, ringOffsets, ringRadius, offsetsOf}
@@ -90,7 +90,7 @@ patchRs img w h radius roi-x0 roi-y0 roi-x1 roi-y1 =
 
 -- the map of a box as the definitions have it
 abbrev pub mapOf : View → MapRs
-mapOf v = record { w = cols v; h = rows v; cells = cells v }
+mapOf v = record { w = mapWidth v; h = mapHeight v; cells = cells v }
 
 -- for sides that are not refused, thinner than the ring or not
 abbrev pub PatchAsPublished : Type 0

@@ -9,12 +9,12 @@ use borrow.Author.Tests.{ne-eqb}
 use Rattle.lists.specs.Buffer.{front, placed}
 use Rattle.lists.proofs.Buffer.{front-more}
 use Rattle.pyramid_levels.specs.Levels.{levelSide, levelCount, cellsAbove}
-use Rattle.pyramid_levels.specs.Refusals.{buildRefusal}
+use Rattle.pyramid_levels.specs.Refusals.{buildRefusalOf}
 use Rattle.pyramid_levels.proofs.Sides.{side-base, side-next}
 use Rattle.pyramid_levels.proofs.Cells.{cells-next, cells-step, cells-mono}
 use Rattle.pyramid.specs.Pyramid.{halved, levelPixels, above}
 use Rattle.pyramid.specs.Build.{Built}
-use Rattle.pyramid.specs.Needs.{holderOf, Halving, LevelHalved, Filled}
+use Rattle.pyramid.specs.Internal.{holderOf, Halving, LevelHalved, Filled}
 use Rattle.pyramid.specs.declared.Pyramid.the-variants.{Levels, Refused}
 use Rattle.pyramid.proofs.Lengths.{above-last, length-above}
 use Rattle.pyramid.proofs.Above.{level-inside, part-is, level-built}
@@ -38,7 +38,8 @@ reach-base base d w h n = record { long = refl; last = omega arith; cols = side-
 pub reach-all : (base d : List ℕ) (w h n k a b from to : ℕ) (s : List ℕ) → Reached base d w h n k a b from to s → n ≤ k + 1 → Filled base w h n d s
 reach-all base d w h n k a b from to s r l = record { is = r .holds ∙ ap (λ (v : List ℕ). front v d) (above-last base w h n k l (r .last)) }
 
-module _ (base d : List ℕ) (w h n k a b from to : ℕ) (s : List ℕ) (sized : length base ≡ w * h) (fits : cellsAbove w h n ≤ length d) (r : Reached base d w h n k a b from to s) (l : k + 1 < n) where
+module _ (base d : List ℕ) (w h n k a b from to : ℕ) (s : List ℕ) (sized : length base ≡ w * h) (fits : cellsAbove w h n ≤ length d)
+    (r : Reached base d w h n k a b from to s) (l : k + 1 < n) where
   -- the next level ends within the buffer
   next-ends : to + a / 2 * (b / 2) ≡ cellsAbove w h (suc (suc k))
   next-ends = rw (r .ends) (cells-next w h k (a / 2) (b / 2) (side-next w k a (r .cols)) (side-next h k b (r .rows)))
@@ -63,7 +64,8 @@ module _ (base d : List ℕ) (w h n k a b from to : ℕ) (s : List ℕ) (sized :
       (ap (λ (v : List ℕ). halved v (levelSide w k) (levelSide h k))
       (part-is base (front (above base w h (suc k)) d) w h k sized ∙ level-built base d w h (suc k) k (omega arith)))
 
-  pub reach-next : (s′ : List ℕ) → length s′ ≡ length s → LevelHalved base s k from a to (b / 2) s′ → Reached base d w h n (k + 1) (a / 2) (b / 2) to (to + a / 2 * (b / 2)) s′
+  pub reach-next : (s′ : List ℕ) → length s′ ≡ length s → LevelHalved base s k from a to (b / 2) s′
+      → Reached base d w h n (k + 1) (a / 2) (b / 2) to (to + a / 2 * (b / 2)) s′
   unfolding above halved
   reach-next s′ e t =
       record {
@@ -82,11 +84,13 @@ module _ (base d : List ℕ) (w h n k a b from to : ℕ) (s : List ℕ) (sized :
 
 -- ---- the answer
 
-module _ (base : List ℕ) (w h count least : ℕ) (d : List ℕ) where
-  pub built-refused : (n : ℕ) → buildRefusal (length base) (length d) w h count least ≡ n → (n ≡ 0 → ⊥) → Built base w h count least d (Refused n) d
+module _ (base : List ℕ) (w h count minimumSide : ℕ) (d : List ℕ) where
+  pub built-refused : (n : ℕ) → buildRefusalOf (length base) (length d) w h count minimumSide ≡ n → (n ≡ 0 → ⊥)
+      → Built base w h count minimumSide d (Refused n) d
   built-refused zero e z = absurd (z refl)
   built-refused (suc n) e z = record { answer = rw e; number = sym e; values = rw e; buffer = rw (e, ne-eqb (suc n) 0 z) }
 
-  pub built-filled : (n : ℕ) (s : List ℕ) → buildRefusal (length base) (length d) w h count least ≡ 0 → n ≡ levelCount w h count least → Filled base w h n d s
-      → Built base w h count least d (Levels n) s
+  pub built-filled : (n : ℕ) (s : List ℕ) → buildRefusalOf (length base) (length d) w h count minimumSide ≡ 0
+      → n ≡ levelCount w h count minimumSide → Filled base w h n d s
+      → Built base w h count minimumSide d (Levels n) s
   built-filled n s e q f = record { answer = rw (e, q); number = sym e; values = rw (e, q); buffer = f .is ∙ rw (e, q) }

@@ -14,7 +14,7 @@ use Rattle.lists.specs.Buffer.{placed}
 use Rattle.lists.proofs.Tab.{length-tab, tab-ext, tab-add, length-grid, grid-ext}
 use Rattle.lists.proofs.Buffer.{placed-none, placed-more, placed-before, put-placed}
 use Rattle.pyramid.specs.Pyramid.{boxOf, halfPixel, halved}
-use Rattle.pyramid.specs.Needs.{holderOf, Halving, Summed, RowHalved, LevelHalved}
+use Rattle.pyramid.specs.Internal.{holderOf, Halving, Summed, RowHalved, LevelHalved}
 
 pub holder-buffer : (base levels : List ℕ) (k : ℕ) → (k ≡ 0 → ⊥) → levels ≡ holderOf base levels k
 holder-buffer base levels zero z = absurd (z refl)
@@ -30,13 +30,15 @@ holder-short base d zero most p q = p
 holder-short base d (suc k) most p q = q
 
 -- what is read is as it was
-kept : (base d vs : List ℕ) (k to i j : ℕ) → to ≤ length d → i ≡ j → ((k ≡ 0 → ⊥) → j < to) → getD (holderOf base (placed to vs d) k) i 0 ≡ getD (holderOf base d k) j 0
+kept : (base d vs : List ℕ) (k to i j : ℕ) → to ≤ length d → i ≡ j → ((k ≡ 0 → ⊥) → j < to)
+    → getD (holderOf base (placed to vs d) k) i 0 ≡ getD (holderOf base d k) j 0
 kept base d vs zero to i j h e l = ap (λ (n : ℕ). getD base n 0) e
 kept base d vs (suc k) to i j h e l = ap (λ (n : ℕ). getD (placed to vs d) n 0) e ∙ placed-before to vs d j 0 h (l (λ z. omega arith))
 
 -- a half-size pixel of the two rows that begin at `from`, by its four places
 half-at : (s : List ℕ) (from w x : ℕ)
-    → halfPixel (drop from s) w x 0 ≡ boxOf (getD s (from + 2 * x) 0) (getD s (from + 2 * x + 1) 0) (getD s (from + w + 2 * x) 0) (getD s (from + w + 2 * x + 1) 0)
+    → halfPixel (drop from s) w x 0 ≡ boxOf (getD s (from + 2 * x) 0) (getD s (from + 2 * x + 1) 0) (getD s (from + w + 2 * x) 0)
+    (getD s (from + w + 2 * x + 1) 0)
 unfolding halfPixel
 half-at s from w x =
     rw (
@@ -50,7 +52,8 @@ half-at s from w x =
     at i j p = getD-drop from s i 0 ∙ ap (λ (n : ℕ). getD s n 0) p
 
 -- images whose pairs of rows agree have the same half-size pixels there
-half-alike : (s t : List ℕ) (w x y y′ : ℕ) → ((i : ℕ) → i < 2 * w → getD s (2 * y * w + i) 0 ≡ getD t (2 * y′ * w + i) 0) → x < w / 2 → halfPixel s w x y ≡ halfPixel t w x y′
+half-alike : (s t : List ℕ) (w x y y′ : ℕ) → ((i : ℕ) → i < 2 * w → getD s (2 * y * w + i) 0 ≡ getD t (2 * y′ * w + i) 0) → x < w / 2
+    → halfPixel s w x y ≡ halfPixel t w x y′
 unfolding halfPixel
 half-alike s t w x y y′ e l =
     rw (
@@ -85,7 +88,8 @@ module _ (base d : List ℕ) (k from w to : ℕ) (ok : Halving base d k from w 2
       at : ℕ → ℕ
       at n = getD (holderOf base d k) n 0
 
-      four : getD sums (2 * i) 0 + getD sums (2 * i + 1) 0 + 2 ≡ at (from + 2 * (x + i)) + at (from + 2 * (x + i) + 1) + at (from + w + 2 * (x + i)) + at (from + w + 2 * (x + i) + 1) + 2
+      four : getD sums (2 * i) 0 + getD sums (2 * i + 1) 0 + 2
+          ≡ at (from + 2 * (x + i)) + at (from + 2 * (x + i) + 1) + at (from + w + 2 * (x + i)) + at (from + w + 2 * (x + i) + 1) + 2
       four =
           omega (
             arith,
@@ -101,12 +105,14 @@ module _ (base d : List ℕ) (k from w to : ℕ) (ok : Halving base d k from w 2
   pub block-inside : (s : List ℕ) (x m : ℕ) → length s ≡ length d → x + m ≤ w / 2 → from + 2 * x + w + 2 * m ≤ length (holderOf base s k)
   block-inside s x m e p = omega (arith, ok .inside, holder-length base d s k e)
 
-  block-tab : (x m n : ℕ) (s sums : List ℕ) → RowHalved base d k from w to x s → x + m ≤ w / 2 → Summed (holderOf base s k) (from + 2 * x) (from + 2 * x + w) (2 * m) sums → n ≡ m
+  block-tab : (x m n : ℕ) (s sums : List ℕ) → RowHalved base d k from w to x s → x + m ≤ w / 2
+      → Summed (holderOf base s k) (from + 2 * x) (from + 2 * x + w) (2 * m) sums → n ≡ m
       → tab n (λ i. (getD sums (2 * i) 0 + getD sums (2 * i + 1) 0 + 2) / 4) ≡ tab m (λ i. rowOf (x + i))
   block-tab x m n s sums e p q r = rw r (tab-ext m _ _ (block-pixel x m (tab x rowOf) sums p (rw (e .is) at q)))
 
   -- the block behind the columns before it
-  pub row-put : (x m n : ℕ) (s sums ys : List ℕ) → RowHalved base d k from w to x s → x + m ≤ w / 2 → Summed (holderOf base s k) (from + 2 * x) (from + 2 * x + w) (2 * m) sums
+  pub row-put : (x m n : ℕ) (s sums ys : List ℕ) → RowHalved base d k from w to x s → x + m ≤ w / 2
+      → Summed (holderOf base s k) (from + 2 * x) (from + 2 * x + w) (2 * m) sums
       → ys ≡ tab n (λ i. (getD sums (2 * i) 0 + getD sums (2 * i + 1) 0 + 2) / 4) → n ≡ m
       → RowHalved base d k from w to (x + m) (putMid (to + x) (to + x + m - (to + x)) s ys)
   row-put x m n s sums ys e p q t r =
@@ -133,7 +139,8 @@ pub level-none : (base d : List ℕ) (k from w to : ℕ) → LevelHalved base d 
 unfolding grid
 level-none base d k from w to = record { is = placed-none to d }
 
-module _ (base d : List ℕ) (k from w h to : ℕ) (ok : Halving base d k from w h to) (s : List ℕ) (y a at : ℕ) (long : length s ≡ length d) (l : y < h / 2) (p : a ≡ from + 2 * y * w) (q : at ≡ to + y * (w / 2)) where
+module _ (base d : List ℕ) (k from w h to : ℕ) (ok : Halving base d k from w h to) (s : List ℕ) (y a at : ℕ) (long : length s ≡ length d)
+    (l : y < h / 2) (p : a ≡ from + 2 * y * w) (q : at ≡ to + y * (w / 2)) where
   pub row-ok : Halving base s k a w 2 at
   row-ok =
       record {
@@ -146,7 +153,8 @@ module _ (base d : List ℕ) (k from w h to : ℕ) (ok : Halving base d k from w
   pixelOf = halfPixel (drop from (holderOf base d k)) w
 
   -- what is read of the buffer as it is by then
-  row-read : LevelHalved base d k from w to y s → (i : ℕ) → i < 2 * w → getD (drop a (holderOf base s k)) (2 * 0 * w + i) 0 ≡ getD (drop from (holderOf base d k)) (2 * y * w + i) 0
+  row-read : LevelHalved base d k from w to y s → (i : ℕ) → i < 2 * w
+      → getD (drop a (holderOf base s k)) (2 * 0 * w + i) 0 ≡ getD (drop from (holderOf base d k)) (2 * y * w + i) 0
   row-read e i t =
       getD-drop a (holderOf base s k) (2 * 0 * w + i) 0
       ∙ rw (e .is)
@@ -161,8 +169,10 @@ module _ (base d : List ℕ) (k from w h to : ℕ) (ok : Halving base d k from w
       record {
         is =
             r .is
-            ∙ ap₂ (placed at) (tab-ext (w / 2) _ _ (λ x t. half-alike (drop a (holderOf base s k)) (drop from (holderOf base d k)) w x 0 y (row-read e) t)) (e .is)
-            ∙ placed-more to at (grid (w / 2) y pixelOf) (tab (w / 2) (λ x. pixelOf x y)) d (omega (arith, ok .fits)) (omega (arith, length-grid (w / 2) y pixelOf))
+            ∙ ap₂ (placed at) (tab-ext (w / 2) _ _
+            (λ x t. half-alike (drop a (holderOf base s k)) (drop from (holderOf base d k)) w x 0 y (row-read e) t)) (e .is)
+            ∙ placed-more to at (grid (w / 2) y pixelOf) (tab (w / 2) (λ x. pixelOf x y)) d (omega (arith, ok .fits))
+            (omega (arith, length-grid (w / 2) y pixelOf))
             ∙ rw add-one;
       }
 

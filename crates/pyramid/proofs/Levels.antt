@@ -10,42 +10,37 @@ use Rattle.lists.specs.Buffer.{front}
 use Rattle.lists.proofs.Tab.{getD-grid-any}
 use Rattle.lists.proofs.Buffer.{front-length}
 use Rattle.pyramid_levels.specs.Levels.{levelSide, levelCount, cellsAbove}
-use Rattle.pyramid_levels.specs.Refusals.{buildRefusal, levelRefusal}
+use Rattle.pyramid_levels.specs.Refusals.{buildRefusalOf, levelRefusalOf}
 use Rattle.pyramid_levels.specs.Level.{levelAnswer}
 use Rattle.pyramid_levels.specs.declared.LevelAnswer.the-variants.{Level}
 use Rattle.pyramid_levels.proofs.Sides.{side-le, count-few}
-use Rattle.pyramid_levels.proofs.Refusals.{Accepted, accepts, accepted, level-accepts}
+use Rattle.pyramid_levels.specs.Internal.{LevelsAccepted}
+use Rattle.pyramid_levels.proofs.Refusals.{accepts, accepted, level-accepts}
 use Rattle.pyramid_levels.proofs.Answers as answers
 use Rattle.pyramid.specs.Pyramid.{boxOf, halfPixel, halved, levelPixels, above}
 use Rattle.pyramid.specs.Build.{answerOf, Built}
 use Rattle.pyramid.specs.Level.{levelIn}
+use Rattle.pyramid.specs.Internal.{LevelsComplete}
 use Rattle.pyramid.specs.declared.Pyramid.{Pyramid}
 use Rattle.pyramid.specs.declared.Pyramid.the-variants.{Levels, Refused}
 use Rattle.pyramid.proofs.Lengths.{length-above, length-level}
 use Rattle.pyramid.proofs.Above.{level-built}
 
--- the level buffer d after a pyramid of n levels was built over a base of w by h
-pub record Complete (base : List ℕ) (w h count least : ℕ) (d e : List ℕ) (n : ℕ) : Type 0 where
-  pub allowed : Accepted (length base) (length d) w h count least
-  pub counted : n ≡ levelCount w h count least
-  pub long : length e ≡ length d
-  pub fills : e ≡ front (above base w h n) d
-
 -- ---- the answer
 
-levels-is : (n k m : ℕ) → answerOf n k ≡ Levels m → (k ≡ 0) × (m ≡ n)
+levels-is : (n k m : ℕ) → answerOf k n ≡ Levels m → (k ≡ 0) × (m ≡ n)
 levels-is n zero m e = (refl, (cc))
 levels-is n (suc k) m e = let z : _≡_ {A = ℕ} 0 1 = cc in absurd (omega arith)
 
-refused-is : (n k m : ℕ) → answerOf n k ≡ Refused m → (k ≡ m) × (0 < m)
+refused-is : (n k m : ℕ) → answerOf k n ≡ Refused m → (k ≡ m) × (0 < m)
 refused-is n zero m e = let z : _≡_ {A = ℕ} 0 1 = cc in absurd (omega arith)
 refused-is n (suc k) m e = let q : suc k ≡ m = cc in (q, omega arith)
 
-module _ (base : List ℕ) (w h count least : ℕ) (d : List ℕ) (r : Pyramid) (e : List ℕ) (b : Built base w h count least d r e) where
+module _ (base : List ℕ) (w h count minimumSide : ℕ) (d : List ℕ) (r : Pyramid) (e : List ℕ) (b : Built base w h count minimumSide d r e) where
   -- a pyramid was built
-  pub built : (n : ℕ) → r ≡ Levels n → Complete base w h count least d e n
+  pub built : (n : ℕ) → r ≡ Levels n → LevelsComplete base w h count minimumSide d e n
   built n c =
-      let q = levels-is (levelCount w h count least) (buildRefusal (length base) (length d) w h count least) n (sym (b .answer) ∙ c) in
+      let q = levels-is (levelCount w h count minimumSide) (buildRefusalOf (length base) (length d) w h count minimumSide) n (sym (b .answer) ∙ c) in
       let a = accepted _ _ _ _ _ _ (q .0) in
       let f : e ≡ front (above base w h n) d = b .buffer ∙ rw (q .0, q .1) in
       record {
@@ -56,39 +51,39 @@ module _ (base : List ℕ) (w h count least : ℕ) (d : List ℕ) (r : Pyramid) 
       }
 
   -- or refused, and the level buffer is as it was
-  pub refused : (n : ℕ) → r ≡ Refused n → (buildRefusal (length base) (length d) w h count least ≡ n) × (e ≡ d)
+  pub refused : (n : ℕ) → r ≡ Refused n → (buildRefusalOf (length base) (length d) w h count minimumSide ≡ n) × (e ≡ d)
   refused n c =
-      let q = refused-is (levelCount w h count least) (buildRefusal (length base) (length d) w h count least) n (sym (b .answer) ∙ c) in
+      let q = refused-is (levelCount w h count minimumSide) (buildRefusalOf (length base) (length d) w h count minimumSide) n (sym (b .answer) ∙ c) in
       (q .0, b .buffer ∙ rw (q .0, ne-eqb n 0 (λ (z : n ≡ 0). omega (arith, q .1))))
 
   -- where nothing refuses, all levels are built
-  pub builds : Accepted (length base) (length d) w h count least → r ≡ Levels (levelCount w h count least)
-  builds a = b .answer ∙ ap (answerOf (levelCount w h count least)) (accepts _ _ _ _ _ _ a)
+  pub builds : LevelsAccepted (length base) (length d) w h count minimumSide → r ≡ Levels (levelCount w h count minimumSide)
+  builds a = b .answer ∙ ap (λ (k : ℕ). answerOf k (levelCount w h count minimumSide)) (accepts _ _ _ _ _ _ a)
 
 -- ---- how many levels: at most 13
-pub levels-few : (base : List ℕ) (w h count least : ℕ) (d e : List ℕ) (n : ℕ) → Complete base w h count least d e n → n ≤ 13
-levels-few base w h count least d e n c = rw (c .counted) (count-few w h count least (c .allowed .image .narrow))
+pub levels-few : (base : List ℕ) (w h count minimumSide : ℕ) (d e : List ℕ) (n : ℕ) → LevelsComplete base w h count minimumSide d e n → n ≤ 13
+levels-few base w h count minimumSide d e n c = rw (c .counted) (count-few w h count minimumSide (c .allowed .image .narrow))
 
 -- ---- the lookup of what was built
 
-module _ (base : List ℕ) (w h count least : ℕ) (d e : List ℕ) (n : ℕ) (c : Complete base w h count least d e n) (k : ℕ) (l : k < n) where
-  still : Accepted (length base) (length e) w h count least
+module _ (base : List ℕ) (w h count minimumSide : ℕ) (d e : List ℕ) (n : ℕ) (c : LevelsComplete base w h count minimumSide d e n) (k : ℕ) (l : k < n) where
+  still : LevelsAccepted (length base) (length e) w h count minimumSide
   still = rw (c .long) (c .allowed)
 
-  free : levelRefusal (length base) (length e) w h count least k ≡ 0
+  free : levelRefusalOf (length base) (length e) w h count minimumSide k ≡ 0
   free = level-accepts _ _ _ _ _ _ k still (rw (c .counted) at l)
 
   -- `level_at` says where level k lies
-  pub level-place : levelAnswer (length base) (length e) w h count least k ≡ Level (cellsAbove w h k) (levelSide w k) (levelSide h k)
+  pub level-place : levelAnswer (length base) (length e) w h count minimumSide k ≡ Level (cellsAbove w h k) (levelSide w k) (levelSide h k)
   level-place = sym (answers.level-found _ _ _ _ _ _ _ _ free refl .answer)
 
   -- `level` hands out the base, halved k times
-  pub level-found : levelIn base e w h count least k ≡ levelPixels base w h k
+  pub level-found : levelIn base e w h count minimumSide k ≡ levelPixels base w h k
   unfolding levelIn
   level-found = rw (level-place, c .fills) (level-built base d w h n k l)
 
   -- width × height pixels, and sides up to 4,096: what number 2 and number 1 ask
-  pub level-long : length (levelIn base e w h count least k) ≡ levelSide w k * levelSide h k
+  pub level-long : length (levelIn base e w h count minimumSide k) ≡ levelSide w k * levelSide h k
   level-long = ap length level-found ∙ length-level base w h k (c .allowed .image .sized)
 
   pub level-small : (levelSide w k ≤ 4096) × (levelSide h k ≤ 4096)

@@ -7,7 +7,7 @@ use mathlib.Core.List.{List, []}
 use lib.ListN.{length, take, drop}
 use borrow.Author.Tests.{ne-eqb}
 use Rattle.pyramid_levels.specs.Levels.{levelCells, levelCount, cellsAbove, capped}
-use Rattle.pyramid_levels.specs.Refusals.{levelRefusal}
+use Rattle.pyramid_levels.specs.Refusals.{levelRefusalOf}
 use Rattle.pyramid_levels.specs.Level.{levelAnswer}
 use Rattle.pyramid_levels.proofs.Cells.{cells-step, cells-mono, cells-exact}
 use Rattle.pyramid_levels.proofs.Refusals.{level-accepted}
@@ -28,18 +28,19 @@ pub record Between (levels : List ℕ) (w h k from end : ℕ) : Type 0 where
   pub ends : end ≡ from + levelCells w h k
   pub fits : end ≤ length levels
 
-module _ (base levels : List ℕ) (w h count least k : ℕ) where
-  pub level-refused : (n : ℕ) → n ≡ levelRefusal (length base) (length levels) w h count least k → (n ≡ 0 → ⊥) → [] ≡ levelIn base levels w h count least k
+module _ (base levels : List ℕ) (w h count minimumSide k : ℕ) where
+  pub level-refused : (n : ℕ) → n ≡ levelRefusalOf (length base) (length levels) w h count minimumSide k → (n ≡ 0 → ⊥)
+      → [] ≡ levelIn base levels w h count minimumSide k
   unfolding levelIn levelAnswer
   level-refused zero e z = absurd (z refl)
   level-refused (suc n) e z = rw (← e, ne-eqb (suc n) 0 z)
 
-  module _ (free : levelRefusal (length base) (length levels) w h count least k ≡ 0) where
-    level-part : levelPart base levels w h k ≡ levelIn base levels w h count least k
+  module _ (free : levelRefusalOf (length base) (length levels) w h count minimumSide k ≡ 0) where
+    level-part : levelPart base levels w h k ≡ levelIn base levels w h count minimumSide k
     unfolding levelIn levelAnswer
     level-part = rw free
 
-    pub level-base : k ≡ 0 → base ≡ levelIn base levels w h count least k
+    pub level-base : k ≡ 0 → base ≡ levelIn base levels w h count minimumSide k
     level-base z = part-base base levels w h k z ∙ level-part
 
     pub level-between : (from end : ℕ) → (k ≡ 0 → ⊥) → from ≡ capped (cellsAbove w h k) → end ≡ capped (cellsAbove w h (k + 1)) → Between levels w h k from end
@@ -51,10 +52,11 @@ module _ (base levels : List ℕ) (w h count least k : ℕ) where
         record {
           begins = b;
           ends = omega (arith, cells-step w h k z);
-          fits = omega (arith, cells-mono w h (suc k) (levelCount w h count least) (a .1), a .0 .fits);
+          fits = omega (arith, cells-mono w h (suc k) (levelCount w h count minimumSide) (a .1), a .0 .fits);
         }
 
-    pub level-higher : (from end : ℕ) → (k ≡ 0 → ⊥) → Between levels w h k from end → take (end - from) (drop from levels) ≡ levelIn base levels w h count least k
+    pub level-higher : (from end : ℕ) → (k ≡ 0 → ⊥) → Between levels w h k from end
+        → take (end - from) (drop from levels) ≡ levelIn base levels w h count minimumSide k
     level-higher from end z b =
         let m : end - from ≡ levelCells w h k = omega (arith, b .ends) in
         rw (m, b .begins) (part-higher base levels w h k z ∙ level-part)

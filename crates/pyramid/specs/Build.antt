@@ -8,17 +8,17 @@ use lib.ListN.{length}
 use Rattle.lists.specs.Buffer.{front}
 use Rattle.lists.specs.Refusals.{valuesUnless}
 use Rattle.pyramid_levels.specs.Levels.{levelCount}
-use Rattle.pyramid_levels.specs.Refusals.{buildRefusal}
+use Rattle.pyramid_levels.specs.Refusals.{buildRefusalOf}
 use Rattle.pyramid.specs.Pyramid.{above}
 use Rattle.pyramid.specs.declared.Pyramid.{Pyramid}
 use Rattle.pyramid.specs.declared.Pyramid.the-variants.{Levels, Refused}
 
 -- the answer of each number: 0 is a pyramid of n levels, any other a refusal
 abbrev pub answerOf : ℕ → ℕ → Pyramid
-answerOf n zero = Levels n
-answerOf n (suc k) = Refused (suc k)
+answerOf zero n = Levels n
+answerOf (suc k) n = Refused (suc k)
 
--- document 01's number and values of each case: 0 for no refusal, and how many levels there are
+-- the number and the values of each case (RULES 6.4): 0 for no refusal, and how many levels there are
 abbrev pub numberOf : Pyramid → ℕ
 numberOf (Levels n) = 0
 numberOf (Refused k) = k
@@ -29,8 +29,8 @@ valuesOf (Refused k) = []
 
 -- the promise of `build_pyramid`: r is the answer, and the level buffer d becomes e, the levels above the base first and the rest as it was, or
 -- all as it was
-pub record Built (base : List ℕ) (w h count least : ℕ) (d : List ℕ) (r : Pyramid) (e : List ℕ) : Type 0 where
-  pub answer : r ≡ answerOf (levelCount w h count least) (buildRefusal (length base) (length d) w h count least)
-  pub number : numberOf r ≡ buildRefusal (length base) (length d) w h count least
-  pub values : valuesOf r ≡ valuesUnless (buildRefusal (length base) (length d) w h count least) (levelCount w h count least ∷ [])
-  pub buffer : e ≡ cond (eqb (buildRefusal (length base) (length d) w h count least) 0) (front (above base w h (levelCount w h count least)) d) d
+pub record Built (base : List ℕ) (w h count minimumSide : ℕ) (d : List ℕ) (r : Pyramid) (e : List ℕ) : Type 0 where
+  pub answer : r ≡ answerOf (buildRefusalOf (length base) (length d) w h count minimumSide) (levelCount w h count minimumSide)
+  pub number : numberOf r ≡ buildRefusalOf (length base) (length d) w h count minimumSide
+  pub values : valuesOf r ≡ valuesUnless (buildRefusalOf (length base) (length d) w h count minimumSide) (levelCount w h count minimumSide ∷ [])
+  pub buffer : e ≡ cond (eqb (buildRefusalOf (length base) (length d) w h count minimumSide) 0) (front (above base w h (levelCount w h count minimumSide)) d) d

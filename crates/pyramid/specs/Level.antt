@@ -15,5 +15,5 @@ levelPart base levels w h (suc k) = take (levelCells w h (suc k)) (drop (cellsAb
 -- the promise of `level`: level k, and nothing where `level_at` refuses it
 unfoldable pub levelIn : List ℕ → List ℕ → ℕ → ℕ → ℕ → ℕ → ℕ → List ℕ
 unfolding levelAnswer
-levelIn base levels w h count least k =
-    cond (eqb (numberOf (levelAnswer (length base) (length levels) w h count least k)) 0) (levelPart base levels w h k) []
+levelIn base levels w h count minimumSide k =
+    cond (eqb (numberOf (levelAnswer (length base) (length levels) w h count minimumSide k)) 0) (levelPart base levels w h k) []

@@ -1,4 +1,4 @@
 pub mod Pyramid
 pub mod Build
 pub mod Level
-pub mod Needs
+pub mod Internal

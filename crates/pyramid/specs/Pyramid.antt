@@ -1,24 +1,20 @@
--- The box-filter image pyramid of document 01: half-size images, and the levels.
+-- The box-filter image pyramid (RULES 6.1, 6.3): half-size images, and the levels.
 -- An image is the list of its pixels in row order, with its sides.
 use Prim.Native.Nat.{ℕ, zero, suc, _+_, _*_, _/_}
 use mathlib.Core.List.{List, [], _++_}
 use lib.ListN.{getD}
-use Rattle.lists.specs.Tab.{grid}
+use Rattle.lists.specs.Tab.{grid, pixel}
 use Rattle.pyramid_levels.specs.Levels.{levelSide}
 
 -- a half-size pixel: (sum of four + 2) div 4
 abbrev pub boxOf : ℕ → ℕ → ℕ → ℕ → ℕ
 boxOf a b c d = (a + b + c + d + 2) / 4
 
--- the pixel of column x and row y of an image of width w
-abbrev pub pixelAt : List ℕ → ℕ → ℕ → ℕ → ℕ
-pixelAt img w x y = getD img (y * w + x) 0
-
 -- the half-size pixel of column x and row y
 unfoldable pub halfPixel : List ℕ → ℕ → ℕ → ℕ → ℕ
 halfPixel img w x y =
-    boxOf (pixelAt img w (2 * x) (2 * y)) (pixelAt img w (2 * x + 1) (2 * y))
-    (pixelAt img w (2 * x) (2 * y + 1)) (pixelAt img w (2 * x + 1) (2 * y + 1))
+    boxOf (pixel img w (2 * x) (2 * y)) (pixel img w (2 * x + 1) (2 * y))
+    (pixel img w (2 * x) (2 * y + 1)) (pixel img w (2 * x + 1) (2 * y + 1))
 
 -- an image of w by h at half size: an odd last row or column is dropped
 unfoldable pub halved : List ℕ → ℕ → ℕ → List ℕ

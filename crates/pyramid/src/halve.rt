@@ -4,7 +4,7 @@ ghost use Prim.Native.Nat.{ℕ, _+_, _*_, _/_, _<_, _≤_};
 ghost use lib.ListN.{length, getD};
 ghost use Rattle.lists.specs.Tab.{tab};
 ghost use Rattle.pyramid_levels.specs.Levels.{cellsAbove};
-ghost use Rattle.pyramid.specs.Needs.{holderOf, Halving, Summed, RowHalved, LevelHalved, Filled};
+ghost use Rattle.pyramid.specs.Internal.{holderOf, Halving, Summed, RowHalved, LevelHalved, Filled};
 
 // The slice that level k lies in.
 fn holder<'a>(base: &'a [u8], levels: &'a [u8], k: usize) -> &'a [u8]

@@ -4,10 +4,10 @@ mod halve; // halve.rt: the levels themselves
 ghost use mathlib.Core.Path.{_≡_};
 ghost use Rattle.pyramid.specs.Build.{Built};
 ghost use Rattle.pyramid.specs.Level.{levelIn};
-use pyramid_levels::build_fault;
+use pyramid_levels::build_refusal;
 use pyramid_levels::cells_before;
 use pyramid_levels::level_count;
-use pyramid_levels::level_fault;
+use pyramid_levels::level_refusal;
 
 // How many levels the pyramid has, or the number of a refusal.
 pub enum Pyramid {
@@ -27,7 +27,7 @@ pub fn build_pyramid(
 ) -> Pyramid
     ensures { λ r. ⌜ Built (now (base .entry)) width height «num_levels» «min_size» (now (levels .entry)) r (now (levels .exit)) ⌝ }
 {
-    let no = build_fault(
+    let no = build_refusal(
         base.len(),
         levels.len(),
         width,
@@ -55,7 +55,7 @@ pub fn level<'a>(
 ) -> &'a [u8]
     ensures { λ r. ⌜ now r ≡ levelIn (now (base .entry)) (now (levels .entry)) width height «num_levels» «min_size» k ⌝ }
 {
-    let no = level_fault(
+    let no = level_refusal(
         base.len(),
         levels.len(),
         width,

@@ -40,7 +40,8 @@ cells-up w h (suc n) = omega arith
 pub cells-mono : (w h k n : ℕ) → k ≤ n → cellsAbove w h k ≤ cellsAbove w h n
 cells-mono w h k zero l = let z : k ≡ 0 = omega arith in rw z (omega arith)
 cells-mono w h k (suc n) l =
-    ⊎-elim (λ (e : k ≡ suc n). rw e (omega arith)) (λ (m : k < suc n). omega (arith, cells-mono w h k n (le-of-suc-le-suc m), cells-up w h n)) (eq-or-lt-of-le l)
+    ⊎-elim (λ (e : k ≡ suc n). rw e (omega arith))
+    (λ (m : k < suc n). omega (arith, cells-mono w h k n (le-of-suc-le-suc m), cells-up w h n)) (eq-or-lt-of-le l)
 
 -- ---- above a level without pixels no level has any
 
@@ -69,7 +70,8 @@ quarter a b = let h : 2 * (a / 2) * (2 * (b / 2)) ≤ a * b = mul-le-mul (omega 
 third : (w h k : ℕ) → 3 * cellsAbove w h (suc k) + levelCells w h k ≤ w * h
 unfolding cellsAbove
 third w h zero = omega (arith, cells-base w h)
-third w h (suc k) = omega (arith, third w h k, rw (side-next w k (levelSide w k) refl, side-next h k (levelSide h k) refl) at (quarter (levelSide w k) (levelSide h k)))
+third w h (suc k) =
+    omega (arith, third w h k, rw (side-next w k (levelSide w k) refl, side-next h k (levelSide h k) refl) at (quarter (levelSide w k) (levelSide h k)))
 
 pub cells-le : (w h n : ℕ) → 3 * cellsAbove w h n ≤ w * h
 unfolding cellsAbove
@@ -79,7 +81,8 @@ cells-le w h (suc k) = omega (arith, third w h k)
 -- ---- as a usize holds them
 
 -- levels 1 .. k, and one level more, of a by b
-pub capped-next : (w h k a b s t r : ℕ) → a ≡ levelSide w (suc k) → b ≡ levelSide h (suc k) → s ≡ capped (cellsAbove w h (suc k)) → t ≡ capped (a * b) → r ≡ capped (s + t)
+pub capped-next : (w h k a b s t r : ℕ) → a ≡ levelSide w (suc k) → b ≡ levelSide h (suc k) → s ≡ capped (cellsAbove w h (suc k))
+    → t ≡ capped (a * b) → r ≡ capped (s + t)
     → r ≡ capped (cellsAbove w h (suc (suc k)))
 capped-next w h k a b s t r p q i j e = omega (arith, cells-next w h k a b p q)
 

@@ -37,11 +37,11 @@ side-few side s k l p =
 -- ---- how many levels
 
 -- N levels in all, of which n are counted, the last of them of w by h: no more where the next is too small or the count is reached, else one more
-module _ (N n most w h least : ℕ) (e : N ≡ n + halvings (most - n) w h least) where
-  pub counted-stop : isTooSmall (w / 2) (h / 2) least ≡ true → n ≡ N
+module _ (N n most w h minimumSide : ℕ) (e : N ≡ n + halvings (most - n) w h minimumSide) where
+  pub counted-stop : isTooSmall (w / 2) (h / 2) minimumSide ≡ true → n ≡ N
   counted-stop t = omega (arith, stop (most - n))
     where
-      stop : (k : ℕ) → halvings k w h least ≡ 0
+      stop : (k : ℕ) → halvings k w h minimumSide ≡ 0
       stop zero = unfold halvings in refl
       stop (suc k) = unfold halvings in (rw t)
 
@@ -49,34 +49,34 @@ module _ (N n most w h least : ℕ) (e : N ≡ n + halvings (most - n) w h least
   unfolding halvings
   counted-all p = let z : most - n ≡ 0 = omega arith in let q : N ≡ n + 0 = rw z at e in omega arith
 
-  pub counted-more : n < most → isTooSmall (w / 2) (h / 2) least ≡ false → N ≡ n + 1 + halvings (most - (n + 1)) (w / 2) (h / 2) least
+  pub counted-more : n < most → isTooSmall (w / 2) (h / 2) minimumSide ≡ false → N ≡ n + 1 + halvings (most - (n + 1)) (w / 2) (h / 2) minimumSide
   unfolding halvings
   counted-more p t =
       let z : most - n ≡ suc (most - (n + 1)) = omega arith in
-      let q : N ≡ n + suc (halvings (most - (n + 1)) (w / 2) (h / 2) least) = rw (z, t) at e in
+      let q : N ≡ n + suc (halvings (most - (n + 1)) (w / 2) (h / 2) minimumSide) = rw (z, t) at e in
       omega arith
 
-pub count-none : (w h n least : ℕ) → n ≡ 0 → levelCount w h n least ≡ 0
+pub count-none : (w h n minimumSide : ℕ) → n ≡ 0 → levelCount w h n minimumSide ≡ 0
 unfolding levelCount
-count-none w h n least e = rw e
+count-none w h n minimumSide e = rw e
 
-pub count-below : (w h n least : ℕ) → isBelow w h least ≡ true → levelCount w h n least ≡ 0
+pub count-below : (w h n minimumSide : ℕ) → isBelow w h minimumSide ≡ true → levelCount w h n minimumSide ≡ 0
 unfolding levelCount
-count-below w h zero least e = refl
-count-below w h (suc n) least e = rw e
+count-below w h zero minimumSide e = refl
+count-below w h (suc n) minimumSide e = rw e
 
 -- the base, and the levels above it
-pub count-some : (w h n least : ℕ) → (n ≡ 0 → ⊥) → isBelow w h least ≡ false → levelCount w h n least ≡ 1 + halvings (n - 1) w h least
+pub count-some : (w h n minimumSide : ℕ) → (n ≡ 0 → ⊥) → isBelow w h minimumSide ≡ false → levelCount w h n minimumSide ≡ 1 + halvings (n - 1) w h minimumSide
 unfolding levelCount
-count-some w h zero least z e = absurd (z refl)
-count-some w h (suc n) least z e = let p : suc n - 1 ≡ n = omega arith in rw (e, p, one-add)
+count-some w h zero minimumSide z e = absurd (z refl)
+count-some w h (suc n) minimumSide z e = let p : suc n - 1 ≡ n = omega arith in rw (e, p, one-add)
 
 -- ---- a level that is built
 
 -- no side is below the minimum size, and none of a level above the base is 0
-pub record Standing (w h least k : ℕ) : Type 0 where
-  pub cols : least ≤ levelSide w k
-  pub rows : least ≤ levelSide h k
+pub record Standing (w h minimumSide k : ℕ) : Type 0 where
+  pub cols : minimumSide ≤ levelSide w k
+  pub rows : minimumSide ≤ levelSide h k
   pub some-cols : (k ≡ 0 → ⊥) → 0 < levelSide w k
   pub some-rows : (k ≡ 0 → ⊥) → 0 < levelSide h k
 
@@ -84,66 +84,67 @@ half-side : (side k : ℕ) → levelSide (side / 2) k ≡ levelSide side (suc k)
 half-side side k = div-div-eq-div-mul side 2 (2 ^ k) ∙ ap (λ (n : ℕ). side / n) (mul-comm 2 (2 ^ k) ∙ sym (pow-suc 2 k))
 
 -- each level above one of w by h
-halving-large : (n w h least k : ℕ) → k < halvings n w h least → isTooSmall (levelSide w (suc k)) (levelSide h (suc k)) least ≡ false
+halving-large : (n w h minimumSide k : ℕ) → k < halvings n w h minimumSide → isTooSmall (levelSide w (suc k)) (levelSide h (suc k)) minimumSide ≡ false
 unfolding halvings
-halving-large zero w h least k l = absurd (let none : ⊥ = omega arith in none)
-halving-large (suc n) w h least k l = go (isTooSmall (w / 2) (h / 2) least) refl (halving-large n (w / 2) (h / 2) least) k l
+halving-large zero w h minimumSide k l = absurd (let none : ⊥ = omega arith in none)
+halving-large (suc n) w h minimumSide k l = go (isTooSmall (w / 2) (h / 2) minimumSide) refl (halving-large n (w / 2) (h / 2) minimumSide) k l
   where
-    go : (t : Bool) → isTooSmall (w / 2) (h / 2) least ≡ t
-        → ((k : ℕ) → k < halvings n (w / 2) (h / 2) least → isTooSmall (levelSide (w / 2) (suc k)) (levelSide (h / 2) (suc k)) least ≡ false)
-        → (k : ℕ) → k < cond t 0 (suc (halvings n (w / 2) (h / 2) least)) → isTooSmall (levelSide w (suc k)) (levelSide h (suc k)) least ≡ false
+    go : (t : Bool) → isTooSmall (w / 2) (h / 2) minimumSide ≡ t
+        → ((k : ℕ) → k < halvings n (w / 2) (h / 2) minimumSide → isTooSmall (levelSide (w / 2) (suc k)) (levelSide (h / 2) (suc k)) minimumSide ≡ false)
+        → (k : ℕ) → k < cond t 0 (suc (halvings n (w / 2) (h / 2) minimumSide)) → isTooSmall (levelSide w (suc k)) (levelSide h (suc k)) minimumSide ≡ false
     go true e f k l = absurd (let none : ⊥ = omega arith in none)
     go false e f zero l = e
     go false e f (suc k) l = rw (half-side w (suc k), half-side h (suc k)) at (f k (le-of-suc-le-suc l))
 
-below-none : (w h least : ℕ) → isBelow w h least ≡ false → (least ≤ w) × (least ≤ h)
-below-none w h least e = let p = or-neither (ltb w least) (ltb h least) e in (ltb-false w least (p .0), ltb-false h least (p .1))
+below-none : (w h minimumSide : ℕ) → isBelow w h minimumSide ≡ false → (minimumSide ≤ w) × (minimumSide ≤ h)
+below-none w h minimumSide e = let p = or-neither (ltb w minimumSide) (ltb h minimumSide) e in (ltb-false w minimumSide (p .0), ltb-false h minimumSide (p .1))
 
-pub built-level : (w h count least k : ℕ) → k < levelCount w h count least → Standing w h least k
+pub built-level : (w h count minimumSide k : ℕ) → k < levelCount w h count minimumSide → Standing w h minimumSide k
 unfolding levelCount
-built-level w h zero least k l = absurd (let none : ⊥ = omega arith in none)
-built-level w h (suc n) least k l = go (isBelow w h least) refl k l
+built-level w h zero minimumSide k l = absurd (let none : ⊥ = omega arith in none)
+built-level w h (suc n) minimumSide k l = go (isBelow w h minimumSide) refl k l
   where
-    go : (t : Bool) → isBelow w h least ≡ t → (k : ℕ) → k < cond t 0 (suc (halvings n w h least)) → Standing w h least k
+    go : (t : Bool) → isBelow w h minimumSide ≡ t → (k : ℕ) → k < cond t 0 (suc (halvings n w h minimumSide)) → Standing w h minimumSide k
     go true e k l = absurd (let none : ⊥ = omega arith in none)
     go false e zero l =
-        let p = below-none w h least e in
+        let p = below-none w h minimumSide e in
         record { cols = rw (← side-base w) (p .0); rows = rw (← side-base h) (p .1); some-cols = λ z. absurd (z refl); some-rows = λ z. absurd (z refl) }
     go false e (suc k) l =
         let a = levelSide w (suc k) in
         let b = levelSide h (suc k) in
-        let p = or-neither (eqb a 0 || eqb b 0) (isBelow a b least) (halving-large n w h least k (le-of-suc-le-suc l)) in
+        let p = or-neither (eqb a 0 || eqb b 0) (isBelow a b minimumSide) (halving-large n w h minimumSide k (le-of-suc-le-suc l)) in
         let q = or-neither (eqb a 0) (eqb b 0) (p .0) in
-        let r = below-none a b least (p .1) in
+        let r = below-none a b minimumSide (p .1) in
         record { cols = r .0; rows = r .1; some-cols = λ z. pos-of-ne-zero (eqb-false a 0 (q .0)); some-rows = λ z. pos-of-ne-zero (eqb-false b 0 (q .1)) }
 
 -- a side below 2^s makes at most s levels
-pub count-le : (w h count least s : ℕ) → 0 < s → w < 2 ^ s → levelCount w h count least ≤ s
-count-le w h count least s p l =
-    elim (decLt s (levelCount w h count least)) [
-      | yes m ↦ absurd (let e : levelSide w s ≡ 0 = div-eq-of-lt l in let none : ⊥ = omega (arith, built-level w h count least s m .some-cols (λ z. omega arith)) in none)
+pub count-le : (w h count minimumSide s : ℕ) → 0 < s → w < 2 ^ s → levelCount w h count minimumSide ≤ s
+count-le w h count minimumSide s p l =
+    elim (decLt s (levelCount w h count minimumSide)) [
+      | yes m ↦ absurd (let e : levelSide w s ≡ 0 = div-eq-of-lt l in let none : ⊥ = omega
+          (arith, built-level w h count minimumSide s m .some-cols (λ z. omega arith)) in none)
       | no g ↦ omega arith
     ]
 
 -- up to sides of 4,096 there are at most 13
-pub count-few : (w h count least : ℕ) → w ≤ 4096 → levelCount w h count least ≤ 13
-count-few w h count least l = count-le w h count least 13 (omega arith) (omega arith)
+pub count-few : (w h count minimumSide : ℕ) → w ≤ 4096 → levelCount w h count minimumSide ≤ 13
+count-few w h count minimumSide l = count-le w h count minimumSide 13 (omega arith) (omega arith)
 
 -- and never more than asked for
-halvings-le : (n w h least : ℕ) → halvings n w h least ≤ n
+halvings-le : (n w h minimumSide : ℕ) → halvings n w h minimumSide ≤ n
 unfolding halvings
-halvings-le zero w h least = omega arith
-halvings-le (suc n) w h least = pick (isTooSmall (w / 2) (h / 2) least) (halvings-le n (w / 2) (h / 2) least)
+halvings-le zero w h minimumSide = omega arith
+halvings-le (suc n) w h minimumSide = pick (isTooSmall (w / 2) (h / 2) minimumSide) (halvings-le n (w / 2) (h / 2) minimumSide)
   where
-    pick : (t : Bool) → halvings n (w / 2) (h / 2) least ≤ n → cond t 0 (suc (halvings n (w / 2) (h / 2) least)) ≤ suc n
+    pick : (t : Bool) → halvings n (w / 2) (h / 2) minimumSide ≤ n → cond t 0 (suc (halvings n (w / 2) (h / 2) minimumSide)) ≤ suc n
     pick true l = omega arith
     pick false l = omega arith
 
-pub count-le-count : (w h count least : ℕ) → levelCount w h count least ≤ count
+pub count-le-count : (w h count minimumSide : ℕ) → levelCount w h count minimumSide ≤ count
 unfolding levelCount
-count-le-count w h zero least = omega arith
-count-le-count w h (suc n) least = pick (isBelow w h least)
+count-le-count w h zero minimumSide = omega arith
+count-le-count w h (suc n) minimumSide = pick (isBelow w h minimumSide)
   where
-    pick : (t : Bool) → cond t 0 (suc (halvings n w h least)) ≤ suc n
+    pick : (t : Bool) → cond t 0 (suc (halvings n w h minimumSide)) ≤ suc n
     pick true = omega arith
-    pick false = omega (arith, halvings-le n w h least)
+    pick false = omega (arith, halvings-le n w h minimumSide)

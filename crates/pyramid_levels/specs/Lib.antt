@@ -1,3 +1,4 @@
 pub mod Levels
 pub mod Refusals
 pub mod Level
+pub mod Internal

@@ -4,18 +4,18 @@ ghost use Prim.Native.Nat.{_+_, _*_};
 ghost use Rattle.pyramid_levels.specs.Levels.{isBelow, isTooSmall, capped};
 
 // Whether a side is below the minimum size.
-pub(crate) fn is_below(w: usize, h: usize, least: usize) -> bool
-    ensures { λ r. ⌜ r ≡ isBelow w h least ⌝ }
+pub(crate) fn is_below(w: usize, h: usize, minimum_side: usize) -> bool
+    ensures { λ r. ⌜ r ≡ isBelow w h «minimum_side» ⌝ }
 {
-    if w < least {
+    if w < minimum_side {
         return true;
     }
-    h < least
+    h < minimum_side
 }
 
 // Whether a new level of w by h is not built.
-pub(crate) fn is_too_small(w: usize, h: usize, least: usize) -> bool
-    ensures { λ r. ⌜ r ≡ isTooSmall w h least ⌝ }
+pub(crate) fn is_too_small(w: usize, h: usize, minimum_side: usize) -> bool
+    ensures { λ r. ⌜ r ≡ isTooSmall w h «minimum_side» ⌝ }
 {
     if w == 0 {
         return true;
@@ -23,7 +23,7 @@ pub(crate) fn is_too_small(w: usize, h: usize, least: usize) -> bool
     if h == 0 {
         return true;
     }
-    is_below(w, h, least)
+    is_below(w, h, minimum_side)
 }
 
 // a * b, or the largest usize.

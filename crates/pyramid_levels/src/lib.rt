@@ -3,7 +3,7 @@ mod count; // count.rt: which levels are built, and capped sums
 
 ghost use mathlib.Core.Path.{_≡_};
 ghost use Rattle.pyramid_levels.specs.Levels.{levelCount, cellsAbove, capped};
-ghost use Rattle.pyramid_levels.specs.Refusals.{imageRefusal, buildRefusal, levelRefusal};
+ghost use Rattle.pyramid_levels.specs.Refusals.{buildRefusalOf, levelRefusalOf};
 ghost use Rattle.pyramid_levels.specs.Level.{LevelFound};
 
 // Where a level begins, in the base or in the level buffer, and its sides, or the number of a refusal.
@@ -74,24 +74,8 @@ pub fn cells_above(width: usize, height: usize, num_levels: u32, min_size: usize
     )
 }
 
-// Why a base of w by h that has so many pixels is refused, or `none` where it is not.
-fn image_fault(pixels: usize, w: usize, h: usize, none: u8) -> u8
-    ensures { λ r. ⌜ r ≡ imageRefusal pixels w h none ⌝ }
-{
-    if 4096 < w {
-        return 1;
-    }
-    if 4096 < h {
-        return 1;
-    }
-    if pixels != w * h {
-        return 2;
-    }
-    none
-}
-
 // Why no pyramid is built over a base of so many pixels into a level buffer of so many places, or 0.
-pub fn build_fault(
+pub fn build_refusal(
     pixels: usize,
     places: usize,
     width: usize,
@@ -99,16 +83,20 @@ pub fn build_fault(
     num_levels: u32,
     min_size: usize,
 ) -> u8
-    ensures { λ r. ⌜ r ≡ buildRefusal pixels places width height «num_levels» «min_size» ⌝ }
+    ensures { λ r. ⌜ r ≡ buildRefusalOf pixels places width height «num_levels» «min_size» ⌝ }
 {
-    if places < cells_above(width, height, num_levels, min_size) {
-        return image_fault(pixels, width, height, 9);
+    let no = image_size::refusal(pixels, width, height);
+    if no != 0 {
+        return no;
     }
-    image_fault(pixels, width, height, 0)
+    if places < cells_above(width, height, num_levels, min_size) {
+        return 9;
+    }
+    0
 }
 
 // Why level k over such a base is not handed out, or 0.
-pub fn level_fault(
+pub fn level_refusal(
     pixels: usize,
     places: usize,
     width: usize,
@@ -117,12 +105,13 @@ pub fn level_fault(
     min_size: usize,
     k: usize,
 ) -> u8
-    ensures { λ r. ⌜ r ≡ levelRefusal pixels places width height «num_levels» «min_size» k ⌝ }
+    ensures { λ r. ⌜ r ≡ levelRefusalOf pixels places width height «num_levels» «min_size» k ⌝ }
 {
     if k < level_count(width, height, num_levels, min_size) {
-        return build_fault(pixels, places, width, height, num_levels, min_size);
+        return build_refusal(pixels, places, width, height, num_levels, min_size);
     }
-    image_fault(pixels, width, height, 3)
+    let no = image_size::refusal(pixels, width, height);
+    if no != 0 { no } else { 3 }
 }
 
 // Where level k lies and its sides, for a base of so many pixels and a level buffer of so many places.
@@ -137,7 +126,7 @@ pub fn level_at(
 ) -> LevelAnswer
     ensures { λ r. ⌜ LevelFound pixels places width height «num_levels» «min_size» k r ⌝ }
 {
-    let no = level_fault(pixels, places, width, height, num_levels, min_size, k);
+    let no = level_refusal(pixels, places, width, height, num_levels, min_size, k);
     if no != 0 {
         return LevelAnswer::Refused(no);
     }

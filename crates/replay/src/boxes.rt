@@ -29,8 +29,8 @@ fn context(body: &[u8]) -> RoiContext {
         height: count(body, 1),
         ring: word(body, 2),
         window: word(body, 3),
-        centroid: word(body, 4),
-        search: word(body, 5),
+        centroid_radius: word(body, 4),
+        search_radius: word(body, 5),
         level: word(body, 6),
     }
 }

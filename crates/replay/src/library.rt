@@ -25,7 +25,7 @@ use crate::list_buffer::list_length;
 use crate::list_buffer::past_lengths;
 use crate::list_buffer::past_list;
 use frame::FrameAnswer;
-use frame_pass::FrameParams;
+use patch_corners::FrameParams;
 
 // The longest map, and the longest level buffer.
 const CELLS: usize = 8192;
@@ -123,18 +123,18 @@ fn parameters(body: &[u8]) -> FrameParams {
         ring: word(body, 2),
         threshold: float(body, 3),
         window: word(body, 4),
-        least: word(body, 5),
-        centroid: word(body, 6),
-        radius: float(body, 7),
+        least_neighbours: word(body, 5),
+        centroid_radius: word(body, 6),
+        merge_radius: float(body, 7),
         levels: word(body, 8),
-        minimum: count(body, 9),
-        search: word(body, 10),
+        minimum_side: count(body, 9),
+        search_radius: word(body, 10),
     }
 }
 
 fn due_frame(body: &[u8], at: usize, answer: FrameAnswer) -> usize {
     match answer {
-        FrameAnswer::Corners(n) => due_answer(body, at, 0, n),
+        FrameAnswer::Corners(n, _) => due_answer(body, at, 0, n),
         FrameAnswer::Refused(number) => due_answer(body, at, number, 0),
     }
 }

@@ -54,7 +54,7 @@ fn with_list(body: &[u8], lengths: usize, map: &[f32]) -> bool {
 
 fn due_peaks(body: &[u8], at: usize, answer: Peaks) -> usize {
     match answer {
-        Peaks::Added(n) => due_answer(body, at, 0, n),
+        Peaks::Added(n, _) => due_answer(body, at, 0, n),
         Peaks::Refused(number) => due_answer(body, at, number, 0),
     }
 }

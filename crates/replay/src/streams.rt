@@ -45,7 +45,19 @@ fn due_header(body: &[u8], h: Header) -> usize {
 
 // The last six parameters.
 fn due_parameters(body: &[u8], at: usize, h: Header) -> usize {
-    let centroid = due_word(body, due_word(body, at, h.least), h.centroid);
-    let levels = due_word(body, due_word(body, centroid, h.merge_bits), h.levels);
-    due_word(body, due_count(body, levels, h.minimum), h.search)
+    let centroid_radius = due_word(
+        body,
+        due_word(body, at, h.least_neighbours),
+        h.centroid_radius,
+    );
+    let levels = due_word(
+        body,
+        due_word(body, centroid_radius, h.merge_bits),
+        h.levels,
+    );
+    due_word(
+        body,
+        due_count(body, levels, h.minimum_side),
+        h.search_radius,
+    )
 }

@@ -13,7 +13,7 @@ use Rattle.lists.proofs.Tests.{and-none}
 use Rattle.float32.specs.Float32.{zero}
 use Rattle.ring.specs.Ring.{Ring}
 use Rattle.response.specs.Response.{inside, response, responseAt}
-use Rattle.response.specs.Needs.{Inner, Span}
+use Rattle.response.specs.Internal.{Inner, Span}
 
 module _ (w h : ℕ) (t : Ring) (x y : ℕ) where
   pub out-left : x < t .radius → inside w h t x y ≡ false

@@ -14,32 +14,32 @@ use Rattle.lists.proofs.Places.{in-map}
 use Rattle.lists.proofs.Members.{all-grid}
 use Rattle.lists.proofs.Buffer.{front-length, front-take, front-drop}
 use Rattle.ring.specs.Ring.{Ring}
-use Rattle.response.specs.Patch.{View, whole, sideOf, cols, rows, left, top, responseIn, cells, refusal, answerOf, Patched}
+use Rattle.response.specs.Patch.{View, whole, sideOf, mapWidth, mapHeight, left, top, responseIn, cells, refusalOf, answerOf, Patched}
 use Rattle.response.specs.declared.Patch.{Patch}
 use Rattle.response.specs.declared.Patch.the-variants.{Cells, Refused}
 use Rattle.response.proofs.Outcome.{taken}
 
 -- the buffer d after a map of pw by ph was made
 pub record Filled (v : View) (d e : List Float) (pw ph : ℕ) : Type 0 where
-  pub cols-are : pw ≡ cols v
-  pub rows-are : ph ≡ rows v
+  pub cols-are : pw ≡ mapWidth v
+  pub rows-are : ph ≡ mapHeight v
   pub enough : ph * pw ≤ length d
   pub fills : e ≡ front (cells v) d
 
 -- ---- the answer
-cells-is : (v : View) (n pw ph : ℕ) → answerOf v n ≡ Cells pw ph → (n ≡ 0) × (pw ≡ cols v) × (ph ≡ rows v)
+cells-is : (v : View) (n pw ph : ℕ) → answerOf n v ≡ Cells pw ph → (n ≡ 0) × (pw ≡ mapWidth v) × (ph ≡ mapHeight v)
 cells-is v zero pw ph e = (refl, (cc), (cc))
 cells-is v (suc n) pw ph e = let z : _≡_ {A = ℕ} 0 1 = cc in absurd (omega arith)
 
-refused-is : (v : View) (n m : ℕ) → answerOf v n ≡ Refused m → (n ≡ m) × (0 < m)
+refused-is : (v : View) (n m : ℕ) → answerOf n v ≡ Refused m → (n ≡ m) × (0 < m)
 refused-is v zero m e = let z : _≡_ {A = ℕ} 0 1 = cc in absurd (omega arith)
 refused-is v (suc n) m e = let q : suc n ≡ m = cc in (q, omega arith)
 
-module _ (v : View) (radius : ℕ) (d e : List Float) (r : Patch) (p : Patched v radius d e r) where
+module _ (v : View) (radius : ℕ) (d e : List Float) (r : Patch) (p : Patched v radius d r e) where
   -- a map was made
   pub filled : (pw ph : ℕ) → r ≡ Cells pw ph → Filled v d e pw ph
   filled pw ph c =
-      let q = cells-is v (refusal v radius (length d)) pw ph (sym (p .answer) ∙ c) in
+      let q = cells-is v (refusalOf v radius (length d)) pw ph (sym (p .answer) ∙ c) in
       record {
         cols-are = q .1;
         rows-are = q .2;
@@ -48,33 +48,33 @@ module _ (v : View) (radius : ℕ) (d e : List Float) (r : Patch) (p : Patched v
       }
 
   -- or refused, and the buffer is as it was
-  pub refused : (n : ℕ) → r ≡ Refused n → (refusal v radius (length d) ≡ n) × (e ≡ d)
+  pub refused : (n : ℕ) → r ≡ Refused n → (refusalOf v radius (length d) ≡ n) × (e ≡ d)
   refused n c =
-      let q = refused-is v (refusal v radius (length d)) n (sym (p .answer) ∙ c) in
+      let q = refused-is v (refusalOf v radius (length d)) n (sym (p .answer) ∙ c) in
       (q .0, p .buffer ∙ rw (q .0, ne-eqb n 0 (λ (z : n ≡ 0). let no : ⊥ = omega (arith, q .1) in no)))
 
   -- where nothing refuses, a map is made
-  module _ (none : refusal v radius (length d) ≡ 0) where
-    pub accepted : r ≡ Cells (cols v) (rows v)
+  module _ (none : refusalOf v radius (length d) ≡ 0) where
+    pub accepted : r ≡ Cells (mapWidth v) (mapHeight v)
     accepted = p .answer ∙ rw none
 
     pub never-refused : (n : ℕ) → r ≡ Refused n → ⊥
     never-refused n c = let z : _≡_ {A = ℕ} 0 1 = cc accepted in omega arith
 
 -- ---- the map
-pub cells-length : (v : View) → length (cells v) ≡ rows v * cols v
+pub cells-length : (v : View) → length (cells v) ≡ mapHeight v * mapWidth v
 unfolding cells
-cells-length v = length-grid (cols v) (rows v) (responseIn v)
+cells-length v = length-grid (mapWidth v) (mapHeight v) (responseIn v)
 
 -- the cell of column i and row j
-pub cells-at : (v : View) (i j : ℕ) (x : Float) → i < cols v → j < rows v → getD (cells v) (j * cols v + i) x ≡ responseIn v i j
+pub cells-at : (v : View) (i j : ℕ) (x : Float) → i < mapWidth v → j < mapHeight v → getD (cells v) (j * mapWidth v + i) x ≡ responseIn v i j
 unfolding cells
-cells-at v i j x p q = getD-grid (cols v) (rows v) (responseIn v) i j x p q
+cells-at v i j x p q = getD-grid (mapWidth v) (mapHeight v) (responseIn v) i j x p q
 
 -- what holds of each cell's response
-pub cells-all : (P : Float → Type 0) (v : View) → ((i j : ℕ) → i < cols v → j < rows v → P (responseIn v i j)) → All P (cells v)
+pub cells-all : (P : Float → Type 0) (v : View) → ((i j : ℕ) → i < mapWidth v → j < mapHeight v → P (responseIn v i j)) → All P (cells v)
 unfolding cells
-cells-all P v h = all-grid P (cols v) (rows v) (responseIn v) h
+cells-all P v h = all-grid P (mapWidth v) (mapHeight v) (responseIn v) h
 
 module _ (v : View) (d e : List Float) (pw ph : ℕ) (f : Filled v d e pw ph) where
   area : ph * pw ≡ length (cells v)
@@ -101,10 +101,10 @@ module _ (v : View) (d e : List Float) (pw ph : ℕ) (f : Filled v d e pw ph) wh
 
 -- ---- a box inside the image keeps its sides and its corner; and the whole image
 module _ (v : View) (wide : v .x0 < v .x1) (high : v .y0 < v .y1) (in-width : v .x1 ≤ v .w) (in-height : v .y1 ≤ v .h) where
-  pub box-cols : cols v ≡ v .x1 - v .x0
+  pub box-cols : mapWidth v ≡ v .x1 - v .x0
   box-cols = rw (ne-eqb (sideOf (v .h) (v .y0) (v .y1)) 0 (λ z. let no : ⊥ = omega arith in no)) (omega arith)
 
-  pub box-rows : rows v ≡ v .y1 - v .y0
+  pub box-rows : mapHeight v ≡ v .y1 - v .y0
   box-rows = rw (ne-eqb (sideOf (v .w) (v .x0) (v .x1)) 0 (λ z. let no : ⊥ = omega arith in no)) (omega arith)
 
   pub box-left : left v ≡ v .x0
@@ -113,8 +113,8 @@ module _ (v : View) (wide : v .x0 < v .x1) (high : v .y0 < v .y1) (in-width : v 
   pub box-top : top v ≡ v .y0
   box-top = omega arith
 
-pub whole-cols : (img : List ℕ) (w h : ℕ) (t : Ring) → 0 < h → cols (whole img w h t) ≡ w
+pub whole-cols : (img : List ℕ) (w h : ℕ) (t : Ring) → 0 < h → mapWidth (whole img w h t) ≡ w
 whole-cols img w h t l = rw (ne-eqb (sideOf h 0 h) 0 (λ z. let no : ⊥ = omega arith in no)) (omega arith)
 
-pub whole-rows : (img : List ℕ) (w h : ℕ) (t : Ring) → 0 < w → rows (whole img w h t) ≡ h
+pub whole-rows : (img : List ℕ) (w h : ℕ) (t : Ring) → 0 < w → mapHeight (whole img w h t) ≡ h
 whole-rows img w h t l = rw (ne-eqb (sideOf w 0 w) 0 (λ z. let no : ⊥ = omega arith in no)) (omega arith)

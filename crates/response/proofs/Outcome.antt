@@ -17,7 +17,7 @@ use Rattle.lists.proofs.Tab.{length-grid}
 use Rattle.ring.specs.Ring.{ringOf, isRing}
 use Rattle.ring.proofs.Places.{radius-is, ring-is, ring-fits}
 use Rattle.response.specs.Response.{responseAt}
-use Rattle.response.specs.Patch.{View, sideOf, besides, cols, rows, left, top, cells, refusalOf, refusal, Patched}
+use Rattle.response.specs.Patch.{View, sideOf, besides, mapWidth, mapHeight, left, top, cells, refusalFor, refusalOf, Patched}
 use Rattle.response.specs.declared.Patch.the-variants.{Cells, Refused}
 
 -- ---- no refusal: an image, one of the two rings, and places enough
@@ -28,8 +28,8 @@ pub record Taken (pixels w h radius size places : ℕ) : Type 0 where
   pub known : (radius ≡ 5) ⊎ (radius ≡ 10)
   pub enough : size ≤ places
 
-pub taken : (pixels w h radius size places : ℕ) → refusalOf pixels w h radius size places ≡ 0 → Taken pixels w h radius size places
-unfolding refusalOf
+pub taken : (pixels w h radius size places : ℕ) → refusalFor pixels w h radius size places ≡ 0 → Taken pixels w h radius size places
+unfolding refusalFor
 taken pixels w h radius size places e =
     let last : List (Bool × ℕ) = (ltb places size, 8) ∷ [] in
     let p = sized-none pixels w h ((not (isRing radius), 3) ∷ last) e in
@@ -44,9 +44,10 @@ taken pixels w h radius size places e =
     }
 
 -- and where these hold, nothing refuses
-pub allowed : (pixels w h radius size places : ℕ) → Taken pixels w h radius size places → refusalOf pixels w h radius size places ≡ 0
-unfolding refusalOf
-allowed pixels w h radius size places t = rw (le-ltb _ _ (t .narrow), le-ltb _ _ (t .low), eq-eqb _ _ (t .sized), ring-fits radius (t .known), le-ltb _ _ (t .enough))
+pub allowed : (pixels w h radius size places : ℕ) → Taken pixels w h radius size places → refusalFor pixels w h radius size places ≡ 0
+unfolding refusalFor
+allowed pixels w h radius size places t =
+    rw (le-ltb _ _ (t .narrow), le-ltb _ _ (t .low), eq-eqb _ _ (t .sized), ring-fits radius (t .known), le-ltb _ _ (t .enough))
 
 pub image : (pixels w h radius size places : ℕ) → Taken pixels w h radius size places → Sized pixels w h × (ringOf radius .radius ≡ radius)
 image pixels w h radius size places t = (record { sized = t .sized; narrow = t .narrow; low = t .low }, radius-is radius (t .known))
@@ -60,39 +61,40 @@ besides-le own other = pick (eqb other 0)
     pick false = omega arith
 
 module _ (v : View) where
-  pub cols-in : left v + cols v ≤ v .w
+  pub cols-in : left v + mapWidth v ≤ v .w
   cols-in = omega (arith, besides-le (sideOf (v .w) (v .x0) (v .x1)) (sideOf (v .h) (v .y0) (v .y1)))
 
-  pub rows-in : top v + rows v ≤ v .h
+  pub rows-in : top v + mapHeight v ≤ v .h
   rows-in = omega (arith, besides-le (sideOf (v .h) (v .y0) (v .y1)) (sideOf (v .w) (v .x0) (v .x1)))
 
-  pub cols-le : cols v ≤ v .w
+  pub cols-le : mapWidth v ≤ v .w
   cols-le = omega (arith, cols-in)
 
-  pub rows-le : rows v ≤ v .h
+  pub rows-le : mapHeight v ≤ v .h
   rows-le = omega (arith, rows-in)
 
-  pub area-in : rows v * cols v ≤ v .w * v .h
+  pub area-in : mapHeight v * mapWidth v ≤ v .w * v .h
   area-in = le-trans (mul-le-mul rows-le cols-le) (le-of-eq (mul-comm (v .h) (v .w)))
 
 -- ---- what a call answers and leaves
-pub number-is : (v : View) (radius places n pw ph : ℕ) → n ≡ refusalOf (length (v .img)) (v .w) (v .h) radius (ph * pw) places → pw ≡ cols v → ph ≡ rows v → n ≡ refusal v radius places
+pub number-is : (v : View) (radius places n pw ph : ℕ) → n ≡ refusalFor (length (v .img)) (v .w) (v .h) radius (ph * pw) places
+    → pw ≡ mapWidth v → ph ≡ mapHeight v → n ≡ refusalOf v radius places
 number-is v radius places n pw ph e c r = rw (e, c, r)
 
 module _ (v : View) (radius : ℕ) (d : List Float) where
-  pub when-refused : (n : ℕ) → n ≡ refusal v radius (length d) → (n ≡ 0 → ⊥) → Patched v radius d d (Refused n)
+  pub when-refused : (n : ℕ) → n ≡ refusalOf v radius (length d) → (n ≡ 0 → ⊥) → Patched v radius d (Refused n) d
   when-refused zero e z = absurd (z refl)
   when-refused (suc n) e z = record { answer = rw (← e); number = e; values = rw (← e); buffer = rw (← e, eqb·suc-zero n) }
 
   -- what the rows fill is what the map holds
-  pub when-filled : (n pw ph x y : ℕ) (e : List Float) → n ≡ refusal v radius (length d) → n ≡ 0 → pw ≡ cols v → ph ≡ rows v → x ≡ left v → y ≡ top v
+  pub when-filled : (n pw ph x y : ℕ) (e : List Float) → n ≡ refusalOf v radius (length d) → n ≡ 0 → pw ≡ mapWidth v → ph ≡ mapHeight v → x ≡ left v → y ≡ top v
       → e ≡ grid pw ph (λ i j. responseAt (v .img) (v .w) (v .h) (v .ring) (x + i) (y + j)) ++ drop (ph * pw) d
-      → Patched v radius d e (Cells pw ph)
+      → Patched v radius d (Cells pw ph) e
   unfolding cells
   when-filled n pw ph x y e q z c r l t f =
       record {
         answer = rw (← q, z, c, r);
         number = sym z ∙ q;
         values = rw (← q, z, c, r);
-        buffer = f ∙ rw (← q, z, c, r, l, t, length-grid (cols v) (rows v));
+        buffer = f ∙ rw (← q, z, c, r, l, t, length-grid (mapWidth v) (mapHeight v));
       }

@@ -11,7 +11,7 @@ use Rattle.lists.proofs.Places.{in-map}
 use Rattle.ring.specs.Ring.{Ring, dx, dy, IsRing}
 use Rattle.ring.proofs.Places.{dx-le, dy-le, radius-pos}
 use Rattle.response.specs.Response.{samples, crossOf, responseOf, response}
-use Rattle.response.specs.Needs.{offsetAt, Framed, Inner, RingSumsOf, CellSumsOf}
+use Rattle.response.specs.Internal.{offsetAt, Framed, Inner, RingSumsOf, CellSumsOf}
 use Rattle.response.proofs.Indices.{area-le, row-above, row-below, place-add}
 
 -- ---- any ring of a radius r
@@ -27,7 +27,8 @@ module _ (t : Ring) (is : IsRing t) (r : ℕ) (e : t .radius ≡ r) (w h x y : �
 
   -- the cross about the cell's own index
   pub cross-sum : (img : List ℕ)
-      → getD img (y * w + x) 0 + getD img (y * w + x - w) 0 + getD img (y * w + x + w) 0 + getD img (y * w + x + 1) 0 + getD img (y * w + x - 1) 0 ≡ crossOf img w x y
+      → getD img (y * w + x) 0 + getD img (y * w + x - w) 0 + getD img (y * w + x + w) 0 + getD img (y * w + x + 1) 0 + getD img
+      (y * w + x - 1) 0 ≡ crossOf img w x y
   cross-sum img =
       let up : y * w + x - w ≡ (y - 1) * w + x = omega (arith, row-above w y (omega (arith, radius-pos t is, n .above))) in
       let down : y * w + x + w ≡ (y + 1) * w + x = omega (arith, row-below w y) in
@@ -60,11 +61,13 @@ module _ (img : List ℕ) (w h : ℕ) (t : Ring) (radius : ℕ) (off : List ℕ)
   gathered = tab-ext 16 _ _ (λ k l. ap (λ (i : ℕ). getD img i 0) (rw (offset-is k l) (sample-place t (f .is-ring) radius (f .own-radius) w h x y n k)))
 
   -- the sums that the code finds are the cell's
-  pub ring-found : (s : List ℕ) (a b m : ℕ) → s ≡ tab 16 (λ k. getD img ((y - radius) * w + (x - radius) + getD off k 0) 0) → RingSumsOf s a b m → RingSumsOf (samples img w t x y) a b m
+  pub ring-found : (s : List ℕ) (a b m : ℕ) → s ≡ tab 16 (λ k. getD img ((y - radius) * w + (x - radius) + getD off k 0) 0) → RingSumsOf s a b m
+      → RingSumsOf (samples img w t x y) a b m
   ring-found s a b m e r = subst (λ (l : List ℕ). RingSumsOf l a b m) (e ∙ gathered) r
 
   pub cross-found : (q : ℕ)
-      → q ≡ getD img (y * w + x) 0 + getD img (y * w + x - w) 0 + getD img (y * w + x + w) 0 + getD img (y * w + x + 1) 0 + getD img (y * w + x - 1) 0 → q ≡ crossOf img w x y
+      → q ≡ getD img (y * w + x) 0 + getD img (y * w + x - w) 0 + getD img (y * w + x + w) 0 + getD img (y * w + x + 1) 0 + getD img
+      (y * w + x - 1) 0 → q ≡ crossOf img w x y
   cross-found q e = e ∙ cross-sum t (f .is-ring) radius (f .own-radius) w h x y n img
 
   pub cross-lies : (w ≤ y * w + x) × (1 ≤ y * w + x) × (y * w + x + w < length img) × (y * w + x + 1 < length img)
@@ -83,6 +86,7 @@ module _ (img : List ℕ) (w h : ℕ) (t : Ring) (radius : ℕ) (off : List ℕ)
   cell-small = omega (arith, in-map w h x y (omega (arith, n .right)) (omega (arith, n .below)), area-le w h (f .image .narrow) (f .image .low))
 
 -- the float of a cell's sums is its response
-pub assembled : (img : List ℕ) (w : ℕ) (t : Ring) (x y a b m q : ℕ) (v : Float) → CellSumsOf img w t x y a b m q → v ≡ responseOf a b m q → v ≡ response img w t x y
+pub assembled : (img : List ℕ) (w : ℕ) (t : Ring) (x y a b m q : ℕ) (v : Float) → CellSumsOf img w t x y a b m q → v ≡ responseOf a b m q
+    → v ≡ response img w t x y
 unfolding response
 assembled img w t x y a b m q v p e = rw (e, p .ring .sr-is, p .ring .dr-is, p .ring .sum-is, p .cross-is)

@@ -1,4 +1,4 @@
+pub mod Internal
 pub mod Response
 pub mod Patch
 pub mod Exact
-pub mod Needs

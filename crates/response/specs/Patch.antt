@@ -39,11 +39,11 @@ sideOf n a b = min b n - min a n
 abbrev pub besides : ℕ → ℕ → ℕ
 besides own other = cond (eqb other 0) 0 own
 
-abbrev pub cols : View → ℕ
-cols v = besides (sideOf (v .w) (v .x0) (v .x1)) (sideOf (v .h) (v .y0) (v .y1))
+abbrev pub mapWidth : View → ℕ
+mapWidth v = besides (sideOf (v .w) (v .x0) (v .x1)) (sideOf (v .h) (v .y0) (v .y1))
 
-abbrev pub rows : View → ℕ
-rows v = besides (sideOf (v .h) (v .y0) (v .y1)) (sideOf (v .w) (v .x0) (v .x1))
+abbrev pub mapHeight : View → ℕ
+mapHeight v = besides (sideOf (v .h) (v .y0) (v .y1)) (sideOf (v .w) (v .x0) (v .x1))
 
 -- the image's column and row of the map's first cell
 abbrev pub left : View → ℕ
@@ -57,24 +57,24 @@ abbrev pub responseIn : View → ℕ → ℕ → Float
 responseIn v i j = responseAt (v .img) (v .w) (v .h) (v .ring) (left v + i) (top v + j)
 
 unfoldable pub cells : View → List Float
-cells v = grid (cols v) (rows v) (responseIn v)
+cells v = grid (mapWidth v) (mapHeight v) (responseIn v)
 
 -- ---- what a call answers and leaves, for a ring's radius as given and a buffer of so many places
 
 -- 1: a side above 4096; 2: not w * h pixels; 3: a ring that is not 5 or 10; 8: fewer places than cells
-unfoldable pub refusalOf : ℕ → ℕ → ℕ → ℕ → ℕ → ℕ → ℕ
-refusalOf pixels w h radius size places =
+unfoldable pub refusalFor : ℕ → ℕ → ℕ → ℕ → ℕ → ℕ → ℕ
+refusalFor pixels w h radius size places =
     lowest ((isLarge w h, 1) ∷ (isMisfit pixels w h, 2) ∷ (not (isRing radius), 3) ∷ (ltb places size, 8) ∷ [])
 
-abbrev pub refusal : View → ℕ → ℕ → ℕ
-refusal v radius places = refusalOf (length (v .img)) (v .w) (v .h) radius (rows v * cols v) places
+abbrev pub refusalOf : View → ℕ → ℕ → ℕ
+refusalOf v radius places = refusalFor (length (v .img)) (v .w) (v .h) radius (mapHeight v * mapWidth v) places
 
 -- the answer of each number: 0 is a map with its sides, any other a refusal
-abbrev pub answerOf : View → ℕ → Patch
-answerOf v zero = Cells (cols v) (rows v)
-answerOf v (suc n) = Refused (suc n)
+abbrev pub answerOf : ℕ → View → Patch
+answerOf zero v = Cells (mapWidth v) (mapHeight v)
+answerOf (suc n) v = Refused (suc n)
 
--- document 01's number and values of each case: 0 for no refusal, and the map's sides
+-- the number and the values of each case (RULES 3.8): 0 for no refusal, and the map's sides
 abbrev pub numberOf : Patch → ℕ
 numberOf (Cells pw ph) = 0
 numberOf (Refused n) = n
@@ -85,8 +85,8 @@ valuesOf (Refused n) = []
 
 -- the promise of `chess_response_u8_patch`: r is the answer, and the buffer d becomes e: the map's cells first and the rest as it was, and
 -- all of it as it was where the call is refused
-pub record Patched (v : View) (radius : ℕ) (d e : List Float) (r : Patch) : Type 0 where
-  pub answer : r ≡ answerOf v (refusal v radius (length d))
-  pub number : numberOf r ≡ refusal v radius (length d)
-  pub values : valuesOf r ≡ valuesUnless (refusal v radius (length d)) (cols v ∷ rows v ∷ [])
-  pub buffer : e ≡ cond (eqb (refusal v radius (length d)) 0) (front (cells v) d) d
+pub record Patched (v : View) (radius : ℕ) (d : List Float) (r : Patch) (e : List Float) : Type 0 where
+  pub answer : r ≡ answerOf (refusalOf v radius (length d)) v
+  pub number : numberOf r ≡ refusalOf v radius (length d)
+  pub values : valuesOf r ≡ valuesUnless (refusalOf v radius (length d)) (mapWidth v ∷ mapHeight v ∷ [])
+  pub buffer : e ≡ cond (eqb (refusalOf v radius (length d)) 0) (front (cells v) d) d

@@ -5,10 +5,10 @@ use mathlib.Core.List.{List}
 use lib.Dec.{leb, ltb}
 use lib.IntN.{pos}
 use lib.ListN.{getD}
-use lib.Ieee.{Float, fin, binary32, ofInt, sub, mul, div}
-use Rattle.float32.specs.Float32.{zero, abs}
+use lib.Ieee.{Float, fin, binary32, sub, mul, div}
+use Rattle.float32.specs.Float32.{zero, abs, floatOf}
 use Rattle.float32.specs.Value.{dist, total}
-use Rattle.lists.specs.Tab.{tab}
+use Rattle.lists.specs.Tab.{tab, pixel}
 use Rattle.ring.specs.Ring.{Ring, dx, dy}
 
 -- ---- whole numbers, of sixteen samples s
@@ -27,10 +27,6 @@ ringSumOf s = total (λ k. getD s k 0) 16
 
 -- ---- of a cell of an image w wide
 
--- the pixel of column x and row y
-abbrev pub pixel : List ℕ → ℕ → ℕ → ℕ → ℕ
-pixel img w x y = getD img (y * w + x) 0
-
 -- the samples of the ring about a cell
 unfoldable pub samples : List ℕ → ℕ → Ring → ℕ → ℕ → List ℕ
 samples img w t x y = tab 16 (λ k. pixel img w (x - t .radius + dx t k) (y - t .radius + dy t k))
@@ -47,10 +43,6 @@ sixteen = fin false 1 (pos 4)
 
 abbrev pub five : Float
 five = fin false 5 (pos 0)
-
--- `n as f32`
-abbrev pub floatOf : ℕ → Float
-floatOf n = ofInt binary32 (pos n)
 
 abbrev pub ringMean : ℕ → Float
 ringMean sum = div binary32 (floatOf sum) sixteen

@@ -6,7 +6,7 @@ ghost use Rattle.float32.specs.Value.{dist};
 ghost use Rattle.lists.specs.Tab.{tab};
 ghost use Rattle.ring.specs.Ring.{ringOf};
 ghost use Rattle.response.specs.Response.{srOf, drOf, ringSumOf, responseOf};
-ghost use Rattle.response.specs.Needs.{Framed, Inner, RingSumsOf, CellSumsOf};
+ghost use Rattle.response.specs.Internal.{Framed, Inner, RingSumsOf, CellSumsOf};
 
 // |a - b|.
 fn gap(a: u16, b: u16) -> u16

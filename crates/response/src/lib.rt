@@ -5,7 +5,7 @@ mod rows; // rows.rt: runs, rows and boxes of cells
 ghost use mathlib.Core.Path.{_≡_};
 ghost use Prim.Native.Nat.{_*_, _≤_};
 ghost use Rattle.ring.specs.Ring.{ringOf};
-ghost use Rattle.response.specs.Patch.{sideOf, besides, refusalOf, Patched};
+ghost use Rattle.response.specs.Patch.{sideOf, besides, refusalFor, Patched};
 use numbers::lesser;
 use numbers::minus;
 
@@ -26,16 +26,11 @@ fn beside(own: usize, other: usize) -> usize
 // Why a map of pw by ph cells is refused, or 0.
 fn refusal(pixels: usize, w: usize, h: usize, ring: u32, pw: usize, ph: usize, places: usize) -> u8
     requires { ⌜ (pw ≤ w) × (ph ≤ h) ⌝ }
-    ensures { λ r. ⌜ r ≡ refusalOf pixels w h ring (ph * pw) places ⌝ }
+    ensures { λ r. ⌜ r ≡ refusalFor pixels w h ring (ph * pw) places ⌝ }
 {
-    if 4096 < w {
-        return 1;
-    }
-    if 4096 < h {
-        return 1;
-    }
-    if pixels != w * h {
-        return 2;
+    let no = image_size::refusal(pixels, w, h);
+    if no != 0 {
+        return no;
     }
     if !ring::is_ring(ring) {
         return 3;
@@ -65,7 +60,7 @@ pub fn chess_response_u8_patch(
     y1: usize,
     map: &mut [f32],
 ) -> Patch
-    ensures { λ r. ⌜ Patched (record { img = now (img .entry); w = w; h = h; ring = ringOf ring; x0 = x0; y0 = y0; x1 = x1; y1 = y1 }) ring (now (map .entry)) (now (map .exit)) r ⌝ }
+    ensures { λ r. ⌜ Patched (record { img = now (img .entry); w = w; h = h; ring = ringOf ring; x0 = x0; y0 = y0; x1 = x1; y1 = y1 }) ring (now (map .entry)) r (now (map .exit)) ⌝ }
 {
     let across = side(w, x0, x1);
     let down = side(h, y0, y1);

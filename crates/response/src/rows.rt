@@ -7,7 +7,7 @@ ghost use Rattle.lists.specs.Tab.{tab, grid};
 ghost use Rattle.lists.specs.Refusals.{Sized};
 ghost use Rattle.ring.specs.Ring.{ringOf};
 ghost use Rattle.response.specs.Response.{response, responseAt};
-ghost use Rattle.response.specs.Needs.{Framed, Inner, Span, offsetAt};
+ghost use Rattle.response.specs.Internal.{Framed, Inner, Span, offsetAt};
 use crate::cell::cell_sums;
 use crate::cell::value;
 use numbers::greater;

@@ -10,7 +10,7 @@ use lib.Seq.{take-append-le, drop-append-le}
 use borrow.Author.Tests.{le-leb, lt-leb, le-ltb}
 use Rattle.retention.specs.declared.Holding.{Holding}
 use Rattle.retention.specs.Retention.{known, stateOf, answerBy}
-use Rattle.retention.specs.Stream.{littleEndian, timeOf, timeFault, kindAt, startAt, recordFault, recordAnswer, placeOf}
+use Rattle.retention.specs.Stream.{littleEndian, timeOf, timeFault, kindAt, secondAt, recordFault, recordAnswer, placeOf}
 use Rattle.retention.specs.Wanted.{itemFault, wantedRecord}
 use Rattle.retention.proofs.Records.{timed, whole, fault-kind}
 
@@ -63,7 +63,7 @@ module _ (s t : List ℕ) where
     pub kind-same : at < length s → kindAt (s ++ t) at ≡ kindAt s at
     kind-same l = List·getD-append s t 0 at l
 
-    start-same : at + 9 ≤ length s → startAt (s ++ t) at ≡ startAt s at
+    start-same : at + 9 ≤ length s → secondAt (s ++ t) at ≡ secondAt s at
     start-same l =
         ap littleEndian
         (ap (take 8) (drop-append-le (at + 1) s t (omega arith)) ∙ take-append-le 8 (drop (at + 1) s) t (omega (arith, length-drop (at + 1) s)))
@@ -97,7 +97,7 @@ module _ (s t : List ℕ) where
           ]
         where
           state : List ℕ → Holding
-          state u = stateOf (kindAt u at) (startAt u at) (timeOf u)
+          state u = stateOf (kindAt u at) (secondAt u at) (timeOf u)
 
   -- ---- an item without fault stays so
   pub item-same : (k : ℕ) → itemFault s k ≡ 0 → itemFault (s ++ t) k ≡ 0

@@ -11,7 +11,7 @@ use borrow.Author.Tests.{le-leb, lt-leb}
 use Rattle.lists.specs.Places.{All}
 use Rattle.listing.specs.Text.{decimal, refusedText}
 use Rattle.retention.specs.Retention.{known}
-use Rattle.retention.specs.Stream.{timeOf, timeFault, kindAt, startAt, recordFault, placeOf, linesFrom, outputOf}
+use Rattle.retention.specs.Stream.{timeOf, timeFault, kindAt, secondAt, recordFault, placeOf, linesFrom, outputOf}
 use Rattle.retention.specs.Wanted.{wantedRecord, wantedFrom, wanted}
 use Rattle.retention.proofs.Records.{timed, time-cut, time-late, time-none, whole, fault-end, fault-kind, fault-cut, fault-late, fault-none}
 use Rattle.retention.proofs.Texts.{line-refused, line-letter, lines-end}
@@ -115,7 +115,7 @@ module _ (s : List ℕ) (n k : ℕ) where
       bytes = zeros (at + 9 - length s);
       differs = λ e.
           let here : at < length body = omega (arith, body-long) in
-          elim (decLt (2 ^ 40) (startAt body at)) [
+          elim (decLt (2 ^ 40) (secondAt body at)) [
             | yes late ↦
                 let is = fault-late body at here body-kind (omega (arith, body-long)) late in
                 digits-differ (sym (line-refused body n k here 20 (sym is) (λ z. let no : ⊥ = omega arith in no)) ∙ e ∙ line-cut)

@@ -10,7 +10,7 @@ use borrow.Author.Tests.{lt-ltb, le-ltb, le-leb, lt-leb, ltb-false, not-false}
 use Rattle.lists.proofs.Refusals.{lowest-none, lowest-le}
 use Rattle.retention.specs.declared.Holding.{Holding}
 use Rattle.retention.specs.Retention.{known, isLate}
-use Rattle.retention.specs.Stream.{timeOf, timeFault, kindAt, startAt, recordFault, recordAnswer}
+use Rattle.retention.specs.Stream.{timeOf, timeFault, kindAt, secondAt, recordFault, recordAnswer}
 use Rattle.retention.specs.Answer.{Told}
 use Rattle.retention.proofs.Items.{not-refused}
 
@@ -22,7 +22,7 @@ pub record Timed (s : List ℕ) : Type 0 where
 pub record Whole (s : List ℕ) (at : ℕ) : Type 0 where
   pub long : at + 9 ≤ length s
   pub kind-is : known (kindAt s at) ≡ true
-  pub early : startAt s at ≤ 2 ^ 40
+  pub early : secondAt s at ≤ 2 ^ 40
 
 module _ (s : List ℕ) where
   -- ---- the time
@@ -65,9 +65,9 @@ module _ (s : List ℕ) where
         unfolding recordFault
         fault-cut l = rw (lt-leb (length s) at some, k, lt-ltb (length s) (at + 9) l)
 
-        pub fault-late : at + 9 ≤ length s → 2 ^ 40 < startAt s at → recordFault s at ≡ 20
+        pub fault-late : at + 9 ≤ length s → 2 ^ 40 < secondAt s at → recordFault s at ≡ 20
         unfolding recordFault
-        fault-late l h = rw (lt-leb (length s) at some, k, le-ltb (length s) (at + 9) l, lt-ltb (2 ^ 40) (startAt s at) h)
+        fault-late l h = rw (lt-leb (length s) at some, k, le-ltb (length s) (at + 9) l, lt-ltb (2 ^ 40) (secondAt s at) h)
 
     pub fault-none : Whole s at → recordFault s at ≡ 0
     unfolding recordFault
@@ -76,33 +76,33 @@ module _ (s : List ℕ) where
           lt-leb (length s) at (omega (arith, w .long)),
           w .kind-is,
           le-ltb (length s) (at + 9) (w .long),
-          le-ltb (2 ^ 40) (startAt s at) (w .early),
+          le-ltb (2 ^ 40) (secondAt s at) (w .early),
         )
 
     pub whole : recordFault s at ≡ 0 → Whole s at
     unfolding recordFault
     whole e =
-        let late : Bool × ℕ = (isLate (startAt s at), 20) in
+        let late : Bool × ℕ = (isLate (secondAt s at), 20) in
         let cut : Bool × ℕ = (ltb (length s) (at + 9), 7) in
         let first = lowest-none (leb (length s) at) 7 ((not (known (kindAt s at)), 6) ∷ cut ∷ late ∷ []) (omega arith) e in
         let second = lowest-none (not (known (kindAt s at))) 6 (cut ∷ late ∷ []) (omega arith) (first .1) in
         let third = lowest-none (ltb (length s) (at + 9)) 7 (late ∷ []) (omega arith) (second .1) in
-        let fourth = lowest-none (isLate (startAt s at)) 20 [] (omega arith) (third .1) in
+        let fourth = lowest-none (isLate (secondAt s at)) 20 [] (omega arith) (third .1) in
         record {
           long = ltb-false (length s) (at + 9) (third .0);
           kind-is = not-false (known (kindAt s at)) (second .0);
-          early = ltb-false (2 ^ 40) (startAt s at) (fourth .0);
+          early = ltb-false (2 ^ 40) (secondAt s at) (fourth .0);
         }
 
     pub fault-small : recordFault s at ≤ 20
     unfolding recordFault
     fault-small =
         lowest-le
-        ((leb (length s) at, 7) ∷ (not (known (kindAt s at)), 6) ∷ (ltb (length s) (at + 9), 7) ∷ (isLate (startAt s at), 20) ∷ [])
+        ((leb (length s) at, 7) ∷ (not (known (kindAt s at)), 6) ∷ (ltb (length s) (at + 9), 7) ∷ (isLate (secondAt s at), 20) ∷ [])
         20 (omega arith)
 
     -- what `holding` tells of it is what is printed of it
-    pub record-told : (start time : ℕ) (r : Holding) → recordFault s at ≡ 0 → start ≡ startAt s at → time ≡ timeOf s → time ≤ 2 ^ 40
+    pub record-told : (start time : ℕ) (r : Holding) → recordFault s at ≡ 0 → start ≡ secondAt s at → time ≡ timeOf s → time ≤ 2 ^ 40
         → Told (kindAt s at) start time r → r ≡ recordAnswer s at
     unfolding recordAnswer
     record-told start time r e p q l t =

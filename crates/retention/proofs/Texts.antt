@@ -9,17 +9,17 @@ use lib.Seq.{length-take-le, take-length}
 use borrow.Author.Tests.{le-leb, lt-leb, ne-eqb}
 use borrow.Rule.Slice.PartMut.{midOf, putMid}
 use Rattle.lists.proofs.Buffer.{front-take, put-placed}
+use Rattle.lists.specs.Buffer.{Written}
 use Rattle.listing.specs.Text.{newline, decimal, refusedText}
-use Rattle.listing.specs.Writing.{Wrote}
+use Rattle.listing.specs.Internal.{Wrote}
 use Rattle.listing.specs.Answer.{RefusalWritten}
 use Rattle.listing.proofs.Numbers.{decimal-long}
 use Rattle.listing.proofs.Lines.{ended-long}
 use Rattle.listing.proofs.Texts.{wrote-first}
 use Rattle.listing.proofs.Appending.{wrote-length, wrote-more, wrote-as, wrote-none, wrote-byte}
 use Rattle.retention.specs.Retention.{letterOf}
-use Rattle.retention.specs.Stream.{timeOf, timeFault, kindAt, startAt, recordFault, recordAnswer, placeOf, linesFrom, outputOf}
-use Rattle.retention.specs.Answer.{Written}
-use Rattle.retention.specs.Parts.{longest}
+use Rattle.retention.specs.Stream.{timeOf, timeFault, kindAt, secondAt, recordFault, recordAnswer, placeOf, linesFrom, outputOf}
+use Rattle.retention.specs.Internal.{longest}
 use Rattle.retention.proofs.Items.{state-printed}
 
 -- ---- a refusal
@@ -87,7 +87,7 @@ module _ (s : List ℕ) where
     unfolding linesFrom recordAnswer
     line-letter e =
         rw (lt-leb (length s) (placeOf k) some, e)
-        (state-printed (kindAt s (placeOf k)) (startAt s (placeOf k)) (timeOf s) (linesFrom s n (suc k)))
+        (state-printed (kindAt s (placeOf k)) (secondAt s (placeOf k)) (timeOf s) (linesFrom s n (suc k)))
 
   -- no record more
   pub lines-none : (k : ℕ) → linesFrom s 0 k ≡ []

@@ -3,7 +3,7 @@ use Prim.Native.Nat.{ℕ}
 use mathlib.Core.Path.{_≡_}
 use mathlib.Core.List.{List}
 use lib.ListN.{length}
-use Rattle.lists.specs.Buffer.{front}
+use Rattle.lists.specs.Buffer.{front, Written}
 use Rattle.lists.specs.Refusals.{valuesUnless}
 use Rattle.retention.specs.declared.Holding.{Holding}
 use Rattle.retention.specs.Retention.{stateOf, refusalOf, answerBy, numberOf, valuesOf}
@@ -13,8 +13,3 @@ pub record Told (kind start time : ℕ) (r : Holding) : Type 0 where
   pub answer : r ≡ answerBy (refusalOf kind start time) (stateOf kind start time)
   pub number : numberOf r ≡ refusalOf kind start time
   pub values : valuesOf r ≡ valuesUnless (refusalOf kind start time) (valuesOf (stateOf kind start time))
-
--- of `list_holdings`: the text stands first in the buffer, which is as it was behind it, and its length is returned
-pub record Written (text buffer : List ℕ) (end : ℕ) (after : List ℕ) : Type 0 where
-  pub ends : end ≡ length text
-  pub holds : after ≡ front text buffer

@@ -1,5 +1,5 @@
+pub mod Internal
 pub mod Retention
 pub mod Stream
 pub mod Wanted
 pub mod Answer
-pub mod Parts

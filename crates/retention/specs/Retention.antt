@@ -7,30 +7,30 @@ use Rattle.lists.specs.Refusals.{lowest}
 use Rattle.retention.specs.declared.Holding.{Holding}
 use Rattle.retention.specs.declared.Holding.the-variants.{NotYet, Held, Gone, Refused}
 
--- "kind 1 file, kind 2 photograph, kind 3 token"
+-- 1 file, 2 photograph, 3 token (RULES 32.1)
 abbrev pub known : ℕ → Bool
 known kind = leb 1 kind && leb kind 3
 
--- "a day is seconds div 86,400"
+-- a day is seconds div 86,400 (RULES 32.1)
 abbrev pub dayOf : ℕ → ℕ
 dayOf second = second / 86400
 
--- whether an item that has come is not gone. "Corner files: always from receipt. Photographs received on day d: days d to d+89, gone on d+90.
--- Tokens issued at second t: from t up to but excluding t + 604,800."
+-- whether an item that has come is not gone (RULES 32.2): a file always; a photograph received on day d on the days d to d + 89;
+-- a token issued at second t from t up to, not including, t + 604,800
 unfoldable pub stays : ℕ → ℕ → ℕ → Bool
 stays kind start time = cond (eqb kind 1) true (cond (eqb kind 2) (leb (dayOf time) (dayOf start + 89)) (ltb time (start + 604800)))
 
--- "Before the second of receipt or issue the item is "not yet", a photograph's own day included."
+-- before its second an item is not yet, a photograph on its own day too (RULES 32.2)
 unfoldable pub stateOf : ℕ → ℕ → ℕ → Holding
 stateOf kind start time = cond (ltb time start) NotYet (cond (stays kind start time) Held Gone)
 
 -- ---- refusals
 
--- 20: "start or time above 2^40"
+-- 20: start or time is above 2^40 (RULES 32.3)
 abbrev pub isLate : ℕ → Bool
 isLate second = ltb (2 ^ 40) second
 
--- 6: "Unknown kind"; then 20
+-- 6: the kind is unknown; then 20 (RULES 32.3)
 unfoldable pub refusalOf : ℕ → ℕ → ℕ → ℕ
 refusalOf kind start time = lowest ((not (known kind), 6) ∷ (isLate start || isLate time, 20) ∷ [])
 
@@ -48,7 +48,7 @@ numberOf Held = 0
 numberOf Gone = 0
 numberOf (Refused n) = n
 
--- "the letter N, H or G for not yet, held, gone"; a refusal has none
+-- N, H or G for not yet, held, gone (RULES 32.5); a refusal has none
 abbrev pub letterOf : Holding → ℕ
 letterOf NotYet = 78
 letterOf Held = 72

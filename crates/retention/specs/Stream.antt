@@ -10,45 +10,45 @@ use Rattle.retention.specs.declared.Holding.{Holding}
 use Rattle.retention.specs.declared.Holding.the-variants.{NotYet, Held, Gone, Refused}
 use Rattle.retention.specs.Retention.{known, stateOf, isLate, answerBy, letterOf}
 
--- "an .. unsigned number in little-endian"
+-- an unsigned number, little-endian (RULES 32.4)
 abbrev pub littleEndian : List ℕ → ℕ
 littleEndian [] = 0
 littleEndian (b ∷ bs) = b + 256 * littleEndian bs
 
 -- ---- the time
 
--- "The time asked about is the program's first eight bytes."
+-- the time is the first eight bytes (RULES 32.4)
 abbrev pub timeOf : List ℕ → ℕ
 timeOf s = littleEndian (take 8 s)
 
--- 7: "Stream cut short"; 20: "time above 2^40"
+-- 7: it is cut short; 20: it is above 2^40 (RULES 32.5)
 unfoldable pub timeFault : List ℕ → ℕ
 timeFault s = lowest ((ltb (length s) 8, 7) ∷ (isLate (timeOf s), 20) ∷ [])
 
--- ---- the record at a place: "each with an eight-byte unsigned number .., the second of receipt or issue"
+-- ---- the record at a place: a byte of kind, and eight bytes of the start (RULES 32.4)
 abbrev pub kindAt : List ℕ → ℕ → ℕ
 kindAt s at = getD s at 0
 
-abbrev pub startAt : List ℕ → ℕ → ℕ
-startAt s at = littleEndian (take 8 (drop (at + 1) s))
+abbrev pub secondAt : List ℕ → ℕ → ℕ
+secondAt s at = littleEndian (take 8 (drop (at + 1) s))
 
--- no byte is left: 7; 6: "Unknown kind"; 7: "Stream cut short"; 20: "start .. above 2^40; in one record after 6 and 7"
+-- no byte is left, 7; an unknown kind, 6; a body cut short, 7; a start above 2^40, 20 (RULES 32.5)
 unfoldable pub recordFault : List ℕ → ℕ → ℕ
 recordFault s at =
     lowest
     ((leb (length s) at, 7)
     ∷ (not (known (kindAt s at)), 6)
     ∷ (ltb (length s) (at + 9), 7)
-    ∷ (isLate (startAt s at), 20)
+    ∷ (isLate (secondAt s at), 20)
     ∷ [])
 
 unfoldable pub recordAnswer : List ℕ → ℕ → Holding
-recordAnswer s at = answerBy (recordFault s at) (stateOf (kindAt s at) (startAt s at) (timeOf s))
+recordAnswer s at = answerBy (recordFault s at) (stateOf (kindAt s at) (secondAt s at) (timeOf s))
 
 -- ---- what is printed
 
--- "Print the letter N, H or G .., a line each": the line of an item, and the lines behind it. "at a faulty record .. a line `refused N` with its
--- number ends the output"
+-- the line of an item with its letter, and the lines behind it; at a faulty record a line `refused N` with its
+-- number ends the output (RULES 32.5)
 abbrev pub printed : Holding → List ℕ → List ℕ
 printed NotYet more = letterOf NotYet ∷ newline ∷ more
 printed Held more = letterOf Held ∷ newline ∷ more
@@ -59,14 +59,14 @@ printed (Refused n) more = refusedText n
 abbrev pub placeOf : ℕ → ℕ
 placeOf k = 8 + 9 * k
 
--- the lines of at most n records from record k on, "in input order". "The stream may end after the time or any record"
+-- the lines of at most n records from record k on, in their order; the stream may end behind any record (RULES 32.4)
 unfoldable pub linesFrom : List ℕ → ℕ → ℕ → List ℕ
 linesFrom s zero k = []
 linesFrom s (suc n) k =
     let lines = printed (recordAnswer s (placeOf k)) (linesFrom s n (suc k)) in
     cond (leb (length s) (placeOf k)) [] lines
 
--- "at most 65,536 records are read and what follows is not"; "at a faulty .. time, a line `refused N` .. ends the output"
+-- at most 65,536 records are read, and what follows is not (RULES 32.4); of a faulty time the line `refused N` is all (RULES 32.5)
 unfoldable pub outputOf : List ℕ → List ℕ
 outputOf s =
     let lines = linesFrom s 65536 0 in

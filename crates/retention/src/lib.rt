@@ -12,7 +12,7 @@ ghost use mathlib.Core.Path.{_≡_};
 ghost use Prim.Native.Nat.{_+_, _≤_};
 ghost use lib.ListN.{length};
 ghost use Rattle.retention.specs.Retention.{known};
-ghost use Rattle.retention.specs.Stream.{littleEndian, timeFault, startAt, recordFault};
+ghost use Rattle.retention.specs.Stream.{littleEndian, timeFault, secondAt, recordFault};
 
 // The latest second: 2^40.
 const LATEST: u64 = 1099511627776;
@@ -71,7 +71,7 @@ fn time_fault(input: &[u8]) -> u8
 // The second of the record at a place, of which no byte is missing.
 fn start_at(input: &[u8], at: usize) -> u64
     requires { ⌜ at + 9 ≤ length (now input) ⌝ }
-    ensures { λ r. ⌜ r ≡ startAt (now (input .entry)) at ⌝ }
+    ensures { λ r. ⌜ r ≡ secondAt (now (input .entry)) at ⌝ }
 {
     let first = at + 1;
     let end = at + 9;

@@ -4,12 +4,12 @@ ghost use mathlib.Core.Path.{_≡_};
 ghost use mathlib.Core.List.{[], _∷_};
 ghost use Prim.Native.Nat.{_+_, _≤_, _^_};
 ghost use lib.ListN.{length};
+ghost use Rattle.lists.specs.Buffer.{Written};
 ghost use Rattle.listing.specs.Text.{newline, refusedText};
-ghost use Rattle.listing.specs.Writing.{Wrote};
+ghost use Rattle.listing.specs.Internal.{Wrote};
 ghost use Rattle.retention.specs.Retention.{letterOf};
 ghost use Rattle.retention.specs.Stream.{timeOf, recordFault, recordAnswer, linesFrom, outputOf};
-ghost use Rattle.retention.specs.Answer.{Written};
-ghost use Rattle.retention.specs.Parts.{longest};
+ghost use Rattle.retention.specs.Internal.{longest};
 
 // The longest text: 65,535 letters, each with a newline, and `refused 20`.
 pub const LONGEST: usize = 131081;

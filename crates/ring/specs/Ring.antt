@@ -17,7 +17,8 @@ unfoldable pub ring5 : Ring
 ring5 =
     record {
       radius = 5;
-      places = (5, 0) ∷ (7, 0) ∷ (8, 2) ∷ (10, 3) ∷ (10, 5) ∷ (10, 7) ∷ (8, 8) ∷ (7, 10) ∷ (5, 10) ∷ (3, 10) ∷ (2, 8) ∷ (0, 7) ∷ (0, 5) ∷ (0, 3) ∷ (2, 2) ∷ (3, 0) ∷ [];
+      places = (5, 0) ∷ (7, 0) ∷ (8, 2) ∷ (10, 3) ∷ (10, 5) ∷ (10, 7) ∷ (8, 8) ∷ (7, 10) ∷ (5, 10) ∷ (3, 10) ∷ (2, 8) ∷ (0, 7) ∷ (0, 5)
+          ∷ (0, 3) ∷ (2, 2) ∷ (3, 0) ∷ [];
     }
 
 -- the table RING10
@@ -25,7 +26,8 @@ unfoldable pub ring10 : Ring
 ring10 =
     record {
       radius = 10;
-      places = (10, 0) ∷ (14, 0) ∷ (16, 4) ∷ (20, 6) ∷ (20, 10) ∷ (20, 14) ∷ (16, 16) ∷ (14, 20) ∷ (10, 20) ∷ (6, 20) ∷ (4, 16) ∷ (0, 14) ∷ (0, 10) ∷ (0, 6) ∷ (4, 4) ∷ (6, 0) ∷ [];
+      places = (10, 0) ∷ (14, 0) ∷ (16, 4) ∷ (20, 6) ∷ (20, 10) ∷ (20, 14) ∷ (16, 16) ∷ (14, 20) ∷ (10, 20) ∷ (6, 20) ∷ (4, 16) ∷ (0, 14)
+          ∷ (0, 10) ∷ (0, 6) ∷ (4, 4) ∷ (6, 0) ∷ [];
     }
 
 -- a radius of 10 selects the second ring, and every other number the first
@@ -33,7 +35,7 @@ unfoldable pub ringOf : ℕ → Ring
 unfolding ring5 ring10
 ringOf n = cond (eqb n 10) ring10 ring5
 
--- "A parameter set may say only 5 or 10"
+-- the radii that a parameter set may say (RULES 1.7)
 abbrev pub isRing : ℕ → Bool
 isRing radius = eqb radius 5 || eqb radius 10
 

@@ -16,7 +16,8 @@ use Rattle.lists.proofs.Tab.{length-tab, getD-tab}
 use Rattle.lists.proofs.Tests.{or-neither}
 use Rattle.lists.proofs.Refusals.{lowest-none}
 use Rattle.stream.specs.declared.Header.{Header}
-use Rattle.stream.specs.Stream.{u8, u16, u32, bodyLength, bodyOf, behind, headerOf, paddingFault, bodyFault, recordFault, Reading, accepted, readRecord, recordsFor, readPixels, readParameters, readFrame}
+use Rattle.stream.specs.Stream.{u8, u16, u32, bodyLength, bodyOf, behind, headerOf, recordsFor, paddingFault, bodyFault, recordFault}
+use Rattle.stream.specs.Stream.{Reading, accepted, readRecord, readPixels, readParameters, readFrame}
 use Rattle.stream.specs.RoundTrip.{bytes16, bytes32, sidesBytes, parametersBytes, pixelBytes, frameBytes, Accepted, AcceptedGood, AcceptedOnly, RoundTrip}
 use Rattle.stream.proofs.Records.{sound}
 use Rattle.stream.proofs.RoundTrip.{frame-back}
@@ -28,12 +29,17 @@ pub record Came (kind left : ℕ) (s : List ℕ) (next : List ℕ → List ℕ �
   pub good : bodyFault kind left (bodyOf kind s) ≡ 0
   pub goes-on : next (bodyOf kind s) (behind kind s) ≡ r
 
-module _ (kind left : ℕ) (s : List ℕ) (next : List ℕ → List ℕ → Reading) (h : Header) (pixels : List ℕ) (e : readRecord kind left s next ≡ accepted h pixels) where
+module _ (kind left : ℕ) (s : List ℕ) (next : List ℕ → List ℕ → Reading) (h : Header) (pixels : List ℕ)
+    (e : readRecord kind left s next ≡ accepted h pixels) where
   no-fault : recordFault kind left s ≡ 0
   unfolding readRecord
   no-fault =
       elim (decLt 0 (recordFault kind left s)) [
-        | yes l ↦ absurd (let f = ne-eqb (recordFault kind left s) 0 (λ z. let no : ⊥ = omega arith in no) in let r = rw f at e in let z : _≡_ {A = ℕ} 0 1 = cc in let no : ⊥ = omega arith in no)
+        | yes l ↦
+            let f = ne-eqb (recordFault kind left s) 0 (λ z. let no : ⊥ = omega arith in no) in
+            let r = rw f at e in
+            let z : _≡_ {A = ℕ} 0 1 = cc in
+            absurd (let no : ⊥ = omega arith in no)
         | no g ↦ omega arith
       ]
 
@@ -43,7 +49,10 @@ module _ (kind left : ℕ) (s : List ℕ) (next : List ℕ → List ℕ → Read
       let ok = sound kind left s no-fault in
       let past : behind kind s ≡ drop (bodyLength kind) (drop 1 s) = sym (drop-drop (bodyLength kind) 1 s) in
       record {
-        whole = ok .kind ∙ ap (λ (l : List ℕ). kind ∷ l) (sym (take-append-drop (bodyLength kind) (drop 1 s)) ∙ ap (λ (l : List ℕ). bodyOf kind s ++ l) (sym past));
+        whole =
+            ok .kind
+            ∙ ap (λ (l : List ℕ). kind ∷ l)
+            (sym (take-append-drop (bodyLength kind) (drop 1 s)) ∙ ap (λ (l : List ℕ). bodyOf kind s ++ l) (sym past));
         long = length-take-le (bodyLength kind) (drop 1 s) (omega (arith, length-drop 1 s, ok .long));
         good = ok .body;
         goes-on = rw no-fault at e;
@@ -99,8 +108,10 @@ module _ (sides parameters : List ℕ) where
   parameters-only b l =
       let s = u8 parameters in
       let at = byte-at parameters b in
-      ap (λ (t : List ℕ). (s 0 ∷ t) ++ (s 5 ∷ s 6 ∷ s 7 ∷ bytes32 (u32 parameters 8)) ++ (s 12 ∷ bytes16 (u16 parameters 13)) ++ (s 15 ∷ [])) (word32 (s 1) (s 2) (s 3) (s 4) (at 1) (at 2) (at 3))
-      ∙ ap₂ (λ (m n : List ℕ). (s 0 ∷ s 1 ∷ s 2 ∷ s 3 ∷ s 4 ∷ []) ++ (s 5 ∷ s 6 ∷ s 7 ∷ m) ++ (s 12 ∷ n) ++ (s 15 ∷ [])) (word32 (s 8) (s 9) (s 10) (s 11) (at 8) (at 9) (at 10)) (word16 (s 13) (s 14) (at 13))
+      ap (λ (t : List ℕ). (s 0 ∷ t) ++ (s 5 ∷ s 6 ∷ s 7 ∷ bytes32 (u32 parameters 8)) ++ (s 12 ∷ bytes16 (u16 parameters 13)) ++ (s 15 ∷ []))
+      (word32 (s 1) (s 2) (s 3) (s 4) (at 1) (at 2) (at 3))
+      ∙ ap₂ (λ (m n : List ℕ). (s 0 ∷ s 1 ∷ s 2 ∷ s 3 ∷ s 4 ∷ []) ++ (s 5 ∷ s 6 ∷ s 7 ∷ m) ++ (s 12 ∷ n) ++ (s 15 ∷ []))
+      (word32 (s 8) (s 9) (s 10) (s 11) (at 8) (at 9) (at 10)) (word16 (s 13) (s 14) (at 13))
       ∙ sym (spread 16 parameters l)
 
 -- ---- the pixels
@@ -166,7 +177,8 @@ pub record Pixels (h : Header) (n left : ℕ) (done s : List ℕ) (k : Header) (
   pub gathered : pixels ≡ done ++ more
   pub written : s ≡ pixelBytes n more ++ (4 ∷ rest)
 
-pub pixels-only : (h : Header) (n left : ℕ) (done s : List ℕ) (k : Header) (pixels : List ℕ) → n ≡ recordsFor left → readPixels n h left done s ≡ accepted k pixels → Pixels h n left done s k pixels
+pub pixels-only : (h : Header) (n left : ℕ) (done s : List ℕ) (k : Header) (pixels : List ℕ)
+    → n ≡ recordsFor left → readPixels n h left done s ≡ accepted k pixels → Pixels h n left done s k pixels
 unfolding readPixels pixelBytes bodyLength
 pixels-only h zero left done s k pixels e r =
     let c = came 4 left s (λ body rest. accepted h done) k pixels r in
@@ -235,9 +247,11 @@ module _ (s : List ℕ) (h : Header) (pixels : List ℕ) (e : readFrame s ≡ ac
     written : s ≡ frameBytes said (third .more) ++ third .rest
     unfolding frameBytes bodyLength
     written =
-        let sides : bodyOf 1 s ≡ sidesBytes said = sym (sides-only (bodyOf 1 s) (bodyOf 2 (behind 1 s)) (bytes-take 4 (drop 1 s) (bytes-drop 1 s b)) (first .long)) in
+        let sides : bodyOf 1 s ≡ sidesBytes said =
+        sym (sides-only (bodyOf 1 s) (bodyOf 2 (behind 1 s)) (bytes-take 4 (drop 1 s) (bytes-drop 1 s b)) (first .long)) in
         let parameters : bodyOf 2 (behind 1 s) ≡ parametersBytes said =
-        sym (parameters-only (bodyOf 1 s) (bodyOf 2 (behind 1 s)) (bytes-take 16 (drop 1 (drop 5 s)) (bytes-drop 1 (drop 5 s) (bytes-drop 5 s b))) (second .long)) in
+        sym (parameters-only (bodyOf 1 s) (bodyOf 2 (behind 1 s))
+        (bytes-take 16 (drop 1 (drop 5 s)) (bytes-drop 1 (drop 5 s) (bytes-drop 5 s b))) (second .long)) in
         let pixels-part : behind 2 (behind 1 s) ≡ (pixelPart ++ (4 ∷ [])) ++ third .rest =
         third .written
         ∙ ap (λ (n : ℕ). pixelBytes (recordsFor n) (third .more) ++ (4 ∷ third .rest)) (sym (third .long))
@@ -249,7 +263,9 @@ module _ (s : List ℕ) (h : Header) (pixels : List ℕ) (e : readFrame s ≡ ac
 
     only : take (length (frameBytes h pixels)) s ≡ frameBytes h pixels
     only =
-        rw (third .same, third .gathered) (ap (take (length (frameBytes said (third .more)))) written ∙ take-at (frameBytes said (third .more)) (third .rest) (length (frameBytes said (third .more))) refl)
+        rw (third .same, third .gathered)
+        (ap (take (length (frameBytes said (third .more)))) written
+        ∙ take-at (frameBytes said (third .more)) (third .rest) (length (frameBytes said (third .more))) refl)
 
 -- ---- the statements
 pub accepted-good : AcceptedGood

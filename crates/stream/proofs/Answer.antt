@@ -14,7 +14,7 @@ use Rattle.stream.specs.declared.Header.{Header}
 use Rattle.stream.specs.declared.FrameStream.the-variants.{Frame, Refused}
 use Rattle.stream.specs.Stream.{accepted, refused, readFrame}
 use Rattle.stream.specs.Answer.{faultOf, statedIn, bufferAfter, FrameRead}
-use Rattle.stream.specs.Parts.{headerAt, pixelCount, pixelAt, Small, Judged}
+use Rattle.stream.specs.Internal.{headerAt, pixelCount, pixelByte, Small, Judged}
 
 pub pixels-are : (s : List ℕ) (header : Header) → header ≡ headerAt s → header .width * header .height ≡ pixelCount s
 unfolding headerAt pixelCount
@@ -30,13 +30,15 @@ module _ (s d : List ℕ) (n : ℕ) (j : Judged s n) where
       let is : readFrame s ≡ refused n = j .reading ∙ rw (ne-eqb n 0 h) in
       record { reading = sym is; number = ap faultOf (sym is); values = ap statedIn (sym is); pixels = ap (λ r. bufferAfter r d) (sym is) }
 
-  pub frame-read : n ≡ 0 → (header : Header) (k : ℕ) (after : List ℕ) → header ≡ headerAt s → k ≡ pixelCount s → after ≡ front (tab k (pixelAt s)) d → FrameRead s d (Frame header) after
+  pub frame-read : n ≡ 0 → (header : Header) (k : ℕ) (after : List ℕ) → header ≡ headerAt s → k ≡ pixelCount s
+      → after ≡ front (tab k (pixelByte s)) d → FrameRead s d (Frame header) after
   frame-read z header k after e q r =
-      let pixels = tab (pixelCount s) (pixelAt s) in
+      let pixels = tab (pixelCount s) (pixelByte s) in
       let is : readFrame s ≡ accepted header pixels = j .reading ∙ rw (z, e) in
-      let stands : after ≡ front pixels d = r ∙ ap (λ (k : ℕ). front (tab k (pixelAt s)) d) q in
+      let stands : after ≡ front pixels d = r ∙ ap (λ (k : ℕ). front (tab k (pixelByte s)) d) q in
       let first : take (header .width * header .height) after ≡ pixels =
-      ap (take (header .width * header .height)) stands ∙ front-take pixels d (header .width * header .height) (pixels-are s header e ∙ sym (length-tab (pixelCount s) (pixelAt s))) in
+      ap (take (header .width * header .height)) stands
+      ∙ front-take pixels d (header .width * header .height) (pixels-are s header e ∙ sym (length-tab (pixelCount s) (pixelByte s))) in
       record {
         reading = ap (accepted header) first ∙ sym is;
         number = ap faultOf (sym is);

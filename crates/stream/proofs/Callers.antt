@@ -15,7 +15,7 @@ use Rattle.stream.specs.RoundTrip.{Accepted}
 use Rattle.stream.proofs.Accepted.{accepted-good}
 
 -- a frame: its sides, and its pixels first in the buffer
-pub record FrameFound (s buffer : List ℕ) (h : Header) (after : List ℕ) : Type 0 where
+pub record FrameStands (s buffer : List ℕ) (h : Header) (after : List ℕ) : Type 0 where
   pub reading : readFrame s ≡ accepted h (take (h .width * h .height) after)
   pub good : Accepted h (take (h .width * h .height) after)
   pub width : h .width ≤ 96
@@ -23,7 +23,7 @@ pub record FrameFound (s buffer : List ℕ) (h : Header) (after : List ℕ) : Ty
   pub fits : h .width * h .height ≤ 9216
   pub buffer-is : after ≡ front (take (h .width * h .height) after) buffer
 
-pub frame-found : (s buffer : List ℕ) (h : Header) (after : List ℕ) → FrameRead s buffer (Frame h) after → FrameFound s buffer h after
+pub frame-found : (s buffer : List ℕ) (h : Header) (after : List ℕ) → FrameRead s buffer (Frame h) after → FrameStands s buffer h after
 frame-found s buffer h after r =
     let is : readFrame s ≡ accepted h (take (h .width * h .height) after) = sym (r .reading) in
     let good = accepted-good s h (take (h .width * h .height) after) is in

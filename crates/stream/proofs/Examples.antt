@@ -66,12 +66,12 @@ pub one-pixel : readFrame (sides 1 1 ++ good ++ pixel 9 0 ++ (4 ∷ 8 ∷ [])) �
   ring = 5;
   «threshold_bits» = 0x3f80_0000;
   window = 1;
-  least = 2;
-  centroid = 3;
+  «least_neighbours» = 2;
+  «centroid_radius» = 3;
   «merge_bits» = 0x4040_0000;
   levels = 4;
-  minimum = 0x0605;
-  search = 7;
+  «minimum_side» = 0x0605;
+  «search_radius» = 7;
 } (9 ∷ [])
 unfolding readFrame bodyLength ofBits lt le isOff isSized
 one-pixel = refl

@@ -1,7 +1,7 @@
 pub mod Parameters
 pub mod Padding
 pub mod Records
-pub mod Pixels
+pub mod PixelPlaces
 pub mod Order
 pub mod Answer
 pub mod RoundTrip

@@ -15,11 +15,12 @@ use Rattle.lists.specs.Tab.{tab}
 use Rattle.lists.proofs.Tests.{or-neither}
 use Rattle.lists.proofs.Refusals.{lowest-none}
 use Rattle.stream.specs.declared.Header.{Header}
-use Rattle.stream.specs.Stream.{u16, bodyLength, bodyOf, behind, headerOf, sidesFault, bodyFault, recordFault, Reading, accepted, refused, readRecord, recordsFor, readPixels, readParameters, readFrame}
+use Rattle.stream.specs.Stream.{u16, bodyLength, bodyOf, behind, headerOf, recordsFor, sidesFault, bodyFault, recordFault}
+use Rattle.stream.specs.Stream.{Reading, accepted, refused, readRecord, readPixels, readParameters, readFrame}
 use Rattle.stream.specs.Wanted.{wantedHere, wantedRecord, wantedPixels, wantedParameters, wanted}
-use Rattle.stream.specs.Parts.{due, headerAt, pixelCount, pixelAt, leftAfter, Small, Judged, Stopped}
+use Rattle.stream.specs.Internal.{due, headerAt, pixelCount, pixelByte, leftAfter, Small, Judged, Stopped}
 use Rattle.stream.proofs.Records.{sound}
-use Rattle.stream.proofs.Pixels.{one-fewer, pixels-more}
+use Rattle.stream.proofs.PixelPlaces.{one-fewer, pixels-more}
 
 -- ---- a record that is read: its fault, or what follows
 module _ (kind left : ℕ) (s : List ℕ) (next : List ℕ → List ℕ → Reading) where
@@ -71,7 +72,8 @@ abbrev pub leftBehind : List ℕ → ℕ → ℕ
 leftBehind s i = pixelCount s - 32 * i
 
 unfoldable pub readBehind : List ℕ → ℕ → Reading
-readBehind s i = readPixels (recordsFor (leftBehind s i)) (headerAt s) (leftBehind s i) (tab (pixelCount s - leftBehind s i) (pixelAt s)) (drop (22 + 33 * i) s)
+readBehind s i =
+    readPixels (recordsFor (leftBehind s i)) (headerAt s) (leftBehind s i) (tab (pixelCount s - leftBehind s i) (pixelByte s)) (drop (22 + 33 * i) s)
 
 unfoldable pub wantedBehind : List ℕ → ℕ → ℕ
 wantedBehind s i = wantedPixels (recordsFor (leftBehind s i)) (leftBehind s i) (drop (22 + 33 * i) s)
@@ -141,7 +143,8 @@ small-sides width height e =
     let p = or-neither (ltb 96 width) (ltb 96 height) (lowest-none (ltb 96 width || ltb 96 height) 1 [] (omega arith) e .0) in
     (ltb-false 96 width (p .0), ltb-false 96 height (p .1))
 
-reading-alike : {n n′ : ℕ} {px px′ t t′ : List ℕ} (h : Header) → n ≡ n′ → px ≡ px′ → t ≡ t′ → readPixels (recordsFor n) h n px t ≡ readPixels (recordsFor n′) h n′ px′ t′
+reading-alike : {n n′ : ℕ} {px px′ t t′ : List ℕ} (h : Header) → n ≡ n′ → px ≡ px′ → t ≡ t′
+    → readPixels (recordsFor n) h n px t ≡ readPixels (recordsFor n′) h n′ px′ t′
 reading-alike h p q r = rw (p, q, r)
 
 wanting-alike : {n n′ : ℕ} {t t′ : List ℕ} → n ≡ n′ → t ≡ t′ → wantedPixels (recordsFor n) n t ≡ wantedPixels (recordsFor n′) n′ t′
@@ -190,8 +193,9 @@ module _ (s : List ℕ) (p : Sided s) where
         reading =
             p .reading
             ∙ read-sound 2 0 (drop 5 s) readRest e
-            ∙ ap (λ (h : Header). readPixels (recordsFor (pixelCount s)) h (pixelCount s) [] (drop 17 (drop 5 s))) (ap (λ (l : List ℕ). headerOf (take 4 (drop 1 s)) (take 16 l)) (drop-drop 1 5 s))
-            ∙ reading-alike (headerAt s) all (ap (λ (k : ℕ). tab k (pixelAt s)) none) (drop-drop 17 5 s);
+            ∙ ap (λ (h : Header). readPixels (recordsFor (pixelCount s)) h (pixelCount s) [] (drop 17 (drop 5 s)))
+            (ap (λ (l : List ℕ). headerOf (take 4 (drop 1 s)) (take 16 l)) (drop-drop 1 5 s))
+            ∙ reading-alike (headerAt s) all (ap (λ (k : ℕ). tab k (pixelByte s)) none) (drop-drop 17 5 s);
         wanting = p .wanting ∙ wanted-sound 2 0 (drop 5 s) wantedRest e ∙ wanting-alike all (drop-drop 17 5 s);
       }
 
@@ -204,7 +208,7 @@ module _ (s : List ℕ) (i : ℕ) (p : Passed s i) where
   here = drop (22 + 33 * i) s
 
   abbrev came : List ℕ
-  came = tab (pixelCount s - left) (pixelAt s)
+  came = tab (pixelCount s - left) (pixelByte s)
 
   module _ (l : 0 < left) where
     abbrev readNext : List ℕ → List ℕ → Reading
@@ -240,7 +244,7 @@ module _ (s : List ℕ) (i : ℕ) (p : Passed s i) where
               pixels-due
               ∙ read-sound 3 left here readNext e
               ∙ reading-alike (headerAt s) less
-              (pixels-more s i left long (pixelCount s) (omega arith) ∙ ap (λ (k : ℕ). tab (pixelCount s - k) (pixelAt s)) less)
+              (pixels-more s i left long (pixelCount s) (omega arith) ∙ ap (λ (k : ℕ). tab (pixelCount s - k) (pixelByte s)) less)
               past;
           wanting = pixels-wanted ∙ wanted-sound 3 left here wantedNext e ∙ wanting-alike less past;
         }
@@ -272,7 +276,7 @@ module _ (s : List ℕ) (i : ℕ) (p : Passed s i) where
     end-sound e =
         let all : pixelCount s - left ≡ pixelCount s = omega arith in
         record {
-          reading = end-due ∙ read-sound 4 left here readNone e ∙ ap (λ (k : ℕ). accepted (headerAt s) (tab k (pixelAt s))) all;
+          reading = end-due ∙ read-sound 4 left here readNone e ∙ ap (λ (k : ℕ). accepted (headerAt s) (tab k (pixelByte s))) all;
           whole = λ _. record { small = p .small; long = omega (arith, p .long) };
         }
 

@@ -8,10 +8,11 @@ use lib.Ieee.{Float, binary32, ofBits}
 use Rattle.lists.specs.Refusals.{lowest}
 use Rattle.merge_radius.specs.MergeRadius.{radiusOutside}
 use Rattle.stream.specs.Stream.{rangeOutside, parametersFault}
-use Rattle.stream.specs.Parts.{firstFault, rangeFault, radiusFault}
+use Rattle.stream.specs.Internal.{firstFault, rangeFault, radiusFault}
 
 -- the range before the radius
-pub parameters-first : (ring window centroid merge : ℕ) → firstFault (rangeFault ring window centroid) (radiusFault merge) ≡ parametersFault ring window centroid merge
+pub parameters-first : (ring window centroid merge : ℕ)
+    → firstFault (rangeFault ring window centroid) (radiusFault merge) ≡ parametersFault ring window centroid merge
 unfolding firstFault rangeFault radiusFault parametersFault
 parameters-first ring window centroid merge =
     pick (rangeOutside ring window centroid) (radiusOutside (ofBits binary32 merge))

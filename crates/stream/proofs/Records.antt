@@ -13,7 +13,7 @@ use borrow.Author.Tests.{lt-ltb, le-ltb, ltb-false, eqb-true, not-false}
 use Rattle.lists.specs.Refusals.{lowest}
 use Rattle.lists.proofs.Refusals.{lowest-some}
 use Rattle.stream.specs.Stream.{known, bodyLength, bodyOf, bodyFault, recordFault}
-use Rattle.stream.specs.Parts.{kindFault}
+use Rattle.stream.specs.Internal.{kindFault}
 
 -- the conditions that are judged behind those of the kind
 abbrev bodyConditions : ℕ → ℕ → List ℕ → List (Bool × ℕ)
@@ -40,7 +40,9 @@ module _ (due left : ℕ) (s : List ℕ) (at : ℕ) where
     module _ (k : kindFault (getD s at 0) due ≡ 0) where
       fault-behind : recordFault due left (drop at s) ≡ lowest (bodyConditions due left (drop (suc at) s))
       unfolding recordFault kindFault
-      fault-behind = rw (drop-cons s at 0 h) (kind-passed (not (known (getD s at 0))) (not (eqb (getD s at 0) due)) (bodyConditions due left (drop (suc at) s)) k)
+      fault-behind =
+          rw (drop-cons s at 0 h)
+          (kind-passed (not (known (getD s at 0))) (not (eqb (getD s at 0) due)) (bodyConditions due left (drop (suc at) s)) k)
 
       pub fault-cut : length s - (at + 1) < bodyLength due → recordFault due left (drop at s) ≡ 7
       fault-cut c = fault-behind ∙ rw (lt-ltb (length (drop (suc at) s)) (bodyLength due) (omega (arith, length-drop (suc at) s)))

@@ -12,13 +12,16 @@ use lib.Dec.{eqb}
 use borrow.Author.Tests.{eq-eqb, le-ltb}
 use Rattle.lists.specs.Places.{any}
 use Rattle.stream.specs.declared.Header.{Header}
-use Rattle.stream.specs.Stream.{known, bodyLength, bodyOf, behind, headerOf, sidesFault, parametersFault, paddingFault, bodyFault, recordFault, Reading, accepted, readRecord, recordsFor, readPixels, readParameters, readFrame}
+use Rattle.stream.specs.Stream.{known, bodyLength, bodyOf, behind, headerOf, recordsFor}
+use Rattle.stream.specs.Stream.{sidesFault, parametersFault, paddingFault, bodyFault, recordFault}
+use Rattle.stream.specs.Stream.{Reading, accepted, readRecord, readPixels, readParameters, readFrame}
 use Rattle.stream.specs.RoundTrip.{sidesBytes, parametersBytes, pixelBytes, frameBytes, FrameBack}
 use Rattle.stream.proofs.Order.{read-sound}
 
 -- ---- a record that is written without fault is read
 module _ (kind left : ℕ) (body rest : List ℕ) (next : List ℕ → List ℕ → Reading) where
-  pub record-back : known kind ≡ true → length body ≡ bodyLength kind → bodyFault kind left body ≡ 0 → readRecord kind left (kind ∷ (body ++ rest)) next ≡ next body rest
+  pub record-back : known kind ≡ true → length body ≡ bodyLength kind → bodyFault kind left body ≡ 0
+      → readRecord kind left (kind ∷ (body ++ rest)) next ≡ next body rest
   unfolding recordFault
   record-back k l f =
       let all : bodyOf kind (kind ∷ (body ++ rest)) ≡ body = take-at body rest (bodyLength kind) l in
@@ -44,7 +47,7 @@ module _ (h : Header) where
   unfolding bodyFault
   sides-good e = simp number16 e
 
-  pub parameters-good : parametersFault (h .ring) (h .window) (h .centroid) (h .«merge_bits») ≡ 0 → bodyFault 2 0 (parametersBytes h) ≡ 0
+  pub parameters-good : parametersFault (h .ring) (h .window) (h .«centroid_radius») (h .«merge_bits») ≡ 0 → bodyFault 2 0 (parametersBytes h) ≡ 0
   unfolding bodyFault
   parameters-good e = simp (number16, number32) e
 
@@ -120,7 +123,8 @@ frame-back h pixels rest good =
     record-back 1 0 (sidesBytes h) (2 ∷ (parametersBytes h ++ behind-sides)) readParameters refl refl (sides-good h (good .sides))
     ∙ record-back 2 0 (parametersBytes h) behind-sides (readRest (sidesBytes h)) refl refl (parameters-good h (good .parameters))
     ∙ ap (λ (k : Header). readPixels (recordsFor (k .width * k .height)) k (k .width * k .height) [] behind-sides) (header-back h)
-    ∙ ap (λ (t : List ℕ). readPixels (recordsFor n) h n [] t) (append-assoc written (4 ∷ []) rest ∙ ap (λ (k : ℕ). pixelBytes (recordsFor k) pixels ++ (4 ∷ rest)) l)
+    ∙ ap (λ (t : List ℕ). readPixels (recordsFor n) h n [] t)
+    (append-assoc written (4 ∷ []) rest ∙ ap (λ (k : ℕ). pixelBytes (recordsFor k) pixels ++ (4 ∷ rest)) l)
     ∙ pixels-back h (recordsFor n) n [] pixels rest refl (sym l)
   where
     readRest : List ℕ → List ℕ → List ℕ → Reading

@@ -1,4 +1,4 @@
--- The promise of `read_frame`.
+-- The promise of `read_frame` (RULES 11.5).
 use Prim.Native.Nat.{ℕ, _*_}
 use mathlib.Core.Path.{_≡_}
 use mathlib.Core.List.{List, [], _∷_}
@@ -9,12 +9,12 @@ use Rattle.stream.specs.declared.FrameStream.{FrameStream}
 use Rattle.stream.specs.declared.FrameStream.the-variants.{Frame, Refused}
 use Rattle.stream.specs.Stream.{Reading, accepted, refused, readFrame}
 
--- an answer in 01's terms: the header with the pixels that stand first in the buffer, or the number
+-- what an answer says of the stream: the header with the pixels that stand first in the buffer, or the number
 abbrev pub readingOf : FrameStream → List ℕ → Reading
 readingOf (Frame header) buffer = accepted header (take (header .width * header .height) buffer)
 readingOf (Refused n) buffer = refused n
 
--- document 01's number and values of each case: 0 for no refusal, and the sides and parameters that a stream states, in its order
+-- the number and the values of each case: 0 for no refusal, and the sides and parameters that a stream states, in its order (RULES 11.1)
 abbrev pub numberOf : FrameStream → ℕ
 numberOf (Frame header) = 0
 numberOf (Refused n) = n
@@ -22,7 +22,8 @@ numberOf (Refused n) = n
 abbrev pub stated : Header → List ℕ
 stated h =
     h .width ∷ h .height
-    ∷ h .ring ∷ h .«threshold_bits» ∷ h .window ∷ h .least ∷ h .centroid ∷ h .«merge_bits» ∷ h .levels ∷ h .minimum ∷ h .search
+    ∷ h .ring ∷ h .«threshold_bits» ∷ h .window ∷ h .«least_neighbours» ∷ h .«centroid_radius» ∷ h .«merge_bits» ∷ h .levels
+    ∷ h .«minimum_side» ∷ h .«search_radius»
     ∷ []
 
 abbrev pub valuesOf : FrameStream → List ℕ

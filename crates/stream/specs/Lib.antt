@@ -2,4 +2,4 @@ pub mod Stream
 pub mod Answer
 pub mod Wanted
 pub mod RoundTrip
-pub mod Parts
+pub mod Internal

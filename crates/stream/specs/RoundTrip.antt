@@ -21,11 +21,11 @@ sidesBytes h = bytes16 (h .width) ++ bytes16 (h .height)
 abbrev pub parametersBytes : Header → List ℕ
 parametersBytes h =
     (h .ring ∷ bytes32 (h .«threshold_bits»))
-    ++ (h .window ∷ h .least ∷ h .centroid ∷ bytes32 (h .«merge_bits»))
-    ++ (h .levels ∷ bytes16 (h .minimum))
-    ++ (h .search ∷ [])
+    ++ (h .window ∷ h .«least_neighbours» ∷ h .«centroid_radius» ∷ bytes32 (h .«merge_bits»))
+    ++ (h .levels ∷ bytes16 (h .«minimum_side»))
+    ++ (h .«search_radius» ∷ [])
 
--- "32 pixels in row order, zeros after the last"
+-- kind 3: 32 pixels in row order, zeros behind the last (RULES 11.1)
 unfoldable pub pixelBytes : ℕ → List ℕ → List ℕ
 pixelBytes zero pixels = []
 pixelBytes (suc n) pixels = 3 ∷ ((take 32 pixels ++ replicate (32 - length pixels) 0) ++ pixelBytes n (drop 32 pixels))
@@ -39,7 +39,7 @@ frameBytes h pixels = (1 ∷ sidesBytes h) ++ (2 ∷ parametersBytes h) ++ pixel
 -- what a stream may hold: sides and parameters without fault, and as many pixels as the sides say
 pub record Accepted (h : Header) (pixels : List ℕ) : Type 0 where
   pub sides : sidesFault (h .width) (h .height) ≡ 0
-  pub parameters : parametersFault (h .ring) (h .window) (h .centroid) (h .«merge_bits») ≡ 0
+  pub parameters : parametersFault (h .ring) (h .window) (h .«centroid_radius») (h .«merge_bits») ≡ 0
   pub long : length pixels ≡ h .width * h .height
 
 -- what is written for it is read back, whatever stands behind

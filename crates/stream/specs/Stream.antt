@@ -1,4 +1,4 @@
--- The frame stream of document 01 ("The added stream and listing") over a list of bytes: its records, their faults, and what a stream holds.
+-- The frame stream over a list of bytes: its records, their faults, and what a stream holds (RULES 11).
 use Prim.Native.Nat.{ℕ, zero, suc, _+_, _-_, _*_, _/_}
 use mathlib.Core.Bool.{Bool, true, cond, not, _&&_, _||_}
 use mathlib.Core.List.{List, [], _∷_, _++_}
@@ -21,7 +21,7 @@ u16 s at = u8 s at + 256 * u8 s (at + 1)
 abbrev pub u32 : List ℕ → ℕ → ℕ
 u32 s at = u16 s at + 65536 * u16 s (at + 2)
 
--- ---- records: "One byte of kind, then a body of fixed length"
+-- ---- records: a byte of kind, then a body of fixed length (RULES 11.1)
 
 -- kind 1: sides; 2: parameters; 3: 32 pixels; 4: end, empty
 abbrev pub known : ℕ → Bool
@@ -37,8 +37,8 @@ bodyOf kind s = take (bodyLength kind) (drop 1 s)
 abbrev pub behind : ℕ → List ℕ → List ℕ
 behind kind s = drop (1 + bodyLength kind) s
 
--- kind 1: "width, height (u16 each)"; kind 2: "ring u8, threshold f32, window u8, least neighbours u8, centroid radius u8,
--- merge radius f32, levels u8, minimum size u16, search radius u8"
+-- kind 1: width u16, height u16; kind 2: ring u8, threshold f32, window u8, least u8, centroid u8, merge radius f32, levels u8, minimum u16,
+-- search u8 (RULES 11.1); the floats as the 32 bits that came (RULES 11.3)
 abbrev pub headerOf : List ℕ → List ℕ → Header
 headerOf sides parameters =
     record {
@@ -47,21 +47,21 @@ headerOf sides parameters =
       ring = u8 parameters 0;
       «threshold_bits» = u32 parameters 1;
       window = u8 parameters 5;
-      least = u8 parameters 6;
-      centroid = u8 parameters 7;
+      «least_neighbours» = u8 parameters 6;
+      «centroid_radius» = u8 parameters 7;
       «merge_bits» = u32 parameters 8;
       levels = u8 parameters 12;
-      minimum = u16 parameters 13;
-      search = u8 parameters 15;
+      «minimum_side» = u16 parameters 13;
+      «search_radius» = u8 parameters 15;
     }
 
--- ---- faults by 01's numbers, 0 for none
+-- ---- faults by their numbers, 0 for none (RULES 11.4)
 
--- 1: "A side above .. 96"
+-- 1: a side above 96
 unfoldable pub sidesFault : ℕ → ℕ → ℕ
 sidesFault width height = lowest ((ltb 96 width || ltb 96 height, 1) ∷ [])
 
--- "Ring not 5 or 10; window or centroid radius outside 0..16"
+-- ring not 5 or 10; window or centroid radius above 16
 unfoldable pub rangeOutside : ℕ → ℕ → ℕ → Bool
 rangeOutside ring window centroid = not (isRing ring) || ltb 16 window || ltb 16 centroid
 
@@ -71,7 +71,7 @@ unfolding rangeOutside
 parametersFault ring window centroid merge =
     lowest ((rangeOutside ring window centroid, 3) ∷ (radiusOutside (ofBits binary32 merge), 5) ∷ [])
 
--- 7: "padding not 0", where `left` pixels have not come yet
+-- 7: padding that is not 0, where `left` pixels have not come yet
 unfoldable pub paddingFault : ℕ → List ℕ → ℕ
 paddingFault left body = lowest ((any (λ v. not (eqb v 0)) (drop left body), 7) ∷ [])
 
@@ -83,8 +83,8 @@ bodyFault kind left body =
     (cond (eqb kind 2) (parametersFault (u8 body 0) (u8 body 5) (u8 body 7) (u32 body 8))
     (cond (eqb kind 3) (paddingFault left body) 0))
 
--- a record where kind `due` is due, in the order of judging. 7: "Stream cut short"; 6: "Unknown kind"; 11: "A known kind out of its order",
--- before its body; "a body cut short gives 7 alone"; the body's own fault
+-- a record where kind `due` is due, in the order of judging: no byte is left, 7; an unknown kind, 6; a kind that is not due, 11; a body cut
+-- short, 7; the body's own fault
 unfoldable pub recordFault : ℕ → ℕ → List ℕ → ℕ
 unfolding bodyLength bodyFault
 recordFault due left [] = 7
@@ -96,22 +96,22 @@ recordFault due left (kind ∷ rest) =
     ∷ (true, bodyFault due left (take (bodyLength due) rest))
     ∷ [])
 
--- ---- reading
+-- ---- reading (RULES 11.2)
 
 -- sides and parameters with the pixels in row order, or the number of the earliest fault
 pub data Reading : Type 0 where
   accepted : Header → List ℕ → Reading
   refused : ℕ → Reading
 
-abbrev pub unless : ℕ → Reading → Reading
-unless fault next = cond (eqb fault 0) next (refused fault)
+abbrev pub unlessFaulty : ℕ → Reading → Reading
+unlessFaulty fault next = cond (eqb fault 0) next (refused fault)
 
 -- the record of kind `due` at the front of s, and then `next` of its body and of the bytes behind it
 unfoldable pub readRecord : ℕ → ℕ → List ℕ → (List ℕ → List ℕ → Reading) → Reading
 unfolding recordFault
-readRecord due left s next = unless (recordFault due left s) (next (bodyOf due s) (behind due s))
+readRecord due left s next = unlessFaulty (recordFault due left s) (next (bodyOf due s) (behind due s))
 
--- "as many 3 as needed, 4"; n pixels need (n + 31) / 32 records
+-- as many records of kind 3 as the pixels need, then one of kind 4
 abbrev pub recordsFor : ℕ → ℕ
 recordsFor n = (n + 31) / 32
 
@@ -130,7 +130,7 @@ readParameters sides s =
     let n = header .width * header .height in
     readPixels (recordsFor n) header n [] rest)
 
--- "Order 1, 2, as many 3 as needed, 4; bytes after that 4 are not read."
+-- kind 1 comes first; bytes behind kind 4 are not read
 unfoldable pub readFrame : List ℕ → Reading
 unfolding readParameters
 readFrame s = readRecord 1 0 s readParameters

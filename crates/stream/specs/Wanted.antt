@@ -1,4 +1,4 @@
--- How many bytes of a stream can be read before what is read of it may be decided, and what it means that it is decided.
+-- How many bytes of a stream can be read before what is read of it may be decided, and what it means that it is decided (RULES 12.4).
 use Prim.Native.Nat.{ℕ, zero, suc, _+_, _-_, _*_, _<_, _≤_, min}
 use mathlib.Core.Path.{_≡_}
 use mathlib.Core.Bool.{cond}

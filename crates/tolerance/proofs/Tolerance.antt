@@ -14,7 +14,7 @@ use Rattle.lists.proofs.Places.{in-map}
 use Rattle.lists.proofs.Members.{all-map, all-at, all-of, all-block}
 use Rattle.float32.specs.Float32.{zero as zero32}
 use Rattle.float32.specs.Value.{plusPart}
-use Rattle.response.specs.Patch.{View, cols, rows, cells}
+use Rattle.response.specs.Patch.{View, mapWidth, mapHeight, cells}
 use Rattle.response.specs.Exact.{fifthsIn}
 use Rattle.accuracy.specs.Accurate.{Bytes}
 use Rattle.accuracy.proofs.Cells.{map-accurate}
@@ -22,67 +22,72 @@ use Rattle.corner_list.specs.declared.Corner.{Corner}
 use Rattle.detect.specs.Detect.{startAt}
 use Rattle.center_of_mass.specs.declared.Outcome.{Outcome}
 use Rattle.center_of_mass.specs.declared.Outcome.the-variants.{Accepted, Rejected, OutOfBounds, IllConditioned, Refused}
-use Rattle.center_of_mass.specs.CenterOfMass.{noSums, window, windowSums, refined}
+use Rattle.center_of_mass.specs.CenterOfMass.{noSums, cellsAbout, windowSums, refined}
 use Rattle.center_of_mass.proofs.Weights.{Usual, unitsAt, sx-is, sy-is}
 use Rattle.center_of_mass.proofs.Range.{Inside, window-few, window-weighs, Weighing, weighing}
-use Rattle.frame_pass.specs.declared.FrameParams.{FrameParams}
-use Rattle.frame_pass.specs.Pass.{Choice, searchOn, landed, localized, lookedAt}
-use Rattle.frame_pass.proofs.Maps.{Fine, looked-fine, map-usual}
+use Rattle.patch_corners.specs.declared.FrameParams.{FrameParams}
+use Rattle.patch_corners.specs.OneMap.{Choice, searchOn, landed, localized}
+use Rattle.patch_corners.proofs.Fine.{Fine, map-usual}
+use Rattle.frame_pass.specs.Pass.{lookedAt}
+use Rattle.frame_pass.proofs.Maps.{looked-fine}
 use Rattle.tolerance.specs.Tolerance.{summedCells, Close, CentreTolerance, CloseCorner, CloseCorners, FrameTolerance}
 use Rattle.tolerance.proofs.Means.{Alike}
 use Rattle.tolerance.proofs.Cell.{alike-cell}
 use Rattle.tolerance.proofs.Mean.{exact-above, mean-close}
 
 -- ---- the window of radius r about column px and row py, in the map of a box
-module _ (v : View) (bytes : Bytes (v .img)) (r px py : ℕ) (R : r ≤ 2) (i : Inside r (cells v) (cols v) (rows v) px py)
-    (above : T (lt zero32 (windowSums r (cells v) (cols v) px py .sw))) where
+module _ (v : View) (bytes : Bytes (v .img)) (r px py : ℕ) (R : r ≤ 2) (i : Inside r (cells v) (mapWidth v) (mapHeight v) px py)
+    (above : T (lt zero32 (windowSums r (cells v) (mapWidth v) px py .sw))) where
   abbrev exactly : Place → ℤ
   exactly q = fifthsIn v (q .x) (q .y)
 
   -- what holds of each place of the window
   all-window : (P : Place → Type 0) → ((x y : ℕ) → px - r ≤ x → x < px + r + 1 → py - r ≤ y → y < py + r + 1 → P (record { x = x; y = y }))
-      → All P (window r px py)
+      → All P (cellsAbout r px py)
   all-window P f = all-block P (px - r) (px + r + 1) (py - r) (py + r + 1) f
 
-  alike : All (λ p. Alike (2 ^ low binary32) (unitsAt (cells v) (cols v) p) (plusPart (exactly p))) (window r px py)
+  alike : All (λ p. Alike (2 ^ low binary32) (unitsAt (cells v) (mapWidth v) p) (plusPart (exactly p))) (cellsAbout r px py)
   alike =
       all-window _ (λ x y a b c d.
-      let A : x < cols v = omega (arith, i .across) in
-      let B : y < rows v = omega (arith, i .down) in
-      let K : y * cols v + x < length (cells v) = rw (i .cells) (in-map (cols v) (rows v) x y A B) in
-      alike-cell _ _ (all-at Usual (cells v) (map-usual v bytes) (y * cols v + x) nan K) (map-accurate v bytes x y nan A B))
+      let A : x < mapWidth v = omega (arith, i .across) in
+      let B : y < mapHeight v = omega (arith, i .down) in
+      let K : y * mapWidth v + x < length (cells v) = rw (i .cells) (in-map (mapWidth v) (mapHeight v) x y A B) in
+      alike-cell _ _ (all-at Usual (cells v) (map-usual v bytes) (y * mapWidth v + x) nan K) (map-accurate v bytes x y nan A B))
 
-  close-window : Close exactly (window r px py) (div binary32 (windowSums r (cells v) (cols v) px py .sx) (windowSums r (cells v) (cols v) px py .sw))
-      (div binary32 (windowSums r (cells v) (cols v) px py .sy) (windowSums r (cells v) (cols v) px py .sw))
+  close-window : Close exactly (cellsAbout r px py)
+      (div binary32 (windowSums r (cells v) (mapWidth v) px py .sx) (windowSums r (cells v) (mapWidth v) px py .sw))
+      (div binary32 (windowSums r (cells v) (mapWidth v) px py .sy) (windowSums r (cells v) (mapWidth v) px py .sw))
   close-window =
       let few = window-few r px py 2 R in
-      let each = window-weighs r (cells v) (cols v) (rows v) px py i (map-usual v bytes) in
+      let each = window-weighs r (cells v) (mapWidth v) (mapHeight v) px py i (map-usual v bytes) in
       let e : Place → ℕ = λ p. plusPart (exactly p) in
       record {
-        some = exact-above (cells v) (cols v) (window r px py) few each e alike above;
+        some = exact-above (cells v) (mapWidth v) (cellsAbout r px py) few each e alike above;
         across =
-            rw (sx-is (cells v) (cols v) noSums (window r px py))
-            (mean-close (cells v) (cols v) (window r px py) few each e alike above (λ p. p .x) (px - r)
+            rw (sx-is (cells v) (mapWidth v) noSums (cellsAbout r px py))
+            (mean-close (cells v) (mapWidth v) (cellsAbout r px py) few each e alike above (λ p. p .x) (px - r)
             (all-window _ (λ x y a b c d. (a, omega arith))) (all-window _ (λ x y a b c d. omega (arith, i .across, i .sides))));
         down =
-            rw (sy-is (cells v) (cols v) noSums (window r px py))
-            (mean-close (cells v) (cols v) (window r px py) few each e alike above (λ p. p .y) (py - r)
+            rw (sy-is (cells v) (mapWidth v) noSums (cellsAbout r px py))
+            (mean-close (cells v) (mapWidth v) (cellsAbout r px py) few each e alike above (λ p. p .y) (py - r)
             (all-window _ (λ x y a b c d. (c, omega arith))) (all-window _ (λ x y a b c d. omega (arith, i .down, i .sides))));
       }
 
 -- ---- an accepted outcome
-close-centre : (v : View) → Bytes (v .img) → (r : ℕ) (x y cx cy mass : Float) → r ≤ 2 → Weighing r x y (cells v) (cols v) (rows v) cx cy mass
+close-centre : (v : View) → Bytes (v .img) → (r : ℕ) (x y cx cy mass : Float) → r ≤ 2 → Weighing r x y (cells v) (mapWidth v) (mapHeight v) cx cy mass
     → Close (λ q. fifthsIn v (q .x) (q .y)) (summedCells r x y) cx cy
 close-centre v bytes r x y cx cy mass R g =
     rw (g .column-is, g .row-is, g .cx-is, g .cy-is) (close-window v bytes r (g .px) (g .py) R (g .inside) (g .above))
 
 pub centre-tolerance : CentreTolerance
-centre-tolerance v bytes r x y hasMap cx cy mass R e = close-centre v bytes r x y cx cy mass R (weighing r x y (cells v) (cols v) (rows v) cx cy mass hasMap e)
+centre-tolerance v bytes r x y hasMap cx cy mass R e =
+    close-centre v bytes r x y cx cy mass R (weighing r x y (cells v) (mapWidth v) (mapHeight v) cx cy mass hasMap e)
 
 -- ---- the corners of a map
-module _ (p : FrameParams) (v : View) (bytes : Bytes (v .img)) (R : p .centroid ≤ 2) where
-  close-landed : (s : Corner) (o : Outcome) → refined (p .centroid) (s .x) (s .y) true (cells v) (cols v) (rows v) ≡ o → All (CloseCorner p v s) (landed o s)
-  close-landed s (Accepted cx cy mass) e = (centre-tolerance v bytes (p .centroid) (s .x) (s .y) true cx cy mass R e, tt)
+module _ (p : FrameParams) (v : View) (bytes : Bytes (v .img)) (R : p .«centroid_radius» ≤ 2) where
+  close-landed : (s : Corner) (o : Outcome) → refined (p .«centroid_radius») (s .x) (s .y) true (cells v) (mapWidth v) (mapHeight v) ≡ o
+      → All (CloseCorner p v s) (landed o s)
+  close-landed s (Accepted cx cy mass) e = (centre-tolerance v bytes (p .«centroid_radius») (s .x) (s .y) true cx cy mass R e, tt)
   close-landed s (Rejected x y) e = tt
   close-landed s (OutOfBounds x y) e = tt
   close-landed s (IllConditioned x y) e = tt

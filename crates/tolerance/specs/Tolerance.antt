@@ -10,20 +10,21 @@ use Rattle.float32.specs.Float32.{roundHalfAway}
 use Rattle.float32.specs.declared.Rounded.{Rounded}
 use Rattle.float32.specs.declared.Rounded.the-variants.{Natural, Negative, Beyond}
 use Rattle.float32.specs.Value.{Within, plusPart}
-use Rattle.response.specs.Patch.{View, cols, rows, cells}
+use Rattle.response.specs.Patch.{View, mapWidth, mapHeight, cells}
 use Rattle.response.specs.Exact.{fifthsIn}
 use Rattle.accuracy.specs.Accurate.{Bytes}
 use Rattle.corner_list.specs.declared.Corner.{Corner}
 use Rattle.detect.specs.Detect.{startAt}
-use Rattle.center_of_mass.specs.CenterOfMass.{window, refined}
+use Rattle.center_of_mass.specs.CenterOfMass.{cellsAbout, refined}
 use Rattle.center_of_mass.specs.declared.Outcome.the-variants.{Accepted}
-use Rattle.frame_pass.specs.declared.FrameParams.{FrameParams}
-use Rattle.frame_pass.specs.Pass.{Choice, searchOn, localized, lookedAt}
-use Rattle.frame_pass.specs.Theorems.{Sound}
+use Rattle.patch_corners.specs.declared.FrameParams.{FrameParams}
+use Rattle.patch_corners.specs.OneMap.{Choice, searchOn, localized}
+use Rattle.frame_pass.specs.Pass.{lookedAt}
+use Rattle.frame_pass.specs.Theorems.{SoundFrame}
 
--- ---- "all cells the centroid sums, centre included": its window about the seed (x, y), which is rounded half away from zero
+-- ---- the cells that the centroid sums, the centre included (RULES 33.1): its window about the seed (x, y), which is rounded half away from zero
 abbrev pub windowAbout : ℕ → Rounded → Rounded → List Place
-windowAbout r (Natural cx) (Natural cy) = window r cx cy
+windowAbout r (Natural cx) (Natural cy) = cellsAbout r cx cy
 windowAbout r (Natural cx) (Negative n) = []
 windowAbout r (Natural cx) Beyond = []
 windowAbout r (Negative n) c = []
@@ -32,7 +33,7 @@ windowAbout r Beyond c = []
 abbrev pub summedCells : ℕ → Float → Float → List Place
 summedCells r x y = windowAbout r (roundHalfAway x) (roundHalfAway y)
 
--- ---- the exact centroid of some cells, "the fraction whose weights are the exact fifths above 0": (exactX / exactMass, exactY / exactMass)
+-- ---- the exact centroid of some cells (RULES 33.1), weighed by the exact fifths above 0: (exactX / exactMass, exactY / exactMass)
 module _ (fifths : Place → ℤ) (ps : List Place) where
   -- the weights' sum
   abbrev pub exactMass : ℕ
@@ -45,7 +46,7 @@ module _ (fifths : Place → ℤ) (ps : List Place) where
   abbrev pub exactY : ℕ
   exactY = sumOf (λ p. p .y * plusPart (fifths p)) ps
 
--- "within 1/32 pixel", "over whole numbers by cross-multiplying": |x - X / M| ≤ 1 / 32 is |32 M x - 32 X| ≤ M, and x is a fraction too, by
+-- within 1/32 pixel (RULES 33.2), over whole numbers: |x - X / M| ≤ 1 / 32 is |32 M x - 32 X| ≤ M, and x is a fraction too, by
 -- whose denominator `Within` multiplies
 abbrev pub Within32nd : Float → ℕ → ℕ → Type 0
 Within32nd x X M = Within x (32 * X) 0 (32 * M) M
@@ -60,12 +61,12 @@ pub record Close (fifths : Place → ℤ) (ps : List Place) (cx cy : Float) : Ty
 abbrev pub CentreTolerance : Type 0
 CentreTolerance =
     (v : View) → Bytes (v .img) → (r : ℕ) (x y : Float) (hasMap : Bool) (cx cy mass : Float) → r ≤ 2
-    → refined r x y hasMap (cells v) (cols v) (rows v) ≡ Accepted cx cy mass
+    → refined r x y hasMap (cells v) (mapWidth v) (mapHeight v) ≡ Accepted cx cy mass
     → Close (λ q. fifthsIn v (q .x) (q .y)) (summedCells r x y) cx cy
 
 -- ---- the corners of a map, by its own columns and rows: a peak starts as the corner s, which goes to its centre of mass c
 abbrev pub CloseCorner : FrameParams → View → Corner → Corner → Type 0
-CloseCorner p v s c = Close (λ q. fifthsIn v (q .x) (q .y)) (summedCells (p .centroid) (s .x) (s .y)) (c .x) (c .y)
+CloseCorner p v s c = Close (λ q. fifthsIn v (q .x) (q .y)) (summedCells (p .«centroid_radius») (s .x) (s .y)) (c .x) (c .y)
 
 -- of each peak the corner that it becomes, where it is accepted: one behind the other these are `cornersIn`
 abbrev pub CloseCorners : FrameParams → Choice → View → Type 0
@@ -75,5 +76,5 @@ CloseCorners p choose v = All (λ (s : Corner). All (CloseCorner p v s) (localiz
 -- seed those of its box's map, not yet moved by the box's corner
 abbrev pub FrameTolerance : Type 0
 FrameTolerance =
-    (p : FrameParams) (img : List ℕ) (w h : ℕ) (choose : Choice) → Sound p img w h → p .centroid ≤ 2
+    (p : FrameParams) (img : List ℕ) (w h : ℕ) (choose : Choice) → SoundFrame p img w h → p .«centroid_radius» ≤ 2
     → All (CloseCorners p choose) (lookedAt p img w h choose)

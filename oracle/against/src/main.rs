@@ -19,7 +19,7 @@ fn answer(stream: &[u8]) -> Vec<u8> {
 fn left(case: &Case) -> Left {
     let p = &case.params;
     let mut b = Buffers::before(&case.sizes);
-    let mut count = 0;
+    let (mut count, mut ties) = (0, 0);
     // SAFETY: every slice is whole, none overlaps another, and the call keeps none.
     let number = unsafe {
         zakdomp_find_corners(
@@ -53,9 +53,10 @@ fn left(case: &Case) -> Left {
             b.corners.strength.as_mut_ptr(),
             b.corners.strength.len(),
             &mut count,
+            &mut ties,
         )
     };
-    Left { number: number.into(), count, buffers: b }
+    Left { number: number.into(), count, ties, buffers: b }
 }
 
 fn main() -> ExitCode {

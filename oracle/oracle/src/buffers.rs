@@ -1,8 +1,8 @@
-//! The buffers that a caller lends ("rooms" in document 01).
+//! The buffers that a call borrows (RULES 1.6).
 use crate::numbers::bits;
 use crate::Corner;
 
-/// A corner buffer: three slices, "the shortest counting".
+/// A corner buffer: three slices, the shortest counting.
 #[derive(Clone, Debug, Default)]
 pub struct CornerBuffer {
     pub x: Vec<f32>,

@@ -34,7 +34,7 @@ pub fn centroids(list: Vec<Corner>, map: &ResponseMap, radius: u32) -> Vec<Corne
     refine_corners_on_image(list, None, Some(map), &mut refiner(radius))
 }
 
-/// "Seed not finite or beyond 1,000,000 either way."
+/// A seed that is not finite or beyond 1,000,000 either way (RULES 2.2, number 4).
 fn seed_refused(v: f32) -> bool {
     !v.is_finite() || v.abs() > 1_000_000.0
 }

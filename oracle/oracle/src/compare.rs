@@ -59,7 +59,7 @@ fn keep(folder: &Path, case: &Case, due: &[u8], got: &[u8]) {
     }
 }
 
-/// Runs `answer` on `count` random frames of the library. Of a differing one two files of one record (SAMPLE.md, kind 2) are left in
+/// Runs `answer` on `count` random frames of the library. Their ties are compared too, and kept in no file. Of a differing one two files of one record (SAMPLE.md, kind 2) are left in
 /// `folder`: NAME.due.bin with what the oracle leaves, for a replay, and NAME.got.bin.
 pub fn run_library(count: u64, seed: u64, folder: &Path, mut answer: impl FnMut(&Frame) -> Left) -> Tally {
     let record = |case: &Frame, left: &Left| {
@@ -70,7 +70,9 @@ pub fn run_library(count: u64, seed: u64, folder: &Path, mut answer: impl FnMut(
     let mut tally = Tally::default();
     for number in 0..count {
         let case = random(seed, number);
-        let (due, got) = (record(&case, &due(&case)), record(&case, &answer(&case)));
+        let (due, got) = (due(&case), answer(&case));
+        let ties_alike = due.ties == got.ties;
+        let (due, got) = (record(&case, &due), record(&case, &got));
         let name = format!("library-{seed}-{number}");
         if got != due {
             fs::create_dir_all(folder).expect("a folder for differing frames");
@@ -79,7 +81,7 @@ pub fn run_library(count: u64, seed: u64, folder: &Path, mut answer: impl FnMut(
                 fs::write(file, bytes).expect("a file for a differing frame");
             }
         }
-        tally.check(&name, got == due);
+        tally.check(&name, got == due && ties_alike);
     }
     tally
 }

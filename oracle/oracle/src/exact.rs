@@ -13,7 +13,7 @@ pub fn fifths_of(samples: &[i32; 16], cross_sum: i32) -> i32 {
     5 * (sr - dr) - (5 * ring_sum - 16 * cross_sum).abs()
 }
 
-/// The exact values of a view's map, in row order; "within a ring radius of the image's edge 0".
+/// The exact values of a view's map, in row order; within a ring radius of the image's edge 0 (RULES 3.6).
 pub fn fifths_map(view: &View, ring: u32) -> Vec<i32> {
     let image = view.image;
     let reach = ring as usize;
@@ -40,8 +40,8 @@ fn window(x: usize, y: usize, radius: usize, width: usize) -> impl Iterator<Item
     cells.filter(move |&cell| cell != y * width + x)
 }
 
-/// "Its exact list: in row order the cells inside the same border whose exact value is above the lifted threshold, has
-/// no larger exact value in the window, and has enough neighbours with exact value above 0"; strengths are computed.
+/// The exact list of a map (RULES 10.1): in row order the cells inside the same border whose exact value is above the
+/// lifted threshold, with no larger one in the window, and enough above 0 there. Strengths are the computed ones.
 pub fn exact_peaks(fifths: &[i32], map: &ResponseMap, params: &Params) -> Vec<Corner> {
     let (w, h, b) = (map.width(), map.height(), params.border());
     let mut list = Vec::new();
@@ -64,7 +64,7 @@ pub fn exact_peaks(fifths: &[i32], map: &ResponseMap, params: &Params) -> Vec<Co
     list
 }
 
-/// The steps of the exact pass: "this same pass with one change".
+/// The steps of the exact pass: the same with one change (RULES 10.2).
 pub const EXACT: Steps =
     Steps { peaks: |view, map, params| exact_peaks(&fifths_map(view, params.ring), map, params), ..STEPS };
 
@@ -97,7 +97,7 @@ pub fn compare(view: &View, params: &Params) -> Comparison {
     }
 }
 
-/// "A whole number once negatives and NaN are lifted to 0."
+/// Whether the lifted threshold is a whole number (RULES 10.5).
 pub fn has_whole_threshold(params: &Params) -> bool {
     let lifted = params.threshold.max(0.0);
     lifted.is_finite() && lifted.fract() == 0.0

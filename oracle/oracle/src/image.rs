@@ -24,7 +24,7 @@ impl Image<'_> {
         check_map(self.pixels.len(), self.width, self.height, largest_side)
     }
 
-    /// "The whole image is one box."
+    /// The whole image as one box (RULES 9.3).
     pub fn whole(&self) -> Area {
         Area { x0: 0, y0: 0, x1: self.width, y1: self.height }
     }

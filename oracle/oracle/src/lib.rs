@@ -1,9 +1,9 @@
-//! Document 01 composed from the original functions: what our corner finder must answer, and what it must leave in
-//! every buffer. See ../../README.md.
+//! The rules (../../../docs/RULES.md, cited as RULES) composed from the original functions: what our corner finder must
+//! answer, and what it must leave in every buffer. See ../../README.md.
 //!
-//! - The leaves, each the original function behind the checks that document 01 puts before it: [`ring`], [`response`],
+//! - The leaves, each the original function behind the checks that RULES 2.4 puts before it: [`ring`], [`response`],
 //!   [`peaks`], [`centroid`], [`search_box`], [`pyramid`], [`merge`].
-//! - What document 01 adds: [`pass`] and [`frame`], [`stream`], [`listing`], [`program`]; and [`exact`], the pass by
+//! - What the rules add: [`pass`] and [`frame`], [`stream`], [`listing`], [`program`]; and [`exact`], the pass by
 //!   exact values, with [`tolerance`], the centroid by them.
 //! - What the oracle is run on: [`generate`], [`wrong`], [`sample`], [`compare`], [`timing`].
 

@@ -3,7 +3,7 @@ use crate::numbers::bits;
 use crate::refusal::Refusal;
 use crate::Corner;
 
-/// "256ths of a pixel, cut off": the product is exact.
+/// 256ths of a pixel, cut off (RULES 12.1): the product is exact.
 fn in_256ths(coordinate: f32) -> i64 {
     (coordinate * 256.0) as i64
 }

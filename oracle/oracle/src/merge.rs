@@ -4,7 +4,7 @@ use crate::params::{check_merge_radius, is_off};
 use crate::refusal::{refuse_if, Refusal, COORDINATE, LIST_SHORT};
 use chess_corners_core::{merge_corners_simple, Corner};
 
-/// "The oracle is run where its grid has at most 2^20 cells."
+/// The original merge is run where its grid has at most so many cells.
 const LARGEST_GRID: f64 = (1u32 << 20) as f64;
 
 /// The least of some coordinates, as the original finds it.
@@ -47,7 +47,7 @@ pub fn is_close(a: &Corner, b: &Corner, radius: f32) -> bool {
     dx * dx + dy * dy <= radius * radius
 }
 
-/// The same list without a stored grid: "the cell numbers decide".
+/// The same list without a stored grid: the cell numbers decide (RULES 8.2, 8.3).
 pub fn by_cell_numbers(list: &[Corner], radius: f32) -> Vec<Corner> {
     let inverse = 1.0 / radius;
     let (left, top) = (least(list.iter().map(|c| c.x)), least(list.iter().map(|c| c.y)));
@@ -67,7 +67,7 @@ pub fn merged(list: &[Corner], radius: f32) -> Vec<Corner> {
     }
 }
 
-/// "Merge coordinate not finite or outside 0..4,096."
+/// A coordinate that is not finite or outside 0..4,096 (RULES 2.2, number 4).
 fn coordinate_refused(v: f32) -> bool {
     !(0.0..=4096.0).contains(&v)
 }
@@ -75,7 +75,7 @@ fn coordinate_refused(v: f32) -> bool {
 /// Merges the first `count` corners of a buffer: how many stay, or refusal 4, 5 or 10; an off radius gives only 10.
 pub fn merge(buffer: &mut CornerBuffer, count: usize, radius: f32) -> Result<usize, Refusal> {
     if !is_off(radius) {
-        // "Where a stated count exceeds its room, 4 judges the corners that the room has."
+        // Where the stated count exceeds the places, 4 judges the corners that the buffer has (RULES 2.4).
         let judged = buffer.list(count.min(buffer.places()));
         let refused = |c: &Corner| coordinate_refused(c.x) || coordinate_refused(c.y);
         refuse_if(judged.iter().any(refused), COORDINATE)?;

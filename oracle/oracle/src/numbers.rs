@@ -1,6 +1,6 @@
 //! Floats as bits, and the roundings of the standard library that the original leans on.
 
-/// The bits of a computed float. "NaN matching NaN": every NaN is written as 0x7fc00000.
+/// The bits of a computed float. A NaN matches any NaN: every one is written as 0x7fc00000 (RULES 1.2).
 pub fn bits(x: f32) -> u32 {
     if x.is_nan() {
         0x7fc0_0000

@@ -76,12 +76,12 @@ impl Params {
     }
 }
 
-/// "A parameter set may say only 5 or 10."
+/// A parameter set may say only 5 or 10 (RULES 1.7).
 pub fn check_ring(ring: u32) -> Result<(), Refusal> {
     refuse_if(ring != 5 && ring != 10, PARAMETER)
 }
 
-/// "An off radius (not finite or <= 0)."
+/// A radius that is off: not finite or at most 0 (RULES 8.1).
 pub fn is_off(radius: f32) -> bool {
     !radius.is_finite() || radius <= 0.0
 }

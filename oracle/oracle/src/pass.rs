@@ -1,4 +1,4 @@
-//! The frame pass of document 01 over lists: levels, maps, peaks, centroids, boxes, merge.
+//! The frame pass (RULES 9) over lists: levels, maps, peaks, centroids, boxes, merge.
 use crate::centroid::centroids;
 use crate::image::{Area, Image};
 use crate::params::Params;
@@ -30,7 +30,7 @@ pub struct Steps {
     pub merge: fn(&[Corner], f32) -> Vec<Corner>,
 }
 
-/// The steps of document 01.
+/// The steps of RULES 9.
 pub const STEPS: Steps = Steps {
     peaks: |_, map, params| peaks::peaks_of(map, params),
     boxes: search_box::boxes_of,
@@ -44,7 +44,7 @@ pub struct Places {
     pub corners: usize,
 }
 
-/// "Its rooms never short."
+/// Buffers that are never short (RULES 10.2).
 pub const UNLIMITED: Places = Places { seeds: usize::MAX, corners: usize::MAX };
 
 /// What a pass finds.
@@ -56,6 +56,22 @@ pub struct Lists<'a> {
     pub corners: Vec<Corner>,
     /// The maps that were looked at, in order.
     pub views: Vec<View<'a>>,
+    /// How many of them, at the front, are searched for seeds alone: one with several levels.
+    pub for_seeds: usize,
+}
+
+impl Lists<'_> {
+    /// The ties of the peaks behind `found` (RULES 23), counted anew in the maps that they were found in.
+    pub fn ties(&self, params: &Params, steps: &Steps) -> u64 {
+        let of = |view: &View| {
+            let map = view.map(params.ring);
+            (steps.peaks)(view, &map, params)
+                .iter()
+                .map(|c| peaks::ties_at(&map, params.window, c))
+                .sum::<u64>()
+        };
+        self.views[self.for_seeds..].iter().map(of).sum()
+    }
 }
 
 /// The localized peaks of one map, or refusal 10 where the peaks have no place.
@@ -85,6 +101,7 @@ pub fn pass<'a>(
     if levels.len() == 1 {
         lists.found = list_of(&whole(base), params, places.corners, steps)?;
     } else {
+        lists.for_seeds = 1;
         lists.seeds = list_of(&whole(last), params, places.seeds, steps)?;
         refine_seeds(whole(base).image, last.scale, params, places.corners, steps, &mut lists)?;
     }

@@ -10,6 +10,15 @@ pub fn peaks_of(map: &ResponseMap, params: &Params) -> Vec<Corner> {
     detect_peaks_from_response_with_refine_radius(map, &params.chess(), params.centroid as i32)
 }
 
+/// How many cells of the window about a peak, clipped to the map and without its centre, equal it (RULES 23.1).
+pub fn ties_at(map: &ResponseMap, window: u32, peak: &Corner) -> u64 {
+    let (x, y, r) = (peak.x as usize, peak.y as usize, window as usize);
+    let columns = x.saturating_sub(r)..map.width().min(x + r + 1);
+    let rows = y.saturating_sub(r)..map.height().min(y + r + 1);
+    let cells = rows.flat_map(|v| columns.clone().map(move |u| (u, v)));
+    cells.filter(|&(u, v)| (u, v) != (x, y) && map.at(u, v) == map.at(x, y)).count() as u64
+}
+
 /// Adds a map's peaks behind the `held` corners of a buffer: how many, or refusal 1, 2, 3 or 10.
 pub fn find_peaks(
     cells: &[f32],

@@ -12,7 +12,7 @@ pub struct Program {
     pub sizes: Sizes,
 }
 
-/// `corners`: sides up to 96, "512 places for seeds and 512 for corners". Map and levels always fit.
+/// `corners`: sides up to 96, 512 places for seeds and 512 for corners (RULES 12.4). Map and levels always fit.
 pub const CORNERS: Program = Program {
     largest_side: 96,
     sizes: Sizes { map: 96 * 96, levels: 3072, seeds: [512; 3], corners: [512; 3] },

@@ -1,4 +1,4 @@
-//! The numbered refusals of documents 01 and 02.
+//! The numbered refusals (RULES 2.2).
 
 pub type Refusal = u32;
 
@@ -24,7 +24,7 @@ pub const LEVELS_SHORT: Refusal = 9;
 pub const LIST_SHORT: Refusal = 10;
 /// A record of a known kind out of its order.
 pub const OUT_OF_ORDER: Refusal = 11;
-/// The start of an item, or the time asked about, above 2^40: of request 13, which has no counterpart in the original.
+/// The start of an item, or the time asked about, above 2^40 (RULES 32.3), which has no counterpart in the original.
 pub const LATE: Refusal = 20;
 
 /// The largest side of a library call.

@@ -11,7 +11,7 @@ pub fn map_of(image: Image, ring: u32, area: Area) -> ResponseMap {
     };
     let reach = ring as usize;
     if image.width < reach || image.height < reach {
-        // "An image thinner than the ring gives zeros": an overflow-checked build of the original panics here.
+        // An image thinner than the ring gives zeros (RULES 3.6); with overflow checks the original panics here.
         let (w, h) = area.clipped_sides(image.width, image.height);
         return ResponseMap::new(w, h, vec![0.0; w * h]);
     }

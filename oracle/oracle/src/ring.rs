@@ -1,7 +1,7 @@
 //! The ring tables of ring.rs.
 use chess_corners_core::OrientationMethod;
 
-/// "A radius of 10 selects the second ring and every other number selects radius 5."
+/// A radius of 10 selects the second ring, every other number the first (RULES 3.1).
 pub fn offsets(radius: u32) -> &'static [(i32, i32); 16] {
     OrientationMethod::ring_offsets(radius)
 }

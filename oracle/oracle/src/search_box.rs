@@ -28,7 +28,7 @@ pub fn boxes_of(base: Image, scale: f32, params: &Params, seeds: &[Corner]) -> B
     boxes.into_iter().map(|b| b.map(area)).collect()
 }
 
-/// "Box coordinate not finite or outside 0..4,096."
+/// A coordinate that is not finite or outside 0..4,096 (RULES 2.2, number 4).
 fn coordinate_refused(v: f32) -> bool {
     !(0.0..=4096.0).contains(&v)
 }

@@ -26,7 +26,7 @@ impl Upload {
     }
 }
 
-/// "A body of fixed length"; none for an unknown kind.
+/// The fixed length of a kind's body; none for an unknown kind (RULES 11.1).
 pub fn body_length(kind: u8) -> Option<usize> {
     match kind {
         SIDES => Some(4),
@@ -73,7 +73,8 @@ fn params_of(body: &[u8]) -> Params {
     }
 }
 
-/// Reads a stream: "the earliest faulty record", and in its body the lowest number. Bytes after the end are not read.
+/// Reads a stream: the earliest faulty record decides, and in its body the lowest number (RULES 11.4). Bytes after the
+/// end are not read.
 pub fn read(bytes: &[u8], largest_side: usize) -> Result<Upload, Refusal> {
     let mut rest = bytes;
     let body = next(&mut rest, SIDES)?;

@@ -1,8 +1,8 @@
-//! How far a centroid may be off, in whole numbers: "each coordinate lies within 1/32 pixel of the exact centroid".
+//! How far a centroid may be off, in whole numbers: each coordinate within 1/32 pixel of the exact centroid (RULES 33).
 use crate::numbers::rounded;
 
-/// "The fraction whose weights are the exact fifths above 0 of all cells the centroid sums, centre included": the exact
-/// centroid is (x / mass, y / mass).
+/// The exact centroid is (x / mass, y / mass), weighed by the exact values above 0 of all cells that the centroid sums,
+/// the centre included (RULES 33.1).
 #[derive(Clone, Copy, Debug, PartialEq, Eq)]
 pub struct ExactCentroid {
     pub x: i128,

@@ -1,5 +1,5 @@
-//! The four wrong roads of document 01, and two wrong merges more. A frame or a vector on which one of them gives
-//! another answer is worth keeping.
+//! The four wrong roads, which are the last four rows of RULES 15.3, and two wrong merges more. A frame or a vector
+//! on which one of them gives another answer is worth keeping.
 use crate::exact::EXACT;
 use crate::image::Image;
 use crate::merge::{is_close, merge_where};
@@ -8,13 +8,13 @@ use crate::pass::{Steps, STEPS};
 use crate::search_box::{boxes_of, Boxes};
 use chess_corners_core::{Corner, ResponseMap};
 
-/// "Merging by distance alone."
+/// Merging by distance alone.
 pub const BY_DISTANCE: Steps = Steps { merge: merge_by_distance, ..STEPS };
 
-/// "Rounding seeds half to even."
+/// Seeds rounded half to even.
 pub const HALF_TO_EVEN: Steps = Steps { boxes: boxes_half_to_even, ..STEPS };
 
-/// "Taking equal fifths for equal floats": peaks by whole fifths.
+/// Equal fifths taken for equal floats: peaks by whole fifths.
 pub const EQUAL_FIFTHS: Steps = EXACT;
 
 pub fn merge_by_distance(list: &[Corner], radius: f32) -> Vec<Corner> {
@@ -51,7 +51,7 @@ fn boxes_half_to_even(base: Image, scale: f32, params: &Params, seeds: &[Corner]
     boxes_of(base, scale, params, &moved)
 }
 
-/// "'Above the threshold' for 'not at or below it'": shows only where a cell is a NaN.
+/// "Above the threshold" for "not at or below it": shows only where a cell is a NaN.
 pub fn peaks_above(map: &ResponseMap, params: &Params) -> Vec<Corner> {
     let lifted = params.threshold.max(0.0);
     let list = crate::peaks::peaks_of(map, params);

@@ -92,14 +92,16 @@ unfolding ofBits
 returns-3 c =
     let d = c .before .before .before .before .before in
     let a = entered d .args in
-    with-mass (a .r) (a .x) (a .y) (a .map .now) (a .w) (a .h) (cx d) (cy d) (column-at d) (row-at d) (c .before .before .before .before .window-sums .result) (c .before .before .before .before .window-sums .ensures) (c .before .before .if1 .taken)
+    with-mass (a .r) (a .x) (a .y) (a .map .now) (a .w) (a .h) (cx d) (cy d) (column-at d) (row-at d)
+    (c .before .before .before .before .window-sums .result) (c .before .before .before .before .window-sums .ensures) (c .before .before .if1 .taken)
 
 returns-4 : tie.Need-returns-4
 unfolding ofBits
 returns-4 c =
     let d = c .before .before .before in
     let a = entered d .args in
-    no-mass (a .r) (a .x) (a .y) (a .map .now) (a .w) (a .h) (cx d) (cy d) (column-at d) (row-at d) (c .before .before .window-sums .result) (c .before .before .window-sums .ensures) (c .if1 .left)
+    no-mass (a .r) (a .x) (a .y) (a .map .now) (a .w) (a .h) (cx d) (cy d) (column-at d) (row-at d) (c .before .before .window-sums .result)
+    (c .before .before .window-sums .ensures) (c .if1 .left)
 
 pub centre-of-mass-spec : {M : Type 1} → statement M
 centre-of-mass-spec =

@@ -23,7 +23,8 @@ loop-holds c = refl
 
 -- the row begins within the map, so its cells have small numbers
 start-small : (c : tie.In-loop Inv-loop μ-loop) → c .before .before .before .args .y * c .before .before .before .args .w ≤ 16777216
-start-small c = row-small (c .before .before .before .args .y) (c .before .before .before .args .w) (c .before .before .before .pre .2) (c .before .before .before .pre .1)
+start-small c =
+    row-small (c .before .before .before .args .y) (c .before .before .before .args .w) (c .before .before .before .pre .2) (c .before .before .before .pre .1)
 
 mul-lifted : tie.Need-mul-lifted Inv-loop μ-loop
 mul-lifted c = record { fits = omega (arith, start-small c) }
@@ -58,7 +59,9 @@ loop-again : tie.Need-loop-again Inv-loop μ-loop
 loop-again c =
     let a = c .before .before .before .before .before .before .before .args in
     let l = c .before .before .before .before .before .loop in
-    rw (c .before .before .lifted .ensures) (one-cell (a .map .now) (a .w) (a .y) (l .x) (a .x1) (record { sx = l .sx; sy = l .sy; sw = l .sw }) _ (l .inv) (c .before .before .before .before .loop-test .taken))
+    rw (c .before .before .lifted .ensures)
+    (one-cell (a .map .now) (a .w) (a .y) (l .x) (a .x1) (record { sx = l .sx; sy = l .sy; sw = l .sw }) _ (l .inv)
+    (c .before .before .before .before .loop-test .taken))
 
 returns : tie.Need-returns Inv-loop μ-loop
 returns c =

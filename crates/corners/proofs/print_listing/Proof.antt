@@ -6,7 +6,7 @@ use lib.ListN.{take}
 use lib.Seq.{length-take-le}
 use borrow.Author.Needs.{needs}
 use Rattle.lists.proofs.Buffer.{front-take}
-use Rattle.finder.specs.Finder.{Written}
+use Rattle.lists.specs.Buffer.{Written}
 use Rattle.finder.proofs.Texts.{written-fits}
 use Rattle.corners.proofs.print_listing.Statement.{statement}
 use Rattle.corners.proofs.print_listing.Tie as tie

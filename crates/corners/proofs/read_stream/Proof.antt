@@ -1,5 +1,6 @@
 -- `corners::read_stream` meets its contract. The invariant: the bytes that came lie in the buffer. The measure is what is left of it. Assumes the
 -- contract of `read`.
+mod Landmarks
 use Prim.Native.Nat.{ℕ, _+_, _-_, _≤_}
 use native.Mathlib.Omega.{arith}
 use mathlib.Core.Path.{_≡_, sym, _∙_}
@@ -14,6 +15,7 @@ use Rattle.corners.specs.declared.Input.the-variants.{Ended}
 use Rattle.corners.specs.Read.{Read}
 use Rattle.corners.proofs.read_stream.Statement.{statement}
 use Rattle.corners.proofs.read_stream.Tie as tie
+use Landmarks.*
 
 -- ---- one turn, with n bytes in the buffer and `more` wanted
 module _ (s : List ℕ) (n more : ℕ) (long : (length s ≡ 9527) × (n ≤ 9527)) (wants : more ≡ wanted (take n s)) (some : more ≡ 0 → ⊥) where
@@ -45,7 +47,7 @@ abbrev at-more : tie.After-read Inv-loop μ-loop → tie.Else1 Inv-loop μ-loop
 at-more c = c .before .before
 
 abbrev at-read : tie.After-count Inv-loop μ-loop → tie.After-read Inv-loop μ-loop
-at-read c = c .before .before .before .before .before .before
+at-read c = read-from-count c
 
 loop-holds : tie.Need-loop-holds Inv-loop μ-loop
 loop-holds c = search needs
@@ -66,7 +68,7 @@ returns : tie.Need-returns Inv-loop μ-loop
 returns c = search needs
 
 add-end : tie.Need-add-end Inv-loop μ-loop
-add-end c = omega (arith, fits _ _ _ (c .before .before .before .loop .inv) (c .before .wanted .ensures) (c .if1 .left))
+add-end c = omega (arith, fits _ _ _ (loop-from-add-end c .loop .inv) (c .before .wanted .ensures) (c .if1 .left))
 
 sub-read : tie.Need-sub-read Inv-loop μ-loop
 sub-read c = search needs
@@ -75,7 +77,7 @@ part-read-start : tie.Need-part-read-start Inv-loop μ-loop
 part-read-start c = search needs
 
 part-read-end : tie.Need-part-read-end Inv-loop μ-loop
-part-read-end c = omega (arith, fits _ _ _ (c .before .before .before .loop .inv) (c .before .wanted .ensures) (c .if1 .left))
+part-read-end c = omega (arith, fits _ _ _ (loop-from-part-read-end c .loop .inv) (c .before .wanted .ensures) (c .if1 .left))
 
 read-requires : tie.Need-read-requires Inv-loop μ-loop
 read-requires c κs = search needs
@@ -94,7 +96,7 @@ part-count-start c = search needs
 
 part-count-end : tie.Need-part-count-end Inv-loop μ-loop
 part-count-end c =
-    let read = c .before .before .before .before in
+    let read = read-from-part-count-end c in
     let more = at-more read in
     omega (
       arith,

@@ -9,16 +9,30 @@ use borrow.Author.Needs.{needs}
 use Rattle.corner_list.specs.CornerList.{Slices, slices}
 use Rattle.detect.specs.declared.Search.{Search}
 use Rattle.detect.specs.declared.Peaks.{Peaks}
-use Rattle.detect.specs.Detect.{searchOf, startsIn, conditions, Found}
-use Rattle.detect.specs.Post.{Searchable}
+use Rattle.detect.specs.Detect.{searchOf, startsIn, tiesIn, conditions, PeaksAdded}
+use Rattle.detect.specs.Internal.{Searchable}
 use Rattle.detect.proofs.Answers.{Clear, clear, searchable, found-refused, found-clear}
 use Rattle.detect.proofs.detect_peaks_from_response_with_refine_radius.Statement.{statement}
 use Rattle.detect.proofs.detect_peaks_from_response_with_refine_radius.Tie as tie
 
--- the function's start, from where no fault was found, and what it was given
+-- ---- places of the code: the function's start, from where no condition held; and with either table the parameters of the search, from where
+-- `add_peaks` is called, and that call, from the return
 abbrev start : tie.Else1 → tie.Start
 start c = c .before .before .before .before .before .before
 
+abbrev searched : tie.After-add-peaks-arg3 → tie.After-search-of
+searched c = c .before .before .before .before .before
+
+abbrev added : tie.After-slice-known6 → tie.After-add-peaks
+added c = c .before .before .before .before .before .before .before
+
+abbrev searched-2 : tie.After-add-peaks-arg6 → tie.After-search-of
+searched-2 c = c .before .before .before .before .before
+
+abbrev added-2 : tie.After-slice-known9 → tie.After-add-peaks2
+added-2 c = c .before .before .before .before .before .before .before
+
+-- ---- what it was given
 abbrev conditions-of : tie.Else1 → List (Bool × ℕ)
 conditions-of c = let a = start c .args in conditions (length (a .map .now)) (a .w) (a .h) (a .ring) (a .window) (a .refine-radius)
 
@@ -26,14 +40,14 @@ abbrev map-of : tie.Else1 → List Float
 map-of c = start c .args .map .now
 
 abbrev search-of : tie.Else1 → Search
-search-of c = let a = start c .args in searchOf (a .w) (a .h) (a .ring) (a .threshold) (a .window) (a .least) (a .refine-radius)
+search-of c = let a = start c .args in searchOf (a .w) (a .h) (a .ring) (a .threshold) (a .window) (a .least-neighbours) (a .refine-radius)
 
 abbrev buffer-of : tie.Else1 → Slices
 buffer-of c = let a = start c .args in slices (a .xs .now) (a .ys .now) (a .strengths .now)
 
--- none of the conditions on the input holds, so its map can be searched
+-- ---- none of the conditions on the input holds, so its map can be searched
 fine : (c : tie.Else1) → Clear (conditions-of c)
-fine c = clear _ _ _ _ _ _ (sym (c .before .fault .ensures) ∙ c .if1 .left)
+fine c = clear _ _ _ _ _ _ (sym (c .before .refusal .ensures) ∙ c .if1 .left)
 
 can-search : (c : tie.After-search-of) → Searchable (map-of (c .before)) (c .search-of .result)
 can-search c = rw (c .search-of .ensures) (searchable _ _ _ _ _ _ _ _ (fine (c .before)))
@@ -41,17 +55,18 @@ can-search c = rw (c .search-of .ensures) (searchable _ _ _ _ _ _ _ _ (fine (c .
 -- what is added is what the function promises
 adds : (c : tie.After-search-of) (answer : Peaks) (b′ : Slices)
     → let k = c .before in
-    Found [] (startsIn (map-of k) (c .search-of .result)) (start k .args .held) (buffer-of k) answer b′
-    → Found (conditions-of k) (startsIn (map-of k) (search-of k)) (start k .args .held) (buffer-of k) answer b′
+    PeaksAdded [] (startsIn (map-of k) (c .search-of .result)) (tiesIn (map-of k) (c .search-of .result)) (start k .args .held) (buffer-of k) answer b′
+    → PeaksAdded (conditions-of k) (startsIn (map-of k) (search-of k)) (tiesIn (map-of k) (search-of k)) (start k .args .held) (buffer-of k) answer b′
 adds c =
     let k = c .before in
-    found-clear (map-of k) (c .search-of .result) (search-of k) (c .search-of .ensures) (conditions-of k) (fine k) (start k .args .held) (buffer-of k)
+    found-clear (map-of k) (c .search-of .result) (search-of k) (c .search-of .ensures) (conditions-of k) (fine k)
+    (start k .args .held) (buffer-of k)
 
-fault-requires : tie.Need-fault-requires
-fault-requires c κs = search needs
+refusal-requires : tie.Need-refusal-requires
+refusal-requires c κs = search needs
 
 returns : tie.Need-returns
-returns c = found-refused _ _ _ _ _ (c .before .fault .ensures) (c .if1 .taken)
+returns c = found-refused _ _ _ _ _ _ (c .before .refusal .ensures) (c .if1 .taken)
 
 search-of-requires : tie.Need-search-of-requires
 search-of-requires c κs = search needs
@@ -60,7 +75,7 @@ slice-aggregate-add-peaks : tie.Need-slice-aggregate-add-peaks
 slice-aggregate-add-peaks c = search needs
 
 add-peaks-requires : tie.Need-add-peaks-requires
-add-peaks-requires c κs = can-search (c .before .before .before .before .before)
+add-peaks-requires c κs = can-search (searched c)
 
 same-length : tie.Need-same-length
 same-length c = search needs
@@ -72,15 +87,13 @@ same-length-3 : tie.Need-same-length-3
 same-length-3 c = search needs
 
 returns-2 : tie.Need-returns-2
-returns-2 c =
-    let add = c .before .before .before .before .before .before .before in
-    adds (add .before .before .before .before .before .before) (add .add-peaks .result) _ (add .add-peaks .ensures)
+returns-2 c = let add = added c in adds (searched (add .before)) (add .add-peaks .result) _ (add .add-peaks .ensures)
 
 slice-aggregate-add-peaks-2 : tie.Need-slice-aggregate-add-peaks-2
 slice-aggregate-add-peaks-2 c = search needs
 
 add-peaks-requires-2 : tie.Need-add-peaks-requires-2
-add-peaks-requires-2 c κs = can-search (c .before .before .before .before .before)
+add-peaks-requires-2 c κs = can-search (searched-2 c)
 
 same-length-4 : tie.Need-same-length-4
 same-length-4 c = search needs
@@ -92,15 +105,13 @@ same-length-6 : tie.Need-same-length-6
 same-length-6 c = search needs
 
 returns-3 : tie.Need-returns-3
-returns-3 c =
-    let add = c .before .before .before .before .before .before .before in
-    adds (add .before .before .before .before .before .before) (add .add-peaks2 .result) _ (add .add-peaks2 .ensures)
+returns-3 c = let add = added-2 c in adds (searched-2 (add .before)) (add .add-peaks2 .result) _ (add .add-peaks2 .ensures)
 
 pub detect-peaks-from-response-with-refine-radius-spec : {M : Type 1} → statement M
 detect-peaks-from-response-with-refine-radius-spec =
     tie.close
     (tie.spec
-    fault-requires
+    refusal-requires
     returns
     search-of-requires
     slice-aggregate-add-peaks

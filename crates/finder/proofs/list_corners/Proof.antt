@@ -4,13 +4,6 @@ use Rattle.finder.proofs.Texts.{list-text, list-written}
 use Rattle.finder.proofs.list_corners.Statement.{statement}
 use Rattle.finder.proofs.list_corners.Tie as tie
 
--- from one place of the code back to another
-abbrev at-start : tie.After-enum-told → tie.Start
-at-start c = c .before .before .before .before
-
-abbrev at-write-corners : tie.After-known-told → tie.After-write-corners
-at-write-corners c = c .before .before .before
-
 write-corners-requires : tie.Need-write-corners-requires
 write-corners-requires c κs = search needs
 
@@ -21,10 +14,10 @@ enum-told : tie.Need-enum-told
 enum-told c = search needs
 
 returns : tie.Need-returns
-returns c = absurd (list-written _ _ _ _ _ (c .before .before .write-corners .ensures) (at-start c .pre) _ (c .enum-told .given .1))
+returns c = absurd (list-written _ _ _ _ _ (c .before .before .write-corners .ensures) (c .before .before .before .before .pre) _ (c .enum-told .given .1))
 
 returns-2 : tie.Need-returns-2
-returns-2 c = list-text _ _ _ _ _ (at-write-corners c .write-corners .ensures) _ (c .before .listed .given .1)
+returns-2 c = list-text _ _ _ _ _ (c .before .before .before .write-corners .ensures) _ (c .before .listed .given .1)
 
 pub list-corners-spec : {M : Type 1} → statement M
 list-corners-spec =

@@ -18,7 +18,9 @@ cut-off-requires : tie.Need-cut-off-requires
 cut-off-requires c κs = search needs
 
 -- after the call of `cut_off`: its result is small, and half of one more is the answer
-abbrev halved : (c : tie.After-cut-off) → (c .cut-off .result < 2 ^ 26) × (signed (lt (c .before .before .before .args .x) (fin false 0 (pos 0))) ((c .cut-off .result + 1) / 2) ≡ roundHalfAway (c .before .before .before .args .x))
+abbrev halved : (c : tie.After-cut-off)
+    → (c .cut-off .result < 2 ^ 26) × (signed (lt (c .before .before .before .args .x) (fin false 0 (pos 0))) ((c .cut-off .result + 1) / 2)
+    ≡ roundHalfAway (c .before .before .before .args .x))
 unfolding ofBits
 halved c =
     rounds (c .before .before .before .args .x) (c .before .before .abs .result) (c .cut-off .result)

@@ -16,7 +16,11 @@ loop-holds c = counted-none (c .args .n)
 add-count : tie.Need-add-count Inv-loop μ-loop
 add-count c =
     let at = c .before in
-    omega (arith, counted-below (at .before .args .n) (at .loop .count) (at .loop .rest) (at .loop .inv), places-word (at .before .args .n) (at .before .fits .n .fits))
+    omega (
+      arith,
+      counted-below (at .before .args .n) (at .loop .count) (at .loop .rest) (at .loop .inv),
+      places-word (at .before .args .n) (at .before .fits .n .fits),
+    )
 
 loop-less : tie.Need-loop-less Inv-loop μ-loop
 loop-less c = omega arith

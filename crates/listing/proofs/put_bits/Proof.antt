@@ -3,7 +3,7 @@ use Prim.Native.Nat.{ℕ}
 use native.Mathlib.Omega.{arith}
 use mathlib.Core.Path.{ap}
 use Rattle.listing.specs.Text.{digits, hexadecimal}
-use Rattle.listing.specs.Writing.{ended}
+use Rattle.listing.specs.Internal.{ended}
 use Rattle.listing.proofs.Numbers.{length-digits}
 use Rattle.listing.proofs.Appending.{wrote-more, wrote-as, wrote-length}
 use borrow.Author.Needs.{needs}
@@ -32,7 +32,8 @@ unfolding hexadecimal
 returns c =
     let end = c .before .before in
     let digits = end .before .before .before .before in
-    wrote-as (ap (λ (n : ℕ). ended (hexadecimal n) (digits .before .before .before .before .args .end)) (digits .before .before .to-bits .ensures)) (wrote-more (digits .put-digits .ensures) (end .put .ensures))
+    wrote-as (ap (λ (n : ℕ). ended (hexadecimal n) (digits .before .before .before .before .args .end))
+    (digits .before .before .to-bits .ensures)) (wrote-more (digits .put-digits .ensures) (end .put .ensures))
 
 pub put-bits-spec : {M : Type 1} → statement M
 put-bits-spec =

@@ -3,7 +3,7 @@ use Prim.Native.Nat.{ℕ}
 use native.Mathlib.Omega.{arith}
 use mathlib.Core.Path.{ap}
 use Rattle.listing.specs.Text.{digits, decimal}
-use Rattle.listing.specs.Writing.{ended}
+use Rattle.listing.specs.Internal.{ended}
 use Rattle.listing.proofs.Numbers.{length-digits, places-word}
 use Rattle.listing.proofs.Appending.{wrote-more, wrote-as, wrote-length}
 use borrow.Author.Needs.{needs}
@@ -23,7 +23,14 @@ put-requires c κs =
     let low = c .before .before .before in
     let count = low .before .before .decimal-places in
     let start = low .before .before .before .before in
-    omega (arith, low .put-digits .ensures .ends, wrote-length (low .put-digits .ensures), length-digits 10 (count .result) (start .args .n), count .ensures, places-word (start .args .n) (start .fits .n .fits))
+    omega (
+      arith,
+      low .put-digits .ensures .ends,
+      wrote-length (low .put-digits .ensures),
+      length-digits 10 (count .result) (start .args .n),
+      count .ensures,
+      places-word (start .args .n) (start .fits .n .fits),
+    )
 
 same-length : tie.Need-same-length
 same-length c = search needs

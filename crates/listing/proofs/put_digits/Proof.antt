@@ -33,7 +33,11 @@ slice-write-out : tie.Need-slice-write-out Inv-loop μ-loop
 slice-write-out c =
     let at = c .before .before in
     let a = at .before .before .args in
-    omega (arith, at .loop .inv .long, ahead-length (a .base) (a .count) (a .n) (a .at) (a .out .now) (at .loop .i) (at .loop .rest) (at .loop .out) (at .loop .inv))
+    omega (
+      arith,
+      at .loop .inv .long,
+      ahead-length (a .base) (a .count) (a .n) (a .at) (a .out .now) (at .loop .i) (at .loop .rest) (at .loop .out) (at .loop .inv),
+    )
 
 div-rest : tie.Need-div-rest Inv-loop μ-loop
 div-rest c = c .before .before .before .before .pre .0
@@ -45,7 +49,8 @@ loop-again : tie.Need-loop-again Inv-loop μ-loop
 loop-again c =
     let at = c .before .before in
     let a = at .before .before .args in
-    ahead-next (a .base) (a .count) (a .n) (a .at) (a .out .now) (at .loop .i) (at .loop .rest) (at .loop .out) (at .loop .inv) (c .before .loop-test .taken) (c .digit .result) (c .digit .ensures)
+    ahead-next (a .base) (a .count) (a .n) (a .at) (a .out .now) (at .loop .i) (at .loop .rest) (at .loop .out) (at .loop .inv)
+    (c .before .loop-test .taken) (c .digit .result) (c .digit .ensures)
 
 add-result : tie.Need-add-result Inv-loop μ-loop
 add-result c = omega arith
@@ -58,7 +63,8 @@ same-length c =
 returns : tie.Need-returns Inv-loop μ-loop
 returns c =
     let a = c .before .before .before .args in
-    ahead-none (a .base) (a .count) (a .n) (a .at) (a .out .now) (c .before .loop .i) (c .before .loop .rest) (c .before .loop .out) (c .before .loop .inv) (omega arith)
+    ahead-none (a .base) (a .count) (a .n) (a .at) (a .out .now) (c .before .loop .i) (c .before .loop .rest) (c .before .loop .out)
+    (c .before .loop .inv) (omega arith)
 
 pub put-digits-spec : {M : Type 1} → statement M
 put-digits-spec =

@@ -1,16 +1,18 @@
 -- `listing::put_line` meets its contract, column by column. Assumes nothing.
+mod Landmarks
 use Prim.Native.Nat.{ℕ, _+_, _^_, _<_, _≤_}
 use native.Mathlib.Omega.{arith}
 use mathlib.Core.Path.{ap}
 use lib.ListN.{length}
 use lib.Ieee.{binary32, toBits}
 use Rattle.listing.specs.Text.{decimal, space}
-use Rattle.listing.specs.Writing.{ended}
+use Rattle.listing.specs.Internal.{ended}
 use Rattle.listing.proofs.Appending.{wrote-more, wrote-as, wrote-leaves}
 use Rattle.listing.proofs.Lines.{decimal-ended, bits-ended}
 use borrow.Author.Needs.{needs}
 use Rattle.listing.proofs.put_line.Statement.{statement}
 use Rattle.listing.proofs.put_line.Tie as tie
+use Landmarks.*
 
 units-requires : tie.Need-units-requires
 units-requires c κs = search needs
@@ -25,34 +27,34 @@ units-requires-2 c κs = search needs
 behind-x : (c : tie.After-put-decimal) → c .put-decimal .result + 48 ≤ length (c .put-decimal .last .0)
 behind-x c =
     let word : c .before .units .result < 2 ^ 64 = omega arith in
-    wrote-leaves (c .put-decimal .ensures) 21 48 (decimal-ended (c .before .units .result) space word) (c .before .before .before .before .pre)
+    wrote-leaves (c .put-decimal .ensures) 21 48 (decimal-ended (c .before .units .result) space word) (start-from-put-decimal c .pre)
 
 behind-y : (c : tie.After-put-decimal2) → c .put-decimal2 .result + 27 ≤ length (c .put-decimal2 .last .0)
 behind-y c =
     let word : c .before .units2 .result < 2 ^ 64 = omega arith in
-    wrote-leaves (c .put-decimal2 .ensures) 21 27 (decimal-ended (c .before .units2 .result) space word) (behind-x (c .before .before .before .before .before))
+    wrote-leaves (c .put-decimal2 .ensures) 21 27 (decimal-ended (c .before .units2 .result) space word) (behind-x (put-decimal-from-put-decimal2 c))
 
 behind-x-bits : (c : tie.After-put-bits) → c .put-bits .result + 18 ≤ length (c .put-bits .last .0)
 behind-x-bits c =
-    let y = c .before .before .before .before in
-    wrote-leaves (c .put-bits .ensures) 9 18 (bits-ended (toBits binary32 (y .before .before .before .before .before .before .before .before .before .args .c .x)) space) (behind-y y)
+    let y = put-decimal2-from-put-bits c in
+    wrote-leaves (c .put-bits .ensures) 9 18 (bits-ended (toBits binary32 (start-from-put-bits c .args .c .x)) space) (behind-y y)
 
 behind-y-bits : (c : tie.After-put-bits2) → c .put-bits2 .result + 9 ≤ length (c .put-bits2 .last .0)
 behind-y-bits c =
-    let x = c .before .before .before .before in
-    wrote-leaves (c .put-bits2 .ensures) 9 9 (bits-ended (toBits binary32 (x .before .before .before .before .before .before .before .before .before .before .before .before .before .args .c .y)) space) (behind-x-bits x)
+    let x = put-bits-from-put-bits2 c in
+    wrote-leaves (c .put-bits2 .ensures) 9 9 (bits-ended (toBits binary32 (start-from-put-bits2 c .args .c .y)) space) (behind-x-bits x)
 
 put-decimal-requires-2 : tie.Need-put-decimal-requires-2
-put-decimal-requires-2 c κs = omega (arith, behind-x (c .before .before .before .before))
+put-decimal-requires-2 c κs = omega (arith, behind-x (put-decimal-from-put-decimal-requires-2 c))
 
 put-bits-requires : tie.Need-put-bits-requires
-put-bits-requires c κs = omega (arith, behind-y (c .before .before .before))
+put-bits-requires c κs = omega (arith, behind-y (put-decimal2-from-put-bits-requires c))
 
 put-bits-requires-2 : tie.Need-put-bits-requires-2
-put-bits-requires-2 c κs = omega (arith, behind-x-bits (c .before .before .before))
+put-bits-requires-2 c κs = omega (arith, behind-x-bits (put-bits-from-put-bits-requires-2 c))
 
 put-bits-requires-3 : tie.Need-put-bits-requires-3
-put-bits-requires-3 c κs = omega (arith, behind-y-bits (c .before .before .before))
+put-bits-requires-3 c κs = omega (arith, behind-y-bits (put-bits2-from-put-bits-requires-3 c))
 
 same-length : tie.Need-same-length
 same-length c = search needs
@@ -60,10 +62,10 @@ same-length c = search needs
 returns : tie.Need-returns
 returns c =
     let strength = c .before .before in
-    let y-bits = strength .before .before .before .before in
-    let x-bits = y-bits .before .before .before .before in
-    let y = x-bits .before .before .before .before in
-    let x = y .before .before .before .before .before in
+    let y-bits = put-bits2-from-returns c in
+    let x-bits = put-bits-from-returns c in
+    let y = put-decimal2-from-returns c in
+    let x = put-decimal-from-returns c in
     wrote-more (wrote-as (ap (λ (n : ℕ). ended (decimal n) space) (x .before .units .ensures)) (x .put-decimal .ensures))
     (wrote-more (wrote-as (ap (λ (n : ℕ). ended (decimal n) space) (y .before .units2 .ensures)) (y .put-decimal2 .ensures))
     (wrote-more (x-bits .put-bits .ensures) (wrote-more (y-bits .put-bits2 .ensures) (strength .put-bits3 .ensures))))

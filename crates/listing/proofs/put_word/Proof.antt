@@ -3,7 +3,7 @@ use Prim.Native.Nat.{_+_, _-_}
 use native.Mathlib.Nat.{add-zero}
 use native.Mathlib.Omega.{arith}
 use lib.ListN.{length, take}
-use Rattle.listing.specs.Writing.{Wrote}
+use Rattle.listing.specs.Internal.{Wrote}
 use Rattle.listing.proofs.Appending.{wrote-length, wrote-none, word-more, word-all}
 use borrow.Author.Needs.{needs}
 use Rattle.listing.proofs.put_word.Statement.{statement}
@@ -37,7 +37,8 @@ loop-again : tie.Need-loop-again Inv-loop μ-loop
 loop-again c =
     let at = c .before .before in
     let a = at .before .args in
-    word-more (a .word .now) (a .at) (at .loop .i) (a .out .now) (at .loop .out) (at .loop .inv) (c .before .loop-test .taken) (omega (arith, wrote-length (at .loop .inv)))
+    word-more (a .word .now) (a .at) (at .loop .i) (a .out .now) (at .loop .out) (at .loop .inv) (c .before .loop-test .taken)
+    (omega (arith, wrote-length (at .loop .inv)))
 
 add-result : tie.Need-add-result Inv-loop μ-loop
 add-result c = omega (arith, c .before .loop .inv .fits, c .before .loop .inv .ends)

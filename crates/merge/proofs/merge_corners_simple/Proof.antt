@@ -1,8 +1,10 @@
 -- `merge::merge_corners_simple` meets its contract. Assumes nothing.
+mod Landmarks
 use borrow.Author.Needs.{needs}
 use Rattle.merge.proofs.Answer.{merges-whole}
 use Rattle.merge.proofs.merge_corners_simple.Statement.{statement}
 use Rattle.merge.proofs.merge_corners_simple.Tie as tie
+use Landmarks.*
 
 merge-within-requires : tie.Need-merge-within-requires
 merge-within-requires c κs = search needs
@@ -17,7 +19,7 @@ same-length-3 : tie.Need-same-length-3
 same-length-3 c = search needs
 
 returns : tie.Need-returns
-returns c = merges-whole _ _ _ _ _ (c .before .before .before .before .before .before .merge-within .ensures)
+returns c = merges-whole _ _ _ _ _ (merge-within-from-returns c .merge-within .ensures)
 
 pub merge-corners-simple-spec : {M : Type 1} → statement M
 merge-corners-simple-spec =

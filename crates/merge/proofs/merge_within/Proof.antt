@@ -1,11 +1,13 @@
 -- `merge::merge_within` meets its contract: refused, or merged. Assumes nothing.
+mod Landmarks
 use borrow.Author.Needs.{needs}
 use native.Mathlib.Omega.{arith}
 use mathlib.Core.Path.{sym, _∙_}
-use Rattle.merge_refusal.proofs.Judged.{judged-fits}
+use Rattle.merge.proofs.Judged.{judged-fits}
 use Rattle.merge.proofs.Answer.{merges-refused, merges-kept}
 use Rattle.merge.proofs.merge_within.Statement.{statement}
 use Rattle.merge.proofs.merge_within.Tie as tie
+use Landmarks.*
 
 refusal-requires : tie.Need-refusal-requires
 refusal-requires c κs = search needs
@@ -24,7 +26,7 @@ returns c = merges-refused _ _ _ _ _ (c .before .refusal .ensures) (c .if1 .take
 
 merge-list-requires : tie.Need-merge-list-requires
 merge-list-requires c κs =
-    let judged = c .before .before .before in
+    let judged = if1-from-merge-list-requires c in
     omega (arith, judged-fits _ _ _ _ (sym (judged .before .refusal .ensures) ∙ judged .if1 .left))
 
 same-length-4 : tie.Need-same-length-4
@@ -38,8 +40,8 @@ same-length-6 c = search needs
 
 returns-2 : tie.Need-returns-2
 returns-2 c =
-    let done = c .before .before .before .before .before .before in
-    let judged = done .before .before .before .before in
+    let done = merge-list-from-returns-2 c in
+    let judged = if1-from-returns-2 c in
     merges-kept _ _ _ _ _ _ _ (judged .before .refusal .ensures) (judged .if1 .left) (done .merge-list .ensures)
 
 pub merge-within-spec : {M : Type 1} → statement M

@@ -51,10 +51,14 @@ add-high-2 : tie.Need-add-high-2
 add-high-2 c = search needs
 
 -- the ends, where the arms have met
-abbrev low-is : (c : tie.Joined4) → c .if4 .low ≡ lowEnd (c .before .before .before .before .args .b) (c .before .before .before .before .args .r) (c .before .before .before .before .args .c)
+abbrev low-is : (c : tie.Joined4)
+    → c .if4 .low ≡ lowEnd (c .before .before .before .before .args .b) (c .before .before .before .before .args .r)
+    (c .before .before .before .before .args .c)
 low-is c = ⊎-elim (λ w. w .1 ∙ low-clipped _ _ _ (w .0 .taken)) (λ w. w .1 ∙ low-free _ _ _ (w .0 .left)) (c .if4 .came)
 
-abbrev high-is : (c : tie.Joined5) → c .if5 .high ≡ highEnd (c .before .before .before .before .before .args .b) (c .before .before .before .before .before .args .r) (c .before .before .before .before .before .args .side) (c .before .before .before .before .before .args .c)
+abbrev high-is : (c : tie.Joined5)
+    → c .if5 .high ≡ highEnd (c .before .before .before .before .before .args .b) (c .before .before .before .before .before .args .r)
+    (c .before .before .before .before .before .args .side) (c .before .before .before .before .before .args .c)
 high-is c = ⊎-elim (λ w. w .1 ∙ high-clipped _ _ _ _ (w .0 .taken)) (λ w. w .1 ∙ high-free _ _ _ _ (w .0 .left)) (c .if5 .came)
 
 sub-if6 : tie.Need-sub-if6

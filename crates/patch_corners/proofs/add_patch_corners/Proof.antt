@@ -53,14 +53,15 @@ made : (k : tie.After-known-told)
     (at-response k .chess-response-u8-patch .last .1 .1 .1 .1 .1 .1 .1 .1 .0) (k .before .m .given .0 .0) (k .before .m .given .0 .1 .0)
 made k =
     let r = at-response k in
-    is-made (at-start k .args .p) _ _ (sym (at-else1 r .before .fault .ensures) ∙ at-else1 r .if1 .left) _ _ (r .chess-response-u8-patch .ensures) _ _
+    let passed = at-else1 r in
+    is-made (at-start k .args .p) _ _ (sym (passed .before .refusal .ensures) ∙ passed .if1 .left) _ _ (r .chess-response-u8-patch .ensures) _ _
     (k .before .m .given .1)
 
-fault-requires : tie.Need-fault-requires
-fault-requires c κs = search needs
+refusal-requires : tie.Need-refusal-requires
+refusal-requires c κs = search needs
 
 returns : tie.Need-returns
-returns c = when-fault _ _ _ _ _ _ (c .before .fault .ensures) (c .if1 .taken)
+returns c = when-fault _ _ _ _ _ _ (c .before .refusal .ensures) (c .if1 .taken)
 
 chess-response-u8-patch-requires : tie.Need-chess-response-u8-patch-requires
 chess-response-u8-patch-requires c κs = search needs
@@ -77,7 +78,8 @@ same-length c = search needs
 returns-2 : tie.Need-returns-2
 returns-2 c =
     let r = at-response-refused c in
-    when-short _ _ _ _ _ (sym (at-else1 r .before .fault .ensures) ∙ at-else1 r .if1 .left) _ _ (r .chess-response-u8-patch .ensures) _ (c .enum-told .given .1)
+    let passed = at-else1 r in
+    when-short _ _ _ _ _ (sym (passed .before .refusal .ensures) ∙ passed .if1 .left) _ _ (r .chess-response-u8-patch .ensures) _ (c .enum-told .given .1)
 
 mul-cells : tie.Need-mul-cells
 mul-cells c = omega (arith, map-small _ _ _ _ _ _ (made c))
@@ -139,13 +141,13 @@ returns-4 : tie.Need-returns-4
 returns-4 c =
     let call = at-add-peaks c in
     let k = at-known call in
-    when-added _ _ _ _ _ _ (made k) (λ i. at-shared k .shared-slice-known .given i .fits) refl _ _ _ _ (call .add-peaks .ensures) _ (c .before .f .given .1)
+    when-added _ _ _ _ _ _ (made k) (λ i. at-shared k .shared-slice-known .given i .fits) refl _ _ _ _ (call .add-peaks .ensures) _ _ (c .before .f .given .1)
 
 pub add-patch-corners-spec : {M : Type 1} → statement M
 add-patch-corners-spec =
     tie.close
     (tie.spec
-    fault-requires
+    refusal-requires
     returns
     chess-response-u8-patch-requires
     enum-known-m

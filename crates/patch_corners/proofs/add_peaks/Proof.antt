@@ -6,20 +6,14 @@ use Rattle.patch_corners.proofs.add_peaks.Statement.{statement}
 use Rattle.patch_corners.proofs.add_peaks.Tie as tie
 
 -- from one place of the code back to another
-abbrev at-detect-peaks-from-response-with-refine-radius : tie.After-enum-told → tie.After-detect-peaks-from-response-with-refine-radius
-at-detect-peaks-from-response-with-refine-radius c = c .before .before .before .before .before .before .before .before
+abbrev at-peaks-refused : tie.After-enum-told → tie.After-detect-peaks-from-response-with-refine-radius
+at-peaks-refused c = c .before .before .before .before .before .before .before .before
 
-abbrev at-detect-peaks-from-response-with-refine-radius-from-centre-all-arg3 : tie.After-centre-all-arg3 → tie.After-detect-peaks-from-response-with-refine-radius
-at-detect-peaks-from-response-with-refine-radius-from-centre-all-arg3 c = c .before .before .before .before .before .before .before .before .before .before .before .before
+abbrev at-peaks : tie.After-f → tie.After-detect-peaks-from-response-with-refine-radius
+at-peaks c = c .before .before .before .before .before .before .before .before
 
 abbrev at-f : tie.After-centre-all-arg3 → tie.After-f
 at-f c = c .before .before .before .before
-
-abbrev at-detect-peaks-from-response-with-refine-radius-from-slice-known9 : tie.After-slice-known9 → tie.After-detect-peaks-from-response-with-refine-radius
-at-detect-peaks-from-response-with-refine-radius-from-slice-known9 c = c .before .before .before .before .before .before .before .before .before .before .before .before .before .before .before .before .before .before .before
-
-abbrev at-f-from-slice-known9 : tie.After-slice-known9 → tie.After-f
-at-f-from-slice-known9 c = c .before .before .before .before .before .before .before .before .before .before .before
 
 abbrev at-centre-all : tie.After-slice-known9 → tie.After-centre-all
 at-centre-all c = c .before .before .before .before .before .before
@@ -43,10 +37,15 @@ same-length-3 : tie.Need-same-length-3
 same-length-3 c = search needs
 
 returns : tie.Need-returns
-returns c = found-not _ _ _ _ _ _ _ (at-detect-peaks-from-response-with-refine-radius c .detect-peaks-from-response-with-refine-radius .ensures) _ (c .enum-told .given .1)
+returns c =
+    let call = at-peaks-refused c in
+    found-not _ _ _ _ _ _ _ _ (call .detect-peaks-from-response-with-refine-radius .ensures) _ (c .enum-told .given .1)
 
 centre-all-requires : tie.Need-centre-all-requires
-centre-all-requires c κs = found-fits (λ z. z) _ _ _ _ _ _ (at-detect-peaks-from-response-with-refine-radius-from-centre-all-arg3 c .detect-peaks-from-response-with-refine-radius .ensures) (clear _ _ _ _ _ _) _ (at-f c .f .given .1)
+centre-all-requires c κs =
+    let f = at-f c in
+    let call = at-peaks f in
+    found-fits (λ z. z) _ _ _ _ _ _ _ (call .detect-peaks-from-response-with-refine-radius .ensures) (clear _ _ _ _ _ _) _ _ (f .f .given .1)
 
 same-length-4 : tie.Need-same-length-4
 same-length-4 c = search needs
@@ -58,7 +57,12 @@ same-length-6 : tie.Need-same-length-6
 same-length-6 c = search needs
 
 returns-2 : tie.Need-returns-2
-returns-2 c = found-changed _ _ _ _ _ _ _ (at-detect-peaks-from-response-with-refine-radius-from-slice-known9 c .detect-peaks-from-response-with-refine-radius .ensures) (clear _ _ _ _ _ _) _ (at-f-from-slice-known9 c .f .given .1) _ (at-centre-all c .centre-all .ensures)
+returns-2 c =
+    let all = at-centre-all c in
+    let f = at-f (all .before) in
+    let call = at-peaks f in
+    found-changed _ _ _ _ _ _ _ _ (call .detect-peaks-from-response-with-refine-radius .ensures) (clear _ _ _ _ _ _) _ _ (f .f .given .1) _
+    (all .centre-all .ensures)
 
 pub add-peaks-spec : {M : Type 1} → statement M
 add-peaks-spec =

@@ -3,17 +3,17 @@
 use mathlib.Core.Path.{_≡_, sym, _∙_}
 use lib.ListN.{length}
 use borrow.Author.Needs.{needs}
-use Rattle.pyramid_levels.specs.Refusals.{buildRefusal}
+use Rattle.pyramid_levels.specs.Refusals.{buildRefusalOf}
 use Rattle.pyramid_levels.proofs.Refusals.{accepted}
 use Rattle.pyramid.proofs.Building.{built-refused, built-filled}
 use Rattle.pyramid.proofs.build_pyramid.Statement.{statement}
 use Rattle.pyramid.proofs.build_pyramid.Tie as tie
 
-build-fault-requires : tie.Need-build-fault-requires
-build-fault-requires c κs = search needs
+build-refusal-requires : tie.Need-build-refusal-requires
+build-refusal-requires c κs = search needs
 
 returns : tie.Need-returns
-returns c = built-refused _ _ _ _ _ _ _ (sym (c .before .build-fault .ensures)) (c .if1 .taken)
+returns c = built-refused _ _ _ _ _ _ _ (sym (c .before .build-refusal .ensures)) (c .if1 .taken)
 
 level-count-requires : tie.Need-level-count-requires
 level-count-requires c κs = search needs
@@ -23,8 +23,10 @@ abbrev start : tie.After-level-count → tie.Start
 start c = c .before .before .before .before .before
 
 -- nothing refuses
-free : (c : tie.After-level-count) → buildRefusal (length (start c .args .base .now)) (length (start c .args .levels .now)) (start c .args .width) (start c .args .height) (start c .args .num-levels) (start c .args .min-size) ≡ 0
-free c = sym (c .before .before .build-fault .ensures) ∙ c .before .if1 .left
+free : (c : tie.After-level-count)
+    → buildRefusalOf (length (start c .args .base .now)) (length (start c .args .levels .now)) (start c .args .width)
+    (start c .args .height) (start c .args .num-levels) (start c .args .min-size) ≡ 0
+free c = sym (c .before .before .build-refusal .ensures) ∙ c .before .if1 .left
 
 fill-levels-requires : tie.Need-fill-levels-requires
 fill-levels-requires c κs =
@@ -35,13 +37,15 @@ same-length : tie.Need-same-length
 same-length c = search needs
 
 returns-2 : tie.Need-returns-2
-returns-2 c = built-filled _ _ _ _ _ _ _ _ (free (c .before .before .before .before)) (c .before .before .before .before .level-count .ensures) (c .before .before .fill-levels .ensures)
+returns-2 c =
+    built-filled _ _ _ _ _ _ _ _ (free (c .before .before .before .before)) (c .before .before .before .before .level-count .ensures)
+    (c .before .before .fill-levels .ensures)
 
 pub build-pyramid-spec : {M : Type 1} → statement M
 build-pyramid-spec =
     tie.close
     (tie.spec
-    build-fault-requires
+    build-refusal-requires
     returns
     level-count-requires
     fill-levels-requires

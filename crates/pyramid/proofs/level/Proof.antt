@@ -4,14 +4,14 @@ use native.Mathlib.Omega.{arith}
 use mathlib.Core.Path.{_≡_, sym, _∙_}
 use lib.ListN.{length}
 use borrow.Author.Needs.{needs}
-use Rattle.pyramid_levels.specs.Refusals.{levelRefusal}
+use Rattle.pyramid_levels.specs.Refusals.{levelRefusalOf}
 use Rattle.pyramid_levels.proofs.Refusals.{level-few}
 use Rattle.pyramid.proofs.Lookup.{Between, level-refused, level-base, level-between, level-higher}
 use Rattle.pyramid.proofs.level.Statement.{statement}
 use Rattle.pyramid.proofs.level.Tie as tie
 
-level-fault-requires : tie.Need-level-fault-requires
-level-fault-requires c κs = search needs
+level-refusal-requires : tie.Need-level-refusal-requires
+level-refusal-requires c κs = search needs
 
 slice-aggregate-result : tie.Need-slice-aggregate-result
 slice-aggregate-result c = search needs
@@ -19,15 +19,16 @@ slice-aggregate-result c = search needs
 returns : tie.Need-returns
 returns c =
     let a = c .before .before .before .before .before .args in
-    level-refused (a .base .now) (a .levels .now) _ _ _ _ _ _ (c .before .before .level-fault .ensures) (c .before .if1 .taken)
+    level-refused (a .base .now) (a .levels .now) _ _ _ _ _ _ (c .before .before .level-refusal .ensures) (c .before .if1 .taken)
 
 -- the entry
 abbrev start : tie.Else1 → tie.Start
 start c = c .before .before .before .before
 
 -- nothing refuses the level
-free : (c : tie.Else1) → levelRefusal (length (start c .args .base .now)) (length (start c .args .levels .now)) (start c .args .width) (start c .args .height) (start c .args .num-levels) (start c .args .min-size) (start c .args .k) ≡ 0
-free c = sym (c .before .level-fault .ensures) ∙ c .if1 .left
+free : (c : tie.Else1) → levelRefusalOf (length (start c .args .base .now)) (length (start c .args .levels .now)) (start c .args .width)
+    (start c .args .height) (start c .args .num-levels) (start c .args .min-size) (start c .args .k) ≡ 0
+free c = sym (c .before .level-refusal .ensures) ∙ c .if1 .left
 
 returns-2 : tie.Need-returns-2
 returns-2 c = let a = start (c .before) .args in level-base (a .base .now) (a .levels .now) _ _ _ _ _ (free (c .before)) (c .if2 .taken)
@@ -42,11 +43,14 @@ cells-before-requires-2 : tie.Need-cells-before-requires-2
 cells-before-requires-2 c κs = search needs
 
 -- where the level begins and ends
-between : (c : tie.After-cells-before2) → Between (start (c .before .before .before) .args .levels .now) (start (c .before .before .before) .args .width) (start (c .before .before .before) .args .height) (start (c .before .before .before) .args .k) (c .before .cells-before .result) (c .cells-before2 .result)
+between : (c : tie.After-cells-before2)
+    → Between (start (c .before .before .before) .args .levels .now) (start (c .before .before .before) .args .width)
+    (start (c .before .before .before) .args .height) (start (c .before .before .before) .args .k) (c .before .cells-before .result) (c .cells-before2 .result)
 between c =
     let p = c .before .before .before in
     let a = start p .args in
-    level-between (a .base .now) (a .levels .now) _ _ _ _ _ (free p) _ _ (c .before .before .if2 .left) (c .before .cells-before .ensures) (c .cells-before2 .ensures)
+    level-between (a .base .now) (a .levels .now) _ _ _ _ _ (free p) _ _ (c .before .before .if2 .left) (c .before .cells-before .ensures)
+    (c .cells-before2 .ensures)
 
 sub-result : tie.Need-sub-result
 sub-result c = omega (arith, between c .ends)
@@ -67,7 +71,7 @@ pub level-spec : {M : Type 1} → statement M
 level-spec =
     tie.close
     (tie.spec
-    level-fault-requires
+    level-refusal-requires
     slice-aggregate-result
     returns
     returns-2

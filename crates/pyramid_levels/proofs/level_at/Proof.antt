@@ -1,7 +1,7 @@
 -- `pyramid_levels::level_at` meets its contract: the answer is by the number that refuses the level, or 0. Assumes nothing.
 use native.Mathlib.Omega.{arith}
 use mathlib.Core.Path.{_≡_, sym, _∙_}
-use Rattle.pyramid_levels.specs.Refusals.{levelRefusal}
+use Rattle.pyramid_levels.specs.Refusals.{levelRefusalOf}
 use Rattle.pyramid_levels.proofs.Cells.{cells-exact}
 use Rattle.pyramid_levels.proofs.Refusals.{level-accepted, level-few}
 use Rattle.pyramid_levels.proofs.Answers.{level-refused, level-found}
@@ -9,11 +9,11 @@ use borrow.Author.Needs.{needs}
 use Rattle.pyramid_levels.proofs.level_at.Statement.{statement}
 use Rattle.pyramid_levels.proofs.level_at.Tie as tie
 
-level-fault-requires : tie.Need-level-fault-requires
-level-fault-requires c κs = search needs
+level-refusal-requires : tie.Need-level-refusal-requires
+level-refusal-requires c κs = search needs
 
 returns : tie.Need-returns
-returns c = level-refused _ _ _ _ _ _ _ _ (sym (c .before .level-fault .ensures)) (c .if1 .taken)
+returns c = level-refused _ _ _ _ _ _ _ _ (sym (c .before .level-refusal .ensures)) (c .if1 .taken)
 
 cells-before-requires : tie.Need-cells-before-requires
 cells-before-requires c κs = search needs
@@ -23,8 +23,9 @@ abbrev start : tie.Else1 → tie.Start
 start c = c .before .before
 
 -- nothing refuses the level
-free : (c : tie.Else1) → levelRefusal (start c .args .pixels) (start c .args .places) (start c .args .width) (start c .args .height) (start c .args .num-levels) (start c .args .min-size) (start c .args .k) ≡ 0
-free c = sym (c .before .level-fault .ensures) ∙ c .if1 .left
+free : (c : tie.Else1) → levelRefusalOf (start c .args .pixels) (start c .args .places) (start c .args .width) (start c .args .height)
+    (start c .args .num-levels) (start c .args .min-size) (start c .args .k) ≡ 0
+free c = sym (c .before .level-refusal .ensures) ∙ c .if1 .left
 
 shr-t11 : tie.Need-shr-t11
 shr-t11 c = omega (arith, level-few _ _ _ _ _ _ _ (free (c .before)))
@@ -40,4 +41,4 @@ returns-2 c =
 pub level-at-spec : {M : Type 1} → statement M
 level-at-spec =
     tie.close
-    (tie.spec level-fault-requires returns cells-before-requires shr-t11 shr-t12 returns-2)
+    (tie.spec level-refusal-requires returns cells-before-requires shr-t11 shr-t12 returns-2)

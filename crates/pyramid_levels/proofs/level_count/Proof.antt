@@ -10,10 +10,10 @@ use Rattle.pyramid_levels.proofs.level_count.Statement.{statement}
 use Rattle.pyramid_levels.proofs.level_count.Tie as tie
 
 abbrev Inv-loop : tie.InvT-loop
-Inv-loop width height count least most w₀ h₀ n₀ w h n = (n ≤ most) × (levelCount width height count least ≡ n + halvings (most - n) w h least)
+Inv-loop width height count minimumSide most w₀ h₀ n₀ w h n = (n ≤ most) × (levelCount width height count minimumSide ≡ n + halvings (most - n) w h minimumSide)
 
 abbrev μ-loop : tie.MeasureT-loop
-μ-loop width height count least most w₀ h₀ n₀ w h n = levelCount width height count least - n
+μ-loop width height count minimumSide most w₀ h₀ n₀ w h n = levelCount width height count minimumSide - n
 
 returns : tie.Need-returns Inv-loop μ-loop
 returns c = sym (count-none _ _ _ _ (c .if1 .taken))
@@ -37,7 +37,11 @@ add-n : tie.Need-add-n Inv-loop μ-loop
 add-n c = search needs
 
 loop-again : tie.Need-loop-again Inv-loop μ-loop
-loop-again c = (search needs, counted-more _ _ _ _ _ _ (c .before .before .before .loop .inv .1) (c .before .before .loop-test .taken) (sym (c .before .is-too-small .ensures) ∙ c .if3 .left))
+loop-again c = (
+  search needs,
+  counted-more _ _ _ _ _ _ (c .before .before .before .loop .inv .1) (c .before .before .loop-test .taken)
+      (sym (c .before .is-too-small .ensures) ∙ c .if3 .left),
+)
 
 loop-less : tie.Need-loop-less Inv-loop μ-loop
 loop-less c = omega (arith, loop-again c .1)

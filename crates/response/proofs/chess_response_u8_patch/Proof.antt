@@ -4,7 +4,7 @@ use Prim.Native.Nat.{_*_}
 use borrow.Author.Needs.{needs}
 use lib.ListN.{length}
 use Rattle.ring.specs.Ring.{ringOf}
-use Rattle.response.specs.Patch.{View, besides, cols, rows, refusal}
+use Rattle.response.specs.Patch.{View, besides, mapWidth, mapHeight, refusalOf}
 use Rattle.response.proofs.Outcome.{Taken, taken, image, cols-in, rows-in, cols-le, rows-le, number-is, when-refused, when-filled}
 use Rattle.response.proofs.chess_response_u8_patch.Statement.{statement}
 use Rattle.response.proofs.chess_response_u8_patch.Tie as tie
@@ -18,17 +18,20 @@ view c =
     let a = start c .args in
     record { img = a .img .now; w = a .w; h = a .h; ring = ringOf (a .ring); x0 = a .x0; y0 = a .y0; x1 = a .x1; y1 = a .y1 }
 
-width : (c : tie.After-beside2) → c .before .beside .result ≡ cols (view c)
+width : (c : tie.After-beside2) → c .before .beside .result ≡ mapWidth (view c)
 width c = c .before .beside .ensures ∙ ap₂ besides (c .before .before .before .side .ensures) (c .before .before .side2 .ensures)
 
-height : (c : tie.After-beside2) → c .beside2 .result ≡ rows (view c)
+height : (c : tie.After-beside2) → c .beside2 .result ≡ mapHeight (view c)
 height c = c .beside2 .ensures ∙ ap₂ besides (c .before .before .side2 .ensures) (c .before .before .before .side .ensures)
 
-number : (c : tie.After-refusal) → c .refusal .result ≡ refusal (view (c .before)) (start (c .before) .args .ring) (length (start (c .before) .args .map .now))
+number : (c : tie.After-refusal)
+    → c .refusal .result ≡ refusalOf (view (c .before)) (start (c .before) .args .ring) (length (start (c .before) .args .map .now))
 number c = number-is (view (c .before)) _ _ _ _ _ (c .refusal .ensures) (width (c .before)) (height (c .before))
 
 -- ---- nothing refuses
-allowed : (c : tie.Else1) → Taken (length (view (c .before .before) .img)) (view (c .before .before) .w) (view (c .before .before) .h) (start (c .before .before) .args .ring) (c .before .before .beside2 .result * c .before .before .before .beside .result) (length (start (c .before .before) .args .map .now))
+allowed : (c : tie.Else1) → Taken (length (view (c .before .before) .img)) (view (c .before .before) .w) (view (c .before .before) .h)
+    (start (c .before .before) .args .ring) (c .before .before .beside2 .result * c .before .before .before .beside .result)
+    (length (start (c .before .before) .args .map .now))
 allowed c = taken _ _ _ _ _ _ (sym (c .before .refusal .ensures) ∙ c .if1 .left)
 
 side-requires : tie.Need-side-requires
@@ -73,7 +76,8 @@ same-length c = search needs
 returns-2 : tie.Need-returns-2
 returns-2 c =
     let p = c .before .before .before .before .before .before in
-    when-filled _ _ _ _ _ _ _ _ _ (number (p .before)) (p .if1 .left) (width (p .before .before)) (height (p .before .before)) (c .before .before .before .before .before .lesser .ensures)
+    when-filled _ _ _ _ _ _ _ _ _ (number (p .before)) (p .if1 .left) (width (p .before .before)) (height (p .before .before))
+    (c .before .before .before .before .before .lesser .ensures)
     (c .before .before .before .before .lesser2 .ensures) (c .before .before .fill .ensures)
 
 pub chess-response-u8-patch-spec : {M : Type 1} → statement M

@@ -7,7 +7,7 @@ use lib.ListN.{length, take, drop, length-append}
 use lib.Seq.{length-take-le}
 use borrow.Author.Needs.{needs}
 use Rattle.lists.proofs.Buffer.{front-take}
-use Rattle.retention.specs.Answer.{Written}
+use Rattle.lists.specs.Buffer.{Written}
 use Rattle.retained.proofs.print_letters.Statement.{statement}
 use Rattle.retained.proofs.print_letters.Tie as tie
 

@@ -1,5 +1,6 @@
 -- `retained::read_stream` meets its contract. The invariant: the bytes that came lie in the buffer, and the items that are passed have no fault. The
 -- measure is what is left of the buffer. Assumes the contract of `read`.
+mod Landmarks
 use Prim.Native.Nat.{ℕ, _+_, _-_, _≤_}
 use native.Mathlib.Omega.{arith}
 use mathlib.Core.Path.{_≡_, sym, ap, _∙_}
@@ -16,6 +17,7 @@ use Rattle.retained.specs.declared.Input.the-variants.{Decided, Ended}
 use Rattle.retained.specs.Read.{Read}
 use Rattle.retained.proofs.read_stream.Statement.{statement}
 use Rattle.retained.proofs.read_stream.Tie as tie
+use Landmarks.*
 
 record Came (s : List ℕ) (n passed : ℕ) : Type 0 where
   long : length s ≡ 589832
@@ -71,7 +73,7 @@ abbrev at-more : tie.After-read Inv-loop μ-loop → tie.Else1 Inv-loop μ-loop
 at-more c = c .before .before
 
 abbrev at-read : tie.After-count Inv-loop μ-loop → tie.After-read Inv-loop μ-loop
-at-read c = c .before .before .before .before .before .before
+at-read c = read-from-count c
 
 abbrev at-loop : tie.After-read Inv-loop μ-loop → tie.At-loop Inv-loop μ-loop
 at-loop c = at-more c .before .before .before
@@ -102,13 +104,13 @@ wanted-requires : tie.Need-wanted-requires Inv-loop μ-loop
 wanted-requires c κs = search needs
 
 same-length : tie.Need-same-length Inv-loop μ-loop
-same-length c = c .before .before .before .loop .inv .long ∙ sym (c .before .before .before .before .before .pre)
+same-length c = loop-from-same-length c .loop .inv .long ∙ sym (start-from-same-length c .pre)
 
 returns : tie.Need-returns Inv-loop μ-loop
-returns c = all-came _ _ _ (c .before .before .before .loop .inv) _ (c .before .wanted .ensures) (c .if1 .taken)
+returns c = all-came _ _ _ (loop-from-returns c .loop .inv) _ (c .before .wanted .ensures) (c .if1 .taken)
 
 add-end : tie.Need-add-end Inv-loop μ-loop
-add-end c = omega (arith, fits _ _ _ (c .before .before .before .loop .inv) _ (c .before .wanted .ensures) (c .if1 .left))
+add-end c = omega (arith, fits _ _ _ (loop-from-add-end c .loop .inv) _ (c .before .wanted .ensures) (c .if1 .left))
 
 sub-read : tie.Need-sub-read Inv-loop μ-loop
 sub-read c = search needs
@@ -118,14 +120,14 @@ part-read-start c = search needs
 
 part-read-end : tie.Need-part-read-end Inv-loop μ-loop
 part-read-end c =
-    let at = c .before .before .before .loop .inv in
+    let at = loop-from-part-read-end c .loop .inv in
     omega (arith, fits _ _ _ at _ (c .before .wanted .ensures) (c .if1 .left), at .long)
 
 read-requires : tie.Need-read-requires Inv-loop μ-loop
 read-requires c κs = search needs
 
 same-length-2 : tie.Need-same-length-2 Inv-loop μ-loop
-same-length-2 c = kept-long (c .before .before .before)
+same-length-2 c = kept-long (read-from-same-length-2 c)
 
 returns-2 : tie.Need-returns-2 Inv-loop μ-loop
 returns-2 c = search needs
@@ -138,7 +140,7 @@ part-count-start c = search needs
 
 part-count-end : tie.Need-part-count-end Inv-loop μ-loop
 part-count-end c =
-    let read = c .before .before .before .before in
+    let read = read-from-part-count-end c in
     let more = at-more read in
     let at = more .before .before .before .loop .inv in
     omega (

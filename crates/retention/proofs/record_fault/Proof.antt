@@ -1,4 +1,5 @@
 -- `retention::record_fault` meets its contract, return by return. Assumes nothing.
+mod Landmarks
 use native.Mathlib.Omega.{arith}
 use mathlib.Core.Path.{_≡_, sym, _∙_}
 use mathlib.Core.Bool.{true}
@@ -9,6 +10,7 @@ use borrow.Author.Needs.{needs}
 use borrow.Author.Tests.{not-true, not-false}
 use Rattle.retention.proofs.record_fault.Statement.{statement}
 use Rattle.retention.proofs.record_fault.Tie as tie
+use Landmarks.*
 
 returns : tie.Need-returns
 returns c = sym (fault-end _ _ (c .if1 .taken))
@@ -20,20 +22,17 @@ is-known-requires : tie.Need-is-known-requires
 is-known-requires c κs = search needs
 
 returns-2 : tie.Need-returns-2
-returns-2 c = sym (fault-kind _ _ (c .before .before .before .if1 .left) (sym (c .before .is-known .ensures) ∙ not-true _ (c .if2 .taken)))
+returns-2 c = sym (fault-kind _ _ (if1-from-returns-2 c .if1 .left) (sym (c .before .is-known .ensures) ∙ not-true _ (c .if2 .taken)))
 
 sub-if3 : tie.Need-sub-if3
 sub-if3 c = search needs
 
 -- the kind is known
-abbrev at-start : tie.Else2 → tie.Start
-at-start c = c .before .before .before .before .before
-
-kind-is : (c : tie.Else2) → known (kindAt (at-start c .args .input .now) (at-start c .args .at)) ≡ true
+kind-is : (c : tie.Else2) → known (kindAt (start-from-else2 c .args .input .now) (start-from-else2 c .args .at)) ≡ true
 kind-is c = sym (c .before .is-known .ensures) ∙ not-false _ (c .if2 .left)
 
 returns-3 : tie.Need-returns-3
-returns-3 c = sym (fault-cut _ _ (c .before .before .before .before .if1 .left) (kind-is (c .before)) (omega arith))
+returns-3 c = sym (fault-cut _ _ (if1-from-returns-3 c .if1 .left) (kind-is (c .before)) (omega arith))
 
 start-at-requires : tie.Need-start-at-requires
 start-at-requires c κs = search needs
@@ -41,7 +40,7 @@ start-at-requires c κs = search needs
 returns-4 : tie.Need-returns-4
 returns-4 c =
     let test = c .before .before in
-    sym (fault-late _ _ (test .before .before .before .before .if1 .left) (kind-is (test .before)) (omega arith)
+    sym (fault-late _ _ (if1-from-returns-4 c .if1 .left) (kind-is (test .before)) (omega arith)
     (rw (c .before .start-at .ensures) at (c .if4 .taken)))
 
 returns-5 : tie.Need-returns-5

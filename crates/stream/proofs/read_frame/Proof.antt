@@ -2,7 +2,7 @@
 use Prim.Native.Nat.{_*_}
 use native.Mathlib.Omega.{arith}
 use mathlib.Core.Path.{_≡_}
-use Rattle.stream.specs.Parts.{headerAt, Whole}
+use Rattle.stream.specs.Internal.{headerAt, Whole}
 use Rattle.stream.proofs.Answer.{pixels-are, pixels-fit, refused-read, frame-read}
 use borrow.Author.Needs.{needs}
 use Rattle.stream.proofs.read_frame.Statement.{statement}
@@ -12,7 +12,9 @@ stream-fault-requires : tie.Need-stream-fault-requires
 stream-fault-requires c κs = search needs
 
 returns : tie.Need-returns
-returns c = refused-read (c .before .before .before .args .input .now) (c .before .before .before .args .pixels .now) (c .before .stream-fault .result) (c .before .stream-fault .ensures) (c .if1 .taken)
+returns c =
+    let a = c .before .before .before .args in
+    refused-read (a .input .now) (a .pixels .now) (c .before .stream-fault .result) (c .before .stream-fault .ensures) (c .if1 .taken)
 
 whole : (c : tie.Else1) → Whole (c .before .before .before .args .input .now)
 whole c = c .before .stream-fault .ensures .whole (c .if1 .left)
@@ -59,8 +61,10 @@ returns-2 c =
     let header = c .before .before .before in
     let fault = header .before .before .before .before in
     let a = fault .before .before .args in
-    frame-read (a .input .now) (a .pixels .now) (fault .stream-fault .result) (fault .stream-fault .ensures) (header .before .before .before .if1 .left) (header .header-of .result)
-    (header .header-of .result .width * header .header-of .result .height) (c .store-pixels .last .1 .1 .0) (header-is header) (pixels-are (a .input .now) (header .header-of .result) (header-is header)) (c .store-pixels .ensures)
+    let h = header .header-of .result in
+    frame-read (a .input .now) (a .pixels .now) (fault .stream-fault .result) (fault .stream-fault .ensures)
+    (header .before .before .before .if1 .left) h (h .width * h .height) (c .store-pixels .last .1 .1 .0)
+    (header-is header) (pixels-are (a .input .now) h (header-is header)) (c .store-pixels .ensures)
 
 pub read-frame-spec : {M : Type 1} → statement M
 read-frame-spec =

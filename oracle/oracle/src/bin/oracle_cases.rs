@@ -1,4 +1,4 @@
-//! oracle_cases: the cases of document 01 (P and Run), refusals by number, and the oracle's checks of itself: its merge
+//! oracle_cases: the worked cases (RULES 14), refusals by number, and the oracle's checks of itself: its merge
 //! without a grid against the original merge, its pass against the original orchestrator, and that the sample shows
 //! each wrong road.
 use oracle::buffers::{same_list, Buffers};

@@ -1,5 +1,5 @@
 //! oracle_differences: runs the original and the oracle on the inputs of NOTES.md, where the original panics, stops or
-//! answers and document 01 says something else. Each outcome is held to the one that is written down, in a build with
+//! answers and docs/RULES.md says something else. Each outcome is held to the one that is written down, in a build with
 //! overflow checks and in one without.
 use chess_corners::multiscale::visible::{roi_boxes, BoxContext};
 use chess_corners_core::{
@@ -189,13 +189,13 @@ fn merged_apart() -> Pair {
     Pair { original: format!("{end}: {line}"), oracle }
 }
 
-/// An input, how what the original does begins in each build, and what document 01 says.
+/// An input, how what the original does begins in each build, and what the rules say.
 struct Difference {
     name: &'static str,
     run: fn() -> Pair,
     plain: &'static str,
     checked: &'static str,
-    document: &'static str,
+    rules: &'static str,
 }
 
 const PANIC: &str = "panic: ";
@@ -204,12 +204,12 @@ const ADDS: &str = "panic: attempt to add with overflow";
 const MULTIPLIES: &str = "panic: attempt to multiply with overflow";
 
 /// A row whose outcome is the same in both builds.
-fn both(name: &'static str, run: fn() -> Pair, original: &'static str, document: &'static str) -> Difference {
-    Difference { name, run, plain: original, checked: original, document }
+fn both(name: &'static str, run: fn() -> Pair, original: &'static str, rules: &'static str) -> Difference {
+    Difference { name, run, plain: original, checked: original, rules }
 }
 
 fn thin_images() -> Vec<Difference> {
-    let row = |name, run, plain, document| Difference { name, run, plain, checked: SUBTRACTS, document };
+    let row = |name, run, plain, rules| Difference { name, run, plain, checked: SUBTRACTS, rules };
     vec![
         row("whole-image response, 0 by 0", || whole(0, 0, 0), PANIC, "0 by 0, zeros"),
         row("whole-image response, 1 by 1", || whole(1, 1, 1), PANIC, "1 by 1, zeros"),
@@ -232,7 +232,7 @@ fn arguments() -> Vec<Difference> {
             run: || whole(0, 1 << 32, 1 << 32),
             plain: PANIC,
             checked: MULTIPLIES,
-            document: "refused 1",
+            rules: "refused 1",
         },
         both("centroid, seed NaN", || centroid(1, 0, f32::NAN), "Accepted 0 0 2", "refused 4"),
         both("centroid, seed 1,000,000.1", || centroid(1, 0, 1_000_000.1), "OutOfBounds", "refused 4"),
@@ -250,7 +250,7 @@ fn arguments() -> Vec<Difference> {
             run: || box_of(100.0, 1 << 31, 0),
             plain: "None",
             checked: ADDS,
-            document: "refused 3",
+            rules: "refused 3",
         },
         both("box, level 13", || box_of(0.01, 3, 13), "Some((5, 5, 195, 195))", "refused 3"),
     ]
@@ -269,7 +269,7 @@ fn merges() -> Vec<Difference> {
             run: || merged(&[(0.0, 0.0), (1.0, 0.0)], f32::from_bits(1)),
             plain: PANIC,
             checked: ADDS,
-            document: "refused 5",
+            rules: "refused 5",
         },
         both(
             "merge, radius subnormal, one corner",
@@ -350,7 +350,7 @@ fn main() -> ExitCode {
         println!("{}: original {original}; oracle {oracle}", row.name);
         let due = if checked { row.checked } else { row.plain };
         tally.check(&format!("{}: {due}", row.name), original.starts_with(due));
-        tally.same(row.name, oracle.as_str(), row.document);
+        tally.same(row.name, oracle.as_str(), row.rules);
     }
     thin_rule(&mut tally, checked);
     tally.finish()

@@ -1,4 +1,4 @@
-//! oracle_hunt [COUNT [LIMIT]]: looks for frames that show each wrong road of document 01, COUNT of each among the
+//! oracle_hunt [COUNT [LIMIT]]: looks for frames that show each wrong road (RULES 15.3), COUNT of each among the
 //! first LIMIT frames of its hunt. Those in generate/hunted.rs were found so.
 use oracle::generate::hunted::{Road, ROADS};
 

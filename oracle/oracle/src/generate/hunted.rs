@@ -1,4 +1,4 @@
-//! Hunted frames: those on which a wrong road of document 01 gives another list. Random frames seldom do.
+//! Hunted frames: those on which a wrong road (RULES 15.3) gives another list. Random frames seldom do.
 //! (The fourth wrong road, "above the threshold", shows only on maps with NaN cells: see sample/peaks.rs.)
 use super::images::{noise, Board};
 use super::Rng;

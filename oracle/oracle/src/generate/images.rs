@@ -78,7 +78,7 @@ pub fn tiled(rng: &mut Rng, width: usize, height: usize) -> Vec<u8> {
     (0..width * height).map(|i| tile[place(i)]).collect()
 }
 
-/// The whole case of document 01, 11 by 11: ring places 0..3 and 8..11 about (5,5) are 255, the cross 128, all else 0.
+/// The whole case (RULES 14), 11 by 11: ring places 0..3 and 8..11 about (5,5) are 255, the cross 128, all else 0.
 pub fn whole_case() -> Vec<u8> {
     let samples = std::array::from_fn(|k| if k % 8 < 4 { 255 } else { 0 });
     around_centre(&samples, &[128; 5], 5)
@@ -99,7 +99,7 @@ pub fn around_centre(samples: &[u8; 16], cross: &[u8; 5], ring: u32) -> Vec<u8> 
     pixels
 }
 
-/// Corner patterns on a flat ground: half the ring bright, the cross between, as in document 01's whole case. Their
+/// Corner patterns on a flat ground: half the ring bright, the cross between, as in the whole case. Their
 /// centres are `margin` or more from the edges.
 pub fn stamped(rng: &mut Rng, width: usize, height: usize, ring: u32, margin: usize) -> Vec<u8> {
     let mut pixels = vec![rng.byte(); width * height];

@@ -1,4 +1,4 @@
-//! Faulty frames of the library with the number that document 01 gives them, written by hand.
+//! Faulty frames of the library with the number that RULES 2 gives them, written by hand.
 use super::images::whole_case;
 use crate::buffers::Sizes;
 use crate::image::Image;
@@ -38,7 +38,7 @@ fn flat(name: &'static str, number: Refusal, change: fn(&mut Case)) -> Case {
     case
 }
 
-/// The whole case of document 01 with other buffers: one corner.
+/// The whole case (RULES 14) with other buffers: one corner.
 fn one_corner(name: &'static str, number: Refusal, sizes: Sizes) -> Case {
     let params = Params { merge: 3.0, minimum: 1, ..PLAIN };
     Case { name, number, width: 11, height: 11, pixels: whole_case(), params, sizes }

@@ -1,4 +1,4 @@
-//! Faulty streams with the number that document 01 gives them, written by hand.
+//! Faulty streams with the number that RULES 11.4 gives them, written by hand.
 use crate::params::{Params, PLAIN};
 use crate::refusal::Refusal;
 use crate::stream::{write, Upload};
@@ -157,7 +157,7 @@ fn orders() -> Vec<Case> {
     ]
 }
 
-/// Each fault of a stream that document 01 names, and the order among them.
+/// Each fault of a stream that RULES 11.4 names, and the order among them.
 pub fn cases() -> Vec<Case> {
     [accepted(), bodies(), kinds(), cuts(), orders()].into_iter().flatten().collect()
 }

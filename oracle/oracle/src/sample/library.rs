@@ -15,10 +15,11 @@ use box_image_pyramid::PyramidBuffers;
 const SUBJECT: u64 = 102;
 const RANDOM: u64 = 200;
 
-/// What a call leaves: the number of the refusal, 0 for none, how many corners there are, and every buffer.
+/// What a call leaves: the number of the refusal, 0 for none, how many corners and ties there are, and every buffer.
 pub struct Left {
     pub number: u32,
     pub count: usize,
+    pub ties: u64,
     pub buffers: Buffers,
 }
 
@@ -27,7 +28,11 @@ pub fn due(case: &Case) -> Left {
     let mut buffers = Buffers::before(&case.sizes);
     let image = Image { pixels: &case.pixels, width: case.width, height: case.height };
     let answer = find_corners(image, &case.params, &mut buffers, LARGEST_SIDE);
-    Left { number: number_of(&answer), count: answer.unwrap_or(0), buffers }
+    let ties = match answer {
+        Ok(_) => with_lists(image, &case.params, &STEPS, |lists| lists.ties(&case.params, &STEPS)),
+        Err(_) => 0,
+    };
+    Left { number: number_of(&answer), count: answer.unwrap_or(0), ties, buffers }
 }
 
 /// Writes a frame as given, and what is left of it.

@@ -40,7 +40,7 @@ fn corners(places: &[(f32, f32)]) -> CornerBuffer {
     }
 }
 
-/// The Run case of document 01: with radius 1 all three stay.
+/// The case of RULES 14: with radius 1 all three stay.
 pub fn run_case() -> Case {
     let below_one = 1.0 - f32::EPSILON / 2.0;
     Case { buffer: corners(&[(below_one, 0.0), (2.0, 0.0), (0.0, 100.0)]), count: 3, radius: 1.0 }

@@ -44,7 +44,7 @@ fn put_centre(file: &mut File, pixels: Vec<u8>, ring: u32) {
     put(file, &Case { pixels, width: side, height: side, ring, area, map: 1 });
 }
 
-/// The P cases and the first Run case of document 01.
+/// The cases of RULES 14 that are single responses.
 fn put_named(file: &mut File) {
     let mut pair = [100u8; 16];
     (pair[0], pair[8], pair[4], pair[12]) = (102, 102, 98, 98);

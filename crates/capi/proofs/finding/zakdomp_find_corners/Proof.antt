@@ -1,14 +1,19 @@
 -- `capi::zakdomp_find_corners` meets its contract: the answer of the function that it calls, taken apart. Assumes nothing.
+mod Landmarks
 use borrow.Author.Needs.{needs}
 use Rattle.capi.proofs.Entries.{corners-found}
 use Rattle.capi.proofs.finding.zakdomp_find_corners.Statement.{statement}
 use Rattle.capi.proofs.finding.zakdomp_find_corners.Tie as tie
+use Landmarks.*
 
 find-corners-requires : tie.Need-find-corners-requires
 find-corners-requires c κs = search needs
 
 count-of-requires : tie.Need-count-of-requires
 count-of-requires c κs = search needs
+
+ties-of-requires : tie.Need-ties-of-requires
+ties-of-requires c κs = search needs
 
 number-of-requires : tie.Need-number-of-requires
 number-of-requires c κs = search needs
@@ -38,7 +43,9 @@ same-length-8 : tie.Need-same-length-8
 same-length-8 c = search needs
 
 returns : tie.Need-returns
-returns c = corners-found _ _ _ _ _ _ _ _ _ _ (c .before .before .before .before .before .before .before .before .before .before .before .before .before .before .before .before .before .before .before .find-corners .ensures) (c .number-of .ensures) (c .before .count-of .ensures)
+returns c =
+    corners-found _ _ _ _ _ _ _ _ _ _ _ _ (find-corners-from-returns c .find-corners .ensures) (c .number-of .ensures)
+    (count-of-from-returns c .count-of .ensures) (c .before .ties-of .ensures)
 
 pub zakdomp-find-corners-spec : {M : Type 1} → statement M
 zakdomp-find-corners-spec =
@@ -46,6 +53,7 @@ zakdomp-find-corners-spec =
     (tie.spec
     find-corners-requires
     count-of-requires
+    ties-of-requires
     number-of-requires
     same-length
     same-length-2

@@ -1,8 +1,10 @@
 -- `capi_stages::zakdomp_levels` meets its contract: the answer of the function that it calls, taken apart. Assumes nothing.
+mod Landmarks
 use borrow.Author.Needs.{needs}
 use Rattle.capi_stages.proofs.Entries.{levels-built}
 use Rattle.capi_stages.proofs.levels.zakdomp_levels.Statement.{statement}
 use Rattle.capi_stages.proofs.levels.zakdomp_levels.Tie as tie
+use Landmarks.*
 
 build-pyramid-requires : tie.Need-build-pyramid-requires
 build-pyramid-requires c κs = search needs
@@ -17,7 +19,7 @@ same-length : tie.Need-same-length
 same-length c = search needs
 
 returns : tie.Need-returns
-returns c = levels-built _ _ _ _ _ _ _ _ _ _ _ (c .before .before .before .before .before .build-pyramid .ensures) (c .number-of .ensures) (c .before .built-of .ensures)
+returns c = levels-built _ _ _ _ _ _ _ _ _ _ _ (build-pyramid-from-returns c .build-pyramid .ensures) (c .number-of .ensures) (c .before .built-of .ensures)
 
 pub zakdomp-levels-spec : {M : Type 1} → statement M
 zakdomp-levels-spec =

@@ -1,8 +1,10 @@
 -- `capi_stages::zakdomp_merge` meets its contract: the answer of the function that it calls, taken apart. Assumes nothing.
+mod Landmarks
 use borrow.Author.Needs.{needs}
 use Rattle.capi_stages.proofs.Entries.{corners-merged}
 use Rattle.capi_stages.proofs.merging.zakdomp_merge.Statement.{statement}
 use Rattle.capi_stages.proofs.merging.zakdomp_merge.Tie as tie
+use Landmarks.*
 
 merge-corners-simple-requires : tie.Need-merge-corners-simple-requires
 merge-corners-simple-requires c κs = search needs
@@ -23,7 +25,8 @@ same-length-3 : tie.Need-same-length-3
 same-length-3 c = search needs
 
 returns : tie.Need-returns
-returns c = corners-merged _ _ _ _ _ _ _ _ (c .before .before .before .before .before .before .before .before .before .merge-corners-simple .ensures) (c .number-of .ensures) (c .before .kept-of .ensures)
+returns c =
+    corners-merged _ _ _ _ _ _ _ _ (merge-corners-simple-from-returns c .merge-corners-simple .ensures) (c .number-of .ensures) (c .before .kept-of .ensures)
 
 pub zakdomp-merge-spec : {M : Type 1} → statement M
 zakdomp-merge-spec =

@@ -1,8 +1,10 @@
 -- `capi_stages::zakdomp_peaks` meets its contract: the answer of the function that it calls, taken apart. Assumes nothing.
+mod Landmarks
 use borrow.Author.Needs.{needs}
 use Rattle.capi_stages.proofs.Entries.{peaks-found}
 use Rattle.capi_stages.proofs.peaks.zakdomp_peaks.Statement.{statement}
 use Rattle.capi_stages.proofs.peaks.zakdomp_peaks.Tie as tie
+use Landmarks.*
 
 detect-peaks-from-response-with-refine-radius-requires :
     tie.Need-detect-peaks-from-response-with-refine-radius-requires
@@ -10,6 +12,9 @@ detect-peaks-from-response-with-refine-radius-requires c κs = search needs
 
 added-of-requires : tie.Need-added-of-requires
 added-of-requires c κs = search needs
+
+ties-of-requires : tie.Need-ties-of-requires
+ties-of-requires c κs = search needs
 
 number-of-requires : tie.Need-number-of-requires
 number-of-requires c κs = search needs
@@ -24,7 +29,10 @@ same-length-3 : tie.Need-same-length-3
 same-length-3 c = search needs
 
 returns : tie.Need-returns
-returns c = peaks-found _ _ _ _ _ _ _ _ _ (c .before .before .before .before .before .before .before .before .before .detect-peaks-from-response-with-refine-radius .ensures) (c .number-of .ensures) (c .before .added-of .ensures)
+returns c =
+    let found = detect-peaks-from-response-with-refine-radius-from-returns c in
+    peaks-found _ _ _ _ _ _ _ _ _ _ _ _ (found .detect-peaks-from-response-with-refine-radius .ensures) (c .number-of .ensures)
+    (added-of-from-returns c .added-of .ensures) (c .before .ties-of .ensures)
 
 pub zakdomp-peaks-spec : {M : Type 1} → statement M
 zakdomp-peaks-spec =
@@ -32,6 +40,7 @@ zakdomp-peaks-spec =
     (tie.spec
     detect-peaks-from-response-with-refine-radius-requires
     added-of-requires
+    ties-of-requires
     number-of-requires
     same-length
     same-length-2

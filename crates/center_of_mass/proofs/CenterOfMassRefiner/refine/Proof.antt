@@ -22,7 +22,9 @@ centre-of-mass-requires c κs =
     (radius-small _ _ _ _ _ _ _ e, m .narrow, m .low, m .sized)
 
 returns-2 : tie.Need-returns-2
-returns-2 c = weighed-map _ _ _ _ _ _ _ _ (c .before .before .before .refusal .ensures) _ (c .before .before .if1 .left) (c .before .if2 .taken) (c .centre-of-mass .ensures)
+returns-2 c =
+    weighed-map _ _ _ _ _ _ _ _ (c .before .before .before .refusal .ensures) _ (c .before .before .if1 .left) (c .before .if2 .taken)
+    (c .centre-of-mass .ensures)
 
 returns-3 : tie.Need-returns-3
 returns-3 c = no-map _ _ _ _ _ _ _ _ (c .before .before .refusal .ensures) (c .before .if1 .left) (c .if2 .left)

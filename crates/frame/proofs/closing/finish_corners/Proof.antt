@@ -1,21 +1,10 @@
 -- `frame::closing::finish_corners` meets its contract, by the law of `Entry`. Assumes nothing.
+mod Landmarks
 use borrow.Author.Needs.{needs}
 use Rattle.frame.proofs.Entry.{merge-done}
 use Rattle.frame.proofs.closing.finish_corners.Statement.{statement}
 use Rattle.frame.proofs.closing.finish_corners.Tie as tie
-
--- from one place of the code back to another
-abbrev at-start : tie.After-slice-known9 → tie.Start
-at-start c = c .before .before .before .before .before .before .before .before .before .before .before .before .before .before .before .before .before .before .before .before .before .before .before .before
-
-abbrev at-merge-corners-simple : tie.After-slice-known9 → tie.After-merge-corners-simple
-at-merge-corners-simple c = c .before .before .before .before .before .before .before .before .before .before .before .before .before .before .before .before .before
-
-abbrev at-kept : tie.After-slice-known9 → tie.After-kept
-at-kept c = c .before .before .before .before .before .before .before .before .before .before
-
-abbrev at-clear-list : tie.After-slice-known9 → tie.After-clear-list
-at-clear-list c = c .before .before .before .before .before .before
+use Landmarks.*
 
 merge-corners-simple-requires : tie.Need-merge-corners-simple-requires
 merge-corners-simple-requires c κs = search needs
@@ -36,7 +25,9 @@ same-length-3 : tie.Need-same-length-3
 same-length-3 c = search needs
 
 returns : tie.Need-returns
-returns c = merge-done _ _ _ (at-start c .pre) _ _ (at-merge-corners-simple c .merge-corners-simple .ensures) _ (at-kept c .kept .ensures) _ (at-clear-list c .clear-list .ensures)
+returns c =
+    merge-done _ _ _ (start-from-returns c .pre) _ _ (merge-corners-simple-from-returns c .merge-corners-simple .ensures) _
+    (kept-from-returns c .kept .ensures) _ (clear-list-from-returns c .clear-list .ensures)
 
 pub finish-corners-spec : {M : Type 1} → statement M
 finish-corners-spec =

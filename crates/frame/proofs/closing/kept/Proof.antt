@@ -1,7 +1,7 @@
 -- `frame::closing::kept` meets its contract, by its two cases. Assumes nothing.
 use borrow.Author.Needs.{needs}
 use mathlib.Core.Path.{sym, ap}
-use Rattle.frame.specs.Needs.{keptOf}
+use Rattle.frame.specs.Internal.{keptOf}
 use Rattle.frame.proofs.closing.kept.Statement.{statement}
 use Rattle.frame.proofs.closing.kept.Tie as tie
 

@@ -1,25 +1,11 @@
 -- `frame::search::add_patch` meets its contract, by the laws of `Boxes`. Assumes nothing.
+mod Landmarks
 use borrow.Author.Needs.{needs}
 use Rattle.frame.proofs.Adding.{box-adds}
 use Rattle.frame.proofs.Boxes.{about-none, about-added}
 use Rattle.frame.proofs.search.add_patch.Statement.{statement}
 use Rattle.frame.proofs.search.add_patch.Tie as tie
-
--- from one place of the code back to another
-abbrev at-start : tie.At-match-keys2 → tie.Start
-at-start c = c .before .before .before .before .before .before .before
-
-abbrev at-box-of : tie.After-slice-known8 → tie.After-box-of
-at-box-of c = c .before .before .before .before .before .before .before .before .before .before .before .before .before .before .before .before
-
-abbrev at-b : tie.After-slice-known8 → tie.After-b
-at-b c = c .before .before .before .before .before .before .before .before .before .before .before .before .before .before
-
-abbrev at-start-from-slice-known8 : tie.After-slice-known8 → tie.Start
-at-start-from-slice-known8 c = c .before .before .before .before .before .before .before .before .before .before .before .before .before .before .before .before .before .before .before .before .before .before
-
-abbrev at-add-box-corners : tie.After-slice-known8 → tie.After-add-box-corners
-at-add-box-corners c = c .before .before .before .before .before .before .before .before
+use Landmarks.*
 
 box-of-requires : tie.Need-box-of-requires
 box-of-requires c κs = search needs
@@ -28,7 +14,7 @@ enum-known-b : tie.Need-enum-known-b
 enum-known-b c = search needs
 
 returns : tie.Need-returns
-returns c = about-none _ _ _ _ _ _ _ (c .before .box-of .ensures) (c .match .keys2) _ _ (at-start c .pre .1 .0)
+returns c = about-none _ _ _ _ _ _ _ (c .before .box-of .ensures) (c .match .keys2) _ _ (start-from-returns c .pre .1 .0)
 
 add-box-corners-requires : tie.Need-add-box-corners-requires
 add-box-corners-requires c κs = search needs
@@ -47,9 +33,9 @@ same-length-4 c = search needs
 
 returns-2 : tie.Need-returns-2
 returns-2 c =
-    let start = at-start-from-slice-known8 c in
-    about-added _ _ _ _ _ _ _ (at-box-of c .box-of .ensures) _ _ _ _ (at-b c .b .given .1) _ _ _ _
-    (box-adds _ _ _ _ _ _ _ _ (start .args .map .now) (start .pre .0) _ _ _ _ _ _ (at-add-box-corners c .add-box-corners .ensures))
+    let start = start-from-returns-2 c in
+    about-added _ _ _ _ _ _ _ (box-of-from-returns-2 c .box-of .ensures) _ _ _ _ (b-from-returns-2 c .b .given .1) _ _ _ _
+    (box-adds _ _ _ _ _ _ _ _ (start .args .map .now) (start .pre .0) _ _ _ _ _ _ _ (add-box-corners-from-returns-2 c .add-box-corners .ensures))
 
 pub add-patch-spec : {M : Type 1} → statement M
 add-patch-spec =

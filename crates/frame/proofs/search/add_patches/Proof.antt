@@ -1,37 +1,46 @@
--- `frame::search::add_patches` meets its contract: the corners of the boxes of the seeds passed stand first in the buffer. Assumes nothing.
+-- `frame::search::add_patches` meets its contract: the corners of the boxes of the seeds passed stand first in the buffer, and their peaks' ties are
+-- summed. Assumes nothing.
+mod Landmarks
 use borrow.Author.Needs.{needs}
-use Prim.Native.Nat.{ℕ, _-_, _≤_}
+use Prim.Native.Nat.{ℕ, _+_, _-_, _≤_}
 use native.Mathlib.Omega.{arith}
 use mathlib.Core.Path.{_≡_, refl, ap}
 use lib.ListN.{length}
-use Rattle.lists.specs.Places.{flatMap}
-use Rattle.corner_list.specs.CornerList.{slices, cornersOf}
+use Rattle.lists.specs.Places.{flatMap, sumOf}
+use Rattle.lists.proofs.Tab.{length-tab}
+use Rattle.corner_list.specs.CornerList.{slices, cornerAt, cornersOf}
 use Rattle.detect.specs.declared.Peaks.the-variants.{Added}
-use Rattle.frame_pass.specs.Pass.{computedChoice, cornersAbout}
-use Rattle.frame.specs.Needs.{Adds}
-use Rattle.frame.proofs.Adding.{adds-held, adds-to, turn-none, turn-more, turn-full}
+use Rattle.patch_corners.specs.OneMap.{computedChoice}
+use Rattle.frame_pass.specs.Pass.{cornersAbout, tiesAbout}
+use Rattle.frame_pass.proofs.Ties.{seeds-tied}
+use Rattle.frame.specs.Internal.{Adds}
+use Rattle.frame.proofs.Adding.{adds-held, adds-to, turn-none, turn-more, turn-full, sum-fits}
 use Rattle.frame.proofs.search.add_patches.Statement.{statement}
 use Rattle.frame.proofs.search.add_patches.Tie as tie
+use Landmarks.*
 
 abbrev Inv-loop : tie.InvT-loop
-Inv-loop img w h p k sx sy ss n map₀ cx₀ cy₀ cs₀ held₀ i₀ map cx cy cs held i =
+Inv-loop img w h p k sx sy ss n map₀ cx₀ cy₀ cs₀ held₀ ties₀ i₀ map cx cy cs held ties i =
     (i ≤ n) × (length map ≡ length map₀) × (length cx ≡ length cx₀) × (length cy ≡ length cy₀) × (length cs ≡ length cs₀)
-    × Adds (flatMap (cornersAbout p img w h (computedChoice p) k) (cornersOf (slices sx sy ss) i)) 0 (slices cx₀ cy₀ cs₀) (Added held) (slices cx cy cs)
+    × Adds (flatMap (cornersAbout p img w h (computedChoice p) k) (cornersOf (slices sx sy ss) i))
+    (sumOf (tiesAbout p img w h (computedChoice p) k) (cornersOf (slices sx sy ss) i)) 0 (slices cx₀ cy₀ cs₀) (Added held ties) (slices cx cy cs)
 
 abbrev μ-loop : tie.MeasureT-loop
-μ-loop img w h p k sx sy ss n map₀ cx₀ cy₀ cs₀ held₀ i₀ map cx cy cs held i = n - i
+μ-loop img w h p k sx sy ss n map₀ cx₀ cy₀ cs₀ held₀ ties₀ i₀ map cx cy cs held ties i = n - i
 
 loop-holds : tie.Need-loop-holds Inv-loop μ-loop
-loop-holds c = (omega arith, refl, refl, refl, refl, turn-none _ _ _)
+loop-holds c = (omega arith, refl, refl, refl, refl, turn-none _ _ _ _)
 
 corner-at-requires : tie.Need-corner-at-requires Inv-loop μ-loop
 corner-at-requires c κs = search needs
 
 add-patch-requires : tie.Need-add-patch-requires Inv-loop μ-loop
 add-patch-requires c κs =
-    let at = c .before .before .before .before .before .before in
-    let start = at .before .before .before .before .before .before .before .before .before in
-    (record { sound = start .pre .0 .sound; enough = omega (arith, start .pre .0 .enough, at .loop .inv .1) }, (adds-held _ _ _ _ (at .loop .inv .5), start .pre .1))
+    let start = start-from-add-patch-requires c in
+    let turn = loop-from-add-patch-requires c .loop .inv in (
+      record { sound = start .pre .0 .sound; enough = omega (arith, start .pre .0 .enough, turn .1) },
+      (adds-held _ _ _ _ _ _ (turn .5), start .pre .1 .0),
+    )
 
 enum-known-f : tie.Need-enum-known-f Inv-loop μ-loop
 enum-known-f c = search needs
@@ -53,28 +62,38 @@ same-length-4 c = search needs
 
 returns : tie.Need-returns Inv-loop μ-loop
 returns c =
-    let call = c .before .before .before .before .before .before .before .before .before .before in
-    let at = call .before .before .before .before .before .before .before in
-    turn-full _ _ _ _ _ _ (at .loop .inv .5) _ (call .before .before .before .before .before .corner-at .ensures) _ _ (call .add-patch .ensures) _ (c .enum-told .given .1) _ (call .before .before .before .before .before .before .loop-test .taken)
+    turn-full _ _ _ _ _ _ _ _ (loop-from-returns c .loop .inv .5) _ (corner-at-from-returns c .corner-at .ensures) _ _
+    (add-patch-from-returns c .add-patch .ensures) _ (c .enum-told .given .1) _ (loop-test-from-returns c .loop-test .taken)
 
 add-held : tie.Need-add-held Inv-loop μ-loop
 add-held c =
-    let call = c .before .before .before .before .before .before .before .before .before .before .before in
-    let at = call .before .before .before .before .before .before .before in
-    let more = turn-more _ _ _ _ _ _ (at .loop .inv .5) _ (call .before .before .before .before .before .corner-at .ensures) _ _ (call .add-patch .ensures) _ (c .before .f .given .1) in
-    omega (arith, more .added _ refl .1, at .before .before .before .before .before .before .before .before .before .good .1 .1 .1 .1 .1 .1 .1 .1 .1 .1 .0 .1)
+    let more = turn-more _ _ _ _ _ _ _ _ (loop-from-add-held c .loop .inv .5) _ (corner-at-from-add-held c .corner-at .ensures) _ _
+    (add-patch-from-add-held c .add-patch .ensures) _ _ (c .before .f .given .1) in
+    omega (arith, more .added _ _ refl .1, start-from-add-held c .good)
+
+add-ties : tie.Need-add-ties Inv-loop μ-loop
+add-ties c =
+    let a = start-from-add-ties c .args in
+    let turn = loop-from-add-ties c .loop in
+    let more = turn-more _ _ _ _ _ _ _ _ (turn .inv .5) _ (corner-at-from-add-ties c .corner-at .ensures) _ _
+    (add-patch-from-add-ties c .add-patch .ensures) _ _ (c .before .f .given .1) in
+    let seeds = slices (a .sx .now) (a .sy .now) (a .ss .now) in
+    let few = seeds-tied (a .p) (a .img .now) (a .w) (a .h) (start-from-add-ties c .pre .0 .sound) (a .k) (cornersOf seeds (turn .i + 1)) in
+    let test = loop-test-from-add-ties c .loop-test .taken in
+    omega
+    (arith, sum-fits _ _ _ _ (more .added _ _ refl .3) few _ (length-tab (turn .i + 1) (cornerAt seeds)) test (start-from-add-ties c .pre .1 .1))
 
 add-i : tie.Need-add-i Inv-loop μ-loop
-add-i c = omega (arith, c .before .before .before .before .before .before .before .before .before .before .before .before .before .before .before .before .before .before .before .before .before .before .before .before .before .before .before .good .1 .1 .1 .1 .1 .1 .1 .1 .0)
+add-i c = omega (arith, start-from-add-i c .good)
 
 loop-less : tie.Need-loop-less Inv-loop μ-loop
 loop-less c = omega arith
 
 loop-again : tie.Need-loop-again Inv-loop μ-loop
 loop-again c =
-    let call = c .before .before .before .before .before .before .before .before .before .before .before in
-    let at = call .before .before .before .before .before .before .before in
-    (omega arith, search needs, search needs, search needs, search needs, turn-more _ _ _ _ _ _ (at .loop .inv .5) _ (call .before .before .before .before .before .corner-at .ensures) _ _ (call .add-patch .ensures) _ (c .before .f .given .1))
+    let more = turn-more _ _ _ _ _ _ _ _ (loop-from-loop-again c .loop .inv .5) _ (corner-at-from-loop-again c .corner-at .ensures) _ _
+    (add-patch-from-loop-again c .add-patch .ensures) _ _ (c .before .f .given .1) in
+    (omega arith, search needs, search needs, search needs, search needs, more)
 
 same-length-5 : tie.Need-same-length-5 Inv-loop μ-loop
 same-length-5 c = search needs
@@ -90,9 +109,13 @@ same-length-8 c = search needs
 
 returns-2 : tie.Need-returns-2 Inv-loop μ-loop
 returns-2 c =
-    let start = c .before .before .before .before .before .before .before .before .before .before in
-    let all : c .before .loop .i ≡ start .args .n = omega arith in
-    adds-to _ _ _ _ _ _ (ap (λ (m : ℕ). flatMap (cornersAbout (start .args .p) (start .args .img .now) (start .args .w) (start .args .h) (computedChoice (start .args .p)) (start .args .k)) (cornersOf (slices (start .args .sx .now) (start .args .sy .now) (start .args .ss .now)) m)) all) (c .before .loop .inv .5)
+    let a = start-from-returns-2 c .args in
+    let all : c .before .loop .i ≡ a .n = omega arith in
+    let about = cornersAbout (a .p) (a .img .now) (a .w) (a .h) (computedChoice (a .p)) (a .k) in
+    let seeds = slices (a .sx .now) (a .sy .now) (a .ss .now) in
+    let tied = tiesAbout (a .p) (a .img .now) (a .w) (a .h) (computedChoice (a .p)) (a .k) in
+    adds-to _ _ _ _ _ _ _ _ (ap (λ (m : ℕ). flatMap about (cornersOf seeds m)) all) (ap (λ (m : ℕ). sumOf tied (cornersOf seeds m)) all)
+    (c .before .loop .inv .5)
 
 pub add-patches-spec : {M : Type 1} → statement M
 add-patches-spec =
@@ -111,6 +134,7 @@ add-patches-spec =
     same-length-4
     returns
     add-held
+    add-ties
     add-i
     loop-less
     loop-again

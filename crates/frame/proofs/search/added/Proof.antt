@@ -1,7 +1,7 @@
 -- `frame::search::added` meets its contract, by its two cases. Assumes nothing.
 use borrow.Author.Needs.{needs}
 use mathlib.Core.Path.{sym, ap}
-use Rattle.frame.specs.Needs.{addedOf}
+use Rattle.frame.specs.Internal.{addedOf}
 use Rattle.frame.proofs.search.added.Statement.{statement}
 use Rattle.frame.proofs.search.added.Tie as tie
 

@@ -2,16 +2,9 @@
 use borrow.Author.Needs.{needs}
 use mathlib.Core.Path.{sym, ap, ap₂}
 use Rattle.detect.specs.declared.Peaks.{Peaks}
-use Rattle.frame.specs.Needs.{listsOf}
+use Rattle.frame.specs.Internal.{listsOf}
 use Rattle.frame.proofs.search.lists_of.Statement.{statement}
 use Rattle.frame.proofs.search.lists_of.Tie as tie
-
--- from one place of the code back to another
-abbrev at-f : tie.After-enum-told2 → tie.After-f
-at-f c = c .before .before .before
-
-abbrev at-f-from-known-told2 : tie.After-known-told2 → tie.After-f
-at-f-from-known-told2 c = c .before .before .before .before
 
 enum-known-f : tie.Need-enum-known-f
 enum-known-f c = search needs
@@ -29,10 +22,10 @@ enum-told-2 : tie.Need-enum-told-2
 enum-told-2 c = search needs
 
 returns-2 : tie.Need-returns-2
-returns-2 c = sym (ap₂ listsOf (at-f c .f .given .1) (c .enum-told2 .given .1))
+returns-2 c = sym (ap₂ listsOf (c .before .before .before .f .given .1) (c .enum-told2 .given .1))
 
 returns-3 : tie.Need-returns-3
-returns-3 c = sym (ap₂ listsOf (at-f-from-known-told2 c .f .given .1) (c .before .g .given .1))
+returns-3 c = sym (ap₂ listsOf (c .before .before .before .before .f .given .1) (c .before .g .given .1))
 
 pub lists-of-spec : {M : Type 1} → statement M
 lists-of-spec =

@@ -1,35 +1,12 @@
 -- `frame::search::search_boxes` meets its contract, by the laws of `Levels`. Assumes nothing.
+mod Landmarks
 use borrow.Author.Needs.{needs}
 use native.Mathlib.Omega.{arith}
 use mathlib.Core.Path.{refl}
-use Rattle.frame.proofs.Levels.{ready-kept, last-few, last-adds, search-many}
+use Rattle.frame.proofs.Levels.{ready-kept, last-few, last-adds, seeds-few, search-many}
 use Rattle.frame.proofs.search.search_boxes.Statement.{statement}
 use Rattle.frame.proofs.search.search_boxes.Tie as tie
-
--- from one place of the code back to another
-abbrev at-start : tie.After-level → tie.Start
-at-start c = c .before .before .before .before .before .before .before .before .before .before
-
-abbrev at-start-from-add-patches-arg7 : tie.After-add-patches-arg7 → tie.Start
-at-start-from-add-patches-arg7 c = c .before .before .before .before .before .before .before .before .before .before .before .before .before .before .before .before .before .before .before .before .before .before .before .before .before .before .before .before .before .before .before
-
-abbrev at-add-patch-corners : tie.After-add-patches-arg7 → tie.After-add-patch-corners
-at-add-patch-corners c = c .before .before .before .before .before .before .before .before .before .before .before .before .before .before .before .before
-
-abbrev at-start-from-lists-of : tie.After-lists-of → tie.Start
-at-start-from-lists-of c = c .before .before .before .before .before .before .before .before .before .before .before .before .before .before .before .before .before .before .before .before .before .before .before .before .before .before .before .before .before .before .before .before .before .before .before .before .before .before .before .before .before
-
-abbrev at-level : tie.After-lists-of → tie.After-level
-at-level c = c .before .before .before .before .before .before .before .before .before .before .before .before .before .before .before .before .before .before .before .before .before .before .before .before .before .before .before .before .before .before .before
-
-abbrev at-add-patch-corners-from-lists-of : tie.After-lists-of → tie.After-add-patch-corners
-at-add-patch-corners-from-lists-of c = c .before .before .before .before .before .before .before .before .before .before .before .before .before .before .before .before .before .before .before .before .before .before .before .before .before .before
-
-abbrev at-added : tie.After-lists-of → tie.After-added
-at-added c = c .before .before .before .before .before .before .before .before .before .before .before .before .before .before
-
-abbrev at-add-patches : tie.After-lists-of → tie.After-add-patches
-at-add-patches c = c .before .before .before .before .before .before .before .before .before
+use Landmarks.*
 
 sub-k : tie.Need-sub-k
 sub-k c = omega arith
@@ -38,10 +15,10 @@ level-requires : tie.Need-level-requires
 level-requires c κs = search needs
 
 shr-lw : tie.Need-shr-lw
-shr-lw c = omega (arith, last-few _ _ _ _ _ _ (at-start c .pre .1 .0) (at-start c .pre .1 .1) _ refl)
+shr-lw c = omega (arith, last-few _ _ _ _ _ _ (start-from-shr-lw c .pre .1 .0) (start-from-shr-lw c .pre .1 .1) _ refl)
 
 shr-lh : tie.Need-shr-lh
-shr-lh c = omega (arith, last-few _ _ _ _ _ _ (at-start c .pre .1 .0) (at-start c .pre .1 .1) _ refl)
+shr-lh c = omega (arith, last-few _ _ _ _ _ _ (start-from-shr-lh c .pre .1 .0) (start-from-shr-lh c .pre .1 .1) _ refl)
 
 add-patch-corners-requires : tie.Need-add-patch-corners-requires
 add-patch-corners-requires c κs = search needs
@@ -50,7 +27,16 @@ added-requires : tie.Need-added-requires
 added-requires c κs = search needs
 
 add-patches-requires : tie.Need-add-patches-requires
-add-patches-requires c κs = (ready-kept _ _ _ _ _ _ (at-start-from-add-patches-arg7 c .pre .0) (at-add-patch-corners c .add-patch-corners .kept .1 .1 .1 .1 .1 .1 .1 .1 .0), last-few _ _ _ _ _ _ (at-start-from-add-patches-arg7 c .pre .1 .0) (at-start-from-add-patches-arg7 c .pre .1 .1) _ refl)
+add-patches-requires c κs =
+    let start = start-from-add-patches-requires c in
+    let call = add-patch-corners-from-add-patches-requires c .add-patch-corners in
+    let kept = call .kept in
+    let seeds = last-adds _ _ _ _ _ _ (start .pre .1 .0) (start .pre .1 .1) _ refl _ (start .pre .0) _ (level-from-add-patches-requires c .level .ensures) _ _
+    refl refl _ _ _ _ (call .ensures) in
+    let few = seeds-few _ _ _ _ _ (start .pre .0) _ _ _ _ _ _ seeds in (
+      ready-kept _ _ _ _ _ _ (start .pre .0) (search kept),
+      (last-few _ _ _ _ _ _ (start .pre .1 .0) (start .pre .1 .1) _ refl, omega (arith, few, added-from-add-patches-requires c .added .ensures)),
+    )
 
 lists-of-requires : tie.Need-lists-of-requires
 lists-of-requires c κs = search needs
@@ -77,7 +63,13 @@ same-length-7 : tie.Need-same-length-7
 same-length-7 c = search needs
 
 returns : tie.Need-returns
-returns c = search-many _ _ _ _ _ _ _ (at-start-from-lists-of c .pre .1 .1) _ refl _ _ _ _ (last-adds _ _ _ _ _ _ (at-start-from-lists-of c .pre .1 .0) (at-start-from-lists-of c .pre .1 .1) _ refl _ (at-start-from-lists-of c .pre .0) _ (at-level c .level .ensures) _ _ refl refl _ _ _ _ (at-add-patch-corners-from-lists-of c .add-patch-corners .ensures)) _ (at-added c .added .ensures) (at-add-patches c .add-patches .ensures) _ (c .lists-of .ensures)
+returns c =
+    let start = start-from-returns c in
+    let seeds = add-patch-corners-from-returns c .add-patch-corners .ensures in
+    search-many _ _ _ _ _ _ _ (start .pre .1 .1) _ refl _ _ _ _ _
+    (last-adds _ _ _ _ _ _ (start .pre .1 .0) (start .pre .1 .1) _ refl _ (start .pre .0) _ (level-from-returns c .level .ensures) _ _
+    refl refl _ _ _ _ seeds)
+    _ (added-from-returns c .added .ensures) (add-patches-from-returns c .add-patches .ensures) _ (c .lists-of .ensures)
 
 pub search-boxes-spec : {M : Type 1} → statement M
 search-boxes-spec =

@@ -4,7 +4,7 @@ use Prim.Native.Nat.{ℕ, _*_, _%_, _<_, _≤_}
 use native.Mathlib.Nat.{mul-le-mul}
 use native.Mathlib.Omega.{arith}
 use mathlib.Core.Path.{refl}
-use Rattle.merge.specs.Index.{mixOf, homeOf}
+use Rattle.merge.specs.Internal.{mixOf, homeOf}
 use Rattle.merge.proofs.index.home_of.Statement.{statement}
 use Rattle.merge.proofs.index.home_of.Tie as tie
 

@@ -4,7 +4,7 @@ use Prim.Native.Nat.{_-_}
 use native.Mathlib.Omega.{arith}
 use mathlib.Core.Path.{_≡_, refl, _∙_}
 use lib.ListN.{length}
-use Rattle.merge.specs.Index.{Indexed}
+use Rattle.merge.specs.Internal.{Indexed}
 use Rattle.merge.proofs.Indexing.{indexed-none, indexed-turn, indexed-fewer}
 use Rattle.merge.proofs.index.list_kept.Statement.{statement}
 use Rattle.merge.proofs.index.list_kept.Tie as tie

@@ -26,7 +26,11 @@ returns c = inr (c .before .before .list-place .ensures)
 returns-2 : tie.Need-returns-2
 returns-2 c =
     let tested = c .before in
-    inl (leb-false _ _ (ap (λ (n : ℕ). leb (tested .before .before .before .args .floor) (n + 1)) (sym (tested .before .row-of .ensures)) ∙ sym (tested .reaches .ensures) ∙ c .if1 .left), refl)
+    inl (
+      leb-false _ _ (ap (λ (n : ℕ). leb (tested .before .before .before .args .floor) (n + 1)) (sym (tested .before .row-of .ensures))
+          ∙ sym (tested .reaches .ensures) ∙ c .if1 .left),
+      refl,
+    )
 
 pub list-near-spec : {M : Type 1} → statement M
 list-near-spec =

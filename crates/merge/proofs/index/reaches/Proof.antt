@@ -4,7 +4,7 @@ use Prim.Native.Nat.{_+_}
 use mathlib.Core.Path.{sym}
 use native.Mathlib.Omega.{arith}
 use borrow.Author.Tests.{le-leb}
-use Rattle.merge_grid.proofs.Numbers.{above-one}
+use Rattle.merge.proofs.Cells.{above-one}
 use Rattle.merge.proofs.index.reaches.Statement.{statement}
 use Rattle.merge.proofs.index.reaches.Tie as tie
 

@@ -5,7 +5,7 @@ use native.Mathlib.Omega.{arith}
 use mathlib.Core.Path.{_≡_}
 use mathlib.Core.Logic.{inl, inr}
 use lib.ListN.{length, getD}
-use Rattle.merge.specs.Index.{empty}
+use Rattle.merge.specs.Internal.{empty}
 use Rattle.merge.proofs.index.slot_for.Statement.{statement}
 use Rattle.merge.proofs.index.slot_for.Tie as tie
 

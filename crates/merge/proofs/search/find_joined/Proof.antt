@@ -1,4 +1,5 @@
 -- `merge::search::find_joined` meets its contract: the four homes list all that c joins. Assumes nothing.
+mod Landmarks
 use borrow.Author.Needs.{needs}
 use native.Mathlib.Omega.{arith}
 use mathlib.Core.Path.{ap}
@@ -7,10 +8,11 @@ use Rattle.merge.proofs.First.{lowers-then, lowers-first}
 use Rattle.merge.proofs.Nearby.{all-near}
 use Rattle.merge.proofs.search.find_joined.Statement.{statement}
 use Rattle.merge.proofs.search.find_joined.Tie as tie
+use Landmarks.*
 
 -- from the test of the row to the function's start
 abbrev start : tie.After-index-holds → tie.Start
-start c = c .before .before .before .before .before
+start c = start-from-index-holds c
 
 row-of-requires : tie.Need-row-of-requires
 row-of-requires c κs = search needs

@@ -1,14 +1,16 @@
 -- `merge::search::first_joined` meets its contract: c joins none of the corners passed. Assumes nothing.
+mod Landmarks
 use borrow.Author.Needs.{needs}
 use borrow.Author.Count.{below-none, below-more}
 use Prim.Native.Nat.{ℕ, _-_, _<_, _≤_}
 use native.Mathlib.Omega.{arith}
 use mathlib.Core.Path.{_≡_, sym, ap, _∙_}
 use mathlib.Core.Bool.{true, false≢true}
-use Rattle.merge_grid.specs.MergeGrid.{meets}
-use Rattle.merge.specs.Search.{joinsAt}
+use Rattle.merge.specs.Grid.{meets}
+use Rattle.merge.specs.Internal.{joinsAt}
 use Rattle.merge.proofs.search.first_joined.Statement.{statement}
 use Rattle.merge.proofs.search.first_joined.Tie as tie
+use Landmarks.*
 
 abbrev Inv-loop : tie.InvT-loop
 Inv-loop xs ys g k p i₀ i = (i ≤ k) × ((m : ℕ) → m < i → joinsAt g p xs ys m ≡ true → ⊥)
@@ -27,14 +29,14 @@ is-joined-requires c κs = search needs
 
 -- from the test to the function's start, and the test, of the corner in the buffer
 abbrev from-test : tie.After-is-joined Inv-loop μ-loop → tie.Start Inv-loop μ-loop
-from-test c = c .before .before .before .before .before .before
+from-test c = start-from-is-joined c
 
 tested : (c : tie.After-is-joined Inv-loop μ-loop)
-    → let a = from-test c .args in joinsAt (a .g) (a .p) (a .xs .now) (a .ys .now) (c .before .before .before .loop .i) ≡ c .is-joined .result
+    → let a = from-test c .args in joinsAt (a .g) (a .p) (a .xs .now) (a .ys .now) (loop-from-is-joined c .loop .i) ≡ c .is-joined .result
 tested c = let a = from-test c .args in ap (meets (a .g) (a .p)) (sym (c .before .position-at .ensures)) ∙ sym (c .is-joined .ensures)
 
 returns : tie.Need-returns Inv-loop μ-loop
-returns c = record { at-most = omega arith; passes = λ _. tested (c .before) ∙ c .if1 .taken; before = c .before .before .before .before .loop .inv .1 }
+returns c = record { at-most = omega arith; passes = λ _. tested (c .before) ∙ c .if1 .taken; before = loop-from-returns c .loop .inv .1 }
 
 add-i : tie.Need-add-i Inv-loop μ-loop
 add-i c = omega arith
@@ -44,7 +46,7 @@ loop-less c = omega arith
 
 loop-again : tie.Need-loop-again Inv-loop μ-loop
 loop-again c =
-    (omega arith, below-more _ _ (c .before .before .before .before .loop .inv .1) (λ e. false≢true (sym (c .if1 .left) ∙ sym (tested (c .before)) ∙ e)))
+    (omega arith, below-more _ _ (loop-from-loop-again c .loop .inv .1) (λ e. false≢true (sym (c .if1 .left) ∙ sym (tested (c .before)) ∙ e)))
 
 returns-2 : tie.Need-returns-2 Inv-loop μ-loop
 returns-2 c = record { at-most = omega arith; passes = λ l. absurd (let no : ⊥ = omega arith in no); before = λ m l. c .before .loop .inv .1 m (omega arith) }

@@ -1,11 +1,13 @@
 -- `merge::search::lower_of` meets its contract. Assumes nothing.
+mod Landmarks
 use borrow.Author.Needs.{needs}
 use mathlib.Core.Path.{_≡_, sym, ap, _∙_}
-use Rattle.merge_grid.specs.MergeGrid.{meets}
-use Rattle.merge.specs.Search.{joinsAt}
+use Rattle.merge.specs.Grid.{meets}
+use Rattle.merge.specs.Internal.{joinsAt}
 use Rattle.merge.proofs.First.{lower-here, lower-not, lower-past}
 use Rattle.merge.proofs.search.lower_of.Statement.{statement}
 use Rattle.merge.proofs.search.lower_of.Tie as tie
+use Landmarks.*
 
 position-at-requires : tie.Need-position-at-requires
 position-at-requires c κs = search needs
@@ -15,13 +17,13 @@ is-joined-requires c κs = search needs
 
 -- from the test to the function's start, and the test, of the corner in the buffer
 abbrev from-test : tie.After-is-joined → tie.Start
-from-test c = c .before .before .before .before .before
+from-test c = start-from-is-joined c
 
 tested : (c : tie.After-is-joined) → let a = from-test c .args in joinsAt (a .g) (a .p) (a .xs .now) (a .ys .now) (a .i) ≡ c .is-joined .result
 tested c = let a = from-test c .args in ap (meets (a .g) (a .p)) (sym (c .before .position-at .ensures)) ∙ sym (c .is-joined .ensures)
 
 returns : tie.Need-returns
-returns c = lower-here _ _ _ (c .before .before .before .if1 .taken) (tested (c .before) ∙ c .if2 .taken)
+returns c = lower-here _ _ _ (if1-from-returns c .if1 .taken) (tested (c .before) ∙ c .if2 .taken)
 
 returns-2 : tie.Need-returns-2
 returns-2 c = lower-not _ _ _ (tested (c .before) ∙ c .if2 .left)

@@ -4,7 +4,7 @@ use Prim.Native.Nat.{_-_, _≤_}
 use native.Mathlib.Omega.{arith}
 use mathlib.Core.Path.{_≡_}
 use lib.ListN.{length}
-use Rattle.merge.specs.Search.{joinsAt}
+use Rattle.merge.specs.Internal.{joinsAt}
 use Rattle.merge.proofs.First.{Looking, looking-none, looking-turn, looking-empty, looking-end}
 use Rattle.merge.proofs.search.lowest_from.Statement.{statement}
 use Rattle.merge.proofs.search.lowest_from.Tie as tie

@@ -1,18 +1,20 @@
 -- `merge::search::place_for` meets its contract: c is new, stronger than the first that it joins, or not. Assumes nothing.
+mod Landmarks
 use borrow.Author.Needs.{needs}
 use native.Mathlib.Omega.{arith}
 use mathlib.Core.Path.{subst}
 use Rattle.corner_list.specs.CornerList.{slices, cornerAt}
-use Rattle.merge_grid.specs.declared.Position.{Position}
-use Rattle.merge_grid.specs.MergeGrid.{joins}
-use Rattle.merge.specs.Search.{joinsAt, IsFirst}
+use Rattle.merge.specs.declared.grid.Position.{Position}
+use Rattle.merge.specs.Grid.{joins}
+use Rattle.merge.specs.Internal.{joinsAt, IsFirst}
 use Rattle.merge.proofs.Settle.{takes-new, takes-stronger, takes-none}
 use Rattle.merge.proofs.search.place_for.Statement.{statement}
 use Rattle.merge.proofs.search.place_for.Tie as tie
+use Landmarks.*
 
 -- from the search to the function's start, and what was found, of corners
 abbrev start : tie.After-find-joined → tie.Start
-start c = c .before .before .before .before .before .before
+start c = start-from-find-joined c
 
 found : (c : tie.After-find-joined)
     → let a = start c .args in
@@ -36,13 +38,13 @@ corner-at-requires c κs = search needs
 
 returns-2 : tie.Need-returns-2
 returns-2 c =
-    let read = c .before .before .before in
+    let read = corner-at-from-returns-2 c in
     let f = read .before .before in
     takes-stronger _ _ _ _ (start f .pre .0) _ (found f) (read .before .if1 .left) _ (read .corner-at .ensures) (c .if2 .taken)
 
 returns-3 : tie.Need-returns-3
 returns-3 c =
-    let read = c .before .before .before in
+    let read = corner-at-from-returns-3 c in
     let f = read .before .before in
     takes-none _ _ _ _ (start f .pre .0) _ (found f) (read .before .if1 .left) _ (read .corner-at .ensures)
     _ (omega (arith, start f .good)) (omega arith) (c .if2 .left)

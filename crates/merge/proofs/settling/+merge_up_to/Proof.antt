@@ -1,4 +1,5 @@
 -- `merge::settling::merge_up_to`, which calls itself, meets its contract; its measure is `most`. Assumes nothing.
+mod Landmarks
 use Prim.Native.Nat.{ℕ, _<_}
 use native.Mathlib.Omega.{arith}
 use borrow.Author.Needs.{needs}
@@ -13,6 +14,7 @@ use Rattle.merge.proofs.settling.merge_more.Reads as merge-more-reads
 use Rattle.merge.proofs.settling.merge_most.Reads as merge-most-reads
 use Rattle.merge.proofs.settling.+merge_up_to.{statement}
 use Rattle.merge.proofs.settling.+merge_up_to.Tie.{close}
+use Landmarks.*
 
 abbrev μ-merge-up-to : Measures 3 kinds.ps ℕ
 μ-merge-up-to κs a = a .1 .1 .1 .1 .1 .0
@@ -36,10 +38,10 @@ module _ (t : ℕ) where
 
   -- ---- places of the function: the start, from the call of itself, and the call, from a test of the step
   abbrev start : lts.After-merge-up-to claims given reads.Post → lts.Start claims given reads.Post
-  start c = c .before .before .before .before .before .before .before .before
+  start c = start-from-merge-up-to c
 
   abbrev called : lts.Else2 claims given reads.Post → lts.After-merge-up-to claims given reads.Post
-  called c = c .before .before .before .before .before .before .before .before
+  called c = merge-up-to-from-else2 c
 
   merge-few-requires : lts.Need-merge-few-requires claims given reads.Post
   merge-few-requires c κs = search needs
@@ -55,13 +57,13 @@ module _ (t : ℕ) where
 
   returns : lts.Need-returns claims given reads.Post
   returns c =
-      let few = c .before .before .before .before .before .before in
-      reaches-less _ _ _ _ _ _ _ (few .merge-few .ensures) _ (omega (arith, few .before .before .before .before .if1 .taken))
+      let few = merge-few-from-returns c in
+      reaches-less _ _ _ _ _ _ _ (few .merge-few .ensures) _ (omega (arith, if1-from-returns c .if1 .taken))
 
   merge-up-to-requires : lts.Need-merge-up-to-requires claims given reads.Post
   merge-up-to-requires c κs =
-      let s = c .before .before .before .before .before .before .before in
-      (omega (arith, s .pre .0, c .before .before .before .if1 .left), (s .pre .1 .0, omega (arith, s .pre .1 .1)))
+      let s = start-from-merge-up-to-requires c in
+      (omega (arith, s .pre .0, if1-from-merge-up-to-requires c .if1 .left), (s .pre .1 .0, omega (arith, s .pre .1 .1)))
 
   same-length-4 : lts.Need-same-length-4 claims given reads.Post
   same-length-4 c = search needs
@@ -73,10 +75,10 @@ module _ (t : ℕ) where
   same-length-6 c = search needs
 
   returns-2 : lts.Need-returns-2 claims given reads.Post
-  returns-2 c = reaches-done _ _ _ _ _ _ _ (c .before .before .before .before .before .before .before .before .merge-up-to .ensures) _ (c .if2 .taken)
+  returns-2 c = reaches-done _ _ _ _ _ _ _ (merge-up-to-from-returns-2 c .merge-up-to .ensures) _ (c .if2 .taken)
 
   merge-more-requires : lts.Need-merge-more-requires claims given reads.Post
-  merge-more-requires c κs = let p = called (c .before .before .before .before) in reaches-ready _ _ _ _ _ _ _ (p .merge-up-to .ensures) (start p .pre .1 .0)
+  merge-more-requires c κs = let p = called (if2-from-merge-more-requires c) in reaches-ready _ _ _ _ _ _ _ (p .merge-up-to .ensures) (start p .pre .1 .0)
 
   same-length-7 : lts.Need-same-length-7 claims given reads.Post
   same-length-7 c = search needs
@@ -89,12 +91,12 @@ module _ (t : ℕ) where
 
   returns-3 : lts.Need-returns-3 claims given reads.Post
   returns-3 c =
-      let more = c .before .before .before .before .before .before in
-      let low = more .before .before .before .before in
+      let more = merge-more-from-returns-3 c in
+      let low = if3-from-returns-3 c in
       reaches-on _ _ _ _ _ _ _ (called (low .before) .merge-up-to .ensures) _ _ _ _ (more .merge-more .ensures) (omega (arith, low .if3 .taken))
 
   merge-most-requires : lts.Need-merge-most-requires claims given reads.Post
-  merge-most-requires c κs = let p = called (c .before .before .before .before) in reaches-ready _ _ _ _ _ _ _ (p .merge-up-to .ensures) (start p .pre .1 .0)
+  merge-most-requires c κs = let p = called (if2-from-merge-most-requires c) in reaches-ready _ _ _ _ _ _ _ (p .merge-up-to .ensures) (start p .pre .1 .0)
 
   same-length-10 : lts.Need-same-length-10 claims given reads.Post
   same-length-10 c = search needs
@@ -107,8 +109,8 @@ module _ (t : ℕ) where
 
   returns-4 : lts.Need-returns-4 claims given reads.Post
   returns-4 c =
-      let most = c .before .before .before .before .before .before in
-      let p = called (most .before .before .before .before .before) in
+      let most = merge-most-from-returns-4 c in
+      let p = called (if2-from-returns-4 c) in
       reaches-on _ _ _ _ _ _ _ (p .merge-up-to .ensures) _ _ _ _ (most .merge-most .ensures) (omega (arith, start p .pre .1 .1))
 
 pub +merge-up-to-spec : {M : Type 1} → statement M

@@ -1,16 +1,18 @@
 -- `merge::settling::merge_list` meets its contract: off, or merged by the grid. Assumes nothing.
+mod Landmarks
 use borrow.Author.Needs.{needs}
 use mathlib.Core.Path.{sym, _∙_}
 use Rattle.merge.proofs.Stepping.{reaches-all}
 use Rattle.merge.proofs.Answer.{left-off, left-on}
 use Rattle.merge.proofs.settling.merge_list.Statement.{statement}
 use Rattle.merge.proofs.settling.merge_list.Tie as tie
+use Landmarks.*
 
 is-off-requires : tie.Need-is-off-requires
 is-off-requires c κs = search needs
 
 returns : tie.Need-returns
-returns c = left-off _ _ _ (sym (c .before .is-off .ensures) ∙ c .if1 .taken) (c .before .before .before .before .before .pre)
+returns c = left-off _ _ _ (sym (c .before .is-off .ensures) ∙ c .if1 .taken) (start-from-returns c .pre)
 
 grid-of-requires : tie.Need-grid-of-requires
 grid-of-requires c κs = search needs
@@ -29,9 +31,9 @@ same-length-3 c = search needs
 
 returns-2 : tie.Need-returns-2
 returns-2 c =
-    let done = c .before .before .before .before .before .before in
-    let made = done .before .before .before .before in
-    let on = made .before .before .before in
+    let done = merge-up-to-from-returns-2 c in
+    let made = grid-of-from-returns-2 c in
+    let on = if1-from-returns-2 c in
     left-on _ _ _ _ _ _ (sym (on .before .is-off .ensures) ∙ on .if1 .left) (made .grid-of .ensures) (reaches-all _ _ _ _ _ (done .merge-up-to .ensures))
 
 pub merge-list-spec : {M : Type 1} → statement M

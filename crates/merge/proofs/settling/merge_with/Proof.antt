@@ -1,17 +1,18 @@
 -- `merge::settling::merge_with` meets its contract: each turn settles the next corner, and the kept ones stay indexed. Assumes nothing.
+mod Landmarks
 use borrow.Author.Needs.{needs}
 use Prim.Native.Nat.{_-_}
 use native.Mathlib.Omega.{arith}
-use mathlib.Core.Path.{_≡_, refl, _∙_}
+use mathlib.Core.Path.{_≡_, refl}
 use mathlib.Core.Logic.{inr}
 use lib.ListN.{length}
 use Rattle.corner_list.specs.CornerList.{slices}
-use Rattle.merge_grid.specs.MergeGrid.{joins}
-use Rattle.merge.specs.Index.{Indexed}
-use Rattle.merge.specs.Steps.{step, Comes}
+use Rattle.merge.specs.Grid.{joins}
+use Rattle.merge.specs.Internal.{Indexed, step, Comes}
 use Rattle.merge.proofs.Stepping.{comes-none, comes-xs, comes-ys, comes-strengths, comes-fits, comes-turn, reaches-end}
 use Rattle.merge.proofs.settling.merge_with.Statement.{statement}
 use Rattle.merge.proofs.settling.merge_with.Tie as tie
+use Landmarks.*
 
 abbrev Inv-loop : tie.InvT-loop
 Inv-loop xs₀ ys₀ strengths₀ table₀ g n most done k₀ floor₀ low₀ i₀ xs ys strengths table k floor low i =
@@ -21,43 +22,26 @@ Inv-loop xs₀ ys₀ strengths₀ table₀ g n most done k₀ floor₀ low₀ i�
 abbrev μ-loop : tie.MeasureT-loop
 μ-loop xs₀ ys₀ strengths₀ table₀ g n most done k₀ floor₀ low₀ i₀ xs ys strengths table k floor low i = n - i
 
--- ---- places of the function: the start and the first listing, from where a turn begins; the turn, from where its index is fresh; that, from where
--- its corner is settled; and that, from its end
-abbrev start : tie.At-loop Inv-loop μ-loop → tie.Start Inv-loop μ-loop
-start c = c .before .before .before .before .before .before .before .before .before .before .before
-
-abbrev listed : tie.At-loop Inv-loop μ-loop → tie.After-list-kept Inv-loop μ-loop
-listed c = c .before .before .before
-
-abbrev turn : tie.After-refresh Inv-loop μ-loop → tie.In-loop Inv-loop μ-loop
-turn c = c .before .before .before .before .before .before .before .before
-
-abbrev fresh : tie.After-settle-corner-arg4 Inv-loop μ-loop → tie.After-refresh Inv-loop μ-loop
-fresh c = c .before .before .before .before .before .before .before .before .before .before
-
-abbrev settled : tie.After-slice-known10 Inv-loop μ-loop → tie.After-settle-corner Inv-loop μ-loop
-settled c = c .before .before .before .before .before .before .before .before
-
 list-kept-requires : tie.Need-list-kept-requires Inv-loop μ-loop
 list-kept-requires c κs = search needs
 
 loop-holds : tie.Need-loop-holds Inv-loop μ-loop
 loop-holds c =
     let listed = c .before .before in
-    let pre = listed .before .before .before .before .before .before .before .before .pre in
+    let pre = start-from-loop-holds c .pre in
     (comes-none _ _ _ _ (pre .0) (pre .1 .1), listed .list-kept .ensures, refl)
 
 same-length : tie.Need-same-length Inv-loop μ-loop
-same-length c = let t = c .before .before in comes-xs _ _ _ _ _ _ (t .loop .inv .0) (start t .pre .0)
+same-length c = comes-xs _ _ _ _ _ _ (c .before .before .loop .inv .0) (start-from-same-length c .pre .0)
 
 same-length-2 : tie.Need-same-length-2 Inv-loop μ-loop
-same-length-2 c = let t = c .before .before in comes-ys _ _ _ _ _ _ (t .loop .inv .0) (start t .pre .0)
+same-length-2 c = comes-ys _ _ _ _ _ _ (c .before .before .loop .inv .0) (start-from-same-length-2 c .pre .0)
 
 same-length-3 : tie.Need-same-length-3 Inv-loop μ-loop
-same-length-3 c = let t = c .before .before in comes-strengths _ _ _ _ _ _ (t .loop .inv .0) (start t .pre .0)
+same-length-3 c = comes-strengths _ _ _ _ _ _ (c .before .before .loop .inv .0) (start-from-same-length-3 c .pre .0)
 
 same-length-4 : tie.Need-same-length-4 Inv-loop μ-loop
-same-length-4 c = let t = c .before .before in t .loop .inv .2 ∙ listed t .list-kept .kept .1 .1 .0
+same-length-4 c = omega (arith, c .before .before .loop .inv .2, list-kept-from-same-length-4 c .list-kept .kept)
 
 returns : tie.Need-returns Inv-loop μ-loop
 returns c = record { comes = c .before .before .loop .inv .0; far = inr (c .if1 .taken) }
@@ -66,46 +50,43 @@ floor-at-requires : tie.Need-floor-at-requires Inv-loop μ-loop
 floor-at-requires c κs = search needs
 
 refresh-requires : tie.Need-refresh-requires Inv-loop μ-loop
-refresh-requires c κs = c .before .before .before .before .before .before .before .before .loop .inv .1
+refresh-requires c κs = loop-from-refresh-requires c .loop .inv .1
 
 corner-at-requires : tie.Need-corner-at-requires Inv-loop μ-loop
 corner-at-requires c κs = search needs
 
 settle-corner-requires : tie.Need-settle-corner-requires Inv-loop μ-loop
 settle-corner-requires c κs =
-    let f = fresh c in
-    let t = turn f in
-    (comes-fits _ _ _ _ _ _ (t .before .loop .inv .0) (start (t .before) .pre .0) (t .loop-test .taken), f .refresh .ensures)
+    let turn = loop-test-from-settle-corner-requires c in
+    let fits = comes-fits _ _ _ _ _ _ (turn .before .loop .inv .0) (start-from-settle-corner-requires c .pre .0) (turn .loop-test .taken) in
+    (fits, refresh-from-settle-corner-requires c .refresh .ensures)
 
 add-i : tie.Need-add-i Inv-loop μ-loop
-add-i c = let t = turn (fresh (settled c .before)) in omega (arith, t .loop-test .taken, start (t .before) .fits .n)
+add-i c = omega (arith, loop-test-from-add-i c .loop-test .taken, start-from-add-i c .fits .n)
 
 loop-less : tie.Need-loop-less Inv-loop μ-loop
-loop-less c = omega (arith, turn (fresh (settled c .before)) .loop-test .taken)
+loop-less c = omega (arith, loop-test-from-loop-less c .loop-test .taken)
 
 loop-again : tie.Need-loop-again Inv-loop μ-loop
 loop-again c =
-    let s = settled c in
-    let f = fresh (s .before) in
-    let t = turn f in
-    let inv = t .before .loop .inv in
-    let read = s .before .before .before .before .before .corner-at .ensures in (
-      comes-turn _ _ _ _ _ _ (inv .0) (t .loop-test .taken) _ read _ _ (s .settle-corner .ensures .0),
-      s .settle-corner .ensures .1,
-      s .settle-corner .kept .1 .1 .1 .0 ∙ f .refresh .kept .1 .1 .0 ∙ inv .2,
-    )
+    let turn = loop-test-from-loop-again c in
+    let inv = turn .before .loop .inv in
+    let read = corner-at-from-loop-again c .corner-at .ensures in
+    let settled = settle-corner-from-loop-again c .settle-corner in
+    let step = comes-turn _ _ _ _ _ _ (inv .0) (turn .loop-test .taken) _ read _ _ (settled .ensures .0) in
+    (step, settled .ensures .1, omega (arith, settled .kept, refresh-from-loop-again c .refresh .kept, inv .2))
 
 same-length-5 : tie.Need-same-length-5 Inv-loop μ-loop
-same-length-5 c = let t = c .before in comes-xs _ _ _ _ _ _ (t .loop .inv .0) (start t .pre .0)
+same-length-5 c = comes-xs _ _ _ _ _ _ (c .before .loop .inv .0) (start-from-same-length-5 c .pre .0)
 
 same-length-6 : tie.Need-same-length-6 Inv-loop μ-loop
-same-length-6 c = let t = c .before in comes-ys _ _ _ _ _ _ (t .loop .inv .0) (start t .pre .0)
+same-length-6 c = comes-ys _ _ _ _ _ _ (c .before .loop .inv .0) (start-from-same-length-6 c .pre .0)
 
 same-length-7 : tie.Need-same-length-7 Inv-loop μ-loop
-same-length-7 c = let t = c .before in comes-strengths _ _ _ _ _ _ (t .loop .inv .0) (start t .pre .0)
+same-length-7 c = comes-strengths _ _ _ _ _ _ (c .before .loop .inv .0) (start-from-same-length-7 c .pre .0)
 
 same-length-8 : tie.Need-same-length-8 Inv-loop μ-loop
-same-length-8 c = let t = c .before in t .loop .inv .2 ∙ listed t .list-kept .kept .1 .1 .0
+same-length-8 c = omega (arith, c .before .loop .inv .2, list-kept-from-same-length-8 c .list-kept .kept)
 
 returns-2 : tie.Need-returns-2 Inv-loop μ-loop
 returns-2 c = reaches-end _ _ _ _ _ _ _ _ (c .before .loop .inv .0) (c .loop-test .left)

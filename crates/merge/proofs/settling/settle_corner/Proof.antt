@@ -1,4 +1,5 @@
 -- `merge::settling::settle_corner` meets its contract: put in the place that it takes, and listed. Assumes nothing.
+mod Landmarks
 use borrow.Author.Needs.{needs}
 use native.Mathlib.Omega.{arith}
 use Rattle.corner_list.specs.CornerList.{Slices, slices}
@@ -6,16 +7,17 @@ use Rattle.merge.proofs.Settle.{settled-put}
 use Rattle.merge.proofs.Indexing.{indexed-put}
 use Rattle.merge.proofs.settling.settle_corner.Statement.{statement}
 use Rattle.merge.proofs.settling.settle_corner.Tie as tie
+use Landmarks.*
 
 -- ---- places of the function: the start, from where the place was found; that, from where the corner was put; and that, from what follows
 abbrev start : tie.After-place-for → tie.Start
-start c = c .before .before .before .before .before .before .before .before .before
+start c = start-from-place-for c
 
 abbrev found : tie.After-put-corner → tie.After-place-for
-found c = c .before .before .before .before
+found c = place-for-from-put-corner c
 
 abbrev put : tie.After-position-of → tie.After-put-corner
-put c = c .before .before .before .before .before .before .before .before
+put c = put-corner-from-position-of c
 
 -- the buffer at the start
 abbrev buffer : tie.Start → Slices
@@ -34,7 +36,7 @@ list-place-requires : tie.Need-list-place-requires
 list-place-requires c κs = start (found (put c)) .pre .1 .some
 
 count-with-requires : tie.Need-count-with-requires
-count-with-requires c κs = let s = start (found (put (c .before .before .before))) in omega (arith, s .pre .0, s .good)
+count-with-requires c κs = let s = start (found (put (position-of-from-count-with-requires c))) in omega (arith, s .pre .0, s .good)
 
 same-length : tie.Need-same-length
 same-length c = search needs
@@ -50,7 +52,7 @@ same-length-4 c = search needs
 
 returns : tie.Need-returns
 returns c =
-    let listed = c .before .before .before in
+    let listed = list-place-from-returns c in
     let p = put (listed .before) in
     let f = found p in
     let s = start f in (

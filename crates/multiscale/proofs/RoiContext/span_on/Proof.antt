@@ -30,8 +30,11 @@ border-requires c κs = search needs
 
 span-about-requires : tie.Need-span-about-requires
 span-about-requires c κs =
-    let start = c .before .before .before .before .before .before .before .before in
-    (rw (c .before .roi-radius .ensures) (radius-small (start .args .self) (start .pre .0)), rw (c .border .ensures) (border-small (start .args .self) (start .pre .0)), start .pre .1)
+    let start = c .before .before .before .before .before .before .before .before in (
+      rw (c .before .roi-radius .ensures) (radius-small (start .args .self) (start .pre .0)),
+      rw (c .border .ensures) (border-small (start .args .self) (start .pre .0)),
+      start .pre .1,
+    )
 
 returns-2 : tie.Need-returns-2
 returns-2 c =

@@ -3,13 +3,14 @@ use borrow.Author.Needs.{needs}
 use Prim.Native.Nat.{_-_}
 use native.Mathlib.Omega.{arith}
 use Rattle.corner_list.specs.CornerList.{slices}
-use Rattle.frame_pass.proofs.Centred.{centred}
+use Rattle.patch_corners.specs.Internal.{centred}
 use Rattle.patch_corners.proofs.Changing.{Changing, changing-none, changing-put, changing-all, changing-xs, changing-ys, changing-strengths}
 use Rattle.patch_corners.proofs.localizing.centre_all.Statement.{statement}
 use Rattle.patch_corners.proofs.localizing.centre_all.Tie as tie
 
 abbrev Inv-loop : tie.InvT-loop
-Inv-loop map w h radius xs₀ ys₀ strengths₀ held n i₀ xs ys strengths i = Changing (centred radius map w h) held n i (slices xs₀ ys₀ strengths₀) (slices xs ys strengths)
+Inv-loop map w h radius xs₀ ys₀ strengths₀ held n i₀ xs ys strengths i =
+    Changing (centred radius map w h) held n i (slices xs₀ ys₀ strengths₀) (slices xs ys strengths)
 
 abbrev μ-loop : tie.MeasureT-loop
 μ-loop map w h radius xs₀ ys₀ strengths₀ held n i₀ xs ys strengths i = n - i
@@ -41,8 +42,11 @@ loop-less c = omega arith
 loop-again : tie.Need-loop-again Inv-loop μ-loop
 loop-again c =
     let put = c .before .before .before .before .before .before in
-    let at = put .before .before .before .before .before .before .before .before .before .before in
-    changing-put _ _ _ _ (at .before .before .before .before .before .pre) _ _ (at .loop .inv) (put .before .before .before .before .before .before .before .before .before .loop-test .taken) _ _ _ (put .before .before .before .before .before .corner-at .ensures) (put .before .centre .ensures) (put .put-corner .ensures)
+    let read = put .before .before .before .before .before in
+    let test = read .before .before .before .before in
+    let at = test .before in
+    changing-put _ _ _ _ (at .before .before .before .before .before .pre) _ _ (at .loop .inv) (test .loop-test .taken) _ _ _ (read .corner-at .ensures)
+    (put .before .centre .ensures) (put .put-corner .ensures)
 
 same-length : tie.Need-same-length Inv-loop μ-loop
 same-length c = changing-xs _ _ _ _ (omega arith) _ _ (c .before .loop .inv)

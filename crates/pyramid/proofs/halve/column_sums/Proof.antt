@@ -55,14 +55,17 @@ loop-less : tie.Need-loop-less Inv-loop μ-loop
 loop-less c = search needs
 
 loop-again : tie.Need-loop-again Inv-loop μ-loop
-loop-again c = (search needs, prefix-set _ _ _ _ _ (c .before .before .before .loop .inv .1) (search needs) refl, λ z j. omega (arith, c .shared-slice-known2 .given j))
+loop-again c =
+    (search needs, prefix-set _ _ _ _ _ (c .before .before .before .loop .inv .1) (search needs) refl, λ z j. omega (arith, c .shared-slice-known2 .given j))
 
 -- the entry
 abbrev start : tie.After-loop Inv-loop μ-loop → tie.Start Inv-loop μ-loop
 start c = c .before .before
 
 -- each of the sums passed
-sum-at : (c : tie.After-loop Inv-loop μ-loop) (i : ℕ) → i < start c .args .n → getD (c .before .loop .sums) i 0 ≡ getD (start c .args .pixels .now) (start c .args .top + i) 0 + getD (start c .args .pixels .now) (start c .args .low + i) 0
+sum-at : (c : tie.After-loop Inv-loop μ-loop) (i : ℕ) → i < start c .args .n
+    → getD (c .before .loop .sums) i 0 ≡ getD (start c .args .pixels .now) (start c .args .top + i) 0 + getD (start c .args .pixels .now)
+    (start c .args .low + i) 0
 sum-at c i h = prefix-at _ _ _ _ i 0 (c .before .loop .inv .1) (omega arith)
 
 returns : tie.Need-returns Inv-loop μ-loop

@@ -45,7 +45,8 @@ loop-less c = search needs
 loop-again : tie.Need-loop-again Inv-loop μ-loop
 loop-again c =
     let p = c .before .before .before .before in
-    reach-next _ _ _ _ _ _ _ _ _ _ _ (start p .pre .0) (start p .pre .1) (p .before .loop .inv) (p .loop-test .taken) _ (c .before .before .halve .kept .1 .1 .1 .1 .1 .0) (c .before .before .halve .ensures)
+    reach-next _ _ _ _ _ _ _ _ _ _ _ (start p .pre .0) (start p .pre .1) (p .before .loop .inv) (p .loop-test .taken) _
+    (c .before .before .halve .kept .1 .1 .1 .1 .1 .0) (c .before .before .halve .ensures)
 
 same-length : tie.Need-same-length Inv-loop μ-loop
 same-length c = c .before .loop .inv .long

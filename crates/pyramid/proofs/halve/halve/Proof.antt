@@ -5,7 +5,7 @@ use native.Mathlib.Omega.{arith}
 use mathlib.Core.Path.{_≡_, refl}
 use lib.ListN.{length}
 use borrow.Author.Needs.{needs}
-use Rattle.pyramid.specs.Needs.{holderOf, LevelHalved}
+use Rattle.pyramid.specs.Internal.{holderOf, LevelHalved}
 use Rattle.pyramid.proofs.Halving.{holder-short, level-none, row-below, row-end, row-ok, row-more}
 use Rattle.pyramid.proofs.halve.halve.Statement.{statement}
 use Rattle.pyramid.proofs.halve.halve.Tie as tie
@@ -35,7 +35,9 @@ short : (c : tie.In-loop Inv-loop μ-loop) → length (holderOf (start c .args .
 short c = holder-short _ _ (start c .args .k) _ (start c .good .0 .0) (start c .good .1 .1 .1 .1 .1 .0 .0)
 
 halve-rows-requires : tie.Need-halve-rows-requires Inv-loop μ-loop
-halve-rows-requires c κs = row-ok _ _ _ _ _ _ _ (c .before .before .before .before .before .pre) _ _ _ _ (c .before .before .loop .inv .0) (c .before .loop-test .taken) (c .before .before .loop .inv .2) (c .before .before .loop .inv .3)
+halve-rows-requires c κs =
+    row-ok _ _ _ _ _ _ _ (c .before .before .before .before .before .pre) _ _ _ _ (c .before .before .loop .inv .0)
+    (c .before .loop-test .taken) (c .before .before .loop .inv .2) (c .before .before .loop .inv .3)
 
 mul-a : tie.Need-mul-a Inv-loop μ-loop
 mul-a c = let p = c .before .before .before .before in record { fits = omega (arith, below p, short p, start p .pre .inside) }

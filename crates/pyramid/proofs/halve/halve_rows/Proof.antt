@@ -5,7 +5,7 @@ use mathlib.Core.Path.{_≡_, refl}
 use lib.ListN.{length, take, drop}
 use borrow.Author.Needs.{needs}
 use Rattle.lists.proofs.Tab.{part-length}
-use Rattle.pyramid.specs.Needs.{holderOf, RowHalved}
+use Rattle.pyramid.specs.Internal.{holderOf, RowHalved}
 use Rattle.pyramid.proofs.Halving.{holder-short, row-none, block-inside, row-put}
 use Rattle.pyramid.proofs.halve.halve_rows.Statement.{statement}
 use Rattle.pyramid.proofs.halve.halve_rows.Tie as tie
@@ -34,7 +34,9 @@ start c = c .before .before .before .before .before
 ends : (c : tie.After-lesser Inv-loop μ-loop) → c .before .before .loop .x + c .lesser .result ≤ start c .args .w / 2
 ends c = omega (arith, c .lesser .ensures, c .before .loop-test .taken)
 
-inside : (c : tie.After-lesser Inv-loop μ-loop) → start c .args .from + 2 * c .before .before .loop .x + start c .args .w + 2 * c .lesser .result ≤ length (holderOf (start c .args .base .now) (c .before .before .loop .levels) (start c .args .k))
+inside : (c : tie.After-lesser Inv-loop μ-loop)
+    → start c .args .from + 2 * c .before .before .loop .x + start c .args .w + 2 * c .lesser .result
+    ≤ length (holderOf (start c .args .base .now) (c .before .before .loop .levels) (start c .args .k))
 inside c = block-inside _ _ _ _ _ _ (start c .pre) _ _ _ (c .before .before .loop .inv .0) (ends c)
 
 short : (c : tie.After-lesser Inv-loop μ-loop) → length (holderOf (start c .args .base .now) (c .before .before .loop .levels) (start c .args .k)) < 2 ^ 64
@@ -76,12 +78,17 @@ part-pair-means-end : tie.Need-part-pair-means-end Inv-loop μ-loop
 part-pair-means-end c = let p = c .before .before .before .before .before in omega (arith, ends p, p .before .before .loop .inv .0, start p .pre .fits)
 
 -- the part of the buffer that the block's pixels go to
-part : (c : tie.After-lesser Inv-loop μ-loop) → length (take (start c .args .to + c .before .before .loop .x + c .lesser .result - (start c .args .to + c .before .before .loop .x)) (drop (start c .args .to + c .before .before .loop .x) (c .before .before .loop .levels))) ≡ c .lesser .result
-part c = part-length (start c .args .to + c .before .before .loop .x) (c .lesser .result) (c .before .before .loop .levels) (omega (arith, ends c, c .before .before .loop .inv .0, start c .pre .fits))
+part : (c : tie.After-lesser Inv-loop μ-loop)
+    → length (take (start c .args .to + c .before .before .loop .x + c .lesser .result - (start c .args .to + c .before .before .loop .x))
+    (drop (start c .args .to + c .before .before .loop .x) (c .before .before .loop .levels))) ≡ c .lesser .result
+part c =
+    part-length (start c .args .to + c .before .before .loop .x) (c .lesser .result) (c .before .before .loop .levels)
+    (omega (arith, ends c, c .before .before .loop .inv .0, start c .pre .fits))
 
 pair-means-requires : tie.Need-pair-means-requires Inv-loop μ-loop
 pair-means-requires c κs =
-    let p = c .before .before .before .before .before .before in (rw (part p) (omega (arith, p .lesser .ensures)), λ i l. c .before .before .column-sums .ensures .small i (rw (part p) at l))
+    let p = c .before .before .before .before .before .before in
+    (rw (part p) (omega (arith, p .lesser .ensures)), λ i l. c .before .before .column-sums .ensures .small i (rw (part p) at l))
 
 add-x : tie.Need-add-x Inv-loop μ-loop
 add-x c = search needs
@@ -95,7 +102,8 @@ loop-again c =
     let s = c .before .before .before .before .before in (
       search needs,
       ends p,
-      row-put _ _ _ _ _ _ (start p .pre) _ _ _ _ _ _ (p .before .before .loop .inv .2) (ends p) (rw (s .before .before .holder .ensures) at (s .column-sums .ensures)) (c .before .before .pair-means .ensures) (part p),
+      row-put _ _ _ _ _ _ (start p .pre) _ _ _ _ _ _ (p .before .before .loop .inv .2) (ends p)
+          (rw (s .before .before .holder .ensures) at (s .column-sums .ensures)) (c .before .before .pair-means .ensures) (part p),
       s .column-sums .ensures .long,
     )
 

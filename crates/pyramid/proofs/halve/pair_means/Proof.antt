@@ -36,7 +36,8 @@ element-copy-out-out-2 : tie.Need-element-copy-out-out-2 Inv-loop μ-loop
 element-copy-out-out-2 c = search needs
 
 -- the sums of a pair of columns
-pair : (c : tie.In-loop Inv-loop μ-loop) → getD (c .before .before .args .sums .now) (2 * c .before .loop .i) 0 + getD (c .before .before .args .sums .now) (2 * c .before .loop .i + 1) 0 ≤ 1020
+pair : (c : tie.In-loop Inv-loop μ-loop)
+    → getD (c .before .before .args .sums .now) (2 * c .before .loop .i) 0 + getD (c .before .before .args .sums .now) (2 * c .before .loop .i + 1) 0 ≤ 1020
 pair c = omega (arith, c .before .before .pre .1 (2 * c .before .loop .i) (omega arith), c .before .before .pre .1 (2 * c .before .loop .i + 1) (omega arith))
 
 add-out : tie.Need-add-out Inv-loop μ-loop

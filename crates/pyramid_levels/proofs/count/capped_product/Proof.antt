@@ -13,7 +13,11 @@ div-if2 : tie.Need-div-if2
 div-if2 c = search needs
 
 returns-2 : tie.Need-returns-2
-returns-2 c = omega (arith, div-lt-iff-lt-mul {k = c .before .before .args .b} {x = 18446744073709551615} {y = c .before .before .args .a} (omega arith) .0 (c .if2 .taken))
+returns-2 c =
+    omega (
+      arith,
+      div-lt-iff-lt-mul {k = c .before .before .args .b} {x = 18446744073709551615} {y = c .before .before .args .a} (omega arith) .0 (c .if2 .taken),
+    )
 
 -- the product fits
 small : (c : tie.Else2) → c .before .before .args .a * c .before .before .args .b ≤ 18446744073709551615

@@ -16,7 +16,8 @@ use Rattle.response.proofs.rows.fill.Statement.{statement}
 use Rattle.response.proofs.rows.fill.Tie as tie
 
 abbrev Inv-loop : tie.InvT-loop
-Inv-loop img w h ring x y pw ph map₀ off radius a₀ j₀ map a j = (length map ≡ length map₀) × (map ≡ grid pw j (λ p q. responseAt img w h (ringOf ring) (x + p) (y + q)) ++ drop a map₀) × (a ≡ j * pw) × (j ≤ ph)
+Inv-loop img w h ring x y pw ph map₀ off radius a₀ j₀ map a j =
+    (length map ≡ length map₀) × (map ≡ grid pw j (λ p q. responseAt img w h (ringOf ring) (x + p) (y + q)) ++ drop a map₀) × (a ≡ j * pw) × (j ≤ ph)
 
 abbrev μ-loop : tie.MeasureT-loop
 μ-loop img w h ring x y pw ph map₀ off radius a₀ j₀ map a j = ph - j
@@ -28,7 +29,8 @@ loop-holds : tie.Need-loop-holds Inv-loop μ-loop
 loop-holds c = (refl, grid-none _ _ _, sym (zero-mul _), search needs)
 
 -- the next row lies in the buffer
-row-fits : (c : tie.In-loop Inv-loop μ-loop) → c .before .loop .a + c .before .before .before .before .before .args .pw ≤ length (c .before .before .before .before .before .args .map .now)
+row-fits : (c : tie.In-loop Inv-loop μ-loop)
+    → c .before .loop .a + c .before .before .before .before .before .args .pw ≤ length (c .before .before .before .before .before .args .map .now)
 row-fits c = row-end _ _ _ _ _ (c .loop-test .taken) (c .before .loop .inv .2) (c .before .before .before .before .before .pre .1 .2)
 
 add-e : tie.Need-add-e Inv-loop μ-loop
@@ -65,8 +67,13 @@ loop-less c = search needs
 loop-again : tie.Need-loop-again Inv-loop μ-loop
 loop-again c = (
   search needs,
-  grid-put _ _ _ _ _ _ _ _ (c .before .before .before .before .before .loop .inv .1) (c .before .before .before .before .before .loop .inv .2) (c .before .before .row .ensures) (part-length _ _ _ (omega (arith, row-fits (c .before .before .before .before)))),
-  omega (arith, row-below (c .before .before .before .before .before .before .before .before .before .args .pw) (c .before .before .before .before .before .loop .j)),
+  grid-put _ _ _ _ _ _ _ _ (c .before .before .before .before .before .loop .inv .1)
+      (c .before .before .before .before .before .loop .inv .2) (c .before .before .row .ensures)
+      (part-length _ _ _ (omega (arith, row-fits (c .before .before .before .before)))),
+  omega (
+    arith,
+    row-below (c .before .before .before .before .before .before .before .before .before .args .pw) (c .before .before .before .before .before .loop .j),
+  ),
   search needs,
 )
 

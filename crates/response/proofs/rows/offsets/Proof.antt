@@ -5,12 +5,13 @@ use borrow.Author.Needs.{needs}
 use Rattle.lists.proofs.Tab.{Prefix, prefix-none, prefix-set, prefix-all}
 use Rattle.ring.specs.Ring.{ringOf, columns as columnsOf, rows as rowsOf}
 use Rattle.ring.specs.declared.RingOffsets.{RingOffsets}
-use Rattle.response.specs.Needs.{offsetAt}
+use Rattle.response.specs.Internal.{offsetAt}
 use Rattle.response.proofs.rows.offsets.Statement.{statement}
 use Rattle.response.proofs.rows.offsets.Tie as tie
 
 abbrev Inv-loop : tie.InvT-loop
-Inv-loop ring w columns rows off₀ k₀ off k = (k ≤ 16) × Prefix 16 (offsetAt (ringOf ring) w) k off × (columns ≡ columnsOf (ringOf ring)) × (rows ≡ rowsOf (ringOf ring))
+Inv-loop ring w columns rows off₀ k₀ off k =
+    (k ≤ 16) × Prefix 16 (offsetAt (ringOf ring) w) k off × (columns ≡ columnsOf (ringOf ring)) × (rows ≡ rowsOf (ringOf ring))
 
 abbrev μ-loop : tie.MeasureT-loop
 μ-loop ring w columns rows off₀ k₀ off k = 16 - k

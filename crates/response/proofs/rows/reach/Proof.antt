@@ -35,7 +35,8 @@ returns-3 : tie.Need-returns-3
 returns-3 c =
     let p = c .before .before .before .before .before .before in
     span-row _ _ _ _ _ _ _ (p .before .before .pre .0) _ _ _ _ _ _ (p .before .if1 .left) (off-edge _ _ _ (p .if2 .left))
-    (c .before .before .before .before .before .minus .ensures) (c .before .before .before .before .lesser .ensures) (c .before .before .before .minus2 .ensures) (c .before .before .minus3 .ensures) (c .before .lesser2 .ensures) (c .greater .ensures)
+    (c .before .before .before .before .before .minus .ensures) (c .before .before .before .before .lesser .ensures)
+    (c .before .before .before .minus2 .ensures) (c .before .before .minus3 .ensures) (c .before .lesser2 .ensures) (c .greater .ensures)
 
 pub reach-spec : {M : Type 1} → statement M
 reach-spec =

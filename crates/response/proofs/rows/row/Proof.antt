@@ -51,7 +51,8 @@ loop-less c = search needs
 loop-again : tie.Need-loop-again Inv-loop μ-loop Inv-loop2 μ-loop2 Inv-loop3 μ-loop3
 unfolding ofBits
 loop-again c = (
-  prefix-set _ _ _ _ _ (c .before .loop .inv .0) (search needs) (sym (at-outside _ _ _ _ _ _ (c .before .before .reach .ensures .outer-left _ (c .loop-test .taken)))),
+  prefix-set _ _ _ _ _ (c .before .loop .inv .0) (search needs)
+      (sym (at-outside _ _ _ _ _ _ (c .before .before .reach .ensures .outer-left _ (c .loop-test .taken)))),
   search needs,
 )
 
@@ -80,8 +81,16 @@ part-run-end : tie.Need-part-run-end Inv-loop μ-loop Inv-loop2 μ-loop2 Inv-loo
 part-run-end c = search needs
 
 -- where the next run is known: its part of the row is as long as the run
-run-length : (c : tie.After-run-begin Inv-loop μ-loop Inv-loop2 μ-loop2 Inv-loop3 μ-loop3) → length (take (c .before .run-end .result - c .run-begin .result) (drop (c .run-begin .result) (c .before .before .before .loop2 .out))) ≡ c .before .run-end .result - c .run-begin .result
-run-length c = part-length-to _ _ _ (omega (arith, c .before .run-end .ensures, c .before .before .before .before .before .before .reach .ensures .ends, c .before .before .before .loop2 .inv .0 .long))
+run-length : (c : tie.After-run-begin Inv-loop μ-loop Inv-loop2 μ-loop2 Inv-loop3 μ-loop3)
+    → length (take (c .before .run-end .result - c .run-begin .result)
+    (drop (c .run-begin .result) (c .before .before .before .loop2 .out))) ≡ c .before .run-end .result - c .run-begin .result
+run-length c =
+    part-length-to _ _ _ (omega (
+      arith,
+      c .before .run-end .ensures,
+      c .before .before .before .before .before .before .reach .ensures .ends,
+      c .before .before .before .loop2 .inv .0 .long,
+    ))
 
 run-requires : tie.Need-run-requires Inv-loop μ-loop Inv-loop2 μ-loop2 Inv-loop3 μ-loop3
 run-requires c κs =
@@ -136,7 +145,9 @@ loop3-less c = search needs
 loop3-again : tie.Need-loop3-again Inv-loop μ-loop Inv-loop2 μ-loop2 Inv-loop3 μ-loop3
 unfolding ofBits
 loop3-again c = (
-  prefix-set _ _ _ _ _ (c .before .loop3 .inv .0) (search needs) (sym (at-outside _ _ _ _ _ _ (c .before .before .before .before .before .before .reach .ensures .outer-right _ (c .before .loop3 .inv .1) (c .loop3-test .taken)))),
+  prefix-set _ _ _ _ _ (c .before .loop3 .inv .0) (search needs)
+      (sym (at-outside _ _ _ _ _ _ (c .before .before .before .before .before .before .reach .ensures .outer-right _ (c .before .loop3 .inv .1)
+      (c .loop3-test .taken)))),
   search needs,
   search needs,
 )

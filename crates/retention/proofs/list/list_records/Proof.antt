@@ -1,4 +1,5 @@
 -- `retention::list::list_records` meets its contract. The invariant: the lines of the records passed are written. Assumes nothing.
+mod Landmarks
 use Prim.Native.Nat.{_+_, _-_, _<_, _≤_, min}
 use native.Mathlib.Omega.{arith}
 use mathlib.Core.Path.{sym, _∙_}
@@ -9,6 +10,7 @@ use Rattle.retention.proofs.Records.{fault-small}
 use Rattle.retention.proofs.Texts.{Listed, listed-none, listed-all, listed-room, listed-refused, listed-next}
 use Rattle.retention.proofs.list.list_records.Statement.{statement}
 use Rattle.retention.proofs.list.list_records.Tie as tie
+use Landmarks.*
 
 abbrev Inv-loop : tie.InvT-loop
 Inv-loop input time out₀ stop at₀ end₀ out at end = Listed input out₀ at end out
@@ -25,52 +27,45 @@ loop-holds c = listed-none _ _
 record-fault-requires : tie.Need-record-fault-requires Inv-loop μ-loop
 record-fault-requires c κs = search needs
 
--- from one place of the code back to the turn's beginning
-abbrev at-turn : tie.After-slice-known2 Inv-loop μ-loop → tie.In-loop Inv-loop μ-loop
-at-turn c = c .before .before .before .before .before .before
-
-abbrev at-turn-from-letter : tie.After-slice-known3 Inv-loop μ-loop → tie.In-loop Inv-loop μ-loop
-at-turn-from-letter c = c .before .before .before .before .before .before .before
-
 -- a record is left, and the buffer has a place for its line
-some : (c : tie.In-loop Inv-loop μ-loop) → c .before .loop .at < min (length (c .before .before .before .before .before .args .input .now)) 589832
+some : (c : tie.In-loop Inv-loop μ-loop) → c .before .loop .at < min (length (start-from-in-loop c .args .input .now)) 589832
 some c = rw (c .before .before .lesser .ensures) at (c .loop-test .taken)
 
 room : (c : tie.In-loop Inv-loop μ-loop) → c .before .loop .end + 11 ≤ length (c .before .loop .out)
-room c = listed-room _ _ _ _ _ (c .before .loop .inv) (some c) (c .before .before .before .before .before .pre .2)
+room c = listed-room _ _ _ _ _ (c .before .loop .inv) (some c) (start-from-in-loop c .pre .2)
 
 put-refusal-requires : tie.Need-put-refusal-requires Inv-loop μ-loop
-put-refusal-requires c κs = (rw (c .before .before .record-fault .ensures) (fault-small _ _), room (c .before .before .before))
+put-refusal-requires c κs = (rw (c .before .before .record-fault .ensures) (fault-small _ _), room (loop-test-from-put-refusal-requires c))
 
 same-length : tie.Need-same-length Inv-loop μ-loop
-same-length c = wrote-length (c .before .before .put-refusal .ensures) ∙ wrote-length (at-turn c .before .loop .inv .wrote)
+same-length c = wrote-length (c .before .before .put-refusal .ensures) ∙ wrote-length (loop-from-same-length c .loop .inv .wrote)
 
 returns : tie.Need-returns Inv-loop μ-loop
 returns c =
-    let turn = at-turn c in
-    listed-refused _ _ _ _ _ (turn .before .loop .inv) (some turn) (turn .before .before .before .before .before .pre .2) _ _ _
-    (c .before .before .before .before .before .record-fault .ensures) (c .before .before .before .before .if1 .taken) (c .before .before .put-refusal .ensures)
+    let turn = loop-test-from-returns c in
+    listed-refused _ _ _ _ _ (turn .before .loop .inv) (some turn) (start-from-returns c .pre .2) _ _ _
+    (record-fault-from-returns c .record-fault .ensures) (if1-from-returns c .if1 .taken) (c .before .before .put-refusal .ensures)
 
 letter-at-requires : tie.Need-letter-at-requires Inv-loop μ-loop
 letter-at-requires c κs =
-    let pre = c .before .before .before .before .before .before .before .before .pre in
+    let pre = start-from-letter-at-requires c .pre in
     (sym (c .before .before .record-fault .ensures) ∙ c .before .if1 .left, pre .0, pre .1)
 
 put-letter-requires : tie.Need-put-letter-requires Inv-loop μ-loop
-put-letter-requires c κs = omega (arith, room (c .before .before .before .before))
+put-letter-requires c κs = omega (arith, room (loop-test-from-put-letter-requires c))
 
 add-at : tie.Need-add-at Inv-loop μ-loop
-add-at c = omega (arith, some (at-turn-from-letter c))
+add-at c = omega (arith, some (loop-test-from-add-at c))
 
 loop-less : tie.Need-loop-less Inv-loop μ-loop
-loop-less c = omega (arith, at-turn-from-letter c .loop-test .taken)
+loop-less c = omega (arith, loop-test-from-loop-less c .loop-test .taken)
 
 loop-again : tie.Need-loop-again Inv-loop μ-loop
 loop-again c =
-    let turn = at-turn-from-letter c in
-    let letter = c .before .before .before in
-    listed-next _ _ _ _ _ (turn .before .loop .inv) (some turn) (turn .before .before .before .before .before .pre .2) _ _ _
-    (sym (letter .before .before .before .record-fault .ensures) ∙ letter .before .before .if1 .left) (letter .letter-at .ensures)
+    let turn = loop-test-from-loop-again c in
+    let letter = letter-at-from-loop-again c in
+    listed-next _ _ _ _ _ (turn .before .loop .inv) (some turn) (start-from-loop-again c .pre .2) _ _ _
+    (sym (record-fault-from-loop-again c .record-fault .ensures) ∙ letter .before .before .if1 .left) (letter .letter-at .ensures)
     (c .before .before .put-letter .ensures)
 
 same-length-2 : tie.Need-same-length-2 Inv-loop μ-loop

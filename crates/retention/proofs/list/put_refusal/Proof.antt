@@ -1,4 +1,5 @@
 -- `retention::list::put_refusal` meets its contract: the listing's own text, copied. Assumes nothing.
+mod Landmarks
 use native.Mathlib.Omega.{arith}
 use mathlib.Core.Path.{sym}
 use lib.Seq.{length-take-le}
@@ -6,15 +7,16 @@ use borrow.Author.Needs.{needs}
 use Rattle.retention.proofs.Texts.{text-fits, text-short, part-holds, copied}
 use Rattle.retention.proofs.list.put_refusal.Statement.{statement}
 use Rattle.retention.proofs.list.put_refusal.Tie as tie
+use Landmarks.*
 
 write-refusal-requires : tie.Need-write-refusal-requires
 write-refusal-requires c κs = search needs
 
 add-end : tie.Need-add-end
-add-end c = omega (arith, text-short _ (c .before .before .before .pre .0) _ _ _ (c .write-refusal .ensures))
+add-end c = omega (arith, text-short _ (start-from-add-end c .pre .0) _ _ _ (c .write-refusal .ensures))
 
 array-share-prefix-text : tie.Need-array-share-prefix-text
-array-share-prefix-text c = text-fits _ (c .before .before .before .pre .0) _ _ _ (c .write-refusal .ensures)
+array-share-prefix-text c = text-fits _ (start-from-array-share-prefix-text c .pre .0) _ _ _ (c .write-refusal .ensures)
 
 slice-aggregate-copy : tie.Need-slice-aggregate-copy
 slice-aggregate-copy c = sym (length-take-le _ _ (array-share-prefix-text (c .before)))
@@ -27,11 +29,11 @@ part-copy-start c = search needs
 
 part-copy-end : tie.Need-part-copy-end
 part-copy-end c =
-    omega (arith, text-short _ (c .before .before .before .before .pre .0) _ _ _ (c .before .write-refusal .ensures))
+    omega (arith, text-short _ (start-from-part-copy-end c .pre .0) _ _ _ (c .before .write-refusal .ensures))
 
 copy-requires : tie.Need-copy-requires
 copy-requires c κs =
-    let start = c .before .before .before .before .before in
+    let start = start-from-copy-requires c in
     part-holds _ (start .pre .0) _ _ _ (c .before .before .write-refusal .ensures) _ _ (start .pre .1)
 
 same-length : tie.Need-same-length
@@ -39,8 +41,8 @@ same-length c = search needs
 
 returns : tie.Need-returns
 returns c =
-    let start = c .before .before .before .before .before .before .before .before in
-    let written = c .before .before .before .before .before in
+    let start = start-from-returns c in
+    let written = write-refusal-from-returns c in
     copied _ (start .pre .0) _ _ _ (written .write-refusal .ensures) _ _ (start .pre .1) _ (c .before .before .copy .ensures .1)
 
 pub put-refusal-spec : {M : Type 1} → statement M

@@ -1,0 +1,11 @@
+-- Written by tools/landmarks; not edited by hand. The places of `capi::finding::zakdomp_find_corners` that its proof names:
+-- `A-from-B` is the place where A was bound, seen from the need or the place B. Assumes nothing.
+use Rattle.capi.proofs.finding.zakdomp_find_corners.Tie as tie
+
+abbrev pub count-of-from-returns : tie.After-number-of → tie.After-count-of
+count-of-from-returns c = c .before .before .before
+
+abbrev pub find-corners-from-returns : tie.After-number-of → tie.After-find-corners
+find-corners-from-returns c =
+    count-of-from-returns c .before .before .before .before .before .before .before .before .before .before .before .before .before .before
+    .before .before .before .before

@@ -1,0 +1,105 @@
+-- A window inside the border, row by row: whether a cell is larger than the centre's value v, and how many pass a test, as being above 0 or
+-- equal to v; and how many ties there can be. Assumes nothing.
+use Prim.Native.Nat.{ℕ, _+_, _-_, _*_, _<_, _≤_}
+use native.Mathlib.Omega.{arith}
+use mathlib.Core.Path.{_≡_, sym, ap, _∙_}
+use mathlib.Core.Bool.{Bool, true, false, not, cond}
+use mathlib.Core.List.{List}
+use lib.ListN.{length}
+use lib.Ieee.{Float, nan, lt, eq}
+use Rattle.lists.specs.Places.{Place, block, any, count}
+use Rattle.lists.proofs.Places.{count-block-le}
+use Rattle.lists.proofs.Rows.{rowPart, AnyRows, CountRows, any-found, any-next, any-nowhere, rows-next, rows-all}
+use Rattle.detect.specs.declared.Search.{Search}
+use Rattle.detect.specs.Peaks.{window, beaten, equals, valueAt, largerIn, equalIn, Inside}
+use Rattle.detect.specs.Internal.{place, Searchable}
+use Rattle.detect.proofs.Cells.{row-in}
+use Rattle.detect.proofs.Window.{beaten-whole, count-whole}
+
+-- the first column or row of the window about x, and the one past its last
+abbrev from : Search → ℕ → ℕ
+from s x = x - s .window
+
+abbrev past : Search → ℕ → ℕ
+past s x = x + s .window + 1
+
+-- the part of row yy of a map that lies in the window about column x
+abbrev part : List Float → Search → ℕ → ℕ → List Float
+part m s x yy = rowPart m (s .w) yy (from s x) (past s x)
+
+module _ (m : List Float) (s : Search) (x y : ℕ) where
+  -- what the rows of the window about (x, y) before row yy have said: that none has a cell above v, and that n cells pass a test
+  abbrev NoneAbove : Float → ℕ → Type 0
+  NoneAbove v yy = AnyRows (lt v) m (s .w) nan (from s x) (past s x) (from s y) (past s y) yy
+
+  abbrev Counted : (Float → Bool) → ℕ → ℕ → Type 0
+  Counted f n yy = CountRows f m (s .w) nan (from s x) (past s x) (from s y) (past s y) n yy
+
+  -- what the two tests are to answer
+  abbrev unbeaten : Bool
+  unbeaten = not (beaten (largerIn m (s .w)) (s .w) (s .h) (s .window) (place x y))
+
+  abbrev passing : (Float → Bool) → ℕ
+  passing f = count (λ q. f (valueAt m (s .w) q)) (window (s .w) (s .h) (s .window) (place x y))
+
+-- the square about a place has at most 1,089 cells
+few-about : (m : List Float) (s : Search) (x y : ℕ) → Searchable m s → (f : Place → Bool)
+    → count f (block (from s x) (past s x) (from s y) (past s y)) ≤ 1089
+few-about m s x y k f =
+    let narrow : past s x - from s x ≤ 33 = omega (arith, k .radius) in
+    let low : past s y - from s y ≤ 33 = omega (arith, k .radius) in
+    count-block-le f (from s x) (past s x) (from s y) (past s y) 33 33 narrow low
+
+module _ (m : List Float) (s : Search) (x y : ℕ) (v : Float) (k : Searchable m s)
+    (i : Inside (s .w) (s .h) (s .border) (place x y)) (e : v ≡ valueAt m (s .w) (place x y)) where
+  -- ---- at a row of the window
+  module _ (yy : ℕ) (l : yy < past s y) where
+    row-within : yy * s .w + past s x ≤ length m
+    row-within = row-in m s k yy (omega (arith, i .bottom, k .inside)) (past s x) (omega (arith, i .right, k .inside))
+
+    module _ (a : NoneAbove m s x y v yy) (t : Bool) (found : t ≡ any (lt v) (part m s x yy)) where
+      pub larger-here : t ≡ true → false ≡ unbeaten m s x y
+      larger-here q =
+          ap not
+          (sym (any-found (lt v) m (s .w) nan (from s x) (past s x) (from s y) (past s y) yy a (omega arith) l row-within t found q)
+          ∙ beaten-whole m (s .w) (s .h) (s .border) (s .window) (place x y) v (k .inside) i e)
+
+      pub larger-next : t ≡ false → NoneAbove m s x y v (yy + 1)
+      larger-next q =
+          any-next (lt v) m (s .w) nan (from s x) (past s x) (from s y) (past s y) yy a (omega arith) l row-within t found q
+
+    module _ (f : Float → Bool) (n : ℕ) (a : Counted m s x y f n yy) (t : ℕ) (found : t ≡ count f (part m s x yy)) where
+      pub count-next : Counted m s x y f (n + t) (yy + 1)
+      count-next = rows-next f m (s .w) nan (from s x) (past s x) (from s y) (past s y) n yy a (omega arith) l row-within t found
+
+      pub count-fits : n + t ≤ 1089
+      count-fits = omega (arith, count-next .sum, few-about m s x y k (λ q. f (valueAt m (s .w) q)))
+
+  -- ---- behind the last
+  module _ (yy : ℕ) (l : past s y ≤ yy) where
+    pub larger-nowhere : NoneAbove m s x y v yy → true ≡ unbeaten m s x y
+    larger-nowhere a =
+        ap not
+        (sym (any-nowhere (lt v) m (s .w) nan (from s x) (past s x) (from s y) (past s y) yy a l)
+        ∙ beaten-whole m (s .w) (s .h) (s .border) (s .window) (place x y) v (k .inside) i e)
+
+    module _ (f : Float → Bool) (n : ℕ) (a : Counted m s x y f n yy) where
+      count-all : n ≡ passing m s x y f + cond (f v) 1 0
+      count-all =
+          rows-all f m (s .w) nan (from s x) (past s x) (from s y) (past s y) n yy a l
+          ∙ count-whole m (s .w) (s .h) (s .border) (s .window) (place x y) v (k .inside) i e f
+
+      -- the centre is taken off
+      pub centre-in : f v ≡ true → 1 ≤ n
+      centre-in q = omega (arith, rw q at count-all)
+
+      pub centre-off : f v ≡ true → n - 1 ≡ passing m s x y f
+      centre-off q = omega (arith, rw q at count-all)
+
+      pub centre-not : f v ≡ false → n ≡ passing m s x y f
+      centre-not q = omega (arith, rw q at count-all)
+
+  -- the cells that equal v are the centre's ties
+  pub equals-are : passing m s x y (eq v) ≡ equals (equalIn m (s .w)) (s .w) (s .h) (s .window) (place x y)
+  unfolding equals
+  equals-are = ap (λ (u : Float). passing m s x y (eq u)) e

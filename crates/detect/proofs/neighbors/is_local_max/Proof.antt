@@ -1,0 +1,132 @@
+-- `detect::neighbors::is_local_max` meets its contract: what beats v in the rows ahead is what beats it in all. Assumes nothing.
+use Prim.Native.Nat.{_-_, _*_, _<_, _≤_}
+use native.Mathlib.Omega.{arith}
+use lib.Ieee.{lt, nan}
+use borrow.Author.Needs.{needs}
+use Rattle.lists.proofs.Rows.{AnyRows, any-start}
+use Rattle.detect.proofs.Cells.{row-in, row-small}
+use Rattle.detect.proofs.WindowRows.{larger-here, larger-next, larger-nowhere}
+use Rattle.detect.proofs.neighbors.is_local_max.Statement.{statement}
+use Rattle.detect.proofs.neighbors.is_local_max.Tie as tie
+
+abbrev Inv-loop : tie.InvT-loop
+Inv-loop map x y v w r x0 x1 y1 yy₀ yy = AnyRows (lt v) map w nan x0 x1 yy₀ y1 yy
+
+abbrev μ-loop : tie.MeasureT-loop
+μ-loop map x y v w r x0 x1 y1 yy₀ yy = y1 - yy
+
+-- ---- places of the code: the function's start, from the loop, and the turn, from where its row was asked
+abbrev start : tie.At-loop Inv-loop μ-loop → tie.Start Inv-loop μ-loop
+start c = c .before .before
+
+abbrev turn : tie.After-any-larger Inv-loop μ-loop → tie.In-loop Inv-loop μ-loop
+turn c = c .before .before
+
+-- ---- in a turn the row at hand is one of the map's, and where it begins is a small number
+module _ (c : tie.In-loop Inv-loop μ-loop) where
+  in-rows : c .before .loop .yy < start (c .before) .args .s .h
+  in-rows = omega arith
+
+  small : c .before .loop .yy * start (c .before) .args .s .w ≤ 16777216
+  small = row-small _ _ (start (c .before) .pre .0) _ in-rows
+
+sub-x0 : tie.Need-sub-x0 Inv-loop μ-loop
+sub-x0 c = search needs
+
+add-x1 : tie.Need-add-x1 Inv-loop μ-loop
+add-x1 c = search needs
+
+add-x1-2 : tie.Need-add-x1-2 Inv-loop μ-loop
+add-x1-2 c = search needs
+
+add-y1 : tie.Need-add-y1 Inv-loop μ-loop
+add-y1 c = search needs
+
+add-y1-2 : tie.Need-add-y1-2 Inv-loop μ-loop
+add-y1-2 c = search needs
+
+sub-yy : tie.Need-sub-yy Inv-loop μ-loop
+sub-yy c = search needs
+
+loop-holds : tie.Need-loop-holds Inv-loop μ-loop
+loop-holds c = any-start (lt _) _ _ _ _ _ _ _
+
+mul-a : tie.Need-mul-a Inv-loop μ-loop
+mul-a c = omega (arith, small c)
+
+add-a : tie.Need-add-a Inv-loop μ-loop
+add-a c = omega (arith, small c)
+
+mul-e : tie.Need-mul-e Inv-loop μ-loop
+mul-e c = omega (arith, small c)
+
+add-e : tie.Need-add-e Inv-loop μ-loop
+add-e c = omega (arith, small c)
+
+mul-any-larger : tie.Need-mul-any-larger Inv-loop μ-loop
+mul-any-larger c = omega (arith, small c)
+
+sub-any-larger : tie.Need-sub-any-larger Inv-loop μ-loop
+sub-any-larger c = search needs
+
+part-any-larger-start : tie.Need-part-any-larger-start Inv-loop μ-loop
+part-any-larger-start c = search needs
+
+part-any-larger-end : tie.Need-part-any-larger-end Inv-loop μ-loop
+part-any-larger-end c = row-in _ _ (start (c .before) .pre .0) _ (in-rows c) _ (omega arith)
+
+any-larger-requires : tie.Need-any-larger-requires Inv-loop μ-loop
+any-larger-requires c κs = search needs
+
+returns : tie.Need-returns Inv-loop μ-loop
+returns c =
+    let t = turn (c .before) in
+    let given = start (t .before) .pre in
+    larger-here _ _ _ _ _ (given .0) (given .1 .0) (given .1 .1) _ (t .loop-test .taken) (t .before .loop .inv)
+    _ (c .before .any-larger .ensures) (c .if1 .taken)
+
+add-yy : tie.Need-add-yy Inv-loop μ-loop
+add-yy c = search needs
+
+loop-less : tie.Need-loop-less Inv-loop μ-loop
+loop-less c = search needs
+
+loop-again : tie.Need-loop-again Inv-loop μ-loop
+loop-again c =
+    let t = turn (c .before) in
+    let given = start (t .before) .pre in
+    larger-next _ _ _ _ _ (given .0) (given .1 .0) (given .1 .1) _ (t .loop-test .taken) (t .before .loop .inv)
+    _ (c .before .any-larger .ensures) (c .if1 .left)
+
+returns-2 : tie.Need-returns-2 Inv-loop μ-loop
+returns-2 c =
+    let given = start (c .before) .pre in
+    larger-nowhere _ _ _ _ _ (given .0) (given .1 .0) (given .1 .1) _ (c .loop-test .left) (c .before .loop .inv)
+
+pub is-local-max-spec : {M : Type 1} → statement M
+is-local-max-spec =
+    tie.close
+    (tie.spec
+    Inv-loop
+    μ-loop
+    sub-x0
+    add-x1
+    add-x1-2
+    add-y1
+    add-y1-2
+    sub-yy
+    loop-holds
+    mul-a
+    add-a
+    mul-e
+    add-e
+    mul-any-larger
+    sub-any-larger
+    part-any-larger-start
+    part-any-larger-end
+    any-larger-requires
+    returns
+    add-yy
+    loop-less
+    loop-again
+    returns-2)

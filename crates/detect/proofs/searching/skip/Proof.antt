@@ -1,0 +1,79 @@
+-- `detect::searching::skip` meets its contract: the cells passed over are at or below the threshold. Assumes nothing.
+use Prim.Native.Nat.{_*_, _<_, _≤_}
+use native.Mathlib.Omega.{arith}
+use borrow.Author.Needs.{needs}
+use Rattle.detect.proofs.Cells.{row-in, row-small}
+use Rattle.detect.proofs.Rows.{skipped-none, skipped-below}
+use Rattle.detect.proofs.searching.skip.Statement.{statement}
+use Rattle.detect.proofs.searching.skip.Tie as tie
+
+-- the function's start, from where the row has cells ahead
+abbrev start : tie.Then1 → tie.Start
+start c = c .before .before .before
+
+-- there the row is one of the map's, and where it begins is a small number
+module _ (c : tie.Then1) where
+  in-rows : start c .args .y < start c .args .s .h
+  in-rows = omega arith
+
+  small : start c .args .y * start c .args .s .w ≤ 16777216
+  small = row-small _ _ (start c .pre .0) _ in-rows
+
+minus-requires : tie.Need-minus-requires
+minus-requires c κs = search needs
+
+mul-a : tie.Need-mul-a
+mul-a c = omega (arith, small c)
+
+add-a : tie.Need-add-a
+add-a c = omega (arith, small c)
+
+mul-e : tie.Need-mul-e
+mul-e c = omega (arith, small c)
+
+add-e : tie.Need-add-e
+add-e c = omega (arith, small c)
+
+mul-cells-below : tie.Need-mul-cells-below
+mul-cells-below c = omega (arith, small c)
+
+sub-cells-below : tie.Need-sub-cells-below
+sub-cells-below c = search needs
+
+part-cells-below-start : tie.Need-part-cells-below-start
+part-cells-below-start c = search needs
+
+part-cells-below-end : tie.Need-part-cells-below-end
+part-cells-below-end c = row-in _ _ (start c .pre .0) _ (in-rows c) _ (omega arith)
+
+cells-below-requires : tie.Need-cells-below-requires
+cells-below-requires c κs = search needs
+
+add-result : tie.Need-add-result
+add-result c = search needs
+
+returns : tie.Need-returns
+returns c =
+    let at = c .before .before in
+    skipped-below _ _ _ _ _ _ (at .before .minus .ensures) (at .if1 .taken) (start at .pre .1) (c .cells-below .ensures)
+
+returns-2 : tie.Need-returns-2
+returns-2 c = skipped-none _ _ _ _
+
+pub skip-spec : {M : Type 1} → statement M
+skip-spec =
+    tie.close
+    (tie.spec
+    minus-requires
+    mul-a
+    add-a
+    mul-e
+    add-e
+    mul-cells-below
+    sub-cells-below
+    part-cells-below-start
+    part-cells-below-end
+    cells-below-requires
+    add-result
+    returns
+    returns-2)

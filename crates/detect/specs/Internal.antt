@@ -1,0 +1,89 @@
+-- What the private functions ask and promise: no public promise rests on it.
+use Prim.Native.Nat.{ℕ, zero, suc, _+_, _-_, _*_, _/_, _%_, _<_, _≤_}
+use mathlib.Core.Path.{_≡_}
+use mathlib.Core.Bool.{true, cond}
+use mathlib.Core.List.{List, [], _++_}
+use lib.ListN.{length, getD}
+use lib.Dec.{ltb}
+use lib.Ieee.{Float, nan, le}
+use Rattle.lists.specs.Places.{Place, row, block, keep}
+use Rattle.detect.specs.declared.Search.{Search}
+use Rattle.detect.specs.Peaks.{Inside}
+use Rattle.detect.specs.Detect.{peakIn}
+
+-- column x of row y
+abbrev pub place : ℕ → ℕ → Place
+place x y = record { x = x; y = y }
+
+-- a map that can be searched with s
+pub record Searchable (m : List Float) (s : Search) : Type 0 where
+  pub size : length m ≡ s .w * s .h
+  pub wide : s .w ≤ 4096
+  pub high : s .h ≤ 4096
+  pub radius : s .window ≤ 16
+  pub inside : s .window ≤ s .border
+  pub narrow : s .border ≤ 42
+
+-- ---- the search
+
+-- the first n of the cells are at or below t
+pub record Below (cells : List Float) (t : Float) (n : ℕ) : Type 0 where
+  pub within : n ≤ length cells
+  pub below : (i : ℕ) → i < n → le (getD cells i nan) t ≡ true
+
+-- the places inside the border from p on, in row order: the rest of its row, and then the rows below
+unfoldable pub aheadIn : Search → Place → List Place
+aheadIn s p =
+    let right = s .w - s .border in
+    let bottom = s .h - s .border in
+    cond (ltb (p .y) bottom) (row (p .y) (p .x) right ++ block (s .border) right (p .y + 1) bottom) []
+
+-- the peaks from p on
+abbrev pub peaksFrom : List Float → Search → Place → List Place
+peaksFrom m s p = keep (peakIn m s) (aheadIn s p)
+
+-- from p on, the places before q in its row are no peaks
+pub record Skipped (m : List Float) (s : Search) (p q : Place) : Type 0 where
+  pub onward : p .x ≤ q .x
+  pub same-ahead : peaksFrom m s p ≡ peaksFrom m s q
+
+-- q is the first peak from p on, or lies past the last row inside the border where there is none
+pub record NextPeak (m : List Float) (s : Search) (p q : Place) : Type 0 where
+  pub same-ahead : peaksFrom m s p ≡ peaksFrom m s q
+  pub is-peak : q .y < s .h - s .border → Inside (s .w) (s .h) (s .border) q × (peakIn m s q ≡ true)
+
+-- ---- a table of the first peaks
+
+-- the place behind p in its row
+abbrev pub placeBehind : Place → Place
+placeBehind p = place (p .x + 1) (p .y)
+
+-- the place that a number stands for: a row has 4,096 numbers, as many as the largest side
+abbrev pub placeOf : ℕ → Place
+placeOf a = place (a % 4096) (a / 4096)
+
+-- a is the number of the place (x, y), or, from row y1 on, that of a place past the last row of any map
+pub record Numbered (x y y1 a : ℕ) : Type 0 where
+  pub here : y < y1 → placeOf a ≡ place x y
+  pub past : y1 ≤ y → 4096 ≤ placeOf a .y
+
+-- where the search for the peak at place i of a table begins: at the first place inside the border, or behind the peak before it
+abbrev pub startOf : Search → List ℕ → ℕ → Place
+startOf s t zero = place (s .border) (s .border)
+startOf s t (suc i) = placeBehind (placeOf (getD t i 0))
+
+-- the first n of a table are the first n peaks; the last of them may lie past the last row, where no peak is left
+pub record PeaksListed (m : List Float) (s : Search) (t : List ℕ) (n : ℕ) : Type 0 where
+  pub within : n ≤ length t
+  pub each : (i : ℕ) → i < n → NextPeak m s (startOf s t i) (placeOf (getD t i 0))
+
+-- p is where the search for peak i begins
+pub record Standing (s : Search) (t : List ℕ) (n i : ℕ) (p : Place) : Type 0 where
+  pub left : s .border ≤ p .x
+  pub top : s .border ≤ p .y
+  pub listed : i < n → p ≡ startOf s t i
+
+-- q is the first peak from p on, as the table has it
+pub record NextListed (m : List Float) (s : Search) (t : List ℕ) (n i : ℕ) (p q : Place) : Type 0 where
+  pub next : NextPeak m s p q
+  pub listed : i < n → q ≡ placeOf (getD t i 0)

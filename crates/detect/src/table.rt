@@ -1,0 +1,73 @@
+// A table of the first peaks, each place as one number, so that they are searched for once.
+ghost use mathlib.Core.Path.{_≡_};
+ghost use Prim.Native.Nat.{_<_};
+ghost use Rattle.detect.specs.Internal.{place, placeOf, Searchable, Numbered, PeaksListed, Standing, NextListed};
+use crate::Search;
+use crate::searching::Spot;
+use crate::searching::next_peak;
+
+// The place that a number of a table stands for.
+fn spot_of(a: u32) -> Spot
+    ensures { λ p. ⌜ place (p .x) (p .y) ≡ placeOf a ⌝ }
+{
+    Spot {
+        x: (a % 4096) as usize,
+        y: (a / 4096) as usize,
+    }
+}
+
+// The number that stands for the place (x, y) in a table; from row y1 on, one for a place past the last row of any map.
+fn number_of(x: usize, y: usize, y1: usize) -> u32
+    requires { ⌜ (y < y1 → (x < 4096) × (y < 4096)) ⌝ }
+    ensures { λ a. ⌜ Numbered x y y1 a ⌝ }
+{
+    if y < y1 {
+        (y * 4096 + x) as u32
+    } else {
+        16777216
+    }
+}
+
+// Lists the first peaks in a table, as many as it has places for, and behind the last peak of the map a place past its last row.
+// Returns how many places are listed.
+pub(crate) fn list_peaks(map: &[f32], s: Search, table: &mut [u32]) -> usize
+    requires { ⌜ Searchable (now map) s ⌝ }
+    ensures { λ n. ⌜ PeaksListed (now (map .entry)) s (now (table .exit)) n ⌝ }
+{
+    let y1 = numbers::minus(s.h, s.border);
+    let mut x = s.border;
+    let mut y = s.border;
+    let mut n = 0;
+    while n < table.len() {
+        let p = next_peak(map, s, x, y);
+        table[n] = number_of(p.x, p.y, y1);
+        n += 1;
+        if y1 <= p.y {
+            return n;
+        }
+        x = p.x + 1;
+        y = p.y;
+    }
+    n
+}
+
+// The first peak from (x, y) on, which is at place i of the table, where that is one of the n listed.
+pub(crate) fn peak_at(
+    map: &[f32],
+    s: Search,
+    table: &[u32],
+    n: usize,
+    i: usize,
+    x: usize,
+    y: usize,
+) -> Spot
+    requires { ⌜ Searchable (now map) s ⌝ }
+    requires { ⌜ PeaksListed (now map) s (now table) n ⌝ }
+    requires { ⌜ Standing s (now table) n i (place x y) ⌝ }
+    ensures { λ p. ⌜ NextListed (now (map .entry)) s (now (table .entry)) n i (place x y) (place (p .x) (p .y)) ⌝ }
+{
+    if i < n {
+        return spot_of(table[i]);
+    }
+    next_peak(map, s, x, y)
+}

@@ -1,0 +1,73 @@
+-- The contracts of private functions: no public promise rests on them.
+use Prim.Native.Nat.{ℕ, _+_, _*_, _<_, _≤_}
+use mathlib.Core.Path.{_≡_}
+use mathlib.Core.Bool.{true, false, _||_}
+use mathlib.Core.List.{List}
+use lib.Dec.{ltb}
+use lib.ListN.{length}
+use lib.Ieee.{Float}
+use Rattle.pyramid.specs.Internal.{LevelsComplete}
+use Rattle.corner_list.specs.CornerList.{Slices, placesOf, cornersOf, frontCorners, placedCorners}
+use Rattle.corner_list.specs.declared.Corner.{Corner}
+use Rattle.detect.specs.declared.Peaks.{Peaks}
+use Rattle.detect.specs.declared.Peaks.the-variants.{Added, Refused}
+use Rattle.patch_corners.specs.declared.FrameParams.{FrameParams}
+use Rattle.patch_corners.specs.Clearing.{clearedFrom}
+use Rattle.frame_pass.specs.Theorems.{SoundFrame}
+use Rattle.merge.specs.declared.Merged.{Merged}
+use Rattle.merge.specs.declared.Merged.the-variants.{Kept}
+use Rattle.merge.specs.declared.Merged.the-variants as merged
+use Rattle.merge.specs.Merge.{resultOf}
+use Rattle.frame.specs.declared.search.Lists.{Lists}
+
+-- an image and parameters that no rule refuses, and a map buffer with a place for each pixel
+pub record Ready (p : FrameParams) (img : List ℕ) (w h places : ℕ) : Type 0 where
+  pub sound : SoundFrame p img w h
+  pub enough : w * h ≤ places
+
+-- the level buffer after a pyramid of n levels was built in it
+pub record BuiltLevels (p : FrameParams) (img : List ℕ) (w h n : ℕ) (levels : List ℕ) : Type 0 where
+  pub before : List ℕ
+  pub complete : LevelsComplete img w h (p .levels) (p .«minimum_side») before levels n
+
+-- ---- lists added
+
+-- the corners cs behind the first `held` of a buffer, their number and the ties of their peaks; or a refusal where they do not fit, and then the
+-- buffer holds anything of its lengths
+pub record Adds (cs : List Corner) (ties held : ℕ) (b : Slices) (answer : Peaks) (b′ : Slices) : Type 0 where
+  pub added : (n t : ℕ) → answer ≡ Added n t → (n ≡ length cs) × (held + n ≤ placesOf b) × (b′ ≡ placedCorners held cs b) × (t ≡ ties)
+  pub refused : (k : ℕ) → answer ≡ Refused k → placesOf b < held + length cs
+
+-- how many corners were added
+abbrev pub addedOf : Peaks → ℕ
+addedOf (Added n t) = n
+addedOf (Refused k) = 0
+
+-- the two lists, by the answers of adding the seeds and the corners: the ties are the corners'
+abbrev pub noLists : Lists
+noLists = record { fit = false; seeds = 0; corners = 0; ties = 0 }
+
+abbrev pub listsOf : Peaks → Peaks → Lists
+listsOf (Added m t) (Added n u) = record { fit = true; seeds = m; corners = n; ties = u }
+listsOf (Added m t) (Refused k) = noLists
+listsOf (Refused k) g = noLists
+
+-- both lists stand first in their buffers, and the ties are those of the peaks behind `found`; or a list does not fit, and then both buffers hold
+-- anything of their lengths
+pub record Searched (seeds found : List Corner) (ties : ℕ) (s c : Slices) (answer : Lists) (s′ c′ : Slices) : Type 0 where
+  pub both : answer .fit ≡ true
+      → (answer .seeds ≡ length seeds) × (answer .seeds ≤ placesOf s) × (s′ ≡ frontCorners seeds s)
+      × (answer .corners ≡ length found) × (answer .corners ≤ placesOf c) × (c′ ≡ frontCorners found c) × (answer .ties ≡ ties)
+  pub short : answer .fit ≡ false → (answer .seeds ≡ 0) × (answer .corners ≡ 0) × ((ltb (placesOf s) (length seeds) || ltb (placesOf c) (length found)) ≡ true)
+
+-- ---- merging
+
+-- how many corners are left
+abbrev pub keptOf : Merged → ℕ
+keptOf (Kept k) = k
+keptOf (merged.Refused x) = 0
+
+-- the first n corners of a buffer merged, k of them left, and zero behind those
+pub record Merging (radius : Float) (n : ℕ) (c : Slices) (k : ℕ) (c′ : Slices) : Type 0 where
+  pub count : k ≡ length (resultOf radius (cornersOf c n))
+  pub is : c′ ≡ clearedFrom k (frontCorners (resultOf radius (cornersOf c n)) c)

@@ -1,0 +1,13 @@
+-- Conditions 1 and 2 of RULES 2.2, by which every image and every map is judged first: their table and its number.
+use Prim.Native.Nat.{ℕ}
+use mathlib.Core.Bool.{Bool}
+use mathlib.Core.List.{List, [], _∷_}
+use Rattle.lists.specs.Refusals.{lowest, isLarge, isMisfit}
+
+-- of `size` elements and the sides w and h
+abbrev pub conditions : ℕ → ℕ → ℕ → List (Bool × ℕ)
+conditions size w h = (isLarge w h, 1) ∷ (isMisfit size w h, 2) ∷ []
+
+-- 1, 2, or 0 for none
+unfoldable pub refusalOf : ℕ → ℕ → ℕ → ℕ
+refusalOf size w h = lowest (conditions size w h)

@@ -1,0 +1,20 @@
+-- The contracts of private functions: no public promise rests on them.
+use Prim.Native.Nat.{ℕ, _+_, _*_, _≤_}
+use mathlib.Core.Path.{_≡_}
+use mathlib.Core.List.{List, [], _∷_, _++_}
+use lib.ListN.{length}
+use Rattle.lists.specs.Buffer.{placed}
+
+-- the longest text of 512 corners: "corners 512" and a newline, and lines of two numbers of 20 digits, three of 8, and five bytes between and behind
+abbrev pub longest : ℕ
+longest = 12 + 512 * 69
+
+-- `bytes` stand at `at` of the buffer, which is `after` and was `before`; `end` is the place behind them
+pub record Wrote (bytes : List ℕ) (at : ℕ) (before : List ℕ) (end : ℕ) (after : List ℕ) : Type 0 where
+  pub fits : at + length bytes ≤ length before
+  pub ends : end ≡ at + length bytes
+  pub holds : after ≡ placed at bytes before
+
+-- a column and the byte behind it
+abbrev pub ended : List ℕ → ℕ → List ℕ
+ended column end = column ++ (end ∷ [])

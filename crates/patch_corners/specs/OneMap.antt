@@ -1,0 +1,65 @@
+-- The corners of one map of a frame, by a choice of its peaks (RULES 9.2): the program's choice (4) and the exact one (10.1) are two of them.
+use Prim.Native.Nat.{ℕ}
+use mathlib.Core.Path.{_≡_}
+use mathlib.Core.Bool.{true}
+use mathlib.Core.Logic.{_⊎_}
+use mathlib.Core.List.{List, [], _∷_, map}
+use lib.Ieee.{binary32, add}
+use Rattle.lists.specs.Places.{Place, flatMap, sumOf}
+use Rattle.float32.specs.Float32.{floatOf}
+use Rattle.response.specs.Patch.{View, mapWidth, mapHeight, cells}
+use Rattle.response.specs.Exact.{fifthsIn}
+use Rattle.corner_list.specs.declared.Corner.{Corner}
+use Rattle.detect.specs.declared.Search.{Search}
+use Rattle.detect.specs.Detect.{searchOf, peaksIn, startAt, tiesAt}
+use Rattle.detect.specs.Exact.{exactPeaks}
+use Rattle.center_of_mass.specs.declared.Outcome.{Outcome}
+use Rattle.center_of_mass.specs.declared.Outcome.the-variants.{Accepted, Rejected, OutOfBounds, IllConditioned, Refused}
+use Rattle.center_of_mass.specs.CenterOfMass.{refined}
+use Rattle.patch_corners.specs.declared.FrameParams.{FrameParams}
+
+-- the places of a map that are its peaks, in row order
+abbrev pub Choice : Type 0
+Choice = View → List Place
+
+-- an accepted corner goes to its centre of mass, and its strength stays; any other is dropped
+abbrev pub landed : Outcome → Corner → List Corner
+landed (Accepted x y mass) c = record { x = x; y = y; strength = c .strength } ∷ []
+landed (Rejected x y) c = []
+landed (OutOfBounds x y) c = []
+landed (IllConditioned x y) c = []
+landed (Refused n) c = []
+
+-- a corner moved by a box's corner (RULES 9.3)
+abbrev pub moved : ℕ → ℕ → Corner → Corner
+moved x0 y0 c = record { x = add binary32 (c .x) (floatOf x0); y = add binary32 (c .y) (floatOf y0); strength = c .strength }
+
+-- ---- one map, with the parameters p
+module _ (p : FrameParams) where
+  -- what it is searched with (RULES 4.1)
+  abbrev pub searchOn : View → Search
+  searchOn v = searchOf (mapWidth v) (mapHeight v) (p .ring) (p .threshold) (p .window) (p .«least_neighbours») (p .«centroid_radius»)
+
+  -- the choice by computed values: what peak finding adds to its buffer (RULES 4.3)
+  abbrev pub computedChoice : Choice
+  computedChoice v = peaksIn (cells v) (searchOn v)
+
+  -- and by exact values: "each map's peaks are its exact list" (RULES 10.1)
+  abbrev pub exactChoice : Choice
+  exactChoice v = exactPeaks (λ q. fifthsIn v (q .x) (q .y)) (searchOn v)
+
+  -- by one of the two
+  abbrev pub IsChoice : Choice → Type 0
+  IsChoice choose = (choose ≡ computedChoice) ⊎ (choose ≡ exactChoice)
+
+  -- the ties of a map's peaks (RULES 23.3), by its computed values whatever the choice
+  abbrev pub tiesOn : Choice → View → ℕ
+  tiesOn choose v = sumOf (tiesAt (cells v) (searchOn v)) (choose v)
+
+  -- a peak's corner at the centre of mass
+  abbrev pub localized : View → Corner → List Corner
+  localized v c = landed (refined (p .«centroid_radius») (c .x) (c .y) true (cells v) (mapWidth v) (mapHeight v)) c
+
+  -- the corners of a map (RULES 9.2), by its own columns and rows
+  unfoldable pub cornersIn : Choice → View → List Corner
+  cornersIn choose v = flatMap (localized v) (map (startAt (cells v) (searchOn v)) (choose v))

@@ -1,0 +1,48 @@
+-- What the private functions that halve a level ask and promise: source and result may both lie in the level buffer.
+use Prim.Native.Nat.{ℕ, zero, suc, _+_, _*_, _/_, _<_, _≤_}
+use mathlib.Core.Path.{_≡_}
+use mathlib.Core.List.{List}
+use lib.ListN.{length, getD, drop}
+use Rattle.lists.specs.Tab.{tab, grid}
+use Rattle.lists.specs.Buffer.{front, placed}
+use Rattle.pyramid_levels.specs.Levels.{levelCount}
+use Rattle.pyramid_levels.specs.Internal.{LevelsAccepted}
+use Rattle.pyramid.specs.Pyramid.{halfPixel, above}
+
+-- the slice that level k lies in
+abbrev pub holderOf : List ℕ → List ℕ → ℕ → List ℕ
+holderOf base levels zero = base
+holderOf base levels (suc k) = levels
+
+-- level k, of w by h, begins at `from`, and there is a place for it at half size from `to` on, behind it where one slice holds both
+pub record Halving (base levels : List ℕ) (k from w h to : ℕ) : Type 0 where
+  pub inside : from + w * h ≤ length (holderOf base levels k)
+  pub behind : (k ≡ 0 → ⊥) → from + w * h ≤ to
+  pub fits : to + w / 2 * (h / 2) ≤ length levels
+
+-- the sums of n columns of two rows, which begin at `top` and at `low`, first among 128
+pub record Summed (pixels : List ℕ) (top low n : ℕ) (sums : List ℕ) : Type 0 where
+  pub long : length sums ≡ 128
+  pub each : (i : ℕ) → i < n → getD sums i 0 ≡ getD pixels (top + i) 0 + getD pixels (low + i) 0
+  pub small : (i : ℕ) → i < n → getD sums i 0 ≤ 510
+
+-- the first n half-size pixels of level k's two rows that begin at `from`, placed at `to`
+pub record RowHalved (base levels : List ℕ) (k from w to n : ℕ) (levels′ : List ℕ) : Type 0 where
+  pub is : levels′ ≡ placed to (tab n (λ x. halfPixel (drop from (holderOf base levels k)) w x 0)) levels
+
+-- the first n half-size rows of level k, which begins at `from`, placed at `to`
+pub record LevelHalved (base levels : List ℕ) (k from w to n : ℕ) (levels′ : List ℕ) : Type 0 where
+  pub is : levels′ ≡ placed to (grid (w / 2) n (halfPixel (drop from (holderOf base levels k)) w)) levels
+
+-- levels 1 .. n - 1 of the pyramid over a base of w by h, first in the buffer
+pub record Filled (base : List ℕ) (w h n : ℕ) (levels levels′ : List ℕ) : Type 0 where
+  pub is : levels′ ≡ front (above base w h n) levels
+
+-- ---- what a caller says of it
+
+-- the level buffer d after a pyramid of n levels was built over a base of w by h
+pub record LevelsComplete (base : List ℕ) (w h count minimumSide : ℕ) (d e : List ℕ) (n : ℕ) : Type 0 where
+  pub allowed : LevelsAccepted (length base) (length d) w h count minimumSide
+  pub counted : n ≡ levelCount w h count minimumSide
+  pub long : length e ≡ length d
+  pub fills : e ≡ front (above base w h n) d
