@@ -8,6 +8,7 @@ use Rattle.demands.specs.Cases.{CasesHold}
 use Rattle.demands.specs.ResponseAccurate.{ResponseAccurate}
 use Rattle.demands.specs.ResponsesOrdered.{ResponsesOrdered}
 use Rattle.demands.specs.PeaksAlike.{PeaksAlike}
+use Rattle.demands.specs.Units.{UnitsNearest}
 use Rattle.demands.specs.Retention.{HeldWhen, RetainedTotal, RetainedReads}
 use Rattle.demands.specs.FrameExact.{FrameExact, AlikeByName, MapsSearched, MapsAlike, FrameWithoutTies, FourNever, PeaksKept}
 use Rattle.demands.specs.Tolerance.{CentreTolerance, FrameTolerance}
@@ -54,6 +55,9 @@ pub record Demands : Type 0 where
   pub maps-alike : MapsAlike
   -- and so a frame without ties has the exact list
   pub frame-without-ties : FrameWithoutTies
+  -- ---- Request 2: nearest 256th
+  -- "The two 256th columns become nearest, half away from zero"
+  pub units-nearest : UnitsNearest
   -- ---- Request 13: what may be deleted
   -- "whether we hold it": for each kind the interval in which an item is held
   pub held-when : HeldWhen

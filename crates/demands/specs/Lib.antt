@@ -10,6 +10,7 @@ pub mod Numbers
 pub mod Total
 pub mod Program
 pub mod BitForBit
+pub mod Units
 pub mod Tolerance
 pub mod Retention
 pub mod Demands

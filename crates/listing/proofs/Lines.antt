@@ -5,10 +5,7 @@ use native.Mathlib.Omega.{arith}
 use mathlib.Core.Path.{_≡_, ap, _∙_}
 use mathlib.Core.List.{List, [], _∷_, _++_, append-nil}
 use lib.ListN.{length, length-append}
-use mathlib.Core.Bool.{false}
-use lib.IntN.{pos}
-use lib.Ieee.{Float, fin, binary32, mul, toBits}
-use lib.Ieee.Casts.{toUnsigned-lt}
+use lib.Ieee.{Float, binary32, toBits}
 use Rattle.lists.specs.Tab.{tab}
 use Rattle.lists.specs.Places.{flatMap}
 use Rattle.lists.proofs.Members.{flatMap-append}
@@ -16,6 +13,7 @@ use Rattle.corner_list.specs.declared.Corner.{Corner}
 use Rattle.listing.specs.Text.{decimal, hexadecimal, unitsOf, fields, line, cornersWord, heading}
 use Rattle.listing.specs.Internal.{ended}
 use Rattle.listing.proofs.Numbers.{decimal-long, hexadecimal-long}
+use Rattle.listing.proofs.Nearest.{units-below}
 
 -- ---- columns
 pub ended-long : (column : List ℕ) (end : ℕ) → length (ended column end) ≡ length column + 1
@@ -28,8 +26,7 @@ pub bits-ended : (n end : ℕ) → length (ended (hexadecimal n) end) ≤ 9
 bits-ended n end = omega (arith, ended-long (hexadecimal n) end, hexadecimal-long n)
 
 units-long : (x : Float) → length (decimal (unitsOf x)) ≤ 20
-unfolding unitsOf
-units-long x = let h = toUnsigned-lt 64 (mul binary32 x (fin false 1 (pos 8))) in decimal-long 19 (unitsOf x) (omega arith)
+units-long x = decimal-long 19 (unitsOf x) (omega (arith, units-below x))
 
 -- ---- a line
 pub line-long : (c : Corner) → length (line (fields c)) ≤ 69

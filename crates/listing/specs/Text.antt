@@ -7,6 +7,9 @@ use lib.Dec.{ltb}
 use lib.IntN.{pos}
 use lib.Ieee.{Float, fin, binary32, mul, toUnsigned, toBits}
 use Rattle.lists.specs.Places.{flatMap}
+use Rattle.float32.specs.declared.Rounded.{Rounded}
+use Rattle.float32.specs.declared.Rounded.the-variants.{Natural, Negative, Beyond}
+use Rattle.float32.specs.Float32.{roundHalfAway}
 use Rattle.corner_list.specs.declared.Corner.{Corner}
 
 -- ---- numbers
@@ -42,11 +45,19 @@ space = 32
 abbrev pub newline : ℕ
 newline = 10
 
--- 256 x, cut off (RULES 12.1)
-unfoldable pub unitsOf : Float → ℕ
-unitsOf x = toUnsigned 64 (mul binary32 x (fin false 1 (pos 8)))
+-- 256 x as a natural number, by its rounding: that is it; negatives give 0; and what is not judged, above 2 ^ 24 and so whole, infinite or NaN,
+-- is cut off as Rust's `as usize` does
+abbrev pub unitsBy : Float → Rounded → ℕ
+unitsBy a (Natural n) = n
+unitsBy a (Negative n) = 0
+unitsBy a Beyond = toUnsigned 64 a
 
--- x and y in 256ths of a pixel, cut off, "then x, y and strength as eight hexadecimal digits of their bits"
+-- RULES 12.1 and 21.1, "nearest, half away from zero"
+unfoldable pub unitsOf : Float → ℕ
+unfolding roundHalfAway
+unitsOf x = let a = mul binary32 x (fin false 1 (pos 8)) in unitsBy a (roundHalfAway a)
+
+-- x and y in 256ths of a pixel, "then x, y and strength as eight hexadecimal digits of their bits"
 abbrev pub fields : Corner → List (List ℕ)
 fields c =
     decimal (unitsOf (c .x))

@@ -104,11 +104,17 @@ fn put_bits(out: &mut [u8], at: usize, x: f32, end: u8) -> usize
 
 // ---- lines
 
-// A coordinate in 256ths of a pixel.
+// A coordinate in 256ths of a pixel, to the nearest of them. The product is exact.
 fn units(x: f32) -> usize
     ensures { λ r. ⌜ r ≡ unitsOf x ⌝ }
 {
-    float32::cut_off(x * 256.0)
+    let a = x * 256.0;
+    let nearest = float32::round_half_away(a);
+    match nearest {
+        float32::Rounded::Natural(n) => n,
+        float32::Rounded::Negative(_) => 0,
+        float32::Rounded::Beyond => float32::cut_off(a),
+    }
 }
 
 fn put_line(out: &mut [u8], at: usize, c: corner_list::Corner) -> usize

@@ -7,6 +7,9 @@ use crate::Corner;
 
 const SUBJECT: u64 = 110;
 const RANDOM: usize = 80;
+/// The last is the float below half a 256th.
+const EDGES: [f32; 6] =
+    [0.0, -0.0, 4096.0, f32::from_bits(1), f32::MIN_POSITIVE, f32::from_bits(0x3aff_ffff)];
 
 fn put(file: &mut File, list: &[Corner]) {
     let field = |f: fn(&Corner) -> f32| list.iter().map(f).collect::<Vec<f32>>();
@@ -16,14 +19,22 @@ fn put(file: &mut File, list: &[Corner]) {
     file.record(kind::LISTING, 0, &body);
 }
 
-/// A coordinate at or beside a 256th, half way between two, or anywhere.
+fn half(rng: &mut Rng, between: f32) -> f32 {
+    if rng.once_in(3) {
+        next_toward(between)
+    } else {
+        between
+    }
+}
+
+/// A coordinate at or beside a 256th, half way between two or beside that, or anywhere.
 fn coordinate(rng: &mut Rng) -> f32 {
     let whole = rng.below(4096 * 256);
     match rng.below(5) {
         0 => whole as f32 / 256.0,
         1 => next_toward((whole + 1) as f32 / 256.0),
-        2 => (2 * (whole % 20000) + 1) as f32 / 512.0,
-        3 => rng.pick(&[0.0, -0.0, 4096.0, f32::from_bits(1), f32::MIN_POSITIVE]),
+        2 => half(rng, (2 * (whole % 20000) + 1) as f32 / 512.0),
+        3 => rng.pick(&EDGES),
         _ => (rng.unit() * 96.0) as f32,
     }
 }
