@@ -9,6 +9,7 @@ use Rattle.demands.proofs.ResponseAccurate.{response-accurate}
 use Rattle.demands.proofs.ResponsesOrdered.{responses-ordered}
 use Rattle.demands.proofs.PeaksAlike.{peaks-alike}
 use Rattle.demands.proofs.Units.{units-nearest}
+use Rattle.demands.proofs.RingPass.{ring-one-pass}
 use Rattle.demands.proofs.Retention.{held-when, retained-total, retained-reads}
 use Rattle.demands.proofs.FrameExact.{frame-exact, alike-by-name, maps-searched, maps-alike, frame-without-ties, four-never, peaks-kept}
 use Rattle.demands.proofs.Tolerance.{centre-tolerance, frame-tolerance}
@@ -35,6 +36,7 @@ demands = record {
   maps-alike = maps-alike;
   frame-without-ties = frame-without-ties;
   units-nearest = units-nearest;
+  ring-one-pass = ring-one-pass;
   held-when = held-when;
   retained-total = retained-total;
   retained-reads = retained-reads;

@@ -12,6 +12,7 @@ pub mod Program
 pub mod BitForBit
 pub mod AsPublished
 pub mod Units
+pub mod RingPass
 pub mod Tolerance
 pub mod Retention
 pub mod Demands

@@ -9,6 +9,7 @@ use Rattle.demands.specs.ResponseAccurate.{ResponseAccurate}
 use Rattle.demands.specs.ResponsesOrdered.{ResponsesOrdered}
 use Rattle.demands.specs.PeaksAlike.{PeaksAlike}
 use Rattle.demands.specs.Units.{UnitsNearest}
+use Rattle.demands.specs.RingPass.{RingOnePass}
 use Rattle.demands.specs.Retention.{HeldWhen, RetainedTotal, RetainedReads}
 use Rattle.demands.specs.FrameExact.{FrameExact, AlikeByName, MapsSearched, MapsAlike, FrameWithoutTies, FourNever, PeaksKept}
 use Rattle.demands.specs.Tolerance.{CentreTolerance, FrameTolerance}
@@ -58,6 +59,9 @@ pub record Demands : Type 0 where
   -- ---- Request 2: nearest 256th
   -- "The two 256th columns become nearest, half away from zero"
   pub units-nearest : UnitsNearest
+  -- ---- Request 3: ring sums in one pass
+  -- "after each pair the DR and sum held are those of the pairs passed; at the end all three are the paper's"
+  pub ring-one-pass : RingOnePass
   -- ---- Request 13: what may be deleted
   -- "whether we hold it": for each kind the interval in which an item is held
   pub held-when : HeldWhen

@@ -11,6 +11,7 @@ pub mod Total
 pub mod Program
 pub mod BitForBit
 pub mod Units
+pub mod RingPass
 pub mod Tolerance
 pub mod Retention
 pub mod Demands

@@ -1,4 +1,4 @@
-pub mod Sums
+pub mod OnePass
 pub mod Indices
 pub mod Samples
 pub mod Inside

@@ -1,5 +1,5 @@
 -- Where the samples and the cross of a cell lie, for any ring whose square about the cell lies in the image. Assumes nothing.
-use mathlib.Core.Path.{_≡_, ap, _∙_, subst}
+use mathlib.Core.Path.{_≡_, sym, ap, _∙_, subst}
 use mathlib.Core.List.{List}
 use Prim.Native.Nat.{ℕ, _+_, _*_, _-_, _<_, _≤_}
 use native.Mathlib.Omega.{arith}
@@ -11,7 +11,10 @@ use Rattle.lists.proofs.Places.{in-map}
 use Rattle.ring.specs.Ring.{Ring, dx, dy, IsRing}
 use Rattle.ring.proofs.Places.{dx-le, dy-le, radius-pos}
 use Rattle.response.specs.Response.{samples, crossOf, responseOf, response}
+use Rattle.response.specs.declared.cell.Held.{Held}
+use Rattle.response.specs.OnePass.{passedAfter}
 use Rattle.response.specs.Internal.{offsetAt, Framed, Inner, RingSumsOf, CellSumsOf}
+use Rattle.response.proofs.OnePass.{passed-all}
 use Rattle.response.proofs.Indices.{area-le, row-above, row-below, place-add}
 
 -- ---- any ring of a radius r
@@ -61,9 +64,11 @@ module _ (img : List ℕ) (w h : ℕ) (t : Ring) (radius : ℕ) (off : List ℕ)
   gathered = tab-ext 16 _ _ (λ k l. ap (λ (i : ℕ). getD img i 0) (rw (offset-is k l) (sample-place t (f .is-ring) radius (f .own-radius) w h x y n k)))
 
   -- the sums that the code finds are the cell's
-  pub ring-found : (s : List ℕ) (a b m : ℕ) → s ≡ tab 16 (λ k. getD img ((y - radius) * w + (x - radius) + getD off k 0) 0) → RingSumsOf s a b m
-      → RingSumsOf (samples img w t x y) a b m
-  ring-found s a b m e r = subst (λ (l : List ℕ). RingSumsOf l a b m) (e ∙ gathered) r
+  pub ring-found : (s : List ℕ) (r : Held) → s ≡ tab 16 (λ k. getD img ((y - radius) * w + (x - radius) + getD off k 0) 0) → r ≡ passedAfter s 8
+      → RingSumsOf (samples img w t x y) (r .sr) (r .dr) (r .sum)
+  ring-found s r e f =
+      subst (λ (l : List ℕ). RingSumsOf l (r .sr) (r .dr) (r .sum)) (e ∙ gathered)
+      (subst (λ (h : Held). RingSumsOf s (h .sr) (h .dr) (h .sum)) (sym f) (passed-all s))
 
   pub cross-found : (q : ℕ)
       → q ≡ getD img (y * w + x) 0 + getD img (y * w + x - w) 0 + getD img (y * w + x + w) 0 + getD img (y * w + x + 1) 0 + getD img

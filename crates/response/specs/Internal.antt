@@ -3,10 +3,11 @@ use Prim.Native.Nat.{ℕ, _+_, _*_, _<_, _≤_}
 use mathlib.Core.Path.{_≡_}
 use mathlib.Core.Bool.{false}
 use mathlib.Core.List.{List}
-use lib.ListN.{length}
+use lib.ListN.{length, getD}
 use Rattle.lists.specs.Tab.{tab}
 use Rattle.lists.specs.Refusals.{Sized}
 use Rattle.ring.specs.Ring.{Ring, dx, dy, IsRing}
+use Rattle.response.specs.declared.cell.Held.{Held}
 use Rattle.response.specs.Response.{inside, samples, srOf, drOf, ringSumOf, crossOf}
 
 -- how far place k of a ring lies, in an image w wide, behind the corner of the ring's square
@@ -34,6 +35,13 @@ pub record Span (w h : ℕ) (t : Ring) (radius x0 y n a b : ℕ) : Type 0 where
   pub outer-left : (i : ℕ) → i < a → inside w h t (x0 + i) y ≡ false
   pub inner : (i : ℕ) → a ≤ i → i < b → Inner w h radius (x0 + i) y
   pub outer-right : (i : ℕ) → b ≤ i → i < n → inside w h t (x0 + i) y ≡ false
+
+-- what is held of k pairs, each sum up to its largest: one pair more fits
+pub record Small (k : ℕ) (h : Held) : Type 0 where
+  pub sr-small : h .sr ≤ 510 * k
+  pub dr-small : h .dr ≤ 255 * k
+  pub sum-small : h .sum ≤ 510 * k
+  pub first-small : (i : ℕ) → getD (h .first) i 0 ≤ 510
 
 -- the three sums of sixteen samples
 pub record RingSumsOf (s : List ℕ) (sr dr sum : ℕ) : Type 0 where

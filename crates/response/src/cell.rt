@@ -5,8 +5,9 @@ ghost use lib.ListN.{length, getD};
 ghost use Rattle.float32.specs.Value.{dist};
 ghost use Rattle.lists.specs.Tab.{tab};
 ghost use Rattle.ring.specs.Ring.{ringOf};
-ghost use Rattle.response.specs.Response.{srOf, drOf, ringSumOf, responseOf};
-ghost use Rattle.response.specs.Internal.{Framed, Inner, RingSumsOf, CellSumsOf};
+ghost use Rattle.response.specs.Response.{responseOf};
+ghost use Rattle.response.specs.OnePass.{withPair, passedAfter};
+ghost use Rattle.response.specs.Internal.{Framed, Inner, Small, CellSumsOf};
 
 // |a - b|.
 fn gap(a: u16, b: u16) -> u16
@@ -36,68 +37,56 @@ fn across(a: u8, b: u8) -> u16
     wide(byte_gap(a, b))
 }
 
-// |(a + b) - (c + d)| of four samples.
-fn square(a: u8, b: u8, c: u8, d: u8) -> u16
-    ensures { λ r. ⌜ (r ≡ dist (a + b) (c + d)) × (r < 511) ⌝ }
-{
-    gap(wide(a) + wide(b), wide(c) + wide(d))
-}
-
-// SR, the sum response: opposite samples together against those a quarter turn on.
-fn sr(s: [u8; 16]) -> u16
-    ensures { λ r. ⌜ r ≡ srOf s ⌝ }
-{
-    let mut sum = 0u16;
-    let mut k = 0usize;
-    while k < 4 {
-        sum += square(s[k], s[k + 8], s[k + 4], s[k + 12]);
-        k += 1;
-    }
-    sum
-}
-
-// DR, the difference response: opposite samples against each other.
-fn dr(s: [u8; 16]) -> u16
-    ensures { λ r. ⌜ r ≡ drOf s ⌝ }
-{
-    let mut sum = 0u16;
-    let mut k = 0usize;
-    while k < 8 {
-        sum += across(s[k], s[k + 8]);
-        k += 1;
-    }
-    sum
-}
-
-// The sum of the samples.
-fn ring_sum(s: [u8; 16]) -> u16
-    ensures { λ r. ⌜ r ≡ ringSumOf s ⌝ }
-{
-    let mut sum = 0u16;
-    let mut k = 0usize;
-    while k < 16 {
-        sum += wide(s[k]);
-        k += 1;
-    }
-    sum
-}
-
-// SR, DR and the sum.
-struct RingSums {
+// What is held of the pairs of opposite samples passed: SR, DR and the sum so far, and the sums of the first four pairs.
+struct Held {
     sr: u16,
     dr: u16,
     sum: u16,
+    first: [u16; 4],
 }
 
-// The three sums of sixteen samples.
-fn ring_sums(s: [u8; 16]) -> RingSums
-    ensures { λ r. ⌜ RingSumsOf s (r .sr) (r .dr) (r .sum) ⌝ }
+// With pair k more, whose samples are a and b: from the fifth on its sum is set against that of the pair a quarter turn back.
+fn with_pair(h: Held, k: usize, a: u8, b: u8) -> Held
+    requires { ⌜ (k < 8) × Small k h ⌝ }
+    ensures { λ r. ⌜ (r ≡ withPair k a b h) × Small (k + 1) r ⌝ }
 {
-    RingSums {
-        sr: sr(s),
-        dr: dr(s),
-        sum: ring_sum(s),
+    let mut first = h.first;
+    let q = wide(a) + wide(b);
+    let dr = h.dr + across(a, b);
+    let sum = h.sum + q;
+    if k < 4 {
+        first[k] = q;
+        return Held {
+            sr: h.sr,
+            dr,
+            sum,
+            first,
+        };
     }
+    Held {
+        sr: h.sr + gap(first[k - 4], q),
+        dr,
+        sum,
+        first,
+    }
+}
+
+// SR, DR and the sum of sixteen samples, in one pass over the pairs.
+fn ring_sums(s: [u8; 16]) -> Held
+    ensures { λ r. ⌜ r ≡ passedAfter s 8 ⌝ }
+{
+    let mut h = Held {
+        sr: 0,
+        dr: 0,
+        sum: 0,
+        first: [0u16; 4],
+    };
+    let mut k = 0usize;
+    while k < 8 {
+        h = with_pair(h, k, s[k], s[k + 8]);
+        k += 1;
+    }
+    h
 }
 
 // The pixels at the offsets behind base.

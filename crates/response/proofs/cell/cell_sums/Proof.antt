@@ -36,7 +36,7 @@ returns : tie.Need-returns
 returns c =
     let p = c .before .before .before .before .pre in
     record {
-      ring = ring-found _ _ _ _ _ _ (p .0) _ _ (p .1) _ _ _ _ (c .before .before .gather .ensures) (c .before .ring-sums .ensures);
+      ring = ring-found _ _ _ _ _ _ (p .0) _ _ (p .1) _ _ (c .before .before .gather .ensures) (c .before .ring-sums .ensures);
       cross-is = cross-found _ _ _ _ _ _ (p .0) _ _ (p .1) _ (c .cross .ensures);
     }
 

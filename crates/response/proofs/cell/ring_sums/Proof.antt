@@ -1,0 +1,61 @@
+-- `response::cell::ring_sums` meets its contract: the loop holds what is held of the pairs passed. Assumes nothing.
+use Prim.Native.Nat.{_-_, _≤_}
+use native.Mathlib.Omega.{arith}
+use mathlib.Core.Path.{_≡_, refl}
+use borrow.Author.Needs.{needs}
+use Rattle.response.specs.OnePass.{passedAfter}
+use Rattle.response.specs.Internal.{Small}
+use Rattle.response.proofs.OnePass.{small-none, passed-none, passed-next, passed-end}
+use Rattle.response.proofs.cell.ring_sums.Statement.{statement}
+use Rattle.response.proofs.cell.ring_sums.Tie as tie
+
+abbrev Inv-loop : tie.InvT-loop
+Inv-loop s h₀ k₀ h k = (k ≤ 8) × (h ≡ passedAfter s k) × Small k h
+
+abbrev μ-loop : tie.MeasureT-loop
+μ-loop s h₀ k₀ h k = 8 - k
+
+loop-holds : tie.Need-loop-holds Inv-loop μ-loop
+loop-holds c = (search needs, passed-none _, small-none)
+
+array-read-with-pair : tie.Need-array-read-with-pair Inv-loop μ-loop
+array-read-with-pair c = search needs
+
+add-with-pair : tie.Need-add-with-pair Inv-loop μ-loop
+add-with-pair c = search needs
+
+array-read-with-pair-2 : tie.Need-array-read-with-pair-2 Inv-loop μ-loop
+array-read-with-pair-2 c = search needs
+
+with-pair-requires : tie.Need-with-pair-requires Inv-loop μ-loop
+with-pair-requires c κs = search needs
+
+add-k : tie.Need-add-k Inv-loop μ-loop
+add-k c = search needs
+
+loop-less : tie.Need-loop-less Inv-loop μ-loop
+loop-less c = search needs
+
+loop-again : tie.Need-loop-again Inv-loop μ-loop
+loop-again c =
+    let at = c .before .before in
+    (search needs, passed-next _ (at .loop .k) _ _ (at .loop .inv .1) (c .with-pair .ensures .0), c .with-pair .ensures .1)
+
+returns : tie.Need-returns Inv-loop μ-loop
+returns c = passed-end _ _ _ (c .before .loop .inv .1) (search needs)
+
+pub ring-sums-spec : {M : Type 1} → statement M
+ring-sums-spec =
+    tie.close
+    (tie.spec
+    Inv-loop
+    μ-loop
+    loop-holds
+    array-read-with-pair
+    add-with-pair
+    array-read-with-pair-2
+    with-pair-requires
+    add-k
+    loop-less
+    loop-again
+    returns)
