@@ -57,6 +57,43 @@ static void frames(const uint8_t *img) {
     expect(b.count == 77 && b.ties == 78 && b.map[60] == 0 && b.corners[0][0] == 0, "refused by 10: cleared");
 }
 
+static uint8_t find_pgm(const uint8_t *upload, size_t length, uint32_t ring, size_t places, struct buffers *b) {
+    return zakdomp_find_corners_pgm(upload, length, ring, 0, 0, 0, 0, 3, 1, 1, 0, b->map, CELLS, b->levels, CELLS, b->seeds[0], PLACES,
+                                    b->seeds[1], PLACES, b->seeds[2], PLACES, b->corners[0], PLACES, b->corners[1], PLACES, b->corners[2],
+                                    places, &b->count, &b->ties);
+}
+
+static void photographs(const uint8_t *img) {
+    static const char header[] = "P5\n# from the camera\n11 1#c\n1\t255\n";
+    enum { AT = sizeof header - 1 };
+    uint8_t upload[AT + CELLS + 1];
+    size_t at = 77, width = 77, height = 77;
+    struct buffers b, before;
+    memcpy(upload, header, AT);
+    memcpy(upload + AT, img, CELLS);
+    upload[AT + CELLS] = '#';
+    expect(zakdomp_pgm(upload, sizeof upload, &at, &width, &height) == ZAKDOMP_DONE, "a photograph");
+    expect(at == AT && width == SIDE && height == SIDE, "its pixels and sides");
+    expect(zakdomp_pgm(upload, AT + CELLS - 1, &at, &width, &height) == ZAKDOMP_PGM, "a pixel short");
+    expect(zakdomp_pgm((const uint8_t *)"P5 1 4097", 9, &at, &width, &height) == ZAKDOMP_SIDE, "a side of 4097");
+    expect(zakdomp_pgm((const uint8_t *)"P5 0 0 256 ", 11, &at, &width, &height) == ZAKDOMP_MAXVAL, "a maxval of 256");
+    expect(at == AT && width == SIDE && height == SIDE, "refused: as they were");
+    memset(&b, 0x41, sizeof b);
+    expect(find_pgm(upload, sizeof upload, 5, PLACES, &b) == ZAKDOMP_DONE && b.count == 1, "a photograph's corner");
+    expect(b.corners[0][0] == 5 && b.corners[1][0] == 5 && b.corners[2][0] == 2032 && b.map[60] == 0, "at (5, 5), and cleared");
+    memset(&b, 0x41, sizeof b);
+    before = b;
+    upload[1] = '2';
+    expect(find_pgm(upload, sizeof upload, 6, PLACES, &b) == ZAKDOMP_PGM, "P2, before a ring of 6");
+    upload[1] = '5';
+    upload[AT - 2] = '4';
+    expect(find_pgm(upload, sizeof upload, 5, PLACES, &b) == ZAKDOMP_MAXVAL, "a maxval of 254");
+    upload[AT - 2] = '5';
+    expect(find_pgm(upload, sizeof upload, 6, PLACES, &b) == ZAKDOMP_PARAMETER, "a photograph with a ring of 6");
+    expect(memcmp(&b, &before, sizeof b) == 0, "refused: every buffer as it was");
+    expect(find_pgm(upload, sizeof upload, 5, 0, &b) == ZAKDOMP_LIST_SHORT && b.map[60] == 0, "a photograph without a place: cleared");
+}
+
 static void stages(const uint8_t *img) {
     float map[CELLS], x[2] = {1, 2}, y[2] = {1, 1}, s[2] = {3, 4}, mass = 9;
     uint8_t levels[CELLS];
@@ -156,6 +193,7 @@ int main(void) {
     uint8_t img[CELLS];
     whole_case(img);
     frames(img);
+    photographs(img);
     stages(img);
     ties();
     streams(img);

@@ -7,8 +7,8 @@
  * Nothing is kept between calls, so calls may run at the same time on other buffers. No function allocates.
  *
  * Each function but zakdomp_level_bytes, zakdomp_corners and zakdomp_holdings returns 0, or the number of a refusal, the lowest that applies.
- * A refusal leaves every buffer and every place for a result as it was; the one exception is ZAKDOMP_LIST_SHORT from zakdomp_find_corners.
- * What lies in a buffer behind a result stays as it was; zakdomp_find_corners alone clears map and list buffers behind it.
+ * A refusal leaves every buffer and every place for a result as it was; the one exception is ZAKDOMP_LIST_SHORT from zakdomp_find_corners
+ * and zakdomp_find_corners_pgm. What lies in a buffer behind a result stays as it was; these two alone clear map and list buffers behind it.
  *
  * Corners are held in three slices: columns, rows and strengths. The shortest of the three says how many places there are. */
 #ifndef ZAKDOMP_H
@@ -35,6 +35,8 @@ enum {
     ZAKDOMP_MAP_SHORT = 8,    /* the map buffer is too short */
     ZAKDOMP_LEVELS_SHORT = 9, /* the level buffer is too short */
     ZAKDOMP_LIST_SHORT = 10,  /* the corners do not fit their buffer */
+    ZAKDOMP_PGM = 12,         /* the header of a photograph is not of the form P5, or fewer bytes than pixels are behind it */
+    ZAKDOMP_MAXVAL = 13,      /* the maxval of a photograph is not 255 */
     ZAKDOMP_LATE = 20         /* a start or a time is above 2^40 */
 };
 
@@ -64,6 +66,24 @@ uint8_t zakdomp_find_corners(const uint8_t *img, size_t img_length, size_t w, si
                              float *map, size_t map_length, uint8_t *levels, size_t levels_length, float *sx, size_t sx_length, float *sy,
                              size_t sy_length, float *ss, size_t ss_length, float *cx, size_t cx_length, float *cy, size_t cy_length,
                              float *cs, size_t cs_length, size_t *count, uint64_t *ties);
+
+/* Where the pixels of an uploaded photograph are: binary PGM, the form P5 of Netpbm's description (pgm(5), and pbm(5) on comments).
+ *   at             where they begin in the upload: width * height bytes, in row order
+ *   width, height  the sides, 0 included
+ * The upload begins with P5. Behind it stand width, height and maxval in decimal, whitespace before each, and one whitespace character before
+ * the pixels. Whitespace is space, TAB, LF, VT, FF and CR. Before the pixels a comment, from # through the next CR or LF, is ignored wherever
+ * it stands, and is no whitespace. What follows the pixels is not looked at.
+ * Refusals: 1 where both sides can be read, whatever follows; 12; 13. */
+uint8_t zakdomp_pgm(const uint8_t *upload, size_t upload_length, size_t *at, size_t *width, size_t *height);
+
+/* The corners of an uploaded photograph: what zakdomp_find_corners leaves for its pixels and sides. Whoever makes the buffers takes the sides from
+ * zakdomp_pgm.
+ * Refusals: 1, 12 and 13 of the upload, which change nothing; then 3, 5, 8, 9, 10 as there. */
+uint8_t zakdomp_find_corners_pgm(const uint8_t *upload, size_t upload_length, uint32_t ring, float threshold, uint32_t window, uint32_t least,
+                                 uint32_t centroid, float radius, uint32_t level_count, size_t minimum, uint32_t search, float *map,
+                                 size_t map_length, uint8_t *levels, size_t levels_length, float *sx, size_t sx_length, float *sy,
+                                 size_t sy_length, float *ss, size_t ss_length, float *cx, size_t cx_length, float *cy, size_t cy_length,
+                                 float *cs, size_t cs_length, size_t *count, uint64_t *ties);
 
 /* The responses of the cells in the columns x0 up to, not including, x1 of the rows y0 up to y1. The box is clipped to the image.
  *   map            at least as many floats as the clipped box has cells; they stand first in it, in row order

@@ -1,15 +1,25 @@
 """The corners of a chessboard in a grey image, by the proved library libzakdomp.so.
 
     find_corners(pixels, width, height, threshold=30)  ->  [Corner(x, y, strength), ..]
-    find(pixels, width, height, threshold=30)          ->  Frame(corners, ties)
+    find(pixels, width, height, threshold=30)          ->  Frame(corners, ties), and so `find_pgm` of a photograph
+    find_corners_pgm(upload, threshold=30)             ->  the same of a photograph, the bytes of a binary PGM file
+    read_pgm(upload)                                   ->  Photograph(at, width, height, pixels)
     response(pixels, width, height, ring=5)            ->  ResponseMap(width, height, cells)
     holding(kind, start, time), holdings(stream)       ->  "N" not yet, "H" held or "G" gone, for an item and for each of a stream
 
 `pixels` is anything with a buffer of bytes, in row order. What the library refuses is raised as `Refusal`. The library is looked for in
 the file that the environment variable ZAKDOMP_LIBRARY names, beside this file, and where `tools/bindings` of the repository leaves it.
+
+    python3 zakdomp.py photo.pgm --threshold 30
+
+prints the corners of a photograph as the program `corners` does; a refusal is a line on standard error, and the exit status 1.
 """
+import argparse
 import ctypes
+import functools
 import os
+import struct
+import sys
 from typing import NamedTuple
 
 __version__ = "0.1.0"
@@ -24,6 +34,8 @@ REFUSALS = {
     8: "the map buffer is too short",
     9: "the level buffer is too short",
     10: "there are more corners than places for them",
+    12: "the photograph is no whole binary PGM",
+    13: "the maxval of the photograph is not 255",
     20: "a start or a time is above 2^40",
 }
 LARGEST_SIDE = 4096
@@ -51,6 +63,26 @@ class Frame(NamedTuple):
     ties: int
 
 
+class Params(NamedTuple):
+    """What is looked for: the parameters of include/zakdomp.h, in their order."""
+    ring: int = 5
+    threshold: float = 0.0
+    window: int = 2
+    least_neighbours: int = 2
+    centroid_radius: int = 2
+    merge_radius: float = 3.0
+    levels: int = 1
+    minimum_side: int = 1
+    search_radius: int = 3
+
+
+class Photograph(NamedTuple):
+    at: int
+    width: int
+    height: int
+    pixels: memoryview
+
+
 class ResponseMap(NamedTuple):
     width: int
     height: int
@@ -69,11 +101,13 @@ def _load():
     numbers = [u32, f32, u32, u32, u32, f32, u32, size, u32]
     u8, u64 = ctypes.c_uint8, ctypes.c_uint64
     library.zakdomp_find_corners.argtypes = piece + [size, size] + numbers + 8 * piece + [out, ctypes.POINTER(u64)]
+    library.zakdomp_find_corners_pgm.argtypes = piece + numbers + 8 * piece + [out, ctypes.POINTER(u64)]
+    library.zakdomp_pgm.argtypes = piece + 3 * [out]
     library.zakdomp_response.argtypes = piece + [size, size, u32, size, size, size, size] + piece + [out, out]
     library.zakdomp_level_bytes.argtypes = [size, size, u32, size]
     library.zakdomp_holding.argtypes = [u8, u64, u64, ctypes.POINTER(u8)]
     library.zakdomp_holdings.argtypes = piece + [ctypes.c_void_p]
-    for function in ("find_corners", "response", "holding"):
+    for function in ("find_corners", "find_corners_pgm", "pgm", "response", "holding"):
         getattr(library, "zakdomp_" + function).restype = u8
     library.zakdomp_level_bytes.restype = library.zakdomp_holdings.restype = size
     return library
@@ -101,28 +135,22 @@ def _whole(name, value, bits):
     return value
 
 
-def find(pixels, width, height, *, ring=5, threshold=0.0, window=2, least_neighbours=2, centroid_radius=2, merge_radius=3.0, levels=1,
-         minimum_side=1, search_radius=3, most=1 << 22):
-    """The corners of an image, at most `most` of them before merging, and its ties. The parameters are those of include/zakdomp.h."""
-    small = {"ring": ring, "window": window, "least_neighbours": least_neighbours, "centroid_radius": centroid_radius, "levels": levels,
-             "search_radius": search_radius}
-    large = {"width": width, "height": height, "minimum_side": minimum_side, "most": most}
-    for names, bits in ((small, 32), (large, 64)):
-        for name, value in names.items():
-            _whole(name, value, bits)
-    held, image = _given(pixels)
+def _search(call, width, height, params, most):
+    """What a call of the library finds: it is given the parameters and buffers, with more and more places for corners."""
+    for name, value in params._asdict().items():
+        if isinstance(Params._field_defaults[name], int):
+            _whole(name, value, 64 if name == "minimum_side" else 32)
+    _whole("most", most, 64)
     fits = width <= LARGEST_SIDE and height <= LARGEST_SIDE
     map_buffer, cells = _floats(width * height if fits else 0)
-    needed = _library.zakdomp_level_bytes(width, height, levels, minimum_side) if fits else 0
+    needed = _library.zakdomp_level_bytes(width, height, params.levels, params.minimum_side) if fits else 0
     level_buffer = (ctypes.c_uint8 * max(needed, 1))()
     count, ties = ctypes.c_size_t(0), ctypes.c_uint64(0)
     places = min(1024, most)
     while True:
         lists = [_floats(places) for _ in range(6)]
         pieces = [word for _, piece in lists for word in piece]
-        number = _library.zakdomp_find_corners(
-            *image, width, height, ring, threshold, window, least_neighbours, centroid_radius, merge_radius, levels, minimum_side,
-            search_radius, *cells, ctypes.addressof(level_buffer), needed, *pieces, ctypes.byref(count), ctypes.byref(ties))
+        number = call(*params, *cells, ctypes.addressof(level_buffer), needed, *pieces, ctypes.byref(count), ctypes.byref(ties))
         if number != LIST_SHORT or places == most:
             break
         places = min(4 * places, most)
@@ -132,9 +160,40 @@ def find(pixels, width, height, *, ring=5, threshold=0.0, window=2, least_neighb
     return Frame([Corner(x[i], y[i], strength[i]) for i in range(count.value)], ties.value)
 
 
+def find(pixels, width, height, *, most=1 << 22, **params):
+    """The corners of an image, at most `most` of them before merging, and its ties. The parameters are the fields of `Params`."""
+    for name, value in (("width", width), ("height", height)):
+        _whole(name, value, 64)
+    held, image = _given(pixels)
+    return _search(functools.partial(_library.zakdomp_find_corners, *image, width, height), width, height, Params(**params), most)
+
+
 def find_corners(pixels, width, height, **named):
     """The corners alone, as `find` finds them."""
     return find(pixels, width, height, **named).corners
+
+
+def find_pgm(upload, *, most=1 << 22, **params):
+    """The corners of an uploaded photograph, a binary PGM (P5) with a maxval of 255, and its ties."""
+    held, given = _given(upload)
+    photo = read_pgm(held)
+    return _search(functools.partial(_library.zakdomp_find_corners_pgm, *given), photo.width, photo.height, Params(**params), most)
+
+
+def find_corners_pgm(upload, **named):
+    """The corners alone, as `find_pgm` finds them."""
+    return find_pgm(upload, **named).corners
+
+
+def read_pgm(upload):
+    """Where the pixels of an uploaded photograph begin, its sides, and the pixels as a part of the upload."""
+    held, given = _given(upload)
+    at, width, height = (ctypes.c_size_t(0) for _ in range(3))
+    number = _library.zakdomp_pgm(*given, ctypes.byref(at), ctypes.byref(width), ctypes.byref(height))
+    if number:
+        raise Refusal(number)
+    end = at.value + width.value * height.value
+    return Photograph(at.value, width.value, height.value, memoryview(held)[at.value:end])
 
 
 def response(pixels, width, height, *, ring=5, x0=0, y0=0, x1=LARGEST_SIDE, y1=LARGEST_SIDE):
@@ -170,3 +229,34 @@ def holdings(stream):
     output = ctypes.create_string_buffer(LONGEST_HOLDINGS)
     length = _library.zakdomp_holdings(*items, ctypes.addressof(output))
     return output.raw[:length].decode("ascii")
+
+
+def listing(corners):
+    """The text of a corner list, as the program `corners` prints it: x and y to the nearest 256th of a pixel, a half up, and the bits of each float."""
+    def bits(value):
+        return struct.pack(">f", value).hex()
+
+    lines = [f"{int(256 * x + 0.5)} {int(256 * y + 0.5)} {bits(x)} {bits(y)} {bits(strength)}" for x, y, strength in corners]
+    return "\n".join([f"corners {len(corners)}", *lines]) + "\n"
+
+
+def main(arguments):
+    parser = argparse.ArgumentParser(prog="zakdomp", description="Prints the corners of a photograph.")
+    parser.add_argument("photo", help="a binary PGM file (P5) with a maxval of 255")
+    for name, default in Params._field_defaults.items():
+        parser.add_argument("--" + name.replace("_", "-"), type=type(default), default=default, metavar="N", help=f"{default} if not given")
+    given = vars(parser.parse_args(arguments))
+    photo = given.pop("photo")
+    try:
+        with open(photo, "rb") as file:
+            upload = file.read()
+        text = listing(find_corners_pgm(upload, **given))
+    except (OSError, ValueError) as problem:
+        print(f"zakdomp: {photo}: {getattr(problem, 'strerror', None) or problem}", file=sys.stderr)
+        return 1
+    sys.stdout.write(text)
+    return 0
+
+
+if __name__ == "__main__":
+    sys.exit(main(sys.argv[1:]))

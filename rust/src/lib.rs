@@ -124,17 +124,43 @@ impl Finder {
         height: usize,
         params: &Params,
     ) -> Result<Vec<Corner>, Refusal> {
+        self.fit(width, height, params);
+        self.grown(|finder| {
+            let (map, levels) = (&mut finder.map, &mut finder.levels);
+            let (seeds, corners) = (&mut finder.seeds.0, &mut finder.corners.0);
+            library::find_corners(image, width, height, params, map, levels, seeds, corners)
+        })
+    }
+
+    /// The corners of an uploaded photograph, a binary PGM (P5) with a maxval of 255.
+    pub fn find_pgm(&mut self, upload: &[u8], params: &Params) -> Result<Vec<Corner>, Refusal> {
+        let (_, width, height) = library::pgm(upload)?;
+        self.fit(width, height, params);
+        self.grown(|finder| {
+            let (map, levels) = (&mut finder.map, &mut finder.levels);
+            let (seeds, corners) = (&mut finder.seeds.0, &mut finder.corners.0);
+            library::find_corners_pgm(upload, params, map, levels, seeds, corners)
+        })
+    }
+
+    /// Makes the buffers of map and levels large enough.
+    fn fit(&mut self, width: usize, height: usize, params: &Params) {
         if width <= LARGEST_SIDE && height <= LARGEST_SIDE {
             self.map.resize(self.map.len().max(width * height), 0.0);
             let bytes = library::level_bytes(width, height, params);
             self.levels.resize(self.levels.len().max(bytes), 0);
         }
+    }
+
+    /// Tries a call with more and more places for corners, while it is refused for want of them.
+    fn grown(
+        &mut self,
+        call: impl Fn(&mut Self) -> Result<(usize, u64), Refusal>,
+    ) -> Result<Vec<Corner>, Refusal> {
         loop {
             self.seeds.resize(self.places);
             self.corners.resize(self.places);
-            let map = &mut self.map;
-            let (seeds, corners) = (&mut self.seeds.0, &mut self.corners.0);
-            match library::find_corners(image, width, height, params, map, &mut self.levels, seeds, corners) {
+            match call(self) {
                 Ok((count, ties)) => {
                     self.ties = ties;
                     return Ok(self.list(count));
@@ -177,4 +203,18 @@ pub fn response(
     let (w, h) = library::response(image, width, height, ring, across, down, &mut cells)?;
     cells.truncate(w * h);
     Ok(ResponseMap { width: w, height: h, cells })
+}
+
+/// Where the pixels of an uploaded photograph are, and its sides.
+#[derive(Clone, Copy, Debug, Eq, PartialEq)]
+pub struct Pgm<'a> {
+    pub width: usize,
+    pub height: usize,
+    pub pixels: &'a [u8],
+}
+
+/// The pixels of an uploaded photograph, a binary PGM (P5) with a maxval of 255, as a part of the upload, and its sides.
+pub fn read_pgm(upload: &[u8]) -> Result<Pgm<'_>, Refusal> {
+    let (at, width, height) = library::pgm(upload)?;
+    Ok(Pgm { width, height, pixels: &upload[at..at + width * height] })
 }

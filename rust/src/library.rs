@@ -1,6 +1,7 @@
 //! The functions of libzakdomp.a that this crate calls, over slices.
 use crate::raw::{
-    zakdomp_find_corners, zakdomp_holding, zakdomp_holdings, zakdomp_level_bytes, zakdomp_response, HOLDINGS,
+    zakdomp_find_corners, zakdomp_find_corners_pgm, zakdomp_holding, zakdomp_holdings, zakdomp_level_bytes,
+    zakdomp_pgm, zakdomp_response, HOLDINGS,
 };
 use crate::{Params, Refusal};
 use std::ops::Range;
@@ -32,6 +33,35 @@ pub(crate) fn find_corners(
     let number = unsafe {
         zakdomp_find_corners(
             image.as_ptr(), image.len(), width, height,
+            p.ring, p.threshold, p.window, p.least_neighbours, p.centroid_radius, p.merge_radius, p.levels, p.minimum_side, p.search_radius,
+            map.as_mut_ptr(), map.len(), levels.as_mut_ptr(), levels.len(),
+            sx.as_mut_ptr(), sx.len(), sy.as_mut_ptr(), sy.len(), ss.as_mut_ptr(), ss.len(),
+            cx.as_mut_ptr(), cx.len(), cy.as_mut_ptr(), cy.len(), cs.as_mut_ptr(), cs.len(),
+            &mut count, &mut ties,
+        )
+    };
+    unless_refused(number, (count, ties))
+}
+
+/// The place of the pixels of an upload, and its sides.
+pub(crate) fn pgm(upload: &[u8]) -> Result<(usize, usize, usize), Refusal> {
+    let (mut at, mut w, mut h) = (0, 0, 0);
+    // SAFETY: the slice is whole, and the three numbers are the function's own.
+    let number = unsafe { zakdomp_pgm(upload.as_ptr(), upload.len(), &mut at, &mut w, &mut h) };
+    unless_refused(number, (at, w, h))
+}
+
+#[rustfmt::skip]
+pub(crate) fn find_corners_pgm(
+    upload: &[u8], p: &Params, map: &mut [f32], levels: &mut [u8], seeds: &mut [Vec<f32>; 3], corners: &mut [Vec<f32>; 3],
+) -> Result<(usize, u64), Refusal> {
+    let (mut count, mut ties) = (0, 0);
+    let [sx, sy, ss] = seeds;
+    let [cx, cy, cs] = corners;
+    // SAFETY: as above.
+    let number = unsafe {
+        zakdomp_find_corners_pgm(
+            upload.as_ptr(), upload.len(),
             p.ring, p.threshold, p.window, p.least_neighbours, p.centroid_radius, p.merge_radius, p.levels, p.minimum_side, p.search_radius,
             map.as_mut_ptr(), map.len(), levels.as_mut_ptr(), levels.len(),
             sx.as_mut_ptr(), sx.len(), sy.as_mut_ptr(), sy.len(), ss.as_mut_ptr(), ss.len(),

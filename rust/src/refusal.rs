@@ -13,6 +13,8 @@ pub enum Refusal {
     MapShort,
     LevelsShort,
     ListShort,
+    Pgm,
+    Maxval,
     Late,
     /// A number that this crate does not know.
     Other(u8),
@@ -30,6 +32,8 @@ impl Refusal {
             8 => Self::MapShort,
             9 => Self::LevelsShort,
             10 => Self::ListShort,
+            12 => Self::Pgm,
+            13 => Self::Maxval,
             20 => Self::Late,
             _ => Self::Other(number),
         }
@@ -47,6 +51,8 @@ impl Refusal {
             Self::MapShort => 8,
             Self::LevelsShort => 9,
             Self::ListShort => 10,
+            Self::Pgm => 12,
+            Self::Maxval => 13,
             Self::Late => 20,
             Self::Other(number) => number,
         }
@@ -67,6 +73,8 @@ impl std::fmt::Display for Refusal {
             Self::MapShort => "the map buffer is too short",
             Self::LevelsShort => "the level buffer is too short",
             Self::ListShort => "there are more corners than places for them",
+            Self::Pgm => "the photograph is no whole binary PGM",
+            Self::Maxval => "the maxval of the photograph is not 255",
             Self::Late => "a start or a time is above 2^40",
             Self::Other(_) => "refused",
         };

@@ -1,4 +1,4 @@
--- What `zakdomp_find_corners` promises, by the promise of `find_corners`.
+-- What `zakdomp_find_corners` and `zakdomp_find_corners_pgm` promise, by the promises of `find_corners` and `find_pgm_corners`.
 use Prim.Native.Nat.{ℕ}
 use mathlib.Core.Path.{_≡_}
 use mathlib.Core.List.{List}
@@ -11,6 +11,9 @@ use Rattle.frame_pass.specs.Pass.{framePass}
 use Rattle.frame.specs.declared.FrameAnswer.{FrameAnswer}
 use Rattle.frame.specs.declared.FrameAnswer.the-variants.{Corners, Refused}
 use Rattle.frame.specs.Frame.{Buffers, answerOf, FrameFound}
+use Rattle.pgm.specs.Header.{widthOf, heightOf}
+use Rattle.pgm.specs.Pgm.{pixelsIn}
+use Rattle.pgm_frame.specs.PgmFrame.{PhotographFound}
 use Rattle.capi_stages.specs.Results.{resultOr}
 
 -- the parameters, in the order in which they are given
@@ -50,3 +53,15 @@ pub record CornersFound (p : FrameParams) (img : List ℕ) (w h : ℕ) (b : Buff
   pub answer : FrameFound p img w h b (answerOf r (length (cornersFound p img w h)) (tiesFound p img w h)) b′
   pub count-is : count′ ≡ resultOr r (length (cornersFound p img w h)) count
   pub ties-are : ties′ ≡ resultOr r (tiesFound p img w h) ties
+
+-- the same of an upload: list and ties are those of its pixels
+abbrev pub cornersOn : FrameParams → List ℕ → List Corner
+cornersOn p upload = cornersFound p (pixelsIn upload) (widthOf upload) (heightOf upload)
+
+abbrev pub tiesOn : FrameParams → List ℕ → ℕ
+tiesOn p upload = tiesFound p (pixelsIn upload) (widthOf upload) (heightOf upload)
+
+pub record PhotographCorners (p : FrameParams) (upload : List ℕ) (b : Buffers) (count ties r : ℕ) (b′ : Buffers) (count′ ties′ : ℕ) : Type 0 where
+  pub answer : PhotographFound p upload b (answerOf r (length (cornersOn p upload)) (tiesOn p upload)) b′
+  pub count-is : count′ ≡ resultOr r (length (cornersOn p upload)) count
+  pub ties-are : ties′ ≡ resultOr r (tiesOn p upload) ties

@@ -7,7 +7,7 @@ ghost use Rattle.frame.specs.Frame.{buffers, numberOf};
 ghost use Rattle.capi.specs.Finding.{params, countOf, tiesOf, CornersFound};
 
 // The number of an answer, 0 where corners were found.
-fn number_of(a: FrameAnswer) -> u8
+pub(crate) fn number_of(a: FrameAnswer) -> u8
     ensures { λ r. ⌜ r ≡ numberOf a ⌝ }
 {
     match a {
@@ -17,7 +17,7 @@ fn number_of(a: FrameAnswer) -> u8
 }
 
 // How many corners there are, or `before` where refused.
-fn count_of(a: FrameAnswer, before: usize) -> usize
+pub(crate) fn count_of(a: FrameAnswer, before: usize) -> usize
     ensures { λ r. ⌜ r ≡ countOf a before ⌝ }
 {
     match a {
@@ -27,7 +27,7 @@ fn count_of(a: FrameAnswer, before: usize) -> usize
 }
 
 // How many ties there are, or `before` where refused.
-fn ties_of(a: FrameAnswer, before: u64) -> u64
+pub(crate) fn ties_of(a: FrameAnswer, before: u64) -> u64
     ensures { λ r. ⌜ r ≡ tiesOf a before ⌝ }
 {
     match a {

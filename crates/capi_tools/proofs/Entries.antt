@@ -2,6 +2,7 @@
 use Prim.Native.Nat.{ℕ, zero, suc}
 use mathlib.Core.Path.{_≡_, refl, subst}
 use mathlib.Core.Bool.{Bool, true, false, cond}
+use mathlib.Core.List.{List}
 use lib.Dec.{ltb}
 use Rattle.retention.specs.declared.Holding.{Holding}
 use Rattle.retention.specs.declared.Holding.the-variants.{NotYet, Held, Gone}
@@ -10,7 +11,11 @@ use Rattle.retention.specs.Answer.{Told}
 use Rattle.retention.proofs.Items.{stated}
 use Rattle.capi_stages.specs.Results.{resultOr}
 use Rattle.capi_stages.proofs.Answers.{answer, result}
+use Rattle.pgm.specs.declared.PgmImage.{PgmImage}
+use Rattle.pgm.specs.Header.{widthOf, heightOf, rasterAt}
+use Rattle.pgm.specs.Pgm as pgm
 use Rattle.capi_tools.specs.Holding.{letterOr, HoldingTold}
+use Rattle.capi_tools.specs.Photo.{placeOr, widthOr, heightOr, ImageRead}
 
 -- ---- an item
 module _ (kind start time : ℕ) where
@@ -41,3 +46,38 @@ module _ (kind start time : ℕ) where
           answer = subst (Told kind start time) (answer (λ k. answerBy k state) numberOf again a number (t .answer) r n) t;
           letter-is = result (λ k. answerBy k state) numberOf again a number (t .answer) r n letterOr (letterOf state) letter letter′ each x;
         }
+
+-- ---- a photograph
+module _ (upload : List ℕ) (a : PgmImage) (r : ℕ) (f : pgm.PgmRead upload a) (n : r ≡ pgm.numberOf a) where
+  abbrev by : ℕ → PgmImage
+  by k = pgm.answerBy k (rasterAt upload) (widthOf upload) (heightOf upload)
+
+  by-again : (k : ℕ) → pgm.numberOf (by k) ≡ k
+  by-again zero = refl
+  by-again (suc k) = refl
+
+  value-is : (valueOf : PgmImage → ℕ → ℕ) (v before x : ℕ) → ((k : ℕ) → valueOf (by k) before ≡ resultOr k v before) → x ≡ valueOf a before
+      → x ≡ resultOr r v before
+  value-is = result by pgm.numberOf by-again a (pgm.refusalOf upload) (f .answer) r n
+
+  pub image-read : (at width height at′ width′ height′ : ℕ) → at′ ≡ placeOr a at → width′ ≡ widthOr a width → height′ ≡ heightOr a height
+      → ImageRead upload at width height r at′ width′ height′
+  image-read at width height at′ width′ height′ p w h =
+      record {
+        answer = subst (pgm.PgmRead upload) (answer by pgm.numberOf by-again a (pgm.refusalOf upload) (f .answer) r n) f;
+        at-is = value-is placeOr (rasterAt upload) at at′ place p;
+        width-is = value-is widthOr (widthOf upload) width width′ wide w;
+        height-is = value-is heightOr (heightOf upload) height height′ high h;
+      }
+    where
+      place : (k : ℕ) → placeOr (by k) at ≡ resultOr k (rasterAt upload) at
+      place zero = refl
+      place (suc k) = refl
+
+      wide : (k : ℕ) → widthOr (by k) width ≡ resultOr k (widthOf upload) width
+      wide zero = refl
+      wide (suc k) = refl
+
+      high : (k : ℕ) → heightOr (by k) height ≡ resultOr k (heightOf upload) height
+      high zero = refl
+      high (suc k) = refl

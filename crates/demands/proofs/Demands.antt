@@ -12,6 +12,7 @@ use Rattle.demands.proofs.Units.{units-nearest}
 use Rattle.demands.proofs.RingPass.{ring-one-pass}
 use Rattle.demands.proofs.Retention.{held-when, retained-total, retained-reads}
 use Rattle.demands.proofs.FrameExact.{frame-exact, alike-by-name, maps-searched, maps-alike, frame-without-ties, four-never, peaks-kept}
+use Rattle.demands.proofs.Photographs.{photograph-is-frame, plain-header-read, behind-unread, uploads-read}
 use Rattle.demands.proofs.Tolerance.{centre-tolerance, frame-tolerance}
 
 pub demands : Demands
@@ -35,6 +36,10 @@ demands = record {
   maps-searched = maps-searched;
   maps-alike = maps-alike;
   frame-without-ties = frame-without-ties;
+  photograph-is-frame = photograph-is-frame;
+  plain-header-read = plain-header-read;
+  behind-unread = behind-unread;
+  uploads-read = uploads-read;
   units-nearest = units-nearest;
   ring-one-pass = ring-one-pass;
   held-when = held-when;

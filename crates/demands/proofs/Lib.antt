@@ -15,4 +15,6 @@ pub mod Units
 pub mod RingPass
 pub mod Tolerance
 pub mod Retention
+pub mod PlainHeader
+pub mod Photographs
 pub mod Demands

@@ -1,13 +1,14 @@
 -- Each answer is by its table's number, and a table gives 0 or one of its numbers. Assumes nothing.
-use Prim.Native.Nat.{ℕ, _+_, _*_, min}
+use Prim.Native.Nat.{ℕ, zero, suc, _+_, _*_, _<_, min}
 use native.Mathlib.Omega.{arith}
-use mathlib.Core.Path.{_≡_, sym, ap, _∙_}
+use mathlib.Core.Path.{_≡_, refl, sym, ap, _∙_}
 use mathlib.Core.Logic.{inl}
 use mathlib.Core.Bool.{Bool, true, false, cond, not, _&&_, _||_}
 use mathlib.Core.List.{List, [], _∷_, _++_, map}
 use lib.ListN.{length, take}
 use lib.Dec.{ltb}
 use lib.Ieee.{Float}
+use borrow.Author.Tests.{eq-eqb}
 use Rattle.lists.specs.Places.{any}
 use Rattle.lists.specs.Refusals.{isLarge, isMisfit, lowest}
 use Rattle.ring.specs.Ring.{isRing}
@@ -47,11 +48,18 @@ use Rattle.merge_slice.specs.MergeSlice.{sharedPlaces, refusalFor}
 use Rattle.patch_corners.specs.declared.FrameParams.{FrameParams}
 use Rattle.patch_corners.specs.OneMap.{computedChoice}
 use Rattle.patch_corners.specs.PatchCorners.{conditionsOf, BoxAdded}
-use Rattle.frame_pass.specs.Refusals.{conditions}
+use Rattle.frame_pass.specs.Refusals.{parametersFit, conditions}
 use Rattle.frame_pass.specs.Pass.{framePass}
 use Rattle.frame.specs.declared.FrameAnswer.{FrameAnswer}
 use Rattle.frame.specs.declared.FrameAnswer.the-variants as answer
 use Rattle.frame.specs.Frame as frame
+use Rattle.pgm.specs.declared.PgmImage.{PgmImage}
+use Rattle.pgm.specs.declared.PgmImage.the-variants as image
+use Rattle.pgm.specs.Header.{widthOf, heightOf, rasterAt}
+use Rattle.pgm.specs.Pgm.{PgmRead}
+use Rattle.pgm.specs.Pgm as pgm
+use Rattle.pgm.proofs.Judging.{pixels-length}
+use Rattle.pgm_frame.specs.PgmFrame.{PhotographFound}
 use Rattle.stream.specs.declared.FrameStream.{FrameStream}
 use Rattle.stream.specs.Answer.{readingOf, FrameRead}
 use Rattle.stream.specs.declared.FrameStream.the-variants as stream
@@ -67,7 +75,8 @@ use Rattle.retention.proofs.Items.{lettered}
 use Rattle.demands.specs.ResponseCall.{viewOf}
 use Rattle.demands.specs.Numbers.{OneOf, Refuses}
 use Rattle.demands.specs.Total.{Total}
-use Rattle.demands.proofs.Tables.{numbered-one, refused-one}
+use Rattle.demands.proofs.Tables.{widen, numbered-one, refused-one}
+use Rattle.demands.proofs.Photographs.{photograph-accepted, photograph-refused}
 use Rattle.demands.proofs.Faults.{frame-few}
 
 response-refuses : (v : response.View) (radius : ℕ) (d e : List Float) (r : Patch) → response.Patched v radius d r e
@@ -158,6 +167,46 @@ frame-refuses p img w h b b′ r f =
     (conditions p (length img) w h (length (b .map)) (length (b .levels)) ++ ((frame.tooMany q b, 10) ∷ []))
     r (ap (λ (z : frame.Frame). z .answer) (f .is))
 
+pgm-refuses : (upload : List ℕ) (r : PgmImage) → PgmRead upload r → Refuses image.Refused (1 ∷ 12 ∷ 13 ∷ []) r
+unfolding pgm.refusalOf pgm.conditions
+pgm-refuses upload r f =
+    refused-one image.Refused (λ n. pgm.answerBy n (rasterAt upload) (widthOf upload) (heightOf upload)) (λ k e. let z : _≡_ {A = ℕ} 0 1 = cc in omega arith)
+    (λ n k e. sym (ap pgm.numberOf e)) (pgm.conditions upload) r (f .answer)
+
+-- a frame whose image is as long as its sides say is not refused as 2
+frame-fitting : (p : FrameParams) (img : List ℕ) (w h : ℕ) (b b′ : frame.Buffers) (r : FrameAnswer) → length img ≡ w * h → frame.FrameFound p img w h b r b′
+    → Refuses answer.Refused (1 ∷ 3 ∷ 5 ∷ 8 ∷ 9 ∷ 10 ∷ []) r
+unfolding frame.frameOf frame.refusalOf conditions
+frame-fitting p img w h b b′ r fits f =
+    let q = framePass p img w h (computedChoice p) in
+    refused-one answer.Refused (λ n. frame.answerOf n (length (q .corners)) (q .ties)) (λ k e. let z : _≡_ {A = ℕ} 0 1 = cc in omega arith)
+    (λ n k e. sym (ap frame.numberOf e))
+    ((isLarge w h, 1)
+    ∷ (not (parametersFit p), 3)
+    ∷ (radiusOutside (p .«merge_radius»), 5)
+    ∷ (ltb (length (b .map)) (w * h), 8)
+    ∷ (isShort (length (b .levels)) w h (p .levels) (p .«minimum_side»), 9)
+    ∷ (frame.tooMany q b, 10)
+    ∷ [])
+    r (ap (λ (z : frame.Frame). z .answer) (f .is) ∙ rw (eq-eqb (length img) (w * h) fits))
+
+photograph-refuses : (p : FrameParams) (upload : List ℕ) (b b′ : frame.Buffers) (r : FrameAnswer) → PhotographFound p upload b r b′
+    → Refuses answer.Refused (1 ∷ 3 ∷ 5 ∷ 8 ∷ 9 ∷ 10 ∷ 12 ∷ 13 ∷ []) r
+photograph-refuses p upload b b′ r f k e = go (pgm.refusalOf upload) refl
+  where
+    upload-one : (k : ℕ) → k ≡ pgm.refusalOf upload → 0 < k → OneOf k (1 ∷ 12 ∷ 13 ∷ [])
+    upload-one k same some = unfold pgm.refusalOf pgm.conditions in (numbered-one (pgm.conditions upload) k same some)
+
+    go : (n : ℕ) → pgm.refusalOf upload ≡ n → OneOf k (1 ∷ 3 ∷ 5 ∷ 8 ∷ 9 ∷ 10 ∷ 12 ∷ 13 ∷ [])
+    go zero none =
+        widen k (1 ∷ 3 ∷ 5 ∷ 8 ∷ 9 ∷ 10 ∷ []) (1 ∷ 3 ∷ 5 ∷ 8 ∷ 9 ∷ 10 ∷ 12 ∷ 13 ∷ []) refl
+        (frame-fitting p (pgm.pixelsIn upload) (widthOf upload) (heightOf upload) b b′ r (pixels-length upload none)
+        (photograph-accepted p upload b b′ r f none) k e)
+    go (suc n) some =
+        let told = photograph-refused p upload b b′ r f (λ z. let no : ⊥ = omega arith in no) .0 in
+        let same : k ≡ pgm.refusalOf upload = ap frame.numberOf (sym e ∙ told) in
+        widen k (1 ∷ 12 ∷ 13 ∷ []) (1 ∷ 3 ∷ 5 ∷ 8 ∷ 9 ∷ 10 ∷ 12 ∷ 13 ∷ []) refl (upload-one k same (omega (arith, same, some)))
+
 stream-refuses : (input pixels pixels′ : List ℕ) (r : FrameStream) → FrameRead input pixels r pixels′ → Refuses stream.Refused (1 ∷ 3 ∷ 5 ∷ 6 ∷ 7 ∷ 11 ∷ []) r
 stream-refuses input pixels pixels′ r f k e = frame-few input k (sym (f .reading) ∙ ap (λ (a : FrameStream). readingOf a pixels′) e)
 
@@ -194,6 +243,8 @@ total = record {
   «merge_within» = λ radius places count b b′ r f. merge-refuses radius (min places (placesOf b)) count b _ r (f .answer);
   «merge_corner_slice» = λ radius count cs cs′ b b′ r f. slice-refuses radius count cs b _ r (f .answer);
   «find_corners» = frame-refuses;
+  «read_pgm» = pgm-refuses;
+  «find_pgm_corners» = photograph-refuses;
   «read_frame» = stream-refuses;
   «write_corners» = listing-refuses;
   holding = holding-refuses;

@@ -13,6 +13,7 @@ use Rattle.demands.specs.RingPass.{RingOnePass}
 use Rattle.demands.specs.Retention.{HeldWhen, RetainedTotal, RetainedReads}
 use Rattle.demands.specs.FrameExact.{FrameExact, AlikeByName, MapsSearched, MapsAlike, FrameWithoutTies, FourNever, PeaksKept}
 use Rattle.demands.specs.Tolerance.{CentreTolerance, FrameTolerance}
+use Rattle.demands.specs.Photographs.{PhotographIsFrame, PlainHeaderRead, BehindUnread, UploadsRead}
 
 pub record Demands : Type 0 where
   -- ---- 1. Total
@@ -56,6 +57,15 @@ pub record Demands : Type 0 where
   pub maps-alike : MapsAlike
   -- and so a frame without ties has the exact list
   pub frame-without-ties : FrameWithoutTies
+  -- ---- Request 1: PGM photographs
+  -- "The frame is the image's pixels as a part of the uploaded bytes": demands 2 and 3 hold of it
+  pub photograph-is-frame : PhotographIsFrame
+  -- "Read the P5 form": a header that is written plainly is read back, for every size
+  pub plain-header-read : PlainHeaderRead
+  -- "Bytes after the pixels are not read."
+  pub behind-unread : BehindUnread
+  -- "width, height, maxval, whitespace and comments", and each number, in a table of uploads
+  pub uploads-read : UploadsRead
   -- ---- Request 2: nearest 256th
   -- "The two 256th columns become nearest, half away from zero"
   pub units-nearest : UnitsNearest

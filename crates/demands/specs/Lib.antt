@@ -14,4 +14,6 @@ pub mod Units
 pub mod RingPass
 pub mod Tolerance
 pub mod Retention
+pub mod Texts
+pub mod Photographs
 pub mod Demands

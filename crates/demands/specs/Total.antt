@@ -2,7 +2,7 @@
 -- numbered refusals. The conditions of each number are fixed", and so is what every buffer holds afterwards.
 -- Every call of a public function ends, and asks nothing of its caller; its promise has the answer and every buffer afterwards by equations.
 -- Here stand the promises of the functions that refuse, word for word, and the numbers that each can give: 0, which the definitions use for
--- "none", is no refusal's. A request's new number counts with the eleven: 20 of request 13.
+-- "none", is no refusal's. A request's new number counts with the eleven: 12 and 13 of request 1, 20 of request 13.
 -- Which condition has which number, lowest first, is in the tables that the promises name. No other public function refuses, and each
 -- of these promises one equation over its arguments:
 --   numbers         lesser, greater, minus
@@ -13,6 +13,7 @@
 --   detect          refusal (the number alone)
 --   pyramid_levels  level_count, cells_before, cells_above, build_refusal and level_refusal (the number alone)
 --   pyramid         level (nothing where `level_at` refuses)
+--   pgm             pgm_pixels (nothing where `read_pgm` refuses)
 --   merge_radius    is_off, is_sized, is_outside
 --   patch_corners   clear, clear_bytes, clear_list (of its module `clearing`)
 --   frame_pass      refusal (the number before the pass)
@@ -58,6 +59,10 @@ use Rattle.patch_corners.specs.BoxCorners.{AddedBox}
 use Rattle.frame.specs.declared.FrameAnswer.{FrameAnswer}
 use Rattle.frame.specs.declared.FrameAnswer.the-variants as frame
 use Rattle.frame.specs.Frame.{Buffers, FrameFound}
+use Rattle.pgm.specs.declared.PgmImage.{PgmImage}
+use Rattle.pgm.specs.declared.PgmImage.the-variants as pgm
+use Rattle.pgm.specs.Pgm.{PgmRead}
+use Rattle.pgm_frame.specs.PgmFrame.{PhotographFound}
 use Rattle.stream.specs.declared.FrameStream.{FrameStream}
 use Rattle.stream.specs.declared.FrameStream.the-variants as stream
 use Rattle.stream.specs.Answer.{FrameRead}
@@ -103,6 +108,10 @@ pub record Total : Type 0 where
       → Refuses merge.Refused (4 ∷ 5 ∷ 10 ∷ []) r
   pub «find_corners» : (p : FrameParams) (img : List ℕ) (w h : ℕ) (b b′ : Buffers) (r : FrameAnswer) → FrameFound p img w h b r b′
       → Refuses frame.Refused (1 ∷ 2 ∷ 3 ∷ 5 ∷ 8 ∷ 9 ∷ 10 ∷ []) r
+  pub «read_pgm» : (upload : List ℕ) (r : PgmImage) → PgmRead upload r
+      → Refuses pgm.Refused (1 ∷ 12 ∷ 13 ∷ []) r
+  pub «find_pgm_corners» : (p : FrameParams) (upload : List ℕ) (b b′ : Buffers) (r : FrameAnswer) → PhotographFound p upload b r b′
+      → Refuses frame.Refused (1 ∷ 3 ∷ 5 ∷ 8 ∷ 9 ∷ 10 ∷ 12 ∷ 13 ∷ []) r
   pub «read_frame» : (input pixels pixels′ : List ℕ) (r : FrameStream) → FrameRead input pixels r pixels′
       → Refuses stream.Refused (1 ∷ 3 ∷ 5 ∷ 6 ∷ 7 ∷ 11 ∷ []) r
   pub «write_corners» : (b : Slices) (count : ℕ) (out out′ : List ℕ) (r : Listing) → CornersWritten b count out r out′

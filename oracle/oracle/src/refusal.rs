@@ -24,6 +24,10 @@ pub const LEVELS_SHORT: Refusal = 9;
 pub const LIST_SHORT: Refusal = 10;
 /// A record of a known kind out of its order.
 pub const OUT_OF_ORDER: Refusal = 11;
+/// A photograph whose header is not of the form P5, or with fewer bytes than pixels (RULES 20), which has no counterpart in the original.
+pub const PGM: Refusal = 12;
+/// A photograph whose maxval is not 255: likewise.
+pub const MAXVAL: Refusal = 13;
 /// The start of an item, or the time asked about, above 2^40 (RULES 32.3), which has no counterpart in the original.
 pub const LATE: Refusal = 20;
 

@@ -1,0 +1,52 @@
+// The corners of an uploaded photograph.
+use patch_corners::FrameParams;
+ghost use Rattle.corner_list.specs.CornerList.{slices};
+ghost use Rattle.frame.specs.Frame.{buffers};
+ghost use Rattle.capi.specs.Finding.{params, PhotographCorners};
+
+// Finds the corners of an upload, as `zakdomp_find_corners` does of its pixels.
+#[no_mangle]
+pub extern "C" fn zakdomp_find_corners_pgm(
+    upload: &[u8],
+    ring: u32,
+    threshold: f32,
+    window: u32,
+    least_neighbours: u32,
+    centroid_radius: u32,
+    merge_radius: f32,
+    level_count: u32,
+    minimum_side: usize,
+    search_radius: u32,
+    map: &mut [f32],
+    levels: &mut [u8],
+    sx: &mut [f32],
+    sy: &mut [f32],
+    ss: &mut [f32],
+    cx: &mut [f32],
+    cy: &mut [f32],
+    cs: &mut [f32],
+    count: &mut usize,
+    ties: &mut u64,
+) -> u8
+    ensures { λ r. ⌜ PhotographCorners (params ring threshold window «least_neighbours» «centroid_radius» «merge_radius» «level_count» «minimum_side» «search_radius») (now (upload .entry))
+        (buffers (now (map .entry)) (now (levels .entry)) (slices (now (sx .entry)) (now (sy .entry)) (now (ss .entry))) (slices (now (cx .entry)) (now (cy .entry)) (now (cs .entry))))
+        (now (count .entry)) (now (ties .entry)) r
+        (buffers (now (map .exit)) (now (levels .exit)) (slices (now (sx .exit)) (now (sy .exit)) (now (ss .exit))) (slices (now (cx .exit)) (now (cy .exit)) (now (cs .exit))))
+        (now (count .exit)) (now (ties .exit)) ⌝ }
+{
+    let p = FrameParams {
+        ring,
+        threshold,
+        window,
+        least_neighbours,
+        centroid_radius,
+        merge_radius,
+        levels: level_count,
+        minimum_side,
+        search_radius,
+    };
+    let a = pgm_frame::find_pgm_corners(upload, p, map, levels, sx, sy, ss, cx, cy, cs);
+    *count = crate::finding::count_of(a, *count);
+    *ties = crate::finding::ties_of(a, *ties);
+    crate::finding::number_of(a)
+}

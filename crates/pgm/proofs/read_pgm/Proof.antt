@@ -1,0 +1,54 @@
+-- `pgm::read_pgm` meets its contract, refused or not. Assumes nothing.
+use native.Mathlib.Omega.{arith}
+use mathlib.Core.Path.{sym, _∙_}
+use borrow.Author.Needs.{needs}
+use Rattle.pgm.specs.Internal.{FieldsRead}
+use Rattle.pgm.proofs.Fields.{fields-read}
+use Rattle.pgm.proofs.Judging.{refused-read, pixels-read, end-inside}
+use Rattle.pgm.proofs.read_pgm.Statement.{statement}
+use Rattle.pgm.proofs.read_pgm.Tie as tie
+
+skip-comments-requires : tie.Need-skip-comments-requires
+skip-comments-requires c κs = search needs
+
+read-field-requires : tie.Need-read-field-requires
+read-field-requires c κs = search needs
+
+read-field-requires-2 : tie.Need-read-field-requires-2
+read-field-requires-2 c κs = search needs
+
+read-field-requires-3 : tie.Need-read-field-requires-3
+read-field-requires-3 c κs = search needs
+
+-- the three fields
+fields : (c : tie.After-read-field3)
+    → FieldsRead (c .before .before .before .before .before .args .upload .now) (c .before .before .read-field .result)
+    (c .before .read-field2 .result) (c .read-field3 .result)
+fields c =
+    fields-read _ _ (c .before .before .before .skip-comments .ensures) _ _ _ (c .before .before .read-field .ensures) (c .before .read-field2 .ensures)
+    (c .read-field3 .ensures)
+
+judge-requires : tie.Need-judge-requires
+judge-requires c κs = fields c
+
+returns : tie.Need-returns
+returns c = refused-read _ _ (c .before .judge .ensures) (c .if1 .taken)
+
+add-t9 : tie.Need-add-t9
+add-t9 c = omega (arith, end-inside _ _ _ _ (fields (c .before .before)) (sym (c .before .judge .ensures) ∙ c .if1 .left))
+
+returns-2 : tie.Need-returns-2
+returns-2 c = pixels-read _ _ _ _ (fields (c .before .before)) (sym (c .before .judge .ensures) ∙ c .if1 .left)
+
+pub read-pgm-spec : {M : Type 1} → statement M
+read-pgm-spec =
+    tie.close
+    (tie.spec
+    skip-comments-requires
+    read-field-requires
+    read-field-requires-2
+    read-field-requires-3
+    judge-requires
+    returns
+    add-t9
+    returns-2)

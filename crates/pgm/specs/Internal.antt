@@ -1,0 +1,48 @@
+-- What the private functions that scan a header ask and promise. A place of the upload stands for the characters from it on, comments gone.
+use Prim.Native.Nat.{ℕ, _<_, _≤_, min}
+use mathlib.Core.Path.{_≡_}
+use mathlib.Core.Bool.{false}
+use mathlib.Core.List.{List}
+use lib.ListN.{length, getD, drop}
+use Rattle.pgm.specs.declared.header.Scanned.{Scanned}
+use Rattle.pgm.specs.declared.header.Digits.{Digits}
+use Rattle.pgm.specs.Header.{Character, bare, isDigit, leading, trailing, numberFrom, Field, widthField, heightField, maxvalField}
+
+-- numbers are kept up to 65,536: a larger one is 65,536
+abbrev pub capped : ℕ → ℕ
+capped n = min n 65536
+
+-- the characters from a place on, which is in no comment
+abbrev pub bareFrom : List ℕ → ℕ → List Character
+bareFrom upload at = bare false at (drop at upload)
+
+-- no comment begins at a place
+abbrev pub Plain : List ℕ → ℕ → Type 0
+Plain upload at = at < length upload → getD upload at 0 ≡ 35 → ⊥
+
+-- no comment begins at a place, from which on come the characters cs
+pub record Reaches (upload : List ℕ) (cs : List Character) (at : ℕ) : Type 0 where
+  pub same : bareFrom upload at ≡ cs
+  pub plain : Plain upload at
+
+-- past the comments that begin at `from`
+pub record Skipped (upload : List ℕ) (from at : ℕ) : Type 0 where
+  pub further : from ≤ at
+  pub reaches : Reaches upload (bareFrom upload from) at
+
+-- the digits of cs: their number, and the place behind them
+pub record DigitsRead (upload : List ℕ) (cs : List Character) (r : Digits) : Type 0 where
+  pub number : r .number ≡ capped (numberFrom 0 (leading isDigit cs))
+  pub end : Reaches upload (trailing isDigit cs) (r .end)
+
+-- a field of the header
+pub record FieldRead (upload : List ℕ) (field : Field) (r : Scanned) : Type 0 where
+  pub there : r .there ≡ field .there
+  pub number : r .number ≡ capped (field .number)
+  pub end : Reaches upload (field .rest) (r .end)
+
+-- all three
+pub record FieldsRead (upload : List ℕ) (width height maxval : Scanned) : Type 0 where
+  pub width-read : FieldRead upload (widthField upload) width
+  pub height-read : FieldRead upload (heightField upload) height
+  pub maxval-read : FieldRead upload (maxvalField upload) maxval

@@ -1,0 +1,82 @@
+-- `pgm_frame::find_pgm_corners` meets its contract: the upload is refused, or its pixels have the frame's promise. Assumes nothing.
+use borrow.Author.Needs.{needs}
+use Rattle.pgm_frame.proofs.Photographs.{photograph-refused, photograph-found}
+use Rattle.pgm_frame.proofs.find_pgm_corners.Statement.{statement}
+use Rattle.pgm_frame.proofs.find_pgm_corners.Tie as tie
+
+read-pgm-requires : tie.Need-read-pgm-requires
+read-pgm-requires c κs = search needs
+
+enum-known-image : tie.Need-enum-known-image
+enum-known-image c = search needs
+
+enum-known-image-2 : tie.Need-enum-known-image-2
+enum-known-image-2 c = search needs
+
+pgm-pixels-requires : tie.Need-pgm-pixels-requires
+pgm-pixels-requires c κs = search needs
+
+find-corners-requires : tie.Need-find-corners-requires
+find-corners-requires c κs = search needs
+
+returns : tie.Need-returns
+returns c = photograph-refused _ _ _ _ (c .before .before .before .read-pgm .ensures) _ (c .before .image .given .1)
+
+same-length : tie.Need-same-length
+same-length c = search needs
+
+same-length-2 : tie.Need-same-length-2
+same-length-2 c = search needs
+
+same-length-3 : tie.Need-same-length-3
+same-length-3 c = search needs
+
+same-length-4 : tie.Need-same-length-4
+same-length-4 c = search needs
+
+same-length-5 : tie.Need-same-length-5
+same-length-5 c = search needs
+
+same-length-6 : tie.Need-same-length-6
+same-length-6 c = search needs
+
+same-length-7 : tie.Need-same-length-7
+same-length-7 c = search needs
+
+same-length-8 : tie.Need-same-length-8
+same-length-8 c = search needs
+
+-- from one place of the code back to another
+abbrev at-find-corners : tie.After-slice-known16 → tie.After-find-corners
+at-find-corners c = c .before .before .before .before .before .before .before .before .before .before .before .before .before .before .before .before
+
+abbrev at-pgm-pixels : tie.After-find-corners → tie.After-pgm-pixels
+at-pgm-pixels c = c .before .before .before .before .before .before .before .before .before
+
+returns-2 : tie.Need-returns-2
+returns-2 c =
+    let found = at-find-corners c in
+    let pixels = at-pgm-pixels found in
+    let image = pixels .before .before in
+    photograph-found _ _ _ _ (image .before .before .read-pgm .ensures) _ _ _ (image .image2 .given .1) _ (pixels .pgm-pixels .ensures) _ _
+    (found .find-corners .ensures)
+
+pub find-pgm-corners-spec : {M : Type 1} → statement M
+find-pgm-corners-spec =
+    tie.close
+    (tie.spec
+    read-pgm-requires
+    enum-known-image
+    enum-known-image-2
+    pgm-pixels-requires
+    find-corners-requires
+    returns
+    same-length
+    same-length-2
+    same-length-3
+    same-length-4
+    same-length-5
+    same-length-6
+    same-length-7
+    same-length-8
+    returns-2)

@@ -1,0 +1,35 @@
+// The corners of an uploaded photograph: the frame pass on its pixels.
+ghost use Rattle.corner_list.specs.CornerList.{slices};
+ghost use Rattle.frame.specs.Frame.{buffers};
+ghost use Rattle.pgm_frame.specs.PgmFrame.{PhotographFound};
+use frame::FrameAnswer;
+use patch_corners::FrameParams;
+use pgm::PgmImage;
+
+// Finds the corners of a binary PGM photograph, as `find_corners` does of its pixels.
+pub fn find_pgm_corners(
+    upload: &[u8],
+    p: FrameParams,
+    map: &mut [f32],
+    levels: &mut [u8],
+    sx: &mut [f32],
+    sy: &mut [f32],
+    ss: &mut [f32],
+    cx: &mut [f32],
+    cy: &mut [f32],
+    cs: &mut [f32],
+) -> FrameAnswer
+    ensures { λ r. ⌜ PhotographFound p (now (upload .entry))
+        (buffers (now (map .entry)) (now (levels .entry)) (slices (now (sx .entry)) (now (sy .entry)) (now (ss .entry))) (slices (now (cx .entry)) (now (cy .entry)) (now (cs .entry))))
+        r
+        (buffers (now (map .exit)) (now (levels .exit)) (slices (now (sx .exit)) (now (sy .exit)) (now (ss .exit))) (slices (now (cx .exit)) (now (cy .exit)) (now (cs .exit)))) ⌝ }
+{
+    let image = pgm::read_pgm(upload);
+    match image {
+        PgmImage::Refused(n) => FrameAnswer::Refused(n),
+        PgmImage::Pixels { at: _, w, h } => {
+            let pixels = pgm::pgm_pixels(upload);
+            frame::find_corners(pixels, w, h, p, map, levels, sx, sy, ss, cx, cy, cs)
+        }
+    }
+}
