@@ -189,6 +189,28 @@ static void holdings(void) {
     expect(length == 10 && memcmp(output, "refused 7\n", length) == 0, "a record cut short");
 }
 
+static void writing(const uint8_t *img) {
+    static const uint8_t one[] = {1, 1, 0, 1, 0, 2, 5, 0x01, 0, 0xc0, 0x7f, 0, 0, 0, 0x45, 0x23, 0xc1, 0xff, 255, 255, 255, 255, 3, 9};
+    static const char listing[] = "corners 1\n1280 1280 40a00000 40a00000 44fe0000\n";
+    static uint8_t stream[9527], output[ZAKDOMP_LONGEST];
+    const uint8_t nine = 9;
+    size_t n = 77;
+    memset(stream, '?', sizeof stream);
+    expect(zakdomp_write_stream(&nine, 1, 1, 1, 5, 0x7fc00001, 0, 0, 0, 0xffc12345, 255, 65535, 255, stream, 55, &n) == ZAKDOMP_STREAM_SHORT,
+           "a stream buffer that is a byte short");
+    expect(zakdomp_write_stream(&nine, 1, 1, 1, 5, 0, 0, 256, 0, 0, 1, 1, 0, stream, 56, &n) == ZAKDOMP_PARAMETER, "a value too wide");
+    expect(zakdomp_write_stream(&nine, 1, 97, 1, 6, 0, 0, 0, 0, 0, 1, 1, 0, stream, 0, &n) == ZAKDOMP_SIDE, "a side of 97");
+    expect(n == 77 && stream[0] == '?', "refused: as it was");
+    expect(zakdomp_write_stream(&nine, 1, 1, 1, 5, 0x7fc00001, 0, 0, 0, 0xffc12345, 255, 65535, 255, stream, 56, &n) == 0 && n == 56,
+           "a stream of one pixel");
+    expect(memcmp(stream, one, sizeof one) == 0 && stream[24] == 0 && stream[54] == 0 && stream[55] == 4 && stream[56] == '?',
+           "its bytes, both NaN patterns among them, and none behind");
+    expect(zakdomp_write_stream(img, CELLS, SIDE, SIDE, 5, 0, 0, 0, 0, 0x40400000, 1, 1, 0, stream, sizeof stream, &n) == 0 && n == 155,
+           "the stream of the whole case");
+    size_t length = zakdomp_corners(stream, n, output);
+    expect(length == sizeof listing - 1 && memcmp(output, listing, length) == 0, "and its listing");
+}
+
 int main(void) {
     uint8_t img[CELLS];
     whole_case(img);
@@ -197,6 +219,7 @@ int main(void) {
     stages(img);
     ties();
     streams(img);
+    writing(img);
     holdings();
     printf("C: %d passed, %d failed\n", passed, failed);
     return failed != 0;

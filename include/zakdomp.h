@@ -26,9 +26,9 @@ extern "C" {
 
 enum {
     ZAKDOMP_DONE = 0,
-    ZAKDOMP_SIDE = 1,         /* a side is above 4096 */
+    ZAKDOMP_SIDE = 1,         /* a side is above 4096, in a stream above 96 */
     ZAKDOMP_LENGTH = 2,       /* the length of an image or of a map is not width * height */
-    ZAKDOMP_PARAMETER = 3,    /* ring not 5 or 10, window or centroid radius above 16, or search radius above 255 */
+    ZAKDOMP_PARAMETER = 3,    /* ring not 5 or 10, window or centroid radius above 16, search radius above 255, or too wide for a stream */
     ZAKDOMP_COORDINATE = 4,   /* a corner to be merged is not within 0..4096, or a seed not within 1000000 either way */
     ZAKDOMP_MERGE_RADIUS = 5, /* the merge radius is finite and positive, but not within 1/64..4096 */
     ZAKDOMP_KIND = 6,         /* there is no such kind of item */
@@ -37,6 +37,7 @@ enum {
     ZAKDOMP_LIST_SHORT = 10,  /* the corners do not fit their buffer */
     ZAKDOMP_PGM = 12,         /* the header of a photograph is not of the form P5, or fewer bytes than pixels are behind it */
     ZAKDOMP_MAXVAL = 13,      /* the maxval of a photograph is not 255 */
+    ZAKDOMP_STREAM_SHORT = 19, /* the stream buffer is too short */
     ZAKDOMP_LATE = 20         /* a start or a time is above 2^40 */
 };
 
@@ -131,6 +132,16 @@ uint8_t zakdomp_levels(const uint8_t *img, size_t img_length, size_t w, size_t h
  * ZAKDOMP_LONGEST bytes. Returns the length of the text. */
 #define ZAKDOMP_LONGEST 35340
 size_t zakdomp_corners(const uint8_t *input, size_t input_length, uint8_t *output);
+
+/* Writes the frame stream of an image of w by h pixels, at most 96 by 96, first in `stream`. It is the one stream that zakdomp_corners reads as
+ * these sides, parameters and pixels. The parameters are those of zakdomp_find_corners; threshold and merge radius come as their 32 bits, so that
+ * a NaN keeps its pattern. A byte is the field of `least`, `level_count` and `search`, and two are that of `minimum`: a larger value is refused as 3.
+ *   stream  at least 23 bytes and 33 for each 32 pixels, the last ones included: no stream is longer than 9527 bytes
+ *   length  the length of the stream
+ * Refusals: 1, 2, 3, 5, 19. */
+uint8_t zakdomp_write_stream(const uint8_t *pixels, size_t pixels_length, size_t w, size_t h, uint32_t ring, uint32_t threshold_bits,
+                             uint32_t window, uint32_t least, uint32_t centroid, uint32_t merge_bits, uint32_t level_count, size_t minimum,
+                             uint32_t search, uint8_t *stream, size_t stream_length, size_t *length);
 
 /* Whether an item is held at a time; both are seconds, and a day is seconds div 86400.
  *   kind    1 a corner file: held from receipt on; 2 a photograph: held on the day of receipt and the 89 days behind it;

@@ -90,7 +90,7 @@ class Finding(unittest.TestCase):
 
     def test_refusals(self):
         image = whole_case()
-        self.assertEqual(self.refused(1, image, 4097, 11), "a side is above 4096 (number 1)")
+        self.assertEqual(self.refused(1, image, 4097, 11), "a side is above 4096, or above 96 in a stream (number 1)")
         self.refused(2, image, 11, 10)
         self.refused(3, image, 11, 11, ring=6)
         self.refused(5, image, 11, 11, merge_radius=5000.0)

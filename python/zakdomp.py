@@ -5,6 +5,7 @@
     find_corners_pgm(upload, threshold=30)             ->  the same of a photograph, the bytes of a binary PGM file
     read_pgm(upload)                                   ->  Photograph(at, width, height, pixels)
     response(pixels, width, height, ring=5)            ->  ResponseMap(width, height, cells)
+    write_stream(pixels, width, height, threshold=30)  ->  the bytes that the program `corners` reads
     holding(kind, start, time), holdings(stream)       ->  "N" not yet, "H" held or "G" gone, for an item and for each of a stream
 
 `pixels` is anything with a buffer of bytes, in row order. What the library refuses is raised as `Refusal`. The library is looked for in
@@ -25,9 +26,9 @@ from typing import NamedTuple
 __version__ = "0.1.0"
 
 REFUSALS = {
-    1: "a side is above 4096",
+    1: "a side is above 4096, or above 96 in a stream",
     2: "the number of pixels is not width times height",
-    3: "the ring is not 5 or 10, or a window, centroid or search radius is out of range",
+    3: "the ring is not 5 or 10, a window, centroid or search radius is out of range, or a value too wide for a stream",
     4: "a coordinate is out of range",
     5: "the merge radius is not within 1/64 to 4096",
     6: "there is no such kind of item",
@@ -36,10 +37,12 @@ REFUSALS = {
     10: "there are more corners than places for them",
     12: "the photograph is no whole binary PGM",
     13: "the maxval of the photograph is not 255",
+    19: "the stream buffer is too short",
     20: "a start or a time is above 2^40",
 }
 LARGEST_SIDE = 4096
 LIST_SHORT = 10
+LONGEST_STREAM = 9_527
 LONGEST_HOLDINGS = 131_081
 
 
@@ -105,9 +108,10 @@ def _load():
     library.zakdomp_pgm.argtypes = piece + 3 * [out]
     library.zakdomp_response.argtypes = piece + [size, size, u32, size, size, size, size] + piece + [out, out]
     library.zakdomp_level_bytes.argtypes = [size, size, u32, size]
+    library.zakdomp_write_stream.argtypes = piece + [size, size] + 7 * [u32] + [size, u32] + piece + [out]
     library.zakdomp_holding.argtypes = [u8, u64, u64, ctypes.POINTER(u8)]
     library.zakdomp_holdings.argtypes = piece + [ctypes.c_void_p]
-    for function in ("find_corners", "find_corners_pgm", "pgm", "response", "holding"):
+    for function in ("find_corners", "find_corners_pgm", "pgm", "response", "write_stream", "holding"):
         getattr(library, "zakdomp_" + function).restype = u8
     library.zakdomp_level_bytes.restype = library.zakdomp_holdings.restype = size
     return library
@@ -133,6 +137,11 @@ def _whole(name, value, bits):
     if not 0 <= value < 1 << bits:
         raise ValueError(f"{name} is not within 0 to 2^{bits} - 1")
     return value
+
+
+def _bits(value):
+    """The bits of a float of single precision."""
+    return int.from_bytes(bytes(ctypes.c_float(value)), "little")
 
 
 def _search(call, width, height, params, most):
@@ -209,6 +218,29 @@ def response(pixels, width, height, *, ring=5, x0=0, y0=0, x1=LARGEST_SIDE, y1=L
     if number:
         raise Refusal(number)
     return ResponseMap(w.value, h.value, buffer[:w.value * h.value])
+
+
+def write_stream(pixels, width, height, *, ring=5, threshold=0.0, window=2, least_neighbours=2, centroid_radius=2, merge_radius=3.0, levels=1,
+                 minimum_side=1, search_radius=3, threshold_bits=None, merge_bits=None):
+    """The frame stream of an image of at most 96 by 96 pixels: the one stream that the program `corners` reads as these sides, parameters and
+    pixels. The bits of threshold and merge radius may be given instead of the two: a Python float need not keep a NaN's pattern."""
+    threshold_bits = _bits(threshold) if threshold_bits is None else threshold_bits
+    merge_bits = _bits(merge_radius) if merge_bits is None else merge_bits
+    small = {"ring": ring, "threshold_bits": threshold_bits, "window": window, "least_neighbours": least_neighbours,
+             "centroid_radius": centroid_radius, "merge_bits": merge_bits, "levels": levels, "search_radius": search_radius}
+    large = {"width": width, "height": height, "minimum_side": minimum_side}
+    for names, bits in ((small, 32), (large, 64)):
+        for name, value in names.items():
+            _whole(name, value, bits)
+    held, image = _given(pixels)
+    buffer = ctypes.create_string_buffer(LONGEST_STREAM)
+    length = ctypes.c_size_t(0)
+    number = _library.zakdomp_write_stream(
+        *image, width, height, ring, threshold_bits, window, least_neighbours, centroid_radius, merge_bits, levels, minimum_side,
+        search_radius, ctypes.addressof(buffer), LONGEST_STREAM, ctypes.byref(length))
+    if number:
+        raise Refusal(number)
+    return buffer.raw[:length.value]
 
 
 def holding(kind, start, time):

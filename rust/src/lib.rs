@@ -5,9 +5,11 @@ mod library;
 pub mod raw;
 mod refusal;
 mod retention;
+mod stream;
 
 pub use refusal::Refusal;
 pub use retention::{holding, holdings, Holding};
+pub use stream::write_stream;
 
 /// A corner, in pixels, and the response at its peak.
 #[derive(Clone, Copy, Debug, PartialEq)]

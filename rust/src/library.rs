@@ -1,7 +1,7 @@
 //! The functions of libzakdomp.a that this crate calls, over slices.
 use crate::raw::{
     zakdomp_find_corners, zakdomp_find_corners_pgm, zakdomp_holding, zakdomp_holdings, zakdomp_level_bytes,
-    zakdomp_pgm, zakdomp_response, HOLDINGS,
+    zakdomp_pgm, zakdomp_response, zakdomp_write_stream, HOLDINGS,
 };
 use crate::{Params, Refusal};
 use std::ops::Range;
@@ -85,6 +85,20 @@ pub(crate) fn response(
         )
     };
     unless_refused(number, (w, h))
+}
+
+#[rustfmt::skip]
+pub(crate) fn write_stream(image: &[u8], width: usize, height: usize, p: &Params, stream: &mut [u8]) -> Result<usize, Refusal> {
+    let mut length = 0;
+    // SAFETY: as above.
+    let number = unsafe {
+        zakdomp_write_stream(
+            image.as_ptr(), image.len(), width, height,
+            p.ring, p.threshold.to_bits(), p.window, p.least_neighbours, p.centroid_radius, p.merge_radius.to_bits(), p.levels, p.minimum_side,
+            p.search_radius, stream.as_mut_ptr(), stream.len(), &mut length,
+        )
+    };
+    unless_refused(number, length)
 }
 
 pub(crate) fn holding(kind: u8, start: u64, time: u64) -> Result<u8, Refusal> {

@@ -4,6 +4,9 @@
 /// The bytes that the output of `zakdomp_corners` has.
 pub const LONGEST: usize = 35_340;
 
+/// The bytes of the longest frame stream.
+pub const LONGEST_STREAM: usize = 9_527;
+
 /// The bytes that the output of `zakdomp_holdings` has.
 pub const HOLDINGS: usize = 131_081;
 
@@ -48,6 +51,11 @@ extern "C" {
         levels: *mut u8, levels_length: usize, built: *mut usize,
     ) -> u8;
     pub fn zakdomp_corners(input: *const u8, input_length: usize, output: *mut u8) -> usize;
+    pub fn zakdomp_write_stream(
+        pixels: *const u8, pixels_length: usize, w: usize, h: usize,
+        ring: u32, threshold_bits: u32, window: u32, least: u32, centroid: u32, merge_bits: u32, level_count: u32, minimum: usize, search: u32,
+        stream: *mut u8, stream_length: usize, length: *mut usize,
+    ) -> u8;
     pub fn zakdomp_holding(kind: u8, start: u64, time: u64, letter: *mut u8) -> u8;
     pub fn zakdomp_holdings(input: *const u8, input_length: usize, output: *mut u8) -> usize;
 }

@@ -127,7 +127,7 @@ fn refusals() {
     assert_eq!(find(11, 11, Params { search_radius: 256, ..PLAIN }), Refusal::Parameter);
     assert_eq!(find(11, 11, Params { merge_radius: 5000.0, ..PLAIN }), Refusal::MergeRadius);
     let text = find(4097, 11, PLAIN).to_string();
-    assert_eq!(text, "a side is above 4096 (number 1)");
+    assert_eq!(text, "a side is above 4096, or above 96 in a stream (number 1)");
 }
 
 #[test]

@@ -3,7 +3,12 @@ use Prim.Native.Nat.{ℕ, zero, suc}
 use mathlib.Core.Path.{_≡_, refl, subst}
 use mathlib.Core.Bool.{Bool, true, false, cond}
 use mathlib.Core.List.{List}
+use lib.ListN.{length}
 use lib.Dec.{ltb}
+use Rattle.stream.specs.declared.Header.{Header}
+use Rattle.stream.specs.RoundTrip.{frameBytes}
+use Rattle.frame_writer.specs.declared.FrameWriting.{FrameWriting}
+use Rattle.frame_writer.specs.FrameWriter as writer
 use Rattle.retention.specs.declared.Holding.{Holding}
 use Rattle.retention.specs.declared.Holding.the-variants.{NotYet, Held, Gone}
 use Rattle.retention.specs.Retention.{stays, stateOf, refusalOf, answerBy, numberOf, letterOf}
@@ -16,6 +21,7 @@ use Rattle.pgm.specs.Header.{widthOf, heightOf, rasterAt}
 use Rattle.pgm.specs.Pgm as pgm
 use Rattle.capi_tools.specs.Holding.{letterOr, HoldingTold}
 use Rattle.capi_tools.specs.Photo.{placeOr, widthOr, heightOr, ImageRead}
+use Rattle.capi_tools.specs.Writing.{lengthOr, StreamTold}
 
 -- ---- an item
 module _ (kind start time : ℕ) where
@@ -81,3 +87,27 @@ module _ (upload : List ℕ) (a : PgmImage) (r : ℕ) (f : pgm.PgmRead upload a)
       high : (k : ℕ) → heightOr (by k) height ≡ resultOr k (heightOf upload) height
       high zero = refl
       high (suc k) = refl
+
+-- ---- a stream
+module _ (h : Header) (pixels stream : List ℕ) (written : ℕ) (a : FrameWriting) (r : ℕ) (stream′ : List ℕ) (written′ : ℕ) where
+  abbrev long : ℕ
+  long = length (frameBytes h pixels)
+
+  pub stream-told : writer.FrameWritten h pixels stream a stream′ → r ≡ writer.numberOf a → written′ ≡ lengthOr a written
+      → StreamTold h pixels stream written r stream′ written′
+  stream-told p n x =
+      let number = writer.refusalOf h pixels (length stream) in record {
+        answer =
+            subst (λ (o : FrameWriting). writer.FrameWritten h pixels stream o stream′)
+            (answer (λ k. writer.answerOf k long) writer.numberOf number-again a number (p .answer) r n) p;
+        written-is =
+            result (λ k. writer.answerOf k long) writer.numberOf number-again a number (p .answer) r n lengthOr long written written′ each-length x;
+      }
+    where
+      number-again : (k : ℕ) → writer.numberOf (writer.answerOf k long) ≡ k
+      number-again zero = refl
+      number-again (suc k) = refl
+
+      each-length : (k : ℕ) → lengthOr (writer.answerOf k long) written ≡ resultOr k long written
+      each-length zero = refl
+      each-length (suc k) = refl

@@ -2,3 +2,4 @@
 // or the number of a refusal, which leaves the results as they were; one that writes a text returns its length. include/zakdomp.h declares them.
 mod holding; // zakdomp_holding, zakdomp_holdings: what may be deleted
 mod photo; // zakdomp_pgm: where the pixels of an uploaded photograph are
+mod writing; // zakdomp_write_stream: the frame stream

@@ -17,4 +17,5 @@ pub mod Tolerance
 pub mod Retention
 pub mod PlainHeader
 pub mod Photographs
+pub mod Writing
 pub mod Demands

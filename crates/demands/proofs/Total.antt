@@ -63,6 +63,11 @@ use Rattle.pgm_frame.specs.PgmFrame.{PhotographFound}
 use Rattle.stream.specs.declared.FrameStream.{FrameStream}
 use Rattle.stream.specs.Answer.{readingOf, FrameRead}
 use Rattle.stream.specs.declared.FrameStream.the-variants as stream
+use Rattle.stream.specs.declared.Header.{Header}
+use Rattle.frame_writer.specs.declared.FrameWriting.{FrameWriting}
+use Rattle.frame_writer.specs.declared.FrameWriting.the-variants as written
+use Rattle.frame_writer.specs.FrameWriter as writer
+use Rattle.stream.specs.RoundTrip.{frameBytes}
 use Rattle.listing.specs.declared.Listing.{Listing}
 use Rattle.listing.specs.declared.Listing.the-variants as listed
 use Rattle.listing.specs.Text.{cornersText}
@@ -210,6 +215,13 @@ photograph-refuses p upload b b′ r f k e = go (pgm.refusalOf upload) refl
 stream-refuses : (input pixels pixels′ : List ℕ) (r : FrameStream) → FrameRead input pixels r pixels′ → Refuses stream.Refused (1 ∷ 3 ∷ 5 ∷ 6 ∷ 7 ∷ 11 ∷ []) r
 stream-refuses input pixels pixels′ r f k e = frame-few input k (sym (f .reading) ∙ ap (λ (a : FrameStream). readingOf a pixels′) e)
 
+writer-refuses : (h : Header) (pixels out out′ : List ℕ) (r : FrameWriting) → writer.FrameWritten h pixels out r out′
+    → Refuses written.Refused (1 ∷ 2 ∷ 3 ∷ 5 ∷ 19 ∷ []) r
+unfolding writer.refusalOf
+writer-refuses h pixels out out′ r f =
+    refused-one written.Refused (λ n. writer.answerOf n (length (frameBytes h pixels))) (λ k q. let z : _≡_ {A = ℕ} 0 1 = cc in omega arith)
+    (λ n k q. sym (ap writer.numberOf q)) (writer.conditions h pixels (length out)) r (f .answer)
+
 listing-refuses : (b : Slices) (count : ℕ) (out out′ : List ℕ) (r : Listing) → listing.CornersWritten b count out r out′ → Refuses listed.Refused (10 ∷ []) r
 unfolding listing.listing
 listing-refuses b count out out′ r f k e = go (ltb 512 count) (sym (f .answer) ∙ e)
@@ -246,6 +258,7 @@ total = record {
   «read_pgm» = pgm-refuses;
   «find_pgm_corners» = photograph-refuses;
   «read_frame» = stream-refuses;
+  «write_frame» = writer-refuses;
   «write_corners» = listing-refuses;
   holding = holding-refuses;
 }

@@ -10,6 +10,7 @@ use Rattle.demands.specs.ResponsesOrdered.{ResponsesOrdered}
 use Rattle.demands.specs.PeaksAlike.{PeaksAlike}
 use Rattle.demands.specs.Units.{UnitsNearest}
 use Rattle.demands.specs.RingPass.{RingOnePass}
+use Rattle.demands.specs.Writing.{ReadBack, WrittenBack}
 use Rattle.demands.specs.Retention.{HeldWhen, RetainedTotal, RetainedReads}
 use Rattle.demands.specs.FrameExact.{FrameExact, AlikeByName, MapsSearched, MapsAlike, FrameWithoutTies, FourNever, PeaksKept}
 use Rattle.demands.specs.Tolerance.{CentreTolerance, FrameTolerance}
@@ -72,6 +73,11 @@ pub record Demands : Type 0 where
   -- ---- Request 3: ring sums in one pass
   -- "after each pair the DR and sum held are those of the pairs passed; at the end all three are the paper's"
   pub ring-one-pass : RingOnePass
+  -- ---- Request 11: write the frame stream
+  -- "The reader returns the same values, float bits included"
+  pub read-back : ReadBack
+  -- "an accepted stream, read and rewritten, is the same up to its kind 4 byte"
+  pub written-back : WrittenBack
   -- ---- Request 13: what may be deleted
   -- "whether we hold it": for each kind the interval in which an item is held
   pub held-when : HeldWhen

@@ -16,4 +16,5 @@ pub mod Tolerance
 pub mod Retention
 pub mod Texts
 pub mod Photographs
+pub mod Writing
 pub mod Demands

@@ -2,8 +2,8 @@
 -- numbered refusals. The conditions of each number are fixed", and so is what every buffer holds afterwards.
 -- Every call of a public function ends, and asks nothing of its caller; its promise has the answer and every buffer afterwards by equations.
 -- Here stand the promises of the functions that refuse, word for word, and the numbers that each can give: 0, which the definitions use for
--- "none", is no refusal's. A request's new number counts with the eleven: 12 and 13 of request 1, 20 of request 13.
--- Which condition has which number, lowest first, is in the tables that the promises name. No other public function refuses, and each
+-- "none", is no refusal's. A request's new number counts with the eleven: 12 and 13 of request 1, 19 of request 11, 20 of
+-- request 13. Which condition has which number, lowest first, is in the tables that the promises name. No other public function refuses, and each
 -- of these promises one equation over its arguments:
 --   numbers         lesser, greater, minus
 --   image_size      is_large, refusal (the number alone)
@@ -66,6 +66,10 @@ use Rattle.pgm_frame.specs.PgmFrame.{PhotographFound}
 use Rattle.stream.specs.declared.FrameStream.{FrameStream}
 use Rattle.stream.specs.declared.FrameStream.the-variants as stream
 use Rattle.stream.specs.Answer.{FrameRead}
+use Rattle.stream.specs.declared.Header.{Header}
+use Rattle.frame_writer.specs.declared.FrameWriting.{FrameWriting}
+use Rattle.frame_writer.specs.declared.FrameWriting.the-variants as writing
+use Rattle.frame_writer.specs.FrameWriter.{FrameWritten}
 use Rattle.listing.specs.declared.Listing.{Listing}
 use Rattle.listing.specs.declared.Listing.the-variants as listing
 use Rattle.listing.specs.Answer.{CornersWritten}
@@ -114,6 +118,8 @@ pub record Total : Type 0 where
       → Refuses frame.Refused (1 ∷ 3 ∷ 5 ∷ 8 ∷ 9 ∷ 10 ∷ 12 ∷ 13 ∷ []) r
   pub «read_frame» : (input pixels pixels′ : List ℕ) (r : FrameStream) → FrameRead input pixels r pixels′
       → Refuses stream.Refused (1 ∷ 3 ∷ 5 ∷ 6 ∷ 7 ∷ 11 ∷ []) r
+  pub «write_frame» : (h : Header) (pixels out out′ : List ℕ) (r : FrameWriting) → FrameWritten h pixels out r out′
+      → Refuses writing.Refused (1 ∷ 2 ∷ 3 ∷ 5 ∷ 19 ∷ []) r
   pub «write_corners» : (b : Slices) (count : ℕ) (out out′ : List ℕ) (r : Listing) → CornersWritten b count out r out′
       → Refuses listing.Refused (10 ∷ []) r
   pub holding : (kind start time : ℕ) (r : Holding) → Told kind start time r

@@ -59,7 +59,7 @@ module _ (kind left : ℕ) (s : List ℕ) (next : List ℕ → List ℕ → Read
       }
 
 -- ---- bytes and the numbers made of them
-abbrev Bytes : List ℕ → Type 0
+abbrev pub Bytes : List ℕ → Type 0
 Bytes s = All (λ v. v < 256) s
 
 byte-at : (s : List ℕ) → Bytes s → (i : ℕ) → getD s i 0 < 256
@@ -67,7 +67,7 @@ byte-at [] b i = omega arith
 byte-at (v ∷ s) b zero = b .0
 byte-at (v ∷ s) b (suc i) = byte-at s (b .1) i
 
-bytes-take : (n : ℕ) (s : List ℕ) → Bytes s → Bytes (take n s)
+pub bytes-take : (n : ℕ) (s : List ℕ) → Bytes s → Bytes (take n s)
 bytes-take zero s b = tt
 bytes-take (suc n) [] b = tt
 bytes-take (suc n) (v ∷ s) b = (b .0, bytes-take n s (b .1))

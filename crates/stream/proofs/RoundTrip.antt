@@ -53,10 +53,10 @@ module _ (h : Header) where
 
 -- ---- a record of pixels, where those given have not been written yet
 module _ (pixels : List ℕ) where
-  abbrev body : List ℕ
+  abbrev pub body : List ℕ
   body = take 32 pixels ++ replicate (32 - length pixels) 0
 
-  body-long : length body ≡ 32
+  pub body-long : length body ≡ 32
   body-long = simp (length-append, length-take, length-replicate) (omega arith)
 
   padding-none : (n : ℕ) → any (λ v. not (eqb v 0)) (replicate n 0) ≡ false

@@ -57,9 +57,13 @@ headerOf sides parameters =
 
 -- ---- faults by their numbers, 0 for none (RULES 11.4)
 
--- 1: a side above 96
+-- a side above 96
+abbrev pub sidesOutside : ℕ → ℕ → Bool
+sidesOutside width height = ltb 96 width || ltb 96 height
+
+-- 1
 unfoldable pub sidesFault : ℕ → ℕ → ℕ
-sidesFault width height = lowest ((ltb 96 width || ltb 96 height, 1) ∷ [])
+sidesFault width height = lowest ((sidesOutside width height, 1) ∷ [])
 
 -- ring not 5 or 10; window or centroid radius above 16
 unfoldable pub rangeOutside : ℕ → ℕ → ℕ → Bool

@@ -1,0 +1,55 @@
+-- The frame stream written (RULES 30): what is refused, and the promise of `write_frame`. The stream itself is `frameBytes` of stream.
+use Prim.Native.Nat.{ℕ, zero, suc}
+use mathlib.Core.Path.{_≡_}
+use mathlib.Core.Bool.{Bool, cond, _||_}
+use mathlib.Core.List.{List, [], _∷_}
+use lib.ListN.{length}
+use lib.Dec.{eqb, ltb}
+use lib.Ieee.{binary32, ofBits}
+use Rattle.lists.specs.Buffer.{front}
+use Rattle.lists.specs.Refusals.{lowest, valuesUnless, isMisfit}
+use Rattle.merge_radius.specs.MergeRadius.{radiusOutside}
+use Rattle.stream.specs.declared.Header.{Header}
+use Rattle.stream.specs.Stream.{sidesOutside, rangeOutside}
+use Rattle.stream.specs.RoundTrip.{frameBytes}
+use Rattle.frame_writer.specs.declared.FrameWriting.{FrameWriting}
+use Rattle.frame_writer.specs.declared.FrameWriting.the-variants.{Written, Refused}
+
+-- a value too wide for its field: least, levels and search have a byte, the minimum two (RULES 30.2); the others' ranges are narrower
+abbrev pub isTooWide : Header → Bool
+isTooWide h = ltb 255 (h .«least_neighbours») || ltb 255 (h .levels) || ltb 65535 (h .«minimum_side») || ltb 255 (h .«search_radius»)
+
+-- where the buffer has so many places (RULES 30.2)
+unfoldable pub conditions : Header → List ℕ → ℕ → List (Bool × ℕ)
+conditions h pixels places =
+    (sidesOutside (h .width) (h .height), 1)
+    ∷ (isMisfit (length pixels) (h .width) (h .height), 2)
+    ∷ (rangeOutside (h .ring) (h .window) (h .«centroid_radius») || isTooWide h, 3)
+    ∷ (radiusOutside (ofBits binary32 (h .«merge_bits»)), 5)
+    ∷ (ltb places (length (frameBytes h pixels)), 19)
+    ∷ []
+
+unfoldable pub refusalOf : Header → List ℕ → ℕ → ℕ
+unfolding conditions
+refusalOf h pixels places = lowest (conditions h pixels places)
+
+-- the answer of each number: 0 is a stream of n bytes, any other a refusal
+abbrev pub answerOf : ℕ → ℕ → FrameWriting
+answerOf zero n = Written n
+answerOf (suc k) n = Refused (suc k)
+
+-- the number and the values of each case: 0 for no refusal, and how long the stream is
+abbrev pub numberOf : FrameWriting → ℕ
+numberOf (Written n) = 0
+numberOf (Refused k) = k
+
+abbrev pub valuesOf : FrameWriting → List ℕ
+valuesOf (Written n) = n ∷ []
+valuesOf (Refused k) = []
+
+-- the promise of `write_frame`: the stream stands first in the buffer, which is as it was behind it, and whole where it is refused (RULES 30.3)
+pub record FrameWritten (h : Header) (pixels before : List ℕ) (r : FrameWriting) (after : List ℕ) : Type 0 where
+  pub answer : r ≡ answerOf (refusalOf h pixels (length before)) (length (frameBytes h pixels))
+  pub number : numberOf r ≡ refusalOf h pixels (length before)
+  pub values : valuesOf r ≡ valuesUnless (refusalOf h pixels (length before)) (length (frameBytes h pixels) ∷ [])
+  pub out : after ≡ cond (eqb (refusalOf h pixels (length before)) 0) (front (frameBytes h pixels) before) before

@@ -1,0 +1,2 @@
+pub mod FrameWriter
+pub mod Internal
