@@ -118,6 +118,23 @@ static void stages(const uint8_t *img) {
     expect(zakdomp_levels(img, CELLS, SIDE, SIDE, 9, 0, levels, 29, &n) == ZAKDOMP_LEVELS_SHORT && n == 4, "a byte short");
 }
 
+/* Ring 5 and all else 0 leave column 5 of rows 5 to 7 of a map of 11 by 13 inside the border. */
+static void enough_peaks(void) {
+    static float map[SIDE * 13];
+    uint8_t enough = 9;
+    size_t rows = 99;
+    for (int i = 0; i < 3; i++) map[(5 + i) * SIDE + 5] = (float)(i + 1);
+    for (size_t wanted = 0; wanted < 5; wanted++) {
+        expect(zakdomp_has_peaks(map, SIDE * 13, SIDE, 13, 5, 0, 0, 0, 0, wanted, &enough, &rows) == ZAKDOMP_DONE, "enough peaks");
+        expect(enough == (wanted < 4) && rows == (wanted < 4 ? wanted : 3), "as counted, and the rows");
+    }
+    expect(zakdomp_has_peaks(map, 130, 10, 13, 5, 0, 0, 0, 0, 1, &enough, &rows) == 0 && enough == 0 && rows == 0, "a narrow map");
+    expect(zakdomp_has_peaks(map, 130, 10, 13, 5, 0, 0, 0, 0, 0, &enough, &rows) == 0 && enough == 1 && rows == 0, "none wanted of it");
+    rows = 99;
+    expect(zakdomp_has_peaks(map, SIDE * 13, SIDE, 13, 6, 0, 0, 0, 0, 0, &enough, &rows) == ZAKDOMP_PARAMETER, "a ring of 6");
+    expect(enough == 1 && rows == 99, "refused: as they were");
+}
+
 /* The peaks of a map of `fill` but for two cells, `left` at (6, 6) and `right` at (7, 6). With a ring of 5 and a window of 1 the border is 6. */
 static void peaks_tied(size_t w, size_t h, float fill, float left, float right, size_t peaks, uint64_t due, const char *what) {
     enum { MOST = 42 * 32 };
@@ -218,6 +235,7 @@ int main(void) {
     photographs(img);
     stages(img);
     ties();
+    enough_peaks();
     streams(img);
     writing(img);
     holdings();

@@ -103,6 +103,15 @@ uint8_t zakdomp_peaks(const float *map, size_t map_length, size_t w, size_t h, u
                       uint32_t least, uint32_t centroid, float *xs, size_t xs_length, float *ys, size_t ys_length, float *strengths,
                       size_t strengths_length, size_t held, size_t *added, uint64_t *ties);
 
+/* Whether a map of w by h responses has at least `wanted` peaks, which are those of zakdomp_peaks. It is searched in row order, and no further than
+ * the last peak that is wanted.
+ *   enough  1 for yes, 0 for no
+ *   rows    how many rows were looked at: from the first row inside the border, ring + window + centroid, to that of the last peak wanted, both
+ *           included; all rows inside the border where there are fewer peaks; 0 where none is wanted or a side is at most twice the border
+ * Refusals: 1, 2, 3. */
+uint8_t zakdomp_has_peaks(const float *map, size_t map_length, size_t w, size_t h, uint32_t ring, float threshold, uint32_t window,
+                          uint32_t least, uint32_t centroid, size_t wanted, uint8_t *enough, size_t *rows);
+
 /* The centre of mass of the positive cells of a map within `radius` columns and rows of a seed.
  *   x, y  the seed, and then the centre of mass; the seed stays where the cells do not all lie in the map or none is positive
  *   mass  the sum of the cells; 0 where the seed stays

@@ -5,6 +5,7 @@
     find_corners_pgm(upload, threshold=30)             ->  the same of a photograph, the bytes of a binary PGM file
     read_pgm(upload)                                   ->  Photograph(at, width, height, pixels)
     response(pixels, width, height, ring=5)            ->  ResponseMap(width, height, cells)
+    has_peaks(cells, width, height, wanted)            ->  Enough(enough, rows): whether a map has so many peaks
     write_stream(pixels, width, height, threshold=30)  ->  the bytes that the program `corners` reads
     holding(kind, start, time), holdings(stream)       ->  "N" not yet, "H" held or "G" gone, for an item and for each of a stream
 
@@ -92,6 +93,11 @@ class ResponseMap(NamedTuple):
     cells: list
 
 
+class Enough(NamedTuple):
+    enough: bool
+    rows: int
+
+
 def _load():
     here = os.path.dirname(os.path.abspath(__file__))
     name = "libzakdomp.so"
@@ -108,10 +114,11 @@ def _load():
     library.zakdomp_pgm.argtypes = piece + 3 * [out]
     library.zakdomp_response.argtypes = piece + [size, size, u32, size, size, size, size] + piece + [out, out]
     library.zakdomp_level_bytes.argtypes = [size, size, u32, size]
+    library.zakdomp_has_peaks.argtypes = piece + [size, size] + numbers[:5] + [size, ctypes.POINTER(u8), out]
     library.zakdomp_write_stream.argtypes = piece + [size, size] + 7 * [u32] + [size, u32] + piece + [out]
     library.zakdomp_holding.argtypes = [u8, u64, u64, ctypes.POINTER(u8)]
     library.zakdomp_holdings.argtypes = piece + [ctypes.c_void_p]
-    for function in ("find_corners", "find_corners_pgm", "pgm", "response", "write_stream", "holding"):
+    for function in ("find_corners", "find_corners_pgm", "pgm", "response", "has_peaks", "write_stream", "holding"):
         getattr(library, "zakdomp_" + function).restype = u8
     library.zakdomp_level_bytes.restype = library.zakdomp_holdings.restype = size
     return library
@@ -218,6 +225,23 @@ def response(pixels, width, height, *, ring=5, x0=0, y0=0, x1=LARGEST_SIDE, y1=L
     if number:
         raise Refusal(number)
     return ResponseMap(w.value, h.value, buffer[:w.value * h.value])
+
+
+def has_peaks(cells, width, height, wanted, *, ring=5, threshold=0.0, window=2, least_neighbours=2, centroid_radius=2):
+    """Whether a response map of width by height cells, in row order, has at least `wanted` peaks, and how many rows inside the border were looked
+    at to know it."""
+    for name, value in {"ring": ring, "window": window, "least_neighbours": least_neighbours, "centroid_radius": centroid_radius}.items():
+        _whole(name, value, 32)
+    for name, value in {"width": width, "height": height, "wanted": wanted}.items():
+        _whole(name, value, 64)
+    buffer, held = _floats(len(cells))
+    buffer[:len(cells)] = cells
+    enough, rows = ctypes.c_uint8(0), ctypes.c_size_t(0)
+    number = _library.zakdomp_has_peaks(*held, width, height, ring, threshold, window, least_neighbours, centroid_radius, wanted,
+                                        ctypes.byref(enough), ctypes.byref(rows))
+    if number:
+        raise Refusal(number)
+    return Enough(enough.value == 1, rows.value)
 
 
 def write_stream(pixels, width, height, *, ring=5, threshold=0.0, window=2, least_neighbours=2, centroid_radius=2, merge_radius=3.0, levels=1,

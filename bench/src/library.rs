@@ -69,6 +69,19 @@ pub fn peaks(map: &[f32], w: usize, h: usize, p: &Params, list: &mut List) -> us
     added
 }
 
+/// How many rows were looked at for so many peaks, which are there.
+pub fn enough_peaks(map: &[f32], w: usize, h: usize, p: &Params, wanted: usize) -> usize {
+    let (mut enough, mut rows) = (0, 0);
+    #[rustfmt::skip]
+    let number = unsafe {
+        zakdomp_has_peaks(
+            map.as_ptr(), map.len(), w, h, p.ring, p.threshold, p.window, p.least, p.centroid, wanted, &mut enough, &mut rows,
+        )
+    };
+    assert_eq!((number, enough), (0, 1));
+    rows
+}
+
 pub fn centroids(map: &[f32], w: usize, h: usize, radius: u32, list: &mut List) {
     let [x, y, _] = &mut list.0;
     for i in 0..x.len() {

@@ -1,4 +1,5 @@
 //! bench [ROUNDS]: a table of times, the original Rust against ours, and for the response against C too.
+//! bench enough [ROUNDS]: the last table alone, of 100 peaks against all.
 //! bench count LEVELS: calls `original_frame` and `our_frame` once each on a small frame, for a profiler that counts instructions.
 mod interleaved;
 mod library;
@@ -60,6 +61,17 @@ fn table(rounds: usize) {
     }
 }
 
+/// Whether there are 100 peaks, against all peaks.
+fn enough_table(rounds: usize) {
+    println!("\n| enough peaks of | all, Rust, ms | all, ours, ms | enough, ours, ms | enough / all, ours |");
+    println!("|---|---|---|---|---|");
+    for ring in [5, 10] {
+        let row = stages::enough(&with_ring(Subject::board(4096, 4096), ring), rounds, 100);
+        let [rust, ours, enough] = row.times[..] else { panic!("three times") };
+        println!("| {} | {rust:.4} | {ours:.4} | {enough:.4} | {:.4} |", row.input, enough / ours);
+    }
+}
+
 #[no_mangle]
 #[inline(never)]
 extern "C" fn original_frame(s: &Subject, p: &Params) -> usize {
@@ -84,7 +96,11 @@ fn main() {
     let number = |i: usize| words.get(i).map(|word| word.parse().expect("a number"));
     if words.first().is_some_and(|word| word == "count") {
         count(number(1).map_or(1, |n: usize| n as u32));
+    } else if words.first().is_some_and(|word| word == "enough") {
+        enough_table(number(1).unwrap_or(25));
     } else {
-        table(number(0).unwrap_or(25));
+        let rounds = number(0).unwrap_or(25);
+        table(rounds);
+        enough_table(rounds);
     }
 }

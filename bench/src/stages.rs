@@ -72,6 +72,21 @@ pub fn peaks(s: &Subject, rounds: usize, places: usize, how: &str) -> Row {
     row("peaks", format!("{}, {} peaks{how}", sides(s), s.peaks.len()), rounds, calls)
 }
 
+/// Whether there are so many peaks, against all peaks: the times of the original's full peak finding, of ours, and of the question alone.
+pub fn enough(s: &Subject, rounds: usize, wanted: usize) -> Row {
+    let (w, h) = (s.width, s.height);
+    let border = (s.params.ring + s.params.window + s.params.centroid) as usize;
+    let rows = library::enough_peaks(s.map.data(), w, h, &s.params, wanted);
+    assert_eq!(rows, s.peaks[wanted - 1].y as usize - border + 1);
+    let mut list = List::empty(places(s));
+    let calls: Vec<Call> = vec![
+        Box::new(|| s.find_peaks().len()),
+        Box::new(|| library::peaks(s.map.data(), w, h, &s.params, &mut list)),
+        Box::new(|| library::enough_peaks(s.map.data(), w, h, &s.params, wanted)),
+    ];
+    row("enough", format!("{}, {wanted} of {} peaks, in {rows} rows", sides(s), s.peaks.len()), rounds, calls)
+}
+
 /// Both copy the list of peaks first.
 pub fn centroids(s: &Subject, rounds: usize) -> Row {
     let (w, h, radius) = (s.width, s.height, s.params.centroid);

@@ -207,6 +207,18 @@ pub fn response(
     Ok(ResponseMap { width: w, height: h, cells })
 }
 
+/// Whether a response map of `width` by `height` cells has at least `wanted` peaks, and how many rows inside the border were looked at to know
+/// it. Of the parameters those up to `centroid_radius` matter.
+pub fn has_peaks(
+    map: &[f32],
+    width: usize,
+    height: usize,
+    params: &Params,
+    wanted: usize,
+) -> Result<(bool, usize), Refusal> {
+    library::has_peaks(map, width, height, params, wanted)
+}
+
 /// Where the pixels of an uploaded photograph are, and its sides.
 #[derive(Clone, Copy, Debug, Eq, PartialEq)]
 pub struct Pgm<'a> {

@@ -1,7 +1,7 @@
 //! The functions of libzakdomp.a that this crate calls, over slices.
 use crate::raw::{
-    zakdomp_find_corners, zakdomp_find_corners_pgm, zakdomp_holding, zakdomp_holdings, zakdomp_level_bytes,
-    zakdomp_pgm, zakdomp_response, zakdomp_write_stream, HOLDINGS,
+    zakdomp_find_corners, zakdomp_find_corners_pgm, zakdomp_has_peaks, zakdomp_holding, zakdomp_holdings,
+    zakdomp_level_bytes, zakdomp_pgm, zakdomp_response, zakdomp_write_stream, HOLDINGS,
 };
 use crate::{Params, Refusal};
 use std::ops::Range;
@@ -85,6 +85,19 @@ pub(crate) fn response(
         )
     };
     unless_refused(number, (w, h))
+}
+
+#[rustfmt::skip]
+pub(crate) fn has_peaks(map: &[f32], width: usize, height: usize, p: &Params, wanted: usize) -> Result<(bool, usize), Refusal> {
+    let (mut enough, mut rows) = (0, 0);
+    // SAFETY: the slice is whole, and the two results are the function's own.
+    let number = unsafe {
+        zakdomp_has_peaks(
+            map.as_ptr(), map.len(), width, height, p.ring, p.threshold, p.window, p.least_neighbours, p.centroid_radius,
+            wanted, &mut enough, &mut rows,
+        )
+    };
+    unless_refused(number, (enough == 1, rows))
 }
 
 #[rustfmt::skip]

@@ -38,6 +38,10 @@ extern "C" {
         xs: *mut f32, xs_length: usize, ys: *mut f32, ys_length: usize, strengths: *mut f32, strengths_length: usize,
         held: usize, added: *mut usize, ties: *mut u64,
     ) -> u8;
+    pub fn zakdomp_has_peaks(
+        map: *const f32, map_length: usize, w: usize, h: usize, ring: u32, threshold: f32, window: u32, least: u32, centroid: u32,
+        wanted: usize, enough: *mut u8, rows: *mut usize,
+    ) -> u8;
     pub fn zakdomp_centroid(
         map: *const f32, map_length: usize, w: usize, h: usize, radius: u32, x: *mut f32, y: *mut f32, mass: *mut f32,
     ) -> u8;

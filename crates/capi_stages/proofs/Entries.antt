@@ -1,16 +1,22 @@
 -- Each entry's promise from that of the function it calls. Assumes nothing.
 use Prim.Native.Nat.{ℕ, zero, suc}
 use mathlib.Core.Path.{_≡_, refl, ap, _∙_, subst}
-use mathlib.Core.Bool.{Bool, true}
+use mathlib.Core.Bool.{Bool, true, false, cond}
 use mathlib.Core.List.{List}
 use lib.ListN.{length}
+use lib.Dec.{leb}
 use lib.Ieee.{Float}
+use Rattle.lists.specs.Refusals.{lowest, unless}
 use Rattle.corner_list.specs.CornerList.{Slices, placesOf, cornersOf}
 use Rattle.corner_list.specs.declared.Corner.{Corner}
 use Rattle.response.specs.declared.Patch.{Patch}
 use Rattle.response.specs.Patch as response
 use Rattle.detect.specs.declared.Peaks.{Peaks}
 use Rattle.detect.specs.Detect as detect
+use Rattle.detect.specs.declared.Search.{Search}
+use Rattle.detect.specs.declared.enough.Enough.{Enough}
+use Rattle.detect.specs.declared.enough.Enough.the-variants.{Refused}
+use Rattle.detect.specs.Enough as enough
 use Rattle.merge.specs.declared.Merged.{Merged}
 use Rattle.merge.specs.Merge as merge
 use Rattle.pyramid.specs.declared.Pyramid.{Pyramid}
@@ -25,6 +31,7 @@ use Rattle.capi_stages.specs.Centroid.{three, located, Located}
 use Rattle.capi_stages.specs.Results.{resultOr}
 use Rattle.capi_stages.specs.Patch.{widthOf, heightOf, Responded}
 use Rattle.capi_stages.specs.Peaks.{addedOf, tiesOf, PeaksFound}
+use Rattle.capi_stages.specs.Enough as counting
 use Rattle.capi_stages.specs.Merging as merging
 use Rattle.capi_stages.specs.Levels.{builtOf, LevelsBuilt}
 use Rattle.capi_stages.proofs.Answers.{answer, result}
@@ -75,6 +82,38 @@ module _ (conds : List (Bool × ℕ)) (cs : List Corner) (sum held : ℕ) (b : S
       tied : (k : ℕ) → tiesOf (detect.answerOf k (length cs) sum) ties ≡ resultOr k sum ties
       tied zero = refl
       tied (suc k) = refl
+
+-- ---- enough peaks
+module _ (conds : List (Bool × ℕ)) (m : List Float) (s : Search) (wanted before rows : ℕ) (a : Enough) (r after rows′ : ℕ) where
+  pub peaks-counted : enough.EnoughFound conds m s wanted a → r ≡ enough.numberOf a → after ≡ counting.yesOf a before
+      → rows′ ≡ counting.rowsOf a rows → counting.PeaksCounted conds m s wanted before rows r after rows′
+  unfolding enough.enoughOf
+  peaks-counted f n x y =
+      let yes = leb wanted (length (detect.peaksIn m s)) in
+      let looked = enough.rowsFor s wanted (detect.peaksIn m s) in
+      let due = enough.answerOf yes looked in record {
+        answer = subst (λ (o : Enough). enough.EnoughFound conds m s wanted o)
+            (answer (λ k. unless Refused k due) enough.numberOf (again yes looked) a (lowest conds) (f .answer) r n) f;
+        enough-is = result (λ k. unless Refused k due) enough.numberOf (again yes looked) a (lowest conds) (f .answer) r n counting.yesOf
+            (cond yes 1 0) before after (told yes looked) x;
+        rows-is = result (λ k. unless Refused k due) enough.numberOf (again yes looked) a (lowest conds) (f .answer) r n counting.rowsOf
+            looked rows rows′ (seen yes looked) y;
+      }
+    where
+      again : (b : Bool) (n k : ℕ) → enough.numberOf (unless Refused k (enough.answerOf b n)) ≡ k
+      again true n zero = refl
+      again false n zero = refl
+      again b n (suc k) = refl
+
+      told : (b : Bool) (n k : ℕ) → counting.yesOf (unless Refused k (enough.answerOf b n)) before ≡ resultOr k (cond b 1 0) before
+      told true n zero = refl
+      told false n zero = refl
+      told b n (suc k) = refl
+
+      seen : (b : Bool) (n k : ℕ) → counting.rowsOf (unless Refused k (enough.answerOf b n)) rows ≡ resultOr k n rows
+      seen true n zero = refl
+      seen false n zero = refl
+      seen b n (suc k) = refl
 
 -- ---- merging
 module _ (radius : Float) (count : ℕ) (b : Slices) (kept : ℕ) (a : Merged) (r : ℕ) (b′ : Slices) (kept′ : ℕ) where

@@ -1,6 +1,7 @@
 pub mod Results
 pub mod Patch
 pub mod Peaks
+pub mod Enough
 pub mod Merging
 pub mod Levels
 pub mod Centroid

@@ -19,7 +19,7 @@ use Rattle.demands.specs.PeaksAlike.{programList, position, nameOf}
 use Rattle.demands.proofs.Names.{Small, names-only}
 
 module _ (m : List Float) (w h : ℕ) (p : PeakCall m w h) where
-  no-fault : Clear (conditions (length m) w h (p .ring) (p .window) (p .radius))
+  pub no-fault : Clear (conditions (length m) w h (p .ring) (p .window) (p .radius))
   no-fault = clear (length m) w h (p .ring) (p .window) (p .radius) (unrefused _ _ _ _ _ _ _ _ (p .promise))
 
   fitted : Fitted (startsIn m (searchIn p)) (tiesIn m (searchIn p)) (p .held) (p .before) (p .added) (p .ties) (p .after)

@@ -10,6 +10,7 @@ use Rattle.demands.proofs.ResponsesOrdered.{responses-ordered}
 use Rattle.demands.proofs.PeaksAlike.{peaks-alike}
 use Rattle.demands.proofs.Units.{units-nearest}
 use Rattle.demands.proofs.RingPass.{ring-one-pass}
+use Rattle.demands.proofs.Enough.{enough-is-counting, looks-no-further}
 use Rattle.demands.proofs.Writing.{read-back, written-back}
 use Rattle.demands.proofs.Retention.{held-when, retained-total, retained-reads}
 use Rattle.demands.proofs.FrameExact.{frame-exact, alike-by-name, maps-searched, maps-alike, frame-without-ties, four-never, peaks-kept}
@@ -43,6 +44,8 @@ demands = record {
   uploads-read = uploads-read;
   units-nearest = units-nearest;
   ring-one-pass = ring-one-pass;
+  enough-is-counting = enough-is-counting;
+  looks-no-further = looks-no-further;
   read-back = read-back;
   written-back = written-back;
   held-when = held-when;

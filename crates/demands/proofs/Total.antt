@@ -6,11 +6,11 @@ use mathlib.Core.Logic.{inl}
 use mathlib.Core.Bool.{Bool, true, false, cond, not, _&&_, _||_}
 use mathlib.Core.List.{List, [], _∷_, _++_, map}
 use lib.ListN.{length, take}
-use lib.Dec.{ltb}
+use lib.Dec.{ltb, leb}
 use lib.Ieee.{Float}
 use borrow.Author.Tests.{eq-eqb}
 use Rattle.lists.specs.Places.{any}
-use Rattle.lists.specs.Refusals.{isLarge, isMisfit, lowest}
+use Rattle.lists.specs.Refusals.{isLarge, isMisfit, lowest, unless}
 use Rattle.ring.specs.Ring.{isRing}
 use Rattle.response.specs.declared.Patch.{Patch}
 use Rattle.response.specs.declared.Patch.the-variants as patch
@@ -28,6 +28,10 @@ use Rattle.corner_list.specs.CornerList.{Slices, placesOf, cornersOf}
 use Rattle.detect.specs.declared.Peaks.{Peaks}
 use Rattle.detect.specs.declared.Peaks.the-variants as peaks
 use Rattle.detect.specs.Detect as detect
+use Rattle.detect.specs.declared.Search.{Search}
+use Rattle.detect.specs.declared.enough.Enough.{Enough}
+use Rattle.detect.specs.declared.enough.Enough.the-variants as answered
+use Rattle.detect.specs.Enough as enough
 use Rattle.center_of_mass.specs.declared.Outcome.{Outcome}
 use Rattle.center_of_mass.specs.declared.Outcome.the-variants as outcome
 use Rattle.center_of_mass.specs.CenterOfMass as center
@@ -125,6 +129,18 @@ peaks-of : (size w h ring window radius : ℕ) (cs : List Corner) (ties held : �
     → detect.PeaksAdded (detect.conditions size w h ring window radius) cs ties held b r b′ → Refuses peaks.Refused (1 ∷ 2 ∷ 3 ∷ 10 ∷ []) r
 unfolding detect.conditions
 peaks-of size w h ring window radius cs ties held b b′ r f = peaks-refuse (detect.conditions size w h ring window radius) cs ties held b r (f .answer)
+
+enough-refuses : (conds : List (Bool × ℕ)) (m : List Float) (s : Search) (wanted : ℕ) (r : Enough) → enough.EnoughFound conds m s wanted r
+    → Refuses answered.Refused (map (λ c. c .1) conds) r
+unfolding enough.enoughOf
+enough-refuses conds m s wanted r f =
+    let peaks = detect.peaksIn m s in
+    refused-one answered.Refused (λ n. unless answered.Refused n (enough.answerOf (leb wanted (length peaks)) (enough.rowsFor s wanted peaks)))
+    (none (leb wanted (length peaks)) (enough.rowsFor s wanted peaks)) (λ n k q. sym (ap enough.numberOf q)) conds r (f .answer)
+  where
+    none : (b : Bool) (rows k : ℕ) → enough.answerOf b rows ≡ answered.Refused k → ⊥
+    none true rows k q = let e = ap (λ (a : Enough). length (enough.valuesOf a)) q in omega arith
+    none false rows k q = let e = ap (λ (a : Enough). length (enough.valuesOf a)) q in omega arith
 
 corners-of : (p : FrameParams) (v : response.View) (cs : List Corner) (ties held : ℕ) (d d′ : List Float) (b b′ : Slices) (r : Peaks)
     → BoxAdded p v cs ties held d b r d′ b′ → Refuses peaks.Refused (1 ∷ 2 ∷ 3 ∷ 8 ∷ 10 ∷ []) r
@@ -247,6 +263,8 @@ total = record {
   «level_at» = level-refuses;
   «detect_peaks_from_response_with_refine_radius» = λ m w h ring t window least radius b b′ held r f. peaks-of
       (length m) w h ring window radius _ _ held b b′ r f;
+  «has_peaks» = λ m w h ring t window least radius wanted r f. unfold detect.conditions in
+      (enough-refuses (detect.conditions (length m) w h ring window radius) m _ wanted r f);
   «add_patch_corners» = λ p img w h x0 y0 x1 y1 held d d′ b b′ r f. corners-of p (viewOf img w h (p .ring) x0 y0 x1 y1) _ _ held d d′ b b′ r f;
   «add_box_corners» = λ p img w h x0 y0 x1 y1 held d d′ b b′ r f. corners-of p (viewOf img w h (p .ring) x0 y0 x1 y1) _ _ held d d′ b b′ r f;
   refine = refine-refuses;

@@ -10,6 +10,7 @@ use Rattle.demands.specs.ResponsesOrdered.{ResponsesOrdered}
 use Rattle.demands.specs.PeaksAlike.{PeaksAlike}
 use Rattle.demands.specs.Units.{UnitsNearest}
 use Rattle.demands.specs.RingPass.{RingOnePass}
+use Rattle.demands.specs.Enough.{EnoughIsCounting, LooksNoFurther}
 use Rattle.demands.specs.Writing.{ReadBack, WrittenBack}
 use Rattle.demands.specs.Retention.{HeldWhen, RetainedTotal, RetainedReads}
 use Rattle.demands.specs.FrameExact.{FrameExact, AlikeByName, MapsSearched, MapsAlike, FrameWithoutTies, FourNever, PeaksKept}
@@ -73,6 +74,11 @@ pub record Demands : Type 0 where
   -- ---- Request 3: ring sums in one pass
   -- "after each pair the DR and sum held are those of the pairs passed; at the end all three are the paper's"
   pub ring-one-pass : RingOnePass
+  -- ---- Request 7: enough corners?
+  -- "The answer is the one full counting gives"
+  pub enough-is-counting : EnoughIsCounting
+  -- "ending when N is reached"
+  pub looks-no-further : LooksNoFurther
   -- ---- Request 11: write the frame stream
   -- "The reader returns the same values, float bits included"
   pub read-back : ReadBack

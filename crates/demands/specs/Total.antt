@@ -42,6 +42,8 @@ use Rattle.corner_list.specs.CornerList.{Slices, placesOf}
 use Rattle.detect.specs.declared.Peaks.{Peaks}
 use Rattle.detect.specs.declared.Peaks.the-variants as peaks
 use Rattle.detect.specs.Detect as detect
+use Rattle.detect.specs.declared.enough.Enough.{Enough}
+use Rattle.detect.specs.declared.enough.Enough.the-variants as enough
 use Rattle.center_of_mass.specs.declared.Outcome.{Outcome}
 use Rattle.center_of_mass.specs.declared.Outcome.the-variants as outcome
 use Rattle.center_of_mass.specs.Promise.{Refined}
@@ -78,6 +80,7 @@ use Rattle.retention.specs.declared.Holding.the-variants as retention
 use Rattle.retention.specs.Answer.{Told}
 use Rattle.demands.specs.Numbers.{Refuses}
 use Rattle.demands.specs.ResponseCall.{viewOf}
+use Rattle.demands.specs.Enough.{HasPeaks}
 
 -- a field for each function, by its name
 pub record Total : Type 0 where
@@ -94,6 +97,9 @@ pub record Total : Type 0 where
       (detect.startsIn m (detect.searchOf w h ring threshold window least radius)) (detect.tiesIn m (detect.searchOf w h ring threshold window least radius))
       held b r b′
       → Refuses peaks.Refused (1 ∷ 2 ∷ 3 ∷ 10 ∷ []) r
+  pub «has_peaks» : (m : List Float) (w h ring : ℕ) (threshold : Float) (window least radius wanted : ℕ) (r : Enough)
+      → HasPeaks m w h ring threshold window least radius wanted r
+      → Refuses enough.Refused (1 ∷ 2 ∷ 3 ∷ []) r
   pub «add_patch_corners» : (p : FrameParams) (img : List ℕ) (w h x0 y0 x1 y1 held : ℕ) (d d′ : List Float) (b b′ : Slices) (r : Peaks)
       → AddedCorners p (viewOf img w h (p .ring) x0 y0 x1 y1) held d b r d′ b′
       → Refuses peaks.Refused (1 ∷ 2 ∷ 3 ∷ 8 ∷ 10 ∷ []) r

@@ -8,6 +8,9 @@ pub mod WindowRows
 pub mod Rows
 pub mod Scanning
 pub mod FirstPeaks
+pub mod Counting
+pub mod Seen
 pub mod Ties
 pub mod Writing
 pub mod Sample
+pub mod Column

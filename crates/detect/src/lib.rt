@@ -1,9 +1,12 @@
 // Peaks of a response map, added to a buffer of corners (RULES 4).
 mod adding;
+mod enough; // has_peaks: whether there are as many as wanted
 mod neighbors;
 mod searching;
 mod table;
 
+pub use enough::Enough;
+pub use enough::has_peaks;
 ghost use mathlib.Core.Path.{_≡_};
 ghost use lib.ListN.{length};
 ghost use Rattle.lists.specs.Refusals.{lowest};

@@ -1,12 +1,14 @@
 //! against N SEED [FOLDER]: as oracle_compare, with our corner finder linked in instead of a process for each stream; and N frames of the
-//! library, in buffers of every size, each of which is compared afterwards.
+//! library, in buffers of every size, each of which is compared afterwards; and N maps that are asked for enough peaks.
 use oracle::buffers::Buffers;
-use oracle::compare::{cases, run, run_library};
+use oracle::compare::{cases, run, run_enough, run_library};
 use oracle::generate::refused_frames::Case;
+use oracle::refusal::Refusal;
 use oracle::sample::library::Left;
+use oracle::sample::peaks;
 use std::path::Path;
 use std::process::ExitCode;
-use zakdomp::raw::{zakdomp_corners, zakdomp_find_corners, LONGEST};
+use zakdomp::raw::{zakdomp_corners, zakdomp_find_corners, zakdomp_has_peaks, LONGEST};
 
 fn answer(stream: &[u8]) -> Vec<u8> {
     let mut output = vec![0; LONGEST];
@@ -59,6 +61,33 @@ fn left(case: &Case) -> Left {
     Left { number: number.into(), count, ties, buffers: b }
 }
 
+fn enough(case: &peaks::Case, wanted: usize) -> Result<(bool, usize), Refusal> {
+    let p = &case.params;
+    let (mut yes, mut rows) = (0, 0);
+    // SAFETY: the slice is whole, and the two results are the function's own.
+    let number = unsafe {
+        zakdomp_has_peaks(
+            case.cells.as_ptr(),
+            case.cells.len(),
+            case.width,
+            case.height,
+            p.ring,
+            p.threshold,
+            p.window,
+            p.least,
+            p.centroid,
+            wanted,
+            &mut yes,
+            &mut rows,
+        )
+    };
+    if number == 0 {
+        Ok((yes == 1, rows))
+    } else {
+        Err(number.into())
+    }
+}
+
 fn main() -> ExitCode {
     let words: Vec<String> = std::env::args().skip(1).collect();
     let usage = "usage: against N SEED [FOLDER]";
@@ -66,5 +95,6 @@ fn main() -> ExitCode {
     let (count, seed) = (number(0), number(1));
     let folder = words.get(2).map_or("differing", String::as_str);
     let folder = Path::new(folder);
-    run(cases(count, seed), folder, answer).and(run_library(count, seed, folder, left)).finish()
+    let frames = run(cases(count, seed), folder, answer).and(run_library(count, seed, folder, left));
+    frames.and(run_enough(count, seed, enough)).finish()
 }

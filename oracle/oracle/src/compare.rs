@@ -1,12 +1,17 @@
-//! Holds another implementation of `corners` to the oracle, stream by stream, and one of the library's frame, buffer by buffer.
+//! Holds another implementation of `corners` to the oracle, stream by stream, one of the library's frame, buffer by buffer, and one of
+//! `has_peaks`, map by map.
 use crate::generate::frames::{damaged_stream, random_stream};
 use crate::generate::refused_frames::Case as Frame;
 use crate::generate::{hunted, refused_streams};
+use crate::params::Params;
+use crate::peaks::{has_peaks, peaks_of};
 use crate::program::corners;
+use crate::refusal::Refusal;
 use crate::sample::library::{due, put, random, Left};
-use crate::sample::File;
+use crate::sample::{peaks, File};
 use crate::stream::write;
 use crate::tally::Tally;
+use crate::ResponseMap;
 use std::fs;
 use std::path::Path;
 
@@ -82,6 +87,30 @@ pub fn run_library(count: u64, seed: u64, folder: &Path, mut answer: impl FnMut(
             }
         }
         tally.check(&name, got == due && ties_alike);
+    }
+    tally
+}
+
+/// Runs `answer`, whether a map has at least so many peaks, on `count` random maps, with none, one and about as many wanted as there are, and
+/// with a ring that is refused.
+pub fn run_enough(
+    count: u64,
+    seed: u64,
+    mut answer: impl FnMut(&peaks::Case, usize) -> Result<(bool, usize), Refusal>,
+) -> Tally {
+    let mut tally = Tally::default();
+    let maps = (seed..).flat_map(peaks::random_cases).take(count as usize);
+    for (number, case) in maps.enumerate() {
+        let due = |case: &peaks::Case, wanted| {
+            has_peaks(&case.cells, case.width, case.height, &case.params, wanted)
+        };
+        let found =
+            peaks_of(&ResponseMap::new(case.width, case.height, case.cells.clone()), &case.params).len();
+        for wanted in [0, 1, found / 2, found, found + 1] {
+            tally.same(&format!("enough-{seed}-{number}"), answer(&case, wanted), due(&case, wanted));
+        }
+        let refused = peaks::Case { params: Params { ring: 6, ..case.params }, ..case };
+        tally.same(&format!("enough-{seed}-{number}, ring 6"), answer(&refused, 0), due(&refused, 0));
     }
     tally
 }

@@ -36,3 +36,21 @@ pub fn find_peaks(
     buffer.put(held, &list);
     Ok(list.len())
 }
+
+/// Whether a map has at least `wanted` peaks, and the rows looked at (RULES 26), by counting all; or refusal 1, 2 or 3.
+pub fn has_peaks(
+    cells: &[f32],
+    width: usize,
+    height: usize,
+    params: &Params,
+    wanted: usize,
+) -> Result<(bool, usize), Refusal> {
+    check_map(cells.len(), width, height, LARGEST_SIDE)?;
+    params.check_window()?;
+    let list = peaks_of(&ResponseMap::new(width, height, cells.to_vec()), params);
+    let border = params.border();
+    let inside = if width.min(height) <= 2 * border { 0 } else { height - 2 * border };
+    let last = wanted.checked_sub(1).map(|place| list.get(place));
+    let rows = last.map_or(0, |peak| peak.map_or(inside, |corner| corner.y as usize - border + 1));
+    Ok((wanted <= list.len(), rows))
+}

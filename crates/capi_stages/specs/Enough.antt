@@ -1,0 +1,32 @@
+-- What `zakdomp_has_peaks` promises, by the promise of `has_peaks`.
+use Prim.Native.Nat.{ℕ}
+use mathlib.Core.Path.{_≡_}
+use mathlib.Core.Bool.{Bool, cond}
+use mathlib.Core.List.{List}
+use lib.ListN.{length}
+use lib.Dec.{leb}
+use lib.Ieee.{Float}
+use Rattle.lists.specs.Refusals.{unless}
+use Rattle.detect.specs.declared.Search.{Search}
+use Rattle.detect.specs.declared.enough.Enough.{Enough}
+use Rattle.detect.specs.declared.enough.Enough.the-variants.{Yes, No, Refused}
+use Rattle.detect.specs.Detect.{peaksIn}
+use Rattle.detect.specs.Enough.{rowsFor, enoughOf, EnoughFound}
+use Rattle.capi_stages.specs.Results.{resultOr}
+
+-- whether an answer is yes, as 1 or 0, and its rows, or what was there before
+abbrev pub yesOf : Enough → ℕ → ℕ
+yesOf (Yes rows) before = 1
+yesOf (No rows) before = 0
+yesOf (Refused k) before = before
+
+abbrev pub rowsOf : Enough → ℕ → ℕ
+rowsOf (Yes rows) before = rows
+rowsOf (No rows) before = rows
+rowsOf (Refused k) before = before
+
+-- the number r that is returned is that of the answer, and `enough` and the rows are those of the answer
+pub record PeaksCounted (conds : List (Bool × ℕ)) (m : List Float) (s : Search) (wanted enough rows r enough′ rows′ : ℕ) : Type 0 where
+  pub answer : EnoughFound conds m s wanted (unless Refused r (enoughOf s wanted (peaksIn m s)))
+  pub enough-is : enough′ ≡ resultOr r (cond (leb wanted (length (peaksIn m s))) 1 0) enough
+  pub rows-is : rows′ ≡ resultOr r (rowsFor s wanted (peaksIn m s)) rows
