@@ -228,6 +228,29 @@ static void writing(const uint8_t *img) {
     expect(length == sizeof listing - 1 && memcmp(output, listing, length) == 0, "and its listing");
 }
 
+static uint8_t retouch(uint8_t *img, float *map, size_t cells, uint32_t ring, size_t x, size_t y, uint8_t value, size_t *redone) {
+    return zakdomp_retouch(img, CELLS, SIDE, SIDE, ring, map, cells, x, y, value, redone);
+}
+
+static void retouching(const uint8_t *whole) {
+    uint8_t img[CELLS];
+    float map[CELLS];
+    size_t redone = 77;
+    memcpy(img, whole, CELLS);
+    for (int i = 0; i < CELLS; i++) map[i] = 7;
+    expect(retouch(img, map, CELLS - 1, 5, 5, 5, 129, &redone) == ZAKDOMP_LENGTH, "a cell short");
+    expect(retouch(img, map, CELLS, 6, SIDE, 0, 129, &redone) == ZAKDOMP_PARAMETER, "a ring of 6 and a place outside");
+    expect(retouch(img, map, CELLS, 5, SIDE, 0, 129, &redone) == ZAKDOMP_OUTSIDE, "a column too many");
+    expect(retouch(img, map, CELLS, 5, 0, SIDE, 129, &redone) == ZAKDOMP_OUTSIDE, "a row too many");
+    expect(redone == 77 && map[60] == 7 && memcmp(img, whole, CELLS) == 0, "refused: all as it was");
+    expect(retouch(img, map, CELLS, 5, 0, 0, 9, &redone) == ZAKDOMP_DONE && redone == 0 && img[0] == 9, "a pixel that no cell samples");
+    expect(retouch(img, map, CELLS, 5, 5, 0, 254, &redone) == ZAKDOMP_DONE && redone == 1 && map[60] == 2029, "a ring place: 15 fifths less");
+    expect(retouch(img, map, CELLS, 5, 5, 0, 255, &redone) == ZAKDOMP_DONE && redone == 1 && map[60] == 2032, "and again as it was");
+    int kept = 0;
+    for (int i = 0; i < CELLS; i++) kept += map[i] == 7;
+    expect(kept == CELLS - 1, "no other cell");
+}
+
 int main(void) {
     uint8_t img[CELLS];
     whole_case(img);
@@ -236,6 +259,7 @@ int main(void) {
     stages(img);
     ties();
     enough_peaks();
+    retouching(img);
     streams(img);
     writing(img);
     holdings();

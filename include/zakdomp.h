@@ -37,6 +37,7 @@ enum {
     ZAKDOMP_LIST_SHORT = 10,  /* the corners do not fit their buffer */
     ZAKDOMP_PGM = 12,         /* the header of a photograph is not of the form P5, or fewer bytes than pixels are behind it */
     ZAKDOMP_MAXVAL = 13,      /* the maxval of a photograph is not 255 */
+    ZAKDOMP_OUTSIDE = 14,     /* the place is outside the image */
     ZAKDOMP_STREAM_SHORT = 19, /* the stream buffer is too short */
     ZAKDOMP_LATE = 20         /* a start or a time is above 2^40 */
 };
@@ -92,6 +93,16 @@ uint8_t zakdomp_find_corners_pgm(const uint8_t *upload, size_t upload_length, ui
  * Refusals: 1, 2, 3, 8. */
 uint8_t zakdomp_response(const uint8_t *img, size_t img_length, size_t w, size_t h, uint32_t ring, size_t x0, size_t y0, size_t x1,
                          size_t y1, float *map, size_t map_length, size_t *width, size_t *height);
+
+/* Changes the pixel of column x and row y to `value`, and computes those cells of the image's map anew that are not within a ring radius of the
+ * edge and whose sixteen or five samples contain the pixel: at most 21. Where the map was that of the whole image by that ring, image and map
+ * are then as after a new call of zakdomp_response; any other map gets those cells and no more. The time does not grow with the image.
+ *   img     changed in place
+ *   map     exactly w * h floats, in row order; the cells are changed in place
+ *   redone  how many cells were computed anew
+ * Refusals: 1, 2 (the length of the image or of the map), 3, 14. */
+uint8_t zakdomp_retouch(uint8_t *img, size_t img_length, size_t w, size_t h, uint32_t ring, float *map, size_t map_length, size_t x, size_t y,
+                        uint8_t value, size_t *redone);
 
 /* The peaks of a map of w by h responses, put behind the first `held` corners of a buffer, in row order. The parameters are those of
  * zakdomp_find_corners; no peak lies within ring + window + centroid of the map's edge. A NaN cell is not at or below any threshold and is

@@ -5,6 +5,7 @@
     find_corners_pgm(upload, threshold=30)             ->  the same of a photograph, the bytes of a binary PGM file
     read_pgm(upload)                                   ->  Photograph(at, width, height, pixels)
     response(pixels, width, height, ring=5)            ->  ResponseMap(width, height, cells)
+    retouch(pixels, cells, width, height, x, y, value) ->  how many cells of the map were computed anew
     has_peaks(cells, width, height, wanted)            ->  Enough(enough, rows): whether a map has so many peaks
     write_stream(pixels, width, height, threshold=30)  ->  the bytes that the program `corners` reads
     holding(kind, start, time), holdings(stream)       ->  "N" not yet, "H" held or "G" gone, for an item and for each of a stream
@@ -28,7 +29,7 @@ __version__ = "0.1.0"
 
 REFUSALS = {
     1: "a side is above 4096, or above 96 in a stream",
-    2: "the number of pixels is not width times height",
+    2: "the number of pixels or of cells is not width times height",
     3: "the ring is not 5 or 10, a window, centroid or search radius is out of range, or a value too wide for a stream",
     4: "a coordinate is out of range",
     5: "the merge radius is not within 1/64 to 4096",
@@ -38,6 +39,7 @@ REFUSALS = {
     10: "there are more corners than places for them",
     12: "the photograph is no whole binary PGM",
     13: "the maxval of the photograph is not 255",
+    14: "the place is outside the image",
     19: "the stream buffer is too short",
     20: "a start or a time is above 2^40",
 }
@@ -113,12 +115,13 @@ def _load():
     library.zakdomp_find_corners_pgm.argtypes = piece + numbers + 8 * piece + [out, ctypes.POINTER(u64)]
     library.zakdomp_pgm.argtypes = piece + 3 * [out]
     library.zakdomp_response.argtypes = piece + [size, size, u32, size, size, size, size] + piece + [out, out]
+    library.zakdomp_retouch.argtypes = piece + [size, size, u32] + piece + [size, size, ctypes.c_uint8, out]
     library.zakdomp_level_bytes.argtypes = [size, size, u32, size]
     library.zakdomp_has_peaks.argtypes = piece + [size, size] + numbers[:5] + [size, ctypes.POINTER(u8), out]
     library.zakdomp_write_stream.argtypes = piece + [size, size] + 7 * [u32] + [size, u32] + piece + [out]
     library.zakdomp_holding.argtypes = [u8, u64, u64, ctypes.POINTER(u8)]
     library.zakdomp_holdings.argtypes = piece + [ctypes.c_void_p]
-    for function in ("find_corners", "find_corners_pgm", "pgm", "response", "has_peaks", "write_stream", "holding"):
+    for function in ("find_corners", "find_corners_pgm", "pgm", "response", "has_peaks", "retouch", "write_stream", "holding"):
         getattr(library, "zakdomp_" + function).restype = u8
     library.zakdomp_level_bytes.restype = library.zakdomp_holdings.restype = size
     return library
@@ -137,6 +140,16 @@ def _floats(places):
     """A buffer with at least one place, and as pointer and length."""
     buffer = (ctypes.c_float * max(places, 1))()
     return buffer, [ctypes.addressof(buffer), places]
+
+
+def _changed(buffer, kind):
+    """A buffer of bytes ("B") or floats ("f") that the library changes in place, and its length in elements."""
+    view = memoryview(buffer)
+    if view.format != kind or view.readonly or not view.c_contiguous:
+        raise TypeError(f"not a buffer of type {kind!r} that can be changed in place")
+    element = {"B": ctypes.c_uint8, "f": ctypes.c_float}[kind]
+    length = view.nbytes // view.itemsize
+    return (element * length).from_buffer(view) if length else (element * 1)(), length
 
 
 def _whole(name, value, bits):
@@ -225,6 +238,24 @@ def response(pixels, width, height, *, ring=5, x0=0, y0=0, x1=LARGEST_SIDE, y1=L
     if number:
         raise Refusal(number)
     return ResponseMap(w.value, h.value, buffer[:w.value * h.value])
+
+
+def retouch(pixels, cells, width, height, x, y, value, *, ring=5):
+    """Changes the pixel of column x and row y to `value` and, of the image's map, those cells whose samples contain it and that are not within a
+    ring radius of the edge. Returns how many they are, at most 21. `pixels` is a bytearray and `cells` an array of floats, typecode "f": both
+    are changed in place, and stay as they were where the call is refused."""
+    _whole("ring", ring, 32)
+    _whole("value", value, 8)
+    for name, number in {"width": width, "height": height, "x": x, "y": y}.items():
+        _whole(name, number, 64)
+    image, image_length = _changed(pixels, "B")
+    responses, map_length = _changed(cells, "f")
+    redone = ctypes.c_size_t(0)
+    number = _library.zakdomp_retouch(ctypes.addressof(image), image_length, width, height, ring, ctypes.addressof(responses), map_length, x, y,
+                                      value, ctypes.byref(redone))
+    if number:
+        raise Refusal(number)
+    return redone.value
 
 
 def has_peaks(cells, width, height, wanted, *, ring=5, threshold=0.0, window=2, least_neighbours=2, centroid_radius=2):

@@ -55,6 +55,20 @@ pub fn c_response(pixels: &[u8], w: usize, h: usize, ring: u32, map: &mut [f32])
     unsafe { response_in_c(pixels.as_ptr(), w, h, ring as i32, map.as_mut_ptr()) }
 }
 
+#[allow(clippy::too_many_arguments)]
+pub fn retouch(
+    pixels: &mut [u8],
+    w: usize,
+    h: usize,
+    ring: u32,
+    map: &mut [f32],
+    x: usize,
+    y: usize,
+    value: u8,
+) -> usize {
+    zakdomp::retouch(pixels, w, h, ring, map, x, y, value).expect("not refused")
+}
+
 pub fn peaks(map: &[f32], w: usize, h: usize, p: &Params, list: &mut List) -> usize {
     let (mut added, mut ties) = (0, 0);
     let [x, y, s] = &mut list.0;

@@ -16,7 +16,9 @@ const SIDES: [(usize, usize); 4] = [(96, 96), (640, 480), (1024, 1024), (4096, 4
 
 fn print(row: &Row) {
     let t = &row.times;
-    let ratio = |a: f64, b: f64| format!("{:.2}", a / b);
+    // two digits of a small ratio would both be 0
+    let ratio =
+        |a: f64, b: f64| if a < 0.005 * b { format!("{:.1e}", a / b) } else { format!("{:.2}", a / b) };
     let c = t.get(2).map_or(("".into(), "".into()), |c| (format!("{c:.4}"), ratio(*c, t[0])));
     println!(
         "| {} | {} | {:.4} | {:.4} | {} | {} | {} |",
@@ -38,6 +40,11 @@ fn table(rounds: usize) {
     let wide: Vec<Subject> = SIDES.iter().map(|&(w, h)| with_ring(Subject::board(w, h), 10)).collect();
     for s in subjects.iter().chain(&wide) {
         print(&stages::response(s, fewer(s.width)));
+    }
+    for s in [&subjects[0], &subjects[3], &wide[0], &wide[3]] {
+        for anywhere in [false, true] {
+            print(&stages::retouching(s, fewer(s.width), anywhere));
+        }
     }
     for s in subjects.iter().chain(&wide) {
         print(&stages::peaks(s, rounds, stages::places(s), ""));

@@ -6,6 +6,7 @@ use oracle::generate::Rng;
 use oracle::image::Image;
 use oracle::params::Params;
 use oracle::pyramid::{levels_of, pixels_above};
+use oracle::response::map_of;
 use oracle::timing::{Subject, ORIGINAL};
 use oracle::{merge, Corner};
 
@@ -58,6 +59,36 @@ pub fn response(s: &Subject, rounds: usize) -> Row {
         }),
     ];
     row("response", sides(s), rounds, calls)
+}
+
+/// A pixel is changed, and the map redone: the original computes all of it, ours what the pixel touches. The pixel is the one in the middle, or
+/// one anywhere. The two are timed apart, since one call of the original's takes as long as thousands of ours.
+pub fn retouching(s: &Subject, rounds: usize, anywhere: bool) -> Row {
+    let (w, h, ring) = (s.width, s.height, s.params.ring);
+    let (mut pixels, mut map) = (s.pixels.clone(), s.map.data().to_vec());
+    let mut rng = Rng::new(8);
+    let mut places: Vec<(usize, usize)> = (0..1024).map(|_| (rng.below(w), rng.below(h))).collect();
+    if !anywhere {
+        places = vec![(w / 2, h / 2)];
+    }
+    for &(x, y) in &places {
+        library::retouch(&mut pixels, w, h, ring, &mut map, x, y, 255 - s.pixels[y * w + x]);
+    }
+    let image = Image { pixels: &pixels, width: w, height: h };
+    let fresh = map_of(image, ring, image.whole());
+    assert!(map.iter().zip(fresh.data()).all(|(a, b)| a.to_bits() == b.to_bits()));
+    let rust = best(rounds, &mut [Box::new(|| s.response().width())])[0];
+    let mut turn = 0;
+    let ours = best(
+        rounds,
+        &mut [Box::new(|| {
+            let (x, y) = places[turn % places.len()];
+            turn += 1;
+            library::retouch(&mut pixels, w, h, ring, &mut map, x, y, turn as u8)
+        })],
+    )[0];
+    let which = if anywhere { "a pixel anywhere" } else { "the pixel in the middle" };
+    Row { stage: "retouch", input: format!("{}, {which}", sides(s)), times: vec![rust, ours] }
 }
 
 pub fn peaks(s: &Subject, rounds: usize, places: usize, how: &str) -> Row {

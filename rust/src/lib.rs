@@ -207,6 +207,23 @@ pub fn response(
     Ok(ResponseMap { width: w, height: h, cells })
 }
 
+/// Changes the pixel of column `x` and row `y` to `value`, and computes those cells of the image's `map` anew whose samples contain it and that
+/// are not within a ring radius of the edge. Answers how many they are, at most 21. A map that was the whole image's by that ring is so again;
+/// any other gets those cells and no more.
+#[allow(clippy::too_many_arguments)]
+pub fn retouch(
+    image: &mut [u8],
+    width: usize,
+    height: usize,
+    ring: u32,
+    map: &mut [f32],
+    x: usize,
+    y: usize,
+    value: u8,
+) -> Result<usize, Refusal> {
+    library::retouch(image, width, height, ring, map, x, y, value)
+}
+
 /// Whether a response map of `width` by `height` cells has at least `wanted` peaks, and how many rows inside the border were looked at to know
 /// it. Of the parameters those up to `centroid_radius` matter.
 pub fn has_peaks(

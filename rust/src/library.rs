@@ -1,7 +1,7 @@
 //! The functions of libzakdomp.a that this crate calls, over slices.
 use crate::raw::{
     zakdomp_find_corners, zakdomp_find_corners_pgm, zakdomp_has_peaks, zakdomp_holding, zakdomp_holdings,
-    zakdomp_level_bytes, zakdomp_pgm, zakdomp_response, zakdomp_write_stream, HOLDINGS,
+    zakdomp_level_bytes, zakdomp_pgm, zakdomp_response, zakdomp_retouch, zakdomp_write_stream, HOLDINGS,
 };
 use crate::{Params, Refusal};
 use std::ops::Range;
@@ -85,6 +85,21 @@ pub(crate) fn response(
         )
     };
     unless_refused(number, (w, h))
+}
+
+#[allow(clippy::too_many_arguments)]
+#[rustfmt::skip]
+pub(crate) fn retouch(
+    image: &mut [u8], width: usize, height: usize, ring: u32, map: &mut [f32], x: usize, y: usize, value: u8,
+) -> Result<usize, Refusal> {
+    let mut redone = 0;
+    // SAFETY: as above.
+    let number = unsafe {
+        zakdomp_retouch(
+            image.as_mut_ptr(), image.len(), width, height, ring, map.as_mut_ptr(), map.len(), x, y, value, &mut redone,
+        )
+    };
+    unless_refused(number, redone)
 }
 
 #[rustfmt::skip]

@@ -33,6 +33,10 @@ extern "C" {
         img: *const u8, img_length: usize, w: usize, h: usize, ring: u32, x0: usize, y0: usize, x1: usize, y1: usize,
         map: *mut f32, map_length: usize, width: *mut usize, height: *mut usize,
     ) -> u8;
+    pub fn zakdomp_retouch(
+        img: *mut u8, img_length: usize, w: usize, h: usize, ring: u32, map: *mut f32, map_length: usize, x: usize, y: usize, value: u8,
+        redone: *mut usize,
+    ) -> u8;
     pub fn zakdomp_peaks(
         map: *const f32, map_length: usize, w: usize, h: usize, ring: u32, threshold: f32, window: u32, least: u32, centroid: u32,
         xs: *mut f32, xs_length: usize, ys: *mut f32, ys_length: usize, strengths: *mut f32, strengths_length: usize,

@@ -15,6 +15,7 @@ pub enum Refusal {
     ListShort,
     Pgm,
     Maxval,
+    Outside,
     StreamShort,
     Late,
     /// A number that this crate does not know.
@@ -35,6 +36,7 @@ impl Refusal {
             10 => Self::ListShort,
             12 => Self::Pgm,
             13 => Self::Maxval,
+            14 => Self::Outside,
             19 => Self::StreamShort,
             20 => Self::Late,
             _ => Self::Other(number),
@@ -55,6 +57,7 @@ impl Refusal {
             Self::ListShort => 10,
             Self::Pgm => 12,
             Self::Maxval => 13,
+            Self::Outside => 14,
             Self::StreamShort => 19,
             Self::Late => 20,
             Self::Other(number) => number,
@@ -66,7 +69,7 @@ impl std::fmt::Display for Refusal {
     fn fmt(&self, f: &mut std::fmt::Formatter<'_>) -> std::fmt::Result {
         let text = match self {
             Self::Side => "a side is above 4096, or above 96 in a stream",
-            Self::Length => "the number of pixels is not width times height",
+            Self::Length => "the number of pixels or of cells is not width times height",
             Self::Parameter => {
                 "the ring is not 5 or 10, a window, centroid or search radius is out of range, or a value too wide for a stream"
             }
@@ -78,6 +81,7 @@ impl std::fmt::Display for Refusal {
             Self::ListShort => "there are more corners than places for them",
             Self::Pgm => "the photograph is no whole binary PGM",
             Self::Maxval => "the maxval of the photograph is not 255",
+            Self::Outside => "the place is outside the image",
             Self::StreamShort => "the stream buffer is too short",
             Self::Late => "a start or a time is above 2^40",
             Self::Other(_) => "refused",

@@ -9,11 +9,19 @@ use Rattle.stream.specs.declared.Header.{Header}
 use Rattle.stream.specs.RoundTrip.{frameBytes}
 use Rattle.frame_writer.specs.declared.FrameWriting.{FrameWriting}
 use Rattle.frame_writer.specs.FrameWriter as writer
+use lib.Dec.{ltb}
+use lib.ListN.{length}
+use lib.Ieee.{Float}
+use Rattle.lists.specs.Places.{Place}
+use Rattle.ring.specs.Ring.{ringOf}
 use Rattle.retention.specs.declared.Holding.{Holding}
 use Rattle.retention.specs.declared.Holding.the-variants.{NotYet, Held, Gone}
 use Rattle.retention.specs.Retention.{stays, stateOf, refusalOf, answerBy, numberOf, letterOf}
 use Rattle.retention.specs.Answer.{Told}
 use Rattle.retention.proofs.Items.{stated}
+use Rattle.retouch.specs.declared.Retouched.{Retouched}
+use Rattle.retouch.specs.Retouch.{touchedCount}
+use Rattle.retouch.specs.Promise as retouch
 use Rattle.capi_stages.specs.Results.{resultOr}
 use Rattle.capi_stages.proofs.Answers.{answer, result}
 use Rattle.pgm.specs.declared.PgmImage.{PgmImage}
@@ -22,6 +30,7 @@ use Rattle.pgm.specs.Pgm as pgm
 use Rattle.capi_tools.specs.Holding.{letterOr, HoldingTold}
 use Rattle.capi_tools.specs.Photo.{placeOr, widthOr, heightOr, ImageRead}
 use Rattle.capi_tools.specs.Writing.{lengthOr, StreamTold}
+use Rattle.capi_tools.specs.Retouching.{redoneOf, PixelRetouched}
 
 -- ---- an item
 module _ (kind start time : ℕ) where
@@ -111,3 +120,27 @@ module _ (h : Header) (pixels stream : List ℕ) (written : ℕ) (a : FrameWriti
       each-length : (k : ℕ) → lengthOr (writer.answerOf k long) written ≡ resultOr k long written
       each-length zero = refl
       each-length (suc k) = refl
+
+-- ---- a pixel changed
+module _ (w h ring : ℕ) (q : Place) (value : ℕ) (img : List ℕ) (map : List Float) (redone : ℕ)
+    (a : Retouched) (r : ℕ) (img′ : List ℕ) (map′ : List Float) (redone′ : ℕ) where
+  abbrev cells : ℕ
+  cells = touchedCount w h (ringOf ring) q
+
+  pub pixel-retouched : retouch.Retouches w h ring q value img map a img′ map′ → r ≡ retouch.numberOf a → redone′ ≡ redoneOf a redone
+      → PixelRetouched w h ring q value img map redone r img′ map′ redone′
+  pixel-retouched p n x =
+      let number = retouch.refusalOf (length img) (length map) w h ring q in record {
+        answer =
+            subst (λ (o : Retouched). retouch.Retouches w h ring q value img map o img′ map′)
+            (answer (λ k. retouch.answerOf k cells) retouch.numberOf counted a number (p .answer) r n) p;
+        redone-is = result (λ k. retouch.answerOf k cells) retouch.numberOf counted a number (p .answer) r n redoneOf cells redone redone′ each x;
+      }
+    where
+      counted : (k : ℕ) → retouch.numberOf (retouch.answerOf k cells) ≡ k
+      counted zero = refl
+      counted (suc k) = refl
+
+      each : (k : ℕ) → redoneOf (retouch.answerOf k cells) redone ≡ resultOr k cells redone
+      each zero = refl
+      each (suc k) = refl

@@ -1,3 +1,4 @@
 pub mod Holding
 pub mod Photo
 pub mod Writing
+pub mod Retouching

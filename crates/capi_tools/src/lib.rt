@@ -3,3 +3,4 @@
 mod holding; // zakdomp_holding, zakdomp_holdings: what may be deleted
 mod photo; // zakdomp_pgm: where the pixels of an uploaded photograph are
 mod writing; // zakdomp_write_stream: the frame stream
+mod retouching; // zakdomp_retouch: a pixel changed, and its map redone

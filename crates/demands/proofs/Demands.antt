@@ -13,6 +13,7 @@ use Rattle.demands.proofs.RingPass.{ring-one-pass}
 use Rattle.demands.proofs.Enough.{enough-is-counting, looks-no-further}
 use Rattle.demands.proofs.Writing.{read-back, written-back}
 use Rattle.demands.proofs.Retention.{held-when, retained-total, retained-reads}
+use Rattle.demands.proofs.Retouch.{only-touched, at-most-21, fresh-again, moves-little}
 use Rattle.demands.proofs.FrameExact.{frame-exact, alike-by-name, maps-searched, maps-alike, frame-without-ties, four-never, peaks-kept}
 use Rattle.demands.proofs.Photographs.{photograph-is-frame, plain-header-read, behind-unread, uploads-read}
 use Rattle.demands.proofs.Tolerance.{centre-tolerance, frame-tolerance}
@@ -46,6 +47,10 @@ demands = record {
   ring-one-pass = ring-one-pass;
   enough-is-counting = enough-is-counting;
   looks-no-further = looks-no-further;
+  only-touched = only-touched;
+  at-most-21 = at-most-21;
+  fresh-again = fresh-again;
+  moves-little = moves-little;
   read-back = read-back;
   written-back = written-back;
   held-when = held-when;

@@ -19,4 +19,5 @@ pub mod Retention
 pub mod PlainHeader
 pub mod Photographs
 pub mod Writing
+pub mod Retouch
 pub mod Demands

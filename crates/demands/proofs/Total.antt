@@ -9,9 +9,9 @@ use lib.ListN.{length, take}
 use lib.Dec.{ltb, leb}
 use lib.Ieee.{Float}
 use borrow.Author.Tests.{eq-eqb}
-use Rattle.lists.specs.Places.{any}
+use Rattle.lists.specs.Places.{Place, any}
 use Rattle.lists.specs.Refusals.{isLarge, isMisfit, lowest, unless}
-use Rattle.ring.specs.Ring.{isRing}
+use Rattle.ring.specs.Ring.{ringOf, isRing}
 use Rattle.response.specs.declared.Patch.{Patch}
 use Rattle.response.specs.declared.Patch.the-variants as patch
 use Rattle.response.specs.Patch as response
@@ -76,6 +76,10 @@ use Rattle.listing.specs.declared.Listing.{Listing}
 use Rattle.listing.specs.declared.Listing.the-variants as listed
 use Rattle.listing.specs.Text.{cornersText}
 use Rattle.listing.specs.Answer as listing
+use Rattle.retouch.specs.declared.Retouched.{Retouched}
+use Rattle.retouch.specs.declared.Retouched.the-variants as retouched
+use Rattle.retouch.specs.Retouch.{touchedCount}
+use Rattle.retouch.specs.Promise as retouch
 use Rattle.retention.specs.declared.Holding.{Holding}
 use Rattle.retention.specs.declared.Holding.the-variants as held
 use Rattle.retention.specs.Retention as retention
@@ -246,6 +250,13 @@ listing-refuses b count out out′ r f k e = go (ltb 512 count) (sym (f .answer)
     go true e = inl cc
     go false e = absurd (let z : _≡_ {A = ℕ} 0 1 = cc in omega arith)
 
+retouch-refuses : (w h ring : ℕ) (q : Place) (value : ℕ) (img : List ℕ) (m : List Float) (r : Retouched) (img′ : List ℕ) (m′ : List Float)
+    → retouch.Retouches w h ring q value img m r img′ m′ → Refuses retouched.Refused (1 ∷ 2 ∷ 3 ∷ 14 ∷ []) r
+unfolding retouch.refusalOf
+retouch-refuses w h ring q value img m r img′ m′ f =
+    refused-one retouched.Refused (λ n. retouch.answerOf n (touchedCount w h (ringOf ring) q)) (λ k e. let z : _≡_ {A = ℕ} 0 1 = cc in omega arith)
+    (λ n k e. sym (ap retouch.numberOf e)) (retouch.conditions (length img) (length m) w h ring q) r (f .answer)
+
 holding-refuses : (kind start time : ℕ) (r : Holding) → Told kind start time r → Refuses held.Refused (6 ∷ 20 ∷ []) r
 unfolding retention.refusalOf
 holding-refuses kind start time r f =
@@ -278,5 +289,6 @@ total = record {
   «read_frame» = stream-refuses;
   «write_frame» = writer-refuses;
   «write_corners» = listing-refuses;
+  retouch = retouch-refuses;
   holding = holding-refuses;
 }

@@ -13,6 +13,7 @@ use Rattle.demands.specs.RingPass.{RingOnePass}
 use Rattle.demands.specs.Enough.{EnoughIsCounting, LooksNoFurther}
 use Rattle.demands.specs.Writing.{ReadBack, WrittenBack}
 use Rattle.demands.specs.Retention.{HeldWhen, RetainedTotal, RetainedReads}
+use Rattle.demands.specs.Retouch.{OnlyTouched, AtMost21, Fresh, MovesLittle}
 use Rattle.demands.specs.FrameExact.{FrameExact, AlikeByName, MapsSearched, MapsAlike, FrameWithoutTies, FourNever, PeaksKept}
 use Rattle.demands.specs.Tolerance.{CentreTolerance, FrameTolerance}
 use Rattle.demands.specs.Photographs.{PhotographIsFrame, PlainHeaderRead, BehindUnread, UploadsRead}
@@ -79,6 +80,15 @@ pub record Demands : Type 0 where
   pub enough-is-counting : EnoughIsCounting
   -- "ending when N is reached"
   pub looks-no-further : LooksNoFurther
+  -- ---- Request 8: retouched pixels
+  -- "any other map gets those cells and no more"
+  pub only-touched : OnlyTouched
+  -- "at most 21"
+  pub at-most-21 : AtMost21
+  -- "map and image equal a fresh run"
+  pub fresh-again : Fresh
+  -- "moves the exact response by at most 15d fifths through a ring place and 16d through the cross, and no other cell at all"
+  pub moves-little : MovesLittle
   -- ---- Request 11: write the frame stream
   -- "The reader returns the same values, float bits included"
   pub read-back : ReadBack

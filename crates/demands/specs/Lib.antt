@@ -18,4 +18,5 @@ pub mod Retention
 pub mod Texts
 pub mod Photographs
 pub mod Writing
+pub mod Retouch
 pub mod Demands

@@ -2,7 +2,7 @@
 -- numbered refusals. The conditions of each number are fixed", and so is what every buffer holds afterwards.
 -- Every call of a public function ends, and asks nothing of its caller; its promise has the answer and every buffer afterwards by equations.
 -- Here stand the promises of the functions that refuse, word for word, and the numbers that each can give: 0, which the definitions use for
--- "none", is no refusal's. A request's new number counts with the eleven: 12 and 13 of request 1, 19 of request 11, 20 of
+-- "none", is no refusal's. A request's new number counts with the eleven: 12 and 13 of request 1, 14 of request 8, 19 of request 11, 20 of
 -- request 13. Which condition has which number, lowest first, is in the tables that the promises name. No other public function refuses, and each
 -- of these promises one equation over its arguments:
 --   numbers         lesser, greater, minus
@@ -75,9 +75,13 @@ use Rattle.frame_writer.specs.FrameWriter.{FrameWritten}
 use Rattle.listing.specs.declared.Listing.{Listing}
 use Rattle.listing.specs.declared.Listing.the-variants as listing
 use Rattle.listing.specs.Answer.{CornersWritten}
+use Rattle.retouch.specs.declared.Retouched.{Retouched}
+use Rattle.retouch.specs.declared.Retouched.the-variants as retouch
+use Rattle.retouch.specs.Promise.{Retouches}
 use Rattle.retention.specs.declared.Holding.{Holding}
 use Rattle.retention.specs.declared.Holding.the-variants as retention
 use Rattle.retention.specs.Answer.{Told}
+use Rattle.lists.specs.Places.{Place}
 use Rattle.demands.specs.Numbers.{Refuses}
 use Rattle.demands.specs.ResponseCall.{viewOf}
 use Rattle.demands.specs.Enough.{HasPeaks}
@@ -128,5 +132,8 @@ pub record Total : Type 0 where
       → Refuses writing.Refused (1 ∷ 2 ∷ 3 ∷ 5 ∷ 19 ∷ []) r
   pub «write_corners» : (b : Slices) (count : ℕ) (out out′ : List ℕ) (r : Listing) → CornersWritten b count out r out′
       → Refuses listing.Refused (10 ∷ []) r
+  pub retouch : (w h ring : ℕ) (q : Place) (value : ℕ) (img : List ℕ) (m : List Float) (r : Retouched) (img′ : List ℕ) (m′ : List Float)
+      → Retouches w h ring q value img m r img′ m′
+      → Refuses retouch.Refused (1 ∷ 2 ∷ 3 ∷ 14 ∷ []) r
   pub holding : (kind start time : ℕ) (r : Holding) → Told kind start time r
       → Refuses retention.Refused (6 ∷ 20 ∷ []) r

@@ -1,5 +1,7 @@
 //! against N SEED [FOLDER]: as oracle_compare, with our corner finder linked in instead of a process for each stream; and N frames of the
-//! library, in buffers of every size, each of which is compared afterwards; and N maps that are asked for enough peaks.
+//! library, in buffers of every size, each of which is compared afterwards; N maps that are asked for enough peaks; and N pixels that are changed.
+mod retouching;
+
 use oracle::buffers::Buffers;
 use oracle::compare::{cases, run, run_enough, run_library};
 use oracle::generate::refused_frames::Case;
@@ -96,5 +98,5 @@ fn main() -> ExitCode {
     let folder = words.get(2).map_or("differing", String::as_str);
     let folder = Path::new(folder);
     let frames = run(cases(count, seed), folder, answer).and(run_library(count, seed, folder, left));
-    frames.and(run_enough(count, seed, enough)).finish()
+    frames.and(run_enough(count, seed, enough)).and(retouching::run(count, seed)).finish()
 }

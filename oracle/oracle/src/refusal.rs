@@ -28,6 +28,8 @@ pub const OUT_OF_ORDER: Refusal = 11;
 pub const PGM: Refusal = 12;
 /// A photograph whose maxval is not 255: likewise.
 pub const MAXVAL: Refusal = 13;
+/// A place outside the image (RULES 27), which has no counterpart in the original.
+pub const OUTSIDE: Refusal = 14;
 /// The buffer for a frame stream is too short (RULES 30), which has no counterpart in the original.
 pub const STREAM_SHORT: Refusal = 19;
 /// The start of an item, or the time asked about, above 2^40 (RULES 32.3), which has no counterpart in the original.

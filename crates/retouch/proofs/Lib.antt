@@ -1,0 +1,12 @@
+pub mod Grids
+pub mod Counting
+pub mod Sampling
+pub mod Touching
+pub mod Redoing
+pub mod OneCell
+pub mod Passing
+pub mod Judging
+pub mod Pixels
+pub mod Fresh
+pub mod Near
+pub mod Moves

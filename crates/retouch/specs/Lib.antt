@@ -1,0 +1,3 @@
+pub mod Retouch
+pub mod Promise
+pub mod Internal

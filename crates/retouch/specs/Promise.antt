@@ -1,0 +1,50 @@
+-- RULES 27.4: what a call of `retouch` refuses, answers and leaves.
+use Prim.Native.Nat.{ℕ, zero, suc}
+use mathlib.Core.Path.{_≡_}
+use mathlib.Core.Bool.{Bool, cond, not, _||_}
+use mathlib.Core.List.{List, [], _∷_}
+use lib.Dec.{eqb, leb}
+use lib.ListN.{length}
+use lib.Ieee.{Float}
+use Rattle.lists.specs.Places.{Place}
+use Rattle.lists.specs.Refusals.{lowest, valuesUnless, isLarge, isMisfit}
+use Rattle.ring.specs.Ring.{ringOf, isRing}
+use Rattle.retouch.specs.Retouch.{touchedCount, changed, redone}
+use Rattle.retouch.specs.declared.Retouched.{Retouched}
+use Rattle.retouch.specs.declared.Retouched.the-variants.{Redone, Refused}
+
+-- 14: the place is not one of an image of w by h
+abbrev pub isOutside : ℕ → ℕ → Place → Bool
+isOutside w h q = leb w (q .x) || leb h (q .y)
+
+-- of an image of so many pixels and a map of so many cells. 1: a side above 4096; 2: not w * h pixels, or not w * h cells; 3: a ring that is not
+-- 5 or 10; 14: a place outside
+abbrev pub conditions : ℕ → ℕ → ℕ → ℕ → ℕ → Place → List (Bool × ℕ)
+conditions pixels cells w h ring q =
+    (isLarge w h, 1) ∷ (isMisfit pixels w h || isMisfit cells w h, 2) ∷ (not (isRing ring), 3) ∷ (isOutside w h q, 14) ∷ []
+
+unfoldable pub refusalOf : ℕ → ℕ → ℕ → ℕ → ℕ → Place → ℕ
+refusalOf pixels cells w h ring q = lowest (conditions pixels cells w h ring q)
+
+-- the answer of each number: 0 is the number of cells that were computed anew, any other a refusal
+abbrev pub answerOf : ℕ → ℕ → Retouched
+answerOf zero cells = Redone cells
+answerOf (suc n) cells = Refused (suc n)
+
+-- the number and the values of each case
+abbrev pub numberOf : Retouched → ℕ
+numberOf (Redone cells) = 0
+numberOf (Refused n) = n
+
+abbrev pub valuesOf : Retouched → List ℕ
+valuesOf (Redone cells) = cells ∷ []
+valuesOf (Refused n) = []
+
+-- the promise of `retouch`, for the pixel q of an image of w by h and the value it gets: the image becomes `image`, and the map `map`; both are as
+-- they were where the call is refused
+pub record Retouches (w h ring : ℕ) (q : Place) (value : ℕ) (img : List ℕ) (m : List Float) (r : Retouched) (img′ : List ℕ) (m′ : List Float) : Type 0 where
+  pub answer : r ≡ answerOf (refusalOf (length img) (length m) w h ring q) (touchedCount w h (ringOf ring) q)
+  pub number : numberOf r ≡ refusalOf (length img) (length m) w h ring q
+  pub values : valuesOf r ≡ valuesUnless (refusalOf (length img) (length m) w h ring q) (touchedCount w h (ringOf ring) q ∷ [])
+  pub image : img′ ≡ cond (eqb (refusalOf (length img) (length m) w h ring q) 0) (changed img w q value) img
+  pub map : m′ ≡ cond (eqb (refusalOf (length img) (length m) w h ring q) 0) (redone (changed img w q value) w h (ringOf ring) q m) m
