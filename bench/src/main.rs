@@ -1,4 +1,5 @@
 //! bench [ROUNDS]: a table of times, the original Rust against ours, and for the response against C too.
+//! bench peaks [ROUNDS]: the rows of peaks alone.
 //! bench enough [ROUNDS]: the last table alone, of 100 peaks against all.
 //! bench count LEVELS: calls `original_frame` and `our_frame` once each on a small frame, for a profiler that counts instructions.
 mod interleaved;
@@ -32,12 +33,28 @@ fn print(row: &Row) {
     );
 }
 
-fn table(rounds: usize) {
+fn head() {
     println!("| stage | input | Rust, ms | ours, ms | ours / Rust | C, ms | C / Rust |");
     println!("|---|---|---|---|---|---|---|");
+}
+
+/// The boards, with ring 5 and with ring 10.
+fn boards() -> [Vec<Subject>; 2] {
+    [5, 10].map(|ring| SIDES.iter().map(|&(w, h)| with_ring(Subject::board(w, h), ring)).collect())
+}
+
+fn peaks_rows(subjects: &[Subject], wide: &[Subject], rounds: usize) {
+    for s in subjects.iter().chain(wide) {
+        print(&stages::peaks(s, rounds, stages::places(s), ""));
+        print(&stages::peaks(s, rounds, s.pixels.len(), ", a place for every cell"));
+        print(&stages::peaks(s, rounds, s.peaks.len(), ", no place to spare"));
+    }
+}
+
+fn table(rounds: usize) {
+    head();
     let fewer = |width: usize| if width >= 4096 { rounds.div_ceil(4) } else { rounds };
-    let subjects: Vec<Subject> = SIDES.iter().map(|&(w, h)| Subject::board(w, h)).collect();
-    let wide: Vec<Subject> = SIDES.iter().map(|&(w, h)| with_ring(Subject::board(w, h), 10)).collect();
+    let [subjects, wide] = boards();
     for s in subjects.iter().chain(&wide) {
         print(&stages::response(s, fewer(s.width)));
     }
@@ -46,11 +63,7 @@ fn table(rounds: usize) {
             print(&stages::retouching(s, fewer(s.width), anywhere));
         }
     }
-    for s in subjects.iter().chain(&wide) {
-        print(&stages::peaks(s, rounds, stages::places(s), ""));
-        print(&stages::peaks(s, rounds, s.pixels.len(), ", a place for every cell"));
-        print(&stages::peaks(s, rounds, s.peaks.len(), ", no place to spare"));
-    }
+    peaks_rows(&subjects, &wide, rounds);
     for s in &subjects {
         print(&stages::centroids(s, rounds));
     }
@@ -101,13 +114,18 @@ fn count(levels: u32) {
 fn main() {
     let words: Vec<String> = std::env::args().skip(1).collect();
     let number = |i: usize| words.get(i).map(|word| word.parse().expect("a number"));
-    if words.first().is_some_and(|word| word == "count") {
-        count(number(1).map_or(1, |n: usize| n as u32));
-    } else if words.first().is_some_and(|word| word == "enough") {
-        enough_table(number(1).unwrap_or(25));
-    } else {
-        let rounds = number(0).unwrap_or(25);
-        table(rounds);
-        enough_table(rounds);
+    match words.first().map(String::as_str) {
+        Some("count") => count(number(1).map_or(1, |n: usize| n as u32)),
+        Some("peaks") => {
+            let [subjects, wide] = boards();
+            head();
+            peaks_rows(&subjects, &wide, number(1).unwrap_or(25));
+        }
+        Some("enough") => enough_table(number(1).unwrap_or(25)),
+        _ => {
+            let rounds = number(0).unwrap_or(25);
+            table(rounds);
+            enough_table(rounds);
+        }
     }
 }

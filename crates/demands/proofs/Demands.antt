@@ -16,6 +16,7 @@ use Rattle.demands.proofs.Retention.{held-when, retained-total, retaine
 use Rattle.demands.proofs.Retouch.{only-touched, at-most-21, fresh-again, moves-little}
 use Rattle.demands.proofs.FrameExact.{frame-exact, alike-by-name, maps-searched, maps-alike, frame-without-ties, four-never, peaks-kept}
 use Rattle.demands.proofs.Photographs.{photograph-is-frame, plain-header-read, behind-unread, uploads-read}
+use Rattle.demands.proofs.Ties.{nan-top, peak-ties, frame-ties, maps-alike-without-equals}
 use Rattle.demands.proofs.Tolerance.{centre-tolerance, frame-tolerance}
 
 pub demands : Demands
@@ -45,6 +46,10 @@ demands = record {
   uploads-read = uploads-read;
   units-nearest = units-nearest;
   ring-one-pass = ring-one-pass;
+  nan-top = nan-top;
+  peak-ties = peak-ties;
+  frame-ties = frame-ties;
+  maps-alike-without-equals = maps-alike-without-equals;
   enough-is-counting = enough-is-counting;
   looks-no-further = looks-no-further;
   only-touched = only-touched;

@@ -7,6 +7,7 @@ pub mod Added
 pub mod PeaksAlike
 pub mod Enough
 pub mod FrameExact
+pub mod Ties
 pub mod Faults
 pub mod Total
 pub mod Program

@@ -15,6 +15,7 @@ use Rattle.demands.specs.Writing.{ReadBack, WrittenBack}
 use Rattle.demands.specs.Retention.{HeldWhen, RetainedTotal, RetainedReads}
 use Rattle.demands.specs.Retouch.{OnlyTouched, AtMost21, Fresh, MovesLittle}
 use Rattle.demands.specs.FrameExact.{FrameExact, AlikeByName, MapsSearched, MapsAlike, FrameWithoutTies, FourNever, PeaksKept}
+use Rattle.demands.specs.Ties.{NanTop, PeakTies, FrameTies, MapsAlikeWithoutEquals}
 use Rattle.demands.specs.Tolerance.{CentreTolerance, FrameTolerance}
 use Rattle.demands.specs.Photographs.{PhotographIsFrame, PlainHeaderRead, BehindUnread, UploadsRead}
 
@@ -75,6 +76,15 @@ pub record Demands : Type 0 where
   -- ---- Request 3: ring sums in one pass
   -- "after each pair the DR and sum held are those of the pairs passed; at the end all three are the paper's"
   pub ring-one-pass : RingOnePass
+  -- ---- Request 4: how many ties
+  -- "A NaN centre is top with 0 ties"
+  pub nan-top : NanTop
+  -- "Peak finding returns its sum over the peaks it adds"
+  pub peak-ties : PeakTies
+  -- "a finished frame pass returns the total", which is "defined from the computed maps"
+  pub frame-ties : FrameTies
+  -- "both peak lists are alike for each map a finished frame looks at if no peak of the exact lists has an exact equal in its window"
+  pub maps-alike-without-equals : MapsAlikeWithoutEquals
   -- ---- Request 7: enough corners?
   -- "The answer is the one full counting gives"
   pub enough-is-counting : EnoughIsCounting

@@ -6,6 +6,7 @@ pub mod ResponsesOrdered
 pub mod PeaksAlike
 pub mod Enough
 pub mod FrameExact
+pub mod Ties
 pub mod AsPublished
 pub mod Numbers
 pub mod Total

@@ -1,34 +1,52 @@
--- A table of the first peaks: numbers of places, a peak listed, and the peaks taken from it one after the other. Assumes nothing.
-use Prim.Native.Nat.{ℕ, zero, suc, _+_, _-_, _*_, _<_, _≤_}
+-- A table of the first peaks: numbers of peaks, a peak listed, and the peaks taken from it one after the other. Assumes nothing.
+use Prim.Native.Nat.{ℕ, zero, suc, _+_, _-_, _*_, _/_, _%_, _<_, _≤_}
 use native.Mathlib.Nat.{add-zero, mod-eq-of-lt, div-eq-of-lt, mul-add-mod-self-right, mul-add-div-right}
 use native.Mathlib.Numerals.{add-one}
 use native.Mathlib.Omega.{arith}
 use native.Mathlib.Decide.{decLt}
-use mathlib.Core.Path.{_≡_, refl, sym, ap, ap₂, _∙_}
+use mathlib.Core.Path.{_≡_, refl, sym, ap, _∙_}
 use mathlib.Core.Bool.{true, false}
 use mathlib.Core.List.{List}
 use lib.ListN.{length, getD, set, length-set}
 use lib.Seq.{getD-set-same, getD-set-other}
-use lib.Dec.{lit<, ltb}
+use lib.Dec.{ltb}
 use lib.Ieee.{Float}
 use borrow.Author.Count as passed
 use borrow.Author.Tests.{lt-ltb, le-ltb}
 use Rattle.lists.specs.Places.{Place}
 use Rattle.detect.specs.declared.Search.{Search}
+use Rattle.detect.specs.declared.searching.Spot.{Spot}
 use Rattle.detect.specs.Detect.{peaksIn}
-use Rattle.detect.specs.Internal.{place, placeBehind, placeOf, startOf, peaksFrom, NextPeak, Numbered, PeaksListed, Standing, NextListed}
-use Rattle.detect.proofs.Scanning.{peaks-start, next-none, next-past, next-inside, next-first}
+use Rattle.detect.specs.Internal.{place, placeBehind, placeOf, spotOf, startOf, peaksFrom, Searchable, NextFound, Small, Numbered}
+use Rattle.detect.specs.Internal.{PeaksListed, Standing, NextListed}
+use Rattle.detect.proofs.Scanning.{peaks-start, next-none, next-inside, next-first, found-past}
+use Rattle.detect.proofs.Ties.{few-at}
 
 -- ---- numbers
 
-place-number : (x y : ℕ) → x < 4096 → placeOf (y * 4096 + x) ≡ place x y
-place-number x y l =
-    ap₂ place
-    (mul-add-mod-self-right y 4096 x ∙ mod-eq-of-lt l)
-    (mul-add-div-right (lit< tt) y x ∙ ap (λ (k : ℕ). y + k) (div-eq-of-lt l) ∙ add-zero y)
+-- the two parts of a number of which n is the part below d
+low : (d k n : ℕ) → n < d → (k * d + n) % d ≡ n
+low d k n l = mul-add-mod-self-right k d n ∙ mod-eq-of-lt l
 
-pub numbered-here : (x y y1 : ℕ) → x < 4096 → y < y1 → Numbered x y y1 (y * 4096 + x)
-numbered-here x y y1 l i = record { here = λ _. place-number x y l; past = λ o. absurd (let no : ⊥ = omega arith in no) }
+high : (d k n : ℕ) → n < d → (k * d + n) / d ≡ k
+high d k n l = mul-add-div-right (omega arith) k n ∙ ap (λ (j : ℕ). k + j) (div-eq-of-lt l) ∙ add-zero k
+
+spot-number : (f : Spot) → Small f → spotOf ((f .y * 4096 + f .x) * 2048 + f .ties) ≡ f
+spot-number f k =
+    let at = high 2048 (f .y * 4096 + f .x) (f .ties) (k .ties) in
+    rw (at, low 2048 (f .y * 4096 + f .x) (f .ties) (k .ties), low 4096 (f .y) (f .x) (k .x), high 4096 (f .y) (f .x) (k .x))
+
+pub numbered-here : (f : Spot) (y1 : ℕ) → Small f → f .y < y1 → Numbered f y1 ((f .y * 4096 + f .x) * 2048 + f .ties)
+numbered-here f y1 k i = record { here = λ _. spot-number f k; past = λ o. absurd (let no : ⊥ = omega arith in no) }
+
+-- a peak has a number of its own
+pub found-small : (m : List Float) (s : Search) → Searchable m s → (p : Place) (f : Spot) → NextFound m s p f → f .y < s .h - s .border → Small f
+found-small m s k p f a l =
+    let i = next-inside m s p (placeOf f) (a .next) l in record {
+      x = omega (arith, i .right, k .wide);
+      y = omega (arith, i .bottom, k .high);
+      ties = omega (arith, a .counted l .ties, few-at m s k (placeOf f));
+    }
 
 -- ---- the table that is filled
 
@@ -41,50 +59,51 @@ pub record Listing (m : List Float) (s : Search) (t : List ℕ) (n : ℕ) (p : P
 
 pub listing-first : (m : List Float) (s : Search) (t : List ℕ) → Listing m s t 0 (place (s .border) (s .border))
 listing-first m s t = record {
-  listed = record { within = omega arith; each = passed.below-none (λ i. NextPeak m s (startOf s t i) (placeOf (getD t i 0))) };
+  listed = record { within = omega arith; each = passed.below-none (λ i. NextFound m s (startOf s t i) (spotOf (getD t i 0))) };
   left = omega arith;
   top = omega arith;
   start = refl;
 }
 
 -- a start is that of the place before
-start-next : (s : Search) (t : List ℕ) (i : ℕ) → startOf s t (i + 1) ≡ placeBehind (placeOf (getD t i 0))
+start-next : (s : Search) (t : List ℕ) (i : ℕ) → startOf s t (i + 1) ≡ placeBehind (placeOf (spotOf (getD t i 0)))
 start-next s t i = ap (startOf s t) (add-one i)
 
 -- a number put at place n changes none before it
 start-set : (s : Search) (t : List ℕ) (n a i : ℕ) → i ≤ n → startOf s (set t n a) i ≡ startOf s t i
 start-set s t n a zero l = refl
-start-set s t n a (suc i) l = ap (λ (k : ℕ). placeBehind (placeOf k)) (getD-set-other t n i a 0 (λ e. let no : ⊥ = omega arith in no))
+start-set s t n a (suc i) l = ap (λ (k : ℕ). placeBehind (placeOf (spotOf k))) (getD-set-other t n i a 0 (λ e. let no : ⊥ = omega arith in no))
 
-module _ (m : List Float) (s : Search) (t : List ℕ) (n : ℕ) (p q : Place) (a : ℕ) (g : Listing m s t n p) (high : s .h ≤ 4096)
-    (k : n < length t) (f : NextPeak m s p q) (y1 : ℕ) (e : y1 ≡ s .h - s .border) (b : Numbered (q .x) (q .y) y1 a) where
-  by-number : NextPeak m s p (placeOf a)
+module _ (m : List Float) (s : Search) (t : List ℕ) (n : ℕ) (p : Place) (q : Spot) (a : ℕ) (g : Listing m s t n p) (below : s .h ≤ 4096)
+    (k : n < length t) (f : NextFound m s p q) (y1 : ℕ) (e : y1 ≡ s .h - s .border) (b : Numbered q y1 a) where
+  by-number : NextFound m s p (spotOf a)
   by-number =
       elim (decLt (q .y) (s .h - s .border)) [
         | yes l ↦ rw (b .here (omega arith)) f
-        | no l ↦ next-past m s p q f (placeOf a) (omega arith) (omega (arith, b .past (omega arith)))
+        | no l ↦ found-past m s p q f (spotOf a) (omega arith) (omega (arith, b .past (omega arith)))
       ]
 
   pub listing-put : PeaksListed m s (set t n a) (n + 1)
   listing-put = record { within = rw length-set (omega arith); each = passed.below-more Each n old new }
     where
       Each : ℕ → Type 0
-      Each i = NextPeak m s (startOf s (set t n a) i) (placeOf (getD (set t n a) i 0))
+      Each i = NextFound m s (startOf s (set t n a) i) (spotOf (getD (set t n a) i 0))
 
-      old : (i : ℕ) → i < n → NextPeak m s (startOf s (set t n a) i) (placeOf (getD (set t n a) i 0))
+      old : (i : ℕ) → i < n → NextFound m s (startOf s (set t n a) i) (spotOf (getD (set t n a) i 0))
       old i l =
           let other : i ≡ n → ⊥ = λ e. let no : ⊥ = omega arith in no in
           rw (start-set s t n a i (omega arith), getD-set-other t n i a 0 other) (g .listed .each i l)
 
-      new : NextPeak m s (startOf s (set t n a) n) (placeOf (getD (set t n a) n 0))
+      new : NextFound m s (startOf s (set t n a) n) (spotOf (getD (set t n a) n 0))
       new = rw (start-set s t n a n (omega arith), getD-set-same t n a 0 k, ← g .start) by-number
 
-  pub listing-next : q .y < s .h - s .border → Listing m s (set t n a) (n + 1) (placeBehind q)
+  pub listing-next : q .y < s .h - s .border → Listing m s (set t n a) (n + 1) (placeBehind (placeOf q))
   listing-next l = record {
     listed = listing-put;
-    left = omega (arith, next-inside m s p q f l .left);
-    top = next-inside m s p q f l .top;
-    start = ap placeBehind (sym (b .here (omega arith)) ∙ ap placeOf (sym (getD-set-same t n a 0 k))) ∙ sym (start-next s (set t n a) n);
+    left = omega (arith, next-inside m s p (placeOf q) (f .next) l .left);
+    top = next-inside m s p (placeOf q) (f .next) l .top;
+    start = ap (λ (j : Spot). placeBehind (placeOf j)) (sym (b .here (omega arith)) ∙ ap spotOf (sym (getD-set-same t n a 0 k)))
+        ∙ sym (start-next s (set t n a) n);
   }
 
 -- ---- the peaks by the table
@@ -94,19 +113,19 @@ standing-first s t n = record { left = omega arith; top = omega arith; listed = 
 
 module _ (m : List Float) (s : Search) (t : List ℕ) (n i : ℕ) (p : Place) where
   -- from the table
-  pub next-taken : PeaksListed m s t n → Standing s t n i p → i < n → (q : Place) → q ≡ placeOf (getD t i 0)
+  pub next-taken : PeaksListed m s t n → Standing s t n i p → i < n → (q : Spot) → q ≡ spotOf (getD t i 0)
       → NextListed m s t n i p q
   next-taken g a l q e = record { next = rw (a .listed l, e) (g .each i l); listed = λ _. e }
 
   -- by the search
-  pub next-searched : n ≤ i → (q : Place) → NextPeak m s p q → NextListed m s t n i p q
+  pub next-searched : n ≤ i → (q : Spot) → NextFound m s p q → NextListed m s t n i p q
   next-searched l q f = record { next = f; listed = λ o. absurd (let no : ⊥ = omega arith in no) }
 
-  pub standing-next : (q : Place) → NextListed m s t n i p q → q .y < s .h - s .border → Standing s t n (i + 1) (placeBehind q)
+  pub standing-next : (q : Spot) → NextListed m s t n i p q → q .y < s .h - s .border → Standing s t n (i + 1) (placeBehind (placeOf q))
   standing-next q f l = record {
-    left = omega (arith, next-inside m s p q (f .next) l .left);
-    top = next-inside m s p q (f .next) l .top;
-    listed = λ o. ap placeBehind (f .listed (omega arith)) ∙ sym (start-next s t i);
+    left = omega (arith, next-inside m s p (placeOf q) (f .next .next) l .left);
+    top = next-inside m s p (placeOf q) (f .next .next) l .top;
+    listed = λ o. ap (λ (j : Spot). placeBehind (placeOf j)) (f .listed (omega arith)) ∙ sym (start-next s t i);
   }
 
 -- ---- the peaks counted: i come before p, where the search goes on
@@ -118,17 +137,17 @@ pub counting-first : (m : List Float) (s : Search) (t : List ℕ) (n : ℕ) → 
 counting-first m s t n = record { sum = omega (arith, ap length (peaks-start m s)); standing = standing-first s t n }
 
 module _ (m : List Float) (s : Search) (t : List ℕ) (n i : ℕ) (p : Place) (a : Counting m s t n i p)
-    (q : Place) (f : NextListed m s t n i p q) where
-  pub counting-next : q .y < s .h - s .border → Counting m s t n (i + 1) (placeBehind q)
+    (q : Spot) (f : NextListed m s t n i p q) where
+  pub counting-next : q .y < s .h - s .border → Counting m s t n (i + 1) (placeBehind (placeOf q))
   counting-next l = record {
-    sum = omega (arith, a .sum, ap length (next-first m s p q (f .next) l));
+    sum = omega (arith, a .sum, ap length (next-first m s p (placeOf q) (f .next .next) l));
     standing = standing-next m s t n i p q f l;
   }
 
   pub counting-fit : s .h - s .border ≤ q .y → (places held : ℕ) → held + i ≤ places
       → false ≡ ltb places (held + length (peaksIn m s))
   counting-fit l places held o =
-      let all : held + length (peaksIn m s) ≤ places = omega (arith, a .sum, ap length (next-none m s p q (f .next) l)) in
+      let all : held + length (peaksIn m s) ≤ places = omega (arith, a .sum, ap length (next-none m s p (placeOf q) (f .next .next) l)) in
       sym (le-ltb places (held + length (peaksIn m s)) all)
 
 pub counting-many : (m : List Float) (s : Search) (t : List ℕ) (n i : ℕ) (p : Place) → Counting m s t n i p

@@ -6,6 +6,7 @@ pub mod Cells
 pub mod Ahead
 pub mod WindowRows
 pub mod Rows
+pub mod Tested
 pub mod Scanning
 pub mod FirstPeaks
 pub mod Counting

@@ -3,20 +3,21 @@ use Prim.Native.Nat.{ℕ, _+_, _-_, _*_, _<_, _≤_}
 use native.Mathlib.Omega.{arith}
 use native.Mathlib.Decide.{decLt}
 use mathlib.Core.Path.{_≡_, refl, sym, ap, _∙_}
-use mathlib.Core.Bool.{true, not}
+use mathlib.Core.Bool.{true, false, not}
 use mathlib.Core.List.{List}
 use lib.ListN.{length, getD, take, drop, length-take, length-drop}
 use lib.Seq.{getD-take, getD-drop}
 use lib.Ieee.{Float, nan, le}
 use borrow.Author.Count as passed
-use Rattle.lists.specs.Places.{count}
+use Rattle.lists.specs.Places.{count, keep}
 use Rattle.lists.proofs.Scan.{count-every}
 use Rattle.lists.proofs.Rows.{rowPart}
+use Rattle.lists.proofs.Places.{keep-le}
 use Rattle.detect.specs.declared.Search.{Search}
 use Rattle.detect.specs.Peaks.{valueAt, isLow}
 use Rattle.detect.specs.Detect.{readIn, peakIn}
-use Rattle.detect.specs.Internal.{place, Below, Skipped}
-use Rattle.detect.proofs.Ahead.{keep-skip}
+use Rattle.detect.specs.Internal.{place, aheadIn, peaksFrom, Below, LowRow, LowRows, Skipped}
+use Rattle.detect.proofs.Ahead.{keep-skip, ahead-row}
 use Rattle.detect.proofs.Choice.{peak-below}
 
 -- the element at k of a part
@@ -74,3 +75,68 @@ module _ (m : List Float) (s : Search) (x y : ℕ) where
           ap (λ (j : ℕ). le (getD m j nan) (s .threshold)) (sym z)
           ∙ ap (λ (v : Float). le v (s .threshold)) (sym (part-at m (y * s .w + x) (y * s .w + x1) k in-part))
           ∙ b .below k i
+
+  -- in a row that is known to be low
+  pub skipped-low : (x1 : ℕ) → x1 ≡ s .w - s .border → x < x1 → y < s .h - s .border → s .border ≤ x → LowRow m s y
+      → Skipped m s (place x y) (place x1 y)
+  skipped-low x1 e l j o k = record {
+    onward = omega arith;
+    same-ahead = k .same-ahead x o j ∙ sym (ap (keep (peakIn m s)) (ahead-row s x1 y (omega arith) j));
+  }
+
+-- a row of which as many cells inside the border are low as there are
+module _ (m : List Float) (s : Search) (y n : ℕ) (wide : s .border ≤ s .w - s .border) (in-map : y * s .w + (s .w - s .border) ≤ length m)
+    (counted : n ≡ count (isLow (s .threshold)) (rowPart m (s .w) y (s .border) (s .w - s .border)))
+    (all : s .w - s .border - s .border ≤ n) where
+  abbrev right : ℕ
+  right = s .w - s .border
+
+  abbrev cells : List Float
+  cells = rowPart m (s .w) y (s .border) right
+
+  long : length cells ≡ right - s .border
+  long = simp (length-take, length-drop) (omega arith)
+
+  every : count (isLow (s .threshold)) cells ≡ length cells
+  unfolding count
+  every = omega (arith, counted, long, keep-le (isLow (s .threshold)) cells)
+
+  cell-low : (x : ℕ) → s .border ≤ x → x < right → le (valueAt m (s .w) (place x y)) (s .threshold) ≡ true
+  cell-low x a b =
+      let z : y * s .w + s .border + (x - s .border) ≡ y * s .w + x = omega arith in
+      ap (λ (j : ℕ). le (getD m j nan) (s .threshold)) (sym z)
+      ∙ ap (λ (v : Float). le v (s .threshold)) (sym (part-at m (y * s .w + s .border) (y * s .w + right) (x - s .border) (omega arith)))
+      ∙ count-every (isLow (s .threshold)) cells (x - s .border) nan every (rw long (omega arith))
+
+  peak-low-at : (x : ℕ) → s .border ≤ x → x < right → false ≡ peakIn m s (place x y)
+  peak-low-at x a b = peak-below (readIn m s) (s .w) (s .h) (s .window) (s .«least_neighbours») (place x y) (ap not (cell-low x a b))
+
+  pub low-row : LowRow m s y
+  low-row = record { same-ahead = at }
+    where
+      at : (x : ℕ) → s .border ≤ x → y < s .h - s .border → peaksFrom m s (place x y) ≡ peaksFrom m s (place (s .border) (y + 1))
+      at x o j =
+          elim (decLt x right) [
+            | yes l ↦
+                let end : x + (right - x) ≡ right = omega arith in
+                keep-skip s x y (right - x) (omega arith) j (peakIn m s)
+                (λ k i. sym (peak-low-at (x + k) (omega arith) (omega arith)))
+                ∙ ap (λ (k : ℕ). keep (peakIn m s) (aheadIn s (place k y))) end
+                ∙ ap (keep (peakIn m s)) (ahead-row s right y (omega arith) j)
+            | no l ↦ ap (keep (peakIn m s)) (ahead-row s x y (omega arith) j)
+          ]
+
+-- ---- rows that are known to be low
+module _ (m : List Float) (s : Search) (low y : ℕ) where
+  pub low-none : y < low → LowRows m s low y
+  low-none o k a b = absurd (let no : ⊥ = omega arith in no)
+
+  pub low-fewer : (z : ℕ) → LowRows m s low y → z ≤ y → LowRows m s low z
+  low-fewer z g o k a b = g k a (omega arith)
+
+  pub low-more : (z : ℕ) → z ≡ y + 1 → LowRows m s low y → LowRow m s z → LowRows m s low z
+  low-more z n g l k a b =
+      elim (decLt y k) [
+        | yes o ↦ let e : k ≡ z = omega arith in rw e l
+        | no o ↦ g k a (omega arith)
+      ]

@@ -2,15 +2,18 @@
 use Prim.Native.Nat.{ℕ, _+_, _-_, _<_, _≤_}
 use native.Mathlib.Omega.{arith}
 use mathlib.Core.Path.{_≡_, refl, sym, ap, _∙_}
-use mathlib.Core.Bool.{Bool, true, false}
 use mathlib.Core.List.{List, [], _∷_}
 use lib.Ieee.{Float}
 use Rattle.lists.specs.Places.{Place, keep}
 use Rattle.detect.specs.declared.Search.{Search}
+use Rattle.detect.specs.declared.searching.Spot.{Spot}
+use Rattle.detect.specs.declared.searching.PeakTest.{PeakTest}
+use Rattle.detect.specs.declared.searching.PeakTest.the-variants.{No, Peak}
 use Rattle.detect.specs.Peaks.{peakPlaces, Inside}
 use Rattle.detect.specs.Detect.{peakIn, peaksIn}
-use Rattle.detect.specs.Internal.{place, placeBehind, peaksFrom, Skipped, NextPeak}
+use Rattle.detect.specs.Internal.{place, placeOf, placeBehind, peaksFrom, peakTest, Skipped, NextPeak, NextFound}
 use Rattle.detect.proofs.Ahead.{keep-hit, keep-miss, ahead-start, ahead-row, ahead-end}
+use Rattle.detect.proofs.Tested.{test-no, test-peak, test-ties}
 
 -- from p on, the places before q are no peaks, and q lies behind the border's left and upper part
 pub record Passed (m : List Float) (s : Search) (p q : Place) : Type 0 where
@@ -30,16 +33,19 @@ module _ (m : List Float) (s : Search) (p : Place) (x y : ℕ) (a : Passed m s p
     pub passed-inside : Inside (s .w) (s .h) (s .border) (place x y)
     passed-inside = record { left = a .left; right = omega arith; top = a .top; bottom = omega arith }
 
-    module _ (t : Bool) (tested : t ≡ peakIn m s (place x y)) where
-      pub passed-cell : t ≡ false → Passed m s p (place (x + 1) y)
+    module _ (t : PeakTest) (told : t ≡ peakTest m s (place x y)) where
+      pub passed-cell : t ≡ No → Passed m s p (place (x + 1) y)
       passed-cell e = record {
         left = omega (arith, a .left);
         top = a .top;
-        same-ahead = a .same-ahead ∙ keep-miss s x y i j (peakIn m s) (sym tested ∙ e);
+        same-ahead = a .same-ahead ∙ keep-miss s x y i j (peakIn m s) (test-no m s (place x y) t told e);
       }
 
-      pub passed-peak : t ≡ true → NextPeak m s p (place x y)
-      passed-peak e = record { same-ahead = a .same-ahead; is-peak = λ _. (passed-inside, sym tested ∙ e) }
+      pub passed-peak : (k : ℕ) → t ≡ Peak k → NextFound m s p (record { x = x; y = y; ties = k })
+      passed-peak k e = record {
+        next = record { same-ahead = a .same-ahead; is-peak = λ _. (passed-inside, test-peak m s (place x y) t told k e) };
+        counted = λ _. record { ties = test-ties m s (place x y) t told k e };
+      }
 
   -- at the end of a row
   pub passed-row : s .w - s .border ≤ x → y < s .h - s .border → Passed m s p (place (s .border) (y + 1))
@@ -50,8 +56,11 @@ module _ (m : List Float) (s : Search) (p : Place) (x y : ℕ) (a : Passed m s p
   }
 
   -- behind the last row
-  pub passed-all : s .h - s .border ≤ y → NextPeak m s p (place x y)
-  passed-all j = record { same-ahead = a .same-ahead; is-peak = λ q. absurd (let no : ⊥ = omega arith in no) }
+  pub passed-all : (k : ℕ) → s .h - s .border ≤ y → NextFound m s p (record { x = x; y = y; ties = k })
+  passed-all k j = record {
+    next = record { same-ahead = a .same-ahead; is-peak = λ q. absurd (let no : ⊥ = omega arith in no) };
+    counted = λ q. absurd (let no : ⊥ = omega arith in no);
+  }
 
 -- ---- one peak after the other
 
@@ -67,13 +76,6 @@ module _ (m : List Float) (s : Search) (p q : Place) (a : NextPeak m s p q) wher
   pub next-none : s .h - s .border ≤ q .y → peaksFrom m s p ≡ []
   next-none l = a .same-ahead ∙ peaks-end m s q l
 
-  -- past the last row one place is like another
-  pub next-past : (r : Place) → s .h - s .border ≤ q .y → s .h - s .border ≤ r .y → NextPeak m s p r
-  next-past r l k = record {
-    same-ahead = next-none l ∙ sym (peaks-end m s r k);
-    is-peak = λ o. absurd (let no : ⊥ = omega arith in no);
-  }
-
   module _ (l : q .y < s .h - s .border) where
     pub next-inside : Inside (s .w) (s .h) (s .border) q
     next-inside = a .is-peak l .0
@@ -83,3 +85,14 @@ module _ (m : List Float) (s : Search) (p q : Place) (a : NextPeak m s p q) wher
         let i = next-inside in
         a .same-ahead
         ∙ keep-hit s (q .x) (q .y) (omega (arith, i .right)) (omega (arith, i .bottom)) (peakIn m s) (a .is-peak l .1)
+
+-- past the last row one place is like another
+pub found-past : (m : List Float) (s : Search) (p : Place) (f : Spot) → NextFound m s p f
+    → (g : Spot) → s .h - s .border ≤ f .y → s .h - s .border ≤ g .y → NextFound m s p g
+found-past m s p f a g l k = record {
+  next = record {
+    same-ahead = next-none m s p (placeOf f) (a .next) l ∙ sym (peaks-end m s (placeOf g) k);
+    is-peak = λ o. absurd (let no : ⊥ = omega arith in no);
+  };
+  counted = λ o. absurd (let no : ⊥ = omega arith in no);
+}

@@ -34,7 +34,7 @@ module _ (m : List Float) (s : Search) (p : Place) (t : Bool)
 -- ---- how many there can be
 module _ (m : List Float) (s : Search) (k : Searchable m s) where
   -- those of one place
-  few-at : (p : Place) → tiesAt m s p ≤ 1089
+  pub few-at : (p : Place) → tiesAt m s p ≤ 1089
   unfolding windowTest equals
   few-at p = pick (beaten (largerIn m (s .w)) (s .w) (s .h) (s .window) p)
     where

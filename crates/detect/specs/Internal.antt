@@ -8,8 +8,11 @@ use lib.Dec.{ltb}
 use lib.Ieee.{Float, nan, le}
 use Rattle.lists.specs.Places.{Place, row, block, keep}
 use Rattle.detect.specs.declared.Search.{Search}
+use Rattle.detect.specs.declared.searching.Spot.{Spot}
+use Rattle.detect.specs.declared.searching.PeakTest.{PeakTest}
+use Rattle.detect.specs.declared.searching.PeakTest.the-variants.{No, Peak}
 use Rattle.detect.specs.Peaks.{Inside}
-use Rattle.detect.specs.Detect.{peakIn}
+use Rattle.detect.specs.Detect.{peakIn, tiesAt}
 
 -- column x of row y
 abbrev pub place : ℕ → ℕ → Place
@@ -25,6 +28,10 @@ pub record Searchable (m : List Float) (s : Search) : Type 0 where
   pub narrow : s .border ≤ 42
 
 -- ---- the search
+
+-- the test of a place: whether it is a peak, and then its ties
+abbrev pub peakTest : List Float → Search → Place → PeakTest
+peakTest m s p = cond (peakIn m s p) (Peak (tiesAt m s p)) No
 
 -- the first n of the cells are at or below t
 pub record Below (cells : List Float) (t : Float) (n : ℕ) : Type 0 where
@@ -42,6 +49,14 @@ aheadIn s p =
 abbrev pub peaksFrom : List Float → Search → Place → List Place
 peaksFrom m s p = keep (peakIn m s) (aheadIn s p)
 
+-- from any place of row y on, the next peaks are those of the rows below
+pub record LowRow (m : List Float) (s : Search) (y : ℕ) : Type 0 where
+  pub same-ahead : (x : ℕ) → s .border ≤ x → y < s .h - s .border → peaksFrom m s (place x y) ≡ peaksFrom m s (place (s .border) (y + 1))
+
+-- and so in the rows from `low` to y
+abbrev pub LowRows : List Float → Search → ℕ → ℕ → Type 0
+LowRows m s low y = (k : ℕ) → low ≤ k → k ≤ y → LowRow m s k
+
 -- from p on, the places before q in its row are no peaks
 pub record Skipped (m : List Float) (s : Search) (p q : Place) : Type 0 where
   pub onward : p .x ≤ q .x
@@ -52,30 +67,49 @@ pub record NextPeak (m : List Float) (s : Search) (p q : Place) : Type 0 where
   pub same-ahead : peaksFrom m s p ≡ peaksFrom m s q
   pub is-peak : q .y < s .h - s .border → Inside (s .w) (s .h) (s .border) q × (peakIn m s q ≡ true)
 
+-- the place of what was found
+abbrev pub placeOf : Spot → Place
+placeOf f = place (f .x) (f .y)
+
+-- what was counted of the peak that was found
+pub record Counted (m : List Float) (s : Search) (f : Spot) : Type 0 where
+  pub ties : f .ties ≡ tiesAt m s (placeOf f)
+
+-- f is the first peak from p on, with what was counted of it, or lies past the last row
+pub record NextFound (m : List Float) (s : Search) (p : Place) (f : Spot) : Type 0 where
+  pub next : NextPeak m s p (placeOf f)
+  pub counted : f .y < s .h - s .border → Counted m s f
+
 -- ---- a table of the first peaks
 
 -- the place behind p in its row
 abbrev pub placeBehind : Place → Place
 placeBehind p = place (p .x + 1) (p .y)
 
--- the place that a number stands for: a row has 4,096 numbers, as many as the largest side
-abbrev pub placeOf : ℕ → Place
-placeOf a = place (a % 4096) (a / 4096)
+-- the peak that a number stands for: a place has 2,048 numbers, more than a window has cells, and a row 4,096 places, as many as the largest side
+abbrev pub spotOf : ℕ → Spot
+spotOf a = record { x = a / 2048 % 4096; y = a / 2048 / 4096; ties = a % 2048 }
 
--- a is the number of the place (x, y), or, from row y1 on, that of a place past the last row of any map
-pub record Numbered (x y y1 a : ℕ) : Type 0 where
-  pub here : y < y1 → placeOf a ≡ place x y
-  pub past : y1 ≤ y → 4096 ≤ placeOf a .y
+-- f has a number of its own
+pub record Small (f : Spot) : Type 0 where
+  pub x : f .x < 4096
+  pub y : f .y < 4096
+  pub ties : f .ties < 2048
+
+-- a is the number of f, or, from row y1 on, that of a place past the last row of any map
+pub record Numbered (f : Spot) (y1 a : ℕ) : Type 0 where
+  pub here : f .y < y1 → spotOf a ≡ f
+  pub past : y1 ≤ f .y → 4096 ≤ spotOf a .y
 
 -- where the search for the peak at place i of a table begins: at the first place inside the border, or behind the peak before it
 abbrev pub startOf : Search → List ℕ → ℕ → Place
 startOf s t zero = place (s .border) (s .border)
-startOf s t (suc i) = placeBehind (placeOf (getD t i 0))
+startOf s t (suc i) = placeBehind (placeOf (spotOf (getD t i 0)))
 
 -- the first n of a table are the first n peaks; the last of them may lie past the last row, where no peak is left
 pub record PeaksListed (m : List Float) (s : Search) (t : List ℕ) (n : ℕ) : Type 0 where
   pub within : n ≤ length t
-  pub each : (i : ℕ) → i < n → NextPeak m s (startOf s t i) (placeOf (getD t i 0))
+  pub each : (i : ℕ) → i < n → NextFound m s (startOf s t i) (spotOf (getD t i 0))
 
 -- p is where the search for peak i begins
 pub record Standing (s : Search) (t : List ℕ) (n i : ℕ) (p : Place) : Type 0 where
@@ -83,7 +117,7 @@ pub record Standing (s : Search) (t : List ℕ) (n i : ℕ) (p : Place) : Type 0
   pub top : s .border ≤ p .y
   pub listed : i < n → p ≡ startOf s t i
 
--- q is the first peak from p on, as the table has it
-pub record NextListed (m : List Float) (s : Search) (t : List ℕ) (n i : ℕ) (p q : Place) : Type 0 where
-  pub next : NextPeak m s p q
-  pub listed : i < n → q ≡ placeOf (getD t i 0)
+-- f is the first peak from p on, as the table has it
+pub record NextListed (m : List Float) (s : Search) (t : List ℕ) (n i : ℕ) (p : Place) (f : Spot) : Type 0 where
+  pub next : NextFound m s p f
+  pub listed : i < n → f ≡ spotOf (getD t i 0)

@@ -8,13 +8,10 @@ ghost use lib.IntN.{pos};
 ghost use lib.Ieee.{ofInt, binary32};
 ghost use Rattle.corner_list.specs.CornerList.{slices};
 ghost use Rattle.detect.specs.Peaks.{Inside};
-ghost use Rattle.detect.specs.Peaks.{tiesOf};
-ghost use Rattle.detect.specs.Detect.{peaksIn, startAt, startsIn, tiesAt, tiesIn, PeaksAdded};
+ghost use Rattle.detect.specs.Detect.{peaksIn, startAt, startsIn, tiesIn, PeaksAdded};
 ghost use Rattle.detect.specs.Internal.{place, Searchable, PeaksListed};
 use crate::Peaks;
 use crate::Search;
-use crate::WindowTest;
-use crate::neighbors::window_test;
 use crate::searching::value_at;
 use crate::table::list_peaks;
 use crate::table::peak_at;
@@ -41,26 +38,6 @@ fn start_at(map: &[f32], s: Search, x: usize, y: usize) -> Corner
     }
 }
 
-// How many ties a cell has by its window test.
-fn ties_of(t: WindowTest) -> u64
-    ensures { λ n. ⌜ n ≡ tiesOf t ⌝ }
-{
-    let WindowTest::Top(n) = t else {
-        return 0;
-    };
-    n as u64
-}
-
-// How many ties the peak (x, y) has.
-fn ties_at(map: &[f32], s: Search, x: usize, y: usize) -> u64
-    requires { ⌜ Searchable (now map) s ⌝ }
-    requires { ⌜ Inside (s .w) (s .h) (s .border) (place x y) ⌝ }
-    ensures { λ n. ⌜ n ≡ tiesAt (now (map .entry)) s (place x y) ⌝ }
-{
-    let v = value_at(map, s, x, y);
-    ties_of(window_test(map, s, x, y, v))
-}
-
 // How many cells lie inside the border.
 fn cells_inside(s: Search) -> usize
     requires { ⌜ (s .w ≤ 4096) × (s .h ≤ 4096) ⌝ }
@@ -73,7 +50,7 @@ fn cells_inside(s: Search) -> usize
 
 // Whether the peaks are too many for a buffer of so many places, of which `held` are taken. They are counted only where there are
 // more cells that could be one.
-fn are_too_many(map: &[f32], s: Search, table: &[u32], n: usize, places: usize, held: usize) -> bool
+fn are_too_many(map: &[f32], s: Search, table: &[u64], n: usize, places: usize, held: usize) -> bool
     requires { ⌜ Searchable (now map) s ⌝ }
     requires { ⌜ PeaksListed (now map) s (now table) n ⌝ }
     ensures { λ b. ⌜ b ≡ ltb places (held + length (peaksIn (now (map .entry)) s)) ⌝ }
@@ -103,10 +80,10 @@ fn are_too_many(map: &[f32], s: Search, table: &[u32], n: usize, places: usize, 
 
 // Adds the corners that the peaks start as to a buffer, behind the first `held`, and sums their ties. They are searched for once where the
 // table has a place for each; past its last place the search is done again to write them.
-pub(crate) fn add_peaks(
+fn add_peaks(
     map: &[f32],
     s: Search,
-    table: &mut [u32],
+    table: &mut [u64],
     xs: &mut [f32],
     ys: &mut [f32],
     strengths: &mut [f32],
@@ -132,9 +109,71 @@ pub(crate) fn add_peaks(
             return Peaks::Added(i, ties);
         }
         corner_list::put_corner(xs, ys, strengths, held + i, start_at(map, s, p.x, p.y));
-        ties += ties_at(map, s, p.x, p.y);
+        ties += p.ties as u64;
         i += 1;
         x = p.x + 1;
         y = p.y;
     }
+}
+
+// Adds them by a table of 4 KB.
+fn add_few(
+    map: &[f32],
+    s: Search,
+    xs: &mut [f32],
+    ys: &mut [f32],
+    strengths: &mut [f32],
+    held: usize,
+) -> Peaks
+    requires { ⌜ Searchable (now map) s ⌝ }
+    ensures { λ r. ⌜ PeaksAdded [] (startsIn (now (map .entry)) s) (tiesIn (now (map .entry)) s) held
+        (slices (now (xs .entry)) (now (ys .entry)) (now (strengths .entry)))
+        r (slices (now (xs .exit)) (now (ys .exit)) (now (strengths .exit))) ⌝ }
+{
+    let mut table = [0u64; 512];
+    add_peaks(map, s, &mut table, xs, ys, strengths, held)
+}
+
+// Adds them by a table of 224 KB.
+fn add_many(
+    map: &[f32],
+    s: Search,
+    xs: &mut [f32],
+    ys: &mut [f32],
+    strengths: &mut [f32],
+    held: usize,
+) -> Peaks
+    requires { ⌜ Searchable (now map) s ⌝ }
+    ensures { λ r. ⌜ PeaksAdded [] (startsIn (now (map .entry)) s) (tiesIn (now (map .entry)) s) held
+        (slices (now (xs .entry)) (now (ys .entry)) (now (strengths .entry)))
+        r (slices (now (xs .exit)) (now (ys .exit)) (now (strengths .exit))) ⌝ }
+{
+    let mut table = [0u64; 28672];
+    add_peaks(map, s, &mut table, xs, ys, strengths, held)
+}
+
+// Adds them by the smaller table in a map of fewer than 65,536 cells, and by the larger one else. A compiler leaves a function that calls itself,
+// and the functions with a table that it calls, apart: so a table takes stack only while it is used. For that alone it calls itself, with half
+// the cells, until none are left.
+pub(crate) fn add_by_table(
+    map: &[f32],
+    s: Search,
+    xs: &mut [f32],
+    ys: &mut [f32],
+    strengths: &mut [f32],
+    held: usize,
+    cells: usize,
+) -> Peaks
+    requires { ⌜ Searchable (now map) s ⌝ }
+    ensures { λ r. ⌜ PeaksAdded [] (startsIn (now (map .entry)) s) (tiesIn (now (map .entry)) s) held
+        (slices (now (xs .entry)) (now (ys .entry)) (now (strengths .entry)))
+        r (slices (now (xs .exit)) (now (ys .exit)) (now (strengths .exit))) ⌝ }
+{
+    if cells == 0 {
+        return add_few(map, s, xs, ys, strengths, held);
+    }
+    if cells < 65536 {
+        return add_by_table(map, s, xs, ys, strengths, held, cells / 2);
+    }
+    add_many(map, s, xs, ys, strengths, held)
 }

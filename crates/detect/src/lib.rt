@@ -79,7 +79,7 @@ fn search_of(
 }
 
 // Finds the peaks of a map of w by h, in row order, adds the corners that they start as to a buffer, behind the first `held`, and sums their ties.
-// The table of the first peaks stands on the stack: 2 KB for a map of fewer than 65,536 cells, 112 KB for a larger one.
+// The table of the first peaks stands on the stack: 4 KB for a map of fewer than 65,536 cells, 224 KB for a larger one.
 pub fn detect_peaks_from_response_with_refine_radius(
     map: &[f32],
     w: usize,
@@ -113,10 +113,5 @@ pub fn detect_peaks_from_response_with_refine_radius(
         least_neighbours,
         refine_radius,
     );
-    if map.len() < 65536 {
-        let mut table = [0u32; 512];
-        return adding::add_peaks(map, s, &mut table, xs, ys, strengths, held);
-    }
-    let mut table = [0u32; 28672];
-    adding::add_peaks(map, s, &mut table, xs, ys, strengths, held)
+    adding::add_by_table(map, s, xs, ys, strengths, held, map.len())
 }

@@ -60,7 +60,7 @@ fn count_positive(cells: &[f32]) -> u32
 
 // Whether no cell of the window about (x, y) is larger than v, the value there. The window is not clipped inside the border, and
 // the centre, which does not beat itself, is not left out.
-pub(crate) fn is_local_max(map: &[f32], s: Search, x: usize, y: usize, v: f32) -> bool
+fn is_local_max(map: &[f32], s: Search, x: usize, y: usize, v: f32) -> bool
     requires { ⌜ Searchable (now map) s ⌝ }
     requires { ⌜ Inside (s .w) (s .h) (s .border) (place x y) ⌝ }
     requires { ⌜ v ≡ valueAt (now map) (s .w) (place x y) ⌝ }
@@ -130,7 +130,7 @@ fn count_equal_neighbors(map: &[f32], s: Search, x: usize, y: usize, v: f32) -> 
     if v == v { n - 1 } else { n }
 }
 
-// The window test of the cell (x, y), whose value is v. The search for peaks asks `is_local_max` alone: ties are counted of peaks.
+// The window test of the cell (x, y), whose value is v. Of a cell that is beaten nothing is counted.
 pub(crate) fn window_test(map: &[f32], s: Search, x: usize, y: usize, v: f32) -> WindowTest
     requires { ⌜ Searchable (now map) s ⌝ }
     requires { ⌜ Inside (s .w) (s .h) (s .border) (place x y) ⌝ }

@@ -1,19 +1,27 @@
 // The search for the next peak, in row order: cells at or below the threshold are passed over, several at a time.
 ghost use mathlib.Core.Path.{_≡_};
+ghost use mathlib.Core.Bool.{true};
 ghost use Prim.Native.Nat.{_-_, _<_, _≤_};
 ghost use lib.ListN.{length};
 ghost use Rattle.lists.specs.Places.{count};
 ghost use Rattle.detect.specs.Peaks.{valueAt, isLow, Inside};
-ghost use Rattle.detect.specs.Detect.{peakIn};
-ghost use Rattle.detect.specs.Internal.{place, Searchable, Below, Skipped, NextPeak};
+ghost use Rattle.detect.specs.Internal.{place, peakTest, Searchable, Below, LowRow, LowRows, Skipped, NextFound};
 use crate::Search;
+use crate::WindowTest;
 use crate::neighbors::count_positive_neighbors;
-use crate::neighbors::is_local_max;
+use crate::neighbors::window_test;
 
-// A place of the map: column x of row y.
+// What a search found: a place of the map, column x of row y, and how many ties the peak there has.
 pub(crate) struct Spot {
     pub(crate) x: usize,
     pub(crate) y: usize,
+    pub(crate) ties: u32,
+}
+
+// Whether a cell is a peak, and then how many ties it has.
+enum PeakTest {
+    No,
+    Peak(u32),
 }
 
 // The value of the cell (x, y).
@@ -27,20 +35,23 @@ pub(crate) fn value_at(map: &[f32], s: Search, x: usize, y: usize) -> f32
     map[at]
 }
 
-// Whether the cell (x, y) is a peak.
-fn is_peak(map: &[f32], s: Search, x: usize, y: usize) -> bool
+// Whether the cell (x, y) is a peak, with its ties: they are counted while its window is at hand.
+fn peak_test(map: &[f32], s: Search, x: usize, y: usize) -> PeakTest
     requires { ⌜ Searchable (now map) s ⌝ }
     requires { ⌜ Inside (s .w) (s .h) (s .border) (place x y) ⌝ }
-    ensures { λ b. ⌜ b ≡ peakIn (now (map .entry)) s (place x y) ⌝ }
+    ensures { λ t. ⌜ t ≡ peakTest (now (map .entry)) s (place x y) ⌝ }
 {
     let v = value_at(map, s, x, y);
     if v <= s.threshold {
-        return false;
+        return PeakTest::No;
     }
-    if is_local_max(map, s, x, y, v) {
-        s.least_neighbours <= count_positive_neighbors(map, s, x, y, v)
+    let WindowTest::Top(ties) = window_test(map, s, x, y, v) else {
+        return PeakTest::No;
+    };
+    if s.least_neighbours <= count_positive_neighbors(map, s, x, y, v) {
+        PeakTest::Peak(ties)
     } else {
-        false
+        PeakTest::No
     }
 }
 
@@ -75,10 +86,21 @@ fn blocks_below(cells: &[f32], t: f32) -> usize
     i
 }
 
-// How many cells at the front are at or below t: all before the first that is not.
+// Whether the first of the cells is above t. It is asked to save time: what follows from it holds without it too.
+fn starts_above(cells: &[f32], t: f32) -> bool {
+    if cells.len() == 0 {
+        return false;
+    }
+    t < cells[0]
+}
+
+// How many cells at the front are at or below t: all before the first that is not, which often is the first of all.
 fn cells_below(cells: &[f32], t: f32) -> usize
     ensures { λ n. ⌜ Below (now (cells .entry)) t n ⌝ }
 {
+    if starts_above(cells, t) {
+        return 0;
+    }
     let mut n = blocks_below(cells, t);
     while n < cells.len() {
         if cells[n] <= t {
@@ -90,15 +112,41 @@ fn cells_below(cells: &[f32], t: f32) -> usize
     n
 }
 
-// The first column from x on whose cell in row y may be a peak: cells at or below the threshold are passed over, up to the border.
-fn skip(map: &[f32], s: Search, x: usize, y: usize) -> usize
+// Whether the cells of row y inside the border are known to be at or below the threshold. Only wide maps are asked, where it pays, and only
+// rows that windows reach: each is asked when it is the last of a window, so that windows then find it in the cache.
+fn is_low_row(map: &[f32], s: Search, y: usize) -> bool
+    requires { ⌜ Searchable (now map) s ⌝ }
+    ensures { λ b. ⌜ (b ≡ true → LowRow (now (map .entry)) s y) ⌝ }
+{
+    let w = s.w;
+    if w < 2048 {
+        return false;
+    }
+    if numbers::minus(s.h + s.window, s.border) <= y {
+        return false;
+    }
+    let x0 = s.border;
+    let x1 = w - x0;
+    let a = y * w + x0;
+    let e = y * w + x1;
+    (x1 - x0) as u32 <= count_low(&map[a..e], s.threshold)
+}
+
+// The first column from x on whose cell in row y may be a peak: cells at or below the threshold are passed over, up to the border. The rows from
+// `low` on have no others, up to row y at least.
+fn skip(map: &[f32], s: Search, x: usize, y: usize, low: usize) -> usize
     requires { ⌜ Searchable (now map) s ⌝ }
     requires { ⌜ y < s .h - s .border ⌝ }
+    requires { ⌜ s .border ≤ x ⌝ }
+    requires { ⌜ LowRows (now map) s low y ⌝ }
     ensures { λ r. ⌜ Skipped (now (map .entry)) s (place x y) (place r y) ⌝ }
 {
     let w = s.w;
     let x1 = numbers::minus(w, s.border);
     if x < x1 {
+        if low <= y {
+            return x1;
+        }
         let a = y * w + x;
         let e = y * w + x1;
         return x + cells_below(&map[a..e], s.threshold);
@@ -106,28 +154,36 @@ fn skip(map: &[f32], s: Search, x: usize, y: usize) -> usize
     x
 }
 
-// The place of the first peak from (x, y) on, in row order; past the last row inside the border where there is none.
+// The first peak from (x, y) on, in row order; a place past the last row inside the border where there is none.
 pub(crate) fn next_peak(map: &[f32], s: Search, x: usize, y: usize) -> Spot
     requires { ⌜ Searchable (now map) s ⌝ }
     requires { ⌜ (s .border ≤ x) × (s .border ≤ y) ⌝ }
-    ensures { λ p. ⌜ NextPeak (now (map .entry)) s (place x y) (place (p .x) (p .y)) ⌝ }
+    ensures { λ p. ⌜ NextFound (now (map .entry)) s (place x y) p ⌝ }
 {
     let x0 = s.border;
     let x1 = numbers::minus(s.w, s.border);
     let y1 = numbers::minus(s.h, s.border);
+    if y1 <= y {
+        return Spot { x, y, ties: 0 };
+    }
+    let r = s.window;
     let mut x = x;
     let mut y = y;
+    let mut low = y + r + 1;
     while y < y1 {
-        x = skip(map, s, x, y);
+        x = skip(map, s, x, y, low);
         if x < x1 {
-            if is_peak(map, s, x, y) {
-                return Spot { x, y };
+            if let PeakTest::Peak(ties) = peak_test(map, s, x, y) {
+                return Spot { x, y, ties };
             }
             x += 1;
         } else {
             x = x0;
             y += 1;
+            if !is_low_row(map, s, y + r) {
+                low = y + r + 1;
+            }
         }
     }
-    Spot { x, y }
+    Spot { x, y, ties: 0 }
 }

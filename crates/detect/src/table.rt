@@ -1,36 +1,38 @@
-// A table of the first peaks, each place as one number, so that they are searched for once.
+// A table of the first peaks, each with its ties as one number, so that they are searched for once.
 ghost use mathlib.Core.Path.{_≡_};
 ghost use Prim.Native.Nat.{_<_};
-ghost use Rattle.detect.specs.Internal.{place, placeOf, Searchable, Numbered, PeaksListed, Standing, NextListed};
+ghost use Rattle.detect.specs.Internal.{place, spotOf, Searchable, Small, Numbered, PeaksListed, Standing, NextListed};
 use crate::Search;
 use crate::searching::Spot;
 use crate::searching::next_peak;
 
-// The place that a number of a table stands for.
-fn spot_of(a: u32) -> Spot
-    ensures { λ p. ⌜ place (p .x) (p .y) ≡ placeOf a ⌝ }
+// The peak that a number of a table stands for.
+fn spot_of(a: u64) -> Spot
+    ensures { λ p. ⌜ p ≡ spotOf a ⌝ }
 {
+    let at = a / 2048;
     Spot {
-        x: (a % 4096) as usize,
-        y: (a / 4096) as usize,
+        x: (at % 4096) as usize,
+        y: (at / 4096) as usize,
+        ties: (a % 2048) as u32,
     }
 }
 
-// The number that stands for the place (x, y) in a table; from row y1 on, one for a place past the last row of any map.
-fn number_of(x: usize, y: usize, y1: usize) -> u32
-    requires { ⌜ (y < y1 → (x < 4096) × (y < 4096)) ⌝ }
-    ensures { λ a. ⌜ Numbered x y y1 a ⌝ }
+// The number that stands for a peak in a table; from row y1 on, one for a place past the last row of any map.
+fn number_of(p: Spot, y1: usize) -> u64
+    requires { ⌜ (p .y < y1 → Small p) ⌝ }
+    ensures { λ a. ⌜ Numbered p y1 a ⌝ }
 {
-    if y < y1 {
-        (y * 4096 + x) as u32
+    if p.y < y1 {
+        ((p.y * 4096 + p.x) * 2048) as u64 + p.ties as u64
     } else {
-        16777216
+        34359738368
     }
 }
 
 // Lists the first peaks in a table, as many as it has places for, and behind the last peak of the map a place past its last row.
 // Returns how many places are listed.
-pub(crate) fn list_peaks(map: &[f32], s: Search, table: &mut [u32]) -> usize
+pub(crate) fn list_peaks(map: &[f32], s: Search, table: &mut [u64]) -> usize
     requires { ⌜ Searchable (now map) s ⌝ }
     ensures { λ n. ⌜ PeaksListed (now (map .entry)) s (now (table .exit)) n ⌝ }
 {
@@ -40,7 +42,7 @@ pub(crate) fn list_peaks(map: &[f32], s: Search, table: &mut [u32]) -> usize
     let mut n = 0;
     while n < table.len() {
         let p = next_peak(map, s, x, y);
-        table[n] = number_of(p.x, p.y, y1);
+        table[n] = number_of(p, y1);
         n += 1;
         if y1 <= p.y {
             return n;
@@ -55,7 +57,7 @@ pub(crate) fn list_peaks(map: &[f32], s: Search, table: &mut [u32]) -> usize
 pub(crate) fn peak_at(
     map: &[f32],
     s: Search,
-    table: &[u32],
+    table: &[u64],
     n: usize,
     i: usize,
     x: usize,
@@ -64,7 +66,7 @@ pub(crate) fn peak_at(
     requires { ⌜ Searchable (now map) s ⌝ }
     requires { ⌜ PeaksListed (now map) s (now table) n ⌝ }
     requires { ⌜ Standing s (now table) n i (place x y) ⌝ }
-    ensures { λ p. ⌜ NextListed (now (map .entry)) s (now (table .entry)) n i (place x y) (place (p .x) (p .y)) ⌝ }
+    ensures { λ p. ⌜ NextListed (now (map .entry)) s (now (table .entry)) n i (place x y) p ⌝ }
 {
     if i < n {
         return spot_of(table[i]);

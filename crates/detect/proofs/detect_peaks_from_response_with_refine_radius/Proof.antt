@@ -15,22 +15,16 @@ use Rattle.detect.proofs.Answers.{Clear, clear, searchable, found-refus
 use Rattle.detect.proofs.detect_peaks_from_response_with_refine_radius.Statement.{statement}
 use Rattle.detect.proofs.detect_peaks_from_response_with_refine_radius.Tie as tie
 
--- ---- places of the code: the function's start, from where no condition held; and with either table the parameters of the search, from where
--- `add_peaks` is called, and that call, from the return
+-- ---- places of the code: the function's start, from where no condition held; the parameters of the search, from where the peaks are added; and
+-- that, from the return
 abbrev start : tie.Else1 → tie.Start
 start c = c .before .before .before .before .before .before
 
-abbrev searched : tie.After-add-peaks-arg3 → tie.After-search-of
-searched c = c .before .before .before .before .before
+abbrev searched : tie.After-add-by-table-arg3 → tie.After-search-of
+searched c = c .before .before .before
 
-abbrev added : tie.After-slice-known6 → tie.After-add-peaks
-added c = c .before .before .before .before .before .before .before
-
-abbrev searched-2 : tie.After-add-peaks-arg6 → tie.After-search-of
-searched-2 c = c .before .before .before .before .before
-
-abbrev added-2 : tie.After-slice-known9 → tie.After-add-peaks2
-added-2 c = c .before .before .before .before .before .before .before
+abbrev added : tie.After-slice-known6 → tie.After-add-by-table
+added c = c .before .before .before .before .before .before
 
 -- ---- what it was given
 abbrev conditions-of : tie.Else1 → List (Bool × ℕ)
@@ -71,11 +65,8 @@ returns c = found-refused _ _ _ _ _ _ (c .before .refusal .ensures) (c .if1 .tak
 search-of-requires : tie.Need-search-of-requires
 search-of-requires c κs = search needs
 
-slice-aggregate-add-peaks : tie.Need-slice-aggregate-add-peaks
-slice-aggregate-add-peaks c = search needs
-
-add-peaks-requires : tie.Need-add-peaks-requires
-add-peaks-requires c κs = can-search (searched c)
+add-by-table-requires : tie.Need-add-by-table-requires
+add-by-table-requires c κs = can-search (searched c)
 
 same-length : tie.Need-same-length
 same-length c = search needs
@@ -87,25 +78,7 @@ same-length-3 : tie.Need-same-length-3
 same-length-3 c = search needs
 
 returns-2 : tie.Need-returns-2
-returns-2 c = let add = added c in adds (searched (add .before)) (add .add-peaks .result) _ (add .add-peaks .ensures)
-
-slice-aggregate-add-peaks-2 : tie.Need-slice-aggregate-add-peaks-2
-slice-aggregate-add-peaks-2 c = search needs
-
-add-peaks-requires-2 : tie.Need-add-peaks-requires-2
-add-peaks-requires-2 c κs = can-search (searched-2 c)
-
-same-length-4 : tie.Need-same-length-4
-same-length-4 c = search needs
-
-same-length-5 : tie.Need-same-length-5
-same-length-5 c = search needs
-
-same-length-6 : tie.Need-same-length-6
-same-length-6 c = search needs
-
-returns-3 : tie.Need-returns-3
-returns-3 c = let add = added-2 c in adds (searched-2 (add .before)) (add .add-peaks2 .result) _ (add .add-peaks2 .ensures)
+returns-2 c = let add = added c in adds (searched (add .before)) (add .add-by-table .result) _ (add .add-by-table .ensures)
 
 pub detect-peaks-from-response-with-refine-radius-spec : {M : Type 1} → statement M
 detect-peaks-from-response-with-refine-radius-spec =
@@ -114,15 +87,8 @@ detect-peaks-from-response-with-refine-radius-spec =
     refusal-requires
     returns
     search-of-requires
-    slice-aggregate-add-peaks
-    add-peaks-requires
+    add-by-table-requires
     same-length
     same-length-2
     same-length-3
-    returns-2
-    slice-aggregate-add-peaks-2
-    add-peaks-requires-2
-    same-length-4
-    same-length-5
-    same-length-6
-    returns-3)
+    returns-2)

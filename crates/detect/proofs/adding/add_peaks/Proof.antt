@@ -60,7 +60,7 @@ module _ (c : tie.Else2 Inv-loop μ-loop) where
   high = omega arith
 
   inside : Inside (given c .args .s .w) (given c .args .s .h) (given c .args .s .border) peak
-  inside = next-inside _ _ _ _ (found c .peak-at .ensures .next) high
+  inside = next-inside _ _ _ _ (found c .peak-at .ensures .next .next) high
 
   small : peak .x < 4096
   small = omega (arith, inside .right, given c .pre .wide)
@@ -128,15 +128,15 @@ start-at-requires c κs = let t = c .before .before .before in (given t .pre, in
 put-corner-requires : tie.Need-put-corner-requires Inv-loop μ-loop
 put-corner-requires c κs = search needs
 
-ties-at-requires : tie.Need-ties-at-requires Inv-loop μ-loop
-ties-at-requires c κs = let t = going (put c) in (given t .pre, inside t)
+cast-ties : tie.Need-cast-ties Inv-loop μ-loop
+cast-ties c = search needs
 
 add-ties : tie.Need-add-ties Inv-loop μ-loop
 add-ties c =
     let t = going (put (c .before)) in
     let f = found t in
     omega
-    (arith, writing-few _ _ _ _ _ _ _ _ _ _ (turn f .loop .inv) _ (f .peak-at .ensures) (high t) _ (c .ties-at .ensures) (given t .pre))
+    (arith, writing-few _ _ _ _ _ _ _ _ _ _ (turn f .loop .inv) _ (f .peak-at .ensures) (high t) (given t .pre))
 
 add-i : tie.Need-add-i Inv-loop μ-loop
 add-i c = let t = going (put (c .before)) in omega (arith, space t, given t .good)
@@ -156,7 +156,7 @@ loop-again c =
     let t = going p in
     let f = found t in
     writing-next _ _ _ _ _ _ _ _ _ _ (turn f .loop .inv) _ (f .peak-at .ensures) (high t)
-    _ (p .before .start-at .ensures) _ (p .put-corner .ensures) _ (c .before .ties-at .ensures)
+    _ (p .before .start-at .ensures) _ (p .put-corner .ensures)
 
 pub add-peaks-spec : {M : Type 1} → statement M
 add-peaks-spec =
@@ -180,7 +180,7 @@ add-peaks-spec =
     add-put-corner
     start-at-requires
     put-corner-requires
-    ties-at-requires
+    cast-ties
     add-ties
     add-i
     add-x

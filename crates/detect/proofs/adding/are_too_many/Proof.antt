@@ -67,7 +67,7 @@ add-i : tie.Need-add-i Inv-loop μ-loop
 add-i c = search needs
 
 add-x : tie.Need-add-x Inv-loop μ-loop
-add-x c = let i = next-inside _ _ _ _ (found c .peak-at .ensures .next) (omega arith) in omega (arith, i .right)
+add-x c = let i = next-inside _ _ _ _ (found c .peak-at .ensures .next .next) (omega arith) in omega (arith, i .right)
 
 loop-less : tie.Need-loop-less Inv-loop μ-loop
 loop-less c = search needs

@@ -36,19 +36,19 @@ rows-inside-requires c κs = search needs
 returns : tie.Need-returns Inv-loop μ-loop
 returns c =
     let next = c .before .before .before in
-    searching-no _ _ _ _ _ (turn next .loop .inv .0) _ (next .next-peak .ensures) (omega arith) _ (omega arith) _ (c .rows-inside .ensures)
+    searching-no _ _ _ _ _ (turn next .loop .inv .0) _ (next .next-peak .ensures .next) (omega arith) _ (omega arith) _ (c .rows-inside .ensures)
 
 add-i : tie.Need-add-i Inv-loop μ-loop
 add-i c = search needs
 
 add-x : tie.Need-add-x Inv-loop μ-loop
-add-x c = let i = next-inside _ _ _ _ (c .before .before .before .next-peak .ensures) (omega arith) in omega (arith, i .right)
+add-x c = let i = next-inside _ _ _ _ (c .before .before .before .next-peak .ensures .next) (omega arith) in omega (arith, i .right)
 
 sub-rows : tie.Need-sub-rows Inv-loop μ-loop
-sub-rows c = let i = next-inside _ _ _ _ (c .before .before .before .before .next-peak .ensures) (omega arith) in omega (arith, i .top)
+sub-rows c = let i = next-inside _ _ _ _ (c .before .before .before .before .next-peak .ensures .next) (omega arith) in omega (arith, i .top)
 
 add-rows : tie.Need-add-rows Inv-loop μ-loop
-add-rows c = let i = next-inside _ _ _ _ (c .before .before .before .before .next-peak .ensures) (omega arith) in omega (arith, i .bottom)
+add-rows c = let i = next-inside _ _ _ _ (c .before .before .before .before .next-peak .ensures .next) (omega arith) in omega (arith, i .bottom)
 
 loop-less : tie.Need-loop-less Inv-loop μ-loop
 loop-less c = search needs
@@ -56,7 +56,7 @@ loop-less c = search needs
 loop-again : tie.Need-loop-again Inv-loop μ-loop
 loop-again c =
     let next = c .before .before .before .before in
-    (searching-next _ _ _ _ _ (turn next .loop .inv .0) _ (next .next-peak .ensures) (omega arith) _ refl, omega arith)
+    (searching-next _ _ _ _ _ (turn next .loop .inv .0) _ (next .next-peak .ensures .next) (omega arith) _ refl, omega arith)
 
 returns-2 : tie.Need-returns-2 Inv-loop μ-loop
 returns-2 c = let at = c .before in searching-yes _ _ _ _ _ (at .loop .inv .0) _ (omega (arith, at .loop .inv .1))

@@ -3,7 +3,7 @@ use Prim.Native.Nat.{_-_}
 use lib.ListN.{length}
 use borrow.Author.Needs.{needs}
 use Rattle.detect.specs.Internal.{Below}
-use Rattle.detect.proofs.Rows.{below-more}
+use Rattle.detect.proofs.Rows.{below-none, below-more}
 use Rattle.detect.proofs.searching.cells_below.Statement.{statement}
 use Rattle.detect.proofs.searching.cells_below.Tie as tie
 
@@ -13,17 +13,23 @@ Inv-loop cells t n₀ n = Below cells t n
 abbrev μ-loop : tie.MeasureT-loop
 μ-loop cells t n₀ n = length cells - n
 
+starts-above-requires : tie.Need-starts-above-requires Inv-loop μ-loop
+starts-above-requires c κs = search needs
+
+returns : tie.Need-returns Inv-loop μ-loop
+returns c = below-none _ _
+
 blocks-below-requires : tie.Need-blocks-below-requires Inv-loop μ-loop
 blocks-below-requires c κs = search needs
 
 loop-holds : tie.Need-loop-holds Inv-loop μ-loop
 loop-holds c = c .blocks-below .ensures
 
-mul-if1 : tie.Need-mul-if1 Inv-loop μ-loop
-mul-if1 c = search needs
+mul-if2 : tie.Need-mul-if2 Inv-loop μ-loop
+mul-if2 c = search needs
 
-shared-slice-read-if1 : tie.Need-shared-slice-read-if1 Inv-loop μ-loop
-shared-slice-read-if1 c = search needs
+shared-slice-read-if2 : tie.Need-shared-slice-read-if2 Inv-loop μ-loop
+shared-slice-read-if2 c = search needs
 
 add-n : tie.Need-add-n Inv-loop μ-loop
 add-n c = search needs
@@ -32,13 +38,13 @@ loop-less : tie.Need-loop-less Inv-loop μ-loop
 loop-less c = search needs
 
 loop-again : tie.Need-loop-again Inv-loop μ-loop
-loop-again c = below-more _ _ _ (c .before .before .before .loop .inv) (c .before .before .loop-test .taken) (c .if1 .taken)
-
-returns : tie.Need-returns Inv-loop μ-loop
-returns c = search needs
+loop-again c = below-more _ _ _ (c .before .before .before .loop .inv) (c .before .before .loop-test .taken) (c .if2 .taken)
 
 returns-2 : tie.Need-returns-2 Inv-loop μ-loop
 returns-2 c = search needs
+
+returns-3 : tie.Need-returns-3 Inv-loop μ-loop
+returns-3 c = search needs
 
 pub cells-below-spec : {M : Type 1} → statement M
 cells-below-spec =
@@ -46,12 +52,14 @@ cells-below-spec =
     (tie.spec
     Inv-loop
     μ-loop
+    starts-above-requires
+    returns
     blocks-below-requires
     loop-holds
-    mul-if1
-    shared-slice-read-if1
+    mul-if2
+    shared-slice-read-if2
     add-n
     loop-less
     loop-again
-    returns
-    returns-2)
+    returns-2
+    returns-3)

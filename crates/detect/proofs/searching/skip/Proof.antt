@@ -3,16 +3,16 @@ use Prim.Native.Nat.{_*_, _<_, _≤_}
 use native.Mathlib.Omega.{arith}
 use borrow.Author.Needs.{needs}
 use Rattle.detect.proofs.Cells.{row-in, row-small}
-use Rattle.detect.proofs.Rows.{skipped-none, skipped-below}
+use Rattle.detect.proofs.Rows.{skipped-none, skipped-below, skipped-low}
 use Rattle.detect.proofs.searching.skip.Statement.{statement}
 use Rattle.detect.proofs.searching.skip.Tie as tie
 
--- the function's start, from where the row has cells ahead
-abbrev start : tie.Then1 → tie.Start
-start c = c .before .before .before
+-- the function's start, from where the row has cells ahead and is not known to be low
+abbrev start : tie.Else2 → tie.Start
+start c = c .before .before .before .before
 
 -- there the row is one of the map's, and where it begins is a small number
-module _ (c : tie.Then1) where
+module _ (c : tie.Else2) where
   in-rows : start c .args .y < start c .args .s .h
   in-rows = omega arith
 
@@ -21,6 +21,13 @@ module _ (c : tie.Then1) where
 
 minus-requires : tie.Need-minus-requires
 minus-requires c κs = search needs
+
+returns : tie.Need-returns
+returns c =
+    let ahead = c .before in
+    let given = ahead .before .before .before .pre in
+    skipped-low _ _ _ _ _ (ahead .before .minus .ensures) (ahead .if1 .taken) (given .1 .0) (given .1 .1 .0)
+    (given .1 .1 .1 _ (c .if2 .taken) (omega arith))
 
 mul-a : tie.Need-mul-a
 mul-a c = omega (arith, small c)
@@ -52,19 +59,20 @@ cells-below-requires c κs = search needs
 add-result : tie.Need-add-result
 add-result c = search needs
 
-returns : tie.Need-returns
-returns c =
-    let at = c .before .before in
-    skipped-below _ _ _ _ _ _ (at .before .minus .ensures) (at .if1 .taken) (start at .pre .1) (c .cells-below .ensures)
-
 returns-2 : tie.Need-returns-2
-returns-2 c = skipped-none _ _ _ _
+returns-2 c =
+    let at = c .before .before in
+    skipped-below _ _ _ _ _ _ (at .before .before .minus .ensures) (at .before .if1 .taken) (start at .pre .1 .0) (c .cells-below .ensures)
+
+returns-3 : tie.Need-returns-3
+returns-3 c = skipped-none _ _ _ _
 
 pub skip-spec : {M : Type 1} → statement M
 skip-spec =
     tie.close
     (tie.spec
     minus-requires
+    returns
     mul-a
     add-a
     mul-e
@@ -75,5 +83,5 @@ skip-spec =
     part-cells-below-end
     cells-below-requires
     add-result
-    returns
-    returns-2)
+    returns-2
+    returns-3)

@@ -6,7 +6,7 @@ use lib.ListN.{length, set, length-set}
 use borrow.Author.Needs.{needs}
 use Rattle.detect.specs.Internal.{place}
 use Rattle.detect.proofs.Scanning.{next-inside}
-use Rattle.detect.proofs.FirstPeaks.{Listing, listing-first, listing-put, listing-next}
+use Rattle.detect.proofs.FirstPeaks.{Listing, found-small, listing-first, listing-put, listing-next}
 use Rattle.detect.proofs.table.list_peaks.Statement.{statement}
 use Rattle.detect.proofs.table.list_peaks.Tie as tie
 
@@ -39,8 +39,8 @@ next-peak-requires c κs = search needs
 
 number-of-requires : tie.Need-number-of-requires Inv-loop μ-loop
 number-of-requires c κs = λ l.
-    let i = next-inside _ _ _ _ (c .next-peak .ensures) (omega arith) in
-    (omega (arith, i .right), omega (arith, i .bottom))
+    let given = c .before .before .before .before .before .before .pre in
+    found-small _ _ given _ _ (c .next-peak .ensures) (omega arith)
 
 mul-table : tie.Need-mul-table Inv-loop μ-loop
 mul-table c = search needs
@@ -64,7 +64,7 @@ returns c =
 add-x : tie.Need-add-x Inv-loop μ-loop
 add-x c =
     let n = c .before .before .before in
-    let i = next-inside _ _ _ _ (n .before .next-peak .ensures) (omega arith) in
+    let i = next-inside _ _ _ _ (n .before .next-peak .ensures .next) (omega arith) in
     omega (arith, i .right)
 
 loop-less : tie.Need-loop-less Inv-loop μ-loop

@@ -1,0 +1,47 @@
+-- Request 4, how many ties (RULES 23): "Peak finding returns its sum over the peaks it adds, and a finished frame pass returns the total, a u64, over
+-- all peaks found before merging, seeds not counted. The total is defined from the computed maps."
+use Prim.Native.Nat.{ℕ}
+use mathlib.Core.Path.{_≡_}
+use mathlib.Core.List.{List}
+use lib.Ieee.{Float, nan}
+use Rattle.lists.specs.Places.{Place, All}
+use Rattle.float32.specs.Float32.{lift}
+use Rattle.float32.specs.Value.{IsWhole}
+use Rattle.response.specs.Patch.{View, mapWidth, mapHeight}
+use Rattle.response.specs.Exact.{fifthsIn}
+use Rattle.detect.specs.declared.WindowTest.the-variants.{Top}
+use Rattle.detect.specs.Peaks.{window, windowTest, valueAt, largerIn, equalIn}
+use Rattle.detect.specs.Detect.{tiesIn}
+use Rattle.patch_corners.specs.declared.FrameParams.{FrameParams}
+use Rattle.patch_corners.specs.OneMap.{computedChoice, exactChoice}
+use Rattle.frame_pass.specs.Pass.{framePass}
+use Rattle.demands.specs.PeakCall.{PeakCall, searchIn}
+use Rattle.demands.specs.FrameExact.{FrameCall, mapsIn, Alike}
+
+-- "A NaN centre is top with 0 ties"
+abbrev pub NanTop : Type 0
+NanTop = (m : List Float) (w h r : ℕ) (p : Place) → valueAt m w p ≡ nan → windowTest (largerIn m w) (equalIn m w) w h r p ≡ Top 0
+
+-- the sum over the peaks of the map
+abbrev pub PeakTies : Type 0
+PeakTies = (m : List Float) (w h : ℕ) (p : PeakCall m w h) → p .ties ≡ tiesIn m (searchIn p)
+
+-- the total is the pass's; and where the two lists are alike for each map, that of the exact pass too, which counts in the computed maps
+pub record TiesAre (c : FrameCall) : Type 0 where
+  pub computed : c .ties ≡ framePass (c .parameters) (c .img) (c .w) (c .h) (computedChoice (c .parameters)) .ties
+  pub exact : All (Alike (c .parameters)) (mapsIn c) → c .ties ≡ framePass (c .parameters) (c .img) (c .w) (c .h) (exactChoice (c .parameters)) .ties
+
+abbrev pub FrameTies : Type 0
+FrameTies = (c : FrameCall) → TiesAre c
+
+-- "no peak of the exact lists has an exact equal in its window", of one map
+abbrev pub WithoutEquals : FrameParams → View → Type 0
+WithoutEquals p v =
+    All (λ (a : Place). All (λ (q : Place). fifthsIn v (q .x) (q .y) ≡ fifthsIn v (a .x) (a .y) → ⊥) (window (mapWidth v) (mapHeight v) (p .window) a))
+    (exactChoice p v)
+
+-- "With the threshold whole as in demand 3, both peak lists are alike for each map a finished frame looks at if" so; map by map, which is more
+abbrev pub MapsAlikeWithoutEquals : Type 0
+MapsAlikeWithoutEquals =
+    (c : FrameCall) (k : ℕ) → IsWhole (lift (c .parameters .threshold)) k
+    → All (λ v. WithoutEquals (c .parameters) v → Alike (c .parameters) v) (mapsIn c)

@@ -1,0 +1,84 @@
+-- The test of a place by what led to its answer, and what its answer says. Assumes nothing.
+use Prim.Native.Nat.{ℕ, _<_, _≤_}
+use mathlib.Core.Path.{_≡_, refl, sym, ap, _∙_}
+use mathlib.Core.Bool.{Bool, true, false, not, cond}
+use mathlib.Core.List.{List}
+use lib.Dec.{leb}
+use lib.Ieee.{Float, le}
+use borrow.Author.Tests.{le-leb, lt-leb}
+use Rattle.lists.specs.Places.{Place}
+use Rattle.detect.specs.declared.Search.{Search}
+use Rattle.detect.specs.declared.WindowTest.{WindowTest}
+use Rattle.detect.specs.declared.WindowTest.the-variants.{Beaten, Top}
+use Rattle.detect.specs.declared.searching.PeakTest.{PeakTest}
+use Rattle.detect.specs.declared.searching.PeakTest.the-variants.{No, Peak}
+use Rattle.detect.specs.Peaks.{valueAt, largerIn, positiveIn, beaten, equals, equalIn, windowTest, tiesOf, positives}
+use Rattle.detect.specs.Detect.{peakIn, testAt, tiesAt}
+use Rattle.detect.specs.Internal.{peakTest}
+use Rattle.detect.proofs.Choice.{cell-below, cell-beaten, cell-counted}
+
+abbrev isTop : WindowTest → Bool
+isTop Beaten = false
+isTop (Top n) = true
+
+abbrev passes : PeakTest → Bool
+passes No = false
+passes (Peak n) = true
+
+abbrev tiesOr : ℕ → PeakTest → ℕ
+tiesOr d No = d
+tiesOr d (Peak n) = n
+
+module _ (m : List Float) (s : Search) (p : Place) where
+  -- ---- what led to the answer
+  top-told : (t : WindowTest) → t ≡ testAt m s p → isTop t ≡ not (beaten (largerIn m (s .w)) (s .w) (s .h) (s .window) p)
+  unfolding windowTest
+  top-told t e = ap isTop e ∙ pick (beaten (largerIn m (s .w)) (s .w) (s .h) (s .window) p)
+    where
+      pick : (b : Bool) → isTop (cond b Beaten (Top (equals (equalIn m (s .w)) (s .w) (s .h) (s .window) p))) ≡ not b
+      pick true = refl
+      pick false = refl
+
+  tested-no : false ≡ peakIn m s p → No ≡ peakTest m s p
+  tested-no e = rw (← e)
+
+  module _ (u : Float) (e : u ≡ valueAt m (s .w) p) where
+    pub tested-low : le u (s .threshold) ≡ true → No ≡ peakTest m s p
+    tested-low l = tested-no (cell-below m s p u e l)
+
+    pub tested-beaten : (t : WindowTest) → t ≡ testAt m s p → t ≡ Beaten → No ≡ peakTest m s p
+    tested-beaten t told is = tested-no (cell-beaten m s p u e (isTop t) (top-told t told) (ap isTop is))
+
+    module _ (l : le u (s .threshold) ≡ false) (t : WindowTest) (told : t ≡ testAt m s p) (k : ℕ) (is : t ≡ Top k)
+        (n : ℕ) (c : n ≡ positives (positiveIn m (s .w)) (s .w) (s .h) (s .window) p) where
+      enough : leb (s .«least_neighbours») n ≡ peakIn m s p
+      enough = cell-counted m s p u e (isTop t) (top-told t told) l (ap isTop is) n c
+
+      pub tested-few : n < s .«least_neighbours» → No ≡ peakTest m s p
+      tested-few o = tested-no (sym (lt-leb (s .«least_neighbours») n o) ∙ enough)
+
+      pub tested-peak : s .«least_neighbours» ≤ n → Peak k ≡ peakTest m s p
+      tested-peak o =
+          rw (← (sym (le-leb (s .«least_neighbours») n o) ∙ enough)) (ap Peak (ap tiesOf (sym is ∙ told)))
+
+  -- ---- what the answer says
+  module _ (t : PeakTest) (told : t ≡ peakTest m s p) where
+    test-says : passes t ≡ peakIn m s p
+    test-says = ap passes told ∙ pick (peakIn m s p)
+      where
+        pick : (b : Bool) → passes (cond b (Peak (tiesAt m s p)) No) ≡ b
+        pick true = refl
+        pick false = refl
+
+    pub test-ties : (k : ℕ) → t ≡ Peak k → k ≡ tiesAt m s p
+    test-ties k is = ap (tiesOr (tiesAt m s p)) (sym is ∙ told) ∙ pick (peakIn m s p)
+      where
+        pick : (b : Bool) → tiesOr (tiesAt m s p) (cond b (Peak (tiesAt m s p)) No) ≡ tiesAt m s p
+        pick true = refl
+        pick false = refl
+
+    pub test-no : t ≡ No → peakIn m s p ≡ false
+    test-no is = sym test-says ∙ ap passes is
+
+    pub test-peak : (k : ℕ) → t ≡ Peak k → peakIn m s p ≡ true
+    test-peak k is = sym test-says ∙ ap passes is
