@@ -21,7 +21,7 @@ use Rattle.merge.specs.declared.Merged.{Merged}
 use Rattle.merge.specs.Merge as merge
 use Rattle.pyramid.specs.declared.Pyramid.{Pyramid}
 use Rattle.pyramid_levels.specs.Levels.{levelCount}
-use Rattle.pyramid_levels.specs.Refusals.{buildRefusalOf}
+use Rattle.pyramid_levels.specs.Refusals.{ask, buildRefusalOf}
 use Rattle.pyramid.specs.Build as pyramid
 use Rattle.center_of_mass.specs.declared.Outcome.{Outcome}
 use Rattle.center_of_mass.specs.CenterOfMass as center_of_mass
@@ -139,7 +139,7 @@ module _ (radius : Float) (count : ℕ) (b : Slices) (kept : ℕ) (a : Merged) (
 module _ (img : List ℕ) (w h count minimum : ℕ) (levels : List ℕ) (built : ℕ) (a : Pyramid) (r : ℕ) (levels′ : List ℕ) (built′ : ℕ) where
   pub levels-built : pyramid.Built img w h count minimum levels a levels′ → r ≡ pyramid.numberOf a → built′ ≡ builtOf a built
       → LevelsBuilt img w h count minimum levels built r levels′ built′
-  levels-built p n x = let number = buildRefusalOf (length img) (length levels) w h count minimum in record {
+  levels-built p n x = let number = buildRefusalOf (ask (length img) (length levels) w h count minimum) in record {
     answer = subst (λ (o : Pyramid). pyramid.Built img w h count minimum levels o levels′)
         (answer (λ k. pyramid.answerOf k (levelCount w h count minimum)) pyramid.numberOf again a number (p .answer) r n) p;
     built-is = result (λ k. pyramid.answerOf k (levelCount w h count minimum)) pyramid.numberOf again a number (p .answer) r n builtOf

@@ -20,7 +20,7 @@ use Rattle.pyramid.specs.declared.Pyramid.the-variants as built
 use Rattle.pyramid_levels.specs.declared.LevelAnswer.{LevelAnswer}
 use Rattle.pyramid_levels.specs.declared.LevelAnswer.the-variants as level
 use Rattle.pyramid_levels.specs.Levels.{levelCount}
-use Rattle.pyramid_levels.specs.Refusals.{isAbsent, isShort, buildRefusalOf, levelRefusalOf}
+use Rattle.pyramid_levels.specs.Refusals.{Ask, ask, isAbsent, isShort, buildRefusalOf, levelRefusalOf}
 use Rattle.pyramid.specs.Build as build
 use Rattle.pyramid_levels.specs.Level as lookup
 use Rattle.corner_list.specs.declared.Corner.{Corner}
@@ -94,7 +94,7 @@ use Rattle.demands.proofs.Faults.{frame-few}
 
 response-refuses : (v : response.View) (radius : ℕ) (d e : List Float) (r : Patch) → response.Patched v radius d r e
     → Refuses patch.Refused (1 ∷ 2 ∷ 3 ∷ 8 ∷ []) r
-unfolding response.refusalFor
+unfolding response.refusalOf
 response-refuses v radius d e r f =
     refused-one patch.Refused (λ k. response.answerOf k v) (λ k q. let z : _≡_ {A = ℕ} 0 1 = cc in omega arith) (λ n k q. sym (ap response.numberOf q))
     ((isLarge (v .w) (v .h), 1)
@@ -110,14 +110,14 @@ unfolding buildRefusalOf
 build-refuses base w h count least d e r f =
     refused-one built.Refused (λ k. build.answerOf k (levelCount w h count least)) (λ k q. let z : _≡_ {A = ℕ} 0 1 = cc in omega arith)
     (λ n k q. sym (ap build.numberOf q))
-    ((isLarge w h, 1) ∷ (isMisfit (length base) w h, 2) ∷ (isShort (length d) w h count least, 9) ∷ []) r (f .answer)
+    ((isLarge w h, 1) ∷ (isMisfit (length base) w h, 2) ∷ (isShort (ask (length base) (length d) w h count least), 9) ∷ []) r (f .answer)
 
-level-refuses : (pixels places w h count least k : ℕ) (r : LevelAnswer) → lookup.LevelFound pixels places w h count least k r
+level-refuses : (a : Ask) (k : ℕ) (r : LevelAnswer) → lookup.LevelFound a k r
     → Refuses level.Refused (1 ∷ 2 ∷ 3 ∷ 9 ∷ []) r
 unfolding lookup.levelAnswer levelRefusalOf
-level-refuses pixels places w h count least k r f =
-    refused-one level.Refused (λ n. lookup.answerOf n w h k) (λ k q. let z : _≡_ {A = ℕ} 0 1 = cc in omega arith) (λ n k q. sym (ap lookup.numberOf q))
-    ((isLarge w h, 1) ∷ (isMisfit pixels w h, 2) ∷ (isAbsent w h count least k, 3) ∷ (isShort places w h count least, 9) ∷ []) r (f .answer)
+level-refuses a k r f =
+    refused-one level.Refused (λ n. lookup.answerOf n a k) (λ k q. let z : _≡_ {A = ℕ} 0 1 = cc in omega arith) (λ n k q. sym (ap lookup.numberOf q))
+    ((isLarge (a .w) (a .h), 1) ∷ (isMisfit (a .pixels) (a .w) (a .h), 2) ∷ (isAbsent a k, 3) ∷ (isShort a, 9) ∷ []) r (f .answer)
 
 -- peak finding, and what promises as it does
 peaks-refuse : (conds : List (Bool × ℕ)) (cs : List Corner) (ties held : ℕ) (b : Slices) (r : Peaks)
@@ -210,7 +210,7 @@ frame-fitting p img w h b b′ r fits f =
     ∷ (not (parametersFit p), 3)
     ∷ (radiusOutside (p .«merge_radius»), 5)
     ∷ (ltb (length (b .map)) (w * h), 8)
-    ∷ (isShort (length (b .levels)) w h (p .levels) (p .«minimum_side»), 9)
+    ∷ (isShort (ask (length img) (length (b .levels)) w h (p .levels) (p .«minimum_side»)), 9)
     ∷ (frame.tooMany q b, 10)
     ∷ [])
     r (ap (λ (z : frame.Frame). z .answer) (f .is) ∙ rw (eq-eqb (length img) (w * h) fits))

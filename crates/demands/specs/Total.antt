@@ -36,6 +36,7 @@ use Rattle.pyramid.specs.declared.Pyramid.the-variants as pyramid
 use Rattle.pyramid_levels.specs.declared.LevelAnswer.{LevelAnswer}
 use Rattle.pyramid_levels.specs.declared.LevelAnswer.the-variants as levels
 use Rattle.pyramid.specs.Build.{Built}
+use Rattle.pyramid_levels.specs.Refusals.{Ask}
 use Rattle.pyramid_levels.specs.Level.{LevelFound}
 use Rattle.corner_list.specs.declared.Corner.{Corner}
 use Rattle.corner_list.specs.CornerList.{Slices, placesOf}
@@ -93,7 +94,7 @@ pub record Total : Type 0 where
       → Refuses response.Refused (1 ∷ 2 ∷ 3 ∷ 8 ∷ []) r
   pub «build_pyramid» : (base : List ℕ) (w h count least : ℕ) (d e : List ℕ) (r : Pyramid) → Built base w h count least d r e
       → Refuses pyramid.Refused (1 ∷ 2 ∷ 9 ∷ []) r
-  pub «level_at» : (pixels places w h count least k : ℕ) (r : LevelAnswer) → LevelFound pixels places w h count least k r
+  pub «level_at» : (a : Ask) (k : ℕ) (r : LevelAnswer) → LevelFound a k r
       → Refuses levels.Refused (1 ∷ 2 ∷ 3 ∷ 9 ∷ []) r
   pub «detect_peaks_from_response_with_refine_radius» : (m : List Float) (w h ring : ℕ) (threshold : Float) (window least radius : ℕ)
       (b b′ : Slices) (held : ℕ) (r : Peaks)

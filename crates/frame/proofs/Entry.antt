@@ -17,6 +17,7 @@ use Rattle.pyramid.specs.Pyramid.{above}
 use Rattle.pyramid.specs.Build.{Built}
 use Rattle.pyramid.specs.declared.Pyramid.{Pyramid}
 use Rattle.pyramid.specs.declared.Pyramid.the-variants as pyramid
+use Rattle.pyramid_levels.specs.Refusals.{ask}
 use Rattle.pyramid_levels.specs.Internal.{LevelsAccepted}
 use Rattle.pyramid.proofs.Levels.{builds}
 use Rattle.corner_list.specs.CornerList.{Slices, placesOf, isInside, cornersOf, frontCorners}
@@ -86,7 +87,7 @@ module _ (p : FrameParams) (img : List ℕ) (w h : ℕ) (b : Buffers) where
 
 -- ---- the pyramid is built
 pub build-free : (img : List ℕ) (w h count least : ℕ) (d : List ℕ) (r : Pyramid) (e : List ℕ) → Built img w h count least d r e
-    → LevelsAccepted (length img) (length d) w h count least
+    → LevelsAccepted (ask (length img) (length d) w h count least)
     → (x : ℕ) → r ≡ pyramid.Refused x → ⊥
 build-free img w h count least d r e b a x q =
     let z = sym (builds img w h count least d r e b a) ∙ q in

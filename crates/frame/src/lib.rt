@@ -3,6 +3,7 @@ mod closing;
 mod search;
 
 ghost use lib.ListN.{length};
+ghost use Rattle.pyramid_levels.specs.Refusals.{ask};
 ghost use Rattle.pyramid_levels.specs.Internal.{LevelsAccepted};
 ghost use Rattle.pyramid.specs.Internal.{LevelsComplete};
 ghost use Rattle.corner_list.specs.CornerList.{slices};
@@ -19,7 +20,7 @@ pub enum FrameAnswer {
 
 // Builds the levels above the base first in their buffer, and counts all of them.
 fn build(img: &[u8], w: usize, h: usize, p: FrameParams, levels: &mut [u8]) -> usize
-    requires { ⌜ LevelsAccepted (length (now img)) (length (now levels)) w h (p .levels) (p .«minimum_side») ⌝ }
+    requires { ⌜ LevelsAccepted (ask (length (now img)) (length (now levels)) w h (p .levels) (p .«minimum_side»)) ⌝ }
     ensures { λ n. ⌜ LevelsComplete (now (img .entry)) w h (p .levels) (p .«minimum_side») (now (levels .entry)) (now (levels .exit)) n ⌝ }
 {
     let built = pyramid::build_pyramid(img, w, h, p.levels, p.minimum_side, levels);

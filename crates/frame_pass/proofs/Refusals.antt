@@ -14,7 +14,7 @@ use Rattle.lists.proofs.Refusals.{all-clear, lowest-le, sized-of}
 use Rattle.ring.specs.Ring.{isRing}
 use Rattle.accuracy.specs.Accurate.{Bytes}
 use Rattle.pyramid_levels.specs.Levels.{levelCount, cellsAbove, capped}
-use Rattle.pyramid_levels.specs.Refusals.{isShort}
+use Rattle.pyramid_levels.specs.Refusals.{ask, isShort}
 use Rattle.pyramid_levels.proofs.Cells.{cells-exact}
 use Rattle.pyramid_levels.specs.Internal.{LevelsAccepted}
 use Rattle.merge_radius.specs.MergeRadius.{isOff, isSized}
@@ -30,7 +30,7 @@ radius-fits false false e = let z : _≡_ {A = Bool} true false = e in absurd (l
 
 -- no refusal before the pass
 pub record Admitted (p : FrameParams) (pixels w h cells places : ℕ) : Type 0 where
-  pub accepted : LevelsAccepted pixels places w h (p .levels) (p .«minimum_side»)
+  pub accepted : LevelsAccepted (ask pixels places w h (p .levels) (p .«minimum_side»))
   pub fit : parametersFit p ≡ true
   pub radius : (isOff (p .«merge_radius») ≡ true) ⊎ ((isOff (p .«merge_radius») ≡ false) × (isSized (p .«merge_radius») ≡ true))
   pub enough : w * h ≤ cells
@@ -68,10 +68,10 @@ module _ (p : FrameParams) (pixels w h places : ℕ) (image : Sized pixels w h) 
   exactly : n ≡ cellsAbove w h (levelCount w h (p .levels) (p .«minimum_side»))
   exactly = e ∙ cells-exact w h (levelCount w h (p .levels) (p .«minimum_side»)) (image .narrow) (image .low)
 
-  pub short : places < n → isShort places w h (p .levels) (p .«minimum_side») ≡ true
+  pub short : places < n → isShort (ask pixels places w h (p .levels) (p .«minimum_side»)) ≡ true
   short l = lt-ltb places _ (rw exactly at l)
 
-  pub enough : n ≤ places → isShort places w h (p .levels) (p .«minimum_side») ≡ false
+  pub enough : n ≤ places → isShort (ask pixels places w h (p .levels) (p .«minimum_side»)) ≡ false
   enough l = le-ltb places _ (rw exactly at l)
 
 pub admitted-sound : (p : FrameParams) (img : List ℕ) (w h cells places : ℕ) → Admitted p (length img) w h cells places → Bytes img → SoundFrame p img w h

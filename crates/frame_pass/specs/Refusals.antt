@@ -5,7 +5,7 @@ use mathlib.Core.List.{List, [], _∷_}
 use lib.Dec.{leb, ltb}
 use Rattle.lists.specs.Refusals.{isLarge, isMisfit}
 use Rattle.ring.specs.Ring.{isRing}
-use Rattle.pyramid_levels.specs.Refusals.{isShort}
+use Rattle.pyramid_levels.specs.Refusals.{ask, isShort}
 use Rattle.merge_radius.specs.MergeRadius.{radiusOutside}
 use Rattle.patch_corners.specs.declared.FrameParams.{FrameParams}
 
@@ -21,5 +21,5 @@ conditions p pixels w h cells places =
     ∷ (not (parametersFit p), 3)
     ∷ (radiusOutside (p .«merge_radius»), 5)
     ∷ (ltb cells (w * h), 8)
-    ∷ (isShort places w h (p .levels) (p .«minimum_side»), 9)
+    ∷ (isShort (ask pixels places w h (p .levels) (p .«minimum_side»)), 9)
     ∷ []

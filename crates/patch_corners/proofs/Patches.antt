@@ -74,7 +74,7 @@ module _ (p : FrameParams) (v : View) where
             | no g ↦
                 absurd
                 (never-refused v (p .ring) d e m patched
-                (allowed (length (v .img)) (v .w) (v .h) (p .ring) (mapHeight v * mapWidth v) (length d)
+                (allowed v (p .ring) (length d)
                 (record {
                   narrow = input-sound .wide;
                   low = input-sound .high;

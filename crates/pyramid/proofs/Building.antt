@@ -9,7 +9,7 @@ use borrow.Author.Tests.{ne-eqb}
 use Rattle.lists.specs.Buffer.{front, placed}
 use Rattle.lists.proofs.Buffer.{front-more}
 use Rattle.pyramid_levels.specs.Levels.{levelSide, levelCount, cellsAbove}
-use Rattle.pyramid_levels.specs.Refusals.{buildRefusalOf}
+use Rattle.pyramid_levels.specs.Refusals.{ask, buildRefusalOf}
 use Rattle.pyramid_levels.proofs.Sides.{side-base, side-next}
 use Rattle.pyramid_levels.proofs.Cells.{cells-next, cells-step, cells-mono}
 use Rattle.pyramid.specs.Pyramid.{halved, levelPixels, above}
@@ -85,12 +85,12 @@ module _ (base d : List ℕ) (w h n k a b from to : ℕ) (s : List ℕ) (sized :
 -- ---- the answer
 
 module _ (base : List ℕ) (w h count minimumSide : ℕ) (d : List ℕ) where
-  pub built-refused : (n : ℕ) → buildRefusalOf (length base) (length d) w h count minimumSide ≡ n → (n ≡ 0 → ⊥)
+  pub built-refused : (n : ℕ) → buildRefusalOf (ask (length base) (length d) w h count minimumSide) ≡ n → (n ≡ 0 → ⊥)
       → Built base w h count minimumSide d (Refused n) d
   built-refused zero e z = absurd (z refl)
   built-refused (suc n) e z = record { answer = rw e; number = sym e; values = rw e; buffer = rw (e, ne-eqb (suc n) 0 z) }
 
-  pub built-filled : (n : ℕ) (s : List ℕ) → buildRefusalOf (length base) (length d) w h count minimumSide ≡ 0
+  pub built-filled : (n : ℕ) (s : List ℕ) → buildRefusalOf (ask (length base) (length d) w h count minimumSide) ≡ 0
       → n ≡ levelCount w h count minimumSide → Filled base w h n d s
       → Built base w h count minimumSide d (Levels n) s
   built-filled n s e q f = record { answer = rw (e, q); number = sym e; values = rw (e, q); buffer = f .is ∙ rw (e, q) }

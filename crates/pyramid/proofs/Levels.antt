@@ -10,7 +10,7 @@ use Rattle.lists.specs.Buffer.{front}
 use Rattle.lists.proofs.Tab.{getD-grid-any}
 use Rattle.lists.proofs.Buffer.{front-length}
 use Rattle.pyramid_levels.specs.Levels.{levelSide, levelCount, cellsAbove}
-use Rattle.pyramid_levels.specs.Refusals.{buildRefusalOf, levelRefusalOf}
+use Rattle.pyramid_levels.specs.Refusals.{ask, buildRefusalOf, levelRefusalOf}
 use Rattle.pyramid_levels.specs.Level.{levelAnswer}
 use Rattle.pyramid_levels.specs.declared.LevelAnswer.the-variants.{Level}
 use Rattle.pyramid_levels.proofs.Sides.{side-le, count-few}
@@ -40,8 +40,8 @@ module _ (base : List ℕ) (w h count minimumSide : ℕ) (d : List ℕ) (r : Pyr
   -- a pyramid was built
   pub built : (n : ℕ) → r ≡ Levels n → LevelsComplete base w h count minimumSide d e n
   built n c =
-      let q = levels-is (levelCount w h count minimumSide) (buildRefusalOf (length base) (length d) w h count minimumSide) n (sym (b .answer) ∙ c) in
-      let a = accepted _ _ _ _ _ _ (q .0) in
+      let q = levels-is (levelCount w h count minimumSide) (buildRefusalOf (ask (length base) (length d) w h count minimumSide)) n (sym (b .answer) ∙ c) in
+      let a = accepted _ (q .0) in
       let f : e ≡ front (above base w h n) d = b .buffer ∙ rw (q .0, q .1) in
       record {
         allowed = a;
@@ -51,14 +51,14 @@ module _ (base : List ℕ) (w h count minimumSide : ℕ) (d : List ℕ) (r : Pyr
       }
 
   -- or refused, and the level buffer is as it was
-  pub refused : (n : ℕ) → r ≡ Refused n → (buildRefusalOf (length base) (length d) w h count minimumSide ≡ n) × (e ≡ d)
+  pub refused : (n : ℕ) → r ≡ Refused n → (buildRefusalOf (ask (length base) (length d) w h count minimumSide) ≡ n) × (e ≡ d)
   refused n c =
-      let q = refused-is (levelCount w h count minimumSide) (buildRefusalOf (length base) (length d) w h count minimumSide) n (sym (b .answer) ∙ c) in
+      let q = refused-is (levelCount w h count minimumSide) (buildRefusalOf (ask (length base) (length d) w h count minimumSide)) n (sym (b .answer) ∙ c) in
       (q .0, b .buffer ∙ rw (q .0, ne-eqb n 0 (λ (z : n ≡ 0). omega (arith, q .1))))
 
   -- where nothing refuses, all levels are built
-  pub builds : LevelsAccepted (length base) (length d) w h count minimumSide → r ≡ Levels (levelCount w h count minimumSide)
-  builds a = b .answer ∙ ap (λ (k : ℕ). answerOf k (levelCount w h count minimumSide)) (accepts _ _ _ _ _ _ a)
+  pub builds : LevelsAccepted (ask (length base) (length d) w h count minimumSide) → r ≡ Levels (levelCount w h count minimumSide)
+  builds a = b .answer ∙ ap (λ (k : ℕ). answerOf k (levelCount w h count minimumSide)) (accepts _ a)
 
 -- ---- how many levels: at most 13
 pub levels-few : (base : List ℕ) (w h count minimumSide : ℕ) (d e : List ℕ) (n : ℕ) → LevelsComplete base w h count minimumSide d e n → n ≤ 13
@@ -67,15 +67,15 @@ levels-few base w h count minimumSide d e n c = rw (c .counted) (count-few w h c
 -- ---- the lookup of what was built
 
 module _ (base : List ℕ) (w h count minimumSide : ℕ) (d e : List ℕ) (n : ℕ) (c : LevelsComplete base w h count minimumSide d e n) (k : ℕ) (l : k < n) where
-  still : LevelsAccepted (length base) (length e) w h count minimumSide
+  still : LevelsAccepted (ask (length base) (length e) w h count minimumSide)
   still = rw (c .long) (c .allowed)
 
-  free : levelRefusalOf (length base) (length e) w h count minimumSide k ≡ 0
-  free = level-accepts _ _ _ _ _ _ k still (rw (c .counted) at l)
+  free : levelRefusalOf (ask (length base) (length e) w h count minimumSide) k ≡ 0
+  free = level-accepts _ k still (rw (c .counted) at l)
 
   -- `level_at` says where level k lies
-  pub level-place : levelAnswer (length base) (length e) w h count minimumSide k ≡ Level (cellsAbove w h k) (levelSide w k) (levelSide h k)
-  level-place = sym (answers.level-found _ _ _ _ _ _ _ _ free refl .answer)
+  pub level-place : levelAnswer (ask (length base) (length e) w h count minimumSide) k ≡ Level (cellsAbove w h k) (levelSide w k) (levelSide h k)
+  level-place = sym (answers.level-found _ _ _ free refl .answer)
 
   -- `level` hands out the base, halved k times
   pub level-found : levelIn base e w h count minimumSide k ≡ levelPixels base w h k

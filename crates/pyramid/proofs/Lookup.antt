@@ -7,7 +7,7 @@ use mathlib.Core.List.{List, []}
 use lib.ListN.{length, take, drop}
 use borrow.Author.Tests.{ne-eqb}
 use Rattle.pyramid_levels.specs.Levels.{levelCells, levelCount, cellsAbove, capped}
-use Rattle.pyramid_levels.specs.Refusals.{levelRefusalOf}
+use Rattle.pyramid_levels.specs.Refusals.{ask, levelRefusalOf}
 use Rattle.pyramid_levels.specs.Level.{levelAnswer}
 use Rattle.pyramid_levels.proofs.Cells.{cells-step, cells-mono, cells-exact}
 use Rattle.pyramid_levels.proofs.Refusals.{level-accepted}
@@ -29,13 +29,13 @@ pub record Between (levels : List ℕ) (w h k from end : ℕ) : Type 0 where
   pub fits : end ≤ length levels
 
 module _ (base levels : List ℕ) (w h count minimumSide k : ℕ) where
-  pub level-refused : (n : ℕ) → n ≡ levelRefusalOf (length base) (length levels) w h count minimumSide k → (n ≡ 0 → ⊥)
+  pub level-refused : (n : ℕ) → n ≡ levelRefusalOf (ask (length base) (length levels) w h count minimumSide) k → (n ≡ 0 → ⊥)
       → [] ≡ levelIn base levels w h count minimumSide k
   unfolding levelIn levelAnswer
   level-refused zero e z = absurd (z refl)
   level-refused (suc n) e z = rw (← e, ne-eqb (suc n) 0 z)
 
-  module _ (free : levelRefusalOf (length base) (length levels) w h count minimumSide k ≡ 0) where
+  module _ (free : levelRefusalOf (ask (length base) (length levels) w h count minimumSide) k ≡ 0) where
     level-part : levelPart base levels w h k ≡ levelIn base levels w h count minimumSide k
     unfolding levelIn levelAnswer
     level-part = rw free
@@ -45,7 +45,7 @@ module _ (base levels : List ℕ) (w h count minimumSide k : ℕ) where
 
     pub level-between : (from end : ℕ) → (k ≡ 0 → ⊥) → from ≡ capped (cellsAbove w h k) → end ≡ capped (cellsAbove w h (k + 1)) → Between levels w h k from end
     level-between from end z p q =
-        let a = level-accepted _ _ _ _ _ _ k free in
+        let a = level-accepted _ k free in
         let i = a .0 .image in
         let b : from ≡ cellsAbove w h k = p ∙ cells-exact w h k (i .narrow) (i .low) in
         let e : end ≡ cellsAbove w h (suc k) = rw add-one at q ∙ cells-exact w h (suc k) (i .narrow) (i .low) in

@@ -8,7 +8,7 @@ use lib.ListN.{length}
 use Rattle.lists.specs.Buffer.{front}
 use Rattle.lists.specs.Refusals.{valuesUnless}
 use Rattle.pyramid_levels.specs.Levels.{levelCount}
-use Rattle.pyramid_levels.specs.Refusals.{buildRefusalOf}
+use Rattle.pyramid_levels.specs.Refusals.{ask, buildRefusalOf}
 use Rattle.pyramid.specs.Pyramid.{above}
 use Rattle.pyramid.specs.declared.Pyramid.{Pyramid}
 use Rattle.pyramid.specs.declared.Pyramid.the-variants.{Levels, Refused}
@@ -30,7 +30,8 @@ valuesOf (Refused k) = []
 -- the promise of `build_pyramid`: r is the answer, and the level buffer d becomes e, the levels above the base first and the rest as it was, or
 -- all as it was
 pub record Built (base : List ℕ) (w h count minimumSide : ℕ) (d : List ℕ) (r : Pyramid) (e : List ℕ) : Type 0 where
-  pub answer : r ≡ answerOf (buildRefusalOf (length base) (length d) w h count minimumSide) (levelCount w h count minimumSide)
-  pub number : numberOf r ≡ buildRefusalOf (length base) (length d) w h count minimumSide
-  pub values : valuesOf r ≡ valuesUnless (buildRefusalOf (length base) (length d) w h count minimumSide) (levelCount w h count minimumSide ∷ [])
-  pub buffer : e ≡ cond (eqb (buildRefusalOf (length base) (length d) w h count minimumSide) 0) (front (above base w h (levelCount w h count minimumSide)) d) d
+  pub answer : r ≡ answerOf (buildRefusalOf (ask (length base) (length d) w h count minimumSide)) (levelCount w h count minimumSide)
+  pub number : numberOf r ≡ buildRefusalOf (ask (length base) (length d) w h count minimumSide)
+  pub values : valuesOf r ≡ valuesUnless (buildRefusalOf (ask (length base) (length d) w h count minimumSide)) (levelCount w h count minimumSide ∷ [])
+  pub buffer : e
+      ≡ cond (eqb (buildRefusalOf (ask (length base) (length d) w h count minimumSide)) 0) (front (above base w h (levelCount w h count minimumSide)) d) d

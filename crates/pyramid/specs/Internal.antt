@@ -6,6 +6,7 @@ use lib.ListN.{length, getD, drop}
 use Rattle.lists.specs.Tab.{tab, grid}
 use Rattle.lists.specs.Buffer.{front, placed}
 use Rattle.pyramid_levels.specs.Levels.{levelCount}
+use Rattle.pyramid_levels.specs.Refusals.{ask}
 use Rattle.pyramid_levels.specs.Internal.{LevelsAccepted}
 use Rattle.pyramid.specs.Pyramid.{halfPixel, above}
 
@@ -42,7 +43,7 @@ pub record Filled (base : List ℕ) (w h n : ℕ) (levels levels′ : List ℕ) 
 
 -- the level buffer d after a pyramid of n levels was built over a base of w by h
 pub record LevelsComplete (base : List ℕ) (w h count minimumSide : ℕ) (d e : List ℕ) (n : ℕ) : Type 0 where
-  pub allowed : LevelsAccepted (length base) (length d) w h count minimumSide
+  pub allowed : LevelsAccepted (ask (length base) (length d) w h count minimumSide)
   pub counted : n ≡ levelCount w h count minimumSide
   pub long : length e ≡ length d
   pub fills : e ≡ front (above base w h n) d

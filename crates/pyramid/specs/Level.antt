@@ -5,6 +5,7 @@ use mathlib.Core.List.{List, []}
 use lib.Dec.{eqb}
 use lib.ListN.{length, take, drop}
 use Rattle.pyramid_levels.specs.Levels.{levelCells, cellsAbove}
+use Rattle.pyramid_levels.specs.Refusals.{ask}
 use Rattle.pyramid_levels.specs.Level.{numberOf, levelAnswer}
 
 -- level 0 is the base, and each other level a part of the level buffer
@@ -16,4 +17,4 @@ levelPart base levels w h (suc k) = take (levelCells w h (suc k)) (drop (cellsAb
 unfoldable pub levelIn : List ℕ → List ℕ → ℕ → ℕ → ℕ → ℕ → ℕ → List ℕ
 unfolding levelAnswer
 levelIn base levels w h count minimumSide k =
-    cond (eqb (numberOf (levelAnswer (length base) (length levels) w h count minimumSide k)) 0) (levelPart base levels w h k) []
+    cond (eqb (numberOf (levelAnswer (ask (length base) (length levels) w h count minimumSide) k)) 0) (levelPart base levels w h k) []

@@ -7,60 +7,62 @@ use borrow.Author.Tests.{lt-ltb, le-ltb, le-leb, lt-leb, ltb-false, leb-false}
 use Rattle.lists.specs.Refusals.{Sized}
 use Rattle.lists.proofs.Refusals.{lowest-none, sized-none}
 use Rattle.image_size.proofs.Judged.{passed}
-use Rattle.pyramid_levels.specs.Levels.{levelCount, cellsAbove, capped}
-use Rattle.pyramid_levels.specs.Refusals.{isAbsent, isShort, buildRefusalOf, levelRefusalOf}
+use Rattle.pyramid_levels.specs.Levels.{cellsAbove, capped}
+use Rattle.pyramid_levels.specs.Refusals.{Ask, levelsOf, isAbsent, isShort, buildRefusalOf, levelRefusalOf}
 use Rattle.pyramid_levels.specs.Internal.{LevelsAccepted}
 use Rattle.pyramid_levels.proofs.Sides.{count-few}
 use Rattle.pyramid_levels.proofs.Cells.{cells-exact}
 
-module _ (pixels places w h count minimumSide : ℕ) where
+module _ (a : Ask) where
   -- ---- building
   -- the base is an image, so no count is cut off
-  module _ (s : Sized pixels w h) where
-    exact : capped (cellsAbove w h (levelCount w h count minimumSide)) ≡ cellsAbove w h (levelCount w h count minimumSide)
-    exact = cells-exact w h (levelCount w h count minimumSide) (s .narrow) (s .low)
+  module _ (s : Sized (a .pixels) (a .w) (a .h)) where
+    exact : capped (cellsAbove (a .w) (a .h) (levelsOf a)) ≡ cellsAbove (a .w) (a .h) (levelsOf a)
+    exact = cells-exact (a .w) (a .h) (levelsOf a) (s .narrow) (s .low)
 
-    pub build-short : places < capped (cellsAbove w h (levelCount w h count minimumSide)) → 9 ≡ buildRefusalOf pixels places w h count minimumSide
+    pub build-short : a .places < capped (cellsAbove (a .w) (a .h) (levelsOf a)) → 9 ≡ buildRefusalOf a
     unfolding buildRefusalOf
     build-short l = rw (passed _ _ _ _ s, lt-ltb _ _ (rw exact at l))
 
-    pub build-long : capped (cellsAbove w h (levelCount w h count minimumSide)) ≤ places → 0 ≡ buildRefusalOf pixels places w h count minimumSide
+    pub build-long : capped (cellsAbove (a .w) (a .h) (levelsOf a)) ≤ a .places → 0 ≡ buildRefusalOf a
     unfolding buildRefusalOf
     build-long l = rw (passed _ _ _ _ s, le-ltb _ _ (rw exact at l))
 
-  pub accepts : LevelsAccepted pixels places w h count minimumSide → buildRefusalOf pixels places w h count minimumSide ≡ 0
+  pub accepts : LevelsAccepted a → buildRefusalOf a ≡ 0
   unfolding buildRefusalOf
-  accepts a = rw (passed _ _ _ _ (a .image), le-ltb _ _ (a .fits))
+  accepts l = rw (passed _ _ _ _ (l .image), le-ltb _ _ (l .fits))
 
-  pub accepted : buildRefusalOf pixels places w h count minimumSide ≡ 0 → LevelsAccepted pixels places w h count minimumSide
+  pub accepted : buildRefusalOf a ≡ 0 → LevelsAccepted a
   unfolding buildRefusalOf
   accepted e =
-      let q = sized-none pixels w h ((isShort places w h count minimumSide, 9) ∷ []) e in
-      record { image = q .0; fits = ltb-false _ _ (lowest-none (isShort places w h count minimumSide) 9 [] (omega arith) (q .1) .0) }
+      let q = sized-none (a .pixels) (a .w) (a .h) ((isShort a, 9) ∷ []) e in
+      record { image = q .0; fits = ltb-false _ _ (lowest-none (isShort a) 9 [] (omega arith) (q .1) .0) }
 
   -- ---- level k
   module _ (k : ℕ) where
-    pub level-there : k < levelCount w h count minimumSide
-        → buildRefusalOf pixels places w h count minimumSide ≡ levelRefusalOf pixels places w h count minimumSide k
+    pub level-there : k < levelsOf a
+        → buildRefusalOf a ≡ levelRefusalOf a k
     unfolding buildRefusalOf levelRefusalOf
     level-there l = simp (lt-leb _ _ l)
 
-    pub level-absent : Sized pixels w h → levelCount w h count minimumSide ≤ k → 3 ≡ levelRefusalOf pixels places w h count minimumSide k
+    pub level-absent : Sized (a .pixels) (a .w) (a .h) → levelsOf a ≤ k → 3 ≡ levelRefusalOf a k
     unfolding levelRefusalOf
     level-absent s l = rw (passed _ _ _ _ s, le-leb _ _ l)
 
-    pub level-accepts : LevelsAccepted pixels places w h count minimumSide → k < levelCount w h count minimumSide
-        → levelRefusalOf pixels places w h count minimumSide k ≡ 0
-    level-accepts a l = sym (level-there l) ∙ accepts a
+    pub level-accepts : LevelsAccepted a → k < levelsOf a
+        → levelRefusalOf a k ≡ 0
+    level-accepts f l = sym (level-there l) ∙ accepts f
 
-    pub level-accepted : levelRefusalOf pixels places w h count minimumSide k ≡ 0
-        → LevelsAccepted pixels places w h count minimumSide × (k < levelCount w h count minimumSide)
+    pub level-accepted : levelRefusalOf a k ≡ 0
+        → LevelsAccepted a × (k < levelsOf a)
     unfolding levelRefusalOf
     level-accepted e =
-        let q = sized-none pixels w h ((isAbsent w h count minimumSide k, 3) ∷ (isShort places w h count minimumSide, 9) ∷ []) e in
-        let r = lowest-none (isAbsent w h count minimumSide k) 3 ((isShort places w h count minimumSide, 9) ∷ []) (omega arith) (q .1) in
-        (record { image = q .0; fits = ltb-false _ _ (lowest-none (isShort places w h count minimumSide) 9 [] (omega arith) (r .1) .0) }, leb-false _ _ (r .0))
+        let q = sized-none (a .pixels) (a .w) (a .h) ((isAbsent a k, 3) ∷ (isShort a, 9) ∷ []) e in
+        let r = lowest-none (isAbsent a k) 3 ((isShort a, 9) ∷ []) (omega arith) (q .1) in
+        (record { image = q .0; fits = ltb-false _ _ (lowest-none (isShort a) 9 [] (omega arith) (r .1) .0) }, leb-false _ _ (r .0))
 
     -- there are at most 13 levels
-    pub level-few : levelRefusalOf pixels places w h count minimumSide k ≡ 0 → k < 13
-    level-few e = let a = level-accepted e in omega (arith, a .1, count-few w h count minimumSide (a .0 .image .narrow))
+    pub level-few : levelRefusalOf a k ≡ 0 → k < 13
+    level-few e =
+        let f = level-accepted e in
+        omega (arith, f .1, count-few (a .w) (a .h) (a .count) (a .minimumSide) (f .0 .image .narrow))

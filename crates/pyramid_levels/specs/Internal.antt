@@ -1,9 +1,10 @@
 -- What contracts of private functions say of a pyramid that is not refused: no public promise rests on it.
-use Prim.Native.Nat.{ℕ, _≤_}
+use Prim.Native.Nat.{_≤_}
 use Rattle.lists.specs.Refusals.{Sized}
-use Rattle.pyramid_levels.specs.Levels.{levelCount, cellsAbove}
+use Rattle.pyramid_levels.specs.Levels.{cellsAbove}
+use Rattle.pyramid_levels.specs.Refusals.{Ask, levelsOf}
 
--- nothing refuses to build: `places` in the level buffer are enough
-pub record LevelsAccepted (pixels places w h count minimumSide : ℕ) : Type 0 where
-  pub image : Sized pixels w h
-  pub fits : cellsAbove w h (levelCount w h count minimumSide) ≤ places
+-- nothing refuses to build: the level buffer's places are enough
+pub record LevelsAccepted (a : Ask) : Type 0 where
+  pub image : Sized (a .pixels) (a .w) (a .h)
+  pub fits : cellsAbove (a .w) (a .h) (levelsOf a) ≤ a .places

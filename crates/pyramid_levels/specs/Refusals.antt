@@ -7,20 +7,36 @@ use Rattle.lists.specs.Refusals.{lowest}
 pub use Rattle.lists.specs.Refusals.{isLarge, isMisfit}
 use Rattle.pyramid_levels.specs.Levels.{levelCount, cellsAbove}
 
+-- what is judged: a base of so many pixels, with its sides, a level buffer of so many places, how many levels are asked for and their least side
+pub record Ask : Type 0 where
+  pub pixels : ℕ
+  pub places : ℕ
+  pub w : ℕ
+  pub h : ℕ
+  pub count : ℕ
+  pub minimumSide : ℕ
+
+abbrev pub ask : ℕ → ℕ → ℕ → ℕ → ℕ → ℕ → Ask
+ask pixels places w h count minimumSide =
+    record { pixels = pixels; places = places; w = w; h = h; count = count; minimumSide = minimumSide }
+
+-- how many levels it has
+abbrev pub levelsOf : Ask → ℕ
+levelsOf a = levelCount (a .w) (a .h) (a .count) (a .minimumSide)
+
 -- 3: level k is not built
-abbrev pub isAbsent : ℕ → ℕ → ℕ → ℕ → ℕ → Bool
-isAbsent w h count minimumSide k = leb (levelCount w h count minimumSide) k
+abbrev pub isAbsent : Ask → ℕ → Bool
+isAbsent a k = leb (levelsOf a) k
 
 -- 9: the level buffer is below the pixels of the levels above the base
-abbrev pub isShort : ℕ → ℕ → ℕ → ℕ → ℕ → Bool
-isShort places w h count minimumSide = ltb places (cellsAbove w h (levelCount w h count minimumSide))
+abbrev pub isShort : Ask → Bool
+isShort a = ltb (a .places) (cellsAbove (a .w) (a .h) (levelsOf a))
 
--- the lowest number that refuses to build, 0 for none: of `pixels` in the base and `places` in the level buffer
-unfoldable pub buildRefusalOf : ℕ → ℕ → ℕ → ℕ → ℕ → ℕ → ℕ
-buildRefusalOf pixels places w h count minimumSide =
-    lowest ((isLarge w h, 1) ∷ (isMisfit pixels w h, 2) ∷ (isShort places w h count minimumSide, 9) ∷ [])
+-- the lowest number that refuses to build, 0 for none
+unfoldable pub buildRefusalOf : Ask → ℕ
+buildRefusalOf a = lowest ((isLarge (a .w) (a .h), 1) ∷ (isMisfit (a .pixels) (a .w) (a .h), 2) ∷ (isShort a, 9) ∷ [])
 
 -- the lowest number that refuses level k, 0 for none
-unfoldable pub levelRefusalOf : ℕ → ℕ → ℕ → ℕ → ℕ → ℕ → ℕ → ℕ
-levelRefusalOf pixels places w h count minimumSide k =
-    lowest ((isLarge w h, 1) ∷ (isMisfit pixels w h, 2) ∷ (isAbsent w h count minimumSide k, 3) ∷ (isShort places w h count minimumSide, 9) ∷ [])
+unfoldable pub levelRefusalOf : Ask → ℕ → ℕ
+levelRefusalOf a k =
+    lowest ((isLarge (a .w) (a .h), 1) ∷ (isMisfit (a .pixels) (a .w) (a .h), 2) ∷ (isAbsent a k, 3) ∷ (isShort a, 9) ∷ [])

@@ -3,7 +3,7 @@ mod count; // count.rt: which levels are built, and capped sums
 
 ghost use mathlib.Core.Path.{_≡_};
 ghost use Rattle.pyramid_levels.specs.Levels.{levelCount, cellsAbove, capped};
-ghost use Rattle.pyramid_levels.specs.Refusals.{buildRefusalOf, levelRefusalOf};
+ghost use Rattle.pyramid_levels.specs.Refusals.{ask, buildRefusalOf, levelRefusalOf};
 ghost use Rattle.pyramid_levels.specs.Level.{LevelFound};
 
 // Where a level begins, in the base or in the level buffer, and its sides, or the number of a refusal.
@@ -83,7 +83,7 @@ pub fn build_refusal(
     num_levels: u32,
     min_size: usize,
 ) -> u8
-    ensures { λ r. ⌜ r ≡ buildRefusalOf pixels places width height «num_levels» «min_size» ⌝ }
+    ensures { λ r. ⌜ r ≡ buildRefusalOf (ask pixels places width height «num_levels» «min_size») ⌝ }
 {
     let no = image_size::refusal(pixels, width, height);
     if no != 0 {
@@ -105,7 +105,7 @@ pub fn level_refusal(
     min_size: usize,
     k: usize,
 ) -> u8
-    ensures { λ r. ⌜ r ≡ levelRefusalOf pixels places width height «num_levels» «min_size» k ⌝ }
+    ensures { λ r. ⌜ r ≡ levelRefusalOf (ask pixels places width height «num_levels» «min_size») k ⌝ }
 {
     if k < level_count(width, height, num_levels, min_size) {
         return build_refusal(pixels, places, width, height, num_levels, min_size);
@@ -124,7 +124,7 @@ pub fn level_at(
     min_size: usize,
     k: usize,
 ) -> LevelAnswer
-    ensures { λ r. ⌜ LevelFound pixels places width height «num_levels» «min_size» k r ⌝ }
+    ensures { λ r. ⌜ LevelFound (ask pixels places width height «num_levels» «min_size») k r ⌝ }
 {
     let no = level_refusal(pixels, places, width, height, num_levels, min_size, k);
     if no != 0 {

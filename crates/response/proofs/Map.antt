@@ -17,7 +17,7 @@ use Rattle.ring.specs.Ring.{Ring}
 use Rattle.response.specs.Patch.{View, whole, sideOf, mapWidth, mapHeight, left, top, responseIn, cells, refusalOf, answerOf, Patched}
 use Rattle.response.specs.declared.Patch.{Patch}
 use Rattle.response.specs.declared.Patch.the-variants.{Cells, Refused}
-use Rattle.response.proofs.Outcome.{taken}
+use Rattle.response.proofs.Outcome.{number-of, taken}
 
 -- the buffer d after a map of pw by ph was made
 pub record Filled (v : View) (d e : List Float) (pw ph : ℕ) : Type 0 where
@@ -43,7 +43,7 @@ module _ (v : View) (radius : ℕ) (d e : List Float) (r : Patch) (p : Patched v
       record {
         cols-are = q .1;
         rows-are = q .2;
-        enough = rw (q .1, q .2) (taken _ _ _ _ _ _ (q .0) .enough);
+        enough = rw (q .1, q .2) (taken _ _ _ _ _ _ (sym (number-of v radius (length d)) ∙ q .0) .enough);
         fills = p .buffer ∙ rw (q .0);
       }
 

@@ -17,7 +17,8 @@ use Rattle.lists.proofs.Tab.{length-grid}
 use Rattle.ring.specs.Ring.{ringOf, isRing}
 use Rattle.ring.proofs.Places.{radius-is, ring-is, ring-fits}
 use Rattle.response.specs.Response.{responseAt}
-use Rattle.response.specs.Patch.{View, sideOf, besides, mapWidth, mapHeight, left, top, cells, refusalFor, refusalOf, Patched}
+use Rattle.response.specs.Patch.{View, sideOf, besides, mapWidth, mapHeight, left, top, cells, refusalOf, Patched}
+use Rattle.response.specs.Internal.{refusalFor}
 use Rattle.response.specs.declared.Patch.the-variants.{Cells, Refused}
 
 -- ---- no refusal: an image, one of the two rings, and places enough
@@ -43,10 +44,15 @@ taken pixels w h radius size places e =
       enough = ltb-false _ _ (r .0);
     }
 
+-- the same of a view
+pub number-of : (v : View) (radius places : ℕ) → refusalOf v radius places ≡ refusalFor (length (v .img)) (v .w) (v .h) radius (mapHeight v * mapWidth v) places
+unfolding refusalOf refusalFor
+number-of v radius places = refl
+
 -- and where these hold, nothing refuses
-pub allowed : (pixels w h radius size places : ℕ) → Taken pixels w h radius size places → refusalFor pixels w h radius size places ≡ 0
-unfolding refusalFor
-allowed pixels w h radius size places t =
+pub allowed : (v : View) (radius places : ℕ) → Taken (length (v .img)) (v .w) (v .h) radius (mapHeight v * mapWidth v) places → refusalOf v radius places ≡ 0
+unfolding refusalOf
+allowed v radius places t =
     rw (le-ltb _ _ (t .narrow), le-ltb _ _ (t .low), eq-eqb _ _ (t .sized), ring-fits radius (t .known), le-ltb _ _ (t .enough))
 
 pub image : (pixels w h radius size places : ℕ) → Taken pixels w h radius size places → Sized pixels w h × (ringOf radius .radius ≡ radius)
@@ -79,7 +85,7 @@ module _ (v : View) where
 -- ---- what a call answers and leaves
 pub number-is : (v : View) (radius places n pw ph : ℕ) → n ≡ refusalFor (length (v .img)) (v .w) (v .h) radius (ph * pw) places
     → pw ≡ mapWidth v → ph ≡ mapHeight v → n ≡ refusalOf v radius places
-number-is v radius places n pw ph e c r = rw (e, c, r)
+number-is v radius places n pw ph e c r = rw (e, c, r, number-of v radius places)
 
 module _ (v : View) (radius : ℕ) (d : List Float) where
   pub when-refused : (n : ℕ) → n ≡ refusalOf v radius (length d) → (n ≡ 0 → ⊥) → Patched v radius d (Refused n) d

@@ -1,12 +1,13 @@
 -- The contracts of private functions: no public promise rests on them.
 use Prim.Native.Nat.{ℕ, _+_, _*_, _<_, _≤_}
 use mathlib.Core.Path.{_≡_}
-use mathlib.Core.Bool.{false}
-use mathlib.Core.List.{List}
+use mathlib.Core.Bool.{false, not}
+use mathlib.Core.List.{List, [], _∷_}
+use lib.Dec.{ltb}
 use lib.ListN.{length, getD}
 use Rattle.lists.specs.Tab.{tab}
-use Rattle.lists.specs.Refusals.{Sized}
-use Rattle.ring.specs.Ring.{Ring, dx, dy, IsRing}
+use Rattle.lists.specs.Refusals.{lowest, isLarge, isMisfit, Sized}
+use Rattle.ring.specs.Ring.{Ring, dx, dy, isRing, IsRing}
 use Rattle.response.specs.declared.cell.Held.{Held}
 use Rattle.response.specs.Response.{inside, samples, srOf, drOf, ringSumOf, crossOf}
 
@@ -42,6 +43,11 @@ pub record Small (k : ℕ) (h : Held) : Type 0 where
   pub dr-small : h .dr ≤ 255 * k
   pub sum-small : h .sum ≤ 510 * k
   pub first-small : (i : ℕ) → getD (h .first) i 0 ≤ 510
+
+-- the number of a map of `size` cells, as `refusalOf` has it of a view
+unfoldable pub refusalFor : ℕ → ℕ → ℕ → ℕ → ℕ → ℕ → ℕ
+refusalFor pixels w h radius size places =
+    lowest ((isLarge w h, 1) ∷ (isMisfit pixels w h, 2) ∷ (not (isRing radius), 3) ∷ (ltb places size, 8) ∷ [])
 
 -- the three sums of sixteen samples
 pub record RingSumsOf (s : List ℕ) (sr dr sum : ℕ) : Type 0 where

@@ -62,12 +62,14 @@ cells v = grid (mapWidth v) (mapHeight v) (responseIn v)
 -- ---- what a call answers and leaves, for a ring's radius as given and a buffer of so many places
 
 -- 1: a side above 4096; 2: not w * h pixels; 3: a ring that is not 5 or 10; 8: fewer places than cells
-unfoldable pub refusalFor : ℕ → ℕ → ℕ → ℕ → ℕ → ℕ → ℕ
-refusalFor pixels w h radius size places =
-    lowest ((isLarge w h, 1) ∷ (isMisfit pixels w h, 2) ∷ (not (isRing radius), 3) ∷ (ltb places size, 8) ∷ [])
-
-abbrev pub refusalOf : View → ℕ → ℕ → ℕ
-refusalOf v radius places = refusalFor (length (v .img)) (v .w) (v .h) radius (mapHeight v * mapWidth v) places
+unfoldable pub refusalOf : View → ℕ → ℕ → ℕ
+refusalOf v radius places =
+    lowest
+    ((isLarge (v .w) (v .h), 1)
+    ∷ (isMisfit (length (v .img)) (v .w) (v .h), 2)
+    ∷ (not (isRing radius), 3)
+    ∷ (ltb places (mapHeight v * mapWidth v), 8)
+    ∷ [])
 
 -- the answer of each number: 0 is a map with its sides, any other a refusal
 abbrev pub answerOf : ℕ → View → Patch

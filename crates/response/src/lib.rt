@@ -5,7 +5,8 @@ mod rows; // rows.rt: runs, rows and boxes of cells
 ghost use mathlib.Core.Path.{_≡_};
 ghost use Prim.Native.Nat.{_*_, _≤_};
 ghost use Rattle.ring.specs.Ring.{ringOf};
-ghost use Rattle.response.specs.Patch.{sideOf, besides, refusalFor, Patched};
+ghost use Rattle.response.specs.Patch.{sideOf, besides, Patched};
+ghost use Rattle.response.specs.Internal.{refusalFor};
 use numbers::lesser;
 use numbers::minus;
 

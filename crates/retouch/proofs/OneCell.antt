@@ -45,7 +45,7 @@ module _ (img : List ℕ) (w h ring : ℕ) (image : Sized (length img) w h) (kno
 
   taken : (places : ℕ) → places ≡ 1 → refusalOf box ring places ≡ 0
   taken places e =
-      allowed (length img) w h ring _ places
+      allowed box ring places
       (record {
         narrow = image .narrow;
         low = image .low;

@@ -3,7 +3,7 @@
 use mathlib.Core.Path.{_≡_, sym, _∙_}
 use lib.ListN.{length}
 use borrow.Author.Needs.{needs}
-use Rattle.pyramid_levels.specs.Refusals.{buildRefusalOf}
+use Rattle.pyramid_levels.specs.Refusals.{ask, buildRefusalOf}
 use Rattle.pyramid_levels.proofs.Refusals.{accepted}
 use Rattle.pyramid.proofs.Building.{built-refused, built-filled}
 use Rattle.pyramid.proofs.build_pyramid.Statement.{statement}
@@ -24,13 +24,13 @@ start c = c .before .before .before .before .before
 
 -- nothing refuses
 free : (c : tie.After-level-count)
-    → buildRefusalOf (length (start c .args .base .now)) (length (start c .args .levels .now)) (start c .args .width)
-    (start c .args .height) (start c .args .num-levels) (start c .args .min-size) ≡ 0
+    → let a = start c .args in
+    buildRefusalOf (ask (length (a .base .now)) (length (a .levels .now)) (a .width) (a .height) (a .num-levels) (a .min-size)) ≡ 0
 free c = sym (c .before .before .build-refusal .ensures) ∙ c .before .if1 .left
 
 fill-levels-requires : tie.Need-fill-levels-requires
 fill-levels-requires c κs =
-    let a = accepted _ _ _ _ _ _ (free (c .before)) in
+    let a = accepted _ (free (c .before)) in
     (a .image .sized, rw (c .before .level-count .ensures) (a .fits))
 
 same-length : tie.Need-same-length

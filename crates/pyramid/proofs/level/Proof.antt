@@ -4,7 +4,7 @@ use native.Mathlib.Omega.{arith}
 use mathlib.Core.Path.{_≡_, sym, _∙_}
 use lib.ListN.{length}
 use borrow.Author.Needs.{needs}
-use Rattle.pyramid_levels.specs.Refusals.{levelRefusalOf}
+use Rattle.pyramid_levels.specs.Refusals.{ask, levelRefusalOf}
 use Rattle.pyramid_levels.proofs.Refusals.{level-few}
 use Rattle.pyramid.proofs.Lookup.{Between, level-refused, level-base, level-between, level-higher}
 use Rattle.pyramid.proofs.level.Statement.{statement}
@@ -26,8 +26,9 @@ abbrev start : tie.Else1 → tie.Start
 start c = c .before .before .before .before
 
 -- nothing refuses the level
-free : (c : tie.Else1) → levelRefusalOf (length (start c .args .base .now)) (length (start c .args .levels .now)) (start c .args .width)
-    (start c .args .height) (start c .args .num-levels) (start c .args .min-size) (start c .args .k) ≡ 0
+free : (c : tie.Else1)
+    → let a = start c .args in
+    levelRefusalOf (ask (length (a .base .now)) (length (a .levels .now)) (a .width) (a .height) (a .num-levels) (a .min-size)) (a .k) ≡ 0
 free c = sym (c .before .level-refusal .ensures) ∙ c .if1 .left
 
 returns-2 : tie.Need-returns-2
@@ -37,7 +38,7 @@ cells-before-requires : tie.Need-cells-before-requires
 cells-before-requires c κs = search needs
 
 add-cells-before : tie.Need-add-cells-before
-add-cells-before c = record { fits = omega (arith, level-few _ _ _ _ _ _ _ (free (c .before .before))) }
+add-cells-before c = record { fits = omega (arith, level-few _ _ (free (c .before .before))) }
 
 cells-before-requires-2 : tie.Need-cells-before-requires-2
 cells-before-requires-2 c κs = search needs

@@ -22,10 +22,10 @@ cells-above-requires : tie.Need-cells-above-requires
 cells-above-requires c κs = search needs
 
 returns-2 : tie.Need-returns-2
-returns-2 c = build-short _ _ _ _ _ _ (image (c .before .before)) (rw (c .before .cells-above .ensures) at (c .if2 .taken))
+returns-2 c = build-short _ (image (c .before .before)) (rw (c .before .cells-above .ensures) at (c .if2 .taken))
 
 returns-3 : tie.Need-returns-3
-returns-3 c = build-long _ _ _ _ _ _ (image (c .before .before)) (rw (c .before .cells-above .ensures) at (c .if2 .left))
+returns-3 c = build-long _ (image (c .before .before)) (rw (c .before .cells-above .ensures) at (c .if2 .left))
 
 pub build-refusal-spec : {M : Type 1} → statement M
 build-refusal-spec =

@@ -15,7 +15,7 @@ build-refusal-requires : tie.Need-build-refusal-requires
 build-refusal-requires c κs = search needs
 
 returns : tie.Need-returns
-returns c = c .build-refusal .ensures ∙ level-there _ _ _ _ _ _ _ (rw (c .before .before .level-count .ensures) at (c .before .if1 .taken))
+returns c = c .build-refusal .ensures ∙ level-there _ _ (rw (c .before .before .level-count .ensures) at (c .before .if1 .taken))
 
 refusal-requires : tie.Need-refusal-requires
 refusal-requires c κs = search needs
@@ -26,7 +26,7 @@ returns-2 c = refused _ _ _ _ _ (c .before .refusal .ensures) (c .if2 .taken)
 
 returns-3 : tie.Need-returns-3
 returns-3 c =
-    level-absent _ (c .before .before .before .before .args .places) _ _ _ _ _ (sized _ _ _ _ (c .before .refusal .ensures) (c .if2 .left))
+    level-absent _ _ (sized _ _ _ _ (c .before .refusal .ensures) (c .if2 .left))
     (rw (c .before .before .before .level-count .ensures) at (c .before .before .if1 .left))
 
 pub level-refusal-spec : {M : Type 1} → statement M

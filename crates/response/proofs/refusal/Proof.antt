@@ -5,7 +5,7 @@ use borrow.Author.Needs.{needs}
 use borrow.Author.Tests.{lt-ltb, le-ltb}
 use Rattle.lists.specs.Refusals.{Sized}
 use Rattle.image_size.proofs.Judged.{refused, sized, passed}
-use Rattle.response.specs.Patch.{refusalFor}
+use Rattle.response.specs.Internal.{refusalFor}
 use Rattle.response.proofs.Indices.{area-le}
 use Rattle.response.proofs.refusal.Statement.{statement}
 use Rattle.response.proofs.refusal.Tie as tie
