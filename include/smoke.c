@@ -29,6 +29,7 @@ static void whole_case(uint8_t *img) {
 
 struct buffers {
     float map[CELLS], seeds[3][PLACES], corners[3][PLACES];
+    uint32_t seed_neighbours[PLACES], neighbours[PLACES];
     uint8_t levels[CELLS];
     size_t count;
     uint64_t ties;
@@ -36,8 +37,8 @@ struct buffers {
 
 static uint8_t find(const uint8_t *img, size_t length, uint32_t ring, float radius, size_t places, struct buffers *b) {
     return zakdomp_find_corners(img, length, SIDE, SIDE, ring, 0, 0, 0, 0, radius, 1, 1, 0, b->map, CELLS, b->levels, CELLS, b->seeds[0],
-                                PLACES, b->seeds[1], PLACES, b->seeds[2], PLACES, b->corners[0], PLACES, b->corners[1], PLACES,
-                                b->corners[2], places, &b->count, &b->ties);
+                                PLACES, b->seeds[1], PLACES, b->seeds[2], PLACES, b->seed_neighbours, PLACES, b->corners[0], PLACES,
+                                b->corners[1], PLACES, b->corners[2], PLACES, b->neighbours, places, &b->count, &b->ties);
 }
 
 static void frames(const uint8_t *img) {
@@ -45,22 +46,26 @@ static void frames(const uint8_t *img) {
     memset(&b, 0x41, sizeof b);
     expect(find(img, CELLS, 5, 3, PLACES, &b) == ZAKDOMP_DONE && b.count == 1 && b.ties == 0, "one corner, no tie");
     expect(b.corners[0][0] == 5 && b.corners[1][0] == 5 && b.corners[2][0] == 2032, "at (5, 5), of strength 2032");
+    expect(b.neighbours[0] == 0 && b.neighbours[1] == 0 && b.seed_neighbours[0] == 0, "without neighbours");
     expect(b.corners[0][1] == 0 && b.map[60] == 0, "cleared behind it");
     b.count = 77;
     b.ties = 78;
     b.map[60] = 7;
+    b.neighbours[3] = b.seed_neighbours[3] = 80;
     expect(find(img, CELLS - 1, 5, 3, PLACES, &b) == ZAKDOMP_LENGTH, "a pixel short");
     expect(find(img, CELLS, 6, 3, PLACES, &b) == ZAKDOMP_PARAMETER, "a ring of 6");
     expect(find(img, CELLS, 5, 5000, PLACES, &b) == ZAKDOMP_MERGE_RADIUS, "a radius of 5000");
     expect(b.count == 77 && b.ties == 78 && b.map[60] == 7 && b.corners[0][0] == 5, "refused: as it was");
-    expect(find(img, CELLS, 5, 3, 0, &b) == ZAKDOMP_LIST_SHORT, "no place for a corner");
+    expect(b.neighbours[3] == 80 && b.seed_neighbours[3] == 80, "and the neighbours");
+    expect(find(img, CELLS, 5, 3, 0, &b) == ZAKDOMP_LIST_SHORT, "no place for a corner's neighbours");
     expect(b.count == 77 && b.ties == 78 && b.map[60] == 0 && b.corners[0][0] == 0, "refused by 10: cleared");
+    expect(b.neighbours[3] == 80 && b.seed_neighbours[3] == 0, "as far as the slices go");
 }
 
 static uint8_t find_pgm(const uint8_t *upload, size_t length, uint32_t ring, size_t places, struct buffers *b) {
     return zakdomp_find_corners_pgm(upload, length, ring, 0, 0, 0, 0, 3, 1, 1, 0, b->map, CELLS, b->levels, CELLS, b->seeds[0], PLACES,
-                                    b->seeds[1], PLACES, b->seeds[2], PLACES, b->corners[0], PLACES, b->corners[1], PLACES, b->corners[2],
-                                    places, &b->count, &b->ties);
+                                    b->seeds[1], PLACES, b->seeds[2], PLACES, b->seed_neighbours, PLACES, b->corners[0], PLACES,
+                                    b->corners[1], PLACES, b->corners[2], PLACES, b->neighbours, places, &b->count, &b->ties);
 }
 
 static void photographs(const uint8_t *img) {
@@ -81,6 +86,7 @@ static void photographs(const uint8_t *img) {
     memset(&b, 0x41, sizeof b);
     expect(find_pgm(upload, sizeof upload, 5, PLACES, &b) == ZAKDOMP_DONE && b.count == 1, "a photograph's corner");
     expect(b.corners[0][0] == 5 && b.corners[1][0] == 5 && b.corners[2][0] == 2032 && b.map[60] == 0, "at (5, 5), and cleared");
+    expect(b.neighbours[0] == 0 && b.neighbours[1] == 0, "without neighbours");
     memset(&b, 0x41, sizeof b);
     before = b;
     upload[1] = '2';
@@ -96,6 +102,7 @@ static void photographs(const uint8_t *img) {
 
 static void stages(const uint8_t *img) {
     float map[CELLS], x[2] = {1, 2}, y[2] = {1, 1}, s[2] = {3, 4}, mass = 9;
+    uint32_t k[2] = {7, 2};
     uint8_t levels[CELLS];
     size_t width = 9, height = 9, n = 9;
     uint64_t ties = 9;
@@ -104,12 +111,18 @@ static void stages(const uint8_t *img) {
     expect(zakdomp_response(img, CELLS, SIDE, SIDE, 5, 0, 0, 11, 11, map, CELLS, &width, &height) == 0, "the whole map");
     expect(zakdomp_response(img, CELLS, SIDE, SIDE, 5, 0, 0, 11, 11, map, 120, &width, &height) == ZAKDOMP_MAP_SHORT, "a short map");
     expect(width == 11 && height == 11, "refused: sides as they were");
-    expect(zakdomp_merge(x, 2, y, 2, s, 2, 2, 3, &n) == 0 && n == 1 && x[0] == 2 && s[0] == 4, "two corners merged");
-    expect(zakdomp_peaks(map, CELLS, SIDE, SIDE, 5, 0, 0, 0, 0, x, 2, y, 2, s, 2, 1, &n, &ties) == 0 && ties == 0, "peaks");
+    expect(zakdomp_merge(x, 2, y, 2, s, 2, k, 1, 2, 3, &n) == ZAKDOMP_LIST_SHORT && n == 9, "neighbours for one corner of two");
+    expect(zakdomp_merge(x, 2, y, 2, s, 2, k, 2, 2, 3, &n) == 0 && n == 1 && x[0] == 2 && s[0] == 4, "two corners merged");
+    expect(k[0] == 2 && k[1] == 2, "the newcomer's neighbours, and those behind as they were");
+    k[0] = 6;
+    expect(zakdomp_peaks(map, CELLS, SIDE, SIDE, 5, 0, 0, 0, 0, x, 2, y, 2, s, 2, k, 2, 1, &n, &ties) == 0 && ties == 0, "peaks");
     expect(n == 1 && x[0] == 2 && x[1] == 5 && y[1] == 5 && s[1] == 2032, "behind the one that is held");
+    expect(k[0] == 6 && k[1] == 0, "whose neighbours stay");
     ties = 79;
-    expect(zakdomp_peaks(map, CELLS, SIDE, SIDE, 5, 0, 0, 0, 0, x, 2, y, 2, s, 2, 2, &n, &ties) == ZAKDOMP_LIST_SHORT, "a full buffer");
-    expect(n == 1 && ties == 79, "refused: count and ties as they were");
+    expect(zakdomp_peaks(map, CELLS, SIDE, SIDE, 5, 0, 0, 0, 0, x, 2, y, 2, s, 2, k, 2, 2, &n, &ties) == ZAKDOMP_LIST_SHORT, "a full buffer");
+    expect(zakdomp_peaks(map, CELLS, SIDE, SIDE, 5, 0, 0, 0, 0, x, 2, y, 2, s, 2, k, 1, 1, &n, &ties) == ZAKDOMP_LIST_SHORT,
+           "no place for a peak's neighbours");
+    expect(n == 1 && ties == 79 && k[1] == 0, "refused: count and ties as they were");
     expect(zakdomp_centroid(map, CELLS, SIDE, SIDE, 1, x + 1, y + 1, &mass) == 0, "the centre of mass");
     expect(x[1] == 5 && y[1] == 5 && mass == 2032, "its place and mass");
     expect(zakdomp_centroid(map, CELLS, SIDE, SIDE, 17, x, y, &mass) == ZAKDOMP_PARAMETER && mass == 2032, "a radius of 17");
@@ -139,12 +152,13 @@ static void enough_peaks(void) {
 static void peaks_tied(size_t w, size_t h, float fill, float left, float right, size_t peaks, uint64_t due, const char *what) {
     enum { MOST = 42 * 32 };
     static float map[MOST], x[MOST], y[MOST], s[MOST];
+    static uint32_t k[MOST];
     size_t added = 9999;
     uint64_t ties = 9999;
     for (size_t i = 0; i < w * h; i++) map[i] = fill;
     map[6 * w + 6] = left;
     map[6 * w + 7] = right;
-    expect(zakdomp_peaks(map, w * h, w, h, 5, 0, 1, 0, 0, x, MOST, y, MOST, s, MOST, 0, &added, &ties) == 0, what);
+    expect(zakdomp_peaks(map, w * h, w, h, 5, 0, 1, 0, 0, x, MOST, y, MOST, s, MOST, k, MOST, 0, &added, &ties) == 0, what);
     expect(added == peaks && ties == due, what);
 }
 
@@ -158,9 +172,41 @@ static void ties(void) {
     peaks_tied(42, 32, 1, 1, 1, 600, 4800, "more peaks than the table has places");
 }
 
+/* A peak of 2 in a map of 0 but for three cells of its window, of 1, -1 and NaN, and a cell outside it, of 1. */
+static void neighbours_of_a_peak(void) {
+    static float map[13 * 13];
+    float x = 9, y = 9, s = 9;
+    uint32_t k = 9;
+    size_t added = 9;
+    uint64_t tied = 9;
+    map[6 * 13 + 6] = 2;
+    map[6 * 13 + 7] = map[4 * 13 + 6] = 1;
+    map[5 * 13 + 5] = -1;
+    map[7 * 13 + 6] = NAN;
+    expect(zakdomp_peaks(map, 169, 13, 13, 5, 0, 1, 1, 0, &x, 1, &y, 1, &s, 1, &k, 1, 0, &added, &tied) == 0 && added == 1, "a peak");
+    expect(x == 6 && y == 6 && s == 2 && k == 1, "with one neighbour above 0");
+    expect(zakdomp_peaks(map, 169, 13, 13, 5, 0, 1, 2, 0, &x, 1, &y, 1, &s, 1, &k, 1, 0, &added, &tied) == 0 && added == 0 && k == 1,
+           "not with two");
+}
+
+/* The strengths of two corners that join, and whose neighbours the one that is left has: the first's 7, or the second's 2. */
+static void neighbours_merged(float first, float second, uint32_t due, const char *what) {
+    float x[2] = {1, 2}, y[2] = {1, 1}, s[2] = {first, second};
+    uint32_t k[2] = {7, 2};
+    size_t kept = 9;
+    expect(zakdomp_merge(x, 2, y, 2, s, 2, k, 2, 2, 3, &kept) == 0 && kept == 1 && k[0] == due && k[1] == 2, what);
+}
+
+static void neighbours(void) {
+    neighbours_of_a_peak();
+    neighbours_merged(3, 4, 2, "a stronger corner brings its neighbours");
+    neighbours_merged(3, 3, 7, "an equal one does not");
+    neighbours_merged(4, 3, 7, "nor a weaker one");
+}
+
 static void streams(const uint8_t *img) {
     static const uint8_t head[] = {1, 11, 0, 11, 0, 2, 5, 0, 0, 0, 0, 0, 0, 0, 0, 0, 0x40, 0x40, 1, 1, 0, 0};
-    static const char listing[] = "corners 1\n1280 1280 40a00000 40a00000 44fe0000\n";
+    static const char listing[] = "corners 1\n1280 1280 40a00000 40a00000 44fe0000 0\n";
     static uint8_t input[sizeof head + 4 * 33 + 1], output[ZAKDOMP_LONGEST];
     memcpy(input, head, sizeof head);
     for (int k = 0; k < 4; k++) {
@@ -208,7 +254,7 @@ static void holdings(void) {
 
 static void writing(const uint8_t *img) {
     static const uint8_t one[] = {1, 1, 0, 1, 0, 2, 5, 0x01, 0, 0xc0, 0x7f, 0, 0, 0, 0x45, 0x23, 0xc1, 0xff, 255, 255, 255, 255, 3, 9};
-    static const char listing[] = "corners 1\n1280 1280 40a00000 40a00000 44fe0000\n";
+    static const char listing[] = "corners 1\n1280 1280 40a00000 40a00000 44fe0000 0\n";
     static uint8_t stream[9527], output[ZAKDOMP_LONGEST];
     const uint8_t nine = 9;
     size_t n = 77;
@@ -258,6 +304,7 @@ int main(void) {
     photographs(img);
     stages(img);
     ties();
+    neighbours();
     enough_peaks();
     retouching(img);
     streams(img);

@@ -40,6 +40,7 @@ struct call {
     size_t used; /* bytes of the thread's stack */
     uint8_t *levels, *text;
     float *map, *lists[6];
+    uint32_t *neighbours[2];
 };
 
 static uint8_t img[CELLS], stream[STREAM];
@@ -60,8 +61,8 @@ static void run(struct call *c) {
     uint32_t search = f->side <= 96 ? 255 : 1;
     float **l = c->lists;
     c->number = zakdomp_find_corners(img, cells, f->side, f->side, f->ring, 0, 0, 0, 0, radius, f->levels, 1, search, c->map, cells, c->levels,
-                                     cells, l[0], PLACES, l[1], PLACES, l[2], PLACES, l[3], PLACES, l[4], PLACES, l[5], PLACES, &c->count,
-                                     &c->ties);
+                                     cells, l[0], PLACES, l[1], PLACES, l[2], PLACES, c->neighbours[0], PLACES, l[3], PLACES, l[4], PLACES,
+                                     l[5], PLACES, c->neighbours[1], PLACES, &c->count, &c->ties);
 }
 
 /* Marks the thread's stack below its own frame, runs the call, and looks how far the marks are gone. */
@@ -89,8 +90,9 @@ static void *buffer(size_t bytes) {
 }
 
 static struct call fresh(const struct frame *f) {
-    struct call c = {f, 0, 0, 0, 0, buffer(CELLS), buffer(ZAKDOMP_LONGEST), buffer(CELLS * sizeof(float)), {0}};
+    struct call c = {f, 0, 0, 0, 0, buffer(CELLS), buffer(ZAKDOMP_LONGEST), buffer(CELLS * sizeof(float)), {0}, {0}};
     for (int i = 0; i < 6; i++) c.lists[i] = buffer(PLACES * sizeof(float));
+    for (int i = 0; i < 2; i++) c.neighbours[i] = buffer(PLACES * sizeof(uint32_t));
     return c;
 }
 
@@ -99,12 +101,14 @@ static void drop(struct call *c) {
     free(c->text);
     free(c->map);
     for (int i = 0; i < 6; i++) free(c->lists[i]);
+    for (int i = 0; i < 2; i++) free(c->neighbours[i]);
 }
 
 static int same(const struct call *a, const struct call *b) {
     int s = a->number == b->number && a->count == b->count && a->ties == b->ties && memcmp(a->levels, b->levels, CELLS) == 0 &&
             memcmp(a->text, b->text, ZAKDOMP_LONGEST) == 0 && memcmp(a->map, b->map, CELLS * sizeof(float)) == 0;
     for (int i = 0; i < 6; i++) s = s && memcmp(a->lists[i], b->lists[i], PLACES * sizeof(float)) == 0;
+    for (int i = 0; i < 2; i++) s = s && memcmp(a->neighbours[i], b->neighbours[i], PLACES * sizeof(uint32_t)) == 0;
     return s;
 }
 

@@ -10,7 +10,8 @@
  * A refusal leaves every buffer and every place for a result as it was; the one exception is ZAKDOMP_LIST_SHORT from zakdomp_find_corners
  * and zakdomp_find_corners_pgm. What lies in a buffer behind a result stays as it was; these two alone clear map and list buffers behind it.
  *
- * Corners are held in three slices: columns, rows and strengths. The shortest of the three says how many places there are. */
+ * Corners are held in four slices: columns, rows, strengths, and neighbours, which are the cells above 0 in the window of the peak that became the
+ * corner, the peak not counted. The shortest of the four says how many places there are. */
 #ifndef ZAKDOMP_H
 #define ZAKDOMP_H
 
@@ -55,19 +56,20 @@ enum {
  *   minimum      no level has a side below it
  *   search       0..255: how far about a seed, in pixels of its level
  * Buffers:
- *   map          at least w * h floats; all 0 at the end
- *   levels       at least zakdomp_level_bytes(w, h, level_count, minimum) bytes; the levels stand first in it, and what is behind them stays
- *   sx, sy, ss   a place for each seed; the seeds stand first, and 0 behind them
- *   cx, cy, cs   a place for each corner before merging; the corners stand first, and 0 behind them
- *   count        the number of corners
- *   ties         how often a cell of a peak's window has the peak's response, over all peaks found before merging; seeds do not count, and a
- *                peak that is found about two seeds counts twice
+ *   map             at least w * h floats; all 0 at the end
+ *   levels          at least zakdomp_level_bytes(w, h, level_count, minimum) bytes; the levels stand first in it, and what is behind them stays
+ *   sx, sy, ss, sn  a place for each seed; the seeds stand first, and 0 behind them
+ *   cx, cy, cs, cn  a place for each corner before merging; the corners stand first, and 0 behind them
+ *   count           the number of corners
+ *   ties            how often a cell of a peak's window has the peak's response, over all peaks found before merging; seeds do not count, and a
+ *                   peak that is found about two seeds counts twice
  * Refusals: 1, 2, 3, 5, 8, 9, 10. After 10 all buffers are 0 in their whole length, and count and ties are as they were. */
 uint8_t zakdomp_find_corners(const uint8_t *img, size_t img_length, size_t w, size_t h, uint32_t ring, float threshold, uint32_t window,
                              uint32_t least, uint32_t centroid, float radius, uint32_t level_count, size_t minimum, uint32_t search,
                              float *map, size_t map_length, uint8_t *levels, size_t levels_length, float *sx, size_t sx_length, float *sy,
-                             size_t sy_length, float *ss, size_t ss_length, float *cx, size_t cx_length, float *cy, size_t cy_length,
-                             float *cs, size_t cs_length, size_t *count, uint64_t *ties);
+                             size_t sy_length, float *ss, size_t ss_length, uint32_t *sn, size_t sn_length, float *cx, size_t cx_length,
+                             float *cy, size_t cy_length, float *cs, size_t cs_length, uint32_t *cn, size_t cn_length, size_t *count,
+                             uint64_t *ties);
 
 /* Where the pixels of an uploaded photograph are: binary PGM, the form P5 of Netpbm's description (pgm(5), and pbm(5) on comments).
  *   at             where they begin in the upload: width * height bytes, in row order
@@ -84,8 +86,9 @@ uint8_t zakdomp_pgm(const uint8_t *upload, size_t upload_length, size_t *at, siz
 uint8_t zakdomp_find_corners_pgm(const uint8_t *upload, size_t upload_length, uint32_t ring, float threshold, uint32_t window, uint32_t least,
                                  uint32_t centroid, float radius, uint32_t level_count, size_t minimum, uint32_t search, float *map,
                                  size_t map_length, uint8_t *levels, size_t levels_length, float *sx, size_t sx_length, float *sy,
-                                 size_t sy_length, float *ss, size_t ss_length, float *cx, size_t cx_length, float *cy, size_t cy_length,
-                                 float *cs, size_t cs_length, size_t *count, uint64_t *ties);
+                                 size_t sy_length, float *ss, size_t ss_length, uint32_t *sn, size_t sn_length, float *cx, size_t cx_length,
+                                 float *cy, size_t cy_length, float *cs, size_t cs_length, uint32_t *cn, size_t cn_length, size_t *count,
+                                 uint64_t *ties);
 
 /* The responses of the cells in the columns x0 up to, not including, x1 of the rows y0 up to y1. The box is clipped to the image.
  *   map            at least as many floats as the clipped box has cells; they stand first in it, in row order
@@ -112,7 +115,7 @@ uint8_t zakdomp_retouch(uint8_t *img, size_t img_length, size_t w, size_t h, uin
  * Refusals: 1, 2, 3, 10. */
 uint8_t zakdomp_peaks(const float *map, size_t map_length, size_t w, size_t h, uint32_t ring, float threshold, uint32_t window,
                       uint32_t least, uint32_t centroid, float *xs, size_t xs_length, float *ys, size_t ys_length, float *strengths,
-                      size_t strengths_length, size_t held, size_t *added, uint64_t *ties);
+                      size_t strengths_length, uint32_t *neighbours, size_t neighbours_length, size_t held, size_t *added, uint64_t *ties);
 
 /* Whether a map of w by h responses has at least `wanted` peaks, which are those of zakdomp_peaks. It is searched in row order, and no further than
  * the last peak that is wanted.
@@ -131,13 +134,13 @@ uint8_t zakdomp_has_peaks(const float *map, size_t map_length, size_t w, size_t 
 uint8_t zakdomp_centroid(const float *map, size_t map_length, size_t w, size_t h, uint32_t radius, float *x, float *y, float *mass);
 
 /* Merges the first `count` corners of a buffer in place. Each corner in turn looks among those kept, in its own cell of a grid of `radius` and
- * the eight about it, for the first at most `radius` away. It takes that one's place if it is strictly stronger, and is dropped if not; where
- * there is none it is kept behind the others. So two that are kept may still be near each other: (0, 0; 1), (5, 0; 2), (2.5, 0; 3) at radius 3
- * leaves (2.5, 0; 3) and (5, 0; 2).
+ * the eight about it, for the first at most `radius` away. It takes that one's place, with its own neighbours, if it is strictly stronger, and is
+ * dropped if not; where there is none it is kept behind the others. So two that are kept may still be near each other: (0, 0; 1), (5, 0; 2),
+ * (2.5, 0; 3) at radius 3 leaves (2.5, 0; 3) and (5, 0; 2).
  *   kept  the number of corners that are left
  * Refusals: 4, 5, 10. */
-uint8_t zakdomp_merge(float *xs, size_t xs_length, float *ys, size_t ys_length, float *strengths, size_t strengths_length, size_t count,
-                      float radius, size_t *kept);
+uint8_t zakdomp_merge(float *xs, size_t xs_length, float *ys, size_t ys_length, float *strengths, size_t strengths_length,
+                      uint32_t *neighbours, size_t neighbours_length, size_t count, float radius, size_t *kept);
 
 /* How many bytes the level buffer of an image of w by h pixels needs. */
 size_t zakdomp_level_bytes(size_t w, size_t h, uint32_t level_count, size_t minimum);
@@ -150,7 +153,7 @@ uint8_t zakdomp_levels(const uint8_t *img, size_t img_length, size_t w, size_t h
 
 /* What the program `corners` prints for a frame stream of at most 96 by 96 pixels, refused streams included, first in `output`, which has
  * ZAKDOMP_LONGEST bytes. Returns the length of the text. */
-#define ZAKDOMP_LONGEST 35340
+#define ZAKDOMP_LONGEST 40972
 size_t zakdomp_corners(const uint8_t *input, size_t input_length, uint8_t *output);
 
 /* Writes the frame stream of an image of w by h pixels, at most 96 by 96, first in `stream`. It is the one stream that zakdomp_corners reads as

@@ -164,7 +164,7 @@ class Finding(unittest.TestCase):
     def test_the_whole_case(self):
         for header in WRITTEN:
             for upload in (header + whole_case(), bytearray(header + whole_case() + b"#\nP5")):
-                self.assertEqual(zakdomp.find_corners_pgm(upload, **PLAIN), [(5.0, 5.0, 2032.0)])
+                self.assertEqual(zakdomp.find_corners_pgm(upload, **PLAIN), [(5.0, 5.0, 2032.0, 0)])
 
     def test_as_of_the_pixels(self):
         image = random.Random(2).randbytes(300 * 200)
@@ -197,12 +197,12 @@ class CommandLine(unittest.TestCase):
 
     def test_the_listing(self):
         plain = [word for name, value in PLAIN.items() for word in ("--" + name.replace("_", "-"), str(value))]
-        listing = "corners 1\n1280 1280 40a00000 40a00000 44fe0000\n"
+        listing = "corners 1\n1280 1280 40a00000 40a00000 44fe0000 0\n"
         self.assertEqual(self.run_on(WRITTEN[0] + whole_case(), *plain), (0, listing, ""))
         self.assertEqual(self.run_on(WRITTEN[0] + whole_case(), "--threshold", "2032", *plain), (0, "corners 0\n", ""))
 
     def test_as_the_program_prints_it(self):
-        side, longest = 96, 35_340
+        side, longest = 96, 40_972
         image = random.Random(3).randbytes(side * side)
         named = zakdomp.Params(threshold=20.0, least_neighbours=0)
         body = struct.pack("<BfBBBfBHB", *named)

@@ -18,17 +18,20 @@ def whole_case():
     return image
 
 
-def ties_of(image, side, window, border):
-    """The ties of the peaks of a square image's map at threshold 0, by RULES 4.3 and 23.1, a second time."""
+def peaks_of(image, side, window, border):
+    """The peaks of a square image's map at threshold 0, by RULES 4.3, a second time: each with the other cells of its window."""
     cells = zakdomp.response(image, side, side).cells
-    total = 0
     for y in range(border, side - border):
         for x in range(border, side - border):
             rows, columns = range(y - window, y + window + 1), range(x - window, x + window + 1)
-            value, about = cells[y * side + x], [cells[v * side + u] for v in rows for u in columns if (u, v) != (x, y)]
-            if value > 0 and all(cell <= value for cell in about):
-                total += about.count(value)
-    return total
+            value, others = cells[y * side + x], [cells[v * side + u] for v in rows for u in columns if (u, v) != (x, y)]
+            if value > 0 and all(cell <= value for cell in others):
+                yield value, others
+
+
+def ties_of(image, side, window, border):
+    """How many cells of the peaks' windows equal the peak (RULES 23.1)."""
+    return sum(others.count(value) for value, others in peaks_of(image, side, window, border))
 
 
 def half(image, side):
@@ -46,7 +49,7 @@ class Finding(unittest.TestCase):
 
     def test_the_whole_case(self):
         for image in (whole_case(), bytes(whole_case()), memoryview(whole_case())):
-            self.assertEqual(zakdomp.find_corners(image, SIDE, SIDE, **PLAIN), [(5.0, 5.0, 2032.0)])
+            self.assertEqual(zakdomp.find_corners(image, SIDE, SIDE, **PLAIN), [(5.0, 5.0, 2032.0, 0)])
 
     def test_a_board_on_one_and_three_levels(self):
         image = bytes(20 if (x // 48 + y // 48) % 2 == 0 else 220 for y in range(288) for x in range(384))
@@ -87,6 +90,17 @@ class Finding(unittest.TestCase):
         apart, merged = (zakdomp.find(image, 40, 40, window=1, least_neighbours=0, merge_radius=radius) for radius in (0, 4096))
         self.assertEqual((len(merged.corners), merged.ties), (1, apart.ties))
         self.assertGreater(merged.ties, 0)
+
+    def test_neighbours(self):
+        image = random.Random(5).randbytes(48 * 48)
+        for window in (0, 1, 2, 3):
+            named = dict(window=window, least_neighbours=0, centroid_radius=1)
+            due = [(value, sum(cell > 0 for cell in others)) for value, others in peaks_of(image, 48, window, 6 + window)]
+            apart, merged = (zakdomp.find_corners(image, 48, 48, merge_radius=radius, **named) for radius in (0, 8))
+            self.assertEqual([(c.strength, c.neighbours) for c in apart], due)
+            self.assertEqual(any(c.neighbours for c in apart), window > 0)
+            self.assertLess(len(merged), len(apart))
+            self.assertLessEqual({(c.strength, c.neighbours) for c in merged}, set(due))
 
     def test_refusals(self):
         image = whole_case()

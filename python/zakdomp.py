@@ -1,6 +1,6 @@
 """The corners of a chessboard in a grey image, by the proved library libzakdomp.so.
 
-    find_corners(pixels, width, height, threshold=30)  ->  [Corner(x, y, strength), ..]
+    find_corners(pixels, width, height, threshold=30)  ->  [Corner(x, y, strength, neighbours), ..]
     find(pixels, width, height, threshold=30)          ->  Frame(corners, ties), and so `find_pgm` of a photograph
     find_corners_pgm(upload, threshold=30)             ->  the same of a photograph, the bytes of a binary PGM file
     read_pgm(upload)                                   ->  Photograph(at, width, height, pixels)
@@ -58,9 +58,11 @@ class Refusal(ValueError):
 
 
 class Corner(NamedTuple):
+    """A corner, in pixels, the response at its peak, and how many other cells of the peak's window are above 0."""
     x: float
     y: float
     strength: float
+    neighbours: int
 
 
 class Frame(NamedTuple):
@@ -111,8 +113,8 @@ def _load():
     piece, out = [ctypes.c_void_p, size], ctypes.POINTER(size)
     numbers = [u32, f32, u32, u32, u32, f32, u32, size, u32]
     u8, u64 = ctypes.c_uint8, ctypes.c_uint64
-    library.zakdomp_find_corners.argtypes = piece + [size, size] + numbers + 8 * piece + [out, ctypes.POINTER(u64)]
-    library.zakdomp_find_corners_pgm.argtypes = piece + numbers + 8 * piece + [out, ctypes.POINTER(u64)]
+    library.zakdomp_find_corners.argtypes = piece + [size, size] + numbers + 10 * piece + [out, ctypes.POINTER(u64)]
+    library.zakdomp_find_corners_pgm.argtypes = piece + numbers + 10 * piece + [out, ctypes.POINTER(u64)]
     library.zakdomp_pgm.argtypes = piece + 3 * [out]
     library.zakdomp_response.argtypes = piece + [size, size, u32, size, size, size, size] + piece + [out, out]
     library.zakdomp_retouch.argtypes = piece + [size, size, u32] + piece + [size, size, ctypes.c_uint8, out]
@@ -136,10 +138,19 @@ def _given(pixels):
     return held, [ctypes.c_char_p(held), len(held)]
 
 
-def _floats(places):
+def _buffer(kind, places):
     """A buffer with at least one place, and as pointer and length."""
-    buffer = (ctypes.c_float * max(places, 1))()
+    buffer = (kind * max(places, 1))()
     return buffer, [ctypes.addressof(buffer), places]
+
+
+def _floats(places):
+    return _buffer(ctypes.c_float, places)
+
+
+def _corners(places):
+    """The four slices of a corner buffer."""
+    return [_floats(places), _floats(places), _floats(places), _buffer(ctypes.c_uint32, places)]
 
 
 def _changed(buffer, kind):
@@ -177,16 +188,16 @@ def _search(call, width, height, params, most):
     count, ties = ctypes.c_size_t(0), ctypes.c_uint64(0)
     places = min(1024, most)
     while True:
-        lists = [_floats(places) for _ in range(6)]
-        pieces = [word for _, piece in lists for word in piece]
+        seeds, corners = _corners(places), _corners(places)
+        pieces = [word for _, piece in seeds + corners for word in piece]
         number = call(*params, *cells, ctypes.addressof(level_buffer), needed, *pieces, ctypes.byref(count), ctypes.byref(ties))
         if number != LIST_SHORT or places == most:
             break
         places = min(4 * places, most)
     if number:
         raise Refusal(number)
-    x, y, strength = (buffer for buffer, _ in lists[3:])
-    return Frame([Corner(x[i], y[i], strength[i]) for i in range(count.value)], ties.value)
+    slices = (buffer[:count.value] for buffer, _ in corners)
+    return Frame([Corner(*fields) for fields in zip(*slices)], ties.value)
 
 
 def find(pixels, width, height, *, most=1 << 22, **params):
@@ -319,11 +330,12 @@ def holdings(stream):
 
 
 def listing(corners):
-    """The text of a corner list, as the program `corners` prints it: x and y to the nearest 256th of a pixel, a half up, and the bits of each float."""
+    """The text of a corner list, as the program `corners` prints it: x and y to the nearest 256th of a pixel, a half up, the bits of each float, and
+    the neighbours."""
     def bits(value):
         return struct.pack(">f", value).hex()
 
-    lines = [f"{int(256 * x + 0.5)} {int(256 * y + 0.5)} {bits(x)} {bits(y)} {bits(strength)}" for x, y, strength in corners]
+    lines = [f"{int(256 * x + 0.5)} {int(256 * y + 0.5)} {bits(x)} {bits(y)} {bits(strength)} {neighbours}" for x, y, strength, neighbours in corners]
     return "\n".join([f"corners {len(corners)}", *lines]) + "\n"
 
 

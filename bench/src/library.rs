@@ -7,29 +7,34 @@ extern "C" {
     fn response_in_c(img: *const u8, w: usize, h: usize, ring: i32, map: *mut f32);
 }
 
-/// Columns, rows and strengths.
+/// Columns, rows and strengths, and the neighbours, which the original does not have.
 #[derive(Clone)]
-pub struct List(pub [Vec<f32>; 3]);
+pub struct List {
+    floats: [Vec<f32>; 3],
+    neighbours: Vec<u32>,
+}
 
 impl List {
     pub fn of(corners: &[Corner]) -> Self {
         let field = |f: fn(&Corner) -> f32| corners.iter().map(f).collect();
-        Self([field(|c| c.x), field(|c| c.y), field(|c| c.strength)])
+        let floats = [field(|c| c.x), field(|c| c.y), field(|c| c.strength)];
+        Self { floats, neighbours: vec![0; corners.len()] }
     }
 
     pub fn empty(places: usize) -> Self {
-        Self([(); 3].map(|()| vec![0.0; places]))
+        Self { floats: [(); 3].map(|()| vec![0.0; places]), neighbours: vec![0; places] }
     }
 
     /// The bits of the first `n`.
     pub fn bits(&self, n: usize) -> Vec<[u32; 3]> {
-        (0..n).map(|i| [0, 1, 2].map(|k| self.0[k][i].to_bits())).collect()
+        (0..n).map(|i| [0, 1, 2].map(|k| self.floats[k][i].to_bits())).collect()
     }
 
     pub fn copy_from(&mut self, other: &List) {
         for k in 0..3 {
-            self.0[k][..other.0[k].len()].copy_from_slice(&other.0[k]);
+            self.floats[k][..other.floats[k].len()].copy_from_slice(&other.floats[k]);
         }
+        self.neighbours[..other.neighbours.len()].copy_from_slice(&other.neighbours);
     }
 }
 
@@ -71,12 +76,12 @@ pub fn retouch(
 
 pub fn peaks(map: &[f32], w: usize, h: usize, p: &Params, list: &mut List) -> usize {
     let (mut added, mut ties) = (0, 0);
-    let [x, y, s] = &mut list.0;
+    let List { floats: [x, y, s], neighbours: k } = list;
     #[rustfmt::skip]
     let number = unsafe {
         zakdomp_peaks(
             map.as_ptr(), map.len(), w, h, p.ring, p.threshold, p.window, p.least, p.centroid,
-            x.as_mut_ptr(), x.len(), y.as_mut_ptr(), y.len(), s.as_mut_ptr(), s.len(), 0, &mut added, &mut ties,
+            x.as_mut_ptr(), x.len(), y.as_mut_ptr(), y.len(), s.as_mut_ptr(), s.len(), k.as_mut_ptr(), k.len(), 0, &mut added, &mut ties,
         )
     };
     assert_eq!(number, 0);
@@ -97,7 +102,7 @@ pub fn enough_peaks(map: &[f32], w: usize, h: usize, p: &Params, wanted: usize) 
 }
 
 pub fn centroids(map: &[f32], w: usize, h: usize, radius: u32, list: &mut List) {
-    let [x, y, _] = &mut list.0;
+    let [x, y, _] = &mut list.floats;
     for i in 0..x.len() {
         let mut mass = 0.0;
         let number = unsafe {
@@ -109,11 +114,11 @@ pub fn centroids(map: &[f32], w: usize, h: usize, radius: u32, list: &mut List) 
 
 pub fn merge(list: &mut List, count: usize, radius: f32) -> usize {
     let mut kept = 0;
-    let [x, y, s] = &mut list.0;
+    let List { floats: [x, y, s], neighbours: k } = list;
     #[rustfmt::skip]
     let number = unsafe {
         zakdomp_merge(
-            x.as_mut_ptr(), x.len(), y.as_mut_ptr(), y.len(), s.as_mut_ptr(), s.len(), count, radius, &mut kept,
+            x.as_mut_ptr(), x.len(), y.as_mut_ptr(), y.len(), s.as_mut_ptr(), s.len(), k.as_mut_ptr(), k.len(), count, radius, &mut kept,
         )
     };
     assert_eq!(number, 0);
@@ -150,15 +155,15 @@ impl Buffers {
 #[rustfmt::skip]
 pub fn frame(pixels: &[u8], w: usize, h: usize, p: &Params, b: &mut Buffers) -> usize {
     let (mut count, mut ties) = (0, 0);
-    let [sx, sy, ss] = &mut b.seeds.0;
-    let [cx, cy, cs] = &mut b.corners.0;
+    let List { floats: [sx, sy, ss], neighbours: sn } = &mut b.seeds;
+    let List { floats: [cx, cy, cs], neighbours: cn } = &mut b.corners;
     let number = unsafe {
         zakdomp_find_corners(
             pixels.as_ptr(), pixels.len(), w, h,
             p.ring, p.threshold, p.window, p.least, p.centroid, p.merge, p.levels, p.minimum as usize, p.search,
             b.map.as_mut_ptr(), b.map.len(), b.levels.as_mut_ptr(), b.levels.len(),
-            sx.as_mut_ptr(), sx.len(), sy.as_mut_ptr(), sy.len(), ss.as_mut_ptr(), ss.len(),
-            cx.as_mut_ptr(), cx.len(), cy.as_mut_ptr(), cy.len(), cs.as_mut_ptr(), cs.len(),
+            sx.as_mut_ptr(), sx.len(), sy.as_mut_ptr(), sy.len(), ss.as_mut_ptr(), ss.len(), sn.as_mut_ptr(), sn.len(),
+            cx.as_mut_ptr(), cx.len(), cy.as_mut_ptr(), cy.len(), cs.as_mut_ptr(), cs.len(), cn.as_mut_ptr(), cn.len(),
             &mut count, &mut ties,
         )
     };

@@ -11,12 +11,13 @@ pub use refusal::Refusal;
 pub use retention::{holding, holdings, Holding};
 pub use stream::write_stream;
 
-/// A corner, in pixels, and the response at its peak.
+/// A corner, in pixels, the response at its peak, and how many other cells of the peak's window are above 0.
 #[derive(Clone, Copy, Debug, PartialEq)]
 pub struct Corner {
     pub x: f32,
     pub y: f32,
     pub strength: f32,
+    pub neighbours: u32,
 }
 
 /// What is looked for.
@@ -70,13 +71,25 @@ pub struct ResponseMap {
 /// The largest side of an image; the library refuses larger ones.
 const LARGEST_SIDE: usize = 4096;
 
-/// Columns, rows and strengths.
+/// Corners in four slices.
 #[derive(Clone, Debug, Default)]
-struct Lists([Vec<f32>; 3]);
+struct Lists {
+    xs: Vec<f32>,
+    ys: Vec<f32>,
+    strengths: Vec<f32>,
+    neighbours: Vec<u32>,
+}
 
 impl Lists {
     fn resize(&mut self, places: usize) {
-        self.0.iter_mut().for_each(|list| list.resize(places, 0.0));
+        for list in [&mut self.xs, &mut self.ys, &mut self.strengths] {
+            list.resize(places, 0.0);
+        }
+        self.neighbours.resize(places, 0);
+    }
+
+    fn corner(&self, i: usize) -> Corner {
+        Corner { x: self.xs[i], y: self.ys[i], strength: self.strengths[i], neighbours: self.neighbours[i] }
     }
 }
 
@@ -128,8 +141,7 @@ impl Finder {
     ) -> Result<Vec<Corner>, Refusal> {
         self.fit(width, height, params);
         self.grown(|finder| {
-            let (map, levels) = (&mut finder.map, &mut finder.levels);
-            let (seeds, corners) = (&mut finder.seeds.0, &mut finder.corners.0);
+            let Self { map, levels, seeds, corners, .. } = finder;
             library::find_corners(image, width, height, params, map, levels, seeds, corners)
         })
     }
@@ -139,8 +151,7 @@ impl Finder {
         let (_, width, height) = library::pgm(upload)?;
         self.fit(width, height, params);
         self.grown(|finder| {
-            let (map, levels) = (&mut finder.map, &mut finder.levels);
-            let (seeds, corners) = (&mut finder.seeds.0, &mut finder.corners.0);
+            let Self { map, levels, seeds, corners, .. } = finder;
             library::find_corners_pgm(upload, params, map, levels, seeds, corners)
         })
     }
@@ -165,7 +176,7 @@ impl Finder {
             match call(self) {
                 Ok((count, ties)) => {
                     self.ties = ties;
-                    return Ok(self.list(count));
+                    return Ok((0..count).map(|i| self.corners.corner(i)).collect());
                 }
                 Err(Refusal::ListShort) if self.places < self.most => {
                     self.places = (self.places * 4).min(self.most);
@@ -182,11 +193,6 @@ impl Finder {
     /// was refused.
     pub fn ties(&self) -> u64 {
         self.ties
-    }
-
-    fn list(&self, count: usize) -> Vec<Corner> {
-        let [x, y, strength] = &self.corners.0;
-        (0..count).map(|i| Corner { x: x[i], y: y[i], strength: strength[i] }).collect()
     }
 }
 

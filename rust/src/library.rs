@@ -3,7 +3,7 @@ use crate::raw::{
     zakdomp_find_corners, zakdomp_find_corners_pgm, zakdomp_has_peaks, zakdomp_holding, zakdomp_holdings,
     zakdomp_level_bytes, zakdomp_pgm, zakdomp_response, zakdomp_retouch, zakdomp_write_stream, HOLDINGS,
 };
-use crate::{Params, Refusal};
+use crate::{Lists, Params, Refusal};
 use std::ops::Range;
 
 /// The results, unless the number is one of a refusal.
@@ -24,19 +24,19 @@ pub(crate) fn level_bytes(width: usize, height: usize, p: &Params) -> usize {
 #[rustfmt::skip]
 pub(crate) fn find_corners(
     image: &[u8], width: usize, height: usize, p: &Params,
-    map: &mut [f32], levels: &mut [u8], seeds: &mut [Vec<f32>; 3], corners: &mut [Vec<f32>; 3],
+    map: &mut [f32], levels: &mut [u8], seeds: &mut Lists, corners: &mut Lists,
 ) -> Result<(usize, u64), Refusal> {
     let (mut count, mut ties) = (0, 0);
-    let [sx, sy, ss] = seeds;
-    let [cx, cy, cs] = corners;
+    let Lists { xs: sx, ys: sy, strengths: ss, neighbours: sn } = seeds;
+    let Lists { xs: cx, ys: cy, strengths: cs, neighbours: cn } = corners;
     // SAFETY: every slice is whole, none overlaps another, and the call keeps none. It is proved to stay within their lengths.
     let number = unsafe {
         zakdomp_find_corners(
             image.as_ptr(), image.len(), width, height,
             p.ring, p.threshold, p.window, p.least_neighbours, p.centroid_radius, p.merge_radius, p.levels, p.minimum_side, p.search_radius,
             map.as_mut_ptr(), map.len(), levels.as_mut_ptr(), levels.len(),
-            sx.as_mut_ptr(), sx.len(), sy.as_mut_ptr(), sy.len(), ss.as_mut_ptr(), ss.len(),
-            cx.as_mut_ptr(), cx.len(), cy.as_mut_ptr(), cy.len(), cs.as_mut_ptr(), cs.len(),
+            sx.as_mut_ptr(), sx.len(), sy.as_mut_ptr(), sy.len(), ss.as_mut_ptr(), ss.len(), sn.as_mut_ptr(), sn.len(),
+            cx.as_mut_ptr(), cx.len(), cy.as_mut_ptr(), cy.len(), cs.as_mut_ptr(), cs.len(), cn.as_mut_ptr(), cn.len(),
             &mut count, &mut ties,
         )
     };
@@ -53,19 +53,19 @@ pub(crate) fn pgm(upload: &[u8]) -> Result<(usize, usize, usize), Refusal> {
 
 #[rustfmt::skip]
 pub(crate) fn find_corners_pgm(
-    upload: &[u8], p: &Params, map: &mut [f32], levels: &mut [u8], seeds: &mut [Vec<f32>; 3], corners: &mut [Vec<f32>; 3],
+    upload: &[u8], p: &Params, map: &mut [f32], levels: &mut [u8], seeds: &mut Lists, corners: &mut Lists,
 ) -> Result<(usize, u64), Refusal> {
     let (mut count, mut ties) = (0, 0);
-    let [sx, sy, ss] = seeds;
-    let [cx, cy, cs] = corners;
+    let Lists { xs: sx, ys: sy, strengths: ss, neighbours: sn } = seeds;
+    let Lists { xs: cx, ys: cy, strengths: cs, neighbours: cn } = corners;
     // SAFETY: as above.
     let number = unsafe {
         zakdomp_find_corners_pgm(
             upload.as_ptr(), upload.len(),
             p.ring, p.threshold, p.window, p.least_neighbours, p.centroid_radius, p.merge_radius, p.levels, p.minimum_side, p.search_radius,
             map.as_mut_ptr(), map.len(), levels.as_mut_ptr(), levels.len(),
-            sx.as_mut_ptr(), sx.len(), sy.as_mut_ptr(), sy.len(), ss.as_mut_ptr(), ss.len(),
-            cx.as_mut_ptr(), cx.len(), cy.as_mut_ptr(), cy.len(), cs.as_mut_ptr(), cs.len(),
+            sx.as_mut_ptr(), sx.len(), sy.as_mut_ptr(), sy.len(), ss.as_mut_ptr(), ss.len(), sn.as_mut_ptr(), sn.len(),
+            cx.as_mut_ptr(), cx.len(), cy.as_mut_ptr(), cy.len(), cs.as_mut_ptr(), cs.len(), cn.as_mut_ptr(), cn.len(),
             &mut count, &mut ties,
         )
     };

@@ -2,7 +2,7 @@
 //! every slice is whole, and none overlaps another.
 
 /// The bytes that the output of `zakdomp_corners` has.
-pub const LONGEST: usize = 35_340;
+pub const LONGEST: usize = 40_972;
 
 /// The bytes of the longest frame stream.
 pub const LONGEST_STREAM: usize = 9_527;
@@ -16,8 +16,8 @@ extern "C" {
         img: *const u8, img_length: usize, w: usize, h: usize,
         ring: u32, threshold: f32, window: u32, least: u32, centroid: u32, radius: f32, level_count: u32, minimum: usize, search: u32,
         map: *mut f32, map_length: usize, levels: *mut u8, levels_length: usize,
-        sx: *mut f32, sx_length: usize, sy: *mut f32, sy_length: usize, ss: *mut f32, ss_length: usize,
-        cx: *mut f32, cx_length: usize, cy: *mut f32, cy_length: usize, cs: *mut f32, cs_length: usize,
+        sx: *mut f32, sx_length: usize, sy: *mut f32, sy_length: usize, ss: *mut f32, ss_length: usize, sn: *mut u32, sn_length: usize,
+        cx: *mut f32, cx_length: usize, cy: *mut f32, cy_length: usize, cs: *mut f32, cs_length: usize, cn: *mut u32, cn_length: usize,
         count: *mut usize, ties: *mut u64,
     ) -> u8;
     pub fn zakdomp_pgm(upload: *const u8, upload_length: usize, at: *mut usize, width: *mut usize, height: *mut usize) -> u8;
@@ -25,8 +25,8 @@ extern "C" {
         upload: *const u8, upload_length: usize,
         ring: u32, threshold: f32, window: u32, least: u32, centroid: u32, radius: f32, level_count: u32, minimum: usize, search: u32,
         map: *mut f32, map_length: usize, levels: *mut u8, levels_length: usize,
-        sx: *mut f32, sx_length: usize, sy: *mut f32, sy_length: usize, ss: *mut f32, ss_length: usize,
-        cx: *mut f32, cx_length: usize, cy: *mut f32, cy_length: usize, cs: *mut f32, cs_length: usize,
+        sx: *mut f32, sx_length: usize, sy: *mut f32, sy_length: usize, ss: *mut f32, ss_length: usize, sn: *mut u32, sn_length: usize,
+        cx: *mut f32, cx_length: usize, cy: *mut f32, cy_length: usize, cs: *mut f32, cs_length: usize, cn: *mut u32, cn_length: usize,
         count: *mut usize, ties: *mut u64,
     ) -> u8;
     pub fn zakdomp_response(
@@ -40,7 +40,7 @@ extern "C" {
     pub fn zakdomp_peaks(
         map: *const f32, map_length: usize, w: usize, h: usize, ring: u32, threshold: f32, window: u32, least: u32, centroid: u32,
         xs: *mut f32, xs_length: usize, ys: *mut f32, ys_length: usize, strengths: *mut f32, strengths_length: usize,
-        held: usize, added: *mut usize, ties: *mut u64,
+        neighbours: *mut u32, neighbours_length: usize, held: usize, added: *mut usize, ties: *mut u64,
     ) -> u8;
     pub fn zakdomp_has_peaks(
         map: *const f32, map_length: usize, w: usize, h: usize, ring: u32, threshold: f32, window: u32, least: u32, centroid: u32,
@@ -51,7 +51,7 @@ extern "C" {
     ) -> u8;
     pub fn zakdomp_merge(
         xs: *mut f32, xs_length: usize, ys: *mut f32, ys_length: usize, strengths: *mut f32, strengths_length: usize,
-        count: usize, radius: f32, kept: *mut usize,
+        neighbours: *mut u32, neighbours_length: usize, count: usize, radius: f32, kept: *mut usize,
     ) -> u8;
     pub fn zakdomp_level_bytes(w: usize, h: usize, level_count: u32, minimum: usize) -> usize;
     pub fn zakdomp_levels(

@@ -47,7 +47,7 @@ fn noise(pixels: usize) -> Vec<u8> {
 #[test]
 fn the_whole_case() {
     let found = Finder::new().find(&whole_case(), SIDE, SIDE, &PLAIN);
-    assert_eq!(found, Ok(vec![Corner { x: 5.0, y: 5.0, strength: 2032.0 }]));
+    assert_eq!(found, Ok(vec![Corner { x: 5.0, y: 5.0, strength: 2032.0, neighbours: 0 }]));
 }
 
 #[test]
@@ -78,9 +78,9 @@ fn two_greys(pixels: usize) -> Vec<u8> {
     noise(pixels).iter().map(|grey| if grey % 2 == 0 { 0 } else { 255 }).collect()
 }
 
-/// How many cells of the peaks' windows equal the peak, by RULES 4.3 and 23.1, a second time: at threshold 0, in a square map.
-fn ties_of(map: &[f32], side: usize, window: usize, border: usize) -> u64 {
-    let mut total = 0;
+/// The peaks of a square map at threshold 0, by RULES 4.3, a second time: each with the other cells of its window.
+fn peaks_of(map: &[f32], side: usize, window: usize, border: usize) -> Vec<(f32, Vec<f32>)> {
+    let mut peaks = vec![];
     for at in 0..side * side {
         let (x, y) = (at % side, at / side);
         let inside = |n: usize| border <= n && n + border < side;
@@ -88,13 +88,24 @@ fn ties_of(map: &[f32], side: usize, window: usize, border: usize) -> u64 {
             continue;
         }
         let rows = y - window..=y + window;
-        let about: Vec<usize> =
-            rows.flat_map(|v| (x - window..=x + window).map(move |u| v * side + u)).collect();
-        if about.iter().all(|&cell| map[cell] <= map[at]) {
-            total += about.iter().filter(|&&cell| cell != at && map[cell] == map[at]).count() as u64;
+        let about = rows.flat_map(|v| (x - window..=x + window).map(move |u| v * side + u));
+        let others: Vec<f32> = about.filter(|&cell| cell != at).map(|cell| map[cell]).collect();
+        if others.iter().all(|&cell| cell <= map[at]) {
+            peaks.push((map[at], others));
         }
     }
-    total
+    peaks
+}
+
+/// How many of some cells are so.
+fn count(cells: &[f32], is: impl Fn(f32) -> bool) -> usize {
+    cells.iter().filter(|&&cell| is(cell)).count()
+}
+
+/// How many cells of the peaks' windows equal the peak (RULES 23.1).
+fn ties_of(map: &[f32], side: usize, window: usize, border: usize) -> u64 {
+    let peaks = peaks_of(map, side, window, border);
+    peaks.iter().map(|(peak, others)| count(others, |cell| cell == *peak) as u64).sum()
 }
 
 #[test]
@@ -114,6 +125,29 @@ fn ties_of_the_last_image() {
     }
     assert_eq!(finder.find(&image, 48, 47, &PLAIN), Err(Refusal::Length));
     assert_eq!(finder.ties(), 0);
+}
+
+/// Strength and neighbours of each corner, in their order.
+fn counted(corners: &[Corner]) -> Vec<(f32, u32)> {
+    corners.iter().map(|corner| (corner.strength, corner.neighbours)).collect()
+}
+
+#[test]
+fn neighbours_of_each_corner() {
+    let image = noise(64 * 64);
+    let map = response(&image, 64, 64, 5, 0..64, 0..64).unwrap();
+    let mut finder = Finder::new();
+    for window in 0..4 {
+        let peaks = peaks_of(&map.cells, 64, window, 6 + window);
+        let due: Vec<(f32, u32)> =
+            peaks.iter().map(|(peak, others)| (*peak, count(others, |cell| cell > 0.0) as u32)).collect();
+        let params = Params { window: window as u32, centroid_radius: 1, merge_radius: 0.0, ..PLAIN };
+        let found = finder.find(&image, 64, 64, &params).unwrap();
+        assert_eq!(counted(&found), due);
+        assert_eq!(due.iter().any(|peak| peak.1 > 0), window > 0);
+        let merged = finder.find(&image, 64, 64, &Params { merge_radius: 8.0, ..params }).unwrap();
+        assert!(merged.len() < due.len() && counted(&merged).iter().all(|peak| due.contains(peak)));
+    }
 }
 
 #[test]

@@ -32,7 +32,7 @@ fn the_whole_case_by_any_header() {
     let headers = ["P5\n11 11\n255\n", "P5 # GIMP\n11\t1#c\r1\x0b\x0c0255\r", "P5\r\n11 11\r\n255#\n "];
     for header in headers {
         let found = finder.find_pgm(&photograph(header), &PLAIN);
-        assert_eq!(found, Ok(vec![Corner { x: 5.0, y: 5.0, strength: 2032.0 }]), "{header:?}");
+        assert_eq!(found, Ok(vec![Corner { x: 5.0, y: 5.0, strength: 2032.0, neighbours: 0 }]), "{header:?}");
     }
 }
 

@@ -2,7 +2,7 @@
 from kinds import BUFFER, CORNERS, FIELDS, WORD, Plain, buffer
 from loops import COUNTER, Loop, bodies, elements
 from proof import CLAUSES, Subject, at_entry, begin, file, parameters, walked
-from text import chain, items, nest, spaced
+from text import chain, items, nest, rows, spaced
 from walk import Context, Value, Walk, borrow
 
 SLICES = (CORNERS,) + BUFFER
@@ -46,7 +46,7 @@ def lists():
 
 {reach}{contents}  -- what the contract says, after n places
   said : (i : Upto) → i .0 ≡ n → (A0 i ≡ cornersUpto L0 filled n) × ({after} ≡ frontCorners (take n L0) filled)
-  said i e = (ap (cornersUpto L0 filled) e, slices-alike {same})
+  said i e = {rows(['ap (cornersUpto L0 filled) e', f'slices-alike {same}'], 2)}
 
 '''
 

@@ -25,6 +25,8 @@ WORD = Kind('usize', 'ℕ', 'word', 8, 'vint w64 {}', 'uint-vals w64', 'uint-tel
             fits='{} < 2 ^ 64', typed='record {{ fits = {fact} }}', related='(refl, {fact})', spells='({fact} .0)')
 FLOAT = Kind('f32', 'Float', 'float', 4, 'vfloat binary32 {}', 'float-vals binary32', 'float-tells binary32', 'float-makes 𝓤 H A W binary32',
              'float-lawful 𝓤 H A W binary32', 'nan', 'Ieee.fits binary32 {} ≡ true', 'passes _ {atom}', '(refl, {fact})', '({fact} .0)')
+WORD32 = Kind('u32', 'ℕ', 'word32', 4, 'vint w32 {}', 'uint-vals w32', 'uint-tells w32', 'uint-makes 𝓤 H A W w32', 'uint-lawful 𝓤 H A W w32', '0',
+              '{} < 2 ^ 32', 'record {{ fits = {fact} }}', '(refl, {fact})', '({fact} .0)')
 BOOL = Kind('bool', 'Bool', 'tyBool', 1, 'vbool {}', 'bool-vals', 'bool-tells', 'bool-makes 𝓤 H A W', 'bool-lawful 𝓤 H A W', related='refl')
 UNIT = Kind('unit', 'Unit {0}', 'tyUnit', 0, '', 'nothing-vals', 'nothing-tells', 'nothing-makes 𝓤 H A W', 'nothing-lawful 𝓤 H A W')
 MERGED = Kind('S.the-row', 'Merged', 'merged', 0, '', '', '', 'EL.makes S.the-type S′.the-plain 𝓤 H A', 'EL.lawful S.the-type S′.the-laws 𝓤 H A W tt')
@@ -43,6 +45,7 @@ FIELDS = (
     Field('x', FLOAT, 'xOf', 'in-xs'),
     Field('y', FLOAT, 'yOf', 'in-ys'),
     Field('strength', FLOAT, 'strengthOf', 'in-strengths'),
+    Field('neighbours', WORD32, 'neighboursOf', 'in-neighbours'),
 )
 CORNER = Kind('T.the-row', 'Corner', 'corner', sum(field.kind.size for field in FIELDS), 'LL.val T.the-type T′.the-laws {}',
               'LL.vals T.the-type T′.the-laws', 'LL.tells T.the-type T′.the-laws', 'LL.makes T.the-type T′.the-plain 𝓤 H A',
@@ -50,8 +53,8 @@ CORNER = Kind('T.the-row', 'Corner', 'corner', sum(field.kind.size for field in 
 
 # ---- the types of locals, by their names in the listing
 
-KINDS = {'usize': WORD, 'f32': FLOAT, 'bool': BOOL, '()': UNIT, 'Corner': CORNER, 'Merged': MERGED, 'ptr': POINTER}
-DEFINED = {'word': 'tyInt w64', 'float': 'tyFloat binary32', 'corner': 'T′.mir', 'merged': 'S′.mir'}
+KINDS = {'usize': WORD, 'f32': FLOAT, 'u32': WORD32, 'bool': BOOL, '()': UNIT, 'Corner': CORNER, 'Merged': MERGED, 'ptr': POINTER}
+DEFINED = {'word': 'tyInt w64', 'float': 'tyFloat binary32', 'word32': 'tyInt w32', 'corner': 'T′.mir', 'merged': 'S′.mir'}
 
 
 def local_type(name):

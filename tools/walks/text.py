@@ -97,7 +97,7 @@ def folded(text):
     lines, before = [], ''
     for line in text.split('\n'):
         indent = len(line) - len(line.lstrip())
-        if not before:
+        if not before or before.endswith(' where'):
             declared = indent
         lines += wrapped(line, WIDTH, ' ' * max(indent, declared + 4))
         before = line

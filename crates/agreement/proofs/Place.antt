@@ -7,12 +7,13 @@ use mathlib.Core.Logic.{_↔_}
 use mathlib.Core.Bool.{Bool, true, false, not, false≢true}
 use mathlib.Core.List.{List}
 use borrow.Author.Tests.{not-true, le-leb}
+use lib.ListN.{length}
 use lib.IntN.{ℤ, pos}
 use lib.Signed.{_<ℤ_, ltZ}
 use lib.Ieee.{Float, le}
 use Rattle.lists.specs.Places.{Place, count, All}
 use Rattle.lists.proofs.Tests.{to-T, from-T, is-false}
-use Rattle.lists.proofs.Members.{all-map, all-both, none-any, any-none, Implies, keep-fewer}
+use Rattle.lists.proofs.Members.{all-map, all-both, none-any, any-none, Implies, keep-fewer, alike-if}
 use Rattle.float32.specs.Value.{IsWhole}
 use Rattle.float32.proofs.Approx.{lt-asym}
 use Rattle.accuracy.specs.Accurate.{Accurate}
@@ -28,6 +29,23 @@ use Rattle.agreement.proofs.Threshold.{less-is, level, above-whole-fift
 -- the cells of a map of w by h are accurate for the exact values, in fifths
 abbrev pub CellsAccurate : List Float → (Place → ℤ) → ℕ → ℕ → Type 0
 CellsAccurate m fifths w h = (p : Place) → p .x < w → p .y < h → Accurate (valueAt m w p) (fifths p)
+
+module _ (m : List Float) (fifths : Place → ℤ) (w h : ℕ) (cells : CellsAccurate m fifths w h) where
+  positive-both : (q : Place) → q .x < w → q .y < h → (positiveIn m w q ≡ true) ↔ (ltZ (pos 0) (fifths q) ≡ true)
+  positive-both q qx qy = (
+    λ e. less-is (pos 0) (fifths q) .1 (cells q qx qy .positive .0 (to-T e)),
+    λ e. from-T _ (cells q qx qy .positive .1 (less-is (pos 0) (fifths q) .0 e)),
+  )
+
+  -- so a place has as many positive neighbours by exact values
+  pub counts-alike : (r : ℕ) (p : Place) → positives (λ q. ltZ (pos 0) (fifths q)) w h r p ≡ positives (positiveIn m w) w h r p
+  unfolding positives count
+  counts-alike r p =
+      let f : Place → Bool = λ q. ltZ (pos 0) (fifths q) in
+      ap length
+      (alike-if f (positiveIn m w) (window w h r p)
+      (window-in (Implies f (positiveIn m w)) w h r p (λ q x y. positive-both q x y .1))
+      (window-in (Implies (positiveIn m w) f) w h r p (λ q x y. positive-both q x y .0)))
 
 module _ (m : List Float) (fifths : Place → ℤ) (t : Float) (k w h : ℕ) (whole : IsWhole t k) (cells : CellsAccurate m fifths w h) where
   -- ---- the three questions, at places of the map
@@ -50,12 +68,6 @@ module _ (m : List Float) (fifths : Place → ℤ) (t : Float) (k w h : ℕ) (wh
   larger-kept q p qx qy px py e =
       from-T _ (ordered (valueAt m w p) (valueAt m w q) (fifths p) (fifths q) (cells p px py) (cells q qx qy) (less-is (fifths p) (fifths q) .0 e))
 
-  positive-both : (q : Place) → q .x < w → q .y < h → (positiveIn m w q ≡ true) ↔ (ltZ (pos 0) (fifths q) ≡ true)
-  positive-both q qx qy = (
-    λ e. less-is (pos 0) (fifths q) .1 (cells q qx qy .positive .0 (to-T e)),
-    λ e. from-T _ (cells q qx qy .positive .1 (less-is (pos 0) (fifths q) .0 e)),
-  )
-
   -- computed larger, and exactly not larger: equal
   equal-of : (q p : Place) → q .x < w → q .y < h → p .x < w → p .y < h → largerIn m w q p ≡ true → (ltZ (fifths p) (fifths q) ≡ true → ⊥) → fifths q ≡ fifths p
   equal-of q p qx qy px py l f =
@@ -69,7 +81,7 @@ module _ (m : List Float) (fifths : Place → ℤ) (t : Float) (k w h : ℕ) (wh
   stands = record {
     above = λ p px py. above-both p px py .0;
     larger = larger-kept;
-    positive = λ q qx qy. positive-both q qx qy .0;
+    positive = λ q qx qy. positive-both m fifths w h cells q qx qy .0;
   }
 
   -- ---- an exact peak is a computed one exactly when it has no tie
@@ -98,7 +110,7 @@ module _ (m : List Float) (fifths : Place → ℤ) (t : Float) (k w h : ℕ) (wh
     enough =
         le-trans (peak-supported (exact fifths t) w h r least p top)
         (keep-fewer (λ q. ltZ (pos 0) (fifths q)) (positiveIn m w) (window w h r p)
-        (window-in (Implies (λ q. ltZ (pos 0) (fifths q)) (positiveIn m w)) w h r p (λ q a b. positive-both q a b .1)))
+        (window-in (Implies (λ q. ltZ (pos 0) (fifths q)) (positiveIn m w)) w h r p (λ q a b. positive-both m fifths w h cells q a b .1)))
 
     pub peak-both : (isPeak (computed m w t) w h r least p ≡ true) ↔ All (λ q. Tied m fifths w p q → ⊥) (window w h r p)
     peak-both = (

@@ -36,8 +36,8 @@ pub(crate) fn ties_of(a: FrameAnswer, before: u64) -> u64
     }
 }
 
-// Finds the corners of an image of w by h pixels: they stand first in the corner buffer (cx, cy, cs), their number goes into `count`, and that of the
-// ties of the peaks found before merging into `ties`.
+// Finds the corners of an image of w by h pixels: they stand first in the corner buffer (cx, cy, cs, cn), their number goes into `count`, and that of
+// the ties of the peaks found before merging into `ties`.
 #[no_mangle]
 pub extern "C" fn zakdomp_find_corners(
     img: &[u8],
@@ -57,16 +57,20 @@ pub extern "C" fn zakdomp_find_corners(
     sx: &mut [f32],
     sy: &mut [f32],
     ss: &mut [f32],
+    sn: &mut [u32],
     cx: &mut [f32],
     cy: &mut [f32],
     cs: &mut [f32],
+    cn: &mut [u32],
     count: &mut usize,
     ties: &mut u64,
 ) -> u8
     ensures { λ r. ⌜ CornersFound (params ring threshold window «least_neighbours» «centroid_radius» «merge_radius» «level_count» «minimum_side» «search_radius») (now (img .entry)) w h
-        (buffers (now (map .entry)) (now (levels .entry)) (slices (now (sx .entry)) (now (sy .entry)) (now (ss .entry))) (slices (now (cx .entry)) (now (cy .entry)) (now (cs .entry))))
+        (buffers (now (map .entry)) (now (levels .entry)) (slices (now (sx .entry)) (now (sy .entry)) (now (ss .entry)) (now (sn .entry)))
+        (slices (now (cx .entry)) (now (cy .entry)) (now (cs .entry)) (now (cn .entry))))
         (now (count .entry)) (now (ties .entry)) r
-        (buffers (now (map .exit)) (now (levels .exit)) (slices (now (sx .exit)) (now (sy .exit)) (now (ss .exit))) (slices (now (cx .exit)) (now (cy .exit)) (now (cs .exit))))
+        (buffers (now (map .exit)) (now (levels .exit)) (slices (now (sx .exit)) (now (sy .exit)) (now (ss .exit)) (now (sn .exit)))
+        (slices (now (cx .exit)) (now (cy .exit)) (now (cs .exit)) (now (cn .exit))))
         (now (count .exit)) (now (ties .exit)) ⌝ }
 {
     let p = FrameParams {
@@ -80,7 +84,7 @@ pub extern "C" fn zakdomp_find_corners(
         minimum_side,
         search_radius,
     };
-    let a = frame::find_corners(img, w, h, p, map, levels, sx, sy, ss, cx, cy, cs);
+    let a = frame::find_corners(img, w, h, p, map, levels, sx, sy, ss, sn, cx, cy, cs, cn);
     *count = count_of(a, *count);
     *ties = ties_of(a, *ties);
     number_of(a)

@@ -22,16 +22,20 @@ pub extern "C" fn zakdomp_find_corners_pgm(
     sx: &mut [f32],
     sy: &mut [f32],
     ss: &mut [f32],
+    sn: &mut [u32],
     cx: &mut [f32],
     cy: &mut [f32],
     cs: &mut [f32],
+    cn: &mut [u32],
     count: &mut usize,
     ties: &mut u64,
 ) -> u8
     ensures { λ r. ⌜ PhotographCorners (params ring threshold window «least_neighbours» «centroid_radius» «merge_radius» «level_count» «minimum_side» «search_radius») (now (upload .entry))
-        (buffers (now (map .entry)) (now (levels .entry)) (slices (now (sx .entry)) (now (sy .entry)) (now (ss .entry))) (slices (now (cx .entry)) (now (cy .entry)) (now (cs .entry))))
+        (buffers (now (map .entry)) (now (levels .entry)) (slices (now (sx .entry)) (now (sy .entry)) (now (ss .entry)) (now (sn .entry)))
+        (slices (now (cx .entry)) (now (cy .entry)) (now (cs .entry)) (now (cn .entry))))
         (now (count .entry)) (now (ties .entry)) r
-        (buffers (now (map .exit)) (now (levels .exit)) (slices (now (sx .exit)) (now (sy .exit)) (now (ss .exit))) (slices (now (cx .exit)) (now (cy .exit)) (now (cs .exit))))
+        (buffers (now (map .exit)) (now (levels .exit)) (slices (now (sx .exit)) (now (sy .exit)) (now (ss .exit)) (now (sn .exit)))
+        (slices (now (cx .exit)) (now (cy .exit)) (now (cs .exit)) (now (cn .exit))))
         (now (count .exit)) (now (ties .exit)) ⌝ }
 {
     let p = FrameParams {
@@ -45,7 +49,7 @@ pub extern "C" fn zakdomp_find_corners_pgm(
         minimum_side,
         search_radius,
     };
-    let a = pgm_frame::find_pgm_corners(upload, p, map, levels, sx, sy, ss, cx, cy, cs);
+    let a = pgm_frame::find_pgm_corners(upload, p, map, levels, sx, sy, ss, sn, cx, cy, cs, cn);
     *count = crate::finding::count_of(a, *count);
     *ties = crate::finding::ties_of(a, *ties);
     crate::finding::number_of(a)

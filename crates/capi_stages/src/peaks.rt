@@ -50,6 +50,7 @@ pub extern "C" fn zakdomp_peaks(
     xs: &mut [f32],
     ys: &mut [f32],
     strengths: &mut [f32],
+    neighbours: &mut [u32],
     held: usize,
     added: &mut usize,
     ties: &mut u64,
@@ -57,8 +58,8 @@ pub extern "C" fn zakdomp_peaks(
     ensures { λ r. ⌜ PeaksFound (conditions (length (now (map .entry))) w h ring window «centroid_radius»)
         (startsIn (now (map .entry)) (searchOf w h ring threshold window «least_neighbours» «centroid_radius»))
         (tiesIn (now (map .entry)) (searchOf w h ring threshold window «least_neighbours» «centroid_radius»))
-        held (slices (now (xs .entry)) (now (ys .entry)) (now (strengths .entry))) (now (added .entry)) (now (ties .entry))
-        r (slices (now (xs .exit)) (now (ys .exit)) (now (strengths .exit))) (now (added .exit)) (now (ties .exit)) ⌝ }
+        held (slices (now (xs .entry)) (now (ys .entry)) (now (strengths .entry)) (now (neighbours .entry))) (now (added .entry)) (now (ties .entry))
+        r (slices (now (xs .exit)) (now (ys .exit)) (now (strengths .exit)) (now (neighbours .exit))) (now (added .exit)) (now (ties .exit)) ⌝ }
 {
     let a = detect::detect_peaks_from_response_with_refine_radius(
         map,
@@ -72,6 +73,7 @@ pub extern "C" fn zakdomp_peaks(
         xs,
         ys,
         strengths,
+        neighbours,
         held,
     );
     *added = added_of(a, *added);

@@ -12,7 +12,8 @@ use Rattle.lists.specs.Buffer.{front}
 use Rattle.lists.proofs.Tab.{getD-any, length-tab, getD-tab}
 use Rattle.lists.proofs.Buffer.{front-length, front-same, front-again, front-behind, front-set, front-next}
 use Rattle.corner_list.specs.declared.Corner.{Corner}
-use Rattle.corner_list.specs.CornerList.{Slices, slices, xOf, yOf, strengthOf, placesOf, cornerAt, cornersOf, setCorner, withCorner, frontCorners}
+use Rattle.corner_list.specs.CornerList.{Slices, slices, xOf, yOf, strengthOf, neighboursOf, placesOf, cornerAt, cornersOf}
+use Rattle.corner_list.specs.CornerList.{setCorner, withCorner, frontCorners}
 
 -- a field of each corner, one of them replaced
 map-set : {A : Type 0} (g : Corner → A) (cs : List Corner) (i : ℕ) (c : Corner) → map g (set cs i c) ≡ set (map g cs) i (g c)
@@ -31,13 +32,17 @@ module _ (b : Slices) (n : ℕ) (h : n ≤ placesOf b) where
   pub in-strengths : n ≤ length (b .strengths)
   in-strengths = omega arith
 
+  pub in-neighbours : n ≤ length (b .neighbours)
+  in-neighbours = omega arith
+
 -- ---- buffers alike in each slice
-pub slices-alike : {xs ys ss xs′ ys′ ss′ : List Float} → xs ≡ xs′ → ys ≡ ys′ → ss ≡ ss′ → slices xs ys ss ≡ slices xs′ ys′ ss′
-slices-alike p q r = rw (p, q, r)
+pub slices-alike : {xs ys ss xs′ ys′ ss′ : List Float} {ns ns′ : List ℕ} → xs ≡ xs′ → ys ≡ ys′ → ss ≡ ss′ → ns ≡ ns′
+    → slices xs ys ss ns ≡ slices xs′ ys′ ss′ ns′
+slices-alike p q r t = rw (p, q, r, t)
 
 pub same-places : (b b′ : Slices) → length (b .xs) ≡ length (b′ .xs) → length (b .ys) ≡ length (b′ .ys)
-    → length (b .strengths) ≡ length (b′ .strengths) → placesOf b ≡ placesOf b′
-same-places b b′ p q r = rw (p, q, r)
+    → length (b .strengths) ≡ length (b′ .strengths) → length (b .neighbours) ≡ length (b′ .neighbours) → placesOf b ≡ placesOf b′
+same-places b b′ p q r t = rw (p, q, r, t)
 
 -- ---- the first n corners
 module _ (b : Slices) (n : ℕ) where
@@ -67,6 +72,9 @@ module _ (b : Slices) (n : ℕ) where
   pub corners-strengths : n ≤ length (b .strengths) → map strengthOf (cornersOf b n) ≡ take n (b .strengths)
   corners-strengths h = fields nan strengthOf (b .strengths) (λ i. refl) h
 
+  pub corners-neighbours : n ≤ length (b .neighbours) → map neighboursOf (cornersOf b n) ≡ take n (b .neighbours)
+  corners-neighbours h = fields 0 neighboursOf (b .neighbours) (λ i. refl) h
+
 -- ---- corners that were written are read back
 module _ (cs : List Corner) (b : Slices) (n : ℕ) (e : n ≡ length cs) where
   field-front : {A : Type 0} (z : A) (g : Corner → A) (s : List A) (i : ℕ) (d : Corner) → i < n
@@ -82,10 +90,15 @@ module _ (cs : List Corner) (b : Slices) (n : ℕ) (e : n ≡ length cs) where
       (λ i l.
       let h : i < n = rw (corners-length (frontCorners cs b) n) at l in
       corners-at (frontCorners cs b) n i z h
-      ∙ corner-alike (field-front nan xOf (b .xs) i z h) (field-front nan yOf (b .ys) i z h) (field-front nan strengthOf (b .strengths) i z h))
+      ∙ corner-alike
+      (field-front nan xOf (b .xs) i z h)
+      (field-front nan yOf (b .ys) i z h)
+      (field-front nan strengthOf (b .strengths) i z h)
+      (field-front 0 neighboursOf (b .neighbours) i z h))
     where
-      corner-alike : {x y s : Float} {c : Corner} → x ≡ c .x → y ≡ c .y → s ≡ c .strength → record { x = x; y = y; strength = s } ≡ c
-      corner-alike p q r = rw (p, q, r)
+      corner-alike : {x y s : Float} {n : ℕ} {c : Corner} → x ≡ c .x → y ≡ c .y → s ≡ c .strength → n ≡ c .neighbours
+          → record { x = x; y = y; strength = s; neighbours = n } ≡ c
+      corner-alike p q r t = rw (p, q, r, t)
 
   -- and each slice is as long as it was
   pub front-xs : n ≤ placesOf b → length (frontCorners cs b .xs) ≡ length (b .xs)
@@ -96,6 +109,9 @@ module _ (cs : List Corner) (b : Slices) (n : ℕ) (e : n ≡ length cs) where
 
   pub front-strengths : n ≤ placesOf b → length (frontCorners cs b .strengths) ≡ length (b .strengths)
   front-strengths h = front-length (map strengthOf cs) (b .strengths) (omega (arith, length-map cs strengthOf))
+
+  pub front-neighbours : n ≤ placesOf b → length (frontCorners cs b .neighbours) ≡ length (b .neighbours)
+  front-neighbours h = front-length (map neighboursOf cs) (b .neighbours) (omega (arith, length-map cs neighboursOf))
 
 -- ---- a corner put at a place: stored in each slice where the buffer has the place, and in none where it has not
 module _ (i : ℕ) (c : Corner) (b : Slices) where
@@ -116,6 +132,7 @@ module _ (b : Slices) (at : ℕ) (c : Corner) where
         getD-set-same (b .xs) at (c .x) nan (omega arith),
         getD-set-same (b .ys) at (c .y) nan (omega arith),
         getD-set-same (b .strengths) at (c .strength) nan (omega arith),
+        getD-set-same (b .neighbours) at (c .neighbours) 0 (omega arith),
       )
 
   pub with-there : (i : ℕ) → (i ≡ at → ⊥) → cornerAt (withCorner at c b) i ≡ cornerAt b i
@@ -127,6 +144,7 @@ module _ (b : Slices) (at : ℕ) (c : Corner) where
               getD-set-other (b .xs) at i (c .x) nan h,
               getD-set-other (b .ys) at i (c .y) nan h,
               getD-set-other (b .strengths) at i (c .strength) nan h,
+              getD-set-other (b .neighbours) at i (c .neighbours) 0 h,
             )
         | no l ↦ rw (with-corner-outside at c b (omega arith))
       ]
@@ -140,6 +158,7 @@ corners-same b n h =
     (same xOf (b .xs) (omega arith) (corners-xs b n (omega arith)))
     (same yOf (b .ys) (omega arith) (corners-ys b n (omega arith)))
     (same strengthOf (b .strengths) (omega arith) (corners-strengths b n (omega arith)))
+    (same neighboursOf (b .neighbours) (omega arith) (corners-neighbours b n (omega arith)))
   where
     same : {A : Type 0} (g : Corner → A) (s : List A) → n ≤ length s → map g (cornersOf b n) ≡ take n s → s ≡ front (map g (cornersOf b n)) s
     same {A} g s h e = front-same n s h ∙ ap (λ (l : List A). front l s) (sym e)
@@ -147,14 +166,14 @@ corners-same b n h =
 module _ (cs : List Corner) (b : Slices) where
   -- other corners over them, at least as many
   pub corners-again : (ds : List Corner) → length cs ≤ length ds → frontCorners ds (frontCorners cs b) ≡ frontCorners ds b
-  corners-again ds h = slices-alike (again xOf (b .xs)) (again yOf (b .ys)) (again strengthOf (b .strengths))
+  corners-again ds h = slices-alike (again xOf (b .xs)) (again yOf (b .ys)) (again strengthOf (b .strengths)) (again neighboursOf (b .neighbours))
     where
       again : {A : Type 0} (g : Corner → A) (s : List A) → front (map g ds) (front (map g cs) s) ≡ front (map g ds) s
       again g s = front-again (map g cs) (map g ds) s (omega (arith, length-map cs g, length-map ds g))
 
   -- a corner behind them
   pub corners-behind : (i : ℕ) → length cs ≤ i → cornerAt (frontCorners cs b) i ≡ cornerAt b i
-  corners-behind i h = rw (behind nan xOf (b .xs), behind nan yOf (b .ys), behind nan strengthOf (b .strengths))
+  corners-behind i h = rw (behind nan xOf (b .xs), behind nan yOf (b .ys), behind nan strengthOf (b .strengths), behind 0 neighboursOf (b .neighbours))
     where
       behind : {A : Type 0} (z : A) (g : Corner → A) (s : List A) → getD (front (map g cs) s) i z ≡ getD s i z
       behind z g s = front-behind (map g cs) s i z (omega (arith, length-map cs g))
@@ -162,8 +181,9 @@ module _ (cs : List Corner) (b : Slices) where
   -- one of them replaced
   pub corners-set : (i : ℕ) (c : Corner) → i < length cs → withCorner i c (frontCorners cs b) ≡ frontCorners (set cs i c) b
   corners-set i c h =
-      with-corner-inside i c (frontCorners cs b) (omega (arith, long xOf (b .xs), long yOf (b .ys), long strengthOf (b .strengths)))
-      ∙ slices-alike (put xOf (b .xs)) (put yOf (b .ys)) (put strengthOf (b .strengths))
+      with-corner-inside i c (frontCorners cs b)
+      (omega (arith, long xOf (b .xs), long yOf (b .ys), long strengthOf (b .strengths), long neighboursOf (b .neighbours)))
+      ∙ slices-alike (put xOf (b .xs)) (put yOf (b .ys)) (put strengthOf (b .strengths)) (put neighboursOf (b .neighbours))
     where
       long : {A : Type 0} (g : Corner → A) (s : List A) → length cs ≤ length (front (map g cs) s)
       long g s = omega (arith, length-append (map g cs) (drop (length (map g cs)) s), length-map cs g)
@@ -176,8 +196,13 @@ module _ (cs : List Corner) (b : Slices) where
   pub corners-next : (n : ℕ) (c : Corner) → n ≡ length cs → n < placesOf b → withCorner n c (frontCorners cs b) ≡ frontCorners (cs ++ (c ∷ [])) b
   corners-next n c e h =
       let l : n ≤ placesOf b = omega arith in
-      with-corner-inside n c (frontCorners cs b) (omega (arith, front-xs cs b n e l, front-ys cs b n e l, front-strengths cs b n e l))
-      ∙ slices-alike (put xOf (b .xs) (omega arith)) (put yOf (b .ys) (omega arith)) (put strengthOf (b .strengths) (omega arith))
+      with-corner-inside n c (frontCorners cs b)
+      (omega (arith, front-xs cs b n e l, front-ys cs b n e l, front-strengths cs b n e l, front-neighbours cs b n e l))
+      ∙ slices-alike
+      (put xOf (b .xs) (omega arith))
+      (put yOf (b .ys) (omega arith))
+      (put strengthOf (b .strengths) (omega arith))
+      (put neighboursOf (b .neighbours) (omega arith))
     where
       put : {A : Type 0} (g : Corner → A) (s : List A) → n < length s → set (front (map g cs) s) n (g c) ≡ front (map g (cs ++ (c ∷ []))) s
       put {A} g s l =

@@ -7,7 +7,7 @@ use lib.ListN.{length, set, length-append, length-map}
 use Rattle.lists.specs.Buffer.{front, placed}
 use Rattle.lists.proofs.Buffer.{placed-none, placed-set, placed-length, front-more}
 use Rattle.corner_list.specs.declared.Corner.{Corner}
-use Rattle.corner_list.specs.CornerList.{Slices, xOf, yOf, strengthOf, placesOf, setCorner, withCorner, frontCorners, placedCorners}
+use Rattle.corner_list.specs.CornerList.{Slices, xOf, yOf, strengthOf, neighboursOf, placesOf, setCorner, withCorner, frontCorners, placedCorners}
 use Rattle.corner_list.proofs.Corners.{slices-alike, same-places, with-corner-inside}
 
 -- ---- one slice
@@ -36,7 +36,7 @@ growing-none all held b h = record {
   count = refl;
   split = refl;
   fits = h;
-  is = slices-alike (placed-none held (b .xs)) (placed-none held (b .ys)) (placed-none held (b .strengths));
+  is = slices-alike (placed-none held (b .xs)) (placed-none held (b .ys)) (placed-none held (b .strengths)) (placed-none held (b .neighbours));
 }
 
 module _ (all rest : List Corner) (held k : ℕ) (b₀ b : Slices) (at : Growing all rest held k b₀ b) where
@@ -59,10 +59,15 @@ module _ (all rest : List Corner) (held k : ℕ) (b₀ b : Slices) (at : Growing
       ap (λ (s : Slices). length (s .strengths)) (at .is)
       ∙ slice-length strengthOf (at .done) held k (b₀ .strengths) (at .count) (omega (arith, upto, at .fits))
 
+  pub growing-neighbours : length (b .neighbours) ≡ length (b₀ .neighbours)
+  growing-neighbours =
+      ap (λ (s : Slices). length (s .neighbours)) (at .is)
+      ∙ slice-length neighboursOf (at .done) held k (b₀ .neighbours) (at .count) (omega (arith, upto, at .fits))
+
   -- there is a place for the next corner, and it is put there
   module _ (c : Corner) (rest′ : List Corner) (e : rest ≡ c ∷ rest′) where
     pub growing-fits : held + k < placesOf b
-    growing-fits = omega (arith, upto, ap length e, at .fits, same-places b b₀ growing-xs growing-ys growing-strengths)
+    growing-fits = omega (arith, upto, ap length e, at .fits, same-places b b₀ growing-xs growing-ys growing-strengths growing-neighbours)
 
     pub growing-put : (b′ : Slices) → b′ ≡ withCorner (held + k) c b → Growing all rest′ held (k + 1) b₀ b′
     growing-put b′ put =
@@ -76,7 +81,11 @@ module _ (all rest : List Corner) (held k : ℕ) (b₀ b : Slices) (at : Growing
               put
               ∙ with-corner-inside (held + k) c b growing-fits
               ∙ ap (setCorner (held + k) c) (at .is)
-              ∙ slices-alike (one xOf (b₀ .xs) (omega arith)) (one yOf (b₀ .ys) (omega arith)) (one strengthOf (b₀ .strengths) (omega arith));
+              ∙ slices-alike
+              (one xOf (b₀ .xs) (omega arith))
+              (one yOf (b₀ .ys) (omega arith))
+              (one strengthOf (b₀ .strengths) (omega arith))
+              (one neighboursOf (b₀ .neighbours) (omega arith));
         }
       where
         one : {A : Type 0} (g : Corner → A) (d : List A) → held + k < length d
@@ -96,4 +105,5 @@ module _ (cs more : List Corner) (held : ℕ) (b : Slices) (e : held ≡ length 
       front-more (map g cs) (map g more) d held (e ∙ sym (length-map cs g)) ∙ ap (λ (l : List A). front l d) (sym (map-append g cs more))
 
   pub corners-more : placedCorners held more (frontCorners cs b) ≡ frontCorners (cs ++ more) b
-  corners-more = slices-alike (slice-more xOf (b .xs)) (slice-more yOf (b .ys)) (slice-more strengthOf (b .strengths))
+  corners-more =
+      slices-alike (slice-more xOf (b .xs)) (slice-more yOf (b .ys)) (slice-more strengthOf (b .strengths)) (slice-more neighboursOf (b .neighbours))

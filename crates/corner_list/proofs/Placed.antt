@@ -11,7 +11,7 @@ use Rattle.lists.specs.Buffer.{placed}
 use Rattle.lists.proofs.Tab.{getD-any, length-tab, getD-tab}
 use Rattle.lists.proofs.Buffer.{placed-at}
 use Rattle.corner_list.specs.declared.Corner.{Corner}
-use Rattle.corner_list.specs.CornerList.{Slices, xOf, yOf, strengthOf, placesOf, cornerAt, placedCorners}
+use Rattle.corner_list.specs.CornerList.{Slices, xOf, yOf, strengthOf, neighboursOf, placesOf, cornerAt, placedCorners}
 
 module _ (held : ℕ) (cs : List Corner) (b : Slices) (h : held ≤ placesOf b) where
   field-placed : {A : Type 0} (z : A) (g : Corner → A) (s : List A) (i : ℕ) (d : Corner) → held ≤ length s → i < length cs
@@ -26,6 +26,7 @@ module _ (held : ℕ) (cs : List Corner) (b : Slices) (h : held ≤ placesOf b) 
         field-placed nan xOf (b .xs) i d (omega arith) l,
         field-placed nan yOf (b .ys) i d (omega arith) l,
         field-placed nan strengthOf (b .strengths) i d (omega arith) l,
+        field-placed 0 neighboursOf (b .neighbours) i d (omega arith) l,
       )
 
   -- all of them

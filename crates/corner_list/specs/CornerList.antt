@@ -1,4 +1,4 @@
--- A list of corners in a buffer of three slices, the shortest counting (RULES 1.5, 1.6).
+-- A list of corners in a buffer of four slices, the shortest counting (RULES 1.5, 1.6).
 use Prim.Native.Nat.{ℕ, min}
 use mathlib.Core.Bool.{Bool, false, _&&_, cond}
 use mathlib.Core.List.{List, map}
@@ -19,14 +19,15 @@ largestSide = fin false 1 (pos 12)
 unfoldable pub isInside : Corner → Bool
 isInside c = between zero largestSide (c .x) && between zero largestSide (c .y)
 
--- the contents of the three slices
+-- the contents of the four slices
 pub record Slices : Type 0 where
   pub xs : List Float
   pub ys : List Float
   pub strengths : List Float
+  pub neighbours : List ℕ
 
-abbrev pub slices : List Float → List Float → List Float → Slices
-slices xs ys strengths = record { xs = xs; ys = ys; strengths = strengths }
+abbrev pub slices : List Float → List Float → List Float → List ℕ → Slices
+slices xs ys strengths neighbours = record { xs = xs; ys = ys; strengths = strengths; neighbours = neighbours }
 
 -- a corner's field in each slice
 abbrev pub xOf : Corner → Float
@@ -38,13 +39,17 @@ yOf c = c .y
 abbrev pub strengthOf : Corner → Float
 strengthOf c = c .strength
 
+abbrev pub neighboursOf : Corner → ℕ
+neighboursOf c = c .neighbours
+
 -- how many corners there is a place for
 abbrev pub placesOf : Slices → ℕ
-placesOf b = min (length (b .xs)) (min (length (b .ys)) (length (b .strengths)))
+placesOf b = min (length (b .xs)) (min (length (b .ys)) (min (length (b .strengths)) (length (b .neighbours))))
 
--- the corner at a place; a field whose slice is shorter is NaN
+-- the corner at a place; a field whose slice is shorter is NaN, and the neighbours are 0
 abbrev pub cornerAt : Slices → ℕ → Corner
-cornerAt b i = record { x = getD (b .xs) i nan; y = getD (b .ys) i nan; strength = getD (b .strengths) i nan }
+cornerAt b i =
+    record { x = getD (b .xs) i nan; y = getD (b .ys) i nan; strength = getD (b .strengths) i nan; neighbours = getD (b .neighbours) i 0 }
 
 -- the first n corners
 abbrev pub cornersOf : Slices → ℕ → List Corner
@@ -54,7 +59,8 @@ cornersOf b n = tab n (cornerAt b)
 
 -- a corner's fields at a place of each slice
 abbrev pub setCorner : ℕ → Corner → Slices → Slices
-setCorner i c b = slices (set (b .xs) i (c .x)) (set (b .ys) i (c .y)) (set (b .strengths) i (c .strength))
+setCorner i c b =
+    slices (set (b .xs) i (c .x)) (set (b .ys) i (c .y)) (set (b .strengths) i (c .strength)) (set (b .neighbours) i (c .neighbours))
 
 -- a corner put at a place of the buffer; where that has no such place, every slice as it was, the longer ones too
 unfoldable pub withCorner : ℕ → Corner → Slices → Slices
@@ -62,8 +68,11 @@ withCorner i c b = cond (ltb i (placesOf b)) (setCorner i c b) b
 
 -- the corners cs first, the buffer behind them as it was
 abbrev pub frontCorners : List Corner → Slices → Slices
-frontCorners cs b = slices (front (map xOf cs) (b .xs)) (front (map yOf cs) (b .ys)) (front (map strengthOf cs) (b .strengths))
+frontCorners cs b =
+    slices (front (map xOf cs) (b .xs)) (front (map yOf cs) (b .ys)) (front (map strengthOf cs) (b .strengths)) (front (map neighboursOf cs) (b .neighbours))
 
 -- the corners cs behind the first `held`, the buffer before and behind them as it was
 abbrev pub placedCorners : ℕ → List Corner → Slices → Slices
-placedCorners held cs b = slices (placed held (map xOf cs) (b .xs)) (placed held (map yOf cs) (b .ys)) (placed held (map strengthOf cs) (b .strengths))
+placedCorners held cs b =
+    slices (placed held (map xOf cs) (b .xs)) (placed held (map yOf cs) (b .ys)) (placed held (map strengthOf cs) (b .strengths))
+    (placed held (map neighboursOf cs) (b .neighbours))

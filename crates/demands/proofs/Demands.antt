@@ -17,6 +17,7 @@ use Rattle.demands.proofs.Retouch.{only-touched, at-most-21, fresh-agai
 use Rattle.demands.proofs.FrameExact.{frame-exact, alike-by-name, maps-searched, maps-alike, frame-without-ties, four-never, peaks-kept}
 use Rattle.demands.proofs.Photographs.{photograph-is-frame, plain-header-read, behind-unread, uploads-read}
 use Rattle.demands.proofs.Ties.{nan-top, peak-ties, frame-ties, maps-alike-without-equals}
+use Rattle.demands.proofs.Neighbours.{neighbours-kept, counts-exact}
 use Rattle.demands.proofs.Tolerance.{centre-tolerance, frame-tolerance}
 
 pub demands : Demands
@@ -50,6 +51,8 @@ demands = record {
   peak-ties = peak-ties;
   frame-ties = frame-ties;
   maps-alike-without-equals = maps-alike-without-equals;
+  neighbours-kept = neighbours-kept;
+  counts-exact = counts-exact;
   enough-is-counting = enough-is-counting;
   looks-no-further = looks-no-further;
   only-touched = only-touched;

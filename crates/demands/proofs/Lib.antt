@@ -8,6 +8,7 @@ pub mod PeaksAlike
 pub mod Enough
 pub mod FrameExact
 pub mod Ties
+pub mod Neighbours
 pub mod Faults
 pub mod Total
 pub mod Program

@@ -57,7 +57,7 @@ abbrev context : RoiContext
 context = record { width = 200; height = 200; ring = 5; window = 2; «centroid_radius» = 2; «search_radius» = 3; level = 1 }
 
 abbrev seed : Float → Float → Corner
-seed x y = record { x = x; y = y; strength = zero }
+seed x y = record { x = x; y = y; strength = zero; neighbours = 0 }
 
 -- the refusal's number, 0 for none, and the box, which is empty for "no box"
 abbrev box : Corner → List ℕ

@@ -16,6 +16,7 @@ use Rattle.demands.specs.Retention.{HeldWhen, RetainedTotal, RetainedRea
 use Rattle.demands.specs.Retouch.{OnlyTouched, AtMost21, Fresh, MovesLittle}
 use Rattle.demands.specs.FrameExact.{FrameExact, AlikeByName, MapsSearched, MapsAlike, FrameWithoutTies, FourNever, PeaksKept}
 use Rattle.demands.specs.Ties.{NanTop, PeakTies, FrameTies, MapsAlikeWithoutEquals}
+use Rattle.demands.specs.Neighbours.{NeighboursKept, CountsExact}
 use Rattle.demands.specs.Tolerance.{CentreTolerance, FrameTolerance}
 use Rattle.demands.specs.Photographs.{PhotographIsFrame, PlainHeaderRead, BehindUnread, UploadsRead}
 
@@ -85,6 +86,11 @@ pub record Demands : Type 0 where
   pub frame-ties : FrameTies
   -- "both peak lists are alike for each map a finished frame looks at if no peak of the exact lists has an exact equal in its window"
   pub maps-alike-without-equals : MapsAlikeWithoutEquals
+  -- ---- Request 5: neighbours kept with the corner
+  -- "The corner record keeps the positive-neighbour count that admitted it": merged, each corner of a frame has that of a peak with its strength
+  pub neighbours-kept : NeighboursKept
+  -- "the count is matched to its definition": by exact values it is the same
+  pub counts-exact : CountsExact
   -- ---- Request 7: enough corners?
   -- "The answer is the one full counting gives"
   pub enough-is-counting : EnoughIsCounting

@@ -7,6 +7,7 @@ pub mod PeaksAlike
 pub mod Enough
 pub mod FrameExact
 pub mod Ties
+pub mod Neighbours
 pub mod AsPublished
 pub mod Numbers
 pub mod Total

@@ -20,7 +20,7 @@ use Rattle.detect.specs.Detect.{peaksIn}
 use Rattle.detect.specs.Internal.{place, placeBehind, placeOf, spotOf, startOf, peaksFrom, Searchable, NextFound, Small, Numbered}
 use Rattle.detect.specs.Internal.{PeaksListed, Standing, NextListed}
 use Rattle.detect.proofs.Scanning.{peaks-start, next-none, next-inside, next-first, found-past}
-use Rattle.detect.proofs.Ties.{few-at}
+use Rattle.detect.proofs.Ties.{few-at, neighbours-few}
 
 -- ---- numbers
 
@@ -31,12 +31,25 @@ low d k n l = mul-add-mod-self-right k d n ∙ mod-eq-of-lt l
 high : (d k n : ℕ) → n < d → (k * d + n) / d ≡ k
 high d k n l = mul-add-div-right (omega arith) k n ∙ ap (λ (j : ℕ). k + j) (div-eq-of-lt l) ∙ add-zero k
 
-spot-number : (f : Spot) → Small f → spotOf ((f .y * 4096 + f .x) * 2048 + f .ties) ≡ f
-spot-number f k =
-    let at = high 2048 (f .y * 4096 + f .x) (f .ties) (k .ties) in
-    rw (at, low 2048 (f .y * 4096 + f .x) (f .ties) (k .ties), low 4096 (f .y) (f .x) (k .x), high 4096 (f .y) (f .x) (k .x))
+-- a place, a place with one count, and a peak, as numbers
+abbrev atNumber : Spot → ℕ
+atNumber f = f .y * 4096 + f .x
 
-pub numbered-here : (f : Spot) (y1 : ℕ) → Small f → f .y < y1 → Numbered f y1 ((f .y * 4096 + f .x) * 2048 + f .ties)
+abbrev countedNumber : Spot → ℕ
+countedNumber f = atNumber f * 2048 + f .neighbours
+
+spot-number : (f : Spot) → Small f → spotOf (countedNumber f * 2048 + f .ties) ≡ f
+spot-number f k =
+    rw (
+      high 2048 (countedNumber f) (f .ties) (k .ties),
+      low 2048 (countedNumber f) (f .ties) (k .ties),
+      high 2048 (atNumber f) (f .neighbours) (k .neighbours),
+      low 2048 (atNumber f) (f .neighbours) (k .neighbours),
+      low 4096 (f .y) (f .x) (k .x),
+      high 4096 (f .y) (f .x) (k .x),
+    )
+
+pub numbered-here : (f : Spot) (y1 : ℕ) → Small f → f .y < y1 → Numbered f y1 (countedNumber f * 2048 + f .ties)
 numbered-here f y1 k i = record { here = λ _. spot-number f k; past = λ o. absurd (let no : ⊥ = omega arith in no) }
 
 -- a peak has a number of its own
@@ -45,6 +58,7 @@ found-small m s k p f a l =
     let i = next-inside m s p (placeOf f) (a .next) l in record {
       x = omega (arith, i .right, k .wide);
       y = omega (arith, i .bottom, k .high);
+      neighbours = omega (arith, a .counted l .neighbours, neighbours-few m s k (placeOf f));
       ties = omega (arith, a .counted l .ties, few-at m s k (placeOf f));
     }
 

@@ -13,7 +13,7 @@ use Rattle.detect.specs.Peaks.{peakPlaces, Inside}
 use Rattle.detect.specs.Detect.{peakIn, peaksIn}
 use Rattle.detect.specs.Internal.{place, placeOf, placeBehind, peaksFrom, peakTest, Skipped, NextPeak, NextFound}
 use Rattle.detect.proofs.Ahead.{keep-hit, keep-miss, ahead-start, ahead-row, ahead-end}
-use Rattle.detect.proofs.Tested.{test-no, test-peak, test-ties}
+use Rattle.detect.proofs.Tested.{test-no, test-peak, test-neighbours, test-ties}
 
 -- from p on, the places before q are no peaks, and q lies behind the border's left and upper part
 pub record Passed (m : List Float) (s : Search) (p q : Place) : Type 0 where
@@ -41,10 +41,10 @@ module _ (m : List Float) (s : Search) (p : Place) (x y : ℕ) (a : Passed m s p
         same-ahead = a .same-ahead ∙ keep-miss s x y i j (peakIn m s) (test-no m s (place x y) t told e);
       }
 
-      pub passed-peak : (k : ℕ) → t ≡ Peak k → NextFound m s p (record { x = x; y = y; ties = k })
-      passed-peak k e = record {
-        next = record { same-ahead = a .same-ahead; is-peak = λ _. (passed-inside, test-peak m s (place x y) t told k e) };
-        counted = λ _. record { ties = test-ties m s (place x y) t told k e };
+      pub passed-peak : (n k : ℕ) → t ≡ Peak n k → NextFound m s p (record { x = x; y = y; neighbours = n; ties = k })
+      passed-peak n k e = record {
+        next = record { same-ahead = a .same-ahead; is-peak = λ _. (passed-inside, test-peak m s (place x y) t told n k e) };
+        counted = λ _. record { neighbours = test-neighbours m s (place x y) t told n k e; ties = test-ties m s (place x y) t told n k e };
       }
 
   -- at the end of a row
@@ -56,8 +56,8 @@ module _ (m : List Float) (s : Search) (p : Place) (x y : ℕ) (a : Passed m s p
   }
 
   -- behind the last row
-  pub passed-all : (k : ℕ) → s .h - s .border ≤ y → NextFound m s p (record { x = x; y = y; ties = k })
-  passed-all k j = record {
+  pub passed-all : (n k : ℕ) → s .h - s .border ≤ y → NextFound m s p (record { x = x; y = y; neighbours = n; ties = k })
+  passed-all n k j = record {
     next = record { same-ahead = a .same-ahead; is-peak = λ q. absurd (let no : ⊥ = omega arith in no) };
     counted = λ q. absurd (let no : ⊥ = omega arith in no);
   }

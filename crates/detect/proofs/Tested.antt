@@ -1,6 +1,6 @@
 -- The test of a place by what led to its answer, and what its answer says. Assumes nothing.
 use Prim.Native.Nat.{ℕ, _<_, _≤_}
-use mathlib.Core.Path.{_≡_, refl, sym, ap, _∙_}
+use mathlib.Core.Path.{_≡_, refl, sym, ap, ap₂, _∙_}
 use mathlib.Core.Bool.{Bool, true, false, not, cond}
 use mathlib.Core.List.{List}
 use lib.Dec.{leb}
@@ -13,7 +13,7 @@ use Rattle.detect.specs.declared.WindowTest.the-variants.{Beaten, Top}
 use Rattle.detect.specs.declared.searching.PeakTest.{PeakTest}
 use Rattle.detect.specs.declared.searching.PeakTest.the-variants.{No, Peak}
 use Rattle.detect.specs.Peaks.{valueAt, largerIn, positiveIn, beaten, equals, equalIn, windowTest, tiesOf, positives}
-use Rattle.detect.specs.Detect.{peakIn, testAt, tiesAt}
+use Rattle.detect.specs.Detect.{peakIn, neighboursAt, testAt, tiesAt}
 use Rattle.detect.specs.Internal.{peakTest}
 use Rattle.detect.proofs.Choice.{cell-below, cell-beaten, cell-counted}
 
@@ -23,11 +23,16 @@ isTop (Top n) = true
 
 abbrev passes : PeakTest → Bool
 passes No = false
-passes (Peak n) = true
+passes (Peak n k) = true
+
+-- the two counts, or what stands for them where there is no peak
+abbrev neighboursOr : ℕ → PeakTest → ℕ
+neighboursOr d No = d
+neighboursOr d (Peak n k) = n
 
 abbrev tiesOr : ℕ → PeakTest → ℕ
 tiesOr d No = d
-tiesOr d (Peak n) = n
+tiesOr d (Peak n k) = k
 
 module _ (m : List Float) (s : Search) (p : Place) where
   -- ---- what led to the answer
@@ -57,28 +62,34 @@ module _ (m : List Float) (s : Search) (p : Place) where
       pub tested-few : n < s .«least_neighbours» → No ≡ peakTest m s p
       tested-few o = tested-no (sym (lt-leb (s .«least_neighbours») n o) ∙ enough)
 
-      pub tested-peak : s .«least_neighbours» ≤ n → Peak k ≡ peakTest m s p
-      tested-peak o =
-          rw (← (sym (le-leb (s .«least_neighbours») n o) ∙ enough)) (ap Peak (ap tiesOf (sym is ∙ told)))
+      pub tested-peak : s .«least_neighbours» ≤ n → Peak n k ≡ peakTest m s p
+      tested-peak o = rw (← (sym (le-leb (s .«least_neighbours») n o) ∙ enough)) (ap₂ Peak c (ap tiesOf (sym is ∙ told)))
 
   -- ---- what the answer says
   module _ (t : PeakTest) (told : t ≡ peakTest m s p) where
     test-says : passes t ≡ peakIn m s p
     test-says = ap passes told ∙ pick (peakIn m s p)
       where
-        pick : (b : Bool) → passes (cond b (Peak (tiesAt m s p)) No) ≡ b
+        pick : (b : Bool) → passes (cond b (Peak (neighboursAt m s p) (tiesAt m s p)) No) ≡ b
         pick true = refl
         pick false = refl
 
-    pub test-ties : (k : ℕ) → t ≡ Peak k → k ≡ tiesAt m s p
-    test-ties k is = ap (tiesOr (tiesAt m s p)) (sym is ∙ told) ∙ pick (peakIn m s p)
+    pub test-neighbours : (n k : ℕ) → t ≡ Peak n k → n ≡ neighboursAt m s p
+    test-neighbours n k is = ap (neighboursOr (neighboursAt m s p)) (sym is ∙ told) ∙ pick (peakIn m s p)
       where
-        pick : (b : Bool) → tiesOr (tiesAt m s p) (cond b (Peak (tiesAt m s p)) No) ≡ tiesAt m s p
+        pick : (b : Bool) → neighboursOr (neighboursAt m s p) (cond b (Peak (neighboursAt m s p) (tiesAt m s p)) No) ≡ neighboursAt m s p
+        pick true = refl
+        pick false = refl
+
+    pub test-ties : (n k : ℕ) → t ≡ Peak n k → k ≡ tiesAt m s p
+    test-ties n k is = ap (tiesOr (tiesAt m s p)) (sym is ∙ told) ∙ pick (peakIn m s p)
+      where
+        pick : (b : Bool) → tiesOr (tiesAt m s p) (cond b (Peak (neighboursAt m s p) (tiesAt m s p)) No) ≡ tiesAt m s p
         pick true = refl
         pick false = refl
 
     pub test-no : t ≡ No → peakIn m s p ≡ false
     test-no is = sym test-says ∙ ap passes is
 
-    pub test-peak : (k : ℕ) → t ≡ Peak k → peakIn m s p ≡ true
-    test-peak k is = sym test-says ∙ ap passes is
+    pub test-peak : (n k : ℕ) → t ≡ Peak n k → peakIn m s p ≡ true
+    test-peak n k is = sym test-says ∙ ap passes is

@@ -10,8 +10,8 @@ use borrow.Author.Tests.{not-true, not-false}
 use Rattle.lists.specs.Places.{Place, sumOf}
 use Rattle.detect.specs.declared.Search.{Search}
 use Rattle.detect.specs.declared.WindowTest.the-variants.{Beaten, Top}
-use Rattle.detect.specs.Peaks.{largerIn, equalIn, beaten, equals, windowTest, tiesOf}
-use Rattle.detect.specs.Detect.{readIn, peaksIn, testAt, tiesAt, tiesIn}
+use Rattle.detect.specs.Peaks.{largerIn, equalIn, beaten, equals, windowTest, tiesOf, positiveIn, positives}
+use Rattle.detect.specs.Detect.{readIn, peaksIn, neighboursAt, testAt, tiesAt, tiesIn}
 use Rattle.detect.specs.Internal.{Searchable}
 use Rattle.detect.proofs.Cells.{inside-few}
 use Rattle.detect.proofs.Choice.{peaks-at-most}
@@ -41,6 +41,11 @@ module _ (m : List Float) (s : Search) (k : Searchable m s) where
       pick : (b : Bool) → tiesOf (cond b Beaten (Top (equals (equalIn m (s .w)) (s .w) (s .h) (s .window) p))) ≤ 1089
       pick true = omega arith
       pick false = window-few (s .w) (s .h) (s .window) p (λ q. equalIn m (s .w) q p) (k .radius)
+
+  -- and the positive neighbours of one
+  pub neighbours-few : (p : Place) → neighboursAt m s p ≤ 1089
+  unfolding positives
+  neighbours-few p = window-few (s .w) (s .h) (s .window) p (positiveIn m (s .w)) (k .radius)
 
   -- of a list of them
   few-of : (l : List Place) → sumOf (tiesAt m s) l ≤ 1089 * length l

@@ -10,7 +10,7 @@ use Rattle.corner_list.specs.declared.Corner.{Corner}
 use Rattle.corner_list.specs.CornerList.{Slices, placesOf, withCorner}
 use Rattle.corner_list.proofs.Corners.{same-places}
 use Rattle.corner_list.proofs.Growing.{Growing, growing-none, growing-to, growing-fits, growing-put, growing-all}
-use Rattle.corner_list.proofs.Growing.{growing-xs, growing-ys, growing-strengths}
+use Rattle.corner_list.proofs.Growing.{growing-xs, growing-ys, growing-strengths, growing-neighbours}
 use Rattle.detect.specs.declared.Search.{Search}
 use Rattle.detect.specs.declared.searching.Spot.{Spot}
 use Rattle.detect.specs.declared.Peaks.the-variants.{Added}
@@ -57,7 +57,7 @@ module _ (m : List Float) (s : Search) (t : List ℕ) (n held i ties : ℕ) (b�
     pub writing-place : held + i < placesOf b₀
     writing-place =
         let g = a .growing in
-        rw (← same-places b b₀ (growing-xs _ _ _ _ _ _ g) (growing-ys _ _ _ _ _ _ g) (growing-strengths _ _ _ _ _ _ g))
+        rw (← same-places b b₀ (growing-xs _ _ _ _ _ _ g) (growing-ys _ _ _ _ _ _ g) (growing-strengths _ _ _ _ _ _ g) (growing-neighbours _ _ _ _ _ _ g))
         (growing-fits _ _ _ _ _ _ g _ _ first)
 
     pub writing-less : length (peaksFrom m s (placeBehind here)) < length (peaksFrom m s p)

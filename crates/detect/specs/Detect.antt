@@ -16,7 +16,7 @@ use Rattle.detect.specs.declared.Search.{Search}
 use Rattle.detect.specs.declared.Peaks.{Peaks}
 use Rattle.detect.specs.declared.Peaks.the-variants.{Added, Refused}
 use Rattle.detect.specs.declared.WindowTest.{WindowTest}
-use Rattle.detect.specs.Peaks.{CellTests, isPeak, peakPlaces, valueAt, largerIn, equalIn, computed, windowTest, tiesOf}
+use Rattle.detect.specs.Peaks.{CellTests, isPeak, peakPlaces, valueAt, largerIn, equalIn, positiveIn, computed, windowTest, tiesOf, positives}
 
 -- ---- RULES 4.1, what a map is searched with: border = ring + window + refine radius; a threshold that is NaN or negative counts as 0
 abbrev pub searchOf : ℕ → ℕ → ℕ → Float → ℕ → ℕ → ℕ → Search
@@ -37,9 +37,12 @@ peakIn m s = isPeak (readIn m s) (s .w) (s .h) (s .window) (s .«least_neighbour
 abbrev pub peaksIn : List Float → Search → List Place
 peaksIn m s = peaksBy (readIn m s) s
 
--- ---- RULES 4.5, the corner that a peak starts as: its column and row, and the cell's value as strength
+-- ---- RULES 4.5, the corner that a peak starts as: its column and row, the cell's value as strength, and its positive neighbours (RULES 24)
+abbrev pub neighboursAt : List Float → Search → Place → ℕ
+neighboursAt m s = positives (positiveIn m (s .w)) (s .w) (s .h) (s .window)
+
 abbrev pub startAt : List Float → Search → Place → Corner
-startAt m s p = record { x = floatOf (p .x); y = floatOf (p .y); strength = valueAt m (s .w) p }
+startAt m s p = record { x = floatOf (p .x); y = floatOf (p .y); strength = valueAt m (s .w) p; neighbours = neighboursAt m s p }
 
 abbrev pub startsIn : List Float → Search → List Corner
 startsIn m s = map (startAt m s) (peaksIn m s)

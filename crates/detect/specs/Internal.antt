@@ -12,7 +12,7 @@ use Rattle.detect.specs.declared.searching.Spot.{Spot}
 use Rattle.detect.specs.declared.searching.PeakTest.{PeakTest}
 use Rattle.detect.specs.declared.searching.PeakTest.the-variants.{No, Peak}
 use Rattle.detect.specs.Peaks.{Inside}
-use Rattle.detect.specs.Detect.{peakIn, tiesAt}
+use Rattle.detect.specs.Detect.{peakIn, neighboursAt, tiesAt}
 
 -- column x of row y
 abbrev pub place : ℕ → ℕ → Place
@@ -29,9 +29,9 @@ pub record Searchable (m : List Float) (s : Search) : Type 0 where
 
 -- ---- the search
 
--- the test of a place: whether it is a peak, and then its ties
+-- the test of a place: whether it is a peak, and then its positive neighbours and its ties
 abbrev pub peakTest : List Float → Search → Place → PeakTest
-peakTest m s p = cond (peakIn m s p) (Peak (tiesAt m s p)) No
+peakTest m s p = cond (peakIn m s p) (Peak (neighboursAt m s p) (tiesAt m s p)) No
 
 -- the first n of the cells are at or below t
 pub record Below (cells : List Float) (t : Float) (n : ℕ) : Type 0 where
@@ -73,6 +73,7 @@ placeOf f = place (f .x) (f .y)
 
 -- what was counted of the peak that was found
 pub record Counted (m : List Float) (s : Search) (f : Spot) : Type 0 where
+  pub neighbours : f .neighbours ≡ neighboursAt m s (placeOf f)
   pub ties : f .ties ≡ tiesAt m s (placeOf f)
 
 -- f is the first peak from p on, with what was counted of it, or lies past the last row
@@ -86,14 +87,15 @@ pub record NextFound (m : List Float) (s : Search) (p : Place) (f : Spot) : Type
 abbrev pub placeBehind : Place → Place
 placeBehind p = place (p .x + 1) (p .y)
 
--- the peak that a number stands for: a place has 2,048 numbers, more than a window has cells, and a row 4,096 places, as many as the largest side
+-- the peak that a number stands for: each count has 2,048 numbers, more than a window has cells, and a row 4,096 places, as many as the largest side
 abbrev pub spotOf : ℕ → Spot
-spotOf a = record { x = a / 2048 % 4096; y = a / 2048 / 4096; ties = a % 2048 }
+spotOf a = record { x = a / 2048 / 2048 % 4096; y = a / 2048 / 2048 / 4096; neighbours = a / 2048 % 2048; ties = a % 2048 }
 
 -- f has a number of its own
 pub record Small (f : Spot) : Type 0 where
   pub x : f .x < 4096
   pub y : f .y < 4096
+  pub neighbours : f .neighbours < 2048
   pub ties : f .ties < 2048
 
 -- a is the number of f, or, from row y1 on, that of a place past the last row of any map

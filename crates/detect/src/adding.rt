@@ -9,9 +9,10 @@ ghost use lib.Ieee.{ofInt, binary32};
 ghost use Rattle.corner_list.specs.CornerList.{slices};
 ghost use Rattle.detect.specs.Peaks.{Inside};
 ghost use Rattle.detect.specs.Detect.{peaksIn, startAt, startsIn, tiesIn, PeaksAdded};
-ghost use Rattle.detect.specs.Internal.{place, Searchable, PeaksListed};
+ghost use Rattle.detect.specs.Internal.{placeOf, Searchable, Counted, PeaksListed};
 use crate::Peaks;
 use crate::Search;
+use crate::searching::Spot;
 use crate::searching::value_at;
 use crate::table::list_peaks;
 use crate::table::peak_at;
@@ -25,16 +26,20 @@ fn coordinate(n: usize) -> f32
     n as f32
 }
 
-// The corner that the peak (x, y) starts as.
-fn start_at(map: &[f32], s: Search, x: usize, y: usize) -> Corner
+// The corner that a peak starts as.
+fn start_at(map: &[f32], s: Search, p: Spot) -> Corner
     requires { ⌜ Searchable (now map) s ⌝ }
-    requires { ⌜ Inside (s .w) (s .h) (s .border) (place x y) ⌝ }
-    ensures { λ c. ⌜ c ≡ startAt (now (map .entry)) s (place x y) ⌝ }
+    requires { ⌜ Inside (s .w) (s .h) (s .border) (placeOf p) ⌝ }
+    requires { ⌜ Counted (now map) s p ⌝ }
+    ensures { λ c. ⌜ c ≡ startAt (now (map .entry)) s (placeOf p) ⌝ }
 {
+    let x = p.x;
+    let y = p.y;
     Corner {
         x: coordinate(x),
         y: coordinate(y),
         strength: value_at(map, s, x, y),
+        neighbours: p.neighbours,
     }
 }
 
@@ -87,14 +92,16 @@ fn add_peaks(
     xs: &mut [f32],
     ys: &mut [f32],
     strengths: &mut [f32],
+    neighbours: &mut [u32],
     held: usize,
 ) -> Peaks
     requires { ⌜ Searchable (now map) s ⌝ }
-    ensures { λ r. ⌜ PeaksAdded [] (startsIn (now (map .entry)) s) (tiesIn (now (map .entry)) s) held (slices (now (xs .entry)) (now (ys .entry)) (now (strengths .entry)))
-        r (slices (now (xs .exit)) (now (ys .exit)) (now (strengths .exit))) ⌝ }
+    ensures { λ r. ⌜ PeaksAdded [] (startsIn (now (map .entry)) s) (tiesIn (now (map .entry)) s) held
+        (slices (now (xs .entry)) (now (ys .entry)) (now (strengths .entry)) (now (neighbours .entry)))
+        r (slices (now (xs .exit)) (now (ys .exit)) (now (strengths .exit)) (now (neighbours .exit))) ⌝ }
 {
     let n = list_peaks(map, s, table);
-    let places = corner_list::places(xs.len(), ys.len(), strengths.len());
+    let places = corner_list::places(xs.len(), ys.len(), strengths.len(), neighbours.len());
     if are_too_many(map, s, table, n, places, held) {
         return Peaks::Refused(10);
     }
@@ -108,7 +115,7 @@ fn add_peaks(
         if y1 <= p.y {
             return Peaks::Added(i, ties);
         }
-        corner_list::put_corner(xs, ys, strengths, held + i, start_at(map, s, p.x, p.y));
+        corner_list::put_corner(xs, ys, strengths, neighbours, held + i, start_at(map, s, p));
         ties += p.ties as u64;
         i += 1;
         x = p.x + 1;
@@ -123,15 +130,16 @@ fn add_few(
     xs: &mut [f32],
     ys: &mut [f32],
     strengths: &mut [f32],
+    neighbours: &mut [u32],
     held: usize,
 ) -> Peaks
     requires { ⌜ Searchable (now map) s ⌝ }
     ensures { λ r. ⌜ PeaksAdded [] (startsIn (now (map .entry)) s) (tiesIn (now (map .entry)) s) held
-        (slices (now (xs .entry)) (now (ys .entry)) (now (strengths .entry)))
-        r (slices (now (xs .exit)) (now (ys .exit)) (now (strengths .exit))) ⌝ }
+        (slices (now (xs .entry)) (now (ys .entry)) (now (strengths .entry)) (now (neighbours .entry)))
+        r (slices (now (xs .exit)) (now (ys .exit)) (now (strengths .exit)) (now (neighbours .exit))) ⌝ }
 {
     let mut table = [0u64; 512];
-    add_peaks(map, s, &mut table, xs, ys, strengths, held)
+    add_peaks(map, s, &mut table, xs, ys, strengths, neighbours, held)
 }
 
 // Adds them by a table of 224 KB.
@@ -141,15 +149,16 @@ fn add_many(
     xs: &mut [f32],
     ys: &mut [f32],
     strengths: &mut [f32],
+    neighbours: &mut [u32],
     held: usize,
 ) -> Peaks
     requires { ⌜ Searchable (now map) s ⌝ }
     ensures { λ r. ⌜ PeaksAdded [] (startsIn (now (map .entry)) s) (tiesIn (now (map .entry)) s) held
-        (slices (now (xs .entry)) (now (ys .entry)) (now (strengths .entry)))
-        r (slices (now (xs .exit)) (now (ys .exit)) (now (strengths .exit))) ⌝ }
+        (slices (now (xs .entry)) (now (ys .entry)) (now (strengths .entry)) (now (neighbours .entry)))
+        r (slices (now (xs .exit)) (now (ys .exit)) (now (strengths .exit)) (now (neighbours .exit))) ⌝ }
 {
     let mut table = [0u64; 28672];
-    add_peaks(map, s, &mut table, xs, ys, strengths, held)
+    add_peaks(map, s, &mut table, xs, ys, strengths, neighbours, held)
 }
 
 // Adds them by the smaller table in a map of fewer than 65,536 cells, and by the larger one else. A compiler leaves a function that calls itself,
@@ -161,19 +170,20 @@ pub(crate) fn add_by_table(
     xs: &mut [f32],
     ys: &mut [f32],
     strengths: &mut [f32],
+    neighbours: &mut [u32],
     held: usize,
     cells: usize,
 ) -> Peaks
     requires { ⌜ Searchable (now map) s ⌝ }
     ensures { λ r. ⌜ PeaksAdded [] (startsIn (now (map .entry)) s) (tiesIn (now (map .entry)) s) held
-        (slices (now (xs .entry)) (now (ys .entry)) (now (strengths .entry)))
-        r (slices (now (xs .exit)) (now (ys .exit)) (now (strengths .exit))) ⌝ }
+        (slices (now (xs .entry)) (now (ys .entry)) (now (strengths .entry)) (now (neighbours .entry)))
+        r (slices (now (xs .exit)) (now (ys .exit)) (now (strengths .exit)) (now (neighbours .exit))) ⌝ }
 {
     if cells == 0 {
-        return add_few(map, s, xs, ys, strengths, held);
+        return add_few(map, s, xs, ys, strengths, neighbours, held);
     }
     if cells < 65536 {
-        return add_by_table(map, s, xs, ys, strengths, held, cells / 2);
+        return add_by_table(map, s, xs, ys, strengths, neighbours, held, cells / 2);
     }
-    add_many(map, s, xs, ys, strengths, held)
+    add_many(map, s, xs, ys, strengths, neighbours, held)
 }

@@ -92,13 +92,14 @@ pub fn detect_peaks_from_response_with_refine_radius(
     xs: &mut [f32],
     ys: &mut [f32],
     strengths: &mut [f32],
+    neighbours: &mut [u32],
     held: usize,
 ) -> Peaks
     ensures { λ r. ⌜ PeaksAdded (conditions (length (now (map .entry))) w h ring window «refine_radius»)
         (startsIn (now (map .entry)) (searchOf w h ring threshold window «least_neighbours» «refine_radius»))
         (tiesIn (now (map .entry)) (searchOf w h ring threshold window «least_neighbours» «refine_radius»))
-        held (slices (now (xs .entry)) (now (ys .entry)) (now (strengths .entry)))
-        r (slices (now (xs .exit)) (now (ys .exit)) (now (strengths .exit))) ⌝ }
+        held (slices (now (xs .entry)) (now (ys .entry)) (now (strengths .entry)) (now (neighbours .entry)))
+        r (slices (now (xs .exit)) (now (ys .exit)) (now (strengths .exit)) (now (neighbours .exit))) ⌝ }
 {
     let k = refusal(map.len(), w, h, ring, window, refine_radius);
     if k != 0 {
@@ -113,5 +114,5 @@ pub fn detect_peaks_from_response_with_refine_radius(
         least_neighbours,
         refine_radius,
     );
-    adding::add_by_table(map, s, xs, ys, strengths, held, map.len())
+    adding::add_by_table(map, s, xs, ys, strengths, neighbours, held, map.len())
 }

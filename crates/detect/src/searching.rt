@@ -11,17 +11,18 @@ use crate::WindowTest;
 use crate::neighbors::count_positive_neighbors;
 use crate::neighbors::window_test;
 
-// What a search found: a place of the map, column x of row y, and how many ties the peak there has.
+// What a search found: a place of the map, column x of row y, and how many positive neighbours and ties the peak there has.
 pub(crate) struct Spot {
     pub(crate) x: usize,
     pub(crate) y: usize,
+    pub(crate) neighbours: u32,
     pub(crate) ties: u32,
 }
 
-// Whether a cell is a peak, and then how many ties it has.
+// Whether a cell is a peak, and then how many positive neighbours and ties it has.
 enum PeakTest {
     No,
-    Peak(u32),
+    Peak(u32, u32),
 }
 
 // The value of the cell (x, y).
@@ -35,7 +36,7 @@ pub(crate) fn value_at(map: &[f32], s: Search, x: usize, y: usize) -> f32
     map[at]
 }
 
-// Whether the cell (x, y) is a peak, with its ties: they are counted while its window is at hand.
+// Whether the cell (x, y) is a peak, with its positive neighbours and ties: they are counted while its window is at hand.
 fn peak_test(map: &[f32], s: Search, x: usize, y: usize) -> PeakTest
     requires { ⌜ Searchable (now map) s ⌝ }
     requires { ⌜ Inside (s .w) (s .h) (s .border) (place x y) ⌝ }
@@ -48,8 +49,9 @@ fn peak_test(map: &[f32], s: Search, x: usize, y: usize) -> PeakTest
     let WindowTest::Top(ties) = window_test(map, s, x, y, v) else {
         return PeakTest::No;
     };
-    if s.least_neighbours <= count_positive_neighbors(map, s, x, y, v) {
-        PeakTest::Peak(ties)
+    let neighbours = count_positive_neighbors(map, s, x, y, v);
+    if s.least_neighbours <= neighbours {
+        PeakTest::Peak(neighbours, ties)
     } else {
         PeakTest::No
     }
@@ -164,7 +166,12 @@ pub(crate) fn next_peak(map: &[f32], s: Search, x: usize, y: usize) -> Spot
     let x1 = numbers::minus(s.w, s.border);
     let y1 = numbers::minus(s.h, s.border);
     if y1 <= y {
-        return Spot { x, y, ties: 0 };
+        return Spot {
+            x,
+            y,
+            neighbours: 0,
+            ties: 0,
+        };
     }
     let r = s.window;
     let mut x = x;
@@ -173,8 +180,13 @@ pub(crate) fn next_peak(map: &[f32], s: Search, x: usize, y: usize) -> Spot
     while y < y1 {
         x = skip(map, s, x, y, low);
         if x < x1 {
-            if let PeakTest::Peak(ties) = peak_test(map, s, x, y) {
-                return Spot { x, y, ties };
+            if let PeakTest::Peak(neighbours, ties) = peak_test(map, s, x, y) {
+                return Spot {
+                    x,
+                    y,
+                    neighbours,
+                    ties,
+                };
             }
             x += 1;
         } else {
@@ -185,5 +197,10 @@ pub(crate) fn next_peak(map: &[f32], s: Search, x: usize, y: usize) -> Spot
             }
         }
     }
-    Spot { x, y, ties: 0 }
+    Spot {
+        x,
+        y,
+        neighbours: 0,
+        ties: 0,
+    }
 }

@@ -1,4 +1,4 @@
-// A table of the first peaks, each with its ties as one number, so that they are searched for once.
+// A table of the first peaks, each with its counts as one number, so that they are searched for once.
 ghost use mathlib.Core.Path.{_≡_};
 ghost use Prim.Native.Nat.{_<_};
 ghost use Rattle.detect.specs.Internal.{place, spotOf, Searchable, Small, Numbered, PeaksListed, Standing, NextListed};
@@ -10,10 +10,12 @@ use crate::searching::next_peak;
 fn spot_of(a: u64) -> Spot
     ensures { λ p. ⌜ p ≡ spotOf a ⌝ }
 {
-    let at = a / 2048;
+    let b = a / 2048;
+    let at = b / 2048;
     Spot {
         x: (at % 4096) as usize,
         y: (at / 4096) as usize,
+        neighbours: (b % 2048) as u32,
         ties: (a % 2048) as u32,
     }
 }
@@ -24,9 +26,9 @@ fn number_of(p: Spot, y1: usize) -> u64
     ensures { λ a. ⌜ Numbered p y1 a ⌝ }
 {
     if p.y < y1 {
-        ((p.y * 4096 + p.x) * 2048) as u64 + p.ties as u64
+        (((p.y * 4096 + p.x) * 2048) as u64 + p.neighbours as u64) * 2048 + p.ties as u64
     } else {
-        34359738368
+        70368744177664
     }
 }
 

@@ -33,7 +33,7 @@ paramsOf h =
 
 -- `corners` has 512 places for seeds and 512 for corners (RULES 12.4); 9,216 map cells and 3,072 level pixels are enough for 96 by 96
 abbrev pub places512 : Slices
-places512 = slices (replicate 512 float32.zero) (replicate 512 float32.zero) (replicate 512 float32.zero)
+places512 = slices (replicate 512 float32.zero) (replicate 512 float32.zero) (replicate 512 float32.zero) (replicate 512 0)
 
 abbrev pub programBuffers : Buffers
 programBuffers = buffers (replicate 9216 float32.zero) (replicate 3072 0) places512 places512

@@ -34,13 +34,14 @@ fn list_corners(
     xs: &[f32; 512],
     ys: &[f32; 512],
     strengths: &[f32; 512],
+    neighbours: &[u32; 512],
     count: usize,
     out: &mut [u8; LONGEST],
 ) -> usize
     requires { ⌜ count ≤ 512 ⌝ }
-    ensures { λ r. ⌜ Written (cornersText (cornersOf (slices (now (xs .entry)) (now (ys .entry)) (now (strengths .entry))) count)) (now (out .entry)) r (now (out .exit)) ⌝ }
+    ensures { λ r. ⌜ Written (cornersText (cornersOf (slices (now (xs .entry)) (now (ys .entry)) (now (strengths .entry)) (now (neighbours .entry))) count)) (now (out .entry)) r (now (out .exit)) ⌝ }
 {
-    let listed = listing::write_corners(xs, ys, strengths, count, out);
+    let listed = listing::write_corners(xs, ys, strengths, neighbours, count, out);
     let Listing::Text(end) = listed else {
         return 0;
     };
@@ -56,9 +57,11 @@ fn list_frame(pixels: &[u8], header: Header, out: &mut [u8; LONGEST]) -> usize
     let mut sx = [0.0f32; 512];
     let mut sy = [0.0f32; 512];
     let mut ss = [0.0f32; 512];
+    let mut sn = [0u32; 512];
     let mut cx = [0.0f32; 512];
     let mut cy = [0.0f32; 512];
     let mut cs = [0.0f32; 512];
+    let mut cn = [0u32; 512];
     let answer = frame::find_corners(
         pixels,
         header.width,
@@ -69,12 +72,14 @@ fn list_frame(pixels: &[u8], header: Header, out: &mut [u8; LONGEST]) -> usize
         &mut sx,
         &mut sy,
         &mut ss,
+        &mut sn,
         &mut cx,
         &mut cy,
         &mut cs,
+        &mut cn,
     );
     match answer {
-        FrameAnswer::Corners(count, _) => list_corners(&cx, &cy, &cs, count, out),
+        FrameAnswer::Corners(count, _) => list_corners(&cx, &cy, &cs, &cn, count, out),
         FrameAnswer::Refused(number) => listing::write_refusal(number, out),
     }
 }

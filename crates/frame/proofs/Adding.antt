@@ -19,7 +19,7 @@ use Rattle.ring.specs.Ring.{ringOf, isRing}
 use Rattle.response.specs.Patch.{View}
 use Rattle.response.proofs.Outcome.{area-in}
 use Rattle.corner_list.specs.declared.Corner.{Corner}
-use Rattle.corner_list.specs.CornerList.{Slices, xOf, yOf, strengthOf, placesOf, placedCorners}
+use Rattle.corner_list.specs.CornerList.{Slices, xOf, yOf, strengthOf, neighboursOf, placesOf, placedCorners}
 use Rattle.corner_list.proofs.Corners.{slices-alike}
 use Rattle.detect.specs.declared.Peaks.{Peaks}
 use Rattle.detect.specs.declared.Peaks.the-variants.{Added, Refused}
@@ -51,7 +51,7 @@ module _ (cs : List Corner) (ties held : ℕ) (b : Slices) where
   pub adds-none : cs ≡ [] → ties ≡ 0 → held ≤ placesOf b → Adds cs ties held b (Added 0 0) b
   adds-none e t h =
       adds 0 0 b (ap length (sym e)) (omega arith)
-      (slices-alike (placed-none held (b .xs)) (placed-none held (b .ys)) (placed-none held (b .strengths))
+      (slices-alike (placed-none held (b .xs)) (placed-none held (b .ys)) (placed-none held (b .strengths)) (placed-none held (b .neighbours))
       ∙ ap (λ (l : List Corner). placedCorners held l b) (sym e))
       (sym t)
 
@@ -108,7 +108,9 @@ module _ (cs : List Corner) (ties held t : ℕ) (b₀ b : Slices) (a : Adds cs t
     adds-more n u e =
         let k = d .added n u e in
         adds (cs ++ ds) (ties + more-ties) 0 b₀ (held + n) (t + u) b′ (omega (arith, fitted .0, k .0, length-append cs ds)) (omega (arith, k .1, adds-places))
-        (k .2 ∙ ap (placedCorners held ds) (fitted .2) ∙ slices-alike (more xOf (b₀ .xs)) (more yOf (b₀ .ys)) (more strengthOf (b₀ .strengths)))
+        (k .2
+        ∙ ap (placedCorners held ds) (fitted .2)
+        ∙ slices-alike (more xOf (b₀ .xs)) (more yOf (b₀ .ys)) (more strengthOf (b₀ .strengths)) (more neighboursOf (b₀ .neighbours)))
         (omega (arith, fitted .3, k .3))
       where
         more : {A : Type 0} (g : Corner → A) (s : List A) → placed held (map g ds) (placed 0 (map g cs) s) ≡ placed 0 (map g (cs ++ ds)) s

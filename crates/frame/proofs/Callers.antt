@@ -9,7 +9,6 @@ use mathlib.Core.List.{List, [], _++_, map}
 use lib.ListN.{length}
 use lib.Dec.{ltb}
 use lib.Seq.{drop-at}
-use lib.Ieee.{Float}
 use borrow.Author.Tests.{ltb-false}
 use Rattle.lists.specs.Buffer.{front}
 use Rattle.lists.specs.Refusals.{lowest}
@@ -17,7 +16,7 @@ use Rattle.lists.proofs.Tests.{or-neither}
 use Rattle.lists.proofs.Refusals.{lowest-none}
 use Rattle.pyramid.specs.Pyramid.{above}
 use Rattle.corner_list.specs.declared.Corner.{Corner}
-use Rattle.corner_list.specs.CornerList.{Slices, xOf, yOf, strengthOf, placesOf, cornersOf}
+use Rattle.corner_list.specs.CornerList.{Slices, xOf, yOf, strengthOf, neighboursOf, placesOf, cornersOf}
 use Rattle.corner_list.proofs.Corners.{slices-alike, corners-front}
 use Rattle.merge.proofs.Result.{result-length}
 use Rattle.patch_corners.specs.declared.FrameParams.{FrameParams}
@@ -29,12 +28,13 @@ use Rattle.frame.specs.Frame.{Buffers, tooMany, refusalOf, paddedCorners
 use Rattle.frame.proofs.Numbers.{number-before, number-in-pass}
 
 -- corners that stand first in a buffer are read back
-own-front : (vs r : List Float) → vs ++ r ≡ front vs (vs ++ r)
-own-front vs r = ap (λ (l : List Float). vs ++ l) (sym (drop-at vs r (length vs) refl))
+own-front : {A : Type 0} (vs r : List A) → vs ++ r ≡ front vs (vs ++ r)
+own-front {A} vs r = ap (λ (l : List A). vs ++ l) (sym (drop-at vs r (length vs) refl))
 
 corners-padded : (cs : List Corner) (b : Slices) (n : ℕ) → n ≡ length cs → cornersOf (paddedCorners cs b) n ≡ cs
 corners-padded cs b n e =
-    ap (λ (s : Slices). cornersOf s n) (slices-alike (own-front (map xOf cs) _) (own-front (map yOf cs) _) (own-front (map strengthOf cs) _))
+    ap (λ (s : Slices). cornersOf s n)
+    (slices-alike (own-front (map xOf cs) _) (own-front (map yOf cs) _) (own-front (map strengthOf cs) _) (own-front (map neighboursOf cs) _))
     ∙ corners-front cs (paddedCorners cs b) n e
 
 -- a finished frame: its corners and ties, by the pass, and the buffers

@@ -135,7 +135,7 @@ module _ (p : FrameParams) (img : List ℕ) (w h : ℕ) (m : List Float) (levels
 
   module _ (same : SameLengths s s′) (same′ : SameLengths c c′) where
     places-kept : placesOf c′ ≡ placesOf c
-    places-kept = same-places c′ c (same′ .xs) (same′ .ys) (same′ .strengths)
+    places-kept = same-places c′ c (same′ .xs) (same′ .ys) (same′ .strengths) (same′ .neighbours)
 
     -- merging is not refused
     pub merge-free : Admitted p (length img) w h (length m) (length levels) → All (λ z. isInside z ≡ true) (framePass p img w h (computedChoice p) .found)
@@ -181,7 +181,7 @@ module _ (p : FrameParams) (img : List ℕ) (w h : ℕ) (m : List Float) (levels
             let all = foundOf p img w h (computedChoice p) n in
             let done = cleared all (found-read e) (omega (arith, result-length (p .«merge_radius») all, q .3, q .4)) in
             let es : s″ ≡ paddedCorners seeds s = ws ∙ ap (clearedFrom (answer .seeds)) (q .2)
-            ∙ cleared-front s s (record { xs = refl; ys = refl; strengths = refl }) seeds (answer .seeds) (q .0) (q .1) in
+            ∙ cleared-front s s (record { xs = refl; ys = refl; strengths = refl; neighbours = refl }) seeds (answer .seeds) (q .0) (q .1) in
             let levels-left : levels′ ≡ front (above img w h n) levels = wl ∙ rw e el in
             let answered : r ≡ Corners k (answer .ties) = is ∙ rw e in
             rw answered

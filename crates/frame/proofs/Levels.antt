@@ -18,7 +18,7 @@ use Rattle.pyramid.specs.Pyramid.{levelPixels}
 use Rattle.pyramid_levels.proofs.Sides.{side-le}
 use Rattle.pyramid.proofs.Levels.{level-found, levels-few}
 use Rattle.corner_list.specs.declared.Corner.{Corner}
-use Rattle.corner_list.specs.CornerList.{Slices, xOf, yOf, strengthOf, placesOf, cornersOf, frontCorners, placedCorners}
+use Rattle.corner_list.specs.CornerList.{Slices, xOf, yOf, strengthOf, neighboursOf, placesOf, cornersOf, frontCorners, placedCorners}
 use Rattle.corner_list.proofs.Corners.{slices-alike, corners-front}
 use Rattle.detect.specs.declared.Peaks.{Peaks}
 use Rattle.detect.specs.declared.Peaks.the-variants.{Added, Refused}
@@ -34,7 +34,9 @@ use Rattle.frame.proofs.Adding.{adds-to, boxIn, box-adds}
 
 -- corners added from a buffer's first place on stand first in it
 first-corners : (cs : List Corner) (b : Slices) → placedCorners 0 cs b ≡ frontCorners cs b
-first-corners cs b = slices-alike (placed-first (map xOf cs) (b .xs)) (placed-first (map yOf cs) (b .ys)) (placed-first (map strengthOf cs) (b .strengths))
+first-corners cs b =
+    slices-alike (placed-first (map xOf cs) (b .xs)) (placed-first (map yOf cs) (b .ys)) (placed-first (map strengthOf cs) (b .strengths))
+    (placed-first (map neighboursOf cs) (b .neighbours))
 
 -- a map buffer of another length, at least as long
 pub ready-kept : (p : FrameParams) (img : List ℕ) (w h places places′ : ℕ) → Ready p img w h places → places′ ≡ places → Ready p img w h places′

@@ -8,7 +8,7 @@ use Rattle.lists.specs.Buffer.{front, wipedFrom}
 use Rattle.lists.proofs.Buffer.{wiped-front}
 use Rattle.float32.specs.Float32.{zero}
 use Rattle.corner_list.specs.declared.Corner.{Corner}
-use Rattle.corner_list.specs.CornerList.{Slices, xOf, yOf, strengthOf, placesOf, frontCorners}
+use Rattle.corner_list.specs.CornerList.{Slices, xOf, yOf, strengthOf, neighboursOf, placesOf, frontCorners}
 use Rattle.corner_list.proofs.Corners.{slices-alike}
 use Rattle.frame.specs.Frame.{padded, paddedCorners}
 use Rattle.patch_corners.specs.Clearing.{clearedFrom}
@@ -18,6 +18,7 @@ pub record SameLengths (b b′ : Slices) : Type 0 where
   pub xs : length (b′ .xs) ≡ length (b .xs)
   pub ys : length (b′ .ys) ≡ length (b .ys)
   pub strengths : length (b′ .strengths) ≡ length (b .strengths)
+  pub neighbours : length (b′ .neighbours) ≡ length (b .neighbours)
 
 -- ---- one slice
 module _ {A : Type 0} (z : A) where
@@ -34,6 +35,7 @@ module _ (b b′ : Slices) (same : SameLengths b b′) where
   cleared-front cs n e h =
       slices-alike (each zero xOf (b .xs) (b′ .xs) (omega arith) (same .xs)) (each zero yOf (b .ys) (b′ .ys) (omega arith) (same .ys))
       (each zero strengthOf (b .strengths) (b′ .strengths) (omega arith) (same .strengths))
+      (each 0 neighboursOf (b .neighbours) (b′ .neighbours) (omega arith) (same .neighbours))
     where
       each : {A : Type 0} (z : A) (g : Corner → A) (d d′ : List A) → n ≤ length d → length d′ ≡ length d
           → wipedFrom n z (front (map g cs) d′) ≡ padded z (map g cs) d
@@ -42,4 +44,4 @@ module _ (b b′ : Slices) (same : SameLengths b b′) where
   pub cleared-none : clearedFrom 0 b′ ≡ paddedCorners [] b
   cleared-none =
       slices-alike (padded-none zero (b .xs) (b′ .xs) (same .xs)) (padded-none zero (b .ys) (b′ .ys) (same .ys))
-      (padded-none zero (b .strengths) (b′ .strengths) (same .strengths))
+      (padded-none zero (b .strengths) (b′ .strengths) (same .strengths)) (padded-none 0 (b .neighbours) (b′ .neighbours) (same .neighbours))

@@ -10,7 +10,7 @@ use Rattle.lists.specs.Buffer.{front}
 use Rattle.lists.specs.Refusals.{lowest, valuesUnless}
 use Rattle.float32.specs.Float32 as float32
 use Rattle.pyramid.specs.Pyramid.{above}
-use Rattle.corner_list.specs.CornerList.{Slices, slices, xOf, yOf, strengthOf, placesOf}
+use Rattle.corner_list.specs.CornerList.{Slices, slices, xOf, yOf, strengthOf, neighboursOf, placesOf}
 use Rattle.corner_list.specs.declared.Corner.{Corner}
 use Rattle.patch_corners.specs.declared.FrameParams.{FrameParams}
 use Rattle.patch_corners.specs.OneMap.{computedChoice}
@@ -51,7 +51,7 @@ padded z vs d = vs ++ replicate (length d - length vs) z
 abbrev pub paddedCorners : List Corner → Slices → Slices
 paddedCorners cs b =
     slices (padded float32.zero (map xOf cs) (b .xs)) (padded float32.zero (map yOf cs) (b .ys))
-    (padded float32.zero (map strengthOf cs) (b .strengths))
+    (padded float32.zero (map strengthOf cs) (b .strengths)) (padded 0 (map neighboursOf cs) (b .neighbours))
 
 -- finished: the map buffer zero, the levels above the base first in theirs and behind them as before, the lists first and zero behind
 abbrev pub finished : List ℕ → Pass → Buffers → Buffers

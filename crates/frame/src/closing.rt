@@ -25,15 +25,16 @@ pub(crate) fn finish_corners(
     cx: &mut [f32],
     cy: &mut [f32],
     cs: &mut [f32],
+    cn: &mut [u32],
     n: usize,
     radius: f32,
 ) -> usize
-    requires { ⌜ refusalOf radius (placesOf (slices (now cx) (now cy) (now cs))) n (slices (now cx) (now cy) (now cs)) ≡ 0 ⌝ }
-    ensures { λ k. ⌜ Merging radius n (slices (now (cx .entry)) (now (cy .entry)) (now (cs .entry))) k (slices (now (cx .exit)) (now (cy .exit)) (now (cs .exit))) ⌝ }
+    requires { ⌜ refusalOf radius (placesOf (slices (now cx) (now cy) (now cs) (now cn))) n (slices (now cx) (now cy) (now cs) (now cn)) ≡ 0 ⌝ }
+    ensures { λ k. ⌜ Merging radius n (slices (now (cx .entry)) (now (cy .entry)) (now (cs .entry)) (now (cn .entry))) k (slices (now (cx .exit)) (now (cy .exit)) (now (cs .exit)) (now (cn .exit))) ⌝ }
 {
-    let merged = merge::merge_corners_simple(cx, cy, cs, n, radius);
+    let merged = merge::merge_corners_simple(cx, cy, cs, cn, n, radius);
     let k = kept(merged);
-    clearing::clear_list(cx, cy, cs, k);
+    clearing::clear_list(cx, cy, cs, cn, k);
     k
 }
 

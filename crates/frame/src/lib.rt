@@ -42,24 +42,26 @@ pub fn find_corners(
     sx: &mut [f32],
     sy: &mut [f32],
     ss: &mut [f32],
+    sn: &mut [u32],
     cx: &mut [f32],
     cy: &mut [f32],
     cs: &mut [f32],
+    cn: &mut [u32],
 ) -> FrameAnswer
     ensures { λ r. ⌜ FrameFound p (now (img .entry)) w h
-        (buffers (now (map .entry)) (now (levels .entry)) (slices (now (sx .entry)) (now (sy .entry)) (now (ss .entry))) (slices (now (cx .entry)) (now (cy .entry)) (now (cs .entry))))
+        (buffers (now (map .entry)) (now (levels .entry)) (slices (now (sx .entry)) (now (sy .entry)) (now (ss .entry)) (now (sn .entry))) (slices (now (cx .entry)) (now (cy .entry)) (now (cs .entry)) (now (cn .entry))))
         r
-        (buffers (now (map .exit)) (now (levels .exit)) (slices (now (sx .exit)) (now (sy .exit)) (now (ss .exit))) (slices (now (cx .exit)) (now (cy .exit)) (now (cs .exit)))) ⌝ }
+        (buffers (now (map .exit)) (now (levels .exit)) (slices (now (sx .exit)) (now (sy .exit)) (now (ss .exit)) (now (sn .exit))) (slices (now (cx .exit)) (now (cy .exit)) (now (cs .exit)) (now (cn .exit)))) ⌝ }
 {
     let number = frame_pass::refusal(img.len(), w, h, p, map.len(), levels.len());
     if number != 0 {
         return FrameAnswer::Refused(number);
     }
     let n = build(img, w, h, p, levels);
-    let found = search::search(img, w, h, p, n, levels, map, sx, sy, ss, cx, cy, cs);
+    let found = search::search(img, w, h, p, n, levels, map, sx, sy, ss, sn, cx, cy, cs, cn);
     clearing::clear(map, 0);
     closing::clear_levels(levels, found.fit);
-    clearing::clear_list(sx, sy, ss, found.seeds);
-    let k = closing::finish_corners(cx, cy, cs, found.corners, p.merge_radius);
+    clearing::clear_list(sx, sy, ss, sn, found.seeds);
+    let k = closing::finish_corners(cx, cy, cs, cn, found.corners, p.merge_radius);
     closing::answer_of(found.fit, k, found.ties)
 }

@@ -54,18 +54,34 @@ fn add_patch(
     xs: &mut [f32],
     ys: &mut [f32],
     strengths: &mut [f32],
+    neighbours: &mut [u32],
     held: usize,
 ) -> Peaks
     requires { ⌜ Ready p (now img) w h (length (now map)) ⌝ }
-    requires { ⌜ (held ≤ placesOf (slices (now xs) (now ys) (now strengths))) × (k ≤ 12) ⌝ }
+    requires { ⌜ (held ≤ placesOf (slices (now xs) (now ys) (now strengths) (now neighbours))) × (k ≤ 12) ⌝ }
     ensures { λ r. ⌜ Adds (cornersAbout p (now (img .entry)) w h (computedChoice p) k seed) (tiesAbout p (now (img .entry)) w h (computedChoice p) k seed)
-        held (slices (now (xs .entry)) (now (ys .entry)) (now (strengths .entry))) r (slices (now (xs .exit)) (now (ys .exit)) (now (strengths .exit))) ⌝ }
+        held (slices (now (xs .entry)) (now (ys .entry)) (now (strengths .entry)) (now (neighbours .entry))) r (slices (now (xs .exit)) (now (ys .exit)) (now (strengths .exit)) (now (neighbours .exit))) ⌝ }
 {
     let b = box_of(w, h, p, k, seed);
     let RoiAnswer::Bounds(x0, y0, x1, y1) = b else {
         return Peaks::Added(0, 0);
     };
-    patch_corners::add_box_corners(img, w, h, p, x0, y0, x1, y1, map, xs, ys, strengths, held)
+    patch_corners::add_box_corners(
+        img,
+        w,
+        h,
+        p,
+        x0,
+        y0,
+        x1,
+        y1,
+        map,
+        xs,
+        ys,
+        strengths,
+        neighbours,
+        held,
+    )
 }
 
 // Puts the corners of the boxes of the first n seeds, which are of level k, first in a buffer, and sums the ties of their peaks.
@@ -78,24 +94,26 @@ fn add_patches(
     sx: &[f32],
     sy: &[f32],
     ss: &[f32],
+    sn: &[u32],
     n: usize,
     map: &mut [f32],
     cx: &mut [f32],
     cy: &mut [f32],
     cs: &mut [f32],
+    cn: &mut [u32],
 ) -> Peaks
     requires { ⌜ Ready p (now img) w h (length (now map)) ⌝ }
     requires { ⌜ (k ≤ 12) × (n ≤ 16777216) ⌝ }
-    ensures { λ r. ⌜ Adds (flatMap (cornersAbout p (now (img .entry)) w h (computedChoice p) k) (cornersOf (slices (now (sx .entry)) (now (sy .entry)) (now (ss .entry))) n))
-        (sumOf (tiesAbout p (now (img .entry)) w h (computedChoice p) k) (cornersOf (slices (now (sx .entry)) (now (sy .entry)) (now (ss .entry))) n))
-        0 (slices (now (cx .entry)) (now (cy .entry)) (now (cs .entry))) r (slices (now (cx .exit)) (now (cy .exit)) (now (cs .exit))) ⌝ }
+    ensures { λ r. ⌜ Adds (flatMap (cornersAbout p (now (img .entry)) w h (computedChoice p) k) (cornersOf (slices (now (sx .entry)) (now (sy .entry)) (now (ss .entry)) (now (sn .entry))) n))
+        (sumOf (tiesAbout p (now (img .entry)) w h (computedChoice p) k) (cornersOf (slices (now (sx .entry)) (now (sy .entry)) (now (ss .entry)) (now (sn .entry))) n))
+        0 (slices (now (cx .entry)) (now (cy .entry)) (now (cs .entry)) (now (cn .entry))) r (slices (now (cx .exit)) (now (cy .exit)) (now (cs .exit)) (now (cn .exit))) ⌝ }
 {
     let mut held = 0usize;
     let mut ties = 0u64;
     let mut i = 0usize;
     while i < n {
-        let seed = corner_list::corner_at(sx, sy, ss, i);
-        let f = add_patch(img, w, h, p, k, seed, map, cx, cy, cs, held);
+        let seed = corner_list::corner_at(sx, sy, ss, sn, i);
+        let f = add_patch(img, w, h, p, k, seed, map, cx, cy, cs, cn, held);
         let Peaks::Added(m, t) = f else {
             return f;
         };
@@ -151,23 +169,41 @@ fn search_boxes<'a>(
     sx: &mut [f32],
     sy: &mut [f32],
     ss: &mut [f32],
+    sn: &mut [u32],
     cx: &mut [f32],
     cy: &mut [f32],
     cs: &mut [f32],
+    cn: &mut [u32],
 ) -> Lists
     requires { ⌜ Ready p (now img) w h (length (now map)) ⌝ }
     requires { ⌜ BuiltLevels p (now img) w h n (now levels) ⌝ }
     requires { ⌜ 1 < n ⌝ }
     ensures { λ r. ⌜ Searched (seedsOf p (now (img .entry)) w h (computedChoice p) n) (foundOf p (now (img .entry)) w h (computedChoice p) n)
-        (tiesFound p (now (img .entry)) w h (computedChoice p) n) (slices (now (sx .entry)) (now (sy .entry)) (now (ss .entry))) (slices (now (cx .entry)) (now (cy .entry)) (now (cs .entry))) r
-        (slices (now (sx .exit)) (now (sy .exit)) (now (ss .exit))) (slices (now (cx .exit)) (now (cy .exit)) (now (cs .exit))) ⌝ }
+        (tiesFound p (now (img .entry)) w h (computedChoice p) n) (slices (now (sx .entry)) (now (sy .entry)) (now (ss .entry)) (now (sn .entry))) (slices (now (cx .entry)) (now (cy .entry)) (now (cs .entry)) (now (cn .entry))) r
+        (slices (now (sx .exit)) (now (sy .exit)) (now (ss .exit)) (now (sn .exit))) (slices (now (cx .exit)) (now (cy .exit)) (now (cs .exit)) (now (cn .exit))) ⌝ }
 {
     let k = n - 1;
     let last = pyramid::level(img, levels, w, h, p.levels, p.minimum_side, k);
     let lw = w >> k;
     let lh = h >> k;
-    let f = patch_corners::add_patch_corners(last, lw, lh, p, 0, 0, lw, lh, map, sx, sy, ss, 0);
-    let g = add_patches(img, w, h, p, k, sx, sy, ss, added(f), map, cx, cy, cs);
+    let f = patch_corners::add_patch_corners(last, lw, lh, p, 0, 0, lw, lh, map, sx, sy, ss, sn, 0);
+    let g = add_patches(
+        img,
+        w,
+        h,
+        p,
+        k,
+        sx,
+        sy,
+        ss,
+        sn,
+        added(f),
+        map,
+        cx,
+        cy,
+        cs,
+        cn,
+    );
     lists_of(f, g)
 }
 
@@ -183,22 +219,24 @@ pub(crate) fn search<'a>(
     sx: &mut [f32],
     sy: &mut [f32],
     ss: &mut [f32],
+    sn: &mut [u32],
     cx: &mut [f32],
     cy: &mut [f32],
     cs: &mut [f32],
+    cn: &mut [u32],
 ) -> Lists
     requires { ⌜ Ready p (now img) w h (length (now map)) ⌝ }
     requires { ⌜ BuiltLevels p (now img) w h n (now levels) ⌝ }
     ensures { λ r. ⌜ Searched (seedsOf p (now (img .entry)) w h (computedChoice p) n) (foundOf p (now (img .entry)) w h (computedChoice p) n)
-        (tiesFound p (now (img .entry)) w h (computedChoice p) n) (slices (now (sx .entry)) (now (sy .entry)) (now (ss .entry))) (slices (now (cx .entry)) (now (cy .entry)) (now (cs .entry))) r
-        (slices (now (sx .exit)) (now (sy .exit)) (now (ss .exit))) (slices (now (cx .exit)) (now (cy .exit)) (now (cs .exit))) ⌝ }
+        (tiesFound p (now (img .entry)) w h (computedChoice p) n) (slices (now (sx .entry)) (now (sy .entry)) (now (ss .entry)) (now (sn .entry))) (slices (now (cx .entry)) (now (cy .entry)) (now (cs .entry)) (now (cn .entry))) r
+        (slices (now (sx .exit)) (now (sy .exit)) (now (ss .exit)) (now (sn .exit))) (slices (now (cx .exit)) (now (cy .exit)) (now (cs .exit)) (now (cn .exit))) ⌝ }
 {
     if n == 0 {
         return lists_of(Peaks::Added(0, 0), Peaks::Added(0, 0));
     }
     if n == 1 {
-        let f = patch_corners::add_patch_corners(img, w, h, p, 0, 0, w, h, map, cx, cy, cs, 0);
+        let f = patch_corners::add_patch_corners(img, w, h, p, 0, 0, w, h, map, cx, cy, cs, cn, 0);
         return lists_of(Peaks::Added(0, 0), f);
     }
-    search_boxes(img, w, h, p, n, levels, map, sx, sy, ss, cx, cy, cs)
+    search_boxes(img, w, h, p, n, levels, map, sx, sy, ss, sn, cx, cy, cs, cn)
 }

@@ -39,12 +39,13 @@ Taken c = isInside c ≡ true
 
 -- ---- one map, by any choice
 module _ (p : FrameParams) (v : View) (choose : Choice) where
-  -- what holds of every accepted centre of mass, whatever the strength, holds of each corner
+  -- what holds of every accepted centre of mass, whatever the strength and the neighbours, holds of each corner
   module _ (P : Corner → Type 0)
-      (f : (x y cx cy mass strength : Float) → refined (p .«centroid_radius») x y true (cells v) (mapWidth v) (mapHeight v) ≡ Accepted cx cy mass
-      → P (record { x = cx; y = cy; strength = strength })) where
+      (f : (x y cx cy mass strength : Float) (neighbours : ℕ)
+      → refined (p .«centroid_radius») x y true (cells v) (mapWidth v) (mapHeight v) ≡ Accepted cx cy mass
+      → P (record { x = cx; y = cy; strength = strength; neighbours = neighbours })) where
     landed-all : (c : Corner) (o : Outcome) → refined (p .«centroid_radius») (c .x) (c .y) true (cells v) (mapWidth v) (mapHeight v) ≡ o → All P (landed o c)
-    landed-all c (Accepted x y mass) e = (f (c .x) (c .y) x y mass (c .strength) e, tt)
+    landed-all c (Accepted x y mass) e = (f (c .x) (c .y) x y mass (c .strength) (c .neighbours) e, tt)
     landed-all c (Rejected x y) e = tt
     landed-all c (OutOfBounds x y) e = tt
     landed-all c (IllConditioned x y) e = tt
@@ -60,9 +61,9 @@ module _ (p : FrameParams) (v : View) (choose : Choice) where
     pub map-inside : All (λ c. isInside c ≡ true) (cornersIn p choose v)
     map-inside =
         corners-all Taken
-        (λ x y cx cy mass strength e.
+        (λ x y cx cy mass strength neighbours e.
         let u = within-map (p .«centroid_radius») x y true (cells v) (mapWidth v) (mapHeight v) cx cy mass (map-usual v (f .bytes)) e in
-        inside-upto (record { x = cx; y = cy; strength = strength }) (mapWidth v) (mapHeight v)
+        inside-upto (record { x = cx; y = cy; strength = strength; neighbours = neighbours }) (mapWidth v) (mapHeight v)
         (le-trans (cols-le v) (f .narrow)) (le-trans (rows-le v) (f .low)) (u .0) (u .1))
 
     -- moved by the box's corner, where the box lies in the image
@@ -71,10 +72,11 @@ module _ (p : FrameParams) (v : View) (choose : Choice) where
     moved-inside a b =
         all-mapped Taken (moved (v .x0) (v .y0)) (cornersIn p choose v)
         (corners-all (λ c. Taken (moved (v .x0) (v .y0) c))
-        (λ x y cx cy mass strength e.
+        (λ x y cx cy mass strength neighbours e.
         let u = within-image (p .«centroid_radius») x y true (cells v) (mapWidth v) (mapHeight v) cx cy mass (map-usual v (f .bytes)) e
         (v .x0) (v .y0) (v .w) (v .h) a b (f .narrow) (f .low) in
-        inside-upto (moved (v .x0) (v .y0) (record { x = cx; y = cy; strength = strength })) (v .w) (v .h) (f .narrow) (f .low) (u .0) (u .1)))
+        inside-upto (moved (v .x0) (v .y0) (record { x = cx; y = cy; strength = strength; neighbours = neighbours })) (v .w) (v .h)
+        (f .narrow) (f .low) (u .0) (u .1)))
 
 -- ---- the pass
 module _ (p : FrameParams) (img : List ℕ) (w h : ℕ) where

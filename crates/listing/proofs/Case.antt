@@ -1,4 +1,4 @@
--- The whole case (RULES 14), "corners 1" and "1280 1280 40a00000 40a00000 44fe0000", computed from the definition. Assumes nothing.
+-- The whole case (RULES 14), "corners 1" and "1280 1280 40a00000 40a00000 44fe0000 0", computed from the definition. Assumes nothing.
 use Prim.Native.Nat.{ℕ, _-_, _^_}
 use mathlib.Core.Bool.{true, false}
 use mathlib.Core.Path.{_≡_, refl}
@@ -10,7 +10,7 @@ use Rattle.listing.specs.Text.{decimal, hexadecimal, unitsOf, cornersTex
 
 -- 5, 5 and 2032
 abbrev centre : Corner
-centre = record { x = ofBits binary32 0x40a0_0000; y = ofBits binary32 0x40a0_0000; strength = ofBits binary32 0x44fe_0000 }
+centre = record { x = ofBits binary32 0x40a0_0000; y = ofBits binary32 0x40a0_0000; strength = ofBits binary32 0x44fe_0000; neighbours = 0 }
 
 abbrev text : List ℕ
 text =
@@ -19,7 +19,8 @@ text =
     ++ (49 ∷ 50 ∷ 56 ∷ 48 ∷ 32 ∷ [])
     ++ (52 ∷ 48 ∷ 97 ∷ 48 ∷ 48 ∷ 48 ∷ 48 ∷ 48 ∷ 32 ∷ [])
     ++ (52 ∷ 48 ∷ 97 ∷ 48 ∷ 48 ∷ 48 ∷ 48 ∷ 48 ∷ 32 ∷ [])
-    ++ (52 ∷ 52 ∷ 102 ∷ 101 ∷ 48 ∷ 48 ∷ 48 ∷ 48 ∷ 10 ∷ [])
+    ++ (52 ∷ 52 ∷ 102 ∷ 101 ∷ 48 ∷ 48 ∷ 48 ∷ 48 ∷ 32 ∷ [])
+    ++ (48 ∷ 10 ∷ [])
 
 pub whole-case : cornersText (centre ∷ []) ≡ text
 unfolding cornersText unitsOf roundHalfAway decimal hexadecimal toBits toUnsigned ofBits mul le

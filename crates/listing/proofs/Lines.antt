@@ -29,8 +29,8 @@ units-long : (x : Float) → length (decimal (unitsOf x)) ≤ 20
 units-long x = decimal-long 19 (unitsOf x) (omega (arith, units-below x))
 
 -- ---- a line
-pub line-long : (c : Corner) → length (line (fields c)) ≤ 69
-line-long c =
+pub line-long : (c : Corner) → c .neighbours < 2 ^ 32 → length (line (fields c)) ≤ 80
+line-long c h =
     simp length-append
     (omega (
       arith,
@@ -39,6 +39,7 @@ line-long c =
       hexadecimal-long (toBits binary32 (c .x)),
       hexadecimal-long (toBits binary32 (c .y)),
       hexadecimal-long (toBits binary32 (c .strength)),
+      decimal-long 9 (c .neighbours) (omega arith),
     ))
 
 -- ---- a heading, and one line more

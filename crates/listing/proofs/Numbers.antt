@@ -45,6 +45,9 @@ places-most (suc k) (suc most) n h =
 pub places-word : (n : ℕ) → n < 2 ^ 64 → places n n ≤ 20
 places-word n h = places-most 19 n n (omega arith)
 
+pub places-half-word : (n : ℕ) → n < 2 ^ 32 → places n n ≤ 10
+places-half-word n h = places-most 9 n n (omega arith)
+
 -- ---- counted by dividing: `count` so far, and those of the rest
 pub record Counted (n count rest : ℕ) : Type 0 where
   pub most : ℕ

@@ -5,9 +5,10 @@ use mathlib.Core.List.{List, [], _∷_, _++_}
 use lib.ListN.{length}
 use Rattle.lists.specs.Buffer.{placed}
 
--- the longest text of 512 corners: "corners 512" and a newline, and lines of two numbers of 20 digits, three of 8, and five bytes between and behind
+-- the longest text of 512 corners: "corners 512" and a newline, and lines of two numbers of 20 digits, three of 8, one of 10, and six bytes between
+-- and behind
 abbrev pub longest : ℕ
-longest = 12 + 512 * 69
+longest = 12 + 512 * 80
 
 -- `bytes` stand at `at` of the buffer, which is `after` and was `before`; `end` is the place behind them
 pub record Wrote (bytes : List ℕ) (at : ℕ) (before : List ℕ) (end : ℕ) (after : List ℕ) : Type 0 where

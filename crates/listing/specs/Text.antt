@@ -57,7 +57,7 @@ unfoldable pub unitsOf : Float → ℕ
 unfolding roundHalfAway
 unitsOf x = let a = mul binary32 x (fin false 1 (pos 8)) in unitsBy a (roundHalfAway a)
 
--- x and y in 256ths of a pixel, "then x, y and strength as eight hexadecimal digits of their bits"
+-- RULES 12.1: x and y in 256ths of a pixel, x, y and strength as eight hexadecimal digits of their bits, and the neighbours (24.4)
 abbrev pub fields : Corner → List (List ℕ)
 fields c =
     decimal (unitsOf (c .x))
@@ -65,6 +65,7 @@ fields c =
     ∷ hexadecimal (toBits binary32 (c .x))
     ∷ hexadecimal (toBits binary32 (c .y))
     ∷ hexadecimal (toBits binary32 (c .strength))
+    ∷ decimal (c .neighbours)
     ∷ []
 
 -- columns with a space between them, and a newline behind the last

@@ -9,8 +9,8 @@ ghost use Rattle.listing.specs.Text.{digitOf, digits, places, decimal, h
 ghost use Rattle.listing.specs.Internal.{longest, Wrote, ended};
 ghost use Rattle.listing.specs.Answer.{CornersWritten, RefusalWritten};
 
-// The longest text: a heading of 12 bytes and 512 lines of 69.
-pub const LONGEST: usize = 35340;
+// The longest text: a heading of 12 bytes and 512 lines of 80.
+pub const LONGEST: usize = 40972;
 
 // The number of bytes written, or the number of the refusal.
 pub enum Listing {
@@ -84,7 +84,7 @@ fn decimal_places(n: usize) -> usize
 
 // A number in decimal, and the byte that ends its column.
 fn put_decimal(out: &mut [u8], at: usize, n: usize, end: u8) -> usize
-    requires { ⌜ at + 21 ≤ length (now out) ⌝ }
+    requires { ⌜ at + places n n < length (now out) ⌝ }
     ensures { λ r. ⌜ Wrote (ended (decimal n) end) at (now (out .entry)) r (now (out .exit)) ⌝ }
 {
     let count = decimal_places(n);
@@ -118,14 +118,15 @@ fn units(x: f32) -> usize
 }
 
 fn put_line(out: &mut [u8], at: usize, c: corner_list::Corner) -> usize
-    requires { ⌜ at + 69 ≤ length (now out) ⌝ }
+    requires { ⌜ at + 80 ≤ length (now out) ⌝ }
     ensures { λ r. ⌜ Wrote (line (fields c)) at (now (out .entry)) r (now (out .exit)) ⌝ }
 {
     let behind_x = put_decimal(out, at, units(c.x), b' ');
     let behind_y = put_decimal(out, behind_x, units(c.y), b' ');
     let behind_x_bits = put_bits(out, behind_y, c.x, b' ');
     let behind_y_bits = put_bits(out, behind_x_bits, c.y, b' ');
-    put_bits(out, behind_y_bits, c.strength, b'\n')
+    let behind_strength = put_bits(out, behind_y_bits, c.strength, b' ');
+    put_decimal(out, behind_strength, c.neighbours as usize, b'\n')
 }
 
 // A word and a number.
@@ -139,14 +140,22 @@ fn put_heading(out: &mut [u8], word: &[u8], n: usize) -> usize
 
 // ---- texts
 
-fn put_corners(xs: &[f32], ys: &[f32], strengths: &[f32], count: usize, out: &mut [u8]) -> usize
+fn put_corners(
+    xs: &[f32],
+    ys: &[f32],
+    strengths: &[f32],
+    neighbours: &[u32],
+    count: usize,
+    out: &mut [u8],
+) -> usize
     requires { ⌜ (count ≤ 512) × (length (now out) ≡ longest) ⌝ }
-    ensures { λ r. ⌜ Wrote (cornersText (cornersOf (slices (now (xs .entry)) (now (ys .entry)) (now (strengths .entry))) count)) 0 (now (out .entry)) r (now (out .exit)) ⌝ }
+    ensures { λ r. ⌜ Wrote (cornersText (cornersOf (slices (now (xs .entry)) (now (ys .entry)) (now (strengths .entry)) (now (neighbours .entry))) count))
+        0 (now (out .entry)) r (now (out .exit)) ⌝ }
 {
     let mut at = put_heading(out, b"corners ", count);
     let mut i = 0;
     while i < count {
-        let c = corner_list::corner_at(xs, ys, strengths, i);
+        let c = corner_list::corner_at(xs, ys, strengths, neighbours, i);
         at = put_line(out, at, c);
         i += 1;
     }
@@ -158,15 +167,17 @@ pub fn write_corners(
     xs: &[f32; 512],
     ys: &[f32; 512],
     strengths: &[f32; 512],
+    neighbours: &[u32; 512],
     count: usize,
     out: &mut [u8; LONGEST],
 ) -> Listing
-    ensures { λ r. ⌜ CornersWritten (slices (now (xs .entry)) (now (ys .entry)) (now (strengths .entry))) count (now (out .entry)) r (now (out .exit)) ⌝ }
+    ensures { λ r. ⌜ CornersWritten (slices (now (xs .entry)) (now (ys .entry)) (now (strengths .entry)) (now (neighbours .entry))) count
+        (now (out .entry)) r (now (out .exit)) ⌝ }
 {
     if 512 < count {
         return Listing::Refused(10);
     }
-    Listing::Text(put_corners(xs, ys, strengths, count, out))
+    Listing::Text(put_corners(xs, ys, strengths, neighbours, count, out))
 }
 
 // Writes the text of a refusal.

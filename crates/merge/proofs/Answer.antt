@@ -27,12 +27,12 @@ left-off radius b n e h = subst (λ (cs : List Corner). Left cs b n b) same (rec
     same = unfold resultOf in (rw e)
 
 pub left-on : (radius : Float) (b : Slices) (n : ℕ) (g : Grid) (k : ℕ) (b′ : Slices) → isOff radius ≡ false
-    → ((strengths : List Float) → g ≡ gridOf radius (cornersOf (slices (b .xs) (b .ys) strengths) n))
+    → ((strengths : List Float) (counts : List ℕ) → g ≡ gridOf radius (cornersOf (slices (b .xs) (b .ys) strengths counts) n))
     → Left (merged (joins g) [] (cornersOf b n)) b k b′ → Left (resultOf radius (cornersOf b n)) b k b′
 left-on radius b n g k b′ e is l = subst (λ (cs : List Corner). Left cs b k b′) same l
   where
     same : merged (joins g) [] (cornersOf b n) ≡ resultOf radius (cornersOf b n)
-    same = unfold resultOf in (rw (e, is (b .strengths)))
+    same = unfold resultOf in (rw (e, is (b .strengths) (b .neighbours)))
 
 -- ---- the answer
 pub values-are : (k n : ℕ) → valuesOf (answerOf k n) ≡ valuesUnless k (n ∷ [])

@@ -1,5 +1,6 @@
 -- The worked case of merging (RULES 14), by computation: with radius 1 the corners (1 - 2^-24, 0), (2, 0) and (0, 100) all stay, though the first two
 -- are as near as the radius: the cell numbers 0 and 2 keep them apart. By distance alone two would be left. Assumes nothing.
+use Prim.Native.Nat.{ℕ}
 use mathlib.Core.Path.{_≡_, refl}
 use mathlib.Core.Bool.{Bool, true, false, cond}
 use mathlib.Core.List.{List, [], _∷_}
@@ -11,15 +12,15 @@ use Rattle.merge_radius.specs.MergeRadius.{isOff}
 use Rattle.merge.specs.Grid.{positionOf, gridOf, near, neighbours}
 use Rattle.merge.specs.Merge.{merged, resultOf}
 
-module _ (s t u : Float) where
+module _ (s t u : Float) (k m n : ℕ) where
   abbrev first : Corner
-  first = record { x = fin false 16777215 (negsuc 23); y = zero; strength = s }
+  first = record { x = fin false 16777215 (negsuc 23); y = zero; strength = s; neighbours = k }
 
   abbrev second : Corner
-  second = record { x = fin false 1 (pos 1); y = zero; strength = t }
+  second = record { x = fin false 1 (pos 1); y = zero; strength = t; neighbours = m }
 
   abbrev third : Corner
-  third = record { x = zero; y = fin false 25 (pos 2); strength = u }
+  third = record { x = zero; y = fin false 25 (pos 2); strength = u; neighbours = n }
 
   abbrev given : List Corner
   given = first ∷ second ∷ third ∷ []

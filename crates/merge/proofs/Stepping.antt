@@ -13,7 +13,7 @@ use Rattle.lists.proofs.Tab.{length-tab, tab-ext, tab-add}
 use Rattle.corner_list.specs.declared.Corner.{Corner}
 use Rattle.corner_list.specs.CornerList.{Slices, placesOf, cornerAt, cornersOf, frontCorners}
 use Rattle.corner_list.proofs.Corners.{corners-length, corners-at, corners-front, corners-same, corners-again, corners-behind, front-xs}
-use Rattle.corner_list.proofs.Corners.{front-ys, front-strengths, same-places}
+use Rattle.corner_list.proofs.Corners.{front-ys, front-strengths, front-neighbours, same-places}
 use Rattle.merge.specs.declared.settling.Step.{Step}
 use Rattle.merge.specs.Merge.{settle, merged}
 use Rattle.merge.specs.Internal.{Settled, Left, step, start, IsStep, unsettled, Goes, Comes, Reaches}
@@ -98,8 +98,11 @@ module _ (j : Corner → Corner → Bool) where
         pub comes-strengths : length (b .strengths) ≡ length (b₀ .strengths)
         comes-strengths = ap (λ (d : Slices). length (d .strengths)) (at .goes .buffer) ∙ front-strengths Kept b₀ (s .kept) (sym many) kept-fit
 
+        pub comes-neighbours : length (b .neighbours) ≡ length (b₀ .neighbours)
+        comes-neighbours = ap (λ (d : Slices). length (d .neighbours)) (at .goes .buffer) ∙ front-neighbours Kept b₀ (s .kept) (sym many) kept-fit
+
         pub comes-places : n ≤ placesOf b
-        comes-places = omega (arith, same-places b b₀ comes-xs comes-ys comes-strengths)
+        comes-places = omega (arith, same-places b b₀ comes-xs comes-ys comes-strengths comes-neighbours)
 
         -- so there is one for the next corner
         pub comes-fits : s .done < n → s .kept < placesOf b

@@ -17,7 +17,7 @@ use Rattle.merge.specs.declared.Merged.the-variants.{Kept, Refused}
 
 -- ---- the list that is left
 
--- c if it is strictly stronger than o, else o
+-- c if it is strictly stronger than o, else o; either comes with its own neighbours
 abbrev pub stronger : Corner → Corner → Corner
 stronger c o = cond (lt (o .strength) (c .strength)) c o
 

@@ -3,6 +3,7 @@
 ghost use mathlib.Core.Path.{_≡_};
 ghost use mathlib.Core.Bool.{false};
 ghost use mathlib.Core.List.{List, [], _∷_};
+ghost use Prim.Native.Nat.{ℕ};
 ghost use lib.ListN.{getD};
 ghost use lib.Ieee.{Float, nan, inf};
 ghost use Rattle.lists.specs.Tab.{tab};
@@ -70,9 +71,10 @@ fn least(vs: &[f32], n: usize) -> f32
     m
 }
 
-// The grid of a radius and the first n corners of a buffer, whatever their strengths.
+// The grid of a radius and the first n corners of a buffer, whatever their strengths and neighbours.
 pub fn grid_of(xs: &[f32], ys: &[f32], n: usize, radius: f32) -> Grid
-    ensures { λ g. ⌜ ((strengths : List Float) → g ≡ gridOf radius (cornersOf (slices (now (xs .entry)) (now (ys .entry)) strengths) n)) ⌝ }
+    ensures { λ g. ⌜ ((strengths : List Float) (counts : List ℕ)
+        → g ≡ gridOf radius (cornersOf (slices (now (xs .entry)) (now (ys .entry)) strengths counts) n)) ⌝ }
 {
     Grid {
         left: least(xs, n),

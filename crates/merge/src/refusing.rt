@@ -8,11 +8,11 @@ ghost use Rattle.corner_list.specs.CornerList.{slices, cornersOf, placesOf};
 ghost use Rattle.merge.specs.Refusals.{isOutside, refusalOf};
 
 // Whether one of the first n corners of a buffer is not inside.
-fn has_outside(xs: &[f32], ys: &[f32], strengths: &[f32], n: usize) -> bool
-    ensures { λ r. ⌜ r ≡ any isOutside (cornersOf (slices (now (xs .entry)) (now (ys .entry)) (now (strengths .entry))) n) ⌝ }
+fn has_outside(xs: &[f32], ys: &[f32], strengths: &[f32], neighbours: &[u32], n: usize) -> bool
+    ensures { λ r. ⌜ r ≡ any isOutside (cornersOf (slices (now (xs .entry)) (now (ys .entry)) (now (strengths .entry)) (now (neighbours .entry))) n) ⌝ }
 {
     for i in 0..n {
-        if !corner_list::is_inside(corner_list::corner_at(xs, ys, strengths, i)) {
+        if !corner_list::is_inside(corner_list::corner_at(xs, ys, strengths, neighbours, i)) {
             return true;
         }
     }
@@ -31,16 +31,23 @@ fn refusal_at(
     xs: &[f32],
     ys: &[f32],
     strengths: &[f32],
+    neighbours: &[u32],
     places: usize,
     count: usize,
     radius: f32,
 ) -> u8
-    ensures { λ r. ⌜ r ≡ refusalOf radius places count (slices (now (xs .entry)) (now (ys .entry)) (now (strengths .entry))) ⌝ }
+    ensures { λ r. ⌜ r ≡ refusalOf radius places count (slices (now (xs .entry)) (now (ys .entry)) (now (strengths .entry)) (now (neighbours .entry))) ⌝ }
 {
     if merge_radius::is_off(radius) {
         return crowding(places, count);
     }
-    if has_outside(xs, ys, strengths, numbers::lesser(count, places)) {
+    if has_outside(
+        xs,
+        ys,
+        strengths,
+        neighbours,
+        numbers::lesser(count, places),
+    ) {
         return 4;
     }
     if merge_radius::is_sized(radius) {
@@ -54,16 +61,18 @@ pub fn refusal(
     xs: &[f32],
     ys: &[f32],
     strengths: &[f32],
+    neighbours: &[u32],
     places: usize,
     count: usize,
     radius: f32,
 ) -> u8
-    ensures { λ r. ⌜ r ≡ refusalOf radius (min places (placesOf (slices (now (xs .entry)) (now (ys .entry)) (now (strengths .entry))))) count
-        (slices (now (xs .entry)) (now (ys .entry)) (now (strengths .entry))) ⌝ }
+    ensures { λ r. ⌜ r ≡ refusalOf radius
+        (min places (placesOf (slices (now (xs .entry)) (now (ys .entry)) (now (strengths .entry)) (now (neighbours .entry))))) count
+        (slices (now (xs .entry)) (now (ys .entry)) (now (strengths .entry)) (now (neighbours .entry))) ⌝ }
 {
     let held = numbers::lesser(
         places,
-        corner_list::places(xs.len(), ys.len(), strengths.len()),
+        corner_list::places(xs.len(), ys.len(), strengths.len(), neighbours.len()),
     );
-    refusal_at(xs, ys, strengths, held, count, radius)
+    refusal_at(xs, ys, strengths, neighbours, held, count, radius)
 }

@@ -125,21 +125,22 @@ pub(crate) fn place_for(
     xs: &[f32],
     ys: &[f32],
     strengths: &[f32],
+    neighbours: &[u32],
     table: &[u32],
     g: Grid,
     floor: usize,
     k: usize,
     c: Corner,
 ) -> usize
-    requires { ⌜ k < placesOf (slices (now xs) (now ys) (now strengths)) ⌝ }
+    requires { ⌜ k < placesOf (slices (now xs) (now ys) (now strengths) (now neighbours)) ⌝ }
     requires { ⌜ Indexed g floor (now table) (now xs) (now ys) k ⌝ }
-    ensures { λ r. ⌜ Takes (joins g) k c (slices (now (xs .entry)) (now (ys .entry)) (now (strengths .entry))) r ⌝ }
+    ensures { λ r. ⌜ Takes (joins g) k c (slices (now (xs .entry)) (now (ys .entry)) (now (strengths .entry)) (now (neighbours .entry))) r ⌝ }
 {
     let i = find_joined(xs, ys, table, g, floor, k, crate::grid::position_of(c));
     if k <= i {
         return k;
     }
-    let o = corner_list::corner_at(xs, ys, strengths, i);
+    let o = corner_list::corner_at(xs, ys, strengths, neighbours, i);
     if o.strength < c.strength {
         return i;
     }

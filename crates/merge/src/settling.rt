@@ -29,20 +29,21 @@ fn settle_corner(
     xs: &mut [f32],
     ys: &mut [f32],
     strengths: &mut [f32],
+    neighbours: &mut [u32],
     table: &mut [u32],
     g: Grid,
     floor: usize,
     k: usize,
     c: Corner,
 ) -> usize
-    requires { ⌜ k < placesOf (slices (now xs) (now ys) (now strengths)) ⌝ }
+    requires { ⌜ k < placesOf (slices (now xs) (now ys) (now strengths) (now neighbours)) ⌝ }
     requires { ⌜ Indexed g floor (now table) (now xs) (now ys) k ⌝ }
-    ensures { λ n. ⌜ Settled (joins g) k c (slices (now (xs .entry)) (now (ys .entry)) (now (strengths .entry)))
-        n (slices (now (xs .exit)) (now (ys .exit)) (now (strengths .exit))) ⌝ }
+    ensures { λ n. ⌜ Settled (joins g) k c (slices (now (xs .entry)) (now (ys .entry)) (now (strengths .entry)) (now (neighbours .entry)))
+        n (slices (now (xs .exit)) (now (ys .exit)) (now (strengths .exit)) (now (neighbours .exit))) ⌝ }
     ensures { λ n. ⌜ Indexed g floor (now (table .exit)) (now (xs .exit)) (now (ys .exit)) n ⌝ }
 {
-    let at = crate::search::place_for(xs, ys, strengths, table, g, floor, k, c);
-    corner_list::put_corner(xs, ys, strengths, at, c);
+    let at = crate::search::place_for(xs, ys, strengths, neighbours, table, g, floor, k, c);
+    corner_list::put_corner(xs, ys, strengths, neighbours, at, c);
     crate::index::list_place(table, g, at, crate::grid::position_of(c));
     count_with(k, at)
 }
@@ -52,17 +53,18 @@ fn merge_with(
     xs: &mut [f32],
     ys: &mut [f32],
     strengths: &mut [f32],
+    neighbours: &mut [u32],
     table: &mut [u32],
     g: Grid,
     n: usize,
     s: Step,
     most: usize,
 ) -> Step
-    requires { ⌜ n ≤ placesOf (slices (now xs) (now ys) (now strengths)) ⌝ }
+    requires { ⌜ n ≤ placesOf (slices (now xs) (now ys) (now strengths) (now neighbours)) ⌝ }
     requires { ⌜ 0 < length (now table) ⌝ }
     requires { ⌜ IsStep n s ⌝ }
-    ensures { λ r. ⌜ Reaches (joins g) most n (slices (now (xs .entry)) (now (ys .entry)) (now (strengths .entry))) s
-        (slices (now (xs .exit)) (now (ys .exit)) (now (strengths .exit))) r ⌝ }
+    ensures { λ r. ⌜ Reaches (joins g) most n (slices (now (xs .entry)) (now (ys .entry)) (now (strengths .entry)) (now (neighbours .entry))) s
+        (slices (now (xs .exit)) (now (ys .exit)) (now (strengths .exit)) (now (neighbours .exit))) r ⌝ }
 {
     let done = s.done;
     let mut k = s.kept;
@@ -75,21 +77,28 @@ fn merge_with(
         }
         low = crate::index::floor_at(xs, ys, g, low, i, n);
         floor = crate::index::refresh(xs, ys, table, g, floor, low, k, i);
-        let c = corner_list::corner_at(xs, ys, strengths, i);
-        k = settle_corner(xs, ys, strengths, table, g, floor, k, c);
+        let c = corner_list::corner_at(xs, ys, strengths, neighbours, i);
+        k = settle_corner(xs, ys, strengths, neighbours, table, g, floor, k, c);
     }
     Step { done: n, kept: k }
 }
 
 // Merges with a table of 8 KB, until 512 corners are kept.
-fn merge_few(xs: &mut [f32], ys: &mut [f32], strengths: &mut [f32], g: Grid, n: usize) -> Step
-    requires { ⌜ n ≤ placesOf (slices (now xs) (now ys) (now strengths)) ⌝ }
-    ensures { λ r. ⌜ Reaches (joins g) 512 n (slices (now (xs .entry)) (now (ys .entry)) (now (strengths .entry))) start
-        (slices (now (xs .exit)) (now (ys .exit)) (now (strengths .exit))) r ⌝ }
+fn merge_few(
+    xs: &mut [f32],
+    ys: &mut [f32],
+    strengths: &mut [f32],
+    neighbours: &mut [u32],
+    g: Grid,
+    n: usize,
+) -> Step
+    requires { ⌜ n ≤ placesOf (slices (now xs) (now ys) (now strengths) (now neighbours)) ⌝ }
+    ensures { λ r. ⌜ Reaches (joins g) 512 n (slices (now (xs .entry)) (now (ys .entry)) (now (strengths .entry)) (now (neighbours .entry))) start
+        (slices (now (xs .exit)) (now (ys .exit)) (now (strengths .exit)) (now (neighbours .exit))) r ⌝ }
 {
     let s = Step { done: 0, kept: 0 };
     let mut table = [crate::index::EMPTY; 2048];
-    merge_with(xs, ys, strengths, &mut table, g, n, s, 512)
+    merge_with(xs, ys, strengths, neighbours, &mut table, g, n, s, 512)
 }
 
 // Merges on with a table of 128 KB, until 8,192 corners are kept.
@@ -97,17 +106,18 @@ fn merge_more(
     xs: &mut [f32],
     ys: &mut [f32],
     strengths: &mut [f32],
+    neighbours: &mut [u32],
     g: Grid,
     n: usize,
     s: Step,
 ) -> Step
-    requires { ⌜ n ≤ placesOf (slices (now xs) (now ys) (now strengths)) ⌝ }
+    requires { ⌜ n ≤ placesOf (slices (now xs) (now ys) (now strengths) (now neighbours)) ⌝ }
     requires { ⌜ IsStep n s ⌝ }
-    ensures { λ r. ⌜ Reaches (joins g) 8192 n (slices (now (xs .entry)) (now (ys .entry)) (now (strengths .entry))) s
-        (slices (now (xs .exit)) (now (ys .exit)) (now (strengths .exit))) r ⌝ }
+    ensures { λ r. ⌜ Reaches (joins g) 8192 n (slices (now (xs .entry)) (now (ys .entry)) (now (strengths .entry)) (now (neighbours .entry))) s
+        (slices (now (xs .exit)) (now (ys .exit)) (now (strengths .exit)) (now (neighbours .exit))) r ⌝ }
 {
     let mut table = [crate::index::EMPTY; 32768];
-    merge_with(xs, ys, strengths, &mut table, g, n, s, 8192)
+    merge_with(xs, ys, strengths, neighbours, &mut table, g, n, s, 8192)
 }
 
 // Merges on with a table of 512 KB, to the end.
@@ -115,17 +125,18 @@ fn merge_most(
     xs: &mut [f32],
     ys: &mut [f32],
     strengths: &mut [f32],
+    neighbours: &mut [u32],
     g: Grid,
     n: usize,
     s: Step,
 ) -> Step
-    requires { ⌜ n ≤ placesOf (slices (now xs) (now ys) (now strengths)) ⌝ }
+    requires { ⌜ n ≤ placesOf (slices (now xs) (now ys) (now strengths) (now neighbours)) ⌝ }
     requires { ⌜ IsStep n s ⌝ }
-    ensures { λ r. ⌜ Reaches (joins g) n n (slices (now (xs .entry)) (now (ys .entry)) (now (strengths .entry))) s
-        (slices (now (xs .exit)) (now (ys .exit)) (now (strengths .exit))) r ⌝ }
+    ensures { λ r. ⌜ Reaches (joins g) n n (slices (now (xs .entry)) (now (ys .entry)) (now (strengths .entry)) (now (neighbours .entry))) s
+        (slices (now (xs .exit)) (now (ys .exit)) (now (strengths .exit)) (now (neighbours .exit))) r ⌝ }
 {
     let mut table = [crate::index::EMPTY; 131072];
-    merge_with(xs, ys, strengths, &mut table, g, n, s, n)
+    merge_with(xs, ys, strengths, neighbours, &mut table, g, n, s, n)
 }
 
 // Merges to the end of a list of n corners, or until `most` are kept: with smaller tables first, as far as they go. A compiler leaves a function
@@ -134,26 +145,27 @@ fn merge_up_to(
     xs: &mut [f32],
     ys: &mut [f32],
     strengths: &mut [f32],
+    neighbours: &mut [u32],
     g: Grid,
     n: usize,
     most: usize,
 ) -> Step
-    requires { ⌜ n ≤ placesOf (slices (now xs) (now ys) (now strengths)) ⌝ }
+    requires { ⌜ n ≤ placesOf (slices (now xs) (now ys) (now strengths) (now neighbours)) ⌝ }
     requires { ⌜ most ≤ n ⌝ }
-    ensures { λ r. ⌜ Reaches (joins g) most n (slices (now (xs .entry)) (now (ys .entry)) (now (strengths .entry))) start
-        (slices (now (xs .exit)) (now (ys .exit)) (now (strengths .exit))) r ⌝ }
+    ensures { λ r. ⌜ Reaches (joins g) most n (slices (now (xs .entry)) (now (ys .entry)) (now (strengths .entry)) (now (neighbours .entry))) start
+        (slices (now (xs .exit)) (now (ys .exit)) (now (strengths .exit)) (now (neighbours .exit))) r ⌝ }
 {
     if most < 512 {
-        return merge_few(xs, ys, strengths, g, n);
+        return merge_few(xs, ys, strengths, neighbours, g, n);
     }
-    let s = merge_up_to(xs, ys, strengths, g, n, most / 16);
+    let s = merge_up_to(xs, ys, strengths, neighbours, g, n, most / 16);
     if n <= s.done {
         return s;
     }
     if most < 8192 {
-        return merge_more(xs, ys, strengths, g, n, s);
+        return merge_more(xs, ys, strengths, neighbours, g, n, s);
     }
-    merge_most(xs, ys, strengths, g, n, s)
+    merge_most(xs, ys, strengths, neighbours, g, n, s)
 }
 
 // Merges the first n corners of a buffer in place, and returns how many are left. It judges nothing.
@@ -161,17 +173,19 @@ pub(crate) fn merge_list(
     xs: &mut [f32],
     ys: &mut [f32],
     strengths: &mut [f32],
+    neighbours: &mut [u32],
     n: usize,
     radius: f32,
 ) -> usize
-    requires { ⌜ n ≤ placesOf (slices (now xs) (now ys) (now strengths)) ⌝ }
-    ensures { λ k. ⌜ Left (resultOf radius (cornersOf (slices (now (xs .entry)) (now (ys .entry)) (now (strengths .entry))) n))
-        (slices (now (xs .entry)) (now (ys .entry)) (now (strengths .entry))) k (slices (now (xs .exit)) (now (ys .exit)) (now (strengths .exit))) ⌝ }
+    requires { ⌜ n ≤ placesOf (slices (now xs) (now ys) (now strengths) (now neighbours)) ⌝ }
+    ensures { λ k. ⌜ Left (resultOf radius (cornersOf (slices (now (xs .entry)) (now (ys .entry)) (now (strengths .entry)) (now (neighbours .entry))) n))
+        (slices (now (xs .entry)) (now (ys .entry)) (now (strengths .entry)) (now (neighbours .entry))) k
+        (slices (now (xs .exit)) (now (ys .exit)) (now (strengths .exit)) (now (neighbours .exit))) ⌝ }
 {
     if merge_radius::is_off(radius) {
         return n;
     }
     let g = crate::grid::grid_of(xs, ys, n, radius);
-    let s = merge_up_to(xs, ys, strengths, g, n, n);
+    let s = merge_up_to(xs, ys, strengths, neighbours, g, n, n);
     s.kept
 }

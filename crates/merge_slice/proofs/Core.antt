@@ -1,4 +1,4 @@
--- The answers and refusals of merging in one slice are those of merging in three that hold the same corners, if the scratch is long enough. Assumes nothing.
+-- The answers and refusals of merging in one slice are those of merging in four that hold the same corners, if the scratch is long enough. Assumes nothing.
 use Prim.Native.Nat.{ℕ, zero, suc, _<_, _≤_, min}
 use native.Mathlib.Omega.{arith}
 use mathlib.Core.Path.{_≡_, refl, sym, ap, _∙_}
@@ -10,7 +10,7 @@ use Rattle.lists.specs.Buffer.{front}
 use Rattle.lists.specs.Refusals.{valuesUnless}
 use Rattle.lists.proofs.Buffer.{map-front}
 use Rattle.corner_list.specs.declared.Corner.{Corner}
-use Rattle.corner_list.specs.CornerList.{Slices, slices, xOf, yOf, strengthOf, placesOf, cornerAt, cornersOf, frontCorners}
+use Rattle.corner_list.specs.CornerList.{Slices, slices, xOf, yOf, strengthOf, neighboursOf, placesOf, cornerAt, cornersOf, frontCorners}
 use Rattle.corner_list.proofs.Corners.{slices-alike, corners-length, corners-at}
 use Rattle.merge.specs.declared.Merged.{Merged}
 use Rattle.merge.specs.Merge.{resultOf, refusalOf, answerOf, bufferOf, Merges}
@@ -18,9 +18,9 @@ use Rattle.merge.proofs.Judged.{judged-fits}
 use Rattle.merge_slice.specs.MergeSlice.{sharedPlaces, refusalFor, cornersAfter, MergesSlice}
 use Rattle.merge_slice.proofs.Turns.{nowhere, take-counted}
 
--- ---- the corners of a slice as three slices hold them: the first n, those that stand first, and how many there are
+-- ---- the corners of a slice as four slices hold them: the first n, those that stand first, and how many there are
 abbrev pub columns : List Corner → Slices
-columns cs = slices (map xOf cs) (map yOf cs) (map strengthOf cs)
+columns cs = slices (map xOf cs) (map yOf cs) (map strengthOf cs) (map neighboursOf cs)
 
 columns-corners : (cs : List Corner) (n : ℕ) → n ≤ length cs → cornersOf (columns cs) n ≡ take n cs
 columns-corners cs n h =
@@ -30,24 +30,27 @@ columns-corners cs n h =
     corners-at (columns cs) n i nowhere k ∙ here i ∙ sym (getD-take n cs i nowhere k))
   where
     here : (i : ℕ) → cornerAt (columns cs) i ≡ getD cs i nowhere
-    here i = rw (List·getD-map xOf cs i nowhere, List·getD-map yOf cs i nowhere, List·getD-map strengthOf cs i nowhere)
+    here i = rw (List·getD-map xOf cs i nowhere, List·getD-map yOf cs i nowhere, List·getD-map strengthOf cs i nowhere, List·getD-map neighboursOf cs i nowhere)
 
 columns-front : (us cs : List Corner) → frontCorners us (columns cs) ≡ columns (front us cs)
-columns-front us cs = slices-alike (map-front xOf us cs) (map-front yOf us cs) (map-front strengthOf us cs)
+columns-front us cs = slices-alike (map-front xOf us cs) (map-front yOf us cs) (map-front strengthOf us cs) (map-front neighboursOf us cs)
 
 columns-places : (cs : List Corner) → placesOf (columns cs) ≡ length cs
-columns-places cs = rw (length-map cs xOf, length-map cs yOf, length-map cs strengthOf) (omega arith)
+columns-places cs = rw (length-map cs xOf, length-map cs yOf, length-map cs strengthOf, length-map cs neighboursOf) (omega arith)
+
+all-shared : (n places : ℕ) → n ≤ places → min n places ≡ n
+all-shared n places h = omega arith
 
 module _ (radius : Float) (count : ℕ) (cs : List Corner) where
   abbrev number : ℕ
   number = refusalOf radius (placesOf (columns cs)) count (columns cs)
 
-  -- what is left, of the slice and of three
+  -- what is left, of the slice and of four
   abbrev left : List Corner
   left = resultOf radius (take count cs)
 
-  abbrev left-three : List Corner
-  left-three = resultOf radius (cornersOf (columns cs) count)
+  abbrev left-four : List Corner
+  left-four = resultOf radius (cornersOf (columns cs) count)
 
   -- the corners that are judged
   same-judged : cornersOf (columns cs) (min count (placesOf (columns cs))) ≡ take count cs
@@ -59,23 +62,22 @@ module _ (radius : Float) (count : ℕ) (cs : List Corner) where
   same-number : (scratch : Slices) → length cs ≤ placesOf scratch → refusalFor radius count cs scratch ≡ number
   unfolding refusalFor refusalOf
   same-number scratch h =
-      let places : sharedPlaces cs scratch ≡ placesOf (columns cs) = omega (arith, columns-places cs) in
-      rw (same-judged, places)
+      rw (same-judged, all-shared (length cs) (placesOf scratch) h ∙ sym (columns-places cs))
 
   -- where nothing is refused, the first corners of the slice
-  same-result : number ≡ 0 → left ≡ left-three
+  same-result : number ≡ 0 → left ≡ left-four
   same-result e =
       ap (resultOf radius) (sym (columns-corners cs count (omega (arith, columns-places cs, judged-fits radius (placesOf (columns cs)) count (columns cs) e))))
 
-  same-answer : (k : ℕ) → number ≡ k → answerOf k (length left) ≡ answerOf k (length left-three)
+  same-answer : (k : ℕ) → number ≡ k → answerOf k (length left) ≡ answerOf k (length left-four)
   same-answer zero e = ap (λ (l : List Corner). answerOf 0 (length l)) (same-result e)
   same-answer (suc k) e = refl
 
-  same-values : (k : ℕ) → number ≡ k → valuesUnless k (length left ∷ []) ≡ valuesUnless k (length left-three ∷ [])
+  same-values : (k : ℕ) → number ≡ k → valuesUnless k (length left ∷ []) ≡ valuesUnless k (length left-four ∷ [])
   same-values zero e = ap (λ (l : List Corner). length l ∷ []) (same-result e)
   same-values (suc k) e = refl
 
-  same-buffer : (k : ℕ) → number ≡ k → columns (cornersAfter k left cs) ≡ bufferOf k left-three (columns cs)
+  same-buffer : (k : ℕ) → number ≡ k → columns (cornersAfter k left cs) ≡ bufferOf k left-four (columns cs)
   same-buffer zero e = sym (columns-front left cs) ∙ ap (λ (l : List Corner). frontCorners l (columns cs)) (same-result e)
   same-buffer (suc k) e = refl
 

@@ -1,4 +1,4 @@
--- Merging in one slice is merging in three: exchanged, merged and exchanged again, the corners are what the core leaves of them, and the scratch is as it
+-- Merging in one slice is merging in four: exchanged, merged and exchanged again, the corners are what the core leaves of them, and the scratch is as it
 -- was. Number 4 is judged of all that are counted, before the core's number. Assumes nothing.
 use Prim.Native.Nat.{ℕ, zero, suc, _≤_, min}
 use native.Mathlib.Decide.{decLt}
@@ -18,9 +18,9 @@ use Rattle.lists.proofs.Places.{any-append}
 use Rattle.lists.proofs.Refusals.{lowest-none}
 use Rattle.lists.proofs.Tests.{or-neither}
 use Rattle.corner_list.specs.declared.Corner.{Corner}
-use Rattle.corner_list.specs.CornerList.{Slices, xOf, yOf, strengthOf, placesOf, cornersOf, frontCorners}
+use Rattle.corner_list.specs.CornerList.{Slices, xOf, yOf, strengthOf, neighboursOf, placesOf, cornersOf, frontCorners}
 use Rattle.corner_list.proofs.Corners.{slices-alike, same-places, corners-length, corners-front, corners-same, corners-again}
-use Rattle.corner_list.proofs.Corners.{front-xs, front-ys, front-strengths}
+use Rattle.corner_list.proofs.Corners.{front-xs, front-ys, front-strengths, front-neighbours}
 use Rattle.merge_radius.specs.MergeRadius.{isOff, radiusOutside}
 use Rattle.merge.specs.Refusals.{isOutside}
 use Rattle.merge.proofs.Judged.{judged-fits}
@@ -33,12 +33,12 @@ use Rattle.merge_slice.specs.MergeSlice.{sharedPlaces, refusalFor, corne
 
 -- ---- corners over more of them that stand first
 corners-over : (us cs : List Corner) (b : Slices) → length us ≤ length cs → frontCorners us (frontCorners cs b) ≡ frontCorners (front us cs) b
-corners-over us cs b h = slices-alike (over xOf (b .xs)) (over yOf (b .ys)) (over strengthOf (b .strengths))
+corners-over us cs b h = slices-alike (over xOf (b .xs)) (over yOf (b .ys)) (over strengthOf (b .strengths)) (over neighboursOf (b .neighbours))
   where
-    over : (g : Corner → Float) (d : List Float) → front (map g us) (front (map g cs) d) ≡ front (map g (front us cs)) d
-    over g d =
+    over : {A : Type 0} (g : Corner → A) (d : List A) → front (map g us) (front (map g cs) d) ≡ front (map g (front us cs)) d
+    over {A} g d =
         front-over (map g us) (map g cs) d (omega (arith, length-map us g, length-map cs g))
-        ∙ ap (λ (l : List Float). front l d) (map-front g us cs)
+        ∙ ap (λ (l : List A). front l d) (map-front g us cs)
 
 -- ---- numbers: n corners are exchanged, and the core is told of n places
 few : (count c p k n : ℕ) → n ≡ min count (min c p) → k ≡ p → min n k ≡ n
@@ -117,7 +117,7 @@ module _ (radius : Float) (count : ℕ) (cs : List Corner) (scratch : Slices) (n
   inside-places : placesOf inside ≡ placesOf scratch
   inside-places =
       same-places inside scratch (front-xs (take n cs) scratch n (sym taken) in-scratch) (front-ys (take n cs) scratch n (sym taken) in-scratch)
-      (front-strengths (take n cs) scratch n (sym taken) in-scratch)
+      (front-strengths (take n cs) scratch n (sym taken) in-scratch) (front-neighbours (take n cs) scratch n (sym taken) in-scratch)
 
   -- the core judges the corners in the scratch
   seen : cornersOf inside (min count n) ≡ take n cs

@@ -20,7 +20,7 @@ use Rattle.merge.specs.Refusals.{isOutside}
 
 -- what a place past the end of a slice of corners is taken for
 abbrev pub nowhere : Corner
-nowhere = record { x = nan; y = nan; strength = nan }
+nowhere = record { x = nan; y = nan; strength = nan; neighbours = 0 }
 
 -- ---- the corners after i places
 abbrev pub cornersUpto : List Corner → Slices → ℕ → List Corner

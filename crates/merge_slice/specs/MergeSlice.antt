@@ -1,4 +1,4 @@
--- Merging corners that lie in one slice (RULES 8.6), by the definitions of merging in three.
+-- Merging corners that lie in one slice (RULES 8.6), by the definitions of merging in four.
 use Prim.Native.Nat.{ℕ, zero, suc, min}
 use mathlib.Core.Path.{_≡_}
 use mathlib.Core.Bool.{not, _&&_}

@@ -1,5 +1,5 @@
-// Merging corners that lie in one slice. The core works on three slices of floats, so the corners change places with the elements of
-// three borrowed slices, are merged there, and change places again.
+// Merging corners that lie in one slice. The core works on four slices, one for each field, so the corners change places with the elements of
+// four borrowed slices, are merged there, and change places again.
 ghost use mathlib.Core.Path.{_≡_};
 ghost use mathlib.Core.Bool.{cond, not, _&&_, _||_};
 ghost use Prim.Native.Nat.{_≤_, min};
@@ -14,11 +14,21 @@ ghost use Rattle.merge_slice.specs.MergeSlice.{MergesSlice};
 use corner_list::Corner;
 use merge::Merged;
 
-// The least of a count and the lengths of the four slices.
-fn shared_places(count: usize, corners: usize, xs: usize, ys: usize, strengths: usize) -> usize
-    ensures { λ r. ⌜ r ≡ min count (min corners (min xs (min ys strengths))) ⌝ }
+// The least of a count and the lengths of the five slices.
+fn shared_places(
+    count: usize,
+    corners: usize,
+    xs: usize,
+    ys: usize,
+    strengths: usize,
+    neighbours: usize,
+) -> usize
+    ensures { λ r. ⌜ r ≡ min count (min corners (min xs (min ys (min strengths neighbours)))) ⌝ }
 {
-    corner_list::places(count, corners, corner_list::places(xs, ys, strengths))
+    numbers::lesser(
+        count,
+        numbers::lesser(corners, corner_list::places(xs, ys, strengths, neighbours)),
+    )
 }
 
 // Whether a corner is outside, or one before it was.
@@ -43,11 +53,20 @@ fn has_outside(corners: &[Corner], count: usize) -> bool
 }
 
 // The first n corners and the first n places of a buffer change places.
-fn exchange(corners: &mut [Corner], xs: &mut [f32], ys: &mut [f32], strengths: &mut [f32], n: usize)
-    requires { ⌜ (n ≤ length (now corners)) × (n ≤ placesOf (slices (now xs) (now ys) (now strengths))) ⌝ }
-    ensures { λ _. ⌜ (now (corners .exit) ≡ front (cornersOf (slices (now (xs .entry)) (now (ys .entry)) (now (strengths .entry))) n) (now (corners .entry)))
-        × (slices (now (xs .exit)) (now (ys .exit)) (now (strengths .exit))
-        ≡ frontCorners (take n (now (corners .entry))) (slices (now (xs .entry)) (now (ys .entry)) (now (strengths .entry)))) ⌝ }
+fn exchange(
+    corners: &mut [Corner],
+    xs: &mut [f32],
+    ys: &mut [f32],
+    strengths: &mut [f32],
+    neighbours: &mut [u32],
+    n: usize,
+)
+    requires { ⌜ (n ≤ length (now corners)) × (n ≤ placesOf (slices (now xs) (now ys) (now strengths) (now neighbours))) ⌝ }
+    ensures { λ _. ⌜ (now (corners .exit)
+        ≡ front (cornersOf (slices (now (xs .entry)) (now (ys .entry)) (now (strengths .entry)) (now (neighbours .entry))) n) (now (corners .entry)))
+        × (slices (now (xs .exit)) (now (ys .exit)) (now (strengths .exit)) (now (neighbours .exit))
+        ≡ frontCorners (take n (now (corners .entry)))
+        (slices (now (xs .entry)) (now (ys .entry)) (now (strengths .entry)) (now (neighbours .entry)))) ⌝ }
 {
     for i in 0..n {
         let c = corners[i];
@@ -55,10 +74,12 @@ fn exchange(corners: &mut [Corner], xs: &mut [f32], ys: &mut [f32], strengths: &
             x: xs[i],
             y: ys[i],
             strength: strengths[i],
+            neighbours: neighbours[i],
         };
         xs[i] = c.x;
         ys[i] = c.y;
         strengths[i] = c.strength;
+        neighbours[i] = c.neighbours;
     }
 }
 
@@ -75,23 +96,32 @@ fn judged(outside: bool, radius: f32, answer: Merged) -> Merged
     answer
 }
 
-// Merges the first `count` corners of a slice in place, as `merge_corners_simple` does for three slices. The other slices are scratch: they
+// Merges the first `count` corners of a slice in place, as `merge_corners_simple` does for four slices. The other slices are scratch: they
 // have what they held again at the end.
 pub fn merge_corner_slice(
     corners: &mut [Corner],
     xs: &mut [f32],
     ys: &mut [f32],
     strengths: &mut [f32],
+    neighbours: &mut [u32],
     count: usize,
     radius: f32,
 ) -> Merged
-    ensures { λ r. ⌜ MergesSlice radius count (now (corners .entry)) (slices (now (xs .entry)) (now (ys .entry)) (now (strengths .entry)))
-        r (now (corners .exit)) (slices (now (xs .exit)) (now (ys .exit)) (now (strengths .exit))) ⌝ }
+    ensures { λ r. ⌜ MergesSlice radius count (now (corners .entry))
+        (slices (now (xs .entry)) (now (ys .entry)) (now (strengths .entry)) (now (neighbours .entry)))
+        r (now (corners .exit)) (slices (now (xs .exit)) (now (ys .exit)) (now (strengths .exit)) (now (neighbours .exit))) ⌝ }
 {
     let outside = has_outside(corners, count);
-    let n = shared_places(count, corners.len(), xs.len(), ys.len(), strengths.len());
-    exchange(corners, xs, ys, strengths, n);
-    let answer = merge::merge_within(xs, ys, strengths, n, count, radius);
-    exchange(corners, xs, ys, strengths, n);
+    let n = shared_places(
+        count,
+        corners.len(),
+        xs.len(),
+        ys.len(),
+        strengths.len(),
+        neighbours.len(),
+    );
+    exchange(corners, xs, ys, strengths, neighbours, n);
+    let answer = merge::merge_within(xs, ys, strengths, neighbours, n, count, radius);
+    exchange(corners, xs, ys, strengths, neighbours, n);
     judged(outside, radius, answer)
 }

@@ -6,15 +6,15 @@ use mathlib.Core.Path.{_≡_, refl, sym, ap, ap₂, _∙_}
 use mathlib.Core.List.{List, [], _∷_, _++_, map, append-assoc, append-nil}
 use lib.ListN.{length, take, drop, getD, length-append, length-map}
 use lib.Seq.{length-take-le, take-at, drop-at, getD-append-add, getD-drop}
-use lib.Ieee.{Float, nan}
+use lib.Ieee.{nan}
 use Rattle.lists.specs.Tab.{tab}
 use Rattle.lists.specs.Buffer.{placed}
 use Rattle.lists.proofs.Tab.{length-tab, map-tab}
 use Rattle.lists.proofs.Buffer.{placed-none}
 use Rattle.corner_list.specs.declared.Corner.{Corner}
-use Rattle.corner_list.specs.CornerList.{Slices, xOf, yOf, strengthOf, placesOf, cornerAt, withCorner, placedCorners}
+use Rattle.corner_list.specs.CornerList.{Slices, xOf, yOf, strengthOf, neighboursOf, placesOf, cornerAt, withCorner, placedCorners}
 use Rattle.corner_list.proofs.Corners.{slices-alike, same-places}
-use Rattle.corner_list.proofs.Growing.{Growing, growing-put, growing-all, growing-xs, growing-ys, growing-strengths}
+use Rattle.corner_list.proofs.Growing.{Growing, growing-put, growing-all, growing-xs, growing-ys, growing-strengths, growing-neighbours}
 use Rattle.corner_list.proofs.Placed.{corners-placed}
 use Rattle.patch_corners.specs.Internal.{Changed}
 
@@ -42,15 +42,26 @@ module _ {A : Type 0} (held : ℕ) (vs d : List A) (h : held ≤ length d) where
 
 module _ (held : ℕ) (cs : List Corner) (b : Slices) (h : held ≤ placesOf b) where
   corner-behind : (i : ℕ) → held + length cs ≤ i → cornerAt (placedCorners held cs b) i ≡ cornerAt b i
-  corner-behind i l = rw (behind xOf (b .xs) (omega arith), behind yOf (b .ys) (omega arith), behind strengthOf (b .strengths) (omega arith))
+  corner-behind i l =
+      rw (
+        behind nan xOf (b .xs) (omega arith),
+        behind nan yOf (b .ys) (omega arith),
+        behind nan strengthOf (b .strengths) (omega arith),
+        behind 0 neighboursOf (b .neighbours) (omega arith),
+      )
     where
-      behind : (g : Corner → Float) (d : List Float) → held ≤ length d → getD (placed held (map g cs) d) i nan ≡ getD d i nan
-      behind g d q = placed-behind held (map g cs) d q i nan (omega (arith, length-map cs g))
+      behind : {A : Type 0} (z : A) (g : Corner → A) (d : List A) → held ≤ length d → getD (placed held (map g cs) d) i z ≡ getD d i z
+      behind z g d q = placed-behind held (map g cs) d q i z (omega (arith, length-map cs g))
 
   pub corners-over : (ds : List Corner) → length ds ≡ length cs → placedCorners held ds (placedCorners held cs b) ≡ placedCorners held ds b
-  corners-over ds e = slices-alike (over xOf (b .xs) (omega arith)) (over yOf (b .ys) (omega arith)) (over strengthOf (b .strengths) (omega arith))
+  corners-over ds e =
+      slices-alike
+      (over xOf (b .xs) (omega arith))
+      (over yOf (b .ys) (omega arith))
+      (over strengthOf (b .strengths) (omega arith))
+      (over neighboursOf (b .neighbours) (omega arith))
     where
-      over : (g : Corner → Float) (d : List Float) → held ≤ length d → placed held (map g ds) (placed held (map g cs) d) ≡ placed held (map g ds) d
+      over : {A : Type 0} (g : Corner → A) (d : List A) → held ≤ length d → placed held (map g ds) (placed held (map g cs) d) ≡ placed held (map g ds) d
       over g d q = placed-again held (map g cs) d q (map g ds) (length-map ds g ∙ e ∙ sym (length-map cs g))
 
 -- ---- i of the n corners of a buffer b, which was b₀, are replaced
@@ -61,7 +72,10 @@ pub record Changing (f : Corner → Corner) (held n i : ℕ) (b₀ b : Slices) :
 module _ (f : Corner → Corner) (held n : ℕ) (b₀ : Slices) where
   pub changing-none : Changing f held n 0 b₀ b₀
   unfolding tab
-  changing-none = record { upto = omega arith; is = slices-alike (placed-none held (b₀ .xs)) (placed-none held (b₀ .ys)) (placed-none held (b₀ .strengths)) }
+  changing-none = record {
+    upto = omega arith;
+    is = slices-alike (placed-none held (b₀ .xs)) (placed-none held (b₀ .ys)) (placed-none held (b₀ .strengths)) (placed-none held (b₀ .neighbours));
+  }
 
   module _ (fits : held + n ≤ placesOf b₀) (i : ℕ) (b : Slices) (at : Changing f held n i b₀ b) where
     abbrev read : ℕ → Corner
@@ -85,6 +99,9 @@ module _ (f : Corner → Corner) (held n : ℕ) (b₀ : Slices) where
 
     pub changing-strengths : length (b .strengths) ≡ length (b₀ .strengths)
     changing-strengths = growing-strengths (tab i read) [] held i b₀ b grown
+
+    pub changing-neighbours : length (b .neighbours) ≡ length (b₀ .neighbours)
+    changing-neighbours = growing-neighbours (tab i read) [] held i b₀ b grown
 
     -- one more
     same-corner : cornerAt b (held + i) ≡ cornerAt b₀ (held + i)
@@ -126,6 +143,7 @@ module _ (cs : List Corner) (held : ℕ) (b : Slices) (h : held + length cs ≤ 
       (growing-xs cs [] held (length cs) b (placedCorners held cs b) placed-grown)
       (growing-ys cs [] held (length cs) b (placedCorners held cs b) placed-grown)
       (growing-strengths cs [] held (length cs) b (placedCorners held cs b) placed-grown)
+      (growing-neighbours cs [] held (length cs) b (placedCorners held cs b) placed-grown)
 
 module _ (f : Corner → Corner) (cs : List Corner) (held : ℕ) (b b′ : Slices) (n : ℕ) (e : n ≡ length cs) (fits : held + n ≤ placesOf b)
     (is : b′ ≡ placedCorners held cs b) where

@@ -8,7 +8,8 @@ use Rattle.corner_list.specs.CornerList.{Slices, slices}
 
 -- a buffer of corners, zero from place n on
 abbrev pub clearedFrom : ℕ → Slices → Slices
-clearedFrom n b = slices (wipedFrom n float32.zero (b .xs)) (wipedFrom n float32.zero (b .ys)) (wipedFrom n float32.zero (b .strengths))
+clearedFrom n b =
+    slices (wipedFrom n float32.zero (b .xs)) (wipedFrom n float32.zero (b .ys)) (wipedFrom n float32.zero (b .strengths)) (wipedFrom n 0 (b .neighbours))
 
 -- a buffer after a call, by the call's number (RULES 9.6 and 9.7): as the call leaves it where there is none; cleared by 10, a list that does
 -- not fit; and by any other refusal as it was

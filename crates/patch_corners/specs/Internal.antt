@@ -20,7 +20,7 @@ pub record Changed (f : Corner → Corner) (held n : ℕ) (b b′ : Slices) : Ty
 
 -- a corner at its centre of mass, or where it stands if that is not accepted (`centre`): so a list keeps its places
 abbrev pub landing : Outcome → Corner → Corner
-landing (Accepted x y mass) c = record { x = x; y = y; strength = c .strength }
+landing (Accepted x y mass) c = record { x = x; y = y; strength = c .strength; neighbours = c .neighbours }
 landing (Rejected x y) c = c
 landing (OutOfBounds x y) c = c
 landing (IllConditioned x y) c = c

@@ -22,9 +22,9 @@ use Rattle.patch_corners.specs.declared.FrameParams.{FrameParams}
 abbrev pub Choice : Type 0
 Choice = View → List Place
 
--- an accepted corner goes to its centre of mass, and its strength stays; any other is dropped
+-- an accepted corner goes to its centre of mass, and its strength and its neighbours stay; any other is dropped
 abbrev pub landed : Outcome → Corner → List Corner
-landed (Accepted x y mass) c = record { x = x; y = y; strength = c .strength } ∷ []
+landed (Accepted x y mass) c = record { x = x; y = y; strength = c .strength; neighbours = c .neighbours } ∷ []
 landed (Rejected x y) c = []
 landed (OutOfBounds x y) c = []
 landed (IllConditioned x y) c = []
@@ -32,7 +32,8 @@ landed (Refused n) c = []
 
 -- a corner moved by a box's corner (RULES 9.3)
 abbrev pub moved : ℕ → ℕ → Corner → Corner
-moved x0 y0 c = record { x = add binary32 (c .x) (floatOf x0); y = add binary32 (c .y) (floatOf y0); strength = c .strength }
+moved x0 y0 c =
+    record { x = add binary32 (c .x) (floatOf x0); y = add binary32 (c .y) (floatOf y0); strength = c .strength; neighbours = c .neighbours }
 
 -- ---- one map, with the parameters p
 module _ (p : FrameParams) where

@@ -21,18 +21,34 @@ pub fn add_box_corners(
     xs: &mut [f32],
     ys: &mut [f32],
     strengths: &mut [f32],
+    neighbours: &mut [u32],
     held: usize,
 ) -> Peaks
     ensures { λ r. ⌜ AddedBox p (record { img = now (img .entry); w = w; h = h; ring = ringOf (p .ring); x0 = x0; y0 = y0; x1 = x1; y1 = y1 })
-        held (now (map .entry)) (slices (now (xs .entry)) (now (ys .entry)) (now (strengths .entry)))
-        r (now (map .exit)) (slices (now (xs .exit)) (now (ys .exit)) (now (strengths .exit))) ⌝ }
+        held (now (map .entry)) (slices (now (xs .entry)) (now (ys .entry)) (now (strengths .entry)) (now (neighbours .entry)))
+        r (now (map .exit)) (slices (now (xs .exit)) (now (ys .exit)) (now (strengths .exit)) (now (neighbours .exit))) ⌝ }
 {
-    let f = crate::add_patch_corners(img, w, h, p, x0, y0, x1, y1, map, xs, ys, strengths, held);
+    let f = crate::add_patch_corners(
+        img,
+        w,
+        h,
+        p,
+        x0,
+        y0,
+        x1,
+        y1,
+        map,
+        xs,
+        ys,
+        strengths,
+        neighbours,
+        held,
+    );
     let Peaks::Added(n, ties) = f else {
         return f;
     };
     let left = numbers::lesser(x0, w);
     let top = numbers::lesser(y0, h);
-    crate::shifting::shift_all(left, top, xs, ys, strengths, held, n);
+    crate::shifting::shift_all(left, top, xs, ys, strengths, neighbours, held, n);
     Peaks::Added(n, ties)
 }

@@ -24,12 +24,28 @@ pub fn clear_bytes(d: &mut [u8])
     }
 }
 
+// Sets a slice of counts from n on to 0.
+fn clear_counts(counts: &mut [u32], n: usize)
+    ensures { λ _. ⌜ now (counts .exit) ≡ wipedFrom n 0 (now (counts .entry)) ⌝ }
+{
+    for i in n..counts.len() {
+        counts[i] = 0;
+    }
+}
+
 // Sets the places of a buffer of corners from n on to 0.
-pub fn clear_list(xs: &mut [f32], ys: &mut [f32], strengths: &mut [f32], n: usize)
-    ensures { λ _. ⌜ slices (now (xs .exit)) (now (ys .exit)) (now (strengths .exit))
-        ≡ clearedFrom n (slices (now (xs .entry)) (now (ys .entry)) (now (strengths .entry))) ⌝ }
+pub fn clear_list(
+    xs: &mut [f32],
+    ys: &mut [f32],
+    strengths: &mut [f32],
+    neighbours: &mut [u32],
+    n: usize,
+)
+    ensures { λ _. ⌜ slices (now (xs .exit)) (now (ys .exit)) (now (strengths .exit)) (now (neighbours .exit))
+        ≡ clearedFrom n (slices (now (xs .entry)) (now (ys .entry)) (now (strengths .entry)) (now (neighbours .entry))) ⌝ }
 {
     clear(xs, n);
     clear(ys, n);
     clear(strengths, n);
+    clear_counts(neighbours, n);
 }

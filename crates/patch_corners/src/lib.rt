@@ -38,10 +38,11 @@ fn add_peaks(
     xs: &mut [f32],
     ys: &mut [f32],
     strengths: &mut [f32],
+    neighbours: &mut [u32],
     held: usize,
 ) -> Peaks
     ensures { λ r. ⌜ PeaksAdded (conditions (length (now (map .entry))) w h (p .ring) (p .window) (p .«centroid_radius»)) (centresIn p (now (map .entry)) w h)
-        (tiesWith p (now (map .entry)) w h) held (slices (now (xs .entry)) (now (ys .entry)) (now (strengths .entry))) r (slices (now (xs .exit)) (now (ys .exit)) (now (strengths .exit))) ⌝ }
+        (tiesWith p (now (map .entry)) w h) held (slices (now (xs .entry)) (now (ys .entry)) (now (strengths .entry)) (now (neighbours .entry))) r (slices (now (xs .exit)) (now (ys .exit)) (now (strengths .exit)) (now (neighbours .exit))) ⌝ }
 {
     let f = detect::detect_peaks_from_response_with_refine_radius(
         map,
@@ -55,12 +56,24 @@ fn add_peaks(
         xs,
         ys,
         strengths,
+        neighbours,
         held,
     );
     let Peaks::Added(n, sum) = f else {
         return f;
     };
-    localizing::centre_all(map, w, h, p.centroid_radius, xs, ys, strengths, held, n);
+    localizing::centre_all(
+        map,
+        w,
+        h,
+        p.centroid_radius,
+        xs,
+        ys,
+        strengths,
+        neighbours,
+        held,
+        n,
+    );
     Peaks::Added(n, sum)
 }
 
@@ -79,11 +92,12 @@ pub fn add_patch_corners(
     xs: &mut [f32],
     ys: &mut [f32],
     strengths: &mut [f32],
+    neighbours: &mut [u32],
     held: usize,
 ) -> Peaks
     ensures { λ r. ⌜ AddedCorners p (record { img = now (img .entry); w = w; h = h; ring = ringOf (p .ring); x0 = x0; y0 = y0; x1 = x1; y1 = y1 })
-        held (now (map .entry)) (slices (now (xs .entry)) (now (ys .entry)) (now (strengths .entry)))
-        r (now (map .exit)) (slices (now (xs .exit)) (now (ys .exit)) (now (strengths .exit))) ⌝ }
+        held (now (map .entry)) (slices (now (xs .entry)) (now (ys .entry)) (now (strengths .entry)) (now (neighbours .entry)))
+        r (now (map .exit)) (slices (now (xs .exit)) (now (ys .exit)) (now (strengths .exit)) (now (neighbours .exit))) ⌝ }
 {
     let number = detect::refusal(img.len(), w, h, p.ring, p.window, p.centroid_radius);
     if number != 0 {
@@ -94,10 +108,20 @@ pub fn add_patch_corners(
         return Peaks::Refused(8);
     };
     let cells = ph * pw;
-    let f = add_peaks(&map[..cells], pw, ph, p, xs, ys, strengths, held);
+    let f = add_peaks(
+        &map[..cells],
+        pw,
+        ph,
+        p,
+        xs,
+        ys,
+        strengths,
+        neighbours,
+        held,
+    );
     let Peaks::Added(n, ties) = f else {
         clearing::clear(map, 0);
-        clearing::clear_list(xs, ys, strengths, 0);
+        clearing::clear_list(xs, ys, strengths, neighbours, 0);
         return f;
     };
     Peaks::Added(n, ties)

@@ -20,6 +20,7 @@ fn centre(c: Corner, radius: u32, map: &[f32], w: usize, h: usize) -> Corner
         x,
         y,
         strength: c.strength,
+        neighbours: c.neighbours,
     }
 }
 
@@ -32,15 +33,23 @@ pub(crate) fn centre_all(
     xs: &mut [f32],
     ys: &mut [f32],
     strengths: &mut [f32],
+    neighbours: &mut [u32],
     held: usize,
     n: usize,
 )
-    requires { ⌜ held + n ≤ placesOf (slices (now xs) (now ys) (now strengths)) ⌝ }
-    ensures { λ _. ⌜ Changed (centred radius (now (map .entry)) w h) held n (slices (now (xs .entry)) (now (ys .entry)) (now (strengths .entry)))
-        (slices (now (xs .exit)) (now (ys .exit)) (now (strengths .exit))) ⌝ }
+    requires { ⌜ held + n ≤ placesOf (slices (now xs) (now ys) (now strengths) (now neighbours)) ⌝ }
+    ensures { λ _. ⌜ Changed (centred radius (now (map .entry)) w h) held n (slices (now (xs .entry)) (now (ys .entry)) (now (strengths .entry)) (now (neighbours .entry)))
+        (slices (now (xs .exit)) (now (ys .exit)) (now (strengths .exit)) (now (neighbours .exit))) ⌝ }
 {
     for i in 0..n {
-        let c = corner_list::corner_at(xs, ys, strengths, held + i);
-        corner_list::put_corner(xs, ys, strengths, held + i, centre(c, radius, map, w, h));
+        let c = corner_list::corner_at(xs, ys, strengths, neighbours, held + i);
+        corner_list::put_corner(
+            xs,
+            ys,
+            strengths,
+            neighbours,
+            held + i,
+            centre(c, radius, map, w, h),
+        );
     }
 }

@@ -15,6 +15,7 @@ fn shift(c: Corner, x0: usize, y0: usize) -> Corner
         x: c.x + x0 as f32,
         y: c.y + y0 as f32,
         strength: c.strength,
+        neighbours: c.neighbours,
     }
 }
 
@@ -25,16 +26,17 @@ pub(crate) fn shift_all(
     xs: &mut [f32],
     ys: &mut [f32],
     strengths: &mut [f32],
+    neighbours: &mut [u32],
     held: usize,
     n: usize,
 )
-    requires { ⌜ held + n ≤ placesOf (slices (now xs) (now ys) (now strengths)) ⌝ }
+    requires { ⌜ held + n ≤ placesOf (slices (now xs) (now ys) (now strengths) (now neighbours)) ⌝ }
     requires { ⌜ (x0 ≤ 4096) × (y0 ≤ 4096) ⌝ }
-    ensures { λ _. ⌜ Changed (moved x0 y0) held n (slices (now (xs .entry)) (now (ys .entry)) (now (strengths .entry)))
-        (slices (now (xs .exit)) (now (ys .exit)) (now (strengths .exit))) ⌝ }
+    ensures { λ _. ⌜ Changed (moved x0 y0) held n (slices (now (xs .entry)) (now (ys .entry)) (now (strengths .entry)) (now (neighbours .entry)))
+        (slices (now (xs .exit)) (now (ys .exit)) (now (strengths .exit)) (now (neighbours .exit))) ⌝ }
 {
     for i in 0..n {
-        let c = corner_list::corner_at(xs, ys, strengths, held + i);
-        corner_list::put_corner(xs, ys, strengths, held + i, shift(c, x0, y0));
+        let c = corner_list::corner_at(xs, ys, strengths, neighbours, held + i);
+        corner_list::put_corner(xs, ys, strengths, neighbours, held + i, shift(c, x0, y0));
     }
 }

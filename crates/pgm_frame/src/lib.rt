@@ -15,21 +15,23 @@ pub fn find_pgm_corners(
     sx: &mut [f32],
     sy: &mut [f32],
     ss: &mut [f32],
+    sn: &mut [u32],
     cx: &mut [f32],
     cy: &mut [f32],
     cs: &mut [f32],
+    cn: &mut [u32],
 ) -> FrameAnswer
     ensures { λ r. ⌜ PhotographFound p (now (upload .entry))
-        (buffers (now (map .entry)) (now (levels .entry)) (slices (now (sx .entry)) (now (sy .entry)) (now (ss .entry))) (slices (now (cx .entry)) (now (cy .entry)) (now (cs .entry))))
+        (buffers (now (map .entry)) (now (levels .entry)) (slices (now (sx .entry)) (now (sy .entry)) (now (ss .entry)) (now (sn .entry))) (slices (now (cx .entry)) (now (cy .entry)) (now (cs .entry)) (now (cn .entry))))
         r
-        (buffers (now (map .exit)) (now (levels .exit)) (slices (now (sx .exit)) (now (sy .exit)) (now (ss .exit))) (slices (now (cx .exit)) (now (cy .exit)) (now (cs .exit)))) ⌝ }
+        (buffers (now (map .exit)) (now (levels .exit)) (slices (now (sx .exit)) (now (sy .exit)) (now (ss .exit)) (now (sn .exit))) (slices (now (cx .exit)) (now (cy .exit)) (now (cs .exit)) (now (cn .exit)))) ⌝ }
 {
     let image = pgm::read_pgm(upload);
     match image {
         PgmImage::Refused(n) => FrameAnswer::Refused(n),
         PgmImage::Pixels { at: _, w, h } => {
             let pixels = pgm::pgm_pixels(upload);
-            frame::find_corners(pixels, w, h, p, map, levels, sx, sy, ss, cx, cy, cs)
+            frame::find_corners(pixels, w, h, p, map, levels, sx, sy, ss, sn, cx, cy, cs, cn)
         }
     }
 }

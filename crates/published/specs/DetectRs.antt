@@ -14,14 +14,15 @@ use Rattle.detect.specs.Detect.{searchOf, startsIn}
 use Rattle.published.specs.Rust.{asUsize, maxZ, IsMax}
 use Rattle.published.specs.NeighborsRs.{isLocalMaxRs, countPositiveRs}
 
--- one turn of its loops, at a cell: the corner that is pushed, if any
+-- one turn of its loops, at a cell: the corner that is pushed, if any. The Rust's corner has no neighbours: here it takes along the count that its
+-- last test compares
 unfoldable pub peakRs : List Float → ℕ → ℕ → Float → ℕ → ℕ → Place → List Corner
 peakRs m w h thr nms least p =
     let v = valueAt m w p in
     cond (le v thr) []
     (cond (not (isLocalMaxRs m w h p nms v)) []
     (cond (ltb (countPositiveRs m w h p nms) least) []
-    (record { x = ofInt binary32 (pos (p .x)); y = ofInt binary32 (pos (p .y)); strength = v } ∷ [])))
+    (record { x = ofInt binary32 (pos (p .x)); y = ofInt binary32 (pos (p .y)); strength = v; neighbours = countPositiveRs m w h p nms } ∷ [])))
 
 unfoldable pub peaksRs : List Float → ℕ → ℕ → ℕ → Float → ℕ → ℕ → ℕ → List Corner
 peaksRs m w h ring thr nms least refine =

@@ -1,4 +1,4 @@
--- merge.rs: `merge_corners_simple`.
+-- merge.rs: `merge_corners_simple`. No test of it reads the neighbours: they go with the corner that is pushed, or that replaces another.
 use Prim.Native.Nat.{ℕ, _+_, _-_, _*_, _%_, _^_, _<_, min}
 use mathlib.Core.Path.{_≡_}
 use mathlib.Core.Bool.{Bool, true, false, cond, not, _&&_, _||_}
@@ -79,7 +79,7 @@ pub record StateRs : Type 0 where
   pub grid : ℕ → List ℕ
 
 abbrev pub nowhere : Corner
-nowhere = record { x = nan; y = nan; strength = nan }
+nowhere = record { x = nan; y = nan; strength = nan; neighbours = 0 }
 
 abbrev pub outAt : List Corner → ℕ → Corner
 outAt out i = getD out i nowhere

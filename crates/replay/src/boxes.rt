@@ -19,6 +19,7 @@ fn answer(body: &[u8]) -> RoiAnswer {
         x: float(body, 7),
         y: float(body, 8),
         strength: 0.0,
+        neighbours: 0,
     };
     context(body).compute_roi(seed)
 }

@@ -2,32 +2,28 @@
 use crate::fields::and;
 use crate::fields::byte_at;
 use crate::fields::bytes_at;
-use crate::fields::floats_at;
 use crate::fields::part;
 use crate::fields::past;
 use crate::fields::past_bytes;
-use crate::fields::past_floats;
+use crate::fields::past_words;
 use crate::fields::word_at;
+use crate::fields::words_at;
 
-// ---- before the call
+// ---- before the call, by the sample's rules
 
-// The float at place i by the sample's rule: 1 to 100, over and over.
-fn rule_float(i: usize) -> f32 {
-    ((1 + i % 100) as u8) as f32
+// The number at place i: 1 to 100, over and over.
+fn rule_count(i: usize) -> u32 {
+    (1 + i % 100) as u32
 }
 
-// The byte at place i by the sample's rule: 1 to 200, over and over.
+// The bits of the float at place i, which is that number.
+fn rule_bits(i: usize) -> u32 {
+    float32::to_bits(((1 + i % 100) as u8) as f32)
+}
+
+// The byte at place i: 1 to 200, over and over.
 fn rule_byte(i: usize) -> u8 {
     (1 + i % 200) as u8
-}
-
-// Fills a float buffer by the rule.
-pub(crate) fn fill_floats(d: &mut [f32]) {
-    let mut i = 0;
-    while i < d.len() {
-        d[i] = rule_float(i);
-        i += 1;
-    }
 }
 
 // Fills a byte buffer by the rule.
@@ -39,49 +35,61 @@ pub(crate) fn fill_bytes(d: &mut [u8]) {
     }
 }
 
-// The bits of float i of a field, or those by the rule behind it.
-fn bits_before(field: &[u8], i: usize) -> u32 {
+// Word i of a field, and another where the field has fewer.
+fn word_or(field: &[u8], i: usize, other: u32) -> u32 {
     if i < field.len() / 4 {
         return word_at(field, 4 * i);
     }
-    float32::to_bits(rule_float(i))
+    other
 }
 
 // Fills a float buffer with the floats of a field, and by the rule behind them.
 pub(crate) fn read_floats(field: &[u8], d: &mut [f32]) {
     let mut i = 0;
     while i < d.len() {
-        d[i] = float32::from_bits(bits_before(field, i));
+        d[i] = float32::from_bits(word_or(field, i, rule_bits(i)));
+        i += 1;
+    }
+}
+
+// The same of a buffer of numbers.
+pub(crate) fn read_counts(field: &[u8], d: &mut [u32]) {
+    let mut i = 0;
+    while i < d.len() {
+        d[i] = word_or(field, i, rule_count(i));
         i += 1;
     }
 }
 
 // ---- after the call
 
-// The bits that are due at place i of a float buffer: the field's, and behind it 0 or, where the rest is kept, those from before.
-fn due_bits(field: &[u8], is_kept: bool, given: &[u8], i: usize) -> u32 {
-    if i < field.len() / 4 {
-        return word_at(field, 4 * i);
-    }
+// What is due at place i: the field's word, and behind it 0 or, where the rest is kept, what was there before.
+fn due_or(field: &[u8], is_kept: bool, i: usize, before: u32) -> u32 {
     if is_kept {
-        return bits_before(given, i);
+        return word_or(field, i, before);
     }
-    0
+    word_or(field, i, 0)
 }
 
-// The first n floats, or all where there are fewer.
-pub(crate) fn front(s: &[f32], n: usize) -> &[f32] {
-    if n <= s.len() {
-        return &s[0..n];
-    }
-    s
-}
-
-// Whether a float buffer holds what is due.
+// Whether a float buffer that was filled with the floats of `given` holds what is due.
 fn are_floats_due(field: &[u8], is_kept: bool, given: &[u8], after: &[f32]) -> bool {
     let mut i = 0;
     while i < after.len() {
-        if float32::to_bits(after[i]) != due_bits(field, is_kept, given, i) {
+        let before = word_or(given, i, rule_bits(i));
+        if float32::to_bits(after[i]) != due_or(field, is_kept, i, before) {
+            return false;
+        }
+        i += 1;
+    }
+    true
+}
+
+// The same of a buffer of numbers.
+fn are_counts_due(field: &[u8], is_kept: bool, given: &[u8], after: &[u32]) -> bool {
+    let mut i = 0;
+    while i < after.len() {
+        let before = word_or(given, i, rule_count(i));
+        if after[i] != due_or(field, is_kept, i, before) {
             return false;
         }
         i += 1;
@@ -127,17 +135,28 @@ pub(crate) fn are_zero(s: &[u8]) -> bool {
 
 // ---- past what is due in a buffer; first stands whether what is behind the field is kept (1) or 0 (0)
 
-// In a float buffer that was filled with the floats of a given field, and by the rule behind them.
-pub(crate) fn due_floats_over(body: &[u8], at: usize, given: &[u8], after: &[f32]) -> usize {
-    let rest = byte_at(body, at);
-    let floats = past(body, and(at, rest <= 1), 1);
-    let is_due = are_floats_due(floats_at(body, floats), rest == 1, given, after);
-    and(past_floats(body, floats, after.len()), is_due)
+// Past it, whatever it is; bad where the words are more than a limit.
+pub(crate) fn past_buffer(body: &[u8], at: usize, limit: usize) -> usize {
+    past_words(body, past(body, and(at, byte_at(body, at) <= 1), 1), limit)
 }
 
-// In a float buffer that was filled by the rule.
-pub(crate) fn due_floats(body: &[u8], at: usize, after: &[f32]) -> usize {
-    due_floats_over(body, at, part(body, 0, 0), after)
+// Its words.
+fn buffer_at(body: &[u8], at: usize) -> &[u8] {
+    words_at(body, past(body, at, 1))
+}
+
+// In a float buffer that was filled with the floats of a given field, and by the rule behind them.
+pub(crate) fn due_floats(body: &[u8], at: usize, given: &[u8], after: &[f32]) -> usize {
+    let is_kept = byte_at(body, at) == 1;
+    let is_due = are_floats_due(buffer_at(body, at), is_kept, given, after);
+    and(past_buffer(body, at, after.len()), is_due)
+}
+
+// The same of a buffer of numbers.
+pub(crate) fn due_counts(body: &[u8], at: usize, given: &[u8], after: &[u32]) -> usize {
+    let is_kept = byte_at(body, at) == 1;
+    let is_due = are_counts_due(buffer_at(body, at), is_kept, given, after);
+    and(past_buffer(body, at, after.len()), is_due)
 }
 
 // In a byte buffer that was filled by the rule.
@@ -154,4 +173,20 @@ pub(crate) fn due_front(body: &[u8], at: usize, after: &[u8]) -> usize {
         past_bytes(body, at),
         are_bytes_due(bytes_at(body, at), true, after),
     )
+}
+
+// The first n floats, or all where there are fewer.
+pub(crate) fn front(s: &[f32], n: usize) -> &[f32] {
+    if n <= s.len() {
+        return &s[0..n];
+    }
+    s
+}
+
+// The first n numbers.
+pub(crate) fn front_counts(s: &[u32], n: usize) -> &[u32] {
+    if n <= s.len() {
+        return &s[0..n];
+    }
+    s
 }

@@ -6,10 +6,10 @@ use crate::fields::due_byte;
 use crate::fields::due_float;
 use crate::fields::due_word;
 use crate::fields::float;
-use crate::fields::floats_at;
 use crate::fields::length_at;
-use crate::fields::past_floats;
+use crate::fields::past_words;
 use crate::fields::word;
+use crate::fields::words_at;
 use center_of_mass::CenterOfMassRefiner;
 use center_of_mass::Outcome;
 
@@ -19,7 +19,7 @@ const CELLS: usize = 2048;
 pub(crate) fn replay(body: &[u8]) -> bool {
     let n = length_at(body, 21, CELLS);
     let mut map = [0.0f32; CELLS];
-    read_floats(floats_at(body, 21), &mut map);
+    read_floats(words_at(body, 21), &mut map);
     is_due(body, refine(body, &map[0..n]))
 }
 
@@ -49,7 +49,7 @@ fn is_due(body: &[u8], outcome: Outcome) -> bool {
 }
 
 fn are_due(body: &[u8], refusal: u8, outcome: u8, x: f32, y: f32, mass: f32) -> bool {
-    let at = past_floats(body, 21, CELLS);
+    let at = past_words(body, 21, CELLS);
     let refused = due_word(body, at, refusal as u32);
     let place = due_float(body, due_byte(body, refused, outcome), x);
     due_float(body, due_float(body, place, y), mass) == body.len()

@@ -84,7 +84,7 @@ pub(crate) fn and(at: usize, holds: bool) -> usize {
 
 // ---- fields that are given
 
-// A buffer's length, or a count of floats, cut down to a limit.
+// A buffer's length, or a count of words, cut down to a limit.
 pub(crate) fn length_at(body: &[u8], at: usize, limit: usize) -> usize
     ensures { λ r. ⌜ r ≤ limit ⌝ }
 {
@@ -110,13 +110,13 @@ pub(crate) fn past_bytes(body: &[u8], at: usize) -> usize {
     past(body, past(body, at, 4), count_at(body, at))
 }
 
-// The bytes of the floats behind a count.
-pub(crate) fn floats_at(body: &[u8], at: usize) -> &[u8] {
+// The bytes of the words behind a count: floats, or numbers.
+pub(crate) fn words_at(body: &[u8], at: usize) -> &[u8] {
     part(body, past(body, at, 4), 4 * (word_at(body, at) as usize))
 }
 
-// Past a count, and as many floats; bad where they are more than a limit.
-pub(crate) fn past_floats(body: &[u8], at: usize, limit: usize) -> usize {
+// Past a count, and as many words; bad where they are more than a limit.
+pub(crate) fn past_words(body: &[u8], at: usize, limit: usize) -> usize {
     past(
         body,
         past_length(body, at, limit),
@@ -139,10 +139,13 @@ pub(crate) fn due_count(body: &[u8], at: usize, n: usize) -> usize {
 }
 
 // A number of eight bytes.
+pub(crate) fn long_at(body: &[u8], at: usize) -> u64 {
+    let high = word_at(body, past(body, at, 4)) as u64;
+    (word_at(body, at) as u64) + 4294967296 * high
+}
+
 pub(crate) fn due_long(body: &[u8], at: usize, n: u64) -> usize {
-    let high = past(body, at, 4);
-    let due = (word_at(body, at) as u64) + 4294967296 * (word_at(body, high) as u64);
-    and(past(body, high, 4), due == n)
+    and(past(body, at, 8), long_at(body, at) == n)
 }
 
 pub(crate) fn due_float(body: &[u8], at: usize, x: f32) -> usize {

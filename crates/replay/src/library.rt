@@ -1,10 +1,11 @@
-// Kind 2: a frame of the library. The buffers are made one kind after the other, each with its lengths, which stand next in the body;
-// what is due in them is compared where they were made.
+// Kind 2: a frame of the library. The buffers are made one kind after the other, each with its lengths; what is due in them is compared where
+// they were made.
 use crate::buffers::due_bytes;
 use crate::buffers::due_floats;
 use crate::buffers::fill_bytes;
-use crate::buffers::fill_floats;
 use crate::buffers::front;
+use crate::buffers::past_buffer;
+use crate::buffers::read_floats;
 use crate::fields::BAD;
 use crate::fields::and;
 use crate::fields::bytes_at;
@@ -15,12 +16,12 @@ use crate::fields::length_at;
 use crate::fields::part;
 use crate::fields::past;
 use crate::fields::past_bytes;
-use crate::fields::past_floats;
 use crate::fields::past_length;
 use crate::fields::word;
 use crate::list_buffer::LIST;
+use crate::list_buffer::counts;
 use crate::list_buffer::due_list;
-use crate::list_buffer::list;
+use crate::list_buffer::floats;
 use crate::list_buffer::list_length;
 use crate::list_buffer::past_lengths;
 use crate::list_buffer::past_list;
@@ -40,7 +41,7 @@ pub(crate) fn replay(body: &[u8]) -> bool {
     let m = length_at(body, places, PIXELS);
     let mut map = [0.0f32; CELLS];
     let mut levels = [0u8; PIXELS];
-    fill_floats(&mut map);
+    read_floats(part(body, 0, 0), &mut map);
     fill_bytes(&mut levels);
     let next = with_seeds(
         body,
@@ -60,7 +61,7 @@ fn are_maps_due(
     map: &[f32; CELLS],
     levels: &[u8; PIXELS],
 ) -> bool {
-    let next = due_floats(body, at, front(map, n));
+    let next = due_floats(body, at, part(body, 0, 0), front(map, n));
     due_bytes(body, next, part(levels, 0, m)) != BAD
 }
 
@@ -69,9 +70,11 @@ fn with_seeds(body: &[u8], lengths: usize, map: &mut [f32], levels: &mut [u8]) -
     let nx = list_length(body, lengths, 0);
     let ny = list_length(body, lengths, 1);
     let ns = list_length(body, lengths, 2);
-    let mut xs = list();
-    let mut ys = list();
-    let mut strengths = list();
+    let nn = list_length(body, lengths, 3);
+    let mut xs = floats(body, BAD);
+    let mut ys = floats(body, BAD);
+    let mut strengths = floats(body, BAD);
+    let mut neighbours = counts(body, BAD);
     let next = with_corners(
         body,
         past_lengths(body, lengths),
@@ -80,8 +83,9 @@ fn with_seeds(body: &[u8], lengths: usize, map: &mut [f32], levels: &mut [u8]) -
         &mut xs[0..nx],
         &mut ys[0..ny],
         &mut strengths[0..ns],
+        &mut neighbours[0..nn],
     );
-    due_seeds(body, next, lengths, &xs, &ys, &strengths)
+    due_seeds(body, next, lengths, &xs, &ys, &strengths, &neighbours)
 }
 
 // With a corner buffer too.
@@ -93,13 +97,16 @@ fn with_corners(
     sx: &mut [f32],
     sy: &mut [f32],
     ss: &mut [f32],
+    sn: &mut [u32],
 ) -> usize {
     let nx = list_length(body, lengths, 0);
     let ny = list_length(body, lengths, 1);
     let ns = list_length(body, lengths, 2);
-    let mut xs = list();
-    let mut ys = list();
-    let mut strengths = list();
+    let nn = list_length(body, lengths, 3);
+    let mut xs = floats(body, BAD);
+    let mut ys = floats(body, BAD);
+    let mut strengths = floats(body, BAD);
+    let mut neighbours = counts(body, BAD);
     let answer = frame::find_corners(
         bytes_at(body, 44),
         count(body, 0),
@@ -110,12 +117,14 @@ fn with_corners(
         sx,
         sy,
         ss,
+        sn,
         &mut xs[0..nx],
         &mut ys[0..ny],
         &mut strengths[0..ns],
+        &mut neighbours[0..nn],
     );
     let next = due_frame(body, past_lengths(body, lengths), answer);
-    due_corners(body, next, lengths, &xs, &ys, &strengths)
+    due_corners(body, next, lengths, &xs, &ys, &strengths, &neighbours)
 }
 
 fn parameters(body: &[u8]) -> FrameParams {
@@ -147,9 +156,10 @@ fn due_corners(
     xs: &[f32; LIST],
     ys: &[f32; LIST],
     strengths: &[f32; LIST],
+    neighbours: &[u32; LIST],
 ) -> usize {
     let due = past_list(body, past_maps(body, at));
-    let end = due_list(body, due, lengths, xs, ys, strengths);
+    let end = due_list(body, due, lengths, xs, ys, strengths, neighbours);
     and(at, end == body.len())
 }
 
@@ -161,13 +171,15 @@ fn due_seeds(
     xs: &[f32; LIST],
     ys: &[f32; LIST],
     strengths: &[f32; LIST],
+    neighbours: &[u32; LIST],
 ) -> usize {
-    let end = due_list(body, past_maps(body, at), lengths, xs, ys, strengths);
+    let due = past_maps(body, at);
+    let end = due_list(body, due, lengths, xs, ys, strengths, neighbours);
     and(at, end != BAD)
 }
 
 // Past what is due in the map and in the level buffer.
 fn past_maps(body: &[u8], at: usize) -> usize {
-    let levels = past_floats(body, past(body, at, 1), CELLS);
+    let levels = past_buffer(body, at, CELLS);
     past_bytes(body, past(body, levels, 1))
 }

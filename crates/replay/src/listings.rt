@@ -1,11 +1,12 @@
 // Kind 11: the listing of a corner list.
 use crate::buffers::due_front;
 use crate::buffers::fill_bytes;
+use crate::buffers::read_counts;
 use crate::buffers::read_floats;
 use crate::fields::and;
 use crate::fields::count_at;
-use crate::fields::floats_at;
-use crate::fields::past_floats;
+use crate::fields::past_words;
+use crate::fields::words_at;
 use listing::LONGEST;
 use listing::Listing;
 
@@ -13,32 +14,43 @@ use listing::Listing;
 const CORNERS: usize = 512;
 
 pub(crate) fn replay(body: &[u8]) -> bool {
-    let ys = past_floats(body, 0, CORNERS);
-    let strengths = past_floats(body, ys, CORNERS);
-    let xs = floats(body, 0);
-    let at = past_floats(body, strengths, CORNERS);
-    is_due(body, at, xs, floats(body, ys), floats(body, strengths))
+    let ys = past_words(body, 0, CORNERS);
+    let strengths = past_words(body, ys, CORNERS);
+    let neighbours = past_words(body, strengths, CORNERS);
+    is_due(body, ys, strengths, neighbours)
 }
 
 // The floats of a field, and by the rule behind them.
 fn floats(body: &[u8], at: usize) -> [f32; CORNERS] {
     let mut d = [0.0f32; CORNERS];
-    read_floats(floats_at(body, at), &mut d);
+    read_floats(words_at(body, at), &mut d);
     d
 }
 
-// Whether the text of the corners is due.
-fn is_due(
-    body: &[u8],
-    at: usize,
-    xs: [f32; CORNERS],
-    ys: [f32; CORNERS],
-    strengths: [f32; CORNERS],
-) -> bool {
+// The numbers likewise.
+fn counts(body: &[u8], at: usize) -> [u32; CORNERS] {
+    let mut d = [0u32; CORNERS];
+    read_counts(words_at(body, at), &mut d);
+    d
+}
+
+// Whether the text of the corners whose slices stand at these places is due.
+fn is_due(body: &[u8], ys: usize, strengths: usize, neighbours: usize) -> bool {
+    let x = floats(body, 0);
+    let y = floats(body, ys);
+    let strength = floats(body, strengths);
+    let neighbour = counts(body, neighbours);
     let mut text = [0u8; LONGEST];
     fill_bytes(&mut text);
-    let answer = listing::write_corners(&xs, &ys, &strengths, count_at(body, 0), &mut text);
-    is_listing_due(body, at, &text, answer)
+    let answer = listing::write_corners(
+        &x,
+        &y,
+        &strength,
+        &neighbour,
+        count_at(body, 0),
+        &mut text,
+    );
+    is_listing_due(body, past_words(body, neighbours, CORNERS), &text, answer)
 }
 
 // Whether the text of an answer is due.

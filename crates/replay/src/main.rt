@@ -24,7 +24,7 @@ use tally::sum;
 use tally::with;
 
 // The longest body.
-const LONGEST: usize = 24019;
+const LONGEST: usize = 25027;
 
 // What stands next in a file.
 enum Next {

@@ -3,29 +3,35 @@ use crate::fields::count;
 use crate::fields::due_answer;
 use crate::fields::float;
 use crate::fields::length_at;
-use crate::fields::past_floats;
+use crate::fields::past_words;
 use crate::list_buffer::LIST;
-use crate::list_buffer::due_given;
-use crate::list_buffer::given_slice;
+use crate::list_buffer::counts;
+use crate::list_buffer::due_neighbours;
+use crate::list_buffer::due_slice;
+use crate::list_buffer::floats;
 use merge::Merged;
 
 pub(crate) fn replay(body: &[u8]) -> bool {
-    let y_at = past_floats(body, 8, LIST);
-    let strength_at = past_floats(body, y_at, LIST);
+    let y_at = past_words(body, 8, LIST);
+    let strength_at = past_words(body, y_at, LIST);
+    let neighbours_at = past_words(body, strength_at, LIST);
     let nx = length_at(body, 8, LIST);
     let ny = length_at(body, y_at, LIST);
     let ns = length_at(body, strength_at, LIST);
-    let mut xs = given_slice(body, 8);
-    let mut ys = given_slice(body, y_at);
-    let mut strengths = given_slice(body, strength_at);
+    let nn = length_at(body, neighbours_at, LIST);
+    let mut xs = floats(body, 8);
+    let mut ys = floats(body, y_at);
+    let mut strengths = floats(body, strength_at);
+    let mut neighbours = counts(body, neighbours_at);
     let answer = merge::merge_corners_simple(
         &mut xs[0..nx],
         &mut ys[0..ny],
         &mut strengths[0..ns],
+        &mut neighbours[0..nn],
         count(body, 1),
         float(body, 0),
     );
-    is_due(body, answer, &xs, &ys, &strengths)
+    is_due(body, answer, &xs, &ys, &strengths, &neighbours)
 }
 
 // Whether the answer and the slices are what is due.
@@ -35,13 +41,22 @@ fn is_due(
     xs: &[f32; LIST],
     ys: &[f32; LIST],
     strengths: &[f32; LIST],
+    neighbours: &[u32; LIST],
 ) -> bool {
-    let y_at = past_floats(body, 8, LIST);
-    let strength_at = past_floats(body, y_at, LIST);
-    let at = due_merge(body, past_floats(body, strength_at, LIST), answer);
+    let y_at = past_words(body, 8, LIST);
+    let strength_at = past_words(body, y_at, LIST);
+    let neighbours_at = past_words(body, strength_at, LIST);
+    let at = due_merge(body, past_words(body, neighbours_at, LIST), answer);
     let y_due = due_given(body, at, 8, xs);
     let strength_due = due_given(body, y_due, y_at, ys);
-    due_given(body, strength_due, strength_at, strengths) == body.len()
+    let neighbours_due = due_given(body, strength_due, strength_at, strengths);
+    let n = length_at(body, neighbours_at, LIST);
+    due_neighbours(body, neighbours_due, neighbours_at, n, neighbours) == body.len()
+}
+
+// Past what is due in a slice whose floats stand at a place of the body.
+fn due_given(body: &[u8], at: usize, given: usize, d: &[f32]) -> usize {
+    due_slice(body, at, given, length_at(body, given, LIST), d)
 }
 
 fn due_merge(body: &[u8], at: usize, answer: Merged) -> usize {

@@ -5,6 +5,7 @@ use crate::fields::due_float;
 use crate::fields::due_long;
 use crate::fields::due_word;
 use crate::fields::float;
+use crate::fields::long_at;
 use crate::fields::past;
 use crate::fields::word;
 use float32::Rounded;
@@ -20,10 +21,15 @@ pub(crate) fn replay_float(body: &[u8]) -> bool {
 }
 
 fn due_round(body: &[u8], at: usize, x: f32) -> usize {
+    and(past(body, at, 8), is_rounded(x, long_at(body, at)))
+}
+
+// Whether n is x rounded, as an i64. What is not judged is not compared.
+fn is_rounded(x: f32, n: u64) -> bool {
     match float32::round_half_away(x) {
-        Rounded::Natural(n) => due_long(body, at, n as u64),
-        Rounded::Negative(n) => due_long(body, at, std::num::wrapping_sub_u64(0, n as u64)),
-        Rounded::Beyond => and(past(body, at, 8), is_beyond(x)),
+        Rounded::Natural(k) => n == (k as u64),
+        Rounded::Negative(k) => n == std::num::wrapping_sub_u64(0, k as u64),
+        Rounded::Beyond => is_beyond(x),
     }
 }
 

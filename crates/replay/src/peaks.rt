@@ -1,16 +1,18 @@
 // Kind 4: the peaks of a map.
 use crate::buffers::read_floats;
+use crate::fields::BAD;
 use crate::fields::count;
 use crate::fields::count_at;
 use crate::fields::due_answer;
 use crate::fields::float;
-use crate::fields::floats_at;
 use crate::fields::length_at;
 use crate::fields::past;
-use crate::fields::past_floats;
+use crate::fields::past_words;
 use crate::fields::word;
+use crate::fields::words_at;
+use crate::list_buffer::counts;
 use crate::list_buffer::due_list;
-use crate::list_buffer::list;
+use crate::list_buffer::floats;
 use crate::list_buffer::list_length;
 use crate::list_buffer::past_lengths;
 use detect::Peaks;
@@ -21,8 +23,8 @@ const CELLS: usize = 2048;
 pub(crate) fn replay(body: &[u8]) -> bool {
     let n = length_at(body, 28, CELLS);
     let mut map = [0.0f32; CELLS];
-    read_floats(floats_at(body, 28), &mut map);
-    with_list(body, past_floats(body, 28, CELLS), &map[0..n])
+    read_floats(words_at(body, 28), &mut map);
+    with_list(body, past_words(body, 28, CELLS), &map[0..n])
 }
 
 // With a corner buffer, whose lengths stand next in the body, and behind them how many corners it holds.
@@ -30,9 +32,11 @@ fn with_list(body: &[u8], lengths: usize, map: &[f32]) -> bool {
     let nx = list_length(body, lengths, 0);
     let ny = list_length(body, lengths, 1);
     let ns = list_length(body, lengths, 2);
-    let mut xs = list();
-    let mut ys = list();
-    let mut strengths = list();
+    let nn = list_length(body, lengths, 3);
+    let mut xs = floats(body, BAD);
+    let mut ys = floats(body, BAD);
+    let mut strengths = floats(body, BAD);
+    let mut neighbours = counts(body, BAD);
     let held = past_lengths(body, lengths);
     let answer = detect::detect_peaks_from_response_with_refine_radius(
         map,
@@ -46,10 +50,11 @@ fn with_list(body: &[u8], lengths: usize, map: &[f32]) -> bool {
         &mut xs[0..nx],
         &mut ys[0..ny],
         &mut strengths[0..ns],
+        &mut neighbours[0..nn],
         count_at(body, held),
     );
     let next = due_peaks(body, past(body, held, 4), answer);
-    due_list(body, next, lengths, &xs, &ys, &strengths) == body.len()
+    due_list(body, next, lengths, &xs, &ys, &strengths, &neighbours) == body.len()
 }
 
 fn due_peaks(body: &[u8], at: usize, answer: Peaks) -> usize {

@@ -2,12 +2,13 @@
 use crate::numbers::bits;
 use crate::Corner;
 
-/// A corner buffer: three slices, the shortest counting.
+/// A corner buffer: four slices, the shortest counting. The original's corners have no neighbours, so these stand beside its lists everywhere.
 #[derive(Clone, Debug, Default)]
 pub struct CornerBuffer {
     pub x: Vec<f32>,
     pub y: Vec<f32>,
     pub strength: Vec<f32>,
+    pub neighbours: Vec<u32>,
 }
 
 /// Everything that a frame borrows.
@@ -24,13 +25,18 @@ pub struct Buffers {
 pub struct Sizes {
     pub map: usize,
     pub levels: usize,
-    pub seeds: [usize; 3],
-    pub corners: [usize; 3],
+    pub seeds: [usize; 4],
+    pub corners: [usize; 4],
 }
 
 /// What place `i` of a float buffer holds before a call: never 0, so that clearing shows.
 pub fn float_before(i: usize) -> f32 {
     (1 + i % 100) as f32
+}
+
+/// What place `i` of a buffer of counts holds before a call.
+pub fn word_before(i: usize) -> u32 {
+    (1 + i % 100) as u32
 }
 
 /// What place `i` of a byte buffer holds before a call.
@@ -42,22 +48,27 @@ pub fn floats_before(length: usize) -> Vec<f32> {
     (0..length).map(float_before).collect()
 }
 
+pub fn words_before(length: usize) -> Vec<u32> {
+    (0..length).map(word_before).collect()
+}
+
 pub fn bytes_before(length: usize) -> Vec<u8> {
     (0..length).map(byte_before).collect()
 }
 
 impl CornerBuffer {
-    pub fn before(lengths: [usize; 3]) -> Self {
+    pub fn before(lengths: [usize; 4]) -> Self {
         Self {
             x: floats_before(lengths[0]),
             y: floats_before(lengths[1]),
             strength: floats_before(lengths[2]),
+            neighbours: words_before(lengths[3]),
         }
     }
 
     /// How many corners it has places for.
     pub fn places(&self) -> usize {
-        self.x.len().min(self.y.len()).min(self.strength.len())
+        self.x.len().min(self.y.len()).min(self.strength.len()).min(self.neighbours.len())
     }
 
     /// The first `count` corners.
@@ -65,21 +76,24 @@ impl CornerBuffer {
         (0..count).map(|i| Corner::new(self.x[i], self.y[i], self.strength[i])).collect()
     }
 
-    /// Writes a list behind the first `held` corners and nothing else.
-    pub fn put(&mut self, held: usize, list: &[Corner]) {
+    /// Writes a list, with the neighbours of each, behind the first `held` corners and nothing else.
+    pub fn put(&mut self, held: usize, list: &[Corner], neighbours: &[u32]) {
+        assert_eq!(list.len(), neighbours.len());
         for (i, c) in list.iter().enumerate() {
             self.x[held + i] = c.x;
             self.y[held + i] = c.y;
             self.strength[held + i] = c.strength;
+            self.neighbours[held + i] = neighbours[i];
         }
     }
 
     /// The list first, and 0 in every place behind it, also where a slice is longer than the others.
-    pub fn hold_only(&mut self, list: &[Corner]) {
+    pub fn hold_only(&mut self, list: &[Corner], neighbours: &[u32]) {
         self.x.fill(0.0);
         self.y.fill(0.0);
         self.strength.fill(0.0);
-        self.put(0, list);
+        self.neighbours.fill(0);
+        self.put(0, list, neighbours);
     }
 }
 
@@ -97,8 +111,8 @@ impl Buffers {
     pub fn clear(&mut self) {
         self.map.fill(0.0);
         self.levels.fill(0);
-        self.seeds.hold_only(&[]);
-        self.corners.hold_only(&[]);
+        self.seeds.hold_only(&[], &[]);
+        self.corners.hold_only(&[], &[]);
     }
 }
 
@@ -127,6 +141,10 @@ fn front<'a, T>(before: &[T], after: &'a [T], zero: &T, same: fn(&T, &T) -> bool
 
 pub fn float_front<'a>(before: &[f32], after: &'a [f32]) -> (&'a [f32], Rest) {
     front(before, after, &0.0, |a, b| bits(*a) == bits(*b))
+}
+
+pub fn word_front<'a>(before: &[u32], after: &'a [u32]) -> (&'a [u32], Rest) {
+    front(before, after, &0, |a, b| a == b)
 }
 
 pub fn byte_front<'a>(before: &[u8], after: &'a [u8]) -> (&'a [u8], Rest) {

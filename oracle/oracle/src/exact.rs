@@ -1,6 +1,7 @@
 //! The pass by exact values: each map's peaks are chosen by whole fifths, everything else is computed.
 use crate::params::Params;
 use crate::pass::{Steps, View, STEPS};
+use crate::peaks::neighbours_of;
 use crate::ring::{offsets, CROSS};
 use chess_corners_core::{Corner, ResponseMap};
 
@@ -76,6 +77,8 @@ pub struct Comparison {
     pub overtaken: bool,
     /// Peaks of the exact list.
     pub peaks: usize,
+    /// Each peak of the computed list has as many neighbours by exact values (RULES 24.5).
+    pub counts_alike: bool,
 }
 
 /// Compares a map's computed and exact lists.
@@ -90,10 +93,16 @@ pub fn compare(view: &View, params: &Params) -> Comparison {
         window(x, y, params.window as usize, map.width())
             .any(|cell| fifths[cell] == fifths[own] && map.data()[cell] > map.data()[own])
     });
+    let by_fifths = |c: &Corner| {
+        let cells = window(c.x as usize, c.y as usize, params.window as usize, map.width());
+        cells.filter(|&cell| fifths[cell] > 0).count() as u32
+    };
+    let counts = neighbours_of(&map, params.window, &computed);
     Comparison {
         alike: exact.iter().map(place).eq(computed.iter().map(place)),
         overtaken,
         peaks: exact.len(),
+        counts_alike: computed.iter().map(by_fifths).eq(counts),
     }
 }
 

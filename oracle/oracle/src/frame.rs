@@ -26,10 +26,11 @@ pub fn find_corners(
     refuse_if(buffers.levels.len() < above.len(), LEVELS_SHORT)?;
     let places = Places { seeds: buffers.seeds.places(), corners: buffers.corners.places() };
     let lists = pass(&pyramid.levels, params, places, &STEPS).inspect_err(|_| buffers.clear())?;
+    let (of_seeds, of_corners) = lists.neighbours(params, &STEPS);
     buffers.map.fill(0.0);
     buffers.levels[..above.len()].copy_from_slice(&above);
-    buffers.seeds.hold_only(&lists.seeds);
-    buffers.corners.hold_only(&lists.corners);
+    buffers.seeds.hold_only(&lists.seeds, &of_seeds);
+    buffers.corners.hold_only(&lists.corners, &of_corners);
     Ok(lists.corners.len())
 }
 
@@ -58,7 +59,7 @@ pub fn by_orchestrator(image: Image, params: &Params) -> Vec<Corner> {
 #[cfg(test)]
 mod tests {
     use super::*;
-    use crate::buffers::{bytes_before, floats_before, Sizes};
+    use crate::buffers::{bytes_before, floats_before, words_before, Sizes};
     use crate::generate::images::whole_case;
     use crate::params::PLAIN;
     use crate::refusal::LARGEST_SIDE;
@@ -72,7 +73,7 @@ mod tests {
         (find_corners(image, &params, &mut buffers, LARGEST_SIDE), buffers)
     }
 
-    const SIZES: Sizes = Sizes { map: 122, levels: 27, seeds: [1, 2, 3], corners: [3, 2, 4] };
+    const SIZES: Sizes = Sizes { map: 122, levels: 27, seeds: [1, 2, 3, 2], corners: [3, 2, 4, 5] };
 
     #[test]
     fn a_finished_frame_leaves_its_lists_and_zeros() {
@@ -83,6 +84,7 @@ mod tests {
         assert_eq!(buffers.seeds.strength, [0.0; 3]);
         assert_eq!(buffers.corners.x, [5.0, 0.0, 0.0]);
         assert_eq!(buffers.corners.strength, [2032.0, 0.0, 0.0, 0.0]);
+        assert_eq!((buffers.seeds.neighbours, buffers.corners.neighbours), (vec![0; 2], vec![0; 5]));
     }
 
     #[test]
@@ -95,14 +97,15 @@ mod tests {
 
     #[test]
     fn refusal_10_clears_everything_and_the_others_nothing() {
-        let (answer, buffers) = find(1, &Sizes { corners: [3, 0, 4], ..SIZES });
+        let (answer, buffers) = find(1, &Sizes { corners: [3, 2, 4, 0], ..SIZES });
         assert_eq!(answer, Err(10));
         assert_eq!(buffers.map, [0.0; 122]);
         assert_eq!(buffers.levels, [0; 27]);
-        assert_eq!(buffers.corners.strength, [0.0; 4]);
+        assert_eq!((buffers.corners.strength, buffers.seeds.neighbours), (vec![0.0; 4], vec![0; 2]));
         let (answer, buffers) = find(1, &Sizes { map: 120, ..SIZES });
         assert_eq!(answer, Err(8));
         assert_eq!(buffers.map, floats_before(120));
         assert_eq!(buffers.corners.x, floats_before(3));
+        assert_eq!(buffers.corners.neighbours, words_before(5));
     }
 }

@@ -8,10 +8,10 @@ fn in_256ths(coordinate: f32) -> i64 {
     (coordinate * 256.0).round() as i64
 }
 
-/// One corner's line.
-fn line(c: &Corner) -> String {
+/// The line of a corner and its neighbours.
+fn line(c: &Corner, neighbours: u32) -> String {
     format!(
-        "{} {} {:08x} {:08x} {:08x}\n",
+        "{} {} {:08x} {:08x} {:08x} {neighbours}\n",
         in_256ths(c.x),
         in_256ths(c.y),
         bits(c.x),
@@ -21,8 +21,9 @@ fn line(c: &Corner) -> String {
 }
 
 /// The listing of a finished frame.
-pub fn listing(list: &[Corner]) -> String {
-    let lines: String = list.iter().map(line).collect();
+pub fn listing(list: &[Corner], neighbours: &[u32]) -> String {
+    assert_eq!(list.len(), neighbours.len());
+    let lines: String = list.iter().zip(neighbours).map(|(c, &n)| line(c, n)).collect();
     format!("corners {}\n{lines}", list.len())
 }
 
@@ -38,8 +39,8 @@ mod tests {
     #[test]
     fn columns_of_a_line() {
         let list = [Corner::new(5.0, 5.999_999_5, 2032.0)];
-        assert_eq!(listing(&list), "corners 1\n1280 1536 40a00000 40bfffff 44fe0000\n");
-        assert_eq!(listing(&[]), "corners 0\n");
+        assert_eq!(listing(&list, &[1088]), "corners 1\n1280 1536 40a00000 40bfffff 44fe0000 1088\n");
+        assert_eq!(listing(&[], &[]), "corners 0\n");
         assert_eq!(refused(7), "refused 7\n");
     }
 

@@ -1,5 +1,5 @@
 //! `merge_corners_simple`: near corners become one.
-use crate::buffers::CornerBuffer;
+use crate::buffers::{same_list, CornerBuffer};
 use crate::params::{check_merge_radius, is_off};
 use crate::refusal::{refuse_if, Refusal, COORDINATE, LIST_SHORT};
 use chess_corners_core::{merge_corners_simple, Corner};
@@ -28,17 +28,26 @@ pub fn original(list: &[Corner], radius: f32) -> Vec<Corner> {
     merge_corners_simple(&mut list.to_vec(), radius)
 }
 
-/// The merge over any rule that says which corners are near enough, lowest place first.
-pub fn merge_where(list: &[Corner], joins: impl Fn(&Corner, &Corner) -> bool) -> Vec<Corner> {
-    let mut kept: Vec<Corner> = Vec::new();
-    for c in list {
-        match kept.iter().position(|k| joins(c, k)) {
-            Some(i) if c.strength > kept[i].strength => kept[i] = c.clone(),
+/// The merge over any rule that says which corners are near enough, lowest place first: where in the list those stand that are left.
+fn places_where(list: &[Corner], joins: impl Fn(&Corner, &Corner) -> bool) -> Vec<usize> {
+    let mut kept: Vec<usize> = Vec::new();
+    for (place, c) in list.iter().enumerate() {
+        match kept.iter().position(|&k| joins(c, &list[k])) {
+            Some(i) if c.strength > list[kept[i]].strength => kept[i] = place,
             Some(_) => {}
-            None => kept.push(c.clone()),
+            None => kept.push(place),
         }
     }
     kept
+}
+
+fn corners_at(list: &[Corner], places: &[usize]) -> Vec<Corner> {
+    places.iter().map(|&place| list[place].clone()).collect()
+}
+
+/// The list that such a merge leaves.
+pub fn merge_where(list: &[Corner], joins: impl Fn(&Corner, &Corner) -> bool) -> Vec<Corner> {
+    corners_at(list, &places_where(list, joins))
 }
 
 /// Squared distance at most radius squared.
@@ -47,15 +56,20 @@ pub fn is_close(a: &Corner, b: &Corner, radius: f32) -> bool {
     dx * dx + dy * dy <= radius * radius
 }
 
-/// The same list without a stored grid: the cell numbers decide (RULES 8.2, 8.3).
-pub fn by_cell_numbers(list: &[Corner], radius: f32) -> Vec<Corner> {
+/// The places of the merged list without a stored grid: the cell numbers decide (RULES 8.2, 8.3).
+fn places_by_cell_numbers(list: &[Corner], radius: f32) -> Vec<usize> {
     let inverse = 1.0 / radius;
     let (left, top) = (least(list.iter().map(|c| c.x)), least(list.iter().map(|c| c.y)));
     let near = |a: f32, b: f32, origin: f32| {
         let cell = |v: f32| ((v - origin) * inverse) as u64;
         cell(a).abs_diff(cell(b)) <= 1
     };
-    merge_where(list, |a, b| near(a.x, b.x, left) && near(a.y, b.y, top) && is_close(a, b, radius))
+    places_where(list, |a, b| near(a.x, b.x, left) && near(a.y, b.y, top) && is_close(a, b, radius))
+}
+
+/// The merged list so.
+pub fn by_cell_numbers(list: &[Corner], radius: f32) -> Vec<Corner> {
+    corners_at(list, &places_by_cell_numbers(list, radius))
 }
 
 /// The merged list: by the original, and by cell numbers where its grid would be too large.
@@ -65,6 +79,14 @@ pub fn merged(list: &[Corner], radius: f32) -> Vec<Corner> {
     } else {
         by_cell_numbers(list, radius)
     }
+}
+
+/// The neighbours of a merged list: those of the corners that are left (RULES 24.2), which must be those that the original leaves.
+pub fn merged_neighbours(list: &[Corner], neighbours: &[u32], radius: f32, kept: &[Corner]) -> Vec<u32> {
+    let places =
+        if is_off(radius) { (0..list.len()).collect() } else { places_by_cell_numbers(list, radius) };
+    assert!(same_list(&corners_at(list, &places), kept), "a merge by places that is not the original's");
+    places.iter().map(|&place| neighbours[place]).collect()
 }
 
 /// A coordinate that is not finite or outside 0..4,096 (RULES 2.2, number 4).
@@ -82,8 +104,10 @@ pub fn merge(buffer: &mut CornerBuffer, count: usize, radius: f32) -> Result<usi
         check_merge_radius(radius)?;
     }
     refuse_if(count > buffer.places(), LIST_SHORT)?;
-    let kept = merged(&buffer.list(count), radius);
-    buffer.put(0, &kept);
+    let list = buffer.list(count);
+    let kept = merged(&list, radius);
+    let neighbours = merged_neighbours(&list, &buffer.neighbours[..count], radius, &kept);
+    buffer.put(0, &kept, &neighbours);
     Ok(kept.len())
 }
 
@@ -92,7 +116,8 @@ mod tests {
     use super::*;
 
     fn buffer(xs: &[f32]) -> CornerBuffer {
-        CornerBuffer { x: xs.to_vec(), y: vec![0.0; xs.len()], strength: vec![1.0; xs.len()] }
+        let n = xs.len();
+        CornerBuffer { x: xs.to_vec(), y: vec![0.0; n], strength: vec![1.0; n], neighbours: vec![0; n] }
     }
 
     #[test]
@@ -103,7 +128,20 @@ mod tests {
         assert_eq!(merge(&mut one, 3, 3.0), Err(4));
         assert_eq!(merge(&mut one, 3, f32::NAN), Err(10));
         assert_eq!(merge(&mut one, 2, f32::INFINITY), Ok(2));
-        one.strength.pop(); // now -1.0 stands behind what the buffer has
+        one.neighbours.pop(); // now -1.0 stands behind what the buffer has
         assert_eq!(merge(&mut one, 2, 3.0), Err(10));
+    }
+
+    /// A stronger corner brings its neighbours, an equal or a weaker one does not.
+    #[test]
+    fn neighbours_of_the_corner_that_is_left() {
+        for (strengths, left) in [([3.0, 4.0], 2), ([3.0, 3.0], 7), ([4.0, 3.0], 7)] {
+            let mut two = buffer(&[1.0, 2.0]);
+            (two.strength, two.neighbours) = (strengths.to_vec(), vec![7, 2]);
+            assert_eq!(merge(&mut two, 2, 3.0), Ok(1));
+            assert_eq!(two.neighbours, [left, 2]);
+            assert_eq!(merge(&mut two, 2, 0.0), Ok(2));
+            assert_eq!(two.neighbours, [left, 2]);
+        }
     }
 }

@@ -72,6 +72,19 @@ impl Lists<'_> {
         };
         self.views[self.for_seeds..].iter().map(of).sum()
     }
+
+    /// The neighbours of the seeds and of the merged corners (RULES 24), counted anew likewise: no centroid drops a peak of a frame.
+    pub fn neighbours(&self, params: &Params, steps: &Steps) -> (Vec<u32>, Vec<u32>) {
+        let of = |view: &View| {
+            let map = view.map(params.ring);
+            peaks::neighbours_of(&map, params.window, &(steps.peaks)(view, &map, params))
+        };
+        let (for_seeds, for_corners) = self.views.split_at(self.for_seeds);
+        let seeds: Vec<u32> = for_seeds.iter().flat_map(of).collect();
+        let found: Vec<u32> = for_corners.iter().flat_map(of).collect();
+        assert_eq!((seeds.len(), found.len()), (self.seeds.len(), self.found.len()));
+        (seeds, merge::merged_neighbours(&self.found, &found, params.merge, &self.corners))
+    }
 }
 
 /// The localized peaks of one map, or refusal 10 where the peaks have no place.

@@ -10,13 +10,24 @@ pub fn peaks_of(map: &ResponseMap, params: &Params) -> Vec<Corner> {
     detect_peaks_from_response_with_refine_radius(map, &params.chess(), params.centroid as i32)
 }
 
-/// How many cells of the window about a peak, clipped to the map and without its centre, equal it (RULES 23.1).
-pub fn ties_at(map: &ResponseMap, window: u32, peak: &Corner) -> u64 {
+/// How many cells of the window about a peak, clipped to the map and without its centre, are so.
+fn count_about(map: &ResponseMap, window: u32, peak: &Corner, is: impl Fn(f32) -> bool) -> usize {
     let (x, y, r) = (peak.x as usize, peak.y as usize, window as usize);
     let columns = x.saturating_sub(r)..map.width().min(x + r + 1);
     let rows = y.saturating_sub(r)..map.height().min(y + r + 1);
     let cells = rows.flat_map(|v| columns.clone().map(move |u| (u, v)));
-    cells.filter(|&(u, v)| (u, v) != (x, y) && map.at(u, v) == map.at(x, y)).count() as u64
+    cells.filter(|&(u, v)| (u, v) != (x, y) && is(map.at(u, v))).count()
+}
+
+/// How many cells of its window equal a peak (RULES 23.1).
+pub fn ties_at(map: &ResponseMap, window: u32, peak: &Corner) -> u64 {
+    let value = map.at(peak.x as usize, peak.y as usize);
+    count_about(map, window, peak, |cell| cell == value) as u64
+}
+
+/// How many cells of its window are above 0 (RULES 24.1), for each of some peaks.
+pub fn neighbours_of(map: &ResponseMap, window: u32, peaks: &[Corner]) -> Vec<u32> {
+    peaks.iter().map(|peak| count_about(map, window, peak, |cell| cell > 0.0) as u32).collect()
 }
 
 /// Adds a map's peaks behind the `held` corners of a buffer: how many, or refusal 1, 2, 3 or 10.
@@ -30,10 +41,11 @@ pub fn find_peaks(
 ) -> Result<usize, Refusal> {
     check_map(cells.len(), width, height, LARGEST_SIDE)?;
     params.check_window()?;
-    let list = peaks_of(&ResponseMap::new(width, height, cells.to_vec()), params);
+    let map = ResponseMap::new(width, height, cells.to_vec());
+    let list = peaks_of(&map, params);
     let free = buffer.places().checked_sub(held);
     refuse_if(free.is_none_or(|places| places < list.len()), LIST_SHORT)?;
-    buffer.put(held, &list);
+    buffer.put(held, &list, &neighbours_of(&map, params.window, &list));
     Ok(list.len())
 }
 

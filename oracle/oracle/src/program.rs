@@ -15,7 +15,7 @@ pub struct Program {
 /// `corners`: sides up to 96, 512 places for seeds and 512 for corners (RULES 12.4). Map and levels always fit.
 pub const CORNERS: Program = Program {
     largest_side: 96,
-    sizes: Sizes { map: 96 * 96, levels: 3072, seeds: [512; 3], corners: [512; 3] },
+    sizes: Sizes { map: 96 * 96, levels: 3072, seeds: [512; 4], corners: [512; 4] },
 };
 
 impl Program {
@@ -30,7 +30,9 @@ impl Program {
     /// What the program prints.
     pub fn print(&self, stream: &[u8]) -> String {
         match self.run(stream) {
-            (Ok(count), buffers) => listing(&buffers.corners.list(count)),
+            (Ok(count), buffers) => {
+                listing(&buffers.corners.list(count), &buffers.corners.neighbours[..count])
+            }
             (Err(number), _) => refused(number),
         }
     }

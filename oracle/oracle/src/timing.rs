@@ -85,7 +85,7 @@ impl Subject {
     /// Buffers that are never short for this subject.
     pub fn sizes(&self) -> Sizes {
         let cells = self.width * self.height;
-        let places = [self.peaks.len() * 16 + 1024; 3];
+        let places = [self.peaks.len() * 16 + 1024; 4];
         Sizes { map: cells, levels: cells, seeds: places, corners: places }
     }
 

@@ -12,9 +12,13 @@ element-requires-2 c κs = search needs
 element-requires-3 : tie.Need-element-requires-3
 element-requires-3 c κs = search needs
 
+count-requires : tie.Need-count-requires
+count-requires c κs = search needs
+
 returns : tie.Need-returns
-returns c = rw (c .before .before .element .ensures, c .before .element2 .ensures, c .element3 .ensures)
+returns c =
+    rw (c .before .before .before .element .ensures, c .before .before .element2 .ensures, c .before .element3 .ensures, c .count .ensures)
 
 pub corner-at-spec : {M : Type 1} → statement M
 corner-at-spec =
-    tie.close (tie.spec element-requires element-requires-2 element-requires-3 returns)
+    tie.close (tie.spec element-requires element-requires-2 element-requires-3 count-requires returns)

@@ -27,6 +27,12 @@ mul-strengths c = search needs
 slice-write-strengths : tie.Need-slice-write-strengths
 slice-write-strengths c = search needs
 
+mul-neighbours : tie.Need-mul-neighbours
+mul-neighbours c = search needs
+
+slice-write-neighbours : tie.Need-slice-write-neighbours
+slice-write-neighbours c = search needs
+
 same-length : tie.Need-same-length
 same-length c = search needs
 
@@ -35,6 +41,9 @@ same-length-2 c = search needs
 
 same-length-3 : tie.Need-same-length-3
 same-length-3 c = search needs
+
+same-length-4 : tie.Need-same-length-4
+same-length-4 c = search needs
 
 returns : tie.Need-returns
 returns c = sym (with-corner-inside _ _ _ (omega arith))
@@ -53,8 +62,11 @@ put-corner-spec =
     slice-write-ys
     mul-strengths
     slice-write-strengths
+    mul-neighbours
+    slice-write-neighbours
     same-length
     same-length-2
     same-length-3
+    same-length-4
     returns
     returns-2)

@@ -18,13 +18,13 @@ use Rattle.detect.proofs.detect_peaks_from_response_with_refine_radius.
 -- ---- places of the code: the function's start, from where no condition held; the parameters of the search, from where the peaks are added; and
 -- that, from the return
 abbrev start : tie.Else1 → tie.Start
-start c = c .before .before .before .before .before .before
+start c = c .before .before .before .before .before .before .before
 
-abbrev searched : tie.After-add-by-table-arg3 → tie.After-search-of
-searched c = c .before .before .before
+abbrev searched : tie.After-add-by-table-arg4 → tie.After-search-of
+searched c = c .before .before .before .before
 
-abbrev added : tie.After-slice-known6 → tie.After-add-by-table
-added c = c .before .before .before .before .before .before
+abbrev added : tie.After-slice-known8 → tie.After-add-by-table
+added c = c .before .before .before .before .before .before .before .before
 
 -- ---- what it was given
 abbrev conditions-of : tie.Else1 → List (Bool × ℕ)
@@ -37,7 +37,7 @@ abbrev search-of : tie.Else1 → Search
 search-of c = let a = start c .args in searchOf (a .w) (a .h) (a .ring) (a .threshold) (a .window) (a .least-neighbours) (a .refine-radius)
 
 abbrev buffer-of : tie.Else1 → Slices
-buffer-of c = let a = start c .args in slices (a .xs .now) (a .ys .now) (a .strengths .now)
+buffer-of c = let a = start c .args in slices (a .xs .now) (a .ys .now) (a .strengths .now) (a .neighbours .now)
 
 -- ---- none of the conditions on the input holds, so its map can be searched
 fine : (c : tie.Else1) → Clear (conditions-of c)
@@ -77,6 +77,9 @@ same-length-2 c = search needs
 same-length-3 : tie.Need-same-length-3
 same-length-3 c = search needs
 
+same-length-4 : tie.Need-same-length-4
+same-length-4 c = search needs
+
 returns-2 : tie.Need-returns-2
 returns-2 c = let add = added c in adds (searched (add .before)) (add .add-by-table .result) _ (add .add-by-table .ensures)
 
@@ -91,4 +94,5 @@ detect-peaks-from-response-with-refine-radius-spec =
     same-length
     same-length-2
     same-length-3
+    same-length-4
     returns-2)

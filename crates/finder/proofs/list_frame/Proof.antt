@@ -35,6 +35,12 @@ slice-aggregate-find-corners-7 c = search needs
 slice-aggregate-find-corners-8 : tie.Need-slice-aggregate-find-corners-8
 slice-aggregate-find-corners-8 c = search needs
 
+slice-aggregate-find-corners-9 : tie.Need-slice-aggregate-find-corners-9
+slice-aggregate-find-corners-9 c = search needs
+
+slice-aggregate-find-corners-10 : tie.Need-slice-aggregate-find-corners-10
+slice-aggregate-find-corners-10 c = search needs
+
 find-corners-requires : tie.Need-find-corners-requires
 find-corners-requires c κs = search needs
 
@@ -82,6 +88,8 @@ list-frame-spec =
     slice-aggregate-find-corners-6
     slice-aggregate-find-corners-7
     slice-aggregate-find-corners-8
+    slice-aggregate-find-corners-9
+    slice-aggregate-find-corners-10
     find-corners-requires
     enum-known-answer
     list-corners-requires

@@ -53,8 +53,8 @@ finish-corners-requires c κs =
     let kept = found .kept in
     merge-free (a .p) (a .img .now) (a .w) (a .h) (a .map .now) (a .levels .now) _ _ _
     (build-from-finish-corners-requires c .build .ensures .counted) _ _ _ (found .ensures)
-    (record { xs = search kept; ys = search kept; strengths = search kept })
-    (record { xs = search kept; ys = search kept; strengths = search kept })
+    (record { xs = search kept; ys = search kept; strengths = search kept; neighbours = search kept })
+    (record { xs = search kept; ys = search kept; strengths = search kept; neighbours = search kept })
     taken (corners-inside (a .p) (a .img .now) (a .w) (a .h) (computedChoice (a .p)) sound .1)
 
 answer-of-requires : tie.Need-answer-of-requires
@@ -64,26 +64,31 @@ same-length : tie.Need-same-length
 same-length c = omega (arith, clear-from-same-length c .clear .kept, search-from-same-length c .search .kept)
 
 same-length-2 : tie.Need-same-length-2
-same-length-2 c =
-    omega (arith, clear-levels-from-same-length-2 c .clear-levels .kept, build-from-same-length-2 c .build .kept)
+same-length-2 c = omega (arith, clear-levels-from-same-length-2 c .clear-levels .kept, build-from-same-length-2 c .build .kept)
 
 same-length-3 : tie.Need-same-length-3
-same-length-3 c = search needs
+same-length-3 c = omega (arith, clear-list-from-same-length-3 c .clear-list .kept, search-from-same-length-3 c .search .kept)
 
 same-length-4 : tie.Need-same-length-4
-same-length-4 c = search needs
+same-length-4 c = omega (arith, clear-list-from-same-length-4 c .clear-list .kept, search-from-same-length-4 c .search .kept)
 
 same-length-5 : tie.Need-same-length-5
-same-length-5 c = search needs
+same-length-5 c = omega (arith, clear-list-from-same-length-5 c .clear-list .kept, search-from-same-length-5 c .search .kept)
 
 same-length-6 : tie.Need-same-length-6
-same-length-6 c = search needs
+same-length-6 c = omega (arith, clear-list-from-same-length-6 c .clear-list .kept, search-from-same-length-6 c .search .kept)
 
 same-length-7 : tie.Need-same-length-7
-same-length-7 c = search needs
+same-length-7 c = omega (arith, finish-corners-from-same-length-7 c .finish-corners .kept, search-from-same-length-7 c .search .kept)
 
 same-length-8 : tie.Need-same-length-8
-same-length-8 c = search needs
+same-length-8 c = omega (arith, finish-corners-from-same-length-8 c .finish-corners .kept, search-from-same-length-8 c .search .kept)
+
+same-length-9 : tie.Need-same-length-9
+same-length-9 c = search needs
+
+same-length-10 : tie.Need-same-length-10
+same-length-10 c = search needs
 
 returns-2 : tie.Need-returns-2
 returns-2 c =
@@ -91,11 +96,11 @@ returns-2 c =
     let none = sym (refusal-from-returns-2 c .refusal .ensures) ∙ if1-from-returns-2 c .if1 .left in
     let built = build-from-returns-2 c .build .ensures in
     let found = search-from-returns-2 c .search in
-    let kept = found .kept in
+    let kept = found .kept .1 .1 .1 .1 .1 .1 in
     let searched = found .last .1 .1 .1 .1 .1 .1 .0 in
     entry-closed (a .p) (a .img .now) (a .w) (a .h) (a .map .now) (a .levels .now) _ _ _ (built .counted) _ _ _ (found .ensures)
-    (record { xs = search kept; ys = search kept; strengths = search kept })
-    (record { xs = search kept; ys = search kept; strengths = search kept })
+    (record { xs = search kept; ys = search kept; strengths = search kept; neighbours = search kept })
+    (record { xs = search kept; ys = search kept; strengths = search kept; neighbours = search kept })
     none searched (search kept) _ (built .fills) (built .long) _ (clear-from-returns-2 c .clear .ensures)
     _ (clear-levels-from-returns-2 c .clear-levels .ensures) _ (clear-list-from-returns-2 c .clear-list .ensures)
     _ _ (finish-corners-from-returns-2 c .finish-corners .ensures) _ (c .answer-of .ensures)
@@ -121,4 +126,6 @@ find-corners-spec =
     same-length-6
     same-length-7
     same-length-8
+    same-length-9
+    same-length-10
     returns-2)

@@ -1,6 +1,6 @@
 -- `listing::put_corners` meets its contract. The invariant: the lines of the corners passed are written. Assumes nothing.
 mod Landmarks
-use Prim.Native.Nat.{_-_}
+use Prim.Native.Nat.{_-_, _^_, _<_}
 use native.Mathlib.Omega.{arith}
 use mathlib.Core.Path.{refl, _∙_}
 use Rattle.corner_list.specs.CornerList.{slices, cornerAt}
@@ -12,10 +12,10 @@ use Rattle.listing.proofs.put_corners.Tie as tie
 use Landmarks.*
 
 abbrev Inv-loop : tie.InvT-loop
-Inv-loop xs ys strengths count out₀ at₀ i₀ out at i = Lines (cornerAt (slices xs ys strengths)) count at₀ out₀ i at out
+Inv-loop xs ys strengths neighbours count out₀ at₀ i₀ out at i = Lines (cornerAt (slices xs ys strengths neighbours)) count at₀ out₀ i at out
 
 abbrev μ-loop : tie.MeasureT-loop
-μ-loop xs ys strengths count out₀ at₀ i₀ out at i = count - i
+μ-loop xs ys strengths neighbours count out₀ at₀ i₀ out at i = count - i
 
 slice-aggregate-put-heading : tie.Need-slice-aggregate-put-heading Inv-loop μ-loop
 slice-aggregate-put-heading c = refl
@@ -28,7 +28,7 @@ loop-holds c =
     let heading = c .before .before in
     let start = start-from-loop-holds c in
     let a = start .args in
-    lines-none (cornerAt (slices (a .xs .now) (a .ys .now) (a .strengths .now))) (a .count) (heading .put-heading .result) (a .out .now)
+    lines-none (cornerAt (slices (a .xs .now) (a .ys .now) (a .strengths .now) (a .neighbours .now))) (a .count) (heading .put-heading .result) (a .out .now)
     (heading .put-heading .last .0) (start .pre .0) (start .pre .1) (heading .put-heading .ensures)
 
 corner-at-requires : tie.Need-corner-at-requires Inv-loop μ-loop
@@ -48,11 +48,12 @@ loop-again c =
     let line = c .before .before in
     let corner = line .before .before in
     let at = corner .before .before in
+    let small : corner .corner-at .result .neighbours < 2 ^ 32 = omega (arith, corner .corner-at .ok) in
     let heading = put-heading-from-loop-again c in
     let a = start-from-loop-again c .args in
-    lines-next (cornerAt (slices (a .xs .now) (a .ys .now) (a .strengths .now))) (a .count) (heading .put-heading .result)
+    lines-next (cornerAt (slices (a .xs .now) (a .ys .now) (a .strengths .now) (a .neighbours .now))) (a .count) (heading .put-heading .result)
     (heading .put-heading .last .0) (at .loop .i) (at .loop .at) (at .loop .out) (at .loop .inv)
-    (line .put-line .result) (line .put-line .last .0) (corner .corner-at .result) (corner .before .loop-test .taken)
+    (line .put-line .result) (line .put-line .last .0) (corner .corner-at .result) small (corner .before .loop-test .taken)
     (corner .corner-at .ensures) (line .put-line .ensures)
 
 same-length : tie.Need-same-length Inv-loop μ-loop
@@ -63,7 +64,7 @@ returns c =
     let at = c .before in
     let heading = put-heading-from-returns c in
     let a = start-from-returns c .args in
-    lines-all (cornerAt (slices (a .xs .now) (a .ys .now) (a .strengths .now))) (a .count) (heading .put-heading .result)
+    lines-all (cornerAt (slices (a .xs .now) (a .ys .now) (a .strengths .now) (a .neighbours .now))) (a .count) (heading .put-heading .result)
     (heading .put-heading .last .0) (at .loop .i) (at .loop .at) (at .loop .out) (at .loop .inv)
     (c .loop-test .left) (a .out .now) (heading .put-heading .ensures)
 

@@ -4,7 +4,7 @@ use native.Mathlib.Omega.{arith}
 use mathlib.Core.Path.{ap}
 use Rattle.listing.specs.Text.{digits, decimal}
 use Rattle.listing.specs.Internal.{ended}
-use Rattle.listing.proofs.Numbers.{length-digits, places-word}
+use Rattle.listing.proofs.Numbers.{length-digits}
 use Rattle.listing.proofs.Appending.{wrote-more, wrote-as, wrote-length}
 use borrow.Author.Needs.{needs}
 use Rattle.listing.proofs.put_decimal.Statement.{statement}
@@ -15,8 +15,7 @@ decimal-places-requires c κs = search needs
 
 put-digits-requires : tie.Need-put-digits-requires
 put-digits-requires c κs =
-    let a = c .before .before .before .args in
-    (omega arith, omega arith, omega (arith, c .before .decimal-places .ensures, places-word (a .n) (c .before .before .before .fits .n .fits)))
+    (omega arith, omega arith, omega (arith, c .before .decimal-places .ensures))
 
 put-requires : tie.Need-put-requires
 put-requires c κs =
@@ -29,7 +28,6 @@ put-requires c κs =
       wrote-length (low .put-digits .ensures),
       length-digits 10 (count .result) (start .args .n),
       count .ensures,
-      places-word (start .args .n) (start .fits .n .fits),
     )
 
 same-length : tie.Need-same-length

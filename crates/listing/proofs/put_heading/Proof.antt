@@ -1,5 +1,7 @@
 -- `listing::put_heading` meets its contract. Assumes nothing.
-use Rattle.listing.proofs.Appending.{wrote-more}
+use native.Mathlib.Omega.{arith}
+use Rattle.listing.proofs.Numbers.{places-word}
+use Rattle.listing.proofs.Appending.{wrote-length, wrote-more}
 use borrow.Author.Needs.{needs}
 use Rattle.listing.proofs.put_heading.Statement.{statement}
 use Rattle.listing.proofs.put_heading.Tie as tie
@@ -8,7 +10,10 @@ put-word-requires : tie.Need-put-word-requires
 put-word-requires c κs = search needs
 
 put-decimal-requires : tie.Need-put-decimal-requires
-put-decimal-requires c κs = search needs
+put-decimal-requires c κs =
+    let word = c .before .before .before in
+    let start = word .before .before .before .before in
+    omega (arith, word .put-word .ensures .ends, wrote-length (word .put-word .ensures), start .pre, places-word (start .args .n) (start .fits .n .fits))
 
 same-length : tie.Need-same-length
 same-length c = search needs

@@ -18,9 +18,12 @@ same-length-2 c = search needs
 same-length-3 : tie.Need-same-length-3
 same-length-3 c = search needs
 
+same-length-4 : tie.Need-same-length-4
+same-length-4 c = search needs
+
 returns : tie.Need-returns
 returns c = merges-whole _ _ _ _ _ (merge-within-from-returns c .merge-within .ensures)
 
 pub merge-corners-simple-spec : {M : Type 1} → statement M
 merge-corners-simple-spec =
-    tie.close (tie.spec merge-within-requires same-length same-length-2 same-length-3 returns)
+    tie.close (tie.spec merge-within-requires same-length same-length-2 same-length-3 same-length-4 returns)

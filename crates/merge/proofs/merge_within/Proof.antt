@@ -21,6 +21,9 @@ same-length-2 c = search needs
 same-length-3 : tie.Need-same-length-3
 same-length-3 c = search needs
 
+same-length-4 : tie.Need-same-length-4
+same-length-4 c = search needs
+
 returns : tie.Need-returns
 returns c = merges-refused _ _ _ _ _ (c .before .refusal .ensures) (c .if1 .taken)
 
@@ -29,14 +32,17 @@ merge-list-requires c κs =
     let judged = if1-from-merge-list-requires c in
     omega (arith, judged-fits _ _ _ _ (sym (judged .before .refusal .ensures) ∙ judged .if1 .left))
 
-same-length-4 : tie.Need-same-length-4
-same-length-4 c = search needs
-
 same-length-5 : tie.Need-same-length-5
 same-length-5 c = search needs
 
 same-length-6 : tie.Need-same-length-6
 same-length-6 c = search needs
+
+same-length-7 : tie.Need-same-length-7
+same-length-7 c = search needs
+
+same-length-8 : tie.Need-same-length-8
+same-length-8 c = search needs
 
 returns-2 : tie.Need-returns-2
 returns-2 c =
@@ -52,9 +58,11 @@ merge-within-spec =
     same-length
     same-length-2
     same-length-3
+    same-length-4
     returns
     merge-list-requires
-    same-length-4
     same-length-5
     same-length-6
+    same-length-7
+    same-length-8
     returns-2)

@@ -60,7 +60,7 @@ use denote.Triple.Walked.{walk-meets}
 use denote.Exit.{yes}
 use Rattle.lists.specs.Places.{any}
 use Rattle.corner_list.specs.declared.Corner.{Corner}
-use Rattle.corner_list.specs.CornerList.{xOf, yOf, strengthOf}
+use Rattle.corner_list.specs.CornerList.{xOf, yOf, strengthOf, neighboursOf}
 use Rattle.corner_list.proofs.Corner as T
 use Rattle.corner_list.proofs.Corner.Laws as T′
 use Rattle.merge.specs.Refusals.{isOutside}
@@ -122,8 +122,8 @@ abbrev more : Body
 more = after (after Mir.turn-1)
 
 -- element i starts within the slice's bytes
-offset-12 : (i n : ℕ) → i < n → n * 12 < 2 ^ 63 → i * 12 < 2 ^ 64
-offset-12 i n l h = omega arith
+offset-16 : (i n : ℕ) → i < n → n * 16 < 2 ^ 63 → i * 16 < 2 ^ 64
+offset-16 i n l h = omega arith
 
 module _ {M : Type 1} (𝓤 : URA M) (H : Heap 𝓤) (A : Atoms 𝓤) (W : Given 𝓤 H A) (mem : Memory → SProp 𝓤) (run : Routine → Fun 𝓤)
     (κ0 : Lft) (q0 : Share)
@@ -192,8 +192,8 @@ module _ {M : Type 1} (𝓤 : URA M) (H : Heap 𝓤) (A : Atoms 𝓤) (W : Given
   in0 : (i : Upto) → T (ltb (i .0) n) → i .0 < length (A0 i)
   in0 i less = subst (λ (m : ℕ). i .0 < m) (sym (long0 i)) (within0 i less)
 
-  off0 : (i : Upto) → T (ltb (i .0) n) → i .0 * 12 < 2 ^ 64
-  off0 i less = offset-12 (i .0) (length L0) (within0 i less) (room0 .1)
+  off0 : (i : Upto) → T (ltb (i .0) n) → i .0 * 16 < 2 ^ 64
+  off0 i less = offset-16 (i .0) (length L0) (within0 i less) (room0 .1)
 
   -- the corner at the counter, whose fields are a machine's
   abbrev old-c : Upto → Corner
@@ -210,6 +210,9 @@ module _ {M : Type 1} (𝓤 : URA M) (H : Heap 𝓤) (A : Atoms 𝓤) (W : Given
 
   c-fits2 : (i : Upto) → Known-c i → Ieee.fits binary32 (strengthOf (old-c i)) ≡ true
   c-fits2 i is = LL.owed T.the-type T′.the-laws (old-c i) (LL.vals T.the-type T′.the-laws (old-c i)) is .1 .1 .0 .1
+
+  c-fits3 : (i : Upto) → Known-c i → (neighboursOf (old-c i)) < 2 ^ 32
+  c-fits3 i is = LL.owed T.the-type T′.the-laws (old-c i) (LL.vals T.the-type T′.the-laws (old-c i)) is .1 .1 .1 .0 .1
 
   abbrev Had : List (Item 𝓤)
   Had =
@@ -305,17 +308,17 @@ module _ {M : Type 1} (𝓤 : URA M) (H : Heap 𝓤) (A : Atoms 𝓤) (W : Given
         -- leave unless _7
         first ! $ branches ! (load ! (from ! (stop !)) (look ! 10 refl))
         (λ less. skips ! $ exec ! (𝓣 .C) (𝓣 .Λ) En more (anyQ (Turned i)) $
-        -- _8 = mul _4 12
+        -- _8 = mul _4 16
         assigns ! (bin ! (load ! (from ! (stop !)) (look ! 16 refl)) (lit ! tt) (record { fits = off0 i less })) (from ! (stop !))
         (init ! 8 refl (tt, record { fits = off0 i less })) $
         -- _9 = offset _1.0 _8
         assigns ! (bin ! (load ! (from ! (fld ! refl (stop !))) (look-in ! 22 (sub ! 0 refl (whole !)))) (load ! (from ! (stop !)) (look ! 8 refl)) tt)
-        (from ! (stop !)) (init ! 6 refl (tt, tt)) $ rewrite ! 6 (λ (p : ℕ). ‵ (fat fullShare tyPtr l9 0 (vptr b0 p))) (sym (place-is 12 o0 (i .0))) refl $
+        (from ! (stop !)) (init ! 6 refl (tt, tt)) $ rewrite ! 6 (λ (p : ℕ). ‵ (fat fullShare tyPtr l9 0 (vptr b0 p))) (sym (place-is 16 o0 (i .0))) refl $
         -- _10 = *_9
         elem-out ! T.the-row (Is T.the-row) (shows 𝓤 H A T.the-row) (LL.vals T.the-type T′.the-laws) (LL.tells T.the-type T′.the-laws) share (A0 i) (i .0)
         nowhere b0 o0 (in0 i less) (λ is0.
         assigns ! (of-opd ! (load ! (from ! (hop ! (look ! 8 refl) (stop !))) (look-raw ! 0 refl))) (from ! (stop !))
-        (init ! 6 refl (tt, (passes _ (c-fits0 i is0), (passes _ (c-fits1 i is0), (passes _ (c-fits2 i is0), tt))))) $
+        (init ! 6 refl (tt, (passes _ (c-fits0 i is0), (passes _ (c-fits1 i is0), (passes _ (c-fits2 i is0), (record { fits = c-fits3 i is0 }, tt)))))) $
         -- _3 = either_outside(_3, _10)
         nothing ! $
         use1 W (raw (Either-outside 𝓤 H A mem run .pre (to-either-outside (outsideUpto L0 (i .0)) (old-c i) (vbool (outsideUpto L0 (i .0)))

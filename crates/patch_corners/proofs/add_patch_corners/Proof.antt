@@ -1,4 +1,5 @@
 -- `patch_corners::add_patch_corners` meets its contract, by the laws of `Patches`. Assumes nothing.
+mod Landmarks
 use borrow.Author.Needs.{needs}
 use native.Mathlib.Omega.{arith}
 use mathlib.Core.Path.{refl, sym, _∙_}
@@ -7,40 +8,7 @@ use Rattle.response.specs.Patch.{View}
 use Rattle.patch_corners.proofs.Patches.{Made, when-fault, when-short, is-made, map-small, map-within, map-length, when-added, when-full}
 use Rattle.patch_corners.proofs.add_patch_corners.Statement.{statement}
 use Rattle.patch_corners.proofs.add_patch_corners.Tie as tie
-
--- from one place of the code back to another: from where the map is known to have been refused, and to have been made
-abbrev at-response-refused : tie.After-enum-told → tie.After-chess-response-u8-patch
-at-response-refused c = c .before .before .before .before
-
-abbrev at-else1 : tie.After-chess-response-u8-patch → tie.Else1
-at-else1 c = c .before .before
-
-abbrev at-response : tie.After-known-told → tie.After-chess-response-u8-patch
-at-response c = c .before .before .before .before .before
-
-abbrev at-start : tie.After-known-told → tie.Start
-at-start c = c .before .before .before .before .before .before .before .before .before .before .before .before .before .before
-
-abbrev at-known : tie.After-add-peaks → tie.After-known-told
-at-known c = c .before .before .before .before .before
-
-abbrev at-add-peaks : tie.After-known-told2 → tie.After-add-peaks
-at-add-peaks c = c .before .before .before .before .before .before .before .before .before
-
-abbrev at-add-peaks-full : tie.After-enum-told2 → tie.After-add-peaks
-at-add-peaks-full c = c .before .before .before .before .before .before .before .before
-
-abbrev at-full : tie.After-slice-known12 → tie.After-enum-told2
-at-full c = c .before .before .before .before .before .before .before .before .before .before .before .before .before .before
-
-abbrev at-clear : tie.After-slice-known12 → tie.After-clear
-at-clear c = c .before .before .before .before .before .before .before .before .before .before .before .before
-
-abbrev at-clear-list : tie.After-slice-known12 → tie.After-clear-list
-at-clear-list c = c .before .before .before .before .before .before
-
-abbrev at-shared : tie.After-known-told → tie.After-shared-slice-known
-at-shared c = c .before .before .before .before .before .before .before .before .before .before .before .before .before
+use Landmarks.*
 
 -- the box, and the map that was made of it
 abbrev boxAt : tie.Start → View
@@ -48,14 +16,15 @@ boxAt c =
     let a = c .args in
     record { img = a .img .now; w = a .w; h = a .h; ring = ringOf (a .p .ring); x0 = a .x0; y0 = a .y0; x1 = a .x1; y1 = a .y1 }
 
-made : (k : tie.After-known-told)
-    → Made (at-start k .args .p) (boxAt (at-start k)) (at-start k .args .map .now)
-    (at-response k .chess-response-u8-patch .last .1 .1 .1 .1 .1 .1 .1 .1 .0) (k .before .m .given .0 .0) (k .before .m .given .0 .1 .0)
-made k =
-    let r = at-response k in
-    let passed = at-else1 r in
-    is-made (at-start k .args .p) _ _ (sym (passed .before .refusal .ensures) ∙ passed .if1 .left) _ _ (r .chess-response-u8-patch .ensures) _ _
-    (k .before .m .given .1)
+made : (c : tie.After-known-told)
+    → Made (start-from-known-told c .args .p) (boxAt (start-from-known-told c)) (start-from-known-told c .args .map .now)
+    (chess-response-u8-patch-from-known-told c .chess-response-u8-patch .last .1 .1 .1 .1 .1 .1 .1 .1 .0)
+    (c .before .m .given .0 .0) (c .before .m .given .0 .1 .0)
+made c =
+    let r = chess-response-u8-patch-from-known-told c in
+    let passed = r .before .before in
+    is-made (start-from-known-told c .args .p) _ _ (sym (passed .before .refusal .ensures) ∙ passed .if1 .left) _ _ (r .chess-response-u8-patch .ensures) _ _
+    (c .before .m .given .1)
 
 refusal-requires : tie.Need-refusal-requires
 refusal-requires c κs = search needs
@@ -77,8 +46,8 @@ same-length c = search needs
 
 returns-2 : tie.Need-returns-2
 returns-2 c =
-    let r = at-response-refused c in
-    let passed = at-else1 r in
+    let r = chess-response-u8-patch-from-returns-2 c in
+    let passed = r .before .before in
     when-short _ _ _ _ _ (sym (passed .before .refusal .ensures) ∙ passed .if1 .left) _ _ (r .chess-response-u8-patch .ensures) _ (c .enum-told .given .1)
 
 mul-cells : tie.Need-mul-cells
@@ -106,7 +75,8 @@ clear-list-requires : tie.Need-clear-list-requires
 clear-list-requires c κs = search needs
 
 same-length-2 : tie.Need-same-length-2
-same-length-2 c = search needs
+same-length-2 c =
+    omega (arith, clear-from-same-length-2 c .clear .kept, chess-response-u8-patch-from-same-length-2 c .chess-response-u8-patch .kept)
 
 same-length-3 : tie.Need-same-length-3
 same-length-3 c = search needs
@@ -117,16 +87,14 @@ same-length-4 c = search needs
 same-length-5 : tie.Need-same-length-5
 same-length-5 c = search needs
 
-returns-3 : tie.Need-returns-3
-returns-3 c =
-    let full = at-full c in
-    let call = at-add-peaks-full full in
-    let k = at-known call in
-    when-full _ _ _ _ _ _ (made k) (λ i. at-shared k .shared-slice-known .given i .fits) refl _ _ _ _ (call .add-peaks .ensures) _ (full .enum-told2 .given .1)
-    _ (at-clear c .clear .ensures) _ (at-clear-list c .clear-list .ensures)
-
 same-length-6 : tie.Need-same-length-6
 same-length-6 c = search needs
+
+returns-3 : tie.Need-returns-3
+returns-3 c =
+    when-full _ _ _ _ _ _ (made (known-told-from-returns-3 c)) (λ i. shared-slice-known-from-returns-3 c .shared-slice-known .given i .fits) refl _ _ _ _
+    (add-peaks-from-returns-3 c .add-peaks .ensures) _ (enum-told2-from-returns-3 c .enum-told2 .given .1)
+    _ (clear-from-returns-3 c .clear .ensures) _ (clear-list-from-returns-3 c .clear-list .ensures)
 
 same-length-7 : tie.Need-same-length-7
 same-length-7 c = search needs
@@ -137,11 +105,16 @@ same-length-8 c = search needs
 same-length-9 : tie.Need-same-length-9
 same-length-9 c = search needs
 
+same-length-10 : tie.Need-same-length-10
+same-length-10 c = search needs
+
+same-length-11 : tie.Need-same-length-11
+same-length-11 c = search needs
+
 returns-4 : tie.Need-returns-4
 returns-4 c =
-    let call = at-add-peaks c in
-    let k = at-known call in
-    when-added _ _ _ _ _ _ (made k) (λ i. at-shared k .shared-slice-known .given i .fits) refl _ _ _ _ (call .add-peaks .ensures) _ _ (c .before .f .given .1)
+    when-added _ _ _ _ _ _ (made (known-told-from-returns-4 c)) (λ i. shared-slice-known-from-returns-4 c .shared-slice-known .given i .fits) refl _ _ _ _
+    (add-peaks-from-returns-4 c .add-peaks .ensures) _ _ (c .before .f .given .1)
 
 pub add-patch-corners-spec : {M : Type 1} → statement M
 add-patch-corners-spec =
@@ -166,9 +139,11 @@ add-patch-corners-spec =
     same-length-3
     same-length-4
     same-length-5
-    returns-3
     same-length-6
+    returns-3
     same-length-7
     same-length-8
     same-length-9
+    same-length-10
+    same-length-11
     returns-4)

@@ -1,8 +1,10 @@
 -- `pgm_frame::find_pgm_corners` meets its contract: the upload is refused, or its pixels have the frame's promise. Assumes nothing.
+mod Landmarks
 use borrow.Author.Needs.{needs}
 use Rattle.pgm_frame.proofs.Photographs.{photograph-refused, photograph-found}
 use Rattle.pgm_frame.proofs.find_pgm_corners.Statement.{statement}
 use Rattle.pgm_frame.proofs.find_pgm_corners.Tie as tie
+use Landmarks.*
 
 read-pgm-requires : tie.Need-read-pgm-requires
 read-pgm-requires c κs = search needs
@@ -46,20 +48,16 @@ same-length-7 c = search needs
 same-length-8 : tie.Need-same-length-8
 same-length-8 c = search needs
 
--- from one place of the code back to another
-abbrev at-find-corners : tie.After-slice-known16 → tie.After-find-corners
-at-find-corners c = c .before .before .before .before .before .before .before .before .before .before .before .before .before .before .before .before
+same-length-9 : tie.Need-same-length-9
+same-length-9 c = search needs
 
-abbrev at-pgm-pixels : tie.After-find-corners → tie.After-pgm-pixels
-at-pgm-pixels c = c .before .before .before .before .before .before .before .before .before
+same-length-10 : tie.Need-same-length-10
+same-length-10 c = search needs
 
 returns-2 : tie.Need-returns-2
 returns-2 c =
-    let found = at-find-corners c in
-    let pixels = at-pgm-pixels found in
-    let image = pixels .before .before in
-    photograph-found _ _ _ _ (image .before .before .read-pgm .ensures) _ _ _ (image .image2 .given .1) _ (pixels .pgm-pixels .ensures) _ _
-    (found .find-corners .ensures)
+    photograph-found _ _ _ _ (read-pgm-from-returns-2 c .read-pgm .ensures) _ _ _ (image2-from-returns-2 c .image2 .given .1)
+    _ (pgm-pixels-from-returns-2 c .pgm-pixels .ensures) _ _ (find-corners-from-returns-2 c .find-corners .ensures)
 
 pub find-pgm-corners-spec : {M : Type 1} → statement M
 find-pgm-corners-spec =
@@ -79,4 +77,6 @@ find-pgm-corners-spec =
     same-length-6
     same-length-7
     same-length-8
+    same-length-9
+    same-length-10
     returns-2)

@@ -72,7 +72,7 @@ fn box_cases(tally: &mut Tally) {
 fn whole_cases(tally: &mut Tally) {
     let params = Params { merge: 3.0, minimum: 1, ..PLAIN };
     let upload = Upload { width: 11, height: 11, params, pixels: whole_case() };
-    let due = "corners 1\n1280 1280 40a00000 40a00000 44fe0000\n";
+    let due = "corners 1\n1280 1280 40a00000 40a00000 44fe0000 0\n";
     tally.same("whole case", corners(&write(&upload)).as_str(), due);
     let run = merges::run_case();
     let list = run.buffer.list(run.count);

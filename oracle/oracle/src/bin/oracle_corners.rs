@@ -3,9 +3,9 @@
 //!   --exact                               instead the list of the pass by exact values
 //!   --side N                              the largest side (96)
 //!   --buffers MAP LEVELS SEEDS CORNERS    the buffers' lengths (9216 3072 512 512)
-use oracle::buffers::{byte_front, float_front, Buffers, CornerBuffer, Rest, Sizes};
+use oracle::buffers::{byte_front, float_front, word_front, Buffers, CornerBuffer, Rest, Sizes};
 use oracle::exact::EXACT;
-use oracle::frame::corners_of;
+use oracle::frame::with_lists;
 use oracle::listing::{listing, refused};
 use oracle::numbers::bits;
 use oracle::program::{Program, CORNERS};
@@ -29,7 +29,7 @@ fn options() -> Options {
             "--side" => options.program.largest_side = number(),
             "--buffers" => {
                 let (map, levels) = (number(), number());
-                let (seeds, corners) = ([number(); 3], [number(); 3]);
+                let (seeds, corners) = ([number(); 4], [number(); 4]);
                 options.program.sizes = Sizes { map, levels, seeds, corners };
             }
             _ => panic!("unknown option {word}"),
@@ -58,6 +58,9 @@ fn show_list(name: &str, before: &CornerBuffer, after: &CornerBuffer) {
     show_floats(&format!("{name} x"), &before.x, &after.x);
     show_floats(&format!("{name} y"), &before.y, &after.y);
     show_floats(&format!("{name} strength"), &before.strength, &after.strength);
+    let (front, rest) = word_front(&before.neighbours, &after.neighbours);
+    let digits = front.iter().map(u32::to_string).collect();
+    show(&format!("{name} neighbours"), after.neighbours.len(), digits, rest);
 }
 
 fn show_state(before: &Buffers, after: &Buffers) {
@@ -75,7 +78,9 @@ fn main() {
     std::io::stdin().read_to_end(&mut stream).expect("standard input");
     if options.exact {
         match read(&stream, options.program.largest_side) {
-            Ok(u) => print!("{}", listing(&corners_of(u.image(), &u.params, &EXACT))),
+            Ok(u) => with_lists(u.image(), &u.params, &EXACT, |lists| {
+                print!("{}", listing(&lists.corners, &lists.neighbours(&u.params, &EXACT).1));
+            }),
             Err(number) => print!("{}", refused(number)),
         }
         return;

@@ -124,7 +124,7 @@ fn peaks(side: usize, window: u32) -> Pair {
     let params = Params { window, ..PLAIN };
     let mut cells = vec![0.0; side * side];
     cells[side * side / 2] = 2.0;
-    let mut buffer = CornerBuffer::before([1; 3]);
+    let mut buffer = CornerBuffer::before([1; 4]);
     let found = find_peaks(&cells, side, side, &params, &mut buffer, 0);
     let original = outcome(move || {
         let map = ResponseMap::new(side, side, cells);
@@ -161,8 +161,8 @@ fn corners(places: &[(f32, f32)]) -> Vec<Corner> {
 
 /// The oracle's merge.
 fn oracle_merge(list: &[Corner], radius: f32) -> String {
-    let mut buffer = CornerBuffer::before([list.len(); 3]);
-    buffer.put(0, list);
+    let mut buffer = CornerBuffer::before([list.len(); 4]);
+    buffer.put(0, list, &vec![0; list.len()]);
     let kept = merge::merge(&mut buffer, list.len(), radius);
     answer(kept, |count| format!("{count} corners"))
 }

@@ -1,6 +1,6 @@
 //! oracle_exact [N [SEED]]: demand 3 by running. On N frames (2000) of each of three kinds: for each map that the exact
-//! pass looks at, computed and exact peak lists are alike exactly when no exact peak is overtaken; and where all are
-//! alike, the whole corner lists are the same. Then the responses themselves: error, sign and order.
+//! pass looks at, computed and exact peak lists are alike exactly when no exact peak is overtaken, and each computed peak
+//! has as many neighbours by exact values; and where all are alike, the whole corner lists are the same. Then the responses themselves: error, sign and order.
 use oracle::buffers::same_list;
 use oracle::exact::{compare, has_whole_threshold, EXACT};
 use oracle::frame::{corners_of, with_lists};
@@ -34,6 +34,7 @@ fn judge(tally: &mut Tally, seen: &mut Seen, upload: &Upload) {
             if has_whole_threshold(params) {
                 tally.same("alike exactly when none is overtaken", found.alike, !found.overtaken);
             }
+            tally.check("as many neighbours by exact values", found.counts_alike);
             all_alike &= found.alike;
             seen.maps += 1;
             seen.peaks += found.peaks;

@@ -32,7 +32,7 @@ fn flat(name: &'static str, number: Refusal, change: fn(&mut Case)) -> Case {
         height: 12,
         pixels: vec![50; 144],
         params: Params { merge: 3.0, levels: 2, ..PLAIN },
-        sizes: Sizes { map: 144, levels: 36, seeds: [4; 3], corners: [4; 3] },
+        sizes: Sizes { map: 144, levels: 36, seeds: [4; 4], corners: [4; 4] },
     };
     change(&mut case);
     case
@@ -96,20 +96,21 @@ fn parameters() -> Vec<Case> {
 
 /// 8, 9 and 10.
 fn buffers() -> Vec<Case> {
-    let just = Sizes { map: 121, levels: 0, seeds: [0; 3], corners: [1; 3] };
-    let unequal = Sizes { map: 130, levels: 5, seeds: [1, 2, 3], corners: [3, 1, 2] };
+    let just = Sizes { map: 121, levels: 0, seeds: [0; 4], corners: [1; 4] };
+    let unequal = Sizes { map: 130, levels: 5, seeds: [1, 2, 3, 2], corners: [3, 1, 2, 4] };
     vec![
         flat("map too short", 8, |c| c.sizes.map = 143),
         flat("map too short without levels", 8, |c| (c.sizes.map, c.params.levels) = (143, 0)),
         flat("map and levels too short", 8, |c| (c.sizes.map, c.sizes.levels) = (143, 35)),
         flat("levels too short", 9, |c| c.sizes.levels = 35),
         flat("no levels and no buffer for them", 0, |c| (c.params.levels, c.sizes.levels) = (0, 0)),
-        flat("no list and no place for one", 0, |c| (c.sizes.seeds, c.sizes.corners) = ([0; 3], [0; 3])),
+        flat("no list and no place for one", 0, |c| (c.sizes.seeds, c.sizes.corners) = ([0; 4], [0; 4])),
         one_corner("whole case", 0, just),
         one_corner("unequal slices", 0, unequal),
-        one_corner("no place for a corner", 10, Sizes { corners: [0; 3], ..just }),
-        one_corner("one slice without a place", 10, Sizes { corners: [3, 0, 2], ..unequal }),
-        one_corner("map too short and no place for a corner", 8, Sizes { map: 120, corners: [0; 3], ..just }),
+        one_corner("no place for a corner", 10, Sizes { corners: [0; 4], ..just }),
+        one_corner("one slice without a place", 10, Sizes { corners: [3, 0, 2, 4], ..unequal }),
+        one_corner("no place for the neighbours", 10, Sizes { corners: [3, 1, 2, 0], ..unequal }),
+        one_corner("map too short and no place for a corner", 8, Sizes { map: 120, corners: [0; 4], ..just }),
     ]
 }
 

@@ -1,5 +1,5 @@
 //! Writes records: a byte of kind, the body's length, the body.
-use crate::buffers::{byte_front, float_front};
+use crate::buffers::{byte_front, float_front, word_front, CornerBuffer};
 use crate::numbers::bits;
 use std::collections::BTreeMap;
 
@@ -66,10 +66,24 @@ impl Body {
         all.iter().fold(self, |body, &v| body.float(v))
     }
 
+    /// A count, then numbers.
+    pub fn numbers(&mut self, all: &[u32]) -> &mut Self {
+        self.word(all.len());
+        all.iter().fold(self, |body, &v| body.word(v as usize))
+    }
+
     /// What a float buffer holds after a call: the rule for the rest, then a count and that many first places.
     pub fn float_buffer(&mut self, before: &[f32], after: &[f32]) -> &mut Self {
         let (front, rest) = float_front(before, after);
         self.byte(rest as u8).floats(front)
+    }
+
+    /// What the four slices of a corner buffer hold after a call.
+    pub fn corner_buffer(&mut self, before: &CornerBuffer, after: &CornerBuffer) -> &mut Self {
+        self.float_buffer(&before.x, &after.x).float_buffer(&before.y, &after.y);
+        self.float_buffer(&before.strength, &after.strength);
+        let (front, rest) = word_front(&before.neighbours, &after.neighbours);
+        self.byte(rest as u8).numbers(front)
     }
 
     /// What a byte buffer holds after a call.

@@ -29,20 +29,20 @@ pub fn fields(kind: u8) -> Option<Vec<Field>> {
             &[Word; 2],
             &[Word; 9],
             &[Bytes],
-            &[Word; 8],
+            &[Word; 10],
             &[Word; 2],
             &[WordBuffer, ByteBuffer],
-            &[WordBuffer; 6],
+            &[WordBuffer; 8],
         ]),
         kind::RESPONSE => list(&[&[Word; 7], &[Bytes, Word], &[Word; 3], &[WordBuffer]]),
-        kind::PEAKS => list(&[&[Word; 7], &[Words], &[Word; 4], &[Word; 2], &[WordBuffer; 3]]),
+        kind::PEAKS => list(&[&[Word; 7], &[Words], &[Word; 5], &[Word; 2], &[WordBuffer; 4]]),
         kind::CENTROID => list(&[&[Word; 3], &[Byte, Word, Word, Words], &[Word, Byte], &[Word; 3]]),
         kind::BOX => list(&[&[Word; 9], &[Word, Byte], &[Word; 4]]),
         kind::LEVELS => list(&[&[Word; 4], &[Bytes, Word], &[Word; 2], &[ByteBuffer]]),
         kind::LEVEL => list(&[&[Word; 7], &[Word; 2], &[Byte], &[Word; 3]]),
-        kind::MERGE => list(&[&[Word; 2], &[Words; 3], &[Word; 2], &[WordBuffer; 3]]),
+        kind::MERGE => list(&[&[Word; 2], &[Words; 4], &[Word; 2], &[WordBuffer; 4]]),
         kind::STREAM => list(&[&[Bytes], &[Word; 12], &[Bytes]]),
-        kind::LISTING => list(&[&[Words; 3], &[Bytes]]),
+        kind::LISTING => list(&[&[Words; 4], &[Bytes]]),
         kind::NUMBER => list(&[&[Word; 2], &[Byte, Word], &[Long; 4]]),
         kind::RING => list(&[&[Word; 2], &[Words; 2]]),
         _ => None,
@@ -110,7 +110,8 @@ mod tests {
     fn broken_files_are_noticed() {
         let mut file = File::new("listings");
         let mut body = Body::default();
-        file.record(kind::LISTING, 0, body.floats(&[1.0]).floats(&[2.0]).floats(&[3.0]).bytes(b"text"));
+        body.floats(&[1.0]).floats(&[2.0]).floats(&[3.0]).numbers(&[4]).bytes(b"text");
+        file.record(kind::LISTING, 0, &body);
         let bytes = file.finished();
         assert_eq!(walk(&bytes), Ok(1));
         assert!(walk(&bytes[..bytes.len() - 1]).is_err());

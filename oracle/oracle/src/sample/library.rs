@@ -50,11 +50,7 @@ pub fn put(file: &mut File, case: &Case, left: &Left) {
     body.words(&[left.number as usize, left.count]);
     body.float_buffer(&before.map, &after.map);
     body.byte_buffer(&before.levels, &after.levels);
-    for (before, after) in [(&before.seeds, &after.seeds), (&before.corners, &after.corners)] {
-        body.float_buffer(&before.x, &after.x);
-        body.float_buffer(&before.y, &after.y);
-        body.float_buffer(&before.strength, &after.strength);
-    }
+    body.corner_buffer(&before.seeds, &after.seeds).corner_buffer(&before.corners, &after.corners);
     file.record(kind::LIBRARY_FRAME, left.number, &body);
 }
 
@@ -65,15 +61,15 @@ fn needed(image: Image, params: &Params) -> Sizes {
     with_lists(image, params, &STEPS, |lists| Sizes {
         map: image.width * image.height,
         levels,
-        seeds: [lists.seeds.len(); 3],
-        corners: [lists.found.len(); 3],
+        seeds: [lists.seeds.len(); 4],
+        corners: [lists.found.len(); 4],
     })
 }
 
 /// Just enough, too short in one buffer, or more than enough and unequal.
 fn varied(rng: &mut Rng, needed: Sizes) -> Sizes {
     let mut sizes = needed;
-    let slice = rng.below(3);
+    let slice = rng.below(4);
     let less = |n: usize| n.saturating_sub(1);
     match rng.below(8) {
         0 => sizes.map = less(needed.map),

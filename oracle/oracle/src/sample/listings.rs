@@ -11,11 +11,11 @@ const RANDOM: usize = 80;
 const EDGES: [f32; 6] =
     [0.0, -0.0, 4096.0, f32::from_bits(1), f32::MIN_POSITIVE, f32::from_bits(0x3aff_ffff)];
 
-fn put(file: &mut File, list: &[Corner]) {
+fn put(file: &mut File, list: &[Corner], neighbours: &[u32]) {
     let field = |f: fn(&Corner) -> f32| list.iter().map(f).collect::<Vec<f32>>();
     let mut body = Body::default();
-    body.floats(&field(|c| c.x)).floats(&field(|c| c.y)).floats(&field(|c| c.strength));
-    body.bytes(listing(list).as_bytes());
+    body.floats(&field(|c| c.x)).floats(&field(|c| c.y)).floats(&field(|c| c.strength)).numbers(neighbours);
+    body.bytes(listing(list, neighbours).as_bytes());
     file.record(kind::LISTING, 0, &body);
 }
 
@@ -39,9 +39,18 @@ fn coordinate(rng: &mut Rng) -> f32 {
     }
 }
 
+/// As many as a window has cells, or any number of 32 bits.
+fn neighbours(rng: &mut Rng) -> u32 {
+    match rng.below(4) {
+        0 => rng.pick(&[0, 9, 10, 1088, u32::MAX]),
+        1 => rng.below(1 << 32) as u32,
+        _ => rng.below(25) as u32,
+    }
+}
+
 pub fn file(seed: u64) -> File {
     let mut file = File::new("listings.bin");
-    put(&mut file, &[]);
+    put(&mut file, &[], &[]);
     let mut rng = Rng::of_case(seed, SUBJECT, 0);
     for case in 0..RANDOM {
         let length = if case < 60 { rng.from_to(1, 3) } else { rng.from_to(8, 24) };
@@ -50,7 +59,8 @@ pub fn file(seed: u64) -> File {
             Corner::new(coordinate(&mut rng), coordinate(&mut rng), strength)
         };
         let list: Vec<Corner> = (0..length).map(|_| corner()).collect();
-        put(&mut file, &list);
+        let neighbours: Vec<u32> = list.iter().map(|_| neighbours(&mut rng)).collect();
+        put(&mut file, &list, &neighbours);
     }
     file
 }

@@ -23,12 +23,15 @@ fn put(file: &mut File, case: &Case) {
     let answer = merge(&mut after, case.count, case.radius);
     let mut body = Body::default();
     body.float(case.radius).word(case.count);
-    body.floats(&before.x).floats(&before.y).floats(&before.strength);
+    body.floats(&before.x).floats(&before.y).floats(&before.strength).numbers(&before.neighbours);
     body.words(&[number_of(&answer) as usize, answer.unwrap_or(0)]);
-    body.float_buffer(&before.x, &after.x);
-    body.float_buffer(&before.y, &after.y);
-    body.float_buffer(&before.strength, &after.strength);
+    body.corner_buffer(before, &after);
     file.record(kind::MERGE, number_of(&answer), &body);
+}
+
+/// The neighbours of so many corners, of which no two have as many.
+fn different(places: usize) -> Vec<u32> {
+    (0..places as u32).map(|place| 7 + 11 * place).collect()
 }
 
 /// Corners of one strength.
@@ -37,6 +40,7 @@ fn corners(places: &[(f32, f32)]) -> CornerBuffer {
         x: places.iter().map(|p| p.0).collect(),
         y: places.iter().map(|p| p.1).collect(),
         strength: vec![1.0; places.len()],
+        neighbours: different(places.len()),
     }
 }
 
@@ -84,6 +88,7 @@ fn in_range(rng: &mut Rng) -> Case {
         x: list(&mut |rng| coordinate(rng, origin, step)),
         y: list(&mut |rng| if rng.once_in(2) { origin } else { coordinate(rng, origin, step) }),
         strength: list(&mut strength),
+        neighbours: different(places),
     };
     Case { buffer, count, radius }
 }
@@ -147,6 +152,9 @@ fn with_faults(rng: &mut Rng) -> Case {
             slice.pop();
         }
     }
+    if rng.once_in(4) {
+        case.buffer.neighbours.pop();
+    }
     case
 }
 
@@ -167,9 +175,12 @@ fn named() -> Vec<Case> {
     let case = |places: &[(f32, f32)], count, radius| Case { buffer: corners(places), count, radius };
     let mut replaced = case(&[(0.0, 0.0), (1.0, 0.0), (2.0, 0.0), (3.0, 0.0), (9.0, 9.0)], 4, 1.0);
     replaced.buffer.strength = vec![1.0, 2.0, 3.0, 3.0, 7.0];
+    let mut uncounted = case(&[(1.0, 1.0), (2.0, 1.0)], 2, 3.0);
+    uncounted.buffer.neighbours.pop();
     vec![
         run_case(),
         replaced,
+        uncounted,
         case(&[], 0, 3.0),
         case(&[], 0, 0.001),
         case(&[], 1, 3.0),

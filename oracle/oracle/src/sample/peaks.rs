@@ -17,7 +17,7 @@ pub struct Case {
     pub width: usize,
     pub height: usize,
     pub params: Params,
-    pub lengths: [usize; 3],
+    pub lengths: [usize; 4],
     pub held: usize,
 }
 
@@ -31,9 +31,7 @@ fn put(file: &mut File, case: &Case) {
     body.words(&[p.window as usize, p.least as usize, p.centroid as usize]);
     body.floats(&case.cells).words(&case.lengths).word(case.held);
     body.words(&[number_of(&answer) as usize, answer.unwrap_or(0)]);
-    body.float_buffer(&before.x, &after.x);
-    body.float_buffer(&before.y, &after.y);
-    body.float_buffer(&before.strength, &after.strength);
+    body.corner_buffer(&before, &after);
     file.record(kind::PEAKS, number_of(&answer), &body);
 }
 
@@ -48,12 +46,12 @@ fn cells(rng: &mut Rng, size: usize, look: usize) -> Vec<f32> {
 }
 
 /// How a list that just fits, or just not, is put behind what the buffer holds.
-fn places(rng: &mut Rng, found: usize) -> ([usize; 3], usize) {
+fn places(rng: &mut Rng, found: usize) -> ([usize; 4], usize) {
     let held = if rng.once_in(3) { rng.below(6) } else { 0 };
-    let mut lengths = [held + found; 3];
+    let mut lengths = [held + found; 4];
     match rng.below(6) {
-        0 => lengths[rng.below(3)] = (held + found).saturating_sub(1),
-        1 => lengths = [held.saturating_sub(1); 3],
+        0 => lengths[rng.below(4)] = (held + found).saturating_sub(1),
+        1 => lengths = [held.saturating_sub(1); 4],
         2 => lengths = lengths.map(|n| n + rng.below(4)),
         _ => {}
     }
@@ -87,7 +85,7 @@ pub fn random_cases(seed: u64) -> impl Iterator<Item = Case> {
 fn one_cell(middle: f32, threshold: f32) -> Case {
     let mut cells = vec![0.0; 121];
     cells[60] = middle;
-    Case { cells, width: 11, height: 11, params: Params { threshold, ..PLAIN }, lengths: [1; 3], held: 0 }
+    Case { cells, width: 11, height: 11, params: Params { threshold, ..PLAIN }, lengths: [1; 4], held: 0 }
 }
 
 /// Single cells against thresholds: at it, beside it, NaN on either side.
@@ -129,8 +127,21 @@ fn put_pairs(file: &mut File) {
             let mut cells = vec![0.0; 14 * 13];
             (cells[6 * 14 + 6], cells[6 * 14 + 7]) = (left, right);
             let params = Params { window: 1, least, ..PLAIN };
-            put(file, &Case { cells, width: 14, height: 13, params, lengths: [2; 3], held: 0 });
+            put(file, &Case { cells, width: 14, height: 13, params, lengths: [2; 4], held: 0 });
         }
+    }
+}
+
+/// A peak of 2 and cells of 1, -1 and NaN in its window: one neighbour.
+fn put_neighbours(file: &mut File) {
+    for least in [0, 1, 2] {
+        let mut cells = vec![0.0; 13 * 13];
+        cells[6 * 13 + 6] = 2.0;
+        for (x, y, value) in [(7, 6, 1.0), (5, 5, -1.0), (6, 7, f32::NAN), (6, 4, 1.0)] {
+            cells[y * 13 + x] = value;
+        }
+        let params = Params { window: 1, least, ..PLAIN };
+        put(file, &Case { cells, width: 13, height: 13, params, lengths: [2; 4], held: 0 });
     }
 }
 
@@ -140,7 +151,7 @@ fn put_limits(file: &mut File, rng: &mut Rng) {
         let params = Params { ring, window, centroid, ..PLAIN };
         let side = 2 * params.border() + 1;
         let cells = cells(rng, side * side, 3);
-        put(file, &Case { cells, width: side, height: side, params, lengths: [1; 3], held: 0 });
+        put(file, &Case { cells, width: side, height: side, params, lengths: [1; 4], held: 0 });
     }
 }
 
@@ -151,19 +162,20 @@ fn put_refused(file: &mut File) {
     let cases = [
         Case { width: 4097, height: 0, cells: vec![], ..sound() },
         Case { width: 0, height: 4097, cells: vec![], params: params(4, 0, 0), ..sound() },
-        Case { width: 4096, height: 0, cells: vec![], lengths: [0; 3], ..sound() },
+        Case { width: 4096, height: 0, cells: vec![], lengths: [0; 4], ..sound() },
         Case { width: 12, ..sound() },
-        Case { cells: vec![5.0; 120], params: params(6, 0, 0), lengths: [0; 3], ..sound() },
+        Case { cells: vec![5.0; 120], params: params(6, 0, 0), lengths: [0; 4], ..sound() },
         Case { params: params(6, 0, 0), ..sound() },
-        Case { params: params(0, 0, 0), lengths: [0; 3], ..sound() },
+        Case { params: params(0, 0, 0), lengths: [0; 4], ..sound() },
         Case { params: params(5, 17, 0), ..sound() },
         Case { params: params(5, 0, 17), ..sound() },
         Case { params: params(5, u32::MAX, u32::MAX), ..sound() },
-        Case { lengths: [0; 3], ..sound() },
-        Case { lengths: [4, 4, 3], held: 3, ..sound() },
-        Case { lengths: [4, 4, 4], held: 3, ..sound() },
-        Case { lengths: [3, 4, 4], held: 4, cells: vec![0.0; 121], ..sound() },
-        Case { lengths: [4, 4, 4], held: 4, cells: vec![0.0; 121], ..sound() },
+        Case { lengths: [0; 4], ..sound() },
+        Case { lengths: [4, 4, 3, 4], held: 3, ..sound() },
+        Case { lengths: [4, 4, 4, 3], held: 3, ..sound() },
+        Case { lengths: [4; 4], held: 3, ..sound() },
+        Case { lengths: [3, 4, 4, 4], held: 4, cells: vec![0.0; 121], ..sound() },
+        Case { lengths: [4; 4], held: 4, cells: vec![0.0; 121], ..sound() },
         Case { held: u32::MAX as usize, cells: vec![0.0; 121], ..sound() },
     ];
     for case in cases {
@@ -175,6 +187,7 @@ pub fn file(seed: u64) -> File {
     let mut file = File::new("peaks.bin");
     put_single(&mut file);
     put_pairs(&mut file);
+    put_neighbours(&mut file);
     put_refused(&mut file);
     put_limits(&mut file, &mut Rng::of_case(seed, SUBJECT, RANDOM));
     for case in random_cases(seed) {

@@ -24,6 +24,9 @@ same-length-2 c = search needs
 same-length-3 : tie.Need-same-length-3
 same-length-3 c = search needs
 
+same-length-4 : tie.Need-same-length-4
+same-length-4 c = search needs
+
 returns : tie.Need-returns
 returns c =
     corners-merged _ _ _ _ _ _ _ _ (merge-corners-simple-from-returns c .merge-corners-simple .ensures) (c .number-of .ensures) (c .before .kept-of .ensures)
@@ -38,4 +41,5 @@ zakdomp-merge-spec =
     same-length
     same-length-2
     same-length-3
+    same-length-4
     returns)

@@ -28,6 +28,9 @@ same-length-2 c = search needs
 same-length-3 : tie.Need-same-length-3
 same-length-3 c = search needs
 
+same-length-4 : tie.Need-same-length-4
+same-length-4 c = search needs
+
 returns : tie.Need-returns
 returns c =
     let found = detect-peaks-from-response-with-refine-radius-from-returns c in
@@ -45,4 +48,5 @@ zakdomp-peaks-spec =
     same-length
     same-length-2
     same-length-3
+    same-length-4
     returns)

@@ -5,7 +5,7 @@ use lib.ListN.{length}
 use borrow.Author.Needs.{needs}
 use Rattle.lists.specs.Places.{Place}
 use Rattle.corner_list.specs.CornerList.{Slices, slices, placesOf}
-use Rattle.corner_list.proofs.Growing.{growing-xs, growing-ys, growing-strengths}
+use Rattle.corner_list.proofs.Growing.{growing-xs, growing-ys, growing-strengths, growing-neighbours}
 use Rattle.detect.specs.Peaks.{Inside}
 use Rattle.detect.specs.Internal.{place, peaksFrom}
 use Rattle.detect.proofs.Scanning.{next-inside}
@@ -15,16 +15,16 @@ use Rattle.detect.proofs.adding.add_peaks.Statement.{statement}
 use Rattle.detect.proofs.adding.add_peaks.Tie as tie
 
 abbrev Inv-loop : tie.InvT-loop
-Inv-loop map s table xs₀ ys₀ strengths₀ held n places y1 x₀ y₀ i₀ ties₀ xs ys strengths x y i ties =
-    Writing map s table n held i ties (slices xs₀ ys₀ strengths₀) (slices xs ys strengths) (place x y)
+Inv-loop map s table xs₀ ys₀ strengths₀ neighbours₀ held n places y1 x₀ y₀ i₀ ties₀ xs ys strengths neighbours x y i ties =
+    Writing map s table n held i ties (slices xs₀ ys₀ strengths₀ neighbours₀) (slices xs ys strengths neighbours) (place x y)
 
 abbrev μ-loop : tie.MeasureT-loop
-μ-loop map s table xs₀ ys₀ strengths₀ held n places y1 x₀ y₀ i₀ ties₀ xs ys strengths x y i ties = length (peaksFrom map s (place x y))
+μ-loop map s table xs₀ ys₀ strengths₀ neighbours₀ held n places y1 x₀ y₀ i₀ ties₀ xs ys strengths neighbours x y i ties = length (peaksFrom map s (place x y))
 
 -- ---- places of the code: the function's start, from the listing; the listing, from the test of the peaks' number and from a turn; the turn,
 -- from its peak; the peak, from where the turn goes on; that, from where its corner was put; and this, from what follows
 abbrev start : tie.After-list-peaks Inv-loop μ-loop → tie.Start Inv-loop μ-loop
-start c = c .before .before .before .before .before .before .before
+start c = c .before .before .before .before .before .before .before .before
 
 abbrev listed-here : tie.After-are-too-many Inv-loop μ-loop → tie.After-list-peaks Inv-loop μ-loop
 listed-here c = c .before .before .before .before .before
@@ -39,17 +39,17 @@ abbrev found : tie.Else2 Inv-loop μ-loop → tie.After-peak-at Inv-loop μ-loop
 found c = c .before .before
 
 abbrev going : tie.After-put-corner Inv-loop μ-loop → tie.Else2 Inv-loop μ-loop
-going c = c .before .before .before .before .before
+going c = c .before .before .before .before .before .before
 
-abbrev put : tie.After-slice-known8 Inv-loop μ-loop → tie.After-put-corner Inv-loop μ-loop
-put c = c .before .before .before .before .before .before
+abbrev put : tie.After-slice-known10 Inv-loop μ-loop → tie.After-put-corner Inv-loop μ-loop
+put c = c .before .before .before .before .before .before .before .before
 
 -- what the function was given, from where a turn goes on, and its buffer
 abbrev given : tie.Else2 Inv-loop μ-loop → tie.Start Inv-loop μ-loop
 given c = start (listed (turn (found c)))
 
 abbrev buffer : tie.Start Inv-loop μ-loop → Slices
-buffer c = slices (c .args .xs .now) (c .args .ys .now) (c .args .strengths .now)
+buffer c = let a = c .args in slices (a .xs .now) (a .ys .now) (a .strengths .now) (a .neighbours .now)
 
 -- ---- in a turn that goes on the next peak lies inside the border, and there is a place for its corner
 module _ (c : tie.Else2 Inv-loop μ-loop) where
@@ -114,16 +114,21 @@ same-length-4 c = growing-ys _ _ _ _ _ _ (turn (c .before .before) .loop .inv .g
 same-length-5 : tie.Need-same-length-5 Inv-loop μ-loop
 same-length-5 c = growing-strengths _ _ _ _ _ _ (turn (c .before .before) .loop .inv .growing)
 
+same-length-6 : tie.Need-same-length-6 Inv-loop μ-loop
+same-length-6 c = growing-neighbours _ _ _ _ _ _ (turn (c .before .before) .loop .inv .growing)
+
 returns-2 : tie.Need-returns-2 Inv-loop μ-loop
 returns-2 c =
     let f = c .before .before in
     writing-all _ _ _ _ _ _ _ _ _ _ (turn f .loop .inv) _ (f .peak-at .ensures) (omega arith)
 
 add-put-corner : tie.Need-add-put-corner Inv-loop μ-loop
-add-put-corner c = let t = c .before .before .before in omega (arith, space t, given t .good)
+add-put-corner c = let t = c .before .before .before .before in omega (arith, space t, given t .good)
 
 start-at-requires : tie.Need-start-at-requires Inv-loop μ-loop
-start-at-requires c κs = let t = c .before .before .before in (given t .pre, inside t)
+start-at-requires c κs =
+    let t = c .before .before .before .before in
+    (given t .pre, (inside t, found t .peak-at .ensures .next .counted (high t)))
 
 put-corner-requires : tie.Need-put-corner-requires Inv-loop μ-loop
 put-corner-requires c κs = search needs
@@ -176,6 +181,7 @@ add-peaks-spec =
     same-length-3
     same-length-4
     same-length-5
+    same-length-6
     returns-2
     add-put-corner
     start-at-requires

@@ -13,8 +13,9 @@ value-at-requires : tie.Need-value-at-requires
 value-at-requires c κs = search needs
 
 returns : tie.Need-returns
-returns c = rw (c .before .before .coordinate .ensures, c .before .coordinate2 .ensures, c .value-at .ensures)
+returns c =
+    let counted = c .before .before .before .before .pre .1 .1 in
+    rw (c .before .before .coordinate .ensures, c .before .coordinate2 .ensures, c .value-at .ensures, counted .neighbours)
 
 pub start-at-spec : {M : Type 1} → statement M
-start-at-spec =
-    tie.close (tie.spec coordinate-requires coordinate-requires-2 value-at-requires returns)
+start-at-spec = tie.close (tie.spec coordinate-requires coordinate-requires-2 value-at-requires returns)

@@ -48,7 +48,7 @@ minus-requires-2 c κs = search needs
 returns : tie.Need-returns Inv-loop μ-loop
 returns c =
     let given = c .before .before .before .before .pre in
-    passed-all _ _ _ _ _ (passed-none _ _ _ (given .1 .0) (given .1 .1)) _ (omega arith)
+    passed-all _ _ _ _ _ (passed-none _ _ _ (given .1 .0) (given .1 .1)) _ _ (omega arith)
 
 add-low : tie.Need-add-low Inv-loop μ-loop
 add-low c = search needs
@@ -72,13 +72,13 @@ peak-test-requires c κs =
     let s = c .before in
     (start (turn s) .pre .0, passed-inside _ _ _ _ _ (after-skip s) (omega arith) (omega arith))
 
-enum-known-ties : tie.Need-enum-known-ties Inv-loop μ-loop
-enum-known-ties c = search needs
+enum-known-neighbours : tie.Need-enum-known-neighbours Inv-loop μ-loop
+enum-known-neighbours c = search needs
 
 returns-2 : tie.Need-returns-2 Inv-loop μ-loop
 returns-2 c =
     let asked = c .before .before .before in
-    passed-peak _ _ _ _ _ (after-skip (skipped asked)) (omega arith) (omega arith) _ (asked .peak-test .ensures) _ (c .before .ties .given .1)
+    passed-peak _ _ _ _ _ (after-skip (skipped asked)) (omega arith) (omega arith) _ (asked .peak-test .ensures) _ _ (c .before .neighbours .given .1)
 
 enum-told : tie.Need-enum-told Inv-loop μ-loop
 enum-told c = search needs
@@ -128,7 +128,7 @@ loop-again-3 c =
     (row-done end, low-more _ _ _ _ _ (omega arith) (turn (end .before) .loop .inv .1) (asked .is-low-row .ensures (not-false _ (c .if3 .left))))
 
 returns-3 : tie.Need-returns-3 Inv-loop μ-loop
-returns-3 c = passed-all _ _ _ _ _ (c .before .loop .inv .0) _ (omega arith)
+returns-3 c = passed-all _ _ _ _ _ (c .before .loop .inv .0) _ _ (omega arith)
 
 pub next-peak-spec : {M : Type 1} → statement M
 next-peak-spec =
@@ -144,7 +144,7 @@ next-peak-spec =
     loop-holds
     skip-requires
     peak-test-requires
-    enum-known-ties
+    enum-known-neighbours
     returns-2
     enum-told
     add-x

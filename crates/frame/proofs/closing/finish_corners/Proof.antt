@@ -24,6 +24,9 @@ same-length-2 c = search needs
 same-length-3 : tie.Need-same-length-3
 same-length-3 c = search needs
 
+same-length-4 : tie.Need-same-length-4
+same-length-4 c = search needs
+
 returns : tie.Need-returns
 returns c =
     merge-done _ _ _ (start-from-returns c .pre) _ _ (merge-corners-simple-from-returns c .merge-corners-simple .ensures) _
@@ -39,4 +42,5 @@ finish-corners-spec =
     same-length
     same-length-2
     same-length-3
+    same-length-4
     returns)

@@ -20,16 +20,16 @@ use Rattle.frame.proofs.search.add_patches.Tie as tie
 use Landmarks.*
 
 abbrev Inv-loop : tie.InvT-loop
-Inv-loop img w h p k sx sy ss n map₀ cx₀ cy₀ cs₀ held₀ ties₀ i₀ map cx cy cs held ties i =
-    (i ≤ n) × (length map ≡ length map₀) × (length cx ≡ length cx₀) × (length cy ≡ length cy₀) × (length cs ≡ length cs₀)
-    × Adds (flatMap (cornersAbout p img w h (computedChoice p) k) (cornersOf (slices sx sy ss) i))
-    (sumOf (tiesAbout p img w h (computedChoice p) k) (cornersOf (slices sx sy ss) i)) 0 (slices cx₀ cy₀ cs₀) (Added held ties) (slices cx cy cs)
+Inv-loop img w h p k sx sy ss sn n map₀ cx₀ cy₀ cs₀ cn₀ held₀ ties₀ i₀ map cx cy cs cn held ties i =
+    (i ≤ n) × (length map ≡ length map₀) × (length cx ≡ length cx₀) × (length cy ≡ length cy₀) × (length cs ≡ length cs₀) × (length cn ≡ length cn₀)
+    × Adds (flatMap (cornersAbout p img w h (computedChoice p) k) (cornersOf (slices sx sy ss sn) i))
+    (sumOf (tiesAbout p img w h (computedChoice p) k) (cornersOf (slices sx sy ss sn) i)) 0 (slices cx₀ cy₀ cs₀ cn₀) (Added held ties) (slices cx cy cs cn)
 
 abbrev μ-loop : tie.MeasureT-loop
-μ-loop img w h p k sx sy ss n map₀ cx₀ cy₀ cs₀ held₀ ties₀ i₀ map cx cy cs held ties i = n - i
+μ-loop img w h p k sx sy ss sn n map₀ cx₀ cy₀ cs₀ cn₀ held₀ ties₀ i₀ map cx cy cs cn held ties i = n - i
 
 loop-holds : tie.Need-loop-holds Inv-loop μ-loop
-loop-holds c = (omega arith, refl, refl, refl, refl, turn-none _ _ _ _)
+loop-holds c = (omega arith, refl, refl, refl, refl, refl, turn-none _ _ _ _)
 
 corner-at-requires : tie.Need-corner-at-requires Inv-loop μ-loop
 corner-at-requires c κs = search needs
@@ -39,7 +39,7 @@ add-patch-requires c κs =
     let start = start-from-add-patch-requires c in
     let turn = loop-from-add-patch-requires c .loop .inv in (
       record { sound = start .pre .0 .sound; enough = omega (arith, start .pre .0 .enough, turn .1) },
-      (adds-held _ _ _ _ _ _ (turn .5), start .pre .1 .0),
+      (adds-held _ _ _ _ _ _ (turn .6), start .pre .1 .0),
     )
 
 enum-known-f : tie.Need-enum-known-f Inv-loop μ-loop
@@ -60,14 +60,17 @@ same-length-3 c = search needs
 same-length-4 : tie.Need-same-length-4 Inv-loop μ-loop
 same-length-4 c = search needs
 
+same-length-5 : tie.Need-same-length-5 Inv-loop μ-loop
+same-length-5 c = search needs
+
 returns : tie.Need-returns Inv-loop μ-loop
 returns c =
-    turn-full _ _ _ _ _ _ _ _ (loop-from-returns c .loop .inv .5) _ (corner-at-from-returns c .corner-at .ensures) _ _
+    turn-full _ _ _ _ _ _ _ _ (loop-from-returns c .loop .inv .6) _ (corner-at-from-returns c .corner-at .ensures) _ _
     (add-patch-from-returns c .add-patch .ensures) _ (c .enum-told .given .1) _ (loop-test-from-returns c .loop-test .taken)
 
 add-held : tie.Need-add-held Inv-loop μ-loop
 add-held c =
-    let more = turn-more _ _ _ _ _ _ _ _ (loop-from-add-held c .loop .inv .5) _ (corner-at-from-add-held c .corner-at .ensures) _ _
+    let more = turn-more _ _ _ _ _ _ _ _ (loop-from-add-held c .loop .inv .6) _ (corner-at-from-add-held c .corner-at .ensures) _ _
     (add-patch-from-add-held c .add-patch .ensures) _ _ (c .before .f .given .1) in
     omega (arith, more .added _ _ refl .1, start-from-add-held c .good)
 
@@ -75,9 +78,9 @@ add-ties : tie.Need-add-ties Inv-loop μ-loop
 add-ties c =
     let a = start-from-add-ties c .args in
     let turn = loop-from-add-ties c .loop in
-    let more = turn-more _ _ _ _ _ _ _ _ (turn .inv .5) _ (corner-at-from-add-ties c .corner-at .ensures) _ _
+    let more = turn-more _ _ _ _ _ _ _ _ (turn .inv .6) _ (corner-at-from-add-ties c .corner-at .ensures) _ _
     (add-patch-from-add-ties c .add-patch .ensures) _ _ (c .before .f .given .1) in
-    let seeds = slices (a .sx .now) (a .sy .now) (a .ss .now) in
+    let seeds = slices (a .sx .now) (a .sy .now) (a .ss .now) (a .sn .now) in
     let few = seeds-tied (a .p) (a .img .now) (a .w) (a .h) (start-from-add-ties c .pre .0 .sound) (a .k) (cornersOf seeds (turn .i + 1)) in
     let test = loop-test-from-add-ties c .loop-test .taken in
     omega
@@ -91,12 +94,9 @@ loop-less c = omega arith
 
 loop-again : tie.Need-loop-again Inv-loop μ-loop
 loop-again c =
-    let more = turn-more _ _ _ _ _ _ _ _ (loop-from-loop-again c .loop .inv .5) _ (corner-at-from-loop-again c .corner-at .ensures) _ _
+    let more = turn-more _ _ _ _ _ _ _ _ (loop-from-loop-again c .loop .inv .6) _ (corner-at-from-loop-again c .corner-at .ensures) _ _
     (add-patch-from-loop-again c .add-patch .ensures) _ _ (c .before .f .given .1) in
-    (omega arith, search needs, search needs, search needs, search needs, more)
-
-same-length-5 : tie.Need-same-length-5 Inv-loop μ-loop
-same-length-5 c = search needs
+    (omega arith, search needs, search needs, search needs, search needs, search needs, more)
 
 same-length-6 : tie.Need-same-length-6 Inv-loop μ-loop
 same-length-6 c = search needs
@@ -107,15 +107,21 @@ same-length-7 c = search needs
 same-length-8 : tie.Need-same-length-8 Inv-loop μ-loop
 same-length-8 c = search needs
 
+same-length-9 : tie.Need-same-length-9 Inv-loop μ-loop
+same-length-9 c = search needs
+
+same-length-10 : tie.Need-same-length-10 Inv-loop μ-loop
+same-length-10 c = search needs
+
 returns-2 : tie.Need-returns-2 Inv-loop μ-loop
 returns-2 c =
     let a = start-from-returns-2 c .args in
     let all : c .before .loop .i ≡ a .n = omega arith in
     let about = cornersAbout (a .p) (a .img .now) (a .w) (a .h) (computedChoice (a .p)) (a .k) in
-    let seeds = slices (a .sx .now) (a .sy .now) (a .ss .now) in
+    let seeds = slices (a .sx .now) (a .sy .now) (a .ss .now) (a .sn .now) in
     let tied = tiesAbout (a .p) (a .img .now) (a .w) (a .h) (computedChoice (a .p)) (a .k) in
     adds-to _ _ _ _ _ _ _ _ (ap (λ (m : ℕ). flatMap about (cornersOf seeds m)) all) (ap (λ (m : ℕ). sumOf tied (cornersOf seeds m)) all)
-    (c .before .loop .inv .5)
+    (c .before .loop .inv .6)
 
 pub add-patches-spec : {M : Type 1} → statement M
 add-patches-spec =
@@ -132,14 +138,16 @@ add-patches-spec =
     same-length-2
     same-length-3
     same-length-4
+    same-length-5
     returns
     add-held
     add-ties
     add-i
     loop-less
     loop-again
-    same-length-5
     same-length-6
     same-length-7
     same-length-8
+    same-length-9
+    same-length-10
     returns-2)

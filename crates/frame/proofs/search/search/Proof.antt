@@ -31,6 +31,9 @@ same-length-3 c = search needs
 same-length-4 : tie.Need-same-length-4
 same-length-4 c = search needs
 
+same-length-5 : tie.Need-same-length-5
+same-length-5 c = search needs
+
 returns-2 : tie.Need-returns-2
 returns-2 c =
     let start = start-from-returns-2 c in
@@ -43,9 +46,6 @@ search-boxes-requires c κs =
     let start = start-from-search-boxes-requires c in
     let more = several _ (if1-from-search-boxes-requires c .if1 .left) (if2-from-search-boxes-requires c .if2 .left) in
     (start .pre .0, (start .pre .1, more))
-
-same-length-5 : tie.Need-same-length-5
-same-length-5 c = search needs
 
 same-length-6 : tie.Need-same-length-6
 same-length-6 c = search needs
@@ -65,6 +65,15 @@ same-length-10 c = search needs
 same-length-11 : tie.Need-same-length-11
 same-length-11 c = search needs
 
+same-length-12 : tie.Need-same-length-12
+same-length-12 c = search needs
+
+same-length-13 : tie.Need-same-length-13
+same-length-13 c = search needs
+
+same-length-14 : tie.Need-same-length-14
+same-length-14 c = search needs
+
 returns-3 : tie.Need-returns-3
 returns-3 c = search-boxes-from-returns-3 c .search-boxes .ensures
 
@@ -80,13 +89,16 @@ search-spec =
     same-length-2
     same-length-3
     same-length-4
+    same-length-5
     returns-2
     search-boxes-requires
-    same-length-5
     same-length-6
     same-length-7
     same-length-8
     same-length-9
     same-length-10
     same-length-11
+    same-length-12
+    same-length-13
+    same-length-14
     returns-3)

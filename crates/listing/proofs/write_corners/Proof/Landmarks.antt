@@ -3,4 +3,4 @@
 use Rattle.listing.proofs.write_corners.Tie as tie
 
 abbrev pub if1-from-returns-2 : tie.After-put-corners → tie.Else1
-if1-from-returns-2 c = c .before .before .before .before .before
+if1-from-returns-2 c = c .before .before .before .before .before .before

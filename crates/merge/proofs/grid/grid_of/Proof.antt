@@ -14,9 +14,9 @@ least-requires-2 c κs = search needs
 
 returns : tie.Need-returns
 unfolding ofBits
-returns c strengths =
+returns c strengths counts =
     let a = c .before .before .before .before .args in
-    grid-is (slices (a .xs .now) (a .ys .now) strengths) _ _ _ _ (c .before .least .ensures) (c .least2 .ensures)
+    grid-is (slices (a .xs .now) (a .ys .now) strengths counts) _ _ _ _ (c .before .least .ensures) (c .least2 .ensures)
 
 pub grid-of-spec : {M : Type 1} → statement M
 grid-of-spec = tie.close (tie.spec least-requires least-requires-2 returns)

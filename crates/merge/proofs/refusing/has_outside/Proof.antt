@@ -1,4 +1,5 @@
 -- `merge::refusing::has_outside` meets its contract: every corner passed is inside. Assumes nothing.
+mod Landmarks
 use borrow.Author.Needs.{needs}
 use borrow.Author.Count.{below-none, below-more}
 use Prim.Native.Nat.{ℕ, _-_, _<_, _≤_}
@@ -10,12 +11,13 @@ use Rattle.corner_list.specs.CornerList.{slices, cornerAt}
 use Rattle.merge.specs.Refusals.{isOutside}
 use Rattle.merge.proofs.refusing.has_outside.Statement.{statement}
 use Rattle.merge.proofs.refusing.has_outside.Tie as tie
+use Landmarks.*
 
 abbrev Inv-loop : tie.InvT-loop
-Inv-loop xs ys strengths n i₀ i = (i ≤ n) × ((k : ℕ) → k < i → isOutside (cornerAt (slices xs ys strengths) k) ≡ false)
+Inv-loop xs ys strengths neighbours n i₀ i = (i ≤ n) × ((k : ℕ) → k < i → isOutside (cornerAt (slices xs ys strengths neighbours) k) ≡ false)
 
 abbrev μ-loop : tie.MeasureT-loop
-μ-loop xs ys strengths n i₀ i = n - i
+μ-loop xs ys strengths neighbours n i₀ i = n - i
 
 loop-holds : tie.Need-loop-holds Inv-loop μ-loop
 loop-holds c = (omega arith, below-none _)
@@ -28,8 +30,9 @@ is-inside-requires c κs = search needs
 
 -- the test, of the corner in the buffer
 tested : (c : tie.After-is-inside Inv-loop μ-loop)
-    → let a = c .before .before .before .before .before .before .before .args in
-    isOutside (cornerAt (slices (a .xs .now) (a .ys .now) (a .strengths .now)) (c .before .before .before .loop .i)) ≡ not (c .is-inside .result)
+    → let a = start-from-is-inside c .args in
+    isOutside (cornerAt (slices (a .xs .now) (a .ys .now) (a .strengths .now) (a .neighbours .now)) (c .before .before .before .loop .i))
+    ≡ not (c .is-inside .result)
 tested c = ap isOutside (sym (c .before .corner-at .ensures)) ∙ ap not (sym (c .is-inside .ensures))
 
 returns : tie.Need-returns Inv-loop μ-loop

@@ -1,4 +1,5 @@
 -- `merge::refusing::refusal_at` meets its contract: each return by the tests on the way. Assumes nothing.
+mod Landmarks
 use borrow.Author.Needs.{needs}
 use Prim.Native.Nat.{ℕ, min}
 use mathlib.Core.Path.{_≡_, sym, ap, _∙_}
@@ -8,6 +9,7 @@ use Rattle.merge.specs.Refusals.{isOutside}
 use Rattle.merge.proofs.Judged.{judged-off, judged-corner, judged-radius, judged-count}
 use Rattle.merge.proofs.refusing.refusal_at.Statement.{statement}
 use Rattle.merge.proofs.refusing.refusal_at.Tie as tie
+use Landmarks.*
 
 is-off-requires : tie.Need-is-off-requires
 is-off-requires c κs = search needs
@@ -26,11 +28,11 @@ has-outside-requires c κs = search needs
 
 -- whether a corner is outside, of those that the buffer has
 tested : (c : tie.After-has-outside)
-    → let a = c .before .before .before .before .before .before .before .args in
-    any isOutside (cornersOf (slices (a .xs .now) (a .ys .now) (a .strengths .now)) (min (a .count) (a .places))) ≡ c .has-outside .result
+    → let a = start-from-has-outside c .args in
+    any isOutside (cornersOf (slices (a .xs .now) (a .ys .now) (a .strengths .now) (a .neighbours .now)) (min (a .count) (a .places))) ≡ c .has-outside .result
 tested c =
-    let a = c .before .before .before .before .before .before .before .args in
-    ap (λ (n : ℕ). any isOutside (cornersOf (slices (a .xs .now) (a .ys .now) (a .strengths .now)) n)) (sym (c .before .lesser .ensures))
+    let a = start-from-has-outside c .args in
+    ap (λ (n : ℕ). any isOutside (cornersOf (slices (a .xs .now) (a .ys .now) (a .strengths .now) (a .neighbours .now)) n)) (sym (c .before .lesser .ensures))
     ∙ sym (c .has-outside .ensures)
 
 returns-2 : tie.Need-returns-2

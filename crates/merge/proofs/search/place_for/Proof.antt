@@ -18,7 +18,7 @@ start c = start-from-find-joined c
 
 found : (c : tie.After-find-joined)
     → let a = start c .args in
-    IsFirst (λ m. joins (a .g) (a .c) (cornerAt (slices (a .xs .now) (a .ys .now) (a .strengths .now)) m)) (a .k) (c .find-joined .result)
+    IsFirst (λ m. joins (a .g) (a .c) (cornerAt (slices (a .xs .now) (a .ys .now) (a .strengths .now) (a .neighbours .now)) m)) (a .k) (c .find-joined .result)
 found c =
     let a = start c .args in
     subst (λ (p : Position). IsFirst (joinsAt (a .g) p (a .xs .now) (a .ys .now)) (a .k) (c .find-joined .result))

@@ -16,19 +16,19 @@ use Rattle.merge.proofs.settling.+merge_up_to.{statement}
 use Rattle.merge.proofs.settling.+merge_up_to.Tie.{close}
 use Landmarks.*
 
-abbrev μ-merge-up-to : Measures 3 kinds.ps ℕ
-μ-merge-up-to κs a = a .1 .1 .1 .1 .1 .0
+abbrev μ-merge-up-to : Measures 4 kinds.ps ℕ
+μ-merge-up-to κs a = a .1 .1 .1 .1 .1 .1 .0
 
 module _ (t : ℕ) where
   -- what it is given at the measure t, and what it and a call of itself, below t, ask and promise
-  abbrev given : In 3 kinds.ps
-  given = and 3 kinds.ps (is 3 kinds.ps μ-merge-up-to t) reads.Pre
+  abbrev given : In 4 kinds.ps
+  given = and 4 kinds.ps (is 4 kinds.ps μ-merge-up-to t) reads.Pre
 
   abbrev claims : lts.Claims
   claims = (
     merge-few-reads.Asked,
     merge-few-reads.Learnt,
-    and 3 kinds.ps (falls 3 kinds.ps _<_ μ-merge-up-to t) reads.Pre,
+    and 4 kinds.ps (falls 4 kinds.ps _<_ μ-merge-up-to t) reads.Pre,
     reads.Post,
     merge-more-reads.Asked,
     merge-more-reads.Learnt,
@@ -55,6 +55,9 @@ module _ (t : ℕ) where
   same-length-3 : lts.Need-same-length-3 claims given reads.Post
   same-length-3 c = search needs
 
+  same-length-4 : lts.Need-same-length-4 claims given reads.Post
+  same-length-4 c = search needs
+
   returns : lts.Need-returns claims given reads.Post
   returns c =
       let few = merge-few-from-returns c in
@@ -65,20 +68,11 @@ module _ (t : ℕ) where
       let s = start-from-merge-up-to-requires c in
       (omega (arith, s .pre .0, if1-from-merge-up-to-requires c .if1 .left), (s .pre .1 .0, omega (arith, s .pre .1 .1)))
 
-  same-length-4 : lts.Need-same-length-4 claims given reads.Post
-  same-length-4 c = search needs
-
   same-length-5 : lts.Need-same-length-5 claims given reads.Post
   same-length-5 c = search needs
 
   same-length-6 : lts.Need-same-length-6 claims given reads.Post
   same-length-6 c = search needs
-
-  returns-2 : lts.Need-returns-2 claims given reads.Post
-  returns-2 c = reaches-done _ _ _ _ _ _ _ (merge-up-to-from-returns-2 c .merge-up-to .ensures) _ (c .if2 .taken)
-
-  merge-more-requires : lts.Need-merge-more-requires claims given reads.Post
-  merge-more-requires c κs = let p = called (if2-from-merge-more-requires c) in reaches-ready _ _ _ _ _ _ _ (p .merge-up-to .ensures) (start p .pre .1 .0)
 
   same-length-7 : lts.Need-same-length-7 claims given reads.Post
   same-length-7 c = search needs
@@ -86,8 +80,23 @@ module _ (t : ℕ) where
   same-length-8 : lts.Need-same-length-8 claims given reads.Post
   same-length-8 c = search needs
 
+  returns-2 : lts.Need-returns-2 claims given reads.Post
+  returns-2 c = reaches-done _ _ _ _ _ _ _ (merge-up-to-from-returns-2 c .merge-up-to .ensures) _ (c .if2 .taken)
+
+  merge-more-requires : lts.Need-merge-more-requires claims given reads.Post
+  merge-more-requires c κs = let p = called (if2-from-merge-more-requires c) in reaches-ready _ _ _ _ _ _ _ (p .merge-up-to .ensures) (start p .pre .1 .0)
+
   same-length-9 : lts.Need-same-length-9 claims given reads.Post
   same-length-9 c = search needs
+
+  same-length-10 : lts.Need-same-length-10 claims given reads.Post
+  same-length-10 c = search needs
+
+  same-length-11 : lts.Need-same-length-11 claims given reads.Post
+  same-length-11 c = search needs
+
+  same-length-12 : lts.Need-same-length-12 claims given reads.Post
+  same-length-12 c = search needs
 
   returns-3 : lts.Need-returns-3 claims given reads.Post
   returns-3 c =
@@ -98,14 +107,17 @@ module _ (t : ℕ) where
   merge-most-requires : lts.Need-merge-most-requires claims given reads.Post
   merge-most-requires c κs = let p = called (if2-from-merge-most-requires c) in reaches-ready _ _ _ _ _ _ _ (p .merge-up-to .ensures) (start p .pre .1 .0)
 
-  same-length-10 : lts.Need-same-length-10 claims given reads.Post
-  same-length-10 c = search needs
+  same-length-13 : lts.Need-same-length-13 claims given reads.Post
+  same-length-13 c = search needs
 
-  same-length-11 : lts.Need-same-length-11 claims given reads.Post
-  same-length-11 c = search needs
+  same-length-14 : lts.Need-same-length-14 claims given reads.Post
+  same-length-14 c = search needs
 
-  same-length-12 : lts.Need-same-length-12 claims given reads.Post
-  same-length-12 c = search needs
+  same-length-15 : lts.Need-same-length-15 claims given reads.Post
+  same-length-15 c = search needs
+
+  same-length-16 : lts.Need-same-length-16 claims given reads.Post
+  same-length-16 c = search needs
 
   returns-4 : lts.Need-returns-4 claims given reads.Post
   returns-4 c =
@@ -121,19 +133,23 @@ pub +merge-up-to-spec : {M : Type 1} → statement M
     (same-length t)
     (same-length-2 t)
     (same-length-3 t)
+    (same-length-4 t)
     (returns t)
     (merge-up-to-requires t)
-    (same-length-4 t)
     (same-length-5 t)
     (same-length-6 t)
-    (returns-2 t)
-    (merge-more-requires t)
     (same-length-7 t)
     (same-length-8 t)
+    (returns-2 t)
+    (merge-more-requires t)
     (same-length-9 t)
-    (returns-3 t)
-    (merge-most-requires t)
     (same-length-10 t)
     (same-length-11 t)
     (same-length-12 t)
+    (returns-3 t)
+    (merge-most-requires t)
+    (same-length-13 t)
+    (same-length-14 t)
+    (same-length-15 t)
+    (same-length-16 t)
     (returns-4 t)

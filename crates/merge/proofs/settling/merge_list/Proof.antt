@@ -29,6 +29,9 @@ same-length-2 c = search needs
 same-length-3 : tie.Need-same-length-3
 same-length-3 c = search needs
 
+same-length-4 : tie.Need-same-length-4
+same-length-4 c = search needs
+
 returns-2 : tie.Need-returns-2
 returns-2 c =
     let done = merge-up-to-from-returns-2 c in
@@ -47,4 +50,5 @@ merge-list-spec =
     same-length
     same-length-2
     same-length-3
+    same-length-4
     returns-2)

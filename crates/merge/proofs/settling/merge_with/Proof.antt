@@ -9,18 +9,18 @@ use lib.ListN.{length}
 use Rattle.corner_list.specs.CornerList.{slices}
 use Rattle.merge.specs.Grid.{joins}
 use Rattle.merge.specs.Internal.{Indexed, step, Comes}
-use Rattle.merge.proofs.Stepping.{comes-none, comes-xs, comes-ys, comes-strengths, comes-fits, comes-turn, reaches-end}
+use Rattle.merge.proofs.Stepping.{comes-none, comes-xs, comes-ys, comes-strengths, comes-neighbours, comes-fits, comes-turn, reaches-end}
 use Rattle.merge.proofs.settling.merge_with.Statement.{statement}
 use Rattle.merge.proofs.settling.merge_with.Tie as tie
 use Landmarks.*
 
 abbrev Inv-loop : tie.InvT-loop
-Inv-loop xs₀ ys₀ strengths₀ table₀ g n most done k₀ floor₀ low₀ i₀ xs ys strengths table k floor low i =
-    Comes (joins g) n (slices xs₀ ys₀ strengths₀) (step done k₀) (slices xs ys strengths) (step i k)
+Inv-loop xs₀ ys₀ strengths₀ neighbours₀ table₀ g n most done k₀ floor₀ low₀ i₀ xs ys strengths neighbours table k floor low i =
+    Comes (joins g) n (slices xs₀ ys₀ strengths₀ neighbours₀) (step done k₀) (slices xs ys strengths neighbours) (step i k)
     × Indexed g floor table xs ys k × (length table ≡ length table₀)
 
 abbrev μ-loop : tie.MeasureT-loop
-μ-loop xs₀ ys₀ strengths₀ table₀ g n most done k₀ floor₀ low₀ i₀ xs ys strengths table k floor low i = n - i
+μ-loop xs₀ ys₀ strengths₀ neighbours₀ table₀ g n most done k₀ floor₀ low₀ i₀ xs ys strengths neighbours table k floor low i = n - i
 
 list-kept-requires : tie.Need-list-kept-requires Inv-loop μ-loop
 list-kept-requires c κs = search needs
@@ -41,7 +41,10 @@ same-length-3 : tie.Need-same-length-3 Inv-loop μ-loop
 same-length-3 c = comes-strengths _ _ _ _ _ _ (c .before .before .loop .inv .0) (start-from-same-length-3 c .pre .0)
 
 same-length-4 : tie.Need-same-length-4 Inv-loop μ-loop
-same-length-4 c = omega (arith, c .before .before .loop .inv .2, list-kept-from-same-length-4 c .list-kept .kept)
+same-length-4 c = comes-neighbours _ _ _ _ _ _ (c .before .before .loop .inv .0) (start-from-same-length-4 c .pre .0)
+
+same-length-5 : tie.Need-same-length-5 Inv-loop μ-loop
+same-length-5 c = omega (arith, c .before .before .loop .inv .2, list-kept-from-same-length-5 c .list-kept .kept)
 
 returns : tie.Need-returns Inv-loop μ-loop
 returns c = record { comes = c .before .before .loop .inv .0; far = inr (c .if1 .taken) }
@@ -76,17 +79,20 @@ loop-again c =
     let step = comes-turn _ _ _ _ _ _ (inv .0) (turn .loop-test .taken) _ read _ _ (settled .ensures .0) in
     (step, settled .ensures .1, omega (arith, settled .kept, refresh-from-loop-again c .refresh .kept, inv .2))
 
-same-length-5 : tie.Need-same-length-5 Inv-loop μ-loop
-same-length-5 c = comes-xs _ _ _ _ _ _ (c .before .loop .inv .0) (start-from-same-length-5 c .pre .0)
-
 same-length-6 : tie.Need-same-length-6 Inv-loop μ-loop
-same-length-6 c = comes-ys _ _ _ _ _ _ (c .before .loop .inv .0) (start-from-same-length-6 c .pre .0)
+same-length-6 c = comes-xs _ _ _ _ _ _ (c .before .loop .inv .0) (start-from-same-length-6 c .pre .0)
 
 same-length-7 : tie.Need-same-length-7 Inv-loop μ-loop
-same-length-7 c = comes-strengths _ _ _ _ _ _ (c .before .loop .inv .0) (start-from-same-length-7 c .pre .0)
+same-length-7 c = comes-ys _ _ _ _ _ _ (c .before .loop .inv .0) (start-from-same-length-7 c .pre .0)
 
 same-length-8 : tie.Need-same-length-8 Inv-loop μ-loop
-same-length-8 c = omega (arith, c .before .loop .inv .2, list-kept-from-same-length-8 c .list-kept .kept)
+same-length-8 c = comes-strengths _ _ _ _ _ _ (c .before .loop .inv .0) (start-from-same-length-8 c .pre .0)
+
+same-length-9 : tie.Need-same-length-9 Inv-loop μ-loop
+same-length-9 c = comes-neighbours _ _ _ _ _ _ (c .before .loop .inv .0) (start-from-same-length-9 c .pre .0)
+
+same-length-10 : tie.Need-same-length-10 Inv-loop μ-loop
+same-length-10 c = omega (arith, c .before .loop .inv .2, list-kept-from-same-length-10 c .list-kept .kept)
 
 returns-2 : tie.Need-returns-2 Inv-loop μ-loop
 returns-2 c = reaches-end _ _ _ _ _ _ _ _ (c .before .loop .inv .0) (c .loop-test .left)
@@ -103,6 +109,7 @@ merge-with-spec =
     same-length-2
     same-length-3
     same-length-4
+    same-length-5
     returns
     floor-at-requires
     refresh-requires
@@ -111,8 +118,9 @@ merge-with-spec =
     add-i
     loop-less
     loop-again
-    same-length-5
     same-length-6
     same-length-7
     same-length-8
+    same-length-9
+    same-length-10
     returns-2)

@@ -21,7 +21,7 @@ put c = put-corner-from-position-of c
 
 -- the buffer at the start
 abbrev buffer : tie.Start → Slices
-buffer c = slices (c .args .xs .now) (c .args .ys .now) (c .args .strengths .now)
+buffer c = slices (c .args .xs .now) (c .args .ys .now) (c .args .strengths .now) (c .args .neighbours .now)
 
 place-for-requires : tie.Need-place-for-requires
 place-for-requires c κs = search needs
@@ -50,6 +50,9 @@ same-length-3 c = search needs
 same-length-4 : tie.Need-same-length-4
 same-length-4 c = search needs
 
+same-length-5 : tie.Need-same-length-5
+same-length-5 c = search needs
+
 returns : tie.Need-returns
 returns c =
     let listed = list-place-from-returns c in
@@ -74,4 +77,5 @@ settle-corner-spec =
     same-length-2
     same-length-3
     same-length-4
+    same-length-5
     returns)

@@ -1,28 +1,11 @@
 -- `patch_corners::box_corners::add_box_corners` meets its contract, by the laws of `Moving`. Assumes nothing.
+mod Landmarks
 use borrow.Author.Needs.{needs}
 use native.Mathlib.Omega.{arith}
 use Rattle.patch_corners.proofs.Moving.{moved-not, moved-fits, moved-sides, moved-added}
 use Rattle.patch_corners.proofs.box_corners.add_box_corners.Statement.{statement}
 use Rattle.patch_corners.proofs.box_corners.add_box_corners.Tie as tie
-
--- from one place of the code back to another
-abbrev at-patch-refused : tie.After-enum-told → tie.After-add-patch-corners
-at-patch-refused c = c .before .before .before .before .before .before .before .before .before .before
-
-abbrev at-patch : tie.After-f → tie.After-add-patch-corners
-at-patch c = c .before .before .before .before .before .before .before .before .before .before
-
-abbrev at-left : tie.After-lesser2 → tie.After-lesser
-at-left c = c .before
-
-abbrev at-f : tie.After-lesser → tie.After-f
-at-f c = c .before .before
-
-abbrev at-top : tie.After-shift-all-arg3 → tie.After-lesser2
-at-top c = c .before .before .before
-
-abbrev at-shift-all : tie.After-slice-known11 → tie.After-shift-all
-at-shift-all c = c .before .before .before .before .before .before
+use Landmarks.*
 
 add-patch-corners-requires : tie.Need-add-patch-corners-requires
 add-patch-corners-requires c κs = search needs
@@ -45,8 +28,11 @@ same-length-3 c = search needs
 same-length-4 : tie.Need-same-length-4
 same-length-4 c = search needs
 
+same-length-5 : tie.Need-same-length-5
+same-length-5 c = search needs
+
 returns : tie.Need-returns
-returns c = moved-not _ _ _ _ _ _ _ _ (at-patch-refused c .add-patch-corners .ensures) _ (c .enum-told .given .1)
+returns c = moved-not _ _ _ _ _ _ _ _ (add-patch-corners-from-returns c .add-patch-corners .ensures) _ (c .enum-told .given .1)
 
 lesser-requires : tie.Need-lesser-requires
 lesser-requires c κs = search needs
@@ -56,17 +42,14 @@ lesser-requires-2 c κs = search needs
 
 shift-all-requires : tie.Need-shift-all-requires
 shift-all-requires c κs =
-    let top = at-top c in
-    let left = at-left top in
-    let f = at-f left in
-    let added = at-patch f .add-patch-corners .ensures in
+    let left = lesser-from-shift-all-requires c in
+    let top = lesser2-from-shift-all-requires c in
+    let f = f-from-shift-all-requires c in
+    let added = add-patch-corners-from-shift-all-requires c .add-patch-corners .ensures in
     let s = moved-sides _ _ _ _ _ _ _ _ added _ _ (f .f .given .1) in (
       moved-fits _ _ _ _ _ _ _ _ added _ _ (f .f .given .1),
       (omega (arith, s .0, left .lesser .ensures), omega (arith, s .1, top .lesser2 .ensures)),
     )
-
-same-length-5 : tie.Need-same-length-5
-same-length-5 c = search needs
 
 same-length-6 : tie.Need-same-length-6
 same-length-6 c = search needs
@@ -77,14 +60,16 @@ same-length-7 c = search needs
 same-length-8 : tie.Need-same-length-8
 same-length-8 c = search needs
 
+same-length-9 : tie.Need-same-length-9
+same-length-9 c = search needs
+
+same-length-10 : tie.Need-same-length-10
+same-length-10 c = search needs
+
 returns-2 : tie.Need-returns-2
 returns-2 c =
-    let all = at-shift-all c in
-    let top = at-top (all .before) in
-    let left = at-left top in
-    let f = at-f left in
-    moved-added _ _ _ _ _ _ _ _ (at-patch f .add-patch-corners .ensures) _ _ (f .f .given .1) _ _ (left .lesser .ensures) (top .lesser2 .ensures) _
-    (all .shift-all .ensures)
+    moved-added _ _ _ _ _ _ _ _ (add-patch-corners-from-returns-2 c .add-patch-corners .ensures) _ _ (f-from-returns-2 c .f .given .1)
+    _ _ (lesser-from-returns-2 c .lesser .ensures) (lesser2-from-returns-2 c .lesser2 .ensures) _ (shift-all-from-returns-2 c .shift-all .ensures)
 
 pub add-box-corners-spec : {M : Type 1} → statement M
 add-box-corners-spec =
@@ -97,12 +82,14 @@ add-box-corners-spec =
     same-length-2
     same-length-3
     same-length-4
+    same-length-5
     returns
     lesser-requires
     lesser-requires-2
     shift-all-requires
-    same-length-5
     same-length-6
     same-length-7
     same-length-8
+    same-length-9
+    same-length-10
     returns-2)

@@ -1,18 +1,22 @@
 -- `patch_corners::shifting::shift_all` meets its contract. Assumes nothing.
+mod Landmarks
 use borrow.Author.Needs.{needs}
 use Prim.Native.Nat.{_-_}
 use native.Mathlib.Omega.{arith}
 use Rattle.corner_list.specs.CornerList.{slices}
 use Rattle.patch_corners.specs.OneMap.{moved}
-use Rattle.patch_corners.proofs.Changing.{Changing, changing-none, changing-put, changing-all, changing-xs, changing-ys, changing-strengths}
+use Rattle.patch_corners.proofs.Changing.{Changing, changing-none, changing-put, changing-all}
+use Rattle.patch_corners.proofs.Changing.{changing-xs, changing-ys, changing-strengths, changing-neighbours}
 use Rattle.patch_corners.proofs.shifting.shift_all.Statement.{statement}
 use Rattle.patch_corners.proofs.shifting.shift_all.Tie as tie
+use Landmarks.*
 
 abbrev Inv-loop : tie.InvT-loop
-Inv-loop x0 y0 xs₀ ys₀ strengths₀ held n i₀ xs ys strengths i = Changing (moved x0 y0) held n i (slices xs₀ ys₀ strengths₀) (slices xs ys strengths)
+Inv-loop x0 y0 xs₀ ys₀ strengths₀ neighbours₀ held n i₀ xs ys strengths neighbours i =
+    Changing (moved x0 y0) held n i (slices xs₀ ys₀ strengths₀ neighbours₀) (slices xs ys strengths neighbours)
 
 abbrev μ-loop : tie.MeasureT-loop
-μ-loop x0 y0 xs₀ ys₀ strengths₀ held n i₀ xs ys strengths i = n - i
+μ-loop x0 y0 xs₀ ys₀ strengths₀ neighbours₀ held n i₀ xs ys strengths neighbours i = n - i
 
 loop-holds : tie.Need-loop-holds Inv-loop μ-loop
 loop-holds c = changing-none _ _ _ _
@@ -33,19 +37,15 @@ put-corner-requires : tie.Need-put-corner-requires Inv-loop μ-loop
 put-corner-requires c κs = search needs
 
 add-i : tie.Need-add-i Inv-loop μ-loop
-add-i c = omega arith
+add-i c = omega (arith, start-from-add-i c .good)
 
 loop-less : tie.Need-loop-less Inv-loop μ-loop
 loop-less c = omega arith
 
 loop-again : tie.Need-loop-again Inv-loop μ-loop
 loop-again c =
-    let put = c .before .before .before .before .before .before in
-    let read = put .before .before .before .before .before in
-    let test = read .before .before .before .before in
-    let at = test .before in
-    changing-put _ _ _ _ (at .before .before .before .before .pre .0) _ _ (at .loop .inv) (test .loop-test .taken) _ _ _ (read .corner-at .ensures)
-    (put .before .shift .ensures) (put .put-corner .ensures)
+    changing-put _ _ _ _ (start-from-loop-again c .pre .0) _ _ (loop-from-loop-again c .loop .inv) (loop-test-from-loop-again c .loop-test .taken) _ _ _
+    (corner-at-from-loop-again c .corner-at .ensures) (shift-from-loop-again c .shift .ensures) (put-corner-from-loop-again c .put-corner .ensures)
 
 same-length : tie.Need-same-length Inv-loop μ-loop
 same-length c = changing-xs _ _ _ _ (omega arith) _ _ (c .before .loop .inv)
@@ -55,6 +55,9 @@ same-length-2 c = changing-ys _ _ _ _ (omega arith) _ _ (c .before .loop .inv)
 
 same-length-3 : tie.Need-same-length-3 Inv-loop μ-loop
 same-length-3 c = changing-strengths _ _ _ _ (omega arith) _ _ (c .before .loop .inv)
+
+same-length-4 : tie.Need-same-length-4 Inv-loop μ-loop
+same-length-4 c = changing-neighbours _ _ _ _ (omega arith) _ _ (c .before .loop .inv)
 
 returns : tie.Need-returns Inv-loop μ-loop
 returns c = changing-all _ _ _ _ (omega arith) _ _ (c .before .loop .inv) (omega arith)
@@ -77,4 +80,5 @@ shift-all-spec =
     same-length
     same-length-2
     same-length-3
+    same-length-4
     returns)

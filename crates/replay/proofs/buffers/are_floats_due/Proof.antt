@@ -14,6 +14,12 @@ abbrev μ-loop : tie.MeasureT-loop
 loop-holds : tie.Need-loop-holds Inv-loop μ-loop
 loop-holds c = search needs
 
+rule-bits-requires : tie.Need-rule-bits-requires Inv-loop μ-loop
+rule-bits-requires c κs = search needs
+
+word-or-requires : tie.Need-word-or-requires Inv-loop μ-loop
+word-or-requires c κs = search needs
+
 mul-to-bits : tie.Need-mul-to-bits Inv-loop μ-loop
 mul-to-bits c = search needs
 
@@ -23,8 +29,8 @@ shared-slice-read-to-bits c = search needs
 to-bits-requires : tie.Need-to-bits-requires Inv-loop μ-loop
 to-bits-requires c κs = search needs
 
-due-bits-requires : tie.Need-due-bits-requires Inv-loop μ-loop
-due-bits-requires c κs = search needs
+due-or-requires : tie.Need-due-or-requires Inv-loop μ-loop
+due-or-requires c κs = search needs
 
 returns : tie.Need-returns Inv-loop μ-loop
 returns c = search needs
@@ -48,10 +54,12 @@ are-floats-due-spec =
     Inv-loop
     μ-loop
     loop-holds
+    rule-bits-requires
+    word-or-requires
     mul-to-bits
     shared-slice-read-to-bits
     to-bits-requires
-    due-bits-requires
+    due-or-requires
     returns
     add-i
     loop-less

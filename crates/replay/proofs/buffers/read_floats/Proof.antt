@@ -15,8 +15,11 @@ abbrev μ-loop : tie.MeasureT-loop
 loop-holds : tie.Need-loop-holds Inv-loop μ-loop
 loop-holds c = search needs
 
-bits-before-requires : tie.Need-bits-before-requires Inv-loop μ-loop
-bits-before-requires c κs = search needs
+rule-bits-requires : tie.Need-rule-bits-requires Inv-loop μ-loop
+rule-bits-requires c κs = search needs
+
+word-or-requires : tie.Need-word-or-requires Inv-loop μ-loop
+word-or-requires c κs = search needs
 
 from-bits-requires : tie.Need-from-bits-requires Inv-loop μ-loop
 from-bits-requires c κs = search needs
@@ -49,7 +52,8 @@ read-floats-spec =
     Inv-loop
     μ-loop
     loop-holds
-    bits-before-requires
+    rule-bits-requires
+    word-or-requires
     from-bits-requires
     mul-d
     slice-write-d

@@ -8,4 +8,4 @@ count-of-from-returns c = c .before .before .before
 abbrev pub find-corners-from-returns : tie.After-number-of → tie.After-find-corners
 find-corners-from-returns c =
     count-of-from-returns c .before .before .before .before .before .before .before .before .before .before .before .before .before .before
-    .before .before .before .before
+    .before .before .before .before .before .before .before .before

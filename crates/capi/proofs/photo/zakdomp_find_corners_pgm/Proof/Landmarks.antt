@@ -8,4 +8,4 @@ count-of-from-returns c = c .before .before .before
 abbrev pub find-pgm-corners-from-returns : tie.After-number-of → tie.After-find-pgm-corners
 find-pgm-corners-from-returns c =
     count-of-from-returns c .before .before .before .before .before .before .before .before .before .before .before .before .before .before
-    .before .before .before .before
+    .before .before .before .before .before .before .before .before

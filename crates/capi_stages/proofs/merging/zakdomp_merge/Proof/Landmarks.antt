@@ -3,4 +3,4 @@
 use Rattle.capi_stages.proofs.merging.zakdomp_merge.Tie as tie
 
 abbrev pub merge-corners-simple-from-returns : tie.After-number-of → tie.After-merge-corners-simple
-merge-corners-simple-from-returns c = c .before .before .before .before .before .before .before .before .before
+merge-corners-simple-from-returns c = c .before .before .before .before .before .before .before .before .before .before .before

@@ -7,4 +7,4 @@ added-of-from-returns c = c .before .before .before
 
 abbrev pub detect-peaks-from-response-with-refine-radius-from-returns : tie.After-number-of → tie.After-detect-peaks-from-response-with-refine-radius
 detect-peaks-from-response-with-refine-radius-from-returns c =
-    added-of-from-returns c .before .before .before .before .before .before .before .before
+    added-of-from-returns c .before .before .before .before .before .before .before .before .before .before

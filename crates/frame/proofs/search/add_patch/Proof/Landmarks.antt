@@ -3,16 +3,16 @@
 use Rattle.frame.proofs.search.add_patch.Tie as tie
 
 abbrev pub start-from-returns : tie.At-match-keys2 → tie.Start
-start-from-returns c = c .before .before .before .before .before .before .before
+start-from-returns c = c .before .before .before .before .before .before .before .before
 
-abbrev pub add-box-corners-from-returns-2 : tie.After-slice-known8 → tie.After-add-box-corners
-add-box-corners-from-returns-2 c = c .before .before .before .before .before .before .before .before
+abbrev pub add-box-corners-from-returns-2 : tie.After-slice-known10 → tie.After-add-box-corners
+add-box-corners-from-returns-2 c = c .before .before .before .before .before .before .before .before .before .before
 
-abbrev pub b-from-returns-2 : tie.After-slice-known8 → tie.After-b
-b-from-returns-2 c = add-box-corners-from-returns-2 c .before .before .before .before .before .before
+abbrev pub b-from-returns-2 : tie.After-slice-known10 → tie.After-b
+b-from-returns-2 c = add-box-corners-from-returns-2 c .before .before .before .before .before .before .before
 
-abbrev pub box-of-from-returns-2 : tie.After-slice-known8 → tie.After-box-of
+abbrev pub box-of-from-returns-2 : tie.After-slice-known10 → tie.After-box-of
 box-of-from-returns-2 c = b-from-returns-2 c .before .before
 
-abbrev pub start-from-returns-2 : tie.After-slice-known8 → tie.Start
-start-from-returns-2 c = box-of-from-returns-2 c .before .before .before .before .before .before
+abbrev pub start-from-returns-2 : tie.After-slice-known10 → tie.Start
+start-from-returns-2 c = box-of-from-returns-2 c .before .before .before .before .before .before .before

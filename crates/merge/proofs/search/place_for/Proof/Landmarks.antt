@@ -9,4 +9,4 @@ abbrev pub corner-at-from-returns-3 : tie.Else2 → tie.After-corner-at
 corner-at-from-returns-3 c = c .before .before .before
 
 abbrev pub start-from-find-joined : tie.After-find-joined → tie.Start
-start-from-find-joined c = c .before .before .before .before .before .before
+start-from-find-joined c = c .before .before .before .before .before .before .before

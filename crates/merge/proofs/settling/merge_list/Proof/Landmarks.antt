@@ -3,13 +3,13 @@
 use Rattle.merge.proofs.settling.merge_list.Tie as tie
 
 abbrev pub start-from-returns : tie.Then1 → tie.Start
-start-from-returns c = c .before .before .before .before .before
+start-from-returns c = c .before .before .before .before .before .before
 
-abbrev pub merge-up-to-from-returns-2 : tie.After-slice-known6 → tie.After-merge-up-to
-merge-up-to-from-returns-2 c = c .before .before .before .before .before .before
+abbrev pub merge-up-to-from-returns-2 : tie.After-slice-known8 → tie.After-merge-up-to
+merge-up-to-from-returns-2 c = c .before .before .before .before .before .before .before .before
 
-abbrev pub grid-of-from-returns-2 : tie.After-slice-known6 → tie.After-grid-of
-grid-of-from-returns-2 c = merge-up-to-from-returns-2 c .before .before .before .before
+abbrev pub grid-of-from-returns-2 : tie.After-slice-known8 → tie.After-grid-of
+grid-of-from-returns-2 c = merge-up-to-from-returns-2 c .before .before .before .before .before
 
-abbrev pub if1-from-returns-2 : tie.After-slice-known6 → tie.Else1
+abbrev pub if1-from-returns-2 : tie.After-slice-known8 → tie.Else1
 if1-from-returns-2 c = grid-of-from-returns-2 c .before .before .before

@@ -1,22 +1,25 @@
--- `replay::buffers::fill_floats` is safe and ends: the places that are left are counted down. Assumes nothing.
+-- `replay::buffers::read_counts` is safe and ends: the places that are left are counted down. Assumes nothing.
 use borrow.Author.Needs.{needs}
 use Prim.Native.Nat.{_-_}
 use mathlib.Core.Path.{_≡_}
 use lib.ListN.{length}
-use Rattle.replay.proofs.buffers.fill_floats.Statement.{statement}
-use Rattle.replay.proofs.buffers.fill_floats.Tie as tie
+use Rattle.replay.proofs.buffers.read_counts.Statement.{statement}
+use Rattle.replay.proofs.buffers.read_counts.Tie as tie
 
 abbrev Inv-loop : tie.InvT-loop
-Inv-loop d₀ i₀ d i = length d ≡ length d₀
+Inv-loop field d₀ i₀ d i = length d ≡ length d₀
 
 abbrev μ-loop : tie.MeasureT-loop
-μ-loop d₀ i₀ d i = length d₀ - i
+μ-loop field d₀ i₀ d i = length d₀ - i
 
 loop-holds : tie.Need-loop-holds Inv-loop μ-loop
 loop-holds c = search needs
 
-rule-float-requires : tie.Need-rule-float-requires Inv-loop μ-loop
-rule-float-requires c κs = search needs
+rule-count-requires : tie.Need-rule-count-requires Inv-loop μ-loop
+rule-count-requires c κs = search needs
+
+word-or-requires : tie.Need-word-or-requires Inv-loop μ-loop
+word-or-requires c κs = search needs
 
 mul-d : tie.Need-mul-d Inv-loop μ-loop
 mul-d c = search needs
@@ -39,14 +42,15 @@ same-length c = search needs
 returns : tie.Need-returns Inv-loop μ-loop
 returns c = search needs
 
-pub fill-floats-spec : {M : Type 1} → statement M
-fill-floats-spec =
+pub read-counts-spec : {M : Type 1} → statement M
+read-counts-spec =
     tie.close
     (tie.spec
     Inv-loop
     μ-loop
     loop-holds
-    rule-float-requires
+    rule-count-requires
+    word-or-requires
     mul-d
     slice-write-d
     add-i
