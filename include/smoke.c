@@ -297,6 +297,43 @@ static void retouching(const uint8_t *whole) {
     expect(kept == CELLS - 1, "no other cell");
 }
 
+static uint8_t limits(const uint8_t *low, const uint8_t *high, size_t pixels, uint32_t ring, int32_t *lows, size_t places, int32_t *highs) {
+    return zakdomp_response_limits(low, pixels, high, CELLS, SIDE, SIDE, ring, lows, places, highs, CELLS + 1);
+}
+
+static uint8_t sure_at(const int32_t *lows, const int32_t *highs, size_t cells, uint32_t ring, uint32_t threshold, size_t x, size_t y, uint8_t *sure) {
+    return zakdomp_sure_peak(lows, CELLS, highs, cells, SIDE, SIDE, ring, threshold, 0, 0, 0, x, y, sure);
+}
+
+static void known_between(const uint8_t *whole) {
+    uint8_t low[CELLS], high[CELLS], sure = 77;
+    int32_t lows[CELLS + 1], highs[CELLS + 1];
+    for (int i = 0; i < CELLS; i++) {
+        low[i] = whole[i] - (whole[i] > 0);
+        high[i] = whole[i] + (whole[i] < 255);
+    }
+    for (int i = 0; i <= CELLS; i++) lows[i] = highs[i] = 7;
+    expect(limits(high, low, CELLS - 1, 6, lows, CELLS - 1, highs) == ZAKDOMP_LENGTH, "a pixel short, crossed, a ring of 6 and a cell short");
+    expect(limits(high, low, CELLS, 6, lows, CELLS - 1, highs) == ZAKDOMP_CROSSED, "crossed, a ring of 6 and a cell short");
+    expect(limits(low, high, CELLS, 6, lows, CELLS - 1, highs) == ZAKDOMP_PARAMETER, "a ring of 6 and a cell short");
+    expect(limits(low, high, CELLS, 5, lows, CELLS - 1, highs) == ZAKDOMP_MAP_SHORT, "a cell short");
+    expect(lows[0] == 7 && lows[60] == 7 && highs[60] == 7, "refused: both maps as they were");
+    expect(limits(low, high, CELLS, 5, lows, CELLS + 1, highs) == ZAKDOMP_DONE && lows[60] == 9920 && highs[60] == 10200, "one level either way");
+    expect(lows[0] == 0 && highs[120] == 0 && lows[CELLS] == 7 && highs[CELLS] == 7, "0 at the edge, and the rest as it was");
+    expect(sure_at(lows, highs, CELLS, 5, 1983, 5, 5, &sure) == ZAKDOMP_DONE && sure == 1, "9,920 exceeds five times 1,983");
+    expect(sure_at(lows, highs, CELLS, 5, 1984, 5, 5, &sure) == ZAKDOMP_DONE && sure == 0, "and not five times 1,984");
+    expect(sure_at(lows, highs, CELLS, 5, 858993460, 5, 5, &sure) == ZAKDOMP_DONE && sure == 0, "five times a threshold does not wrap");
+    expect(sure_at(lows, highs, CELLS, 5, 4294967295, 5, 5, &sure) == ZAKDOMP_DONE && sure == 0, "nor of the largest");
+    expect(sure_at(lows, highs, CELLS, 5, 0, 4, 5, &sure) == ZAKDOMP_DONE && sure == 0, "a place in the border");
+    sure = 77;
+    expect(sure_at(lows, highs, CELLS + 1, 6, 0, SIDE, 0, &sure) == ZAKDOMP_LENGTH, "a cell too many");
+    expect(sure_at(lows, highs, CELLS, 6, 0, SIDE, 0, &sure) == ZAKDOMP_PARAMETER, "a ring of 6 and a place outside");
+    expect(sure_at(lows, highs, CELLS, 5, 0, SIDE, 0, &sure) == ZAKDOMP_OUTSIDE && sure == 77, "refused: the answer as it was");
+    expect(limits(whole, whole, CELLS, 5, lows, CELLS, highs) == ZAKDOMP_DONE && lows[60] == 10160 && highs[60] == 10160, "known pixels");
+    expect(sure_at(lows, highs, CELLS, 5, 2031, 5, 5, &sure) == ZAKDOMP_DONE && sure == 1, "a response of 2,032 is above 2,031");
+    expect(sure_at(lows, highs, CELLS, 5, 2032, 5, 5, &sure) == ZAKDOMP_DONE && sure == 0, "and not above 2,032");
+}
+
 int main(void) {
     uint8_t img[CELLS];
     whole_case(img);
@@ -307,6 +344,7 @@ int main(void) {
     neighbours();
     enough_peaks();
     retouching(img);
+    known_between(img);
     streams(img);
     writing(img);
     holdings();

@@ -6,7 +6,8 @@
  *   - enough stack is free: 192 KB for images of at most 96 by 96 pixels and for zakdomp_corners, 768 KB for any call.
  * Nothing is kept between calls, so calls may run at the same time on other buffers. No function allocates.
  *
- * Each function but zakdomp_level_bytes, zakdomp_corners and zakdomp_holdings returns 0, or the number of a refusal, the lowest that applies.
+ * Each function but zakdomp_level_bytes, zakdomp_corners and zakdomp_holdings returns 0, or the number of a refusal: the lowest that applies,
+ * unless the function says another order.
  * A refusal leaves every buffer and every place for a result as it was; the one exception is ZAKDOMP_LIST_SHORT from zakdomp_find_corners
  * and zakdomp_find_corners_pgm. What lies in a buffer behind a result stays as it was; these two alone clear map and list buffers behind it.
  *
@@ -39,6 +40,7 @@ enum {
     ZAKDOMP_PGM = 12,         /* the header of a photograph is not of the form P5, or fewer bytes than pixels are behind it */
     ZAKDOMP_MAXVAL = 13,      /* the maxval of a photograph is not 255 */
     ZAKDOMP_OUTSIDE = 14,     /* the place is outside the image */
+    ZAKDOMP_CROSSED = 15,     /* a pixel's low value is above its high one */
     ZAKDOMP_STREAM_SHORT = 19, /* the stream buffer is too short */
     ZAKDOMP_LATE = 20         /* a start or a time is above 2^40 */
 };
@@ -106,6 +108,30 @@ uint8_t zakdomp_response(const uint8_t *img, size_t img_length, size_t w, size_t
  * Refusals: 1, 2 (the length of the image or of the map), 3, 14. */
 uint8_t zakdomp_retouch(uint8_t *img, size_t img_length, size_t w, size_t h, uint32_t ring, float *map, size_t map_length, size_t x, size_t y,
                         uint8_t value, size_t *redone);
+
+/* What the response of each cell of an image of w by h can be, where each pixel is known to lie from its value in `low` up to its value in `high`:
+ * a low and a high number of fifths. Five times the exact response, which is whole, of every image between the two lies from the one up to the
+ * other; where low and high are one image, both are that.
+ *   low, high    the two images, in row order
+ *   ring         5 or 10: the ring's radius
+ *   lows, highs  at least w * h numbers each; those of the cells stand first, in row order: -30600..10200, and 0 within a ring radius of the edge
+ * Each absolute value in the sum of a response is taken at its least or greatest over the values that its own pixels can have, term by term.
+ * Refusals, in this order: 1, 2 (the length of either image), 15, 3, 8 (either buffer). */
+uint8_t zakdomp_response_limits(const uint8_t *low, size_t low_length, const uint8_t *high, size_t high_length, size_t w, size_t h,
+                                uint32_t ring, int32_t *lows, size_t lows_length, int32_t *highs, size_t highs_length);
+
+/* Whether the place of column x and row y is a sure peak: with the maps that zakdomp_response_limits made by that ring it is then a peak, by exact
+ * values, of every image between the two.
+ *   lows, highs  exactly w * h numbers each; of longer buffers the first w * h are handed over, with w * h as the length
+ *   threshold    a whole response
+ *   window, least, centroid  as in zakdomp_find_corners
+ *   sure         1 for yes, 0 for no. Yes: the place is not within ring + window + centroid of the map's edge, its low number exceeds five
+ *                times the threshold and is at least the high number of every other cell of its window, and at least `least` of those have a
+ *                low number above 0. Any two maps are judged so, whoever made them.
+ * Refusals: 1, 2 (the length of either map), 3, 14. */
+uint8_t zakdomp_sure_peak(const int32_t *lows, size_t lows_length, const int32_t *highs, size_t highs_length, size_t w, size_t h,
+                          uint32_t ring, uint32_t threshold, uint32_t window, uint32_t least, uint32_t centroid, size_t x, size_t y,
+                          uint8_t *sure);
 
 /* The peaks of a map of w by h responses, put behind the first `held` corners of a buffer, in row order. The parameters are those of
  * zakdomp_find_corners; no peak lies within ring + window + centroid of the map's edge. A NaN cell is not at or below any threshold and is

@@ -7,6 +7,8 @@
     response(pixels, width, height, ring=5)            ->  ResponseMap(width, height, cells)
     retouch(pixels, cells, width, height, x, y, value) ->  how many cells of the map were computed anew
     has_peaks(cells, width, height, wanted)            ->  Enough(enough, rows): whether a map has so many peaks
+    response_limits(low, high, width, height)          ->  ResponseLimits(lows, highs): what each response can be, in fifths
+    sure_peak(lows, highs, width, height, x, y)        ->  whether a place is a peak of every image between the limits
     write_stream(pixels, width, height, threshold=30)  ->  the bytes that the program `corners` reads
     holding(kind, start, time), holdings(stream)       ->  "N" not yet, "H" held or "G" gone, for an item and for each of a stream
 
@@ -40,6 +42,7 @@ REFUSALS = {
     12: "the photograph is no whole binary PGM",
     13: "the maxval of the photograph is not 255",
     14: "the place is outside the image",
+    15: "a pixel's low value is above its high one",
     19: "the stream buffer is too short",
     20: "a start or a time is above 2^40",
 }
@@ -97,6 +100,12 @@ class ResponseMap(NamedTuple):
     cells: list
 
 
+class ResponseLimits(NamedTuple):
+    """A low and a high number of fifths for each cell, in row order."""
+    lows: list
+    highs: list
+
+
 class Enough(NamedTuple):
     enough: bool
     rows: int
@@ -118,12 +127,15 @@ def _load():
     library.zakdomp_pgm.argtypes = piece + 3 * [out]
     library.zakdomp_response.argtypes = piece + [size, size, u32, size, size, size, size] + piece + [out, out]
     library.zakdomp_retouch.argtypes = piece + [size, size, u32] + piece + [size, size, ctypes.c_uint8, out]
+    library.zakdomp_response_limits.argtypes = 2 * piece + [size, size, u32] + 2 * piece
+    library.zakdomp_sure_peak.argtypes = 2 * piece + [size, size] + 5 * [u32] + [size, size, ctypes.POINTER(u8)]
     library.zakdomp_level_bytes.argtypes = [size, size, u32, size]
     library.zakdomp_has_peaks.argtypes = piece + [size, size] + numbers[:5] + [size, ctypes.POINTER(u8), out]
     library.zakdomp_write_stream.argtypes = piece + [size, size] + 7 * [u32] + [size, u32] + piece + [out]
     library.zakdomp_holding.argtypes = [u8, u64, u64, ctypes.POINTER(u8)]
     library.zakdomp_holdings.argtypes = piece + [ctypes.c_void_p]
-    for function in ("find_corners", "find_corners_pgm", "pgm", "response", "has_peaks", "retouch", "write_stream", "holding"):
+    for function in ("find_corners", "find_corners_pgm", "pgm", "response", "has_peaks", "retouch", "response_limits", "sure_peak", "write_stream",
+                     "holding"):
         getattr(library, "zakdomp_" + function).restype = u8
     library.zakdomp_level_bytes.restype = library.zakdomp_holdings.restype = size
     return library
@@ -151,6 +163,14 @@ def _floats(places):
 def _corners(places):
     """The four slices of a corner buffer."""
     return [_floats(places), _floats(places), _floats(places), _buffer(ctypes.c_uint32, places)]
+
+
+def _signed(numbers):
+    """A buffer of numbers of 32 bits with at least one place, and as pointer and length."""
+    if any(not -1 << 31 <= number < 1 << 31 for number in numbers):
+        raise ValueError("a number of fifths is not within -2^31 to 2^31 - 1")
+    buffer = (ctypes.c_int32 * max(len(numbers), 1))(*numbers)
+    return buffer, [ctypes.addressof(buffer), len(numbers)]
 
 
 def _changed(buffer, kind):
@@ -267,6 +287,41 @@ def retouch(pixels, cells, width, height, x, y, value, *, ring=5):
     if number:
         raise Refusal(number)
     return redone.value
+
+
+def response_limits(low, high, width, height, *, ring=5):
+    """What the response of each cell can be where each pixel is known to lie from its value in `low` up to its value in `high`: a low and a high
+    number of fifths. Five times the exact response of every image between the two lies from the one up to the other."""
+    _whole("ring", ring, 32)
+    for name, number in {"width": width, "height": height}.items():
+        _whole(name, number, 64)
+    low_held, low_image = _given(low)
+    high_held, high_image = _given(high)
+    cells = width * height if max(width, height) <= LARGEST_SIDE else 0
+    lows, low_cells = _signed(bytes(cells))
+    highs, high_cells = _signed(bytes(cells))
+    number = _library.zakdomp_response_limits(*low_image, *high_image, width, height, ring, *low_cells, *high_cells)
+    if number:
+        raise Refusal(number)
+    return ResponseLimits(lows[:cells], highs[:cells])
+
+
+def sure_peak(lows, highs, width, height, x, y, *, ring=5, threshold=0, window=2, least_neighbours=2, centroid_radius=2):
+    """Whether the place of column x and row y is a sure peak of two maps of limits: with those of `response_limits` by the same ring it is then a
+    peak, by exact values, of every image between the two. The threshold is a whole response."""
+    small = {"ring": ring, "threshold": threshold, "window": window, "least_neighbours": least_neighbours, "centroid_radius": centroid_radius}
+    large = {"width": width, "height": height, "x": x, "y": y}
+    for names, bits in ((small, 32), (large, 64)):
+        for name, value in names.items():
+            _whole(name, value, bits)
+    held_lows, low_cells = _signed(lows)
+    held_highs, high_cells = _signed(highs)
+    sure = ctypes.c_uint8(0)
+    number = _library.zakdomp_sure_peak(*low_cells, *high_cells, width, height, ring, threshold, window, least_neighbours, centroid_radius, x, y,
+                                        ctypes.byref(sure))
+    if number:
+        raise Refusal(number)
+    return sure.value == 1
 
 
 def has_peaks(cells, width, height, wanted, *, ring=5, threshold=0.0, window=2, least_neighbours=2, centroid_radius=2):

@@ -74,6 +74,17 @@ pub fn retouch(
     zakdomp::retouch(pixels, w, h, ring, map, x, y, value).expect("not refused")
 }
 
+/// A low and a high number of fifths for each cell.
+pub fn limits(low: &[u8], high: &[u8], w: usize, h: usize, ring: u32, lows: &mut [i32], highs: &mut [i32]) {
+    #[rustfmt::skip]
+    let number = unsafe {
+        zakdomp_response_limits(
+            low.as_ptr(), low.len(), high.as_ptr(), high.len(), w, h, ring, lows.as_mut_ptr(), lows.len(), highs.as_mut_ptr(), highs.len(),
+        )
+    };
+    assert_eq!(number, 0);
+}
+
 pub fn peaks(map: &[f32], w: usize, h: usize, p: &Params, list: &mut List) -> usize {
     let (mut added, mut ties) = (0, 0);
     let List { floats: [x, y, s], neighbours: k } = list;

@@ -1,6 +1,7 @@
 //! bench [ROUNDS]: a table of times, the original Rust against ours, and for the response against C too.
 //! bench peaks [ROUNDS]: the rows of peaks alone.
-//! bench enough [ROUNDS]: the last table alone, of 100 peaks against all.
+//! bench enough [ROUNDS]: a table alone, of 100 peaks against all.
+//! bench limits [ROUNDS]: a table alone, of the limits of responses against our response.
 //! bench count LEVELS: calls `original_frame` and `our_frame` once each on a small frame, for a profiler that counts instructions.
 mod interleaved;
 mod library;
@@ -92,6 +93,17 @@ fn enough_table(rounds: usize) {
     }
 }
 
+/// The limits of responses, against our response: at most four times its time.
+fn limits_table(rounds: usize) {
+    println!("\n| limits of | response, ours, ms | limits, ours, ms | limits / response |");
+    println!("|---|---|---|---|");
+    for ring in [5, 10] {
+        let row = stages::limits(&with_ring(Subject::board(1024, 1024), ring), rounds);
+        let [response, limits] = row.times[..] else { panic!("two times") };
+        println!("| {} | {response:.4} | {limits:.4} | {:.2} |", row.input, limits / response);
+    }
+}
+
 #[no_mangle]
 #[inline(never)]
 extern "C" fn original_frame(s: &Subject, p: &Params) -> usize {
@@ -122,10 +134,12 @@ fn main() {
             peaks_rows(&subjects, &wide, number(1).unwrap_or(25));
         }
         Some("enough") => enough_table(number(1).unwrap_or(25)),
+        Some("limits") => limits_table(number(1).unwrap_or(25)),
         _ => {
             let rounds = number(0).unwrap_or(25);
             table(rounds);
             enough_table(rounds);
+            limits_table(rounds);
         }
     }
 }

@@ -118,6 +118,30 @@ pub fn enough(s: &Subject, rounds: usize, wanted: usize) -> Row {
     row("enough", format!("{}, {wanted} of {} peaks, in {rows} rows", sides(s), s.peaks.len()), rounds, calls)
 }
 
+/// The limits of the responses where each pixel is known within three grey levels either way, against our response.
+pub fn limits(s: &Subject, rounds: usize) -> Row {
+    let (w, h, ring) = (s.width, s.height, s.params.ring);
+    let low: Vec<u8> = s.pixels.iter().map(|v| v.saturating_sub(3)).collect();
+    let high: Vec<u8> = s.pixels.iter().map(|v| v.saturating_add(3)).collect();
+    let (mut map, mut lows, mut highs) = (vec![1.0; w * h], vec![1; w * h], vec![1; w * h]);
+    let fifths: Vec<i32> = s.map.data().iter().map(|cell| (5.0 * cell).round() as i32).collect();
+    library::limits(&s.pixels, &s.pixels, w, h, ring, &mut lows, &mut highs);
+    assert!(lows == fifths && highs == fifths);
+    library::limits(&low, &high, w, h, ring, &mut lows, &mut highs);
+    assert!((0..w * h).all(|i| lows[i] <= fifths[i] && fifths[i] <= highs[i]));
+    let calls: Vec<Call> = vec![
+        Box::new(|| {
+            library::response(&s.pixels, w, h, ring, &mut map);
+            0
+        }),
+        Box::new(|| {
+            library::limits(&low, &high, w, h, ring, &mut lows, &mut highs);
+            0
+        }),
+    ];
+    row("limits", sides(s), rounds, calls)
+}
+
 /// Both copy the list of peaks first.
 pub fn centroids(s: &Subject, rounds: usize) -> Row {
     let (w, h, radius) = (s.width, s.height, s.params.centroid);

@@ -2,11 +2,13 @@
 //!
 //! A [`Finder`] owns the buffers that the library works in and uses them again. What the library refuses comes back as a [`Refusal`].
 mod library;
+mod limits;
 pub mod raw;
 mod refusal;
 mod retention;
 mod stream;
 
+pub use limits::{response_limits, sure_peak, ResponseLimits};
 pub use refusal::Refusal;
 pub use retention::{holding, holdings, Holding};
 pub use stream::write_stream;

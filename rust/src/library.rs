@@ -1,7 +1,8 @@
 //! The functions of libzakdomp.a that this crate calls, over slices.
 use crate::raw::{
     zakdomp_find_corners, zakdomp_find_corners_pgm, zakdomp_has_peaks, zakdomp_holding, zakdomp_holdings,
-    zakdomp_level_bytes, zakdomp_pgm, zakdomp_response, zakdomp_retouch, zakdomp_write_stream, HOLDINGS,
+    zakdomp_level_bytes, zakdomp_pgm, zakdomp_response, zakdomp_response_limits, zakdomp_retouch,
+    zakdomp_sure_peak, zakdomp_write_stream, HOLDINGS,
 };
 use crate::{Lists, Params, Refusal};
 use std::ops::Range;
@@ -100,6 +101,36 @@ pub(crate) fn retouch(
         )
     };
     unless_refused(number, redone)
+}
+
+#[rustfmt::skip]
+pub(crate) fn response_limits(
+    low: &[u8], high: &[u8], width: usize, height: usize, ring: u32, lows: &mut [i32], highs: &mut [i32],
+) -> Result<(), Refusal> {
+    // SAFETY: as above.
+    let number = unsafe {
+        zakdomp_response_limits(
+            low.as_ptr(), low.len(), high.as_ptr(), high.len(), width, height, ring,
+            lows.as_mut_ptr(), lows.len(), highs.as_mut_ptr(), highs.len(),
+        )
+    };
+    unless_refused(number, ())
+}
+
+#[allow(clippy::too_many_arguments)]
+#[rustfmt::skip]
+pub(crate) fn sure_peak(
+    lows: &[i32], highs: &[i32], width: usize, height: usize, p: &Params, threshold: u32, x: usize, y: usize,
+) -> Result<bool, Refusal> {
+    let mut sure = 0;
+    // SAFETY: both slices are whole, and the result is the function's own.
+    let number = unsafe {
+        zakdomp_sure_peak(
+            lows.as_ptr(), lows.len(), highs.as_ptr(), highs.len(), width, height,
+            p.ring, threshold, p.window, p.least_neighbours, p.centroid_radius, x, y, &mut sure,
+        )
+    };
+    unless_refused(number, sure == 1)
 }
 
 #[rustfmt::skip]

@@ -37,6 +37,14 @@ extern "C" {
         img: *mut u8, img_length: usize, w: usize, h: usize, ring: u32, map: *mut f32, map_length: usize, x: usize, y: usize, value: u8,
         redone: *mut usize,
     ) -> u8;
+    pub fn zakdomp_response_limits(
+        low: *const u8, low_length: usize, high: *const u8, high_length: usize, w: usize, h: usize, ring: u32,
+        lows: *mut i32, lows_length: usize, highs: *mut i32, highs_length: usize,
+    ) -> u8;
+    pub fn zakdomp_sure_peak(
+        lows: *const i32, lows_length: usize, highs: *const i32, highs_length: usize, w: usize, h: usize,
+        ring: u32, threshold: u32, window: u32, least: u32, centroid: u32, x: usize, y: usize, sure: *mut u8,
+    ) -> u8;
     pub fn zakdomp_peaks(
         map: *const f32, map_length: usize, w: usize, h: usize, ring: u32, threshold: f32, window: u32, least: u32, centroid: u32,
         xs: *mut f32, xs_length: usize, ys: *mut f32, ys_length: usize, strengths: *mut f32, strengths_length: usize,

@@ -14,6 +14,7 @@ use Rattle.demands.proofs.Enough.{enough-is-counting, looks-no-further}
 use Rattle.demands.proofs.Writing.{read-back, written-back}
 use Rattle.demands.proofs.Retention.{held-when, retained-total, retained-reads}
 use Rattle.demands.proofs.Retouch.{only-touched, at-most-21, fresh-again, moves-little}
+use Rattle.demands.proofs.Limits.{limits-contain, limits-exact, sure-peak-exact}
 use Rattle.demands.proofs.FrameExact.{frame-exact, alike-by-name, maps-searched, maps-alike, frame-without-ties, four-never, peaks-kept}
 use Rattle.demands.proofs.Photographs.{photograph-is-frame, plain-header-read, behind-unread, uploads-read}
 use Rattle.demands.proofs.Ties.{nan-top, peak-ties, frame-ties, maps-alike-without-equals}
@@ -59,6 +60,9 @@ demands = record {
   at-most-21 = at-most-21;
   fresh-again = fresh-again;
   moves-little = moves-little;
+  limits-contain = limits-contain;
+  limits-exact = limits-exact;
+  sure-peak-exact = sure-peak-exact;
   read-back = read-back;
   written-back = written-back;
   held-when = held-when;

@@ -22,4 +22,5 @@ pub mod PlainHeader
 pub mod Photographs
 pub mod Writing
 pub mod Retouch
+pub mod Limits
 pub mod Demands

@@ -7,6 +7,7 @@ use mathlib.Core.Bool.{Bool, true, false, cond, not, _&&_, _||_}
 use mathlib.Core.List.{List, [], _∷_, _++_, map}
 use lib.ListN.{length, take}
 use lib.Dec.{ltb, leb}
+use lib.IntN.{ℤ}
 use lib.Ieee.{Float}
 use borrow.Author.Tests.{eq-eqb}
 use Rattle.lists.specs.Places.{Place, any}
@@ -80,6 +81,13 @@ use Rattle.retouch.specs.declared.Retouched.{Retouched}
 use Rattle.retouch.specs.declared.Retouched.the-variants as retouched
 use Rattle.retouch.specs.Retouch.{touchedCount}
 use Rattle.retouch.specs.Promise as retouch
+use Rattle.response_limits.specs.declared.Limits.{Limits}
+use Rattle.response_limits.specs.declared.Limits.the-variants as limited
+use Rattle.response_limits.specs.Promise as limits
+use Rattle.sure_peak.specs.declared.Sure.{Sure}
+use Rattle.sure_peak.specs.declared.Sure.the-variants as surely
+use Rattle.sure_peak.specs.SurePeak.{isSure}
+use Rattle.sure_peak.specs.Promise as sure
 use Rattle.retention.specs.declared.Holding.{Holding}
 use Rattle.retention.specs.declared.Holding.the-variants as held
 use Rattle.retention.specs.Retention as retention
@@ -257,6 +265,27 @@ retouch-refuses w h ring q value img m r img′ m′ f =
     refused-one retouched.Refused (λ n. retouch.answerOf n (touchedCount w h (ringOf ring) q)) (λ k e. let z : _≡_ {A = ℕ} 0 1 = cc in omega arith)
     (λ n k e. sym (ap retouch.numberOf e)) (retouch.conditions (length img) (length m) w h ring q) r (f .answer)
 
+limits-refuses : (low high : List ℕ) (w h ring : ℕ) (lows highs : List ℤ) (r : Limits) (lows′ highs′ : List ℤ)
+    → limits.LimitsWritten low high w h ring lows highs r lows′ highs′ → Refuses limited.Refused (1 ∷ 2 ∷ 3 ∷ 8 ∷ 15 ∷ []) r
+unfolding limits.refusalOf
+limits-refuses low high w h ring lows highs r lows′ highs′ f k e =
+    widen k (1 ∷ 2 ∷ 2 ∷ 15 ∷ 3 ∷ 8 ∷ 8 ∷ []) (1 ∷ 2 ∷ 3 ∷ 8 ∷ 15 ∷ []) refl
+    (refused-one limited.Refused (λ n. unless limited.Refused n limited.Written) (λ k q. let z : _≡_ {A = ℕ} 0 1 = cc in omega arith)
+    (λ n k q. sym (ap limits.numberOf q)) (limits.conditions low high w h ring (length lows) (length highs)) r (f .answer) k e)
+
+sure-refuses : (lows highs : List ℤ) (w h ring threshold window least centroid : ℕ) (q : Place) (r : Sure)
+    → sure.SureTold lows highs w h ring threshold window least centroid q r → Refuses surely.Refused (1 ∷ 2 ∷ 3 ∷ 14 ∷ []) r
+unfolding sure.refusalOf
+sure-refuses lows highs w h ring threshold window least centroid q r f k e =
+    let yes = isSure lows highs w h ring threshold window least centroid q in
+    widen k (1 ∷ 2 ∷ 2 ∷ 3 ∷ 14 ∷ []) (1 ∷ 2 ∷ 3 ∷ 14 ∷ []) refl
+    (refused-one surely.Refused (λ n. unless surely.Refused n (sure.answerOf yes)) (none yes) (λ n k q. sym (ap sure.numberOf q))
+    (sure.conditions (length lows) (length highs) w h ring window centroid q) r (f .answer) k e)
+  where
+    none : (b : Bool) (k : ℕ) → sure.answerOf b ≡ surely.Refused k → ⊥
+    none true k q = let e = ap (λ (a : Sure). length (sure.valuesOf a)) q in omega arith
+    none false k q = let e = ap (λ (a : Sure). length (sure.valuesOf a)) q in omega arith
+
 holding-refuses : (kind start time : ℕ) (r : Holding) → Told kind start time r → Refuses held.Refused (6 ∷ 20 ∷ []) r
 unfolding retention.refusalOf
 holding-refuses kind start time r f =
@@ -290,5 +319,7 @@ total = record {
   «write_frame» = writer-refuses;
   «write_corners» = listing-refuses;
   retouch = retouch-refuses;
+  «response_limits» = limits-refuses;
+  «sure_peak» = sure-refuses;
   holding = holding-refuses;
 }

@@ -14,6 +14,7 @@ use Rattle.demands.specs.Enough.{EnoughIsCounting, LooksNoFurther}
 use Rattle.demands.specs.Writing.{ReadBack, WrittenBack}
 use Rattle.demands.specs.Retention.{HeldWhen, RetainedTotal, RetainedReads}
 use Rattle.demands.specs.Retouch.{OnlyTouched, AtMost21, Fresh, MovesLittle}
+use Rattle.demands.specs.Limits.{LimitsContain, LimitsExact, SurePeakExact}
 use Rattle.demands.specs.FrameExact.{FrameExact, AlikeByName, MapsSearched, MapsAlike, FrameWithoutTies, FourNever, PeaksKept}
 use Rattle.demands.specs.Ties.{NanTop, PeakTies, FrameTies, MapsAlikeWithoutEquals}
 use Rattle.demands.specs.Neighbours.{NeighboursKept, CountsExact}
@@ -105,6 +106,13 @@ pub record Demands : Type 0 where
   pub fresh-again : Fresh
   -- "moves the exact response by at most 15d fifths through a ring place and 16d through the cross, and no other cell at all"
   pub moves-little : MovesLittle
+  -- ---- Request 9: pixels known between limits
+  -- "Every image lying between the two has its exact response inside"
+  pub limits-contain : LimitsContain
+  -- "Where low equals high everywhere, both numbers are that response"
+  pub limits-exact : LimitsExact
+  -- "With maps so made for the ring given it is then a peak by exact values of every such image"
+  pub sure-peak-exact : SurePeakExact
   -- ---- Request 11: write the frame stream
   -- "The reader returns the same values, float bits included"
   pub read-back : ReadBack

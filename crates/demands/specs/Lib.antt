@@ -21,4 +21,5 @@ pub mod Texts
 pub mod Photographs
 pub mod Writing
 pub mod Retouch
+pub mod Limits
 pub mod Demands

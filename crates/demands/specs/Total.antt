@@ -2,9 +2,9 @@
 -- numbered refusals. The conditions of each number are fixed", and so is what every buffer holds afterwards.
 -- Every call of a public function ends, and asks nothing of its caller; its promise has the answer and every buffer afterwards by equations.
 -- Here stand the promises of the functions that refuse, word for word, and the numbers that each can give: 0, which the definitions use for
--- "none", is no refusal's. A request's new number counts with the eleven: 12 and 13 of request 1, 14 of request 8, 19 of request 11, 20 of
--- request 13. Which condition has which number, lowest first, is in the tables that the promises name. No other public function refuses, and each
--- of these promises one equation over its arguments:
+-- "none", is no refusal's. A request's new number counts with the eleven: 12 and 13 of request 1, 14 of request 8, 15 of request 9, 19 of
+-- request 11, 20 of request 13. Which condition has which number, in their order, is in the tables that the promises name. No other public
+-- function refuses, and each of these promises one equation over its arguments:
 --   numbers         lesser, greater, minus
 --   image_size      is_large, refusal (the number alone)
 --   ring            ring_offsets, is_ring
@@ -21,12 +21,13 @@
 --   listing         write_refusal (one for its answer, one for its buffer)
 --   retention       list_holdings (likewise), wanted (one for each number of its answer)
 --   finder          find (likewise)
--- The functions of `capi`, `capi_stages` and `capi_tools`, for C, hand on these promises and return the number.
+-- The functions of `capi`, `capi_stages`, `capi_tools` and `capi_limits`, for C, hand on these promises and return the number.
 use Prim.Native.Nat.{ℕ, min}
 use mathlib.Core.Path.{_≡_}
 use mathlib.Core.Bool.{Bool}
 use mathlib.Core.List.{List, [], _∷_}
 use lib.ListN.{length}
+use lib.IntN.{ℤ}
 use lib.Ieee.{Float}
 use Rattle.response.specs.declared.Patch.{Patch}
 use Rattle.response.specs.declared.Patch.the-variants as response
@@ -79,6 +80,12 @@ use Rattle.listing.specs.Answer.{CornersWritten}
 use Rattle.retouch.specs.declared.Retouched.{Retouched}
 use Rattle.retouch.specs.declared.Retouched.the-variants as retouch
 use Rattle.retouch.specs.Promise.{Retouches}
+use Rattle.response_limits.specs.declared.Limits.{Limits}
+use Rattle.response_limits.specs.declared.Limits.the-variants as limits
+use Rattle.response_limits.specs.Promise.{LimitsWritten}
+use Rattle.sure_peak.specs.declared.Sure.{Sure}
+use Rattle.sure_peak.specs.declared.Sure.the-variants as sure
+use Rattle.sure_peak.specs.Promise.{SureTold}
 use Rattle.retention.specs.declared.Holding.{Holding}
 use Rattle.retention.specs.declared.Holding.the-variants as retention
 use Rattle.retention.specs.Answer.{Told}
@@ -136,5 +143,11 @@ pub record Total : Type 0 where
   pub retouch : (w h ring : ℕ) (q : Place) (value : ℕ) (img : List ℕ) (m : List Float) (r : Retouched) (img′ : List ℕ) (m′ : List Float)
       → Retouches w h ring q value img m r img′ m′
       → Refuses retouch.Refused (1 ∷ 2 ∷ 3 ∷ 14 ∷ []) r
+  pub «response_limits» : (low high : List ℕ) (w h ring : ℕ) (lows highs : List ℤ) (r : Limits) (lows′ highs′ : List ℤ)
+      → LimitsWritten low high w h ring lows highs r lows′ highs′
+      → Refuses limits.Refused (1 ∷ 2 ∷ 3 ∷ 8 ∷ 15 ∷ []) r
+  pub «sure_peak» : (lows highs : List ℤ) (w h ring threshold window least centroid : ℕ) (q : Place) (r : Sure)
+      → SureTold lows highs w h ring threshold window least centroid q r
+      → Refuses sure.Refused (1 ∷ 2 ∷ 3 ∷ 14 ∷ []) r
   pub holding : (kind start time : ℕ) (r : Holding) → Told kind start time r
       → Refuses retention.Refused (6 ∷ 20 ∷ []) r

@@ -19,7 +19,7 @@ use Rattle.detect.specs.Peaks.{same, square, window, beaten, valueAt, la
 
 -- ---- tests of places
 
-same-self : (p : Place) → same p p ≡ true
+pub same-self : (p : Place) → same p p ≡ true
 same-self p = rw (eq-eqb (p .x) (p .x) refl, eq-eqb (p .y) (p .y) refl)
 
 same-place : (p q : Place) → same q p ≡ true → q ≡ p
@@ -64,18 +64,18 @@ window-few w h r p f k =
 -- ---- inside the border a window that is no wider is not clipped
 
 -- the square of 2r + 1 cells a side about p
-abbrev about : ℕ → Place → List Place
+abbrev pub about : ℕ → Place → List Place
 about r p = block (p .x - r) (p .x + r + 1) (p .y - r) (p .y + r + 1)
 
-square-whole : (w h border r : ℕ) (p : Place) → r ≤ border → Inside w h border p → square w h r p ≡ about r p
+pub square-whole : (w h border r : ℕ) (p : Place) → r ≤ border → Inside w h border p → square w h r p ≡ about r p
 unfolding square
 square-whole w h border r p k i =
     let ex : min (p .x + r + 1) w ≡ p .x + r + 1 = omega (arith, i .right) in
     let ey : min (p .y + r + 1) h ≡ p .y + r + 1 = omega (arith, i .bottom) in
     rw (ex, ey)
 
+-- a centre does not beat itself
 module _ (m : List Float) (w h r : ℕ) (p : Place) where
-  -- a centre does not beat itself
   beaten-square : beaten (largerIn m w) w h r p ≡ any (λ q. lt (valueAt m w p) (valueAt m w q)) (square w h r p)
   unfolding beaten window
   beaten-square =
@@ -83,7 +83,8 @@ module _ (m : List Float) (w h r : ℕ) (p : Place) where
       (λ q e. ap (λ (t : Place). largerIn m w t p) (same-place p q (not-false (same q p) e)) ∙ lt-self (valueAt m w p))
       (square w h r p)
 
-  -- it is counted once
+-- and is counted once
+module _ (w h r : ℕ) (p : Place) where
   centre-only : p .x < w → p .y < h → keep (λ q. not (not (same q p))) (square w h r p) ≡ p ∷ []
   unfolding square
   centre-only px py =
@@ -91,7 +92,7 @@ module _ (m : List Float) (w h r : ℕ) (p : Place) where
       (ap (λ (t : Bool). not (not t)) (same-self p)) (λ u v n. ap (λ (t : Bool). not (not t)) (same-other u v p n))
       (omega arith) (omega arith) (omega arith) (omega arith)
 
-  count-square : (f : Place → Bool) → p .x < w → p .y < h → count f (square w h r p) ≡ count f (window w h r p) + cond (f p) 1 0
+  pub count-square : (f : Place → Bool) → p .x < w → p .y < h → count f (square w h r p) ≡ count f (window w h r p) + cond (f p) 1 0
   unfolding window
   count-square f px py =
       count-kept f (λ q. not (same q p)) (square w h r p)
@@ -118,5 +119,5 @@ module _ (m : List Float) (w h border r : ℕ) (p : Place) (v : Float) (k : r �
       → count (λ q. f (valueAt m w q)) (about r p) ≡ count (λ q. f (valueAt m w q)) (window w h r p) + cond (f v) 1 0
   count-whole f =
       ap (count (λ q. f (valueAt m w q))) (sym whole)
-      ∙ count-square m w h r p (λ q. f (valueAt m w q)) (omega (arith, i .right)) (omega (arith, i .bottom))
+      ∙ count-square w h r p (λ q. f (valueAt m w q)) (omega (arith, i .right)) (omega (arith, i .bottom))
       ∙ ap (λ (x : Float). count (λ q. f (valueAt m w q)) (window w h r p) + cond (f x) 1 0) (sym e)

@@ -1,5 +1,7 @@
 //! against N SEED [FOLDER]: as oracle_compare, with our corner finder linked in instead of a process for each stream; and N frames of the
-//! library, in buffers of every size, each of which is compared afterwards; N maps that are asked for enough peaks; and N pixels that are changed.
+//! library, in buffers of every size, each of which is compared afterwards; N maps that are asked for enough peaks; N pixels that are changed; and N pairs
+//! of images, a low and a high value for each pixel.
+mod limits;
 mod retouching;
 
 use oracle::buffers::Buffers;
@@ -102,5 +104,6 @@ fn main() -> ExitCode {
     let folder = words.get(2).map_or("differing", String::as_str);
     let folder = Path::new(folder);
     let frames = run(cases(count, seed), folder, answer).and(run_library(count, seed, folder, left));
-    frames.and(run_enough(count, seed, enough)).and(retouching::run(count, seed)).finish()
+    let maps = run_enough(count, seed, enough).and(retouching::run(count, seed));
+    frames.and(maps).and(limits::run(count, seed)).finish()
 }

@@ -30,6 +30,8 @@ pub const PGM: Refusal = 12;
 pub const MAXVAL: Refusal = 13;
 /// A place outside the image (RULES 27), which has no counterpart in the original.
 pub const OUTSIDE: Refusal = 14;
+/// A pixel whose low value is above its high one (RULES 28): likewise.
+pub const CROSSED: Refusal = 15;
 /// The buffer for a frame stream is too short (RULES 30), which has no counterpart in the original.
 pub const STREAM_SHORT: Refusal = 19;
 /// The start of an item, or the time asked about, above 2^40 (RULES 32.3), which has no counterpart in the original.

@@ -1,0 +1,25 @@
+-- `capi_limits::zakdomp_response_limits` meets its contract: the answer of the function that it calls, taken apart. Assumes nothing.
+use Rattle.capi_limits.proofs.Entries.{limits-told}
+use borrow.Author.Needs.{needs}
+use Rattle.capi_limits.proofs.zakdomp_response_limits.Statement.{statement}
+use Rattle.capi_limits.proofs.zakdomp_response_limits.Tie as tie
+
+response-limits-requires : tie.Need-response-limits-requires
+response-limits-requires c κs = search needs
+
+limits-number-requires : tie.Need-limits-number-requires
+limits-number-requires c κs = search needs
+
+same-length : tie.Need-same-length
+same-length c = search needs
+
+same-length-2 : tie.Need-same-length-2
+same-length-2 c = search needs
+
+returns : tie.Need-returns
+returns c = limits-told _ _ _ _ _ _ _ _ _ _ _ (c .before .before .before .response-limits .ensures) (c .limits-number .ensures)
+
+pub zakdomp-response-limits-spec : {M : Type 1} → statement M
+zakdomp-response-limits-spec =
+    tie.close
+    (tie.spec response-limits-requires limits-number-requires same-length same-length-2 returns)

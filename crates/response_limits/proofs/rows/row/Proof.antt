@@ -1,0 +1,123 @@
+-- `response_limits::rows::row` meets its contract: the inner cells stand between edges that are 0. Assumes nothing.
+use mathlib.Core.Path.{_≡_, sym, _∙_, subst}
+use Prim.Native.Nat.{ℕ, _-_}
+use native.Mathlib.Omega.{arith}
+use lib.ListN.{length, take, drop}
+use mathlib.Core.List.{List}
+use lib.IntN.{ℤ}
+use Rattle.lists.proofs.Tab.{part-length-to}
+use Rattle.response_limits.specs.Internal.{EdgesCleared}
+use Rattle.response_limits.proofs.Edges.{span-inner, lows-put, highs-put}
+use borrow.Author.Needs.{needs}
+use Rattle.response_limits.proofs.rows.row.Statement.{statement}
+use Rattle.response_limits.proofs.rows.row.Tie as tie
+
+reach-requires : tie.Need-reach-requires
+reach-requires c κs = search needs
+
+clear-edges-requires : tie.Need-clear-edges-requires
+clear-edges-requires c κs = search needs
+
+clear-edges-requires-2 : tie.Need-clear-edges-requires-2
+clear-edges-requires-2 c κs = search needs
+
+mul-inner : tie.Need-mul-inner
+mul-inner c = search needs
+
+sub-inner : tie.Need-sub-inner
+sub-inner c = search needs
+
+part-inner-start : tie.Need-part-inner-start
+part-inner-start c = search needs
+
+part-inner-end : tie.Need-part-inner-end
+part-inner-end c = search needs
+
+mul-inner-2 : tie.Need-mul-inner-2
+mul-inner-2 c = search needs
+
+sub-inner-2 : tie.Need-sub-inner-2
+sub-inner-2 c = search needs
+
+part-inner-start-2 : tie.Need-part-inner-start-2
+part-inner-start-2 c = search needs
+
+part-inner-end-2 : tie.Need-part-inner-end-2
+part-inner-end-2 c = search needs
+
+-- where both edges are cleared
+module _ (c : tie.After-clear-edges2) where
+  abbrev start : tie.Start
+  start = c .before .before .before .before .before .before .before .before
+
+  abbrev reached : tie.After-reach
+  reached = c .before .before .before .before .before
+
+  abbrev from : ℕ
+  from = reached .reach .result .from
+
+  abbrev to : ℕ
+  to = reached .reach .result .to
+
+  abbrev lows : List ℤ
+  lows = c .before .before .before .clear-edges .last .0
+
+  abbrev highs : List ℤ
+  highs = c .clear-edges2 .last .0
+
+  lows-cleared : EdgesCleared from to (start .args .w) lows
+  lows-cleared = subst (λ (n : ℕ). EdgesCleared from to n lows) (start .pre .1 .0) (c .before .before .before .clear-edges .ensures)
+
+  highs-cleared : EdgesCleared from to (start .args .w) highs
+  highs-cleared = subst (λ (n : ℕ). EdgesCleared from to n highs) (start .pre .1 .1) (c .clear-edges2 .ensures)
+
+  part-long : (s : List ℤ) → EdgesCleared from to (start .args .w) s → length (take (to - from) (drop from s)) ≡ to - from
+  part-long s e = part-length-to from to s (omega (arith, e .long, reached .reach .ensures .ends))
+
+inner-requires : tie.Need-inner-requires
+inner-requires c κs =
+    let q = c .before .before .before in
+    let span = reached q .reach .ensures in
+    let low = part-long q (lows q) (lows-cleared q) in
+    let high = part-long q (highs q) (highs-cleared q) in (
+      start q .pre .0,
+      (
+        (high ∙ sym low, rw low (omega (arith, span .ordered, span .ends))),
+        λ i l. span-inner _ _ _ _ _ _ _ span i (omega (arith, low)),
+      ),
+    )
+
+same-length : tie.Need-same-length
+same-length c = search needs
+
+same-length-2 : tie.Need-same-length-2
+same-length-2 c = search needs
+
+returns : tie.Need-returns
+returns c =
+    let q = c .before .before .before .before .before .before in
+    let span = reached q .reach .ensures in
+    let inner = c .before .before .inner .ensures in (
+      lows-put _ _ _ _ _ _ _ _ _ span _ (lows-cleared q) _ _ (part-long q (lows q) (lows-cleared q)) (inner .0),
+      highs-put _ _ _ _ _ _ _ _ _ span _ (highs-cleared q) _ _ (part-long q (highs q) (highs-cleared q)) (inner .1),
+    )
+
+pub row-spec : {M : Type 1} → statement M
+row-spec =
+    tie.close
+    (tie.spec
+    reach-requires
+    clear-edges-requires
+    clear-edges-requires-2
+    mul-inner
+    sub-inner
+    part-inner-start
+    part-inner-end
+    mul-inner-2
+    sub-inner-2
+    part-inner-start-2
+    part-inner-end-2
+    inner-requires
+    same-length
+    same-length-2
+    returns)

@@ -1,0 +1,5 @@
+pub mod Signed
+pub mod WindowRows
+pub mod Judging
+pub mod Peak
+pub mod Exact

@@ -1,0 +1,3 @@
+pub mod SurePeak
+pub mod Promise
+pub mod Internal

@@ -1,0 +1,54 @@
+-- RULES 28.7: what a call of `sure_peak` refuses and answers.
+use Prim.Native.Nat.{ℕ}
+use mathlib.Core.Path.{_≡_}
+use mathlib.Core.Bool.{Bool, true, false, cond, not, _||_}
+use mathlib.Core.List.{List, [], _∷_}
+use lib.Dec.{ltb}
+use lib.ListN.{length}
+use lib.IntN.{ℤ}
+use Rattle.lists.specs.Places.{Place}
+use Rattle.lists.specs.Refusals.{lowest, unless, valuesUnless, isLarge, isMisfit}
+use Rattle.ring.specs.Ring.{isRing}
+use Rattle.retouch.specs.Promise.{isOutside}
+use Rattle.sure_peak.specs.SurePeak.{isSure}
+use Rattle.sure_peak.specs.declared.Sure.{Sure}
+use Rattle.sure_peak.specs.declared.Sure.the-variants.{Yes, No, Refused}
+
+-- of two maps of so many cells. 1: a side above 4096; 2: not w * h cells in either map; 3: a ring that is not 5 or 10, a window or a centroid
+-- radius above 16; 14: a place outside
+abbrev pub conditions : ℕ → ℕ → ℕ → ℕ → ℕ → ℕ → ℕ → Place → List (Bool × ℕ)
+conditions lows highs w h ring window centroid p =
+    (isLarge w h, 1)
+    ∷ (isMisfit lows w h, 2)
+    ∷ (isMisfit highs w h, 2)
+    ∷ (not (isRing ring) || (ltb 16 window || ltb 16 centroid), 3)
+    ∷ (isOutside w h p, 14)
+    ∷ []
+
+unfoldable pub refusalOf : ℕ → ℕ → ℕ → ℕ → ℕ → ℕ → ℕ → Place → ℕ
+refusalOf lows highs w h ring window centroid p = lowest (conditions lows highs w h ring window centroid p)
+
+-- the answer, and the number and the values of each case: 1 for yes and 0 for no
+abbrev pub answerOf : Bool → Sure
+answerOf true = Yes
+answerOf false = No
+
+abbrev pub numberOf : Sure → ℕ
+numberOf Yes = 0
+numberOf No = 0
+numberOf (Refused n) = n
+
+abbrev pub valuesOf : Sure → List ℕ
+valuesOf Yes = 1 ∷ []
+valuesOf No = 0 ∷ []
+valuesOf (Refused n) = []
+
+-- the promise of `sure_peak`, for the place p of two maps of w by h
+pub record SureTold (lows highs : List ℤ) (w h ring threshold window least centroid : ℕ) (p : Place) (r : Sure) : Type 0 where
+  pub answer : r
+      ≡ unless Refused (refusalOf (length lows) (length highs) w h ring window centroid p)
+      (answerOf (isSure lows highs w h ring threshold window least centroid p))
+  pub number : numberOf r ≡ refusalOf (length lows) (length highs) w h ring window centroid p
+  pub values : valuesOf r
+      ≡ valuesUnless (refusalOf (length lows) (length highs) w h ring window centroid p)
+      (cond (isSure lows highs w h ring threshold window least centroid p) 1 0 ∷ [])

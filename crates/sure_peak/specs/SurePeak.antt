@@ -1,0 +1,36 @@
+-- RULES 28.6: a sure peak of two maps, of a low and a high number of fifths for each cell.
+use Prim.Native.Nat.{ℕ, _+_, _*_}
+use mathlib.Core.Bool.{Bool, _&&_}
+use mathlib.Core.List.{List}
+use lib.Dec.{leb, ltb}
+use lib.ListN.{getD}
+use lib.IntN.{ℤ, pos}
+use lib.Signed.{ltZ}
+use Rattle.lists.specs.Places.{Place}
+use Rattle.detect.specs.Peaks.{CellTests, isPeak}
+
+-- the number of fifths at a place of a map in row order
+abbrev pub fifthsIn : List ℤ → ℕ → Place → ℤ
+fifthsIn m w p = getD m (p .y * w + p .x) (pos 0)
+
+-- the reading of a map whose exact value at each place is known to lie from a low number of fifths up to a high one, by what is sure: a cell is above
+-- the threshold if its low number is above five times that; it can be larger than another if its high number is above the other's low one; and it is
+-- above 0 if its low number is. Where both numbers are the exact value, it is the reading by exact values (RULES 10.1)
+abbrev pub byLimits : (Place → ℤ) → (Place → ℤ) → ℕ → CellTests
+byLimits low high threshold = record {
+  above = λ p. ltZ (pos (5 * threshold)) (low p);
+  larger = λ q p. ltZ (low p) (high q);
+  positive = λ q. ltZ (pos 0) (low q);
+}
+
+abbrev pub sure : List ℤ → List ℤ → ℕ → ℕ → CellTests
+sure lows highs w threshold = byLimits (fifthsIn lows w) (fifthsIn highs w) threshold
+
+-- a place no nearer to an edge of a map of w by h than the border (RULES 4.3)
+abbrev pub insideBorder : ℕ → ℕ → ℕ → Place → Bool
+insideBorder w h border p = (leb border (p .x) && ltb (p .x + border) w) && (leb border (p .y) && ltb (p .y + border) h)
+
+-- a sure peak is a peak (RULES 4.3) by that reading, inside the border that a ring, a window and a centroid radius make
+unfoldable pub isSure : List ℤ → List ℤ → ℕ → ℕ → ℕ → ℕ → ℕ → ℕ → ℕ → Place → Bool
+isSure lows highs w h ring threshold window least centroid p =
+    insideBorder w h (ring + window + centroid) p && isPeak (sure lows highs w threshold) w h window least p
