@@ -334,6 +334,51 @@ static void known_between(const uint8_t *whole) {
     expect(sure_at(lows, highs, CELLS, 5, 2032, 5, 5, &sure) == ZAKDOMP_DONE && sure == 0, "and not above 2,032");
 }
 
+/* A list of corners in slices of different lengths, and a corner that is shown of it. */
+struct list {
+    size_t count;
+    float x[4], y[3], s[5];
+    uint32_t n[4], change;
+    struct {
+        float x, y, s;
+        uint32_t n, change;
+    } shown;
+};
+
+static uint8_t show(struct list *l, size_t place) {
+    return zakdomp_show_corner(l->x, 4, l->y, 3, l->s, 5, l->n, 4, l->count, l->change, place, &l->shown.x, &l->shown.y, &l->shown.s,
+                               &l->shown.n, &l->shown.change);
+}
+
+static uint8_t strike(struct list *l, size_t place, uint32_t shown) {
+    return zakdomp_strike_corner(l->x, 4, l->y, 3, l->s, 5, l->n, 4, &l->count, &l->change, place, shown);
+}
+
+static void striking(void) {
+    static const struct list left = {2, {1, 3, 0, 7}, {10, 30, 0}, {100, 300, 0, 7, 7}, {4, 6, 0, 7}, 1, {2, 20, 200, 5, 0}};
+    struct list l = {3, {1, 2, 3, 7}, {10, 20, 30}, {100, 200, 300, 7, 7}, {4, 5, 6, 7}, 0, {0, 0, 0, 0, 9}}, before;
+    expect(show(&l, 1) == ZAKDOMP_DONE && l.shown.x == 2 && l.shown.change == 0 && l.count == 3, "the second corner shown");
+    expect(strike(&l, 1, 0) == ZAKDOMP_DONE && memcmp(&l, &left, sizeof l) == 0, "struck: later ones up, zero in the last place, none behind");
+    expect(strike(&l, 1, 0) == ZAKDOMP_CHANGED && strike(&l, 1, 2) == ZAKDOMP_CHANGED, "a number of before, and one to come");
+    expect(strike(&l, 2, 1) == ZAKDOMP_BEYOND, "a place beyond the list");
+    expect(show(&l, 2) == ZAKDOMP_BEYOND && memcmp(&l, &left, sizeof l) == 0, "refused: all as it was");
+    l.n[2] = 8;
+    expect(strike(&l, 0, 1) == 0 && strike(&l, 0, 2) == 0 && l.count == 0 && l.change == 3, "all struck");
+    expect(l.n[0] == 0 && l.n[1] == 0 && l.n[2] == 8 && l.x[3] == 7, "zero in each place that was freed, and in no other");
+    expect(strike(&l, 0, 2) == ZAKDOMP_CHANGED && strike(&l, 0, 3) == ZAKDOMP_BEYOND && show(&l, 0) == ZAKDOMP_BEYOND, "no corner left");
+    l.count = 3;
+    l.change = UINT32_MAX;
+    before = l;
+    expect(strike(&l, 0, UINT32_MAX) == ZAKDOMP_LARGEST, "the largest change number");
+    expect(strike(&l, 9, UINT32_MAX) == ZAKDOMP_BEYOND && strike(&l, 9, 5) == ZAKDOMP_CHANGED, "16, 17 and 18 in their order");
+    expect(memcmp(&l, &before, sizeof l) == 0, "refused: the number does not wrap");
+    expect(show(&l, 0) == ZAKDOMP_DONE && l.shown.change == UINT32_MAX, "shown with any number");
+    l.count = 4;
+    before = l;
+    expect(show(&l, 0) == ZAKDOMP_LIST_SHORT && strike(&l, 9, 5) == ZAKDOMP_LIST_SHORT, "four corners in three places");
+    expect(memcmp(&l, &before, sizeof l) == 0, "refused: the shown corner too as it was");
+}
+
 int main(void) {
     uint8_t img[CELLS];
     whole_case(img);
@@ -345,6 +390,7 @@ int main(void) {
     enough_peaks();
     retouching(img);
     known_between(img);
+    striking();
     streams(img);
     writing(img);
     holdings();

@@ -41,6 +41,9 @@ enum {
     ZAKDOMP_MAXVAL = 13,      /* the maxval of a photograph is not 255 */
     ZAKDOMP_OUTSIDE = 14,     /* the place is outside the image */
     ZAKDOMP_CROSSED = 15,     /* a pixel's low value is above its high one */
+    ZAKDOMP_CHANGED = 16,     /* the change number differs from the list's */
+    ZAKDOMP_BEYOND = 17,      /* the place is beyond the list */
+    ZAKDOMP_LARGEST = 18,     /* the list's change number is the largest, 2^32 - 1 */
     ZAKDOMP_STREAM_SHORT = 19, /* the stream buffer is too short */
     ZAKDOMP_LATE = 20         /* a start or a time is above 2^40 */
 };
@@ -167,6 +170,27 @@ uint8_t zakdomp_centroid(const float *map, size_t map_length, size_t w, size_t h
  * Refusals: 4, 5, 10. */
 uint8_t zakdomp_merge(float *xs, size_t xs_length, float *ys, size_t ys_length, float *strengths, size_t strengths_length,
                       uint32_t *neighbours, size_t neighbours_length, size_t count, float radius, size_t *kept);
+
+/* Shows a corner of a list, so that it can be struck. The list is the first `count` corners of a buffer of four slices, columns, rows, strengths
+ * and neighbours, and has a change number, which its owner keeps with its count: 0 for a new list, and raised by each strike and by nothing else.
+ *   change           the list's change number, which may be any
+ *   place            counts from 0
+ *   x, y, strength, neighbour_count  the corner
+ *   shown            the list's change number
+ * Refusals: 10, 17. */
+uint8_t zakdomp_show_corner(const float *xs, size_t xs_length, const float *ys, size_t ys_length, const float *strengths,
+                            size_t strengths_length, const uint32_t *neighbours, size_t neighbours_length, size_t count, uint32_t change,
+                            size_t place, float *x, float *y, float *strength, uint32_t *neighbour_count, uint32_t *shown);
+
+/* Strikes the corner at a place of a list, named with the change number with which it was shown. In each slice the later corners move up, the freed
+ * last place becomes 0, and what is behind it stays. Where nothing but calls of this function came between, refused or not, a call that is not
+ * refused removes the very corner that was shown for that place and number.
+ *   count   the number of corners; one less afterwards
+ *   change  the list's change number; one more afterwards
+ *   shown   the change number that was shown
+ * Refusals: 10, 16 where a corner was struck in between, 17, 18. */
+uint8_t zakdomp_strike_corner(float *xs, size_t xs_length, float *ys, size_t ys_length, float *strengths, size_t strengths_length,
+                              uint32_t *neighbours, size_t neighbours_length, size_t *count, uint32_t *change, size_t place, uint32_t shown);
 
 /* How many bytes the level buffer of an image of w by h pixels needs. */
 size_t zakdomp_level_bytes(size_t w, size_t h, uint32_t level_count, size_t minimum);

@@ -9,6 +9,7 @@
     has_peaks(cells, width, height, wanted)            ->  Enough(enough, rows): whether a map has so many peaks
     response_limits(low, high, width, height)          ->  ResponseLimits(lows, highs): what each response can be, in fifths
     sure_peak(lows, highs, width, height, x, y)        ->  whether a place is a peak of every image between the limits
+    EditedList(corners)                                ->  a list from which corners are struck: `show(place)`, then `strike(place, change)`
     write_stream(pixels, width, height, threshold=30)  ->  the bytes that the program `corners` reads
     holding(kind, start, time), holdings(stream)       ->  "N" not yet, "H" held or "G" gone, for an item and for each of a stream
 
@@ -43,6 +44,9 @@ REFUSALS = {
     13: "the maxval of the photograph is not 255",
     14: "the place is outside the image",
     15: "a pixel's low value is above its high one",
+    16: "the change number differs from the list's",
+    17: "the place is beyond the list",
+    18: "the list's change number is the largest there is",
     19: "the stream buffer is too short",
     20: "a start or a time is above 2^40",
 }
@@ -66,6 +70,12 @@ class Corner(NamedTuple):
     y: float
     strength: float
     neighbours: int
+
+
+class Shown(NamedTuple):
+    """A corner of an edited list, and the list's change number, by which it can be struck."""
+    corner: Corner
+    change: int
 
 
 class Frame(NamedTuple):
@@ -131,11 +141,13 @@ def _load():
     library.zakdomp_sure_peak.argtypes = 2 * piece + [size, size] + 5 * [u32] + [size, size, ctypes.POINTER(u8)]
     library.zakdomp_level_bytes.argtypes = [size, size, u32, size]
     library.zakdomp_has_peaks.argtypes = piece + [size, size] + numbers[:5] + [size, ctypes.POINTER(u8), out]
+    library.zakdomp_show_corner.argtypes = 4 * piece + [size, u32, size] + 3 * [ctypes.POINTER(f32)] + 2 * [ctypes.POINTER(u32)]
+    library.zakdomp_strike_corner.argtypes = 4 * piece + [out, ctypes.POINTER(u32), size, u32]
     library.zakdomp_write_stream.argtypes = piece + [size, size] + 7 * [u32] + [size, u32] + piece + [out]
     library.zakdomp_holding.argtypes = [u8, u64, u64, ctypes.POINTER(u8)]
     library.zakdomp_holdings.argtypes = piece + [ctypes.c_void_p]
-    for function in ("find_corners", "find_corners_pgm", "pgm", "response", "has_peaks", "retouch", "response_limits", "sure_peak", "write_stream",
-                     "holding"):
+    for function in ("find_corners", "find_corners_pgm", "pgm", "response", "has_peaks", "retouch", "response_limits", "sure_peak",
+                     "show_corner", "strike_corner", "write_stream", "holding"):
         getattr(library, "zakdomp_" + function).restype = u8
     library.zakdomp_level_bytes.restype = library.zakdomp_holdings.restype = size
     return library
@@ -339,6 +351,54 @@ def has_peaks(cells, width, height, wanted, *, ring=5, threshold=0.0, window=2, 
     if number:
         raise Refusal(number)
     return Enough(enough.value == 1, rows.value)
+
+
+class EditedList:
+    """A list of corners from which false ones are struck in two steps: a corner is shown, and then struck by its place and the change number that
+    was shown with it. Each strike raises that number, and nothing else does: a strike that was not refused has removed the very corner shown. A
+    list that was put away goes on with its change number."""
+
+    def __init__(self, corners, change=0):
+        corners = list(corners)
+        self._count, self._change = ctypes.c_size_t(len(corners)), ctypes.c_uint32(_whole("change", change, 32))
+        kinds = (ctypes.c_float, ctypes.c_float, ctypes.c_float, ctypes.c_uint32)
+        self._lists = [(kind * max(len(corners), 1))() for kind in kinds]
+        for i, corner in enumerate(corners):
+            _whole("neighbours", corner.neighbours, 32)
+            for values, value in zip(self._lists, corner):
+                values[i] = value
+        self._pieces = [word for values in self._lists for word in (ctypes.addressof(values), len(corners))]
+
+    def __len__(self):
+        return self._count.value
+
+    @property
+    def change(self):
+        """The list's change number."""
+        return self._change.value
+
+    @property
+    def corners(self):
+        """The corners that are left, in their order."""
+        return [Corner(*fields) for fields in zip(*(values[:len(self)] for values in self._lists))]
+
+    def show(self, place):
+        """The corner at a place, which counts from 0, and the list's change number."""
+        _whole("place", place, 64)
+        fields = [ctypes.c_float(0), ctypes.c_float(0), ctypes.c_float(0), ctypes.c_uint32(0), ctypes.c_uint32(0)]
+        number = _library.zakdomp_show_corner(*self._pieces, self._count, self._change, place, *map(ctypes.byref, fields))
+        if number:
+            raise Refusal(number)
+        *corner, change = (field.value for field in fields)
+        return Shown(Corner(*corner), change)
+
+    def strike(self, place, change):
+        """Strikes the corner at a place, if `change` is the list's change number: later corners move up. A refusal leaves the list as it was."""
+        _whole("place", place, 64)
+        _whole("change", change, 32)
+        number = _library.zakdomp_strike_corner(*self._pieces, ctypes.byref(self._count), ctypes.byref(self._change), place, change)
+        if number:
+            raise Refusal(number)
 
 
 def write_stream(pixels, width, height, *, ring=5, threshold=0.0, window=2, least_neighbours=2, centroid_radius=2, merge_radius=3.0, levels=1,

@@ -1,6 +1,7 @@
 //! The corners of a chessboard in a grey image.
 //!
 //! A [`Finder`] owns the buffers that the library works in and uses them again. What the library refuses comes back as a [`Refusal`].
+mod editing;
 mod library;
 mod limits;
 pub mod raw;
@@ -8,6 +9,7 @@ mod refusal;
 mod retention;
 mod stream;
 
+pub use editing::{EditedList, Shown};
 pub use limits::{response_limits, sure_peak, ResponseLimits};
 pub use refusal::Refusal;
 pub use retention::{holding, holdings, Holding};

@@ -1,10 +1,11 @@
 //! The functions of libzakdomp.a that this crate calls, over slices.
+use crate::editing::EditedList;
 use crate::raw::{
     zakdomp_find_corners, zakdomp_find_corners_pgm, zakdomp_has_peaks, zakdomp_holding, zakdomp_holdings,
     zakdomp_level_bytes, zakdomp_pgm, zakdomp_response, zakdomp_response_limits, zakdomp_retouch,
-    zakdomp_sure_peak, zakdomp_write_stream, HOLDINGS,
+    zakdomp_show_corner, zakdomp_strike_corner, zakdomp_sure_peak, zakdomp_write_stream, HOLDINGS,
 };
-use crate::{Lists, Params, Refusal};
+use crate::{Corner, Lists, Params, Refusal};
 use std::ops::Range;
 
 /// The results, unless the number is one of a refusal.
@@ -144,6 +145,34 @@ pub(crate) fn has_peaks(map: &[f32], width: usize, height: usize, p: &Params, wa
         )
     };
     unless_refused(number, (enough == 1, rows))
+}
+
+/// The corner at a place of a list, and the list's change number.
+#[rustfmt::skip]
+pub(crate) fn show_corner(list: &EditedList, place: usize) -> Result<(Corner, u32), Refusal> {
+    let EditedList { xs, ys, strengths, neighbours, count, change } = list;
+    let (mut corner, mut shown) = (Corner { x: 0.0, y: 0.0, strength: 0.0, neighbours: 0 }, 0);
+    // SAFETY: every slice is whole, and the results are the function's own.
+    let number = unsafe {
+        zakdomp_show_corner(
+            xs.as_ptr(), xs.len(), ys.as_ptr(), ys.len(), strengths.as_ptr(), strengths.len(), neighbours.as_ptr(), neighbours.len(),
+            *count, *change, place, &mut corner.x, &mut corner.y, &mut corner.strength, &mut corner.neighbours, &mut shown,
+        )
+    };
+    unless_refused(number, (corner, shown))
+}
+
+#[rustfmt::skip]
+pub(crate) fn strike_corner(list: &mut EditedList, place: usize, shown: u32) -> Result<(), Refusal> {
+    let EditedList { xs, ys, strengths, neighbours, count, change } = list;
+    // SAFETY: as above.
+    let number = unsafe {
+        zakdomp_strike_corner(
+            xs.as_mut_ptr(), xs.len(), ys.as_mut_ptr(), ys.len(), strengths.as_mut_ptr(), strengths.len(),
+            neighbours.as_mut_ptr(), neighbours.len(), count, change, place, shown,
+        )
+    };
+    unless_refused(number, ())
 }
 
 #[rustfmt::skip]

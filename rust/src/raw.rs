@@ -61,6 +61,15 @@ extern "C" {
         xs: *mut f32, xs_length: usize, ys: *mut f32, ys_length: usize, strengths: *mut f32, strengths_length: usize,
         neighbours: *mut u32, neighbours_length: usize, count: usize, radius: f32, kept: *mut usize,
     ) -> u8;
+    pub fn zakdomp_show_corner(
+        xs: *const f32, xs_length: usize, ys: *const f32, ys_length: usize, strengths: *const f32, strengths_length: usize,
+        neighbours: *const u32, neighbours_length: usize, count: usize, change: u32, place: usize,
+        x: *mut f32, y: *mut f32, strength: *mut f32, neighbour_count: *mut u32, shown: *mut u32,
+    ) -> u8;
+    pub fn zakdomp_strike_corner(
+        xs: *mut f32, xs_length: usize, ys: *mut f32, ys_length: usize, strengths: *mut f32, strengths_length: usize,
+        neighbours: *mut u32, neighbours_length: usize, count: *mut usize, change: *mut u32, place: usize, shown: u32,
+    ) -> u8;
     pub fn zakdomp_level_bytes(w: usize, h: usize, level_count: u32, minimum: usize) -> usize;
     pub fn zakdomp_levels(
         img: *const u8, img_length: usize, w: usize, h: usize, level_count: u32, minimum: usize,

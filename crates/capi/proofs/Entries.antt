@@ -9,8 +9,8 @@ use Rattle.frame.specs.Frame as frame
 use Rattle.pgm.specs.Header.{widthOf, heightOf}
 use Rattle.pgm.specs.Pgm as pgm
 use Rattle.pgm_frame.specs.PgmFrame as photograph
-use Rattle.capi_stages.specs.Results.{resultOr}
-use Rattle.capi_stages.proofs.Answers.{answer, result}
+use Rattle.lists.specs.Refusals.{resultOr}
+use Rattle.lists.proofs.Answers.{answer, result}
 use Rattle.capi.specs.Finding.{cornersFound, tiesFound, cornersOn, tiesOn, countOf, tiesOf, CornersFound, PhotographCorners}
 
 -- an answer by its number, with n corners and t ties: it is that of the number r that is returned, and so are the count and the ties

@@ -14,7 +14,7 @@ use Rattle.frame.specs.Frame.{Buffers, answerOf, FrameFound}
 use Rattle.pgm.specs.Header.{widthOf, heightOf}
 use Rattle.pgm.specs.Pgm.{pixelsIn}
 use Rattle.pgm_frame.specs.PgmFrame.{PhotographFound}
-use Rattle.capi_stages.specs.Results.{resultOr}
+use Rattle.lists.specs.Refusals.{resultOr}
 
 -- the parameters, in the order in which they are given
 abbrev pub params : ℕ → Float → ℕ → ℕ → ℕ → Float → ℕ → ℕ → ℕ → FrameParams

@@ -6,7 +6,7 @@ use mathlib.Core.List.{List}
 use lib.ListN.{length}
 use lib.IntN.{ℤ}
 use Rattle.lists.specs.Places.{Place}
-use Rattle.lists.specs.Refusals.{unless}
+use Rattle.lists.specs.Refusals.{unless, resultOr}
 use Rattle.response_limits.specs.declared.Limits.{Limits}
 use Rattle.response_limits.specs.declared.Limits.the-variants as written
 use Rattle.response_limits.specs.Promise as limits
@@ -14,8 +14,7 @@ use Rattle.sure_peak.specs.declared.Sure.{Sure}
 use Rattle.sure_peak.specs.declared.Sure.the-variants.{Refused}
 use Rattle.sure_peak.specs.SurePeak.{isSure}
 use Rattle.sure_peak.specs.Promise as sure_peak
-use Rattle.capi_stages.specs.Results.{resultOr}
-use Rattle.capi_stages.proofs.Answers.{answer, result}
+use Rattle.lists.proofs.Answers.{answer, result}
 use Rattle.capi_limits.specs.Limits.{LimitsTold, sureOr, SureTold}
 
 -- ---- the limits

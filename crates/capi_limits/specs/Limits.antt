@@ -5,14 +5,13 @@ use mathlib.Core.Bool.{cond}
 use mathlib.Core.List.{List}
 use lib.IntN.{ℤ}
 use Rattle.lists.specs.Places.{Place}
-use Rattle.lists.specs.Refusals.{unless}
+use Rattle.lists.specs.Refusals.{unless, resultOr}
 use Rattle.response_limits.specs.declared.Limits.the-variants as limits
 use Rattle.response_limits.specs.Promise.{LimitsWritten}
 use Rattle.sure_peak.specs.declared.Sure.{Sure}
 use Rattle.sure_peak.specs.declared.Sure.the-variants.{Yes, No, Refused}
 use Rattle.sure_peak.specs.SurePeak.{isSure}
 use Rattle.sure_peak.specs.Promise as sure_peak
-use Rattle.capi_stages.specs.Results.{resultOr}
 
 -- the number r that is returned is that of the answer, and the buffers are those of the answer
 pub record LimitsTold (low high : List ℕ) (w h ring : ℕ) (lows highs : List ℤ) (r : ℕ) (lows′ highs′ : List ℤ) : Type 0 where

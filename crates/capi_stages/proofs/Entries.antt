@@ -6,7 +6,7 @@ use mathlib.Core.List.{List}
 use lib.ListN.{length}
 use lib.Dec.{leb}
 use lib.Ieee.{Float}
-use Rattle.lists.specs.Refusals.{lowest, unless}
+use Rattle.lists.specs.Refusals.{lowest, unless, resultOr}
 use Rattle.corner_list.specs.CornerList.{Slices, placesOf, cornersOf}
 use Rattle.corner_list.specs.declared.Corner.{Corner}
 use Rattle.response.specs.declared.Patch.{Patch}
@@ -28,13 +28,12 @@ use Rattle.center_of_mass.specs.CenterOfMass as center_of_mass
 use Rattle.center_of_mass.specs.Promise.{Refined}
 use Rattle.capi_stages.specs.declared.centroid.Seed.{Seed}
 use Rattle.capi_stages.specs.Centroid.{three, located, Located}
-use Rattle.capi_stages.specs.Results.{resultOr}
 use Rattle.capi_stages.specs.Patch.{widthOf, heightOf, Responded}
 use Rattle.capi_stages.specs.Peaks.{addedOf, tiesOf, PeaksFound}
 use Rattle.capi_stages.specs.Enough as counting
 use Rattle.capi_stages.specs.Merging as merging
 use Rattle.capi_stages.specs.Levels.{builtOf, LevelsBuilt}
-use Rattle.capi_stages.proofs.Answers.{answer, result}
+use Rattle.lists.proofs.Answers.{answer, result}
 
 -- ---- the response of a box
 module _ (v : response.View) (radius : ℕ) (map : List Float) (width height : ℕ) (a : Patch) (r : ℕ) (map′ : List Float) (width′ height′ : ℕ) where

@@ -6,13 +6,12 @@ use mathlib.Core.List.{List}
 use lib.ListN.{length}
 use lib.Dec.{leb}
 use lib.Ieee.{Float}
-use Rattle.lists.specs.Refusals.{unless}
+use Rattle.lists.specs.Refusals.{unless, resultOr}
 use Rattle.detect.specs.declared.Search.{Search}
 use Rattle.detect.specs.declared.enough.Enough.{Enough}
 use Rattle.detect.specs.declared.enough.Enough.the-variants.{Yes, No, Refused}
 use Rattle.detect.specs.Detect.{peaksIn}
 use Rattle.detect.specs.Enough.{rowsFor, enoughOf, EnoughFound}
-use Rattle.capi_stages.specs.Results.{resultOr}
 
 -- whether an answer is yes, as 1 or 0, and its rows, or what was there before
 abbrev pub yesOf : Enough → ℕ → ℕ

@@ -6,7 +6,7 @@ use Rattle.pyramid.specs.declared.Pyramid.{Pyramid}
 use Rattle.pyramid.specs.declared.Pyramid.the-variants.{Levels, Refused}
 use Rattle.pyramid_levels.specs.Levels.{levelCount}
 use Rattle.pyramid.specs.Build.{answerOf, Built}
-use Rattle.capi_stages.specs.Results.{resultOr}
+use Rattle.lists.specs.Refusals.{resultOr}
 
 -- the levels that an answer counts, or what was there before
 abbrev pub builtOf : Pyramid → ℕ → ℕ

@@ -1,4 +1,3 @@
-pub mod Results
 pub mod Patch
 pub mod Peaks
 pub mod Enough

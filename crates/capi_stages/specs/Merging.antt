@@ -7,7 +7,7 @@ use Rattle.corner_list.specs.CornerList.{Slices, cornersOf, placesOf}
 use Rattle.merge.specs.declared.Merged.{Merged}
 use Rattle.merge.specs.declared.Merged.the-variants.{Kept, Refused}
 use Rattle.merge.specs.Merge.{answerOf, resultOf, Merges}
-use Rattle.capi_stages.specs.Results.{resultOr}
+use Rattle.lists.specs.Refusals.{resultOr}
 
 -- the corners that an answer counts, or what was there before
 abbrev pub keptOf : Merged → ℕ → ℕ

@@ -6,7 +6,7 @@ use lib.Ieee.{Float}
 use Rattle.response.specs.declared.Patch.{Patch}
 use Rattle.response.specs.declared.Patch.the-variants.{Cells, Refused}
 use Rattle.response.specs.Patch.{View, mapWidth, mapHeight, answerOf, Patched}
-use Rattle.capi_stages.specs.Results.{resultOr}
+use Rattle.lists.specs.Refusals.{resultOr}
 
 -- the sides of an answer's map, or what was there before
 abbrev pub widthOf : Patch → ℕ → ℕ

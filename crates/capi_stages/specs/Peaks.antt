@@ -9,7 +9,7 @@ use Rattle.corner_list.specs.declared.Corner.{Corner}
 use Rattle.detect.specs.declared.Peaks.{Peaks}
 use Rattle.detect.specs.declared.Peaks.the-variants.{Added, Refused}
 use Rattle.detect.specs.Detect.{answerOf, PeaksAdded}
-use Rattle.capi_stages.specs.Results.{resultOr}
+use Rattle.lists.specs.Refusals.{resultOr}
 
 -- the peaks that an answer counts, or what was there before
 abbrev pub addedOf : Peaks → ℕ → ℕ

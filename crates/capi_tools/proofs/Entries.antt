@@ -22,8 +22,8 @@ use Rattle.retention.proofs.Items.{stated}
 use Rattle.retouch.specs.declared.Retouched.{Retouched}
 use Rattle.retouch.specs.Retouch.{touchedCount}
 use Rattle.retouch.specs.Promise as retouch
-use Rattle.capi_stages.specs.Results.{resultOr}
-use Rattle.capi_stages.proofs.Answers.{answer, result}
+use Rattle.lists.specs.Refusals.{resultOr}
+use Rattle.lists.proofs.Answers.{answer, result}
 use Rattle.pgm.specs.declared.PgmImage.{PgmImage}
 use Rattle.pgm.specs.Header.{widthOf, heightOf, rasterAt}
 use Rattle.pgm.specs.Pgm as pgm

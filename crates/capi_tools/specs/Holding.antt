@@ -5,7 +5,7 @@ use Rattle.retention.specs.declared.Holding.{Holding}
 use Rattle.retention.specs.declared.Holding.the-variants.{NotYet, Held, Gone, Refused}
 use Rattle.retention.specs.Retention.{stateOf, answerBy, letterOf}
 use Rattle.retention.specs.Answer.{Told}
-use Rattle.capi_stages.specs.Results.{resultOr}
+use Rattle.lists.specs.Refusals.{resultOr}
 
 -- the letter of an answer, or what was there before
 abbrev pub letterOr : Holding → ℕ → ℕ

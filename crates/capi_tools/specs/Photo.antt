@@ -6,7 +6,7 @@ use Rattle.pgm.specs.declared.PgmImage.{PgmImage}
 use Rattle.pgm.specs.declared.PgmImage.the-variants.{Pixels, Refused}
 use Rattle.pgm.specs.Header.{widthOf, heightOf, rasterAt}
 use Rattle.pgm.specs.Pgm.{answerBy, PgmRead}
-use Rattle.capi_stages.specs.Results.{resultOr}
+use Rattle.lists.specs.Refusals.{resultOr}
 
 -- an answer's values, or what was there before
 abbrev pub placeOr : PgmImage → ℕ → ℕ

@@ -9,7 +9,7 @@ use Rattle.retouch.specs.declared.Retouched.{Retouched}
 use Rattle.retouch.specs.declared.Retouched.the-variants.{Redone, Refused}
 use Rattle.retouch.specs.Retouch.{touchedCount}
 use Rattle.retouch.specs.Promise.{answerOf, Retouches}
-use Rattle.capi_stages.specs.Results.{resultOr}
+use Rattle.lists.specs.Refusals.{resultOr}
 
 -- the cells that an answer counts, or what was there before
 abbrev pub redoneOf : Retouched → ℕ → ℕ

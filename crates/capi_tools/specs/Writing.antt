@@ -8,7 +8,7 @@ use Rattle.stream.specs.RoundTrip.{frameBytes}
 use Rattle.frame_writer.specs.declared.FrameWriting.{FrameWriting}
 use Rattle.frame_writer.specs.declared.FrameWriting.the-variants.{Written, Refused}
 use Rattle.frame_writer.specs.FrameWriter.{answerOf, FrameWritten}
-use Rattle.capi_stages.specs.Results.{resultOr}
+use Rattle.lists.specs.Refusals.{resultOr}
 
 -- sides and parameters in the order of the arguments
 abbrev pub header : ℕ → ℕ → ℕ → ℕ → ℕ → ℕ → ℕ → ℕ → ℕ → ℕ → ℕ → Header

@@ -1,8 +1,8 @@
 -- A list of corners in a buffer of four slices, the shortest counting (RULES 1.5, 1.6).
-use Prim.Native.Nat.{ℕ, min}
+use Prim.Native.Nat.{ℕ, suc, min}
 use mathlib.Core.Bool.{Bool, false, _&&_, cond}
-use mathlib.Core.List.{List, map}
-use lib.ListN.{length, getD, set}
+use mathlib.Core.List.{List, [], _∷_, _++_, map}
+use lib.ListN.{length, getD, set, take, drop}
 use lib.Dec.{ltb}
 use lib.IntN.{pos}
 use lib.Ieee.{Float, nan, fin}
@@ -76,3 +76,16 @@ abbrev pub placedCorners : ℕ → List Corner → Slices → Slices
 placedCorners held cs b =
     slices (placed held (map xOf cs) (b .xs)) (placed held (map yOf cs) (b .ys)) (placed held (map strengthOf cs) (b .strengths))
     (placed held (map neighboursOf cs) (b .neighbours))
+
+-- a list without the member at a place: those behind it move up
+abbrev pub without : {A : Type 0} → ℕ → List A → List A
+without place l = take place l ++ drop (suc place) l
+
+-- no corner: 0 in every field
+abbrev pub noCorner : Corner
+noCorner = record { x = zero; y = zero; strength = zero; neighbours = 0 }
+
+-- the first n corners without the one at a place; the last of their places, which is freed, becomes 0 in every slice, and the buffer behind it is
+-- as it was
+unfoldable pub withoutCorner : ℕ → ℕ → Slices → Slices
+withoutCorner place n b = frontCorners (without place (cornersOf b n) ++ (noCorner ∷ [])) b

@@ -11,6 +11,7 @@ use Rattle.demands.proofs.PeaksAlike.{peaks-alike}
 use Rattle.demands.proofs.Units.{units-nearest}
 use Rattle.demands.proofs.RingPass.{ring-one-pass}
 use Rattle.demands.proofs.Enough.{enough-is-counting, looks-no-further}
+use Rattle.demands.proofs.Strike.{raised-by-strikes-only, shown-is-struck}
 use Rattle.demands.proofs.Writing.{read-back, written-back}
 use Rattle.demands.proofs.Retention.{held-when, retained-total, retained-reads}
 use Rattle.demands.proofs.Retouch.{only-touched, at-most-21, fresh-again, moves-little}
@@ -63,6 +64,8 @@ demands = record {
   limits-contain = limits-contain;
   limits-exact = limits-exact;
   sure-peak-exact = sure-peak-exact;
+  raised-by-strikes-only = raised-by-strikes-only;
+  shown-is-struck = shown-is-struck;
   read-back = read-back;
   written-back = written-back;
   held-when = held-when;

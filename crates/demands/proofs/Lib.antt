@@ -20,6 +20,7 @@ pub mod Tolerance
 pub mod Retention
 pub mod PlainHeader
 pub mod Photographs
+pub mod Strike
 pub mod Writing
 pub mod Retouch
 pub mod Limits

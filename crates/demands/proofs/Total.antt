@@ -25,7 +25,7 @@ use Rattle.pyramid_levels.specs.Refusals.{Ask, ask, isAbsent, isShort, buildRef
 use Rattle.pyramid.specs.Build as build
 use Rattle.pyramid_levels.specs.Level as lookup
 use Rattle.corner_list.specs.declared.Corner.{Corner}
-use Rattle.corner_list.specs.CornerList.{Slices, placesOf, cornersOf}
+use Rattle.corner_list.specs.CornerList.{Slices, placesOf, cornerAt, cornersOf}
 use Rattle.detect.specs.declared.Peaks.{Peaks}
 use Rattle.detect.specs.declared.Peaks.the-variants as peaks
 use Rattle.detect.specs.Detect as detect
@@ -50,6 +50,14 @@ use Rattle.merge.specs.declared.Merged.{Merged}
 use Rattle.merge.specs.declared.Merged.the-variants as merged
 use Rattle.merge.specs.Merge as merge
 use Rattle.merge_slice.specs.MergeSlice.{sharedPlaces, refusalFor}
+use Rattle.corner_strike.specs.declared.Edition.{Edition}
+use Rattle.corner_strike.specs.declared.showing.Shown.{Shown}
+use Rattle.corner_strike.specs.declared.showing.Shown.the-variants as shown
+use Rattle.corner_strike.specs.Showing as showing
+use Rattle.corner_strike.specs.declared.striking.Strike.{Strike}
+use Rattle.corner_strike.specs.declared.striking.Strike.the-variants as struck
+use Rattle.corner_strike.specs.Striking as striking
+use Rattle.corner_strike.specs.Editions.{raised}
 use Rattle.patch_corners.specs.declared.FrameParams.{FrameParams}
 use Rattle.patch_corners.specs.OneMap.{computedChoice}
 use Rattle.patch_corners.specs.PatchCorners.{conditionsOf, BoxAdded}
@@ -190,6 +198,21 @@ unfolding refusalFor
 slice-refuses radius count cs b n r f =
     merge-numbers (not (isOff radius) && any isOutside (take count cs)) (radiusOutside radius) (ltb (sharedPlaces cs b) count) n r f
 
+show-refuses : (b : Slices) (e : Edition) (place : ℕ) (r : Shown) → showing.Shows b e place r → Refuses shown.Refused (10 ∷ 17 ∷ []) r
+unfolding showing.refusalOf
+show-refuses b e place r f =
+    refused-one shown.Refused (λ n. unless shown.Refused n (shown.Found (cornerAt b place) (e .change)))
+    (λ k q. let some = ap (λ (a : Shown). length (showing.valuesOf a)) q in omega arith) (λ n k q. sym (ap showing.numberOf q))
+    (showing.conditions (placesOf b) e place) r (f .answer)
+
+strike-refuses : (b b′ : Slices) (e : Edition) (place change : ℕ) (r : Strike) → striking.Strikes b e place change r b′
+    → Refuses struck.Refused (10 ∷ 16 ∷ 17 ∷ 18 ∷ []) r
+unfolding striking.refusalOf
+strike-refuses b b′ e place change r f =
+    refused-one struck.Refused (λ n. unless struck.Refused n (struck.Struck (raised e)))
+    (λ k q. let some = ap (λ (a : Strike). length (striking.valuesOf a)) q in omega arith) (λ n k q. sym (ap striking.numberOf q))
+    (striking.conditions (placesOf b) e place change) r (f .answer)
+
 frame-refuses : (p : FrameParams) (img : List ℕ) (w h : ℕ) (b b′ : frame.Buffers) (r : FrameAnswer) → frame.FrameFound p img w h b r b′
     → Refuses answer.Refused (1 ∷ 2 ∷ 3 ∷ 5 ∷ 8 ∷ 9 ∷ 10 ∷ []) r
 unfolding frame.frameOf frame.refusalOf conditions
@@ -312,6 +335,8 @@ total = record {
   «merge_corners_simple» = λ radius count b b′ r f. merge-refuses radius (placesOf b) count b _ r (f .answer);
   «merge_within» = λ radius places count b b′ r f. merge-refuses radius (min places (placesOf b)) count b _ r (f .answer);
   «merge_corner_slice» = λ radius count cs cs′ b b′ r f. slice-refuses radius count cs b _ r (f .answer);
+  «show_corner» = show-refuses;
+  «strike_corner» = strike-refuses;
   «find_corners» = frame-refuses;
   «read_pgm» = pgm-refuses;
   «find_pgm_corners» = photograph-refuses;

@@ -11,6 +11,7 @@ use Rattle.demands.specs.PeaksAlike.{PeaksAlike}
 use Rattle.demands.specs.Units.{UnitsNearest}
 use Rattle.demands.specs.RingPass.{RingOnePass}
 use Rattle.demands.specs.Enough.{EnoughIsCounting, LooksNoFurther}
+use Rattle.demands.specs.Strike.{RaisedByStrikesOnly, ShownIsStruck}
 use Rattle.demands.specs.Writing.{ReadBack, WrittenBack}
 use Rattle.demands.specs.Retention.{HeldWhen, RetainedTotal, RetainedReads}
 use Rattle.demands.specs.Retouch.{OnlyTouched, AtMost21, Fresh, MovesLittle}
@@ -113,6 +114,11 @@ pub record Demands : Type 0 where
   pub limits-exact : LimitsExact
   -- "With maps so made for the ring given it is then a peak by exact values of every such image"
   pub sure-peak-exact : SurePeakExact
+  -- ---- Request 10: strike a corner in two steps
+  -- "The list has a change number from 0, raised by each strike and by nothing else."
+  pub raised-by-strikes-only : RaisedByStrikesOnly
+  -- "a confirming not refused removes the very corner shown for that place and number"
+  pub shown-is-struck : ShownIsStruck
   -- ---- Request 11: write the frame stream
   -- "The reader returns the same values, float bits included"
   pub read-back : ReadBack

@@ -19,6 +19,7 @@ pub mod Tolerance
 pub mod Retention
 pub mod Texts
 pub mod Photographs
+pub mod Strike
 pub mod Writing
 pub mod Retouch
 pub mod Limits

@@ -2,14 +2,16 @@
 -- numbered refusals. The conditions of each number are fixed", and so is what every buffer holds afterwards.
 -- Every call of a public function ends, and asks nothing of its caller; its promise has the answer and every buffer afterwards by equations.
 -- Here stand the promises of the functions that refuse, word for word, and the numbers that each can give: 0, which the definitions use for
--- "none", is no refusal's. A request's new number counts with the eleven: 12 and 13 of request 1, 14 of request 8, 15 of request 9, 19 of
--- request 11, 20 of request 13. Which condition has which number, in their order, is in the tables that the promises name. No other public
+-- "none", is no refusal's. A request's new number counts with the eleven: 12 and 13 of request 1, 14 of request 8, 15 of request 9, 16, 17 and
+-- 18 of request 10, 19 of request 11, 20 of request 13. Which condition has which number, lowest first, is in the tables that the promises name. No
+-- other public function refuses, and each of these promises one equation over its arguments:
 -- function refuses, and each of these promises one equation over its arguments:
 --   numbers         lesser, greater, minus
 --   image_size      is_large, refusal (the number alone)
 --   ring            ring_offsets, is_ring
 --   float32         abs, is_finite, lifted, is_between, from_bits, to_bits, cut_off, round_half_away (with its number, 0, and its values)
 --   corner_list     is_inside, corner_at, put_corner, places
+--   corner_strike   new (of `Edition`)
 --   detect          refusal (the number alone)
 --   pyramid_levels  level_count, cells_before, cells_above, build_refusal and level_refusal (the number alone)
 --   pyramid         level (nothing where `level_at` refuses)
@@ -21,7 +23,7 @@
 --   listing         write_refusal (one for its answer, one for its buffer)
 --   retention       list_holdings (likewise), wanted (one for each number of its answer)
 --   finder          find (likewise)
--- The functions of `capi`, `capi_stages`, `capi_tools` and `capi_limits`, for C, hand on these promises and return the number.
+-- The functions of `capi`, `capi_stages`, `capi_lists`, `capi_tools` and `capi_limits`, for C, hand on these promises and return the number.
 use Prim.Native.Nat.{ℕ, min}
 use mathlib.Core.Path.{_≡_}
 use mathlib.Core.Bool.{Bool}
@@ -57,6 +59,13 @@ use Rattle.merge.specs.declared.Merged.{Merged}
 use Rattle.merge.specs.declared.Merged.the-variants as merge
 use Rattle.merge.specs.Merge.{Merges}
 use Rattle.merge_slice.specs.MergeSlice.{MergesSlice}
+use Rattle.corner_strike.specs.declared.Edition.{Edition}
+use Rattle.corner_strike.specs.declared.showing.Shown.{Shown}
+use Rattle.corner_strike.specs.declared.showing.Shown.the-variants as showing
+use Rattle.corner_strike.specs.Showing.{Shows}
+use Rattle.corner_strike.specs.declared.striking.Strike.{Strike}
+use Rattle.corner_strike.specs.declared.striking.Strike.the-variants as striking
+use Rattle.corner_strike.specs.Striking.{Strikes}
 use Rattle.patch_corners.specs.declared.FrameParams.{FrameParams}
 use Rattle.patch_corners.specs.PatchCorners.{AddedCorners}
 use Rattle.patch_corners.specs.BoxCorners.{AddedBox}
@@ -128,6 +137,10 @@ pub record Total : Type 0 where
       → Refuses merge.Refused (4 ∷ 5 ∷ 10 ∷ []) r
   pub «merge_corner_slice» : (radius : Float) (count : ℕ) (cs cs′ : List Corner) (b b′ : Slices) (r : Merged) → MergesSlice radius count cs b r cs′ b′
       → Refuses merge.Refused (4 ∷ 5 ∷ 10 ∷ []) r
+  pub «show_corner» : (b : Slices) (e : Edition) (place : ℕ) (r : Shown) → Shows b e place r
+      → Refuses showing.Refused (10 ∷ 17 ∷ []) r
+  pub «strike_corner» : (b b′ : Slices) (e : Edition) (place change : ℕ) (r : Strike) → Strikes b e place change r b′
+      → Refuses striking.Refused (10 ∷ 16 ∷ 17 ∷ 18 ∷ []) r
   pub «find_corners» : (p : FrameParams) (img : List ℕ) (w h : ℕ) (b b′ : Buffers) (r : FrameAnswer) → FrameFound p img w h b r b′
       → Refuses frame.Refused (1 ∷ 2 ∷ 3 ∷ 5 ∷ 8 ∷ 9 ∷ 10 ∷ []) r
   pub «read_pgm» : (upload : List ℕ) (r : PgmImage) → PgmRead upload r

@@ -20,6 +20,11 @@ abbrev pub unless : {A : Type 0} → (ℕ → A) → ℕ → A → A
 unless refused zero due = due
 unless refused (suc number) due = refused (suc number)
 
+-- a buffer or a place for a result after a call with this number: the result where it is 0; where it is refused, what was there before
+abbrev pub resultOr : {A : Type 0} → ℕ → A → A → A
+resultOr zero result before = result
+resultOr (suc number) result before = before
+
 -- 1: a side is above 4,096 (RULES 2.2)
 abbrev pub isLarge : ℕ → ℕ → Bool
 isLarge w h = ltb 4096 w || ltb 4096 h

@@ -1,8 +1,9 @@
 //! against N SEED [FOLDER]: as oracle_compare, with our corner finder linked in instead of a process for each stream; and N frames of the
-//! library, in buffers of every size, each of which is compared afterwards; N maps that are asked for enough peaks; N pixels that are changed; and N pairs
-//! of images, a low and a high value for each pixel.
+//! library, in buffers of every size, each of which is compared afterwards; N maps that are asked for enough peaks; N pixels that are changed; N pairs
+//! of images, a low and a high value for each pixel; and N lists of which corners are struck.
 mod limits;
 mod retouching;
+mod striking;
 
 use oracle::buffers::Buffers;
 use oracle::compare::{cases, run, run_enough, run_library};
@@ -104,6 +105,6 @@ fn main() -> ExitCode {
     let folder = words.get(2).map_or("differing", String::as_str);
     let folder = Path::new(folder);
     let frames = run(cases(count, seed), folder, answer).and(run_library(count, seed, folder, left));
-    let maps = run_enough(count, seed, enough).and(retouching::run(count, seed));
-    frames.and(maps).and(limits::run(count, seed)).finish()
+    let maps = run_enough(count, seed, enough).and(retouching::run(count, seed)).and(limits::run(count, seed));
+    frames.and(maps).and(striking::run(count, seed)).finish()
 }

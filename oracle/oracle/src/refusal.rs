@@ -32,6 +32,12 @@ pub const MAXVAL: Refusal = 13;
 pub const OUTSIDE: Refusal = 14;
 /// A pixel whose low value is above its high one (RULES 28): likewise.
 pub const CROSSED: Refusal = 15;
+/// A change number that differs from the list's (RULES 29), which has no counterpart in the original.
+pub const CHANGED: Refusal = 16;
+/// A place beyond the list: likewise.
+pub const BEYOND: Refusal = 17;
+/// A change number that is the largest: likewise.
+pub const LARGEST: Refusal = 18;
 /// The buffer for a frame stream is too short (RULES 30), which has no counterpart in the original.
 pub const STREAM_SHORT: Refusal = 19;
 /// The start of an item, or the time asked about, above 2^40 (RULES 32.3), which has no counterpart in the original.

@@ -1,7 +1,7 @@
 -- An answer taken apart into its number and its values tells the answer again. Assumes nothing.
 use Prim.Native.Nat.{ℕ}
 use mathlib.Core.Path.{_≡_, sym, ap, _∙_}
-use Rattle.capi_stages.specs.Results.{resultOr}
+use Rattle.lists.specs.Refusals.{resultOr}
 
 -- answers that a number determines, of which one, a, is that of the number k, and the number r of a
 module _ {A : Type 0} (answerOf : ℕ → A) (numberOf : A → ℕ) (again : (k : ℕ) → numberOf (answerOf k) ≡ k) (a : A) (k : ℕ)

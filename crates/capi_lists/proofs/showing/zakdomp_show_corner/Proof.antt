@@ -1,0 +1,34 @@
+-- `capi_lists::zakdomp_show_corner` meets its contract: the answer of the function that it calls, taken apart. Assumes nothing.
+mod Landmarks
+use borrow.Author.Needs.{needs}
+use Rattle.capi_lists.proofs.Entries.{corner-shown}
+use Rattle.capi_lists.proofs.showing.zakdomp_show_corner.Statement.{statement}
+use Rattle.capi_lists.proofs.showing.zakdomp_show_corner.Tie as tie
+use Landmarks.*
+
+show-corner-requires : tie.Need-show-corner-requires
+show-corner-requires c κs = search needs
+
+corner-of-requires : tie.Need-corner-of-requires
+corner-of-requires c κs = search needs
+
+change-of-requires : tie.Need-change-of-requires
+change-of-requires c κs = search needs
+
+number-of-requires : tie.Need-number-of-requires
+number-of-requires c κs = search needs
+
+returns : tie.Need-returns
+returns c =
+    corner-shown _ _ _ _ _ (show-corner-from-returns c .show-corner .ensures) (c .number-of .ensures) _ _ _ _
+    (corner-of-from-returns c .corner-of .ensures) (c .before .change-of .ensures)
+
+pub zakdomp-show-corner-spec : {M : Type 1} → statement M
+zakdomp-show-corner-spec =
+    tie.close
+    (tie.spec
+    show-corner-requires
+    corner-of-requires
+    change-of-requires
+    number-of-requires
+    returns)

@@ -1,0 +1,4 @@
+// Lists of corners for C: each function takes numbers, slices as pointer and length, and places for its results. It returns 0, or the number of a
+// refusal, which leaves buffers and results as they were. include/zakdomp.h declares them.
+mod showing; // zakdomp_show_corner: the corner at a place of a list
+mod striking; // zakdomp_strike_corner: the corner at a place of a list removed

@@ -1,0 +1,76 @@
+// The corner at a place of a list, with the list's change number.
+use corner_list::Corner;
+use corner_strike::Edition;
+use corner_strike::Shown;
+ghost use mathlib.Core.Path.{_≡_};
+ghost use Rattle.corner_list.specs.CornerList.{slices};
+ghost use Rattle.corner_strike.specs.Showing.{numberOf};
+ghost use Rattle.capi_lists.specs.Showing.{edition, corner, cornerOr, changeOr, CornerShown};
+
+// The number of an answer, 0 where a corner is shown.
+fn number_of(a: Shown) -> u8
+    ensures { λ r. ⌜ r ≡ numberOf a ⌝ }
+{
+    match a {
+        Shown::Found(_, _) => 0,
+        Shown::Refused(n) => n,
+    }
+}
+
+// The corner, or `before` where refused.
+fn corner_of(a: Shown, before: Corner) -> Corner
+    ensures { λ r. ⌜ r ≡ cornerOr a before ⌝ }
+{
+    match a {
+        Shown::Found(c, _) => c,
+        Shown::Refused(_) => before,
+    }
+}
+
+// The change number, or `before` where refused.
+fn change_of(a: Shown, before: u32) -> u32
+    ensures { λ r. ⌜ r ≡ changeOr a before ⌝ }
+{
+    match a {
+        Shown::Found(_, change) => change,
+        Shown::Refused(_) => before,
+    }
+}
+
+// Puts the corner at a place of a list of `count` corners with the change number `change` into `x` to `neighbour_count`, and that number into
+// `shown`.
+#[no_mangle]
+pub extern "C" fn zakdomp_show_corner(
+    xs: &[f32],
+    ys: &[f32],
+    strengths: &[f32],
+    neighbours: &[u32],
+    count: usize,
+    change: u32,
+    place: usize,
+    x: &mut f32,
+    y: &mut f32,
+    strength: &mut f32,
+    neighbour_count: &mut u32,
+    shown: &mut u32,
+) -> u8
+    ensures { λ r. ⌜ CornerShown (slices (now (xs .entry)) (now (ys .entry)) (now (strengths .entry)) (now (neighbours .entry))) (edition count change) place
+        (corner (now (x .entry)) (now (y .entry)) (now (strength .entry)) (now («neighbour_count» .entry))) (now (shown .entry))
+        r (corner (now (x .exit)) (now (y .exit)) (now (strength .exit)) (now («neighbour_count» .exit))) (now (shown .exit)) ⌝ }
+{
+    let list = Edition { count, change };
+    let a = corner_strike::show_corner(xs, ys, strengths, neighbours, list, place);
+    let before = Corner {
+        x: *x,
+        y: *y,
+        strength: *strength,
+        neighbours: *neighbour_count,
+    };
+    let c = corner_of(a, before);
+    *x = c.x;
+    *y = c.y;
+    *strength = c.strength;
+    *neighbour_count = c.neighbours;
+    *shown = change_of(a, *shown);
+    number_of(a)
+}

@@ -1,0 +1,56 @@
+// The corner at a place of a list removed.
+use corner_strike::Edition;
+use corner_strike::Strike;
+ghost use mathlib.Core.Path.{_≡_};
+ghost use Rattle.corner_list.specs.CornerList.{slices};
+ghost use Rattle.corner_strike.specs.Striking.{numberOf, editionOf};
+ghost use Rattle.capi_lists.specs.Showing.{edition};
+ghost use Rattle.capi_lists.specs.Striking.{CornerStruck};
+
+// The number of an answer, 0 where a corner was struck.
+fn number_of(a: Strike) -> u8
+    ensures { λ r. ⌜ r ≡ numberOf a ⌝ }
+{
+    match a {
+        Strike::Struck(_) => 0,
+        Strike::Refused(n) => n,
+    }
+}
+
+// The list's count and change number, or `before` where refused.
+fn edition_of(a: Strike, before: Edition) -> Edition
+    ensures { λ r. ⌜ r ≡ editionOf a before ⌝ }
+{
+    match a {
+        Strike::Struck(list) => list,
+        Strike::Refused(_) => before,
+    }
+}
+
+// Removes the corner at a place of a list of `count` corners whose change number `change` is the one that was shown. One corner fewer is counted,
+// and the change number is raised by one.
+#[no_mangle]
+pub extern "C" fn zakdomp_strike_corner(
+    xs: &mut [f32],
+    ys: &mut [f32],
+    strengths: &mut [f32],
+    neighbours: &mut [u32],
+    count: &mut usize,
+    change: &mut u32,
+    place: usize,
+    shown: u32,
+) -> u8
+    ensures { λ r. ⌜ CornerStruck (slices (now (xs .entry)) (now (ys .entry)) (now (strengths .entry)) (now (neighbours .entry)))
+        (edition (now (count .entry)) (now (change .entry))) place shown
+        r (slices (now (xs .exit)) (now (ys .exit)) (now (strengths .exit)) (now (neighbours .exit))) (edition (now (count .exit)) (now (change .exit))) ⌝ }
+{
+    let before = Edition {
+        count: *count,
+        change: *change,
+    };
+    let a = corner_strike::strike_corner(xs, ys, strengths, neighbours, before, place, shown);
+    let after = edition_of(a, before);
+    *count = after.count;
+    *change = after.change;
+    number_of(a)
+}

@@ -1,0 +1,53 @@
+-- What a call has told, by its answer. Assumes nothing.
+use Prim.Native.Nat.{ℕ, zero, suc}
+use native.Mathlib.Omega.{arith}
+use mathlib.Core.Path.{_≡_, sym, ap, _∙_}
+use mathlib.Core.List.{[], _∷_}
+use lib.ListN.{length}
+use Rattle.lists.specs.Refusals.{valuesUnless, unless, resultOr}
+use Rattle.corner_list.specs.declared.Corner.{Corner}
+use Rattle.corner_list.specs.CornerList.{Slices, placesOf, cornerAt, withoutCorner}
+use Rattle.corner_strike.specs.declared.Edition.{Edition}
+use Rattle.corner_strike.specs.declared.showing.Shown.the-variants as shown
+use Rattle.corner_strike.specs.declared.striking.Strike.{Strike}
+use Rattle.corner_strike.specs.declared.striking.Strike.the-variants as strike
+use Rattle.corner_strike.specs.Editions.{raised}
+use Rattle.corner_strike.specs.Showing as showing
+use Rattle.corner_strike.specs.Striking as striking
+use Rattle.corner_strike.proofs.Judging.{Showable, showable, Strikable, strikable}
+
+-- ---- a corner c that was shown, with a change number
+pub record ShownAs (b : Slices) (e : Edition) (place : ℕ) (c : Corner) (change : ℕ) : Type 0 where
+  pub can : Showable (placesOf b) e place
+  pub corner-is : c ≡ cornerAt b place
+  pub change-is : change ≡ e .change
+
+pub was-shown : (b : Slices) (e : Edition) (place : ℕ) (c : Corner) (change : ℕ) → showing.Shows b e place (shown.Found c change)
+    → ShownAs b e place c change
+was-shown b e place c change p =
+    let told = p .values ∙ ap (λ (k : ℕ). valuesUnless k ((cornerAt b place, e .change) ∷ [])) (sym (p .number)) in
+    record { can = showable (placesOf b) e place (sym (p .number)); corner-is = cc; change-is = cc }
+
+-- ---- a call that struck
+pub record StruckAs (b : Slices) (e : Edition) (place change : ℕ) (r : Strike) (b′ : Slices) : Type 0 where
+  pub can : Strikable (placesOf b) e place change
+  pub answer-is : r ≡ strike.Struck (raised e)
+  pub buffer-is : b′ ≡ withoutCorner place (e .count) b
+
+module _ (b : Slices) (e : Edition) (place change : ℕ) (r : Strike) (b′ : Slices) (p : striking.Strikes b e place change r b′) where
+  pub was-struck : striking.numberOf r ≡ 0 → StruckAs b e place change r b′
+  was-struck z =
+      let n : striking.refusalOf (placesOf b) e place change ≡ 0 = sym (p .number) ∙ z in
+      record {
+        can = strikable (placesOf b) e place change n;
+        answer-is = p .answer ∙ ap (λ (k : ℕ). unless strike.Refused k (strike.Struck (raised e))) n;
+        buffer-is = p .buffer ∙ ap (λ (k : ℕ). resultOr k (withoutCorner place (e .count) b) b) n;
+      }
+
+-- ---- a call that was refused left the buffer as it was
+pub was-refused : (b : Slices) (e : Edition) (place change k : ℕ) (b′ : Slices) → striking.Strikes b e place change (strike.Refused k) b′ → b′ ≡ b
+was-refused b e place change k b′ p = go (striking.refusalOf (placesOf b) e place change) (p .values) (p .buffer)
+  where
+    go : (n : ℕ) → striking.valuesOf (strike.Refused k) ≡ valuesUnless n (raised e ∷ []) → b′ ≡ resultOr n (withoutCorner place (e .count) b) b → b′ ≡ b
+    go zero v q = let none = ap length v in absurd (let no : ⊥ = omega arith in no)
+    go (suc n) v q = q

@@ -1,0 +1,4 @@
+pub mod Judging
+pub mod Removing
+pub mod Calls
+pub mod Cases

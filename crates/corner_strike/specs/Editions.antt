@@ -1,0 +1,31 @@
+-- A list that is edited (RULES 29.1): a buffer of corners, its count and its change number; and what both calls on it judge.
+use Prim.Native.Nat.{ℕ, _+_, _-_}
+use mathlib.Core.Bool.{Bool, not}
+use lib.Dec.{eqb, ltb, leb}
+use Rattle.corner_strike.specs.declared.Edition.{Edition}
+
+-- a list of so many corners before any is struck: its change number is 0 (RULES 29.1)
+abbrev pub unchanged : ℕ → Edition
+unchanged count = record { count = count; change = 0 }
+
+-- one corner struck: one corner less, and the change number raised by one (RULES 29.1)
+abbrev pub raised : Edition → Edition
+raised e = record { count = e .count - 1; change = e .change + 1 }
+
+-- ---- conditions (RULES 2.2)
+
+-- 10: the count of the list exceeds its buffer's places
+abbrev pub isShort : ℕ → Edition → Bool
+isShort places e = ltb places (e .count)
+
+-- 16: the change number that is named differs from the list's
+abbrev pub isOther : Edition → ℕ → Bool
+isOther e change = not (eqb change (e .change))
+
+-- 17: the place is beyond the list; places count from 0
+abbrev pub isBeyond : Edition → ℕ → Bool
+isBeyond e place = leb (e .count) place
+
+-- 18: the change number is the largest u32
+abbrev pub isLargest : Edition → Bool
+isLargest e = eqb (e .change) 4294967295
