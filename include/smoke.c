@@ -274,6 +274,35 @@ static void writing(const uint8_t *img) {
     expect(length == sizeof listing - 1 && memcmp(output, listing, length) == 0, "and its listing");
 }
 
+struct separate {
+    float x[3], y[3], s[3];
+    uint32_t k[3];
+};
+
+/* Two corners merged into a list whose neighbours have so many places. */
+static uint8_t merge_apart(const struct separate *two, size_t count, float radius, struct separate *to, size_t places, size_t *kept) {
+    return zakdomp_merge_apart(two->x, 2, two->y, 2, two->s, 2, two->k, 2, count, radius, to->x, 3, to->y, 3, to->s, 3, to->k, places, kept);
+}
+
+static void merging_apart(void) {
+    const struct separate sevens = {{7, 7, 7}, {7, 7, 7}, {7, 7, 7}, {7, 7, 7}}, joined = {{2, 7, 7}, {1, 7, 7}, {4, 7, 7}, {6, 7, 7}};
+    const struct separate copied = {{1, -1, 7}, {1, 1, 7}, {3, 4, 7}, {5, 6, 7}};
+    struct separate two = {{1, 2, 0}, {1, 1, 0}, {3, 4, 0}, {5, 6, 0}}, before = two, to = sevens;
+    size_t kept = 77;
+    expect(merge_apart(&two, 2, 3, &to, 1, &kept) == ZAKDOMP_LIST_SHORT, "a place for one corner of two, though one would be left");
+    expect(merge_apart(&two, 3, 3, &to, 3, &kept) == ZAKDOMP_LIST_SHORT, "three corners of two");
+    expect(merge_apart(&two, 2, 5000, &to, 1, &kept) == ZAKDOMP_MERGE_RADIUS, "a radius of 5000 comes first");
+    expect(kept == 77 && memcmp(&to, &sevens, sizeof to) == 0, "refused: as it was");
+    expect(merge_apart(&two, 2, 3, &to, 2, &kept) == ZAKDOMP_DONE && kept == 1, "two corners merged apart");
+    expect(memcmp(&to, &joined, sizeof to) == 0, "the stronger one first, and behind it as it was");
+    expect(memcmp(&two, &before, sizeof two) == 0, "the two as they were");
+    two.x[1] = -1;
+    to = sevens;
+    expect(merge_apart(&two, 2, 3, &to, 1, &kept) == ZAKDOMP_COORDINATE, "a coordinate of -1 comes first");
+    expect(merge_apart(&two, 2, NAN, &to, 1, &kept) == ZAKDOMP_LIST_SHORT && kept == 1, "with an off radius only the places count");
+    expect(merge_apart(&two, 2, NAN, &to, 2, &kept) == ZAKDOMP_DONE && kept == 2 && memcmp(&to, &copied, sizeof to) == 0, "and the list is copied");
+}
+
 static uint8_t retouch(uint8_t *img, float *map, size_t cells, uint32_t ring, size_t x, size_t y, uint8_t value, size_t *redone) {
     return zakdomp_retouch(img, CELLS, SIDE, SIDE, ring, map, cells, x, y, value, redone);
 }
@@ -388,6 +417,7 @@ int main(void) {
     ties();
     neighbours();
     enough_peaks();
+    merging_apart();
     retouching(img);
     known_between(img);
     striking();

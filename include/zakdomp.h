@@ -2,7 +2,7 @@
  *
  * Every function is proved to end and to do what is said here, for every value of its numbers. What C has to see to:
  *   - a slice is a pointer and a length, in elements; the pointer is to that many elements, and is not NULL even where the length is 0;
- *   - no two buffers and no places for results overlap, and an image or a map that is read overlaps none of them;
+ *   - no two buffers and no places for results overlap, and an image, a map or a list that is read overlaps none of them;
  *   - enough stack is free: 192 KB for images of at most 96 by 96 pixels and for zakdomp_corners, 768 KB for any call.
  * Nothing is kept between calls, so calls may run at the same time on other buffers. No function allocates.
  *
@@ -191,6 +191,17 @@ uint8_t zakdomp_show_corner(const float *xs, size_t xs_length, const float *ys, 
  * Refusals: 10, 16 where a corner was struck in between, 17, 18. */
 uint8_t zakdomp_strike_corner(float *xs, size_t xs_length, float *ys, size_t ys_length, float *strengths, size_t strengths_length,
                               uint32_t *neighbours, size_t neighbours_length, size_t *count, uint32_t *change, size_t place, uint32_t shown);
+
+/* What zakdomp_merge would leave of the first `count` corners of a buffer, written into a separate buffer: so that several radii can be tried. The
+ * corners are only read. List, number of corners and refusal are those of zakdomp_merge for the same corners and radius; besides, a count that does not
+ * fit the separate buffer is refused as 10, however few corners would be left.
+ *   mx, my, ms, mn  the separate buffer, with a place for each of the `count` corners; the list stands first in it, and what is behind it stays
+ *   kept            the number of corners that are left
+ * Refusals: 4, 5, 10. 4 is of the counted corners that their own buffer has. */
+uint8_t zakdomp_merge_apart(const float *xs, size_t xs_length, const float *ys, size_t ys_length, const float *strengths,
+                            size_t strengths_length, const uint32_t *neighbours, size_t neighbours_length, size_t count, float radius,
+                            float *mx, size_t mx_length, float *my, size_t my_length, float *ms, size_t ms_length, uint32_t *mn,
+                            size_t mn_length, size_t *kept);
 
 /* How many bytes the level buffer of an image of w by h pixels needs. */
 size_t zakdomp_level_bytes(size_t w, size_t h, uint32_t level_count, size_t minimum);

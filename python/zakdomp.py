@@ -10,6 +10,7 @@
     response_limits(low, high, width, height)          ->  ResponseLimits(lows, highs): what each response can be, in fifths
     sure_peak(lows, highs, width, height, x, y)        ->  whether a place is a peak of every image between the limits
     EditedList(corners)                                ->  a list from which corners are struck: `show(place)`, then `strike(place, change)`
+    merged(corners, radius)                            ->  the corners that merging would leave, to try several radii
     write_stream(pixels, width, height, threshold=30)  ->  the bytes that the program `corners` reads
     holding(kind, start, time), holdings(stream)       ->  "N" not yet, "H" held or "G" gone, for an item and for each of a stream
 
@@ -139,6 +140,7 @@ def _load():
     library.zakdomp_retouch.argtypes = piece + [size, size, u32] + piece + [size, size, ctypes.c_uint8, out]
     library.zakdomp_response_limits.argtypes = 2 * piece + [size, size, u32] + 2 * piece
     library.zakdomp_sure_peak.argtypes = 2 * piece + [size, size] + 5 * [u32] + [size, size, ctypes.POINTER(u8)]
+    library.zakdomp_merge_apart.argtypes = 4 * piece + [size, f32] + 4 * piece + [out]
     library.zakdomp_level_bytes.argtypes = [size, size, u32, size]
     library.zakdomp_has_peaks.argtypes = piece + [size, size] + numbers[:5] + [size, ctypes.POINTER(u8), out]
     library.zakdomp_show_corner.argtypes = 4 * piece + [size, u32, size] + 3 * [ctypes.POINTER(f32)] + 2 * [ctypes.POINTER(u32)]
@@ -146,7 +148,7 @@ def _load():
     library.zakdomp_write_stream.argtypes = piece + [size, size] + 7 * [u32] + [size, u32] + piece + [out]
     library.zakdomp_holding.argtypes = [u8, u64, u64, ctypes.POINTER(u8)]
     library.zakdomp_holdings.argtypes = piece + [ctypes.c_void_p]
-    for function in ("find_corners", "find_corners_pgm", "pgm", "response", "has_peaks", "retouch", "response_limits", "sure_peak",
+    for function in ("find_corners", "find_corners_pgm", "pgm", "response", "has_peaks", "merge_apart", "retouch", "response_limits", "sure_peak",
                      "show_corner", "strike_corner", "write_stream", "holding"):
         getattr(library, "zakdomp_" + function).restype = u8
     library.zakdomp_level_bytes.restype = library.zakdomp_holdings.restype = size
@@ -281,6 +283,23 @@ def response(pixels, width, height, *, ring=5, x0=0, y0=0, x1=LARGEST_SIDE, y1=L
     if number:
         raise Refusal(number)
     return ResponseMap(w.value, h.value, buffer[:w.value * h.value])
+
+
+def merged(corners, radius):
+    """What merging corners by a radius would leave of them, in a new list; they are merged as a frame's corners are (include/zakdomp.h). A radius that
+    is 0, negative or not finite leaves all."""
+    corners = list(corners)
+    given, left = _corners(len(corners)), _corners(len(corners))
+    for i, corner in enumerate(corners):
+        _whole("neighbours", corner.neighbours, 32)
+        for (buffer, _), value in zip(given, corner):
+            buffer[i] = value
+    kept = ctypes.c_size_t(0)
+    number = _library.zakdomp_merge_apart(*(word for _, piece in given for word in piece), len(corners), radius,
+                                          *(word for _, piece in left for word in piece), ctypes.byref(kept))
+    if number:
+        raise Refusal(number)
+    return [Corner(*fields) for fields in zip(*(buffer[:kept.value] for buffer, _ in left))]
 
 
 def retouch(pixels, cells, width, height, x, y, value, *, ring=5):

@@ -136,6 +136,22 @@ pub fn merge(list: &mut List, count: usize, radius: f32) -> usize {
     kept
 }
 
+/// What a merge of a list would leave, in a separate one.
+pub fn merge_apart(list: &List, count: usize, radius: f32, left: &mut List) -> usize {
+    let mut kept = 0;
+    let List { floats: [x, y, s], neighbours: k } = list;
+    let List { floats: [mx, my, ms], neighbours: mn } = left;
+    #[rustfmt::skip]
+    let number = unsafe {
+        zakdomp_merge_apart(
+            x.as_ptr(), x.len(), y.as_ptr(), y.len(), s.as_ptr(), s.len(), k.as_ptr(), k.len(), count, radius,
+            mx.as_mut_ptr(), mx.len(), my.as_mut_ptr(), my.len(), ms.as_mut_ptr(), ms.len(), mn.as_mut_ptr(), mn.len(), &mut kept,
+        )
+    };
+    assert_eq!(number, 0);
+    kept
+}
+
 pub fn levels(pixels: &[u8], w: usize, h: usize, p: &Params, levels: &mut [u8]) -> usize {
     let mut built = 0;
     #[rustfmt::skip]

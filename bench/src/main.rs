@@ -2,6 +2,7 @@
 //! bench peaks [ROUNDS]: the rows of peaks alone.
 //! bench enough [ROUNDS]: a table alone, of 100 peaks against all.
 //! bench limits [ROUNDS]: a table alone, of the limits of responses against our response.
+//! bench apart [ROUNDS]: a table alone, of a list merged in place and apart.
 //! bench count LEVELS: calls `original_frame` and `our_frame` once each on a small frame, for a profiler that counts instructions.
 mod interleaved;
 mod library;
@@ -104,6 +105,22 @@ fn limits_table(rounds: usize) {
     }
 }
 
+/// A list merged in place and into a separate buffer.
+fn apart_table(rounds: usize) {
+    println!("\n| merge apart of | in place, Rust, ms | in place, ours, ms | apart, ours, ms | apart / in place, ours |");
+    println!("|---|---|---|---|---|");
+    let lists = [
+        (Subject::board(1024, 1024).found, "of a board"),
+        (Subject::board(4096, 4096).found, "of a board"),
+        (stages::random_corners(30_000), "anywhere on 4096 x 4096"),
+    ];
+    for (corners, what) in &lists {
+        let row = stages::merging_apart(corners, 3.0, rounds, what);
+        let [rust, place, apart] = row.times[..] else { panic!("three times") };
+        println!("| {} | {rust:.4} | {place:.4} | {apart:.4} | {:.2} |", row.input, apart / place);
+    }
+}
+
 #[no_mangle]
 #[inline(never)]
 extern "C" fn original_frame(s: &Subject, p: &Params) -> usize {
@@ -135,11 +152,13 @@ fn main() {
         }
         Some("enough") => enough_table(number(1).unwrap_or(25)),
         Some("limits") => limits_table(number(1).unwrap_or(25)),
+        Some("apart") => apart_table(number(1).unwrap_or(25)),
         _ => {
             let rounds = number(0).unwrap_or(25);
             table(rounds);
             enough_table(rounds);
             limits_table(rounds);
+            apart_table(rounds);
         }
     }
 }

@@ -176,6 +176,27 @@ pub fn merging(corners: &[Corner], radius: f32, rounds: usize, what: &str) -> Ro
     row("merge", format!("{} corners, {what}, radius {radius}", corners.len()), rounds, calls)
 }
 
+/// A merge in place, ours, against the same list in a separate buffer: all three times are of a copy and a merge, the original's first.
+pub fn merging_apart(corners: &[Corner], radius: f32, rounds: usize, what: &str) -> Row {
+    let before = List::of(corners);
+    let (mut list, mut left) = (before.clone(), before.clone());
+    let n = library::merge(&mut list, corners.len(), radius);
+    assert_eq!(library::merge_apart(&before, corners.len(), radius, &mut left), n);
+    assert_eq!(left.bits(corners.len()), list.bits(corners.len()));
+    let calls: Vec<Call> = vec![
+        Box::new(|| merge::original(corners, radius).len()),
+        Box::new(|| {
+            list.copy_from(&before);
+            library::merge(&mut list, corners.len(), radius)
+        }),
+        Box::new(|| {
+            left.copy_from(&before);
+            library::merge_apart(&before, corners.len(), radius, &mut left)
+        }),
+    ];
+    row("merge apart", format!("{} corners, {what}, radius {radius}", corners.len()), rounds, calls)
+}
+
 /// Points anywhere on 4096 x 4096.
 pub fn random_corners(n: usize) -> Vec<Corner> {
     let mut rng = Rng::new(7);

@@ -4,6 +4,7 @@
 mod editing;
 mod library;
 mod limits;
+mod merging;
 pub mod raw;
 mod refusal;
 mod retention;
@@ -11,6 +12,7 @@ mod stream;
 
 pub use editing::{EditedList, Shown};
 pub use limits::{response_limits, sure_peak, ResponseLimits};
+pub use merging::merged;
 pub use refusal::Refusal;
 pub use retention::{holding, holdings, Holding};
 pub use stream::write_stream;

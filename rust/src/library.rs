@@ -200,3 +200,18 @@ pub(crate) fn holdings(stream: &[u8], output: &mut [u8; HOLDINGS]) -> usize {
     // SAFETY: the slice is whole, the output has its length by its type, and the two do not overlap.
     unsafe { zakdomp_holdings(stream.as_ptr(), stream.len(), output.as_mut_ptr()) }
 }
+
+#[rustfmt::skip]
+pub(crate) fn merge_apart(list: &Lists, count: usize, radius: f32, left: &mut Lists) -> Result<usize, Refusal> {
+    let Lists { xs, ys, strengths: ss, neighbours: ns } = list;
+    let Lists { xs: mx, ys: my, strengths: ms, neighbours: mn } = left;
+    let mut kept = 0;
+    // SAFETY: every slice is whole, none overlaps another, and the call keeps none.
+    let number = unsafe {
+        crate::raw::zakdomp_merge_apart(
+            xs.as_ptr(), xs.len(), ys.as_ptr(), ys.len(), ss.as_ptr(), ss.len(), ns.as_ptr(), ns.len(), count, radius,
+            mx.as_mut_ptr(), mx.len(), my.as_mut_ptr(), my.len(), ms.as_mut_ptr(), ms.len(), mn.as_mut_ptr(), mn.len(), &mut kept,
+        )
+    };
+    unless_refused(number, kept)
+}

@@ -2,3 +2,4 @@
 // refusal, which leaves buffers and results as they were. include/zakdomp.h declares them.
 mod showing; // zakdomp_show_corner: the corner at a place of a list
 mod striking; // zakdomp_strike_corner: the corner at a place of a list removed
+mod apart; // zakdomp_merge_apart: the list that merging would leave, in a separate buffer

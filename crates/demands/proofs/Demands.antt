@@ -10,6 +10,7 @@ use Rattle.demands.proofs.ResponsesOrdered.{responses-ordered}
 use Rattle.demands.proofs.PeaksAlike.{peaks-alike}
 use Rattle.demands.proofs.Units.{units-nearest}
 use Rattle.demands.proofs.RingPass.{ring-one-pass}
+use Rattle.demands.proofs.Apart.{apart-is-merge}
 use Rattle.demands.proofs.Enough.{enough-is-counting, looks-no-further}
 use Rattle.demands.proofs.Strike.{raised-by-strikes-only, shown-is-struck}
 use Rattle.demands.proofs.Writing.{read-back, written-back}
@@ -55,6 +56,7 @@ demands = record {
   maps-alike-without-equals = maps-alike-without-equals;
   neighbours-kept = neighbours-kept;
   counts-exact = counts-exact;
+  apart-is-merge = apart-is-merge;
   enough-is-counting = enough-is-counting;
   looks-no-further = looks-no-further;
   only-touched = only-touched;

@@ -5,6 +5,7 @@ pub mod ResponsesOrdered
 pub mod Names
 pub mod Added
 pub mod PeaksAlike
+pub mod Apart
 pub mod Enough
 pub mod FrameExact
 pub mod Ties

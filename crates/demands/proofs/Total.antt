@@ -49,6 +49,7 @@ use Rattle.merge.specs.Refusals.{isOutside}
 use Rattle.merge.specs.declared.Merged.{Merged}
 use Rattle.merge.specs.declared.Merged.the-variants as merged
 use Rattle.merge.specs.Merge as merge
+use Rattle.merge.specs.Apart.{refusalApart}
 use Rattle.merge_slice.specs.MergeSlice.{sharedPlaces, refusalFor}
 use Rattle.corner_strike.specs.declared.Edition.{Edition}
 use Rattle.corner_strike.specs.declared.showing.Shown.{Shown}
@@ -179,7 +180,7 @@ unfolding multiscale.refusalOf
 roi-refuses c s r f k e =
     numbered-one (multiscale.conditions c s) k (sym (ap multiscale.numberOf e) ∙ f .number) (box.refused-numbered c s k (sym (f .answer) ∙ e))
 
--- the three merge entries
+-- the merge entries
 merge-numbers : (four five ten : Bool) (n : ℕ) (r : Merged) → r ≡ merge.answerOf (lowest ((four, 4) ∷ (five, 5) ∷ (ten, 10) ∷ [])) n
     → Refuses merged.Refused (4 ∷ 5 ∷ 10 ∷ []) r
 merge-numbers four five ten n r f =
@@ -191,6 +192,13 @@ merge-refuses : (radius : Float) (places count : ℕ) (b : Slices) (n : ℕ) (r 
 unfolding merge.refusalOf
 merge-refuses radius places count b n r f =
     merge-numbers (not (isOff radius) && any isOutside (cornersOf b (min count places))) (radiusOutside radius) (ltb places count) n r f
+
+apart-refuses : (radius : Float) (places count : ℕ) (b : Slices) (n : ℕ) (r : Merged) → r ≡ merge.answerOf (refusalApart radius places count b) n
+    → Refuses merged.Refused (4 ∷ 5 ∷ 10 ∷ []) r
+unfolding refusalApart
+apart-refuses radius places count b n r f =
+    merge-numbers (not (isOff radius) && any isOutside (cornersOf b (min count (placesOf b)))) (radiusOutside radius)
+    (ltb (placesOf b) count || ltb places count) n r f
 
 slice-refuses : (radius : Float) (count : ℕ) (cs : List Corner) (b : Slices) (n : ℕ) (r : Merged) → r ≡ merge.answerOf (refusalFor radius count cs b) n
     → Refuses merged.Refused (4 ∷ 5 ∷ 10 ∷ []) r
@@ -334,6 +342,7 @@ total = record {
   «compute_roi» = roi-refuses;
   «merge_corners_simple» = λ radius count b b′ r f. merge-refuses radius (placesOf b) count b _ r (f .answer);
   «merge_within» = λ radius places count b b′ r f. merge-refuses radius (min places (placesOf b)) count b _ r (f .answer);
+  «merge_apart» = λ radius count b d d′ r f. apart-refuses radius (placesOf d) count b _ r (f .answer);
   «merge_corner_slice» = λ radius count cs cs′ b b′ r f. slice-refuses radius count cs b _ r (f .answer);
   «show_corner» = show-refuses;
   «strike_corner» = strike-refuses;

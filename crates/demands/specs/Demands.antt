@@ -10,6 +10,7 @@ use Rattle.demands.specs.ResponsesOrdered.{ResponsesOrdered}
 use Rattle.demands.specs.PeaksAlike.{PeaksAlike}
 use Rattle.demands.specs.Units.{UnitsNearest}
 use Rattle.demands.specs.RingPass.{RingOnePass}
+use Rattle.demands.specs.Apart.{ApartIsMerge}
 use Rattle.demands.specs.Enough.{EnoughIsCounting, LooksNoFurther}
 use Rattle.demands.specs.Strike.{RaisedByStrikesOnly, ShownIsStruck}
 use Rattle.demands.specs.Writing.{ReadBack, WrittenBack}
@@ -93,6 +94,9 @@ pub record Demands : Type 0 where
   pub neighbours-kept : NeighboursKept
   -- "the count is matched to its definition": by exact values it is the same
   pub counts-exact : CountsExact
+  -- ---- Request 6: look before merging
+  -- "List and count equal those the original's own merge would leave, refusal and all"
+  pub apart-is-merge : ApartIsMerge
   -- ---- Request 7: enough corners?
   -- "The answer is the one full counting gives"
   pub enough-is-counting : EnoughIsCounting

@@ -4,6 +4,7 @@ pub mod PeakCall
 pub mod ResponseAccurate
 pub mod ResponsesOrdered
 pub mod PeaksAlike
+pub mod Apart
 pub mod Enough
 pub mod FrameExact
 pub mod Ties

@@ -58,6 +58,7 @@ use Rattle.multiscale.specs.Promise.{Boxed}
 use Rattle.merge.specs.declared.Merged.{Merged}
 use Rattle.merge.specs.declared.Merged.the-variants as merge
 use Rattle.merge.specs.Merge.{Merges}
+use Rattle.merge.specs.Apart.{MergedApart}
 use Rattle.merge_slice.specs.MergeSlice.{MergesSlice}
 use Rattle.corner_strike.specs.declared.Edition.{Edition}
 use Rattle.corner_strike.specs.declared.showing.Shown.{Shown}
@@ -134,6 +135,8 @@ pub record Total : Type 0 where
   pub «merge_corners_simple» : (radius : Float) (count : ℕ) (b b′ : Slices) (r : Merged) → Merges radius (placesOf b) count b r b′
       → Refuses merge.Refused (4 ∷ 5 ∷ 10 ∷ []) r
   pub «merge_within» : (radius : Float) (places count : ℕ) (b b′ : Slices) (r : Merged) → Merges radius (min places (placesOf b)) count b r b′
+      → Refuses merge.Refused (4 ∷ 5 ∷ 10 ∷ []) r
+  pub «merge_apart» : (radius : Float) (count : ℕ) (b d d′ : Slices) (r : Merged) → MergedApart radius count b d r d′
       → Refuses merge.Refused (4 ∷ 5 ∷ 10 ∷ []) r
   pub «merge_corner_slice» : (radius : Float) (count : ℕ) (cs cs′ : List Corner) (b b′ : Slices) (r : Merged) → MergesSlice radius count cs b r cs′ b′
       → Refuses merge.Refused (4 ∷ 5 ∷ 10 ∷ []) r

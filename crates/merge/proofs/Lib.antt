@@ -8,5 +8,8 @@ pub mod Nearby
 pub mod Settle
 pub mod Stepping
 pub mod Answer
+pub mod Copying
+pub mod Separate
 pub mod Result
 pub mod Cases
+pub mod ApartCases

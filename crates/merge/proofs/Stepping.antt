@@ -1,10 +1,10 @@
--- Merging in place, one corner after the other and one part of the list after the other. Assumes nothing.
+-- Merging, in place and apart, one corner after the other and one part of the list after the other. Assumes nothing.
 use Prim.Native.Nat.{ℕ, _+_, _-_, _<_, _≤_}
 use native.Mathlib.Numerals.{add-one}
 use native.Mathlib.Omega.{arith}
 use mathlib.Core.Path.{_≡_, refl, sym, ap, _∙_, subst}
 use mathlib.Core.Logic.{_⊎_, inl, inr, ⊎-elim}
-use mathlib.Core.Bool.{Bool}
+use mathlib.Core.Bool.{Bool, true, false}
 use mathlib.Core.List.{List, [], _∷_}
 use lib.ListN.{length, drop, drop-of-length-le}
 use lib.Seq.{drop-cons, drop-at}
@@ -16,8 +16,16 @@ use Rattle.corner_list.proofs.Corners.{corners-length, corners-at, corners-fron
 use Rattle.corner_list.proofs.Corners.{front-ys, front-strengths, front-neighbours, same-places}
 use Rattle.merge.specs.declared.settling.Step.{Step}
 use Rattle.merge.specs.Merge.{settle, merged}
-use Rattle.merge.specs.Internal.{Settled, Left, step, start, IsStep, unsettled, Goes, Comes, Reaches}
+use Rattle.merge.specs.Internal.{Settled, Left, step, start, IsStep, unsettled, given, Goes, Comes, Reaches}
 use Rattle.merge.proofs.Settle.{settle-longer, settle-one}
+
+-- ---- a corner of the list, where that is
+module _ (apart : Bool) (own b : Slices) (at : ℕ) (c : Corner) where
+  pub given-apart : apart ≡ true → c ≡ cornerAt own at → c ≡ cornerAt (given apart own b) at
+  given-apart e is = is ∙ ap (λ (a : Bool). cornerAt (given a own b) at) (sym e)
+
+  pub given-here : apart ≡ false → c ≡ cornerAt b at → c ≡ cornerAt (given apart own b) at
+  given-here e is = is ∙ ap (λ (a : Bool). cornerAt (given a own b) at) (sym e)
 
 -- ---- the corners of the list that are not settled
 module _ (n : ℕ) where
@@ -37,14 +45,18 @@ module _ (n : ℕ) where
   unsettled-first b i h =
       rw (add-one, drop-cons (cornersOf b n) i (cornerAt b i) (omega (arith, corners-length b n)), corners-at b n i (cornerAt b i) h)
 
-  -- and the others, once it is settled
-  unsettled-next : (b b′ : Slices) (l : List Corner) (i : ℕ) (c : Corner) → b′ ≡ frontCorners l b → length l ≤ i + 1 → i < n → c ≡ cornerAt b i
-      → unsettled b n i ≡ c ∷ unsettled b′ n (i + 1)
-  unsettled-next b b′ l i c put short h is =
-      unsettled-first b i h ∙ ap (λ (o : Corner). o ∷ unsettled b n (i + 1)) (sym is) ∙ ap (λ (r : List Corner). c ∷ r) (sym same)
+  -- and the others, once it is settled: those of a list in a buffer of its own stand as they did, and those of one that is merged in place too
+  unsettled-next : (apart : Bool) (own b b′ : Slices) (l : List Corner) (i : ℕ) (c : Corner) → b′ ≡ frontCorners l b → length l ≤ i + 1 → i < n
+      → c ≡ cornerAt (given apart own b) i → unsettled (given apart own b) n i ≡ c ∷ unsettled (given apart own b′) n (i + 1)
+  unsettled-next apart own b b′ l i c put short h is =
+      unsettled-first list i h ∙ ap (λ (o : Corner). o ∷ unsettled list n (i + 1)) (sym is) ∙ ap (λ (r : List Corner). c ∷ r) (sym (same apart))
     where
-      same : unsettled b′ n (i + 1) ≡ unsettled b n (i + 1)
-      same = ap (λ (d : Slices). unsettled d n (i + 1)) put ∙ unsettled-same b l (i + 1) (omega arith) short
+      list : Slices
+      list = given apart own b
+
+      same : (a : Bool) → unsettled (given a own b′) n (i + 1) ≡ unsettled (given a own b) n (i + 1)
+      same true = refl
+      same false = ap (λ (d : Slices). unsettled d n (i + 1)) put ∙ unsettled-same b l (i + 1) (omega arith) short
 
 module _ (j : Corner → Corner → Bool) where
   -- ---- one thing after another, and a corner settled
@@ -69,15 +81,15 @@ module _ (j : Corner → Corner → Bool) where
       buffer = s .buffer ∙ ap (λ (l : List Corner). frontCorners l b) (sym kept-is);
     }
 
-  -- ---- steps of merging a list of n
-  module _ (n : ℕ) (b₀ : Slices) (s₀ : Step) where
-    pub comes-none : n ≤ placesOf b₀ → IsStep n s₀ → Comes j n b₀ s₀ b₀ s₀
+  -- ---- steps of merging a list of n, which is in the buffer `own` or in the one where the kept corners are
+  module _ (apart : Bool) (own : Slices) (n : ℕ) (b₀ : Slices) (s₀ : Step) where
+    pub comes-none : n ≤ placesOf b₀ → IsStep n s₀ → Comes j apart own n b₀ s₀ b₀ s₀
     comes-none h i = record {
       is-step = i;
       goes = record { more = omega arith; leaves = refl; buffer = corners-same b₀ (s₀ .kept) (omega (arith, i .few, i .upto)) };
     }
 
-    module _ (b : Slices) (s : Step) (at : Comes j n b₀ s₀ b s) where
+    module _ (b : Slices) (s : Step) (at : Comes j apart own n b₀ s₀ b s) where
       abbrev Kept : List Corner
       Kept = cornersOf b (s .kept)
 
@@ -109,50 +121,55 @@ module _ (j : Corner → Corner → Bool) where
         comes-fits h = omega (arith, at .is-step .few, comes-places)
 
       -- the next corner of the list is settled
-      pub comes-turn : s .done < n → (c : Corner) → c ≡ cornerAt b (s .done) → (k : ℕ) (b′ : Slices) → Settled j (s .kept) c b k b′
-          → Comes j n b₀ s₀ b′ (step (s .done + 1) k)
+      pub comes-turn : s .done < n → (c : Corner) → c ≡ cornerAt (given apart own b) (s .done) → (k : ℕ) (b′ : Slices) → Settled j (s .kept) c b k b′
+          → Comes j apart own n b₀ s₀ b′ (step (s .done + 1) k)
       comes-turn h c is k b′ t =
           let i : ℕ = s .done + 1 in
           let few : k ≤ i = omega (arith, at .is-step .few, t .count, settle-one j c Kept, many) in
           let short : length (settle j Kept c) ≤ i = omega (arith, t .count) in
-          let first : unsettled b n (s .done) ≡ c ∷ unsettled b′ n i = unsettled-next n b b′ (settle j Kept c) (s .done) c (t .buffer) short h is in
+          let rest : List Corner = unsettled (given apart own b′) n i in
+          let first : unsettled (given apart own b) n (s .done) ≡ c ∷ rest
+          = unsettled-next n apart own b b′ (settle j Kept c) (s .done) c (t .buffer) short h is in
           record {
             is-step = record { few = few; upto = omega arith };
             goes =
-                goes-on _ _ _ b (s .kept) (unsettled b n (s .done)) _ _ _ (at .goes)
-                (subst (λ (r : List Corner). Goes j b (s .kept) r b′ k (unsettled b′ n i)) (sym first) (goes-settled b (s .kept) c b′ k t (unsettled b′ n i)));
+                goes-on _ _ _ b (s .kept) (unsettled (given apart own b) n (s .done)) _ _ _ (at .goes)
+                (subst (λ (r : List Corner). Goes j b (s .kept) r b′ k rest) (sym first) (goes-settled b (s .kept) c b′ k t rest));
           }
 
     -- ---- parts of the list: at its end, for fewer kept corners, and one after another
-    pub reaches-end : (b : Slices) (i k most : ℕ) → Comes j n b₀ s₀ b (step i k) → n ≤ i → Reaches j most n b₀ s₀ b (step n k)
+    pub reaches-end : (b : Slices) (i k most : ℕ) → Comes j apart own n b₀ s₀ b (step i k) → n ≤ i → Reaches j apart own most n b₀ s₀ b (step n k)
     reaches-end b i k most at h =
         let end : i ≡ n = omega (arith, at .is-step .upto) in
-        record { comes = subst (λ (m : ℕ). Comes j n b₀ s₀ b (step m k)) end at; far = inl refl }
+        record { comes = subst (λ (m : ℕ). Comes j apart own n b₀ s₀ b (step m k)) end at; far = inl refl }
 
-    module _ (b : Slices) (s : Step) (m : ℕ) (p : Reaches j m n b₀ s₀ b s) where
+    module _ (b : Slices) (s : Step) (m : ℕ) (p : Reaches j apart own m n b₀ s₀ b s) where
       -- another can follow
       pub reaches-ready : n ≤ placesOf b₀ → (n ≤ placesOf b) × IsStep n s
       reaches-ready h = (comes-places b s (p .comes) h, p .comes .is-step)
 
-      pub reaches-done : (most : ℕ) → n ≤ s .done → Reaches j most n b₀ s₀ b s
+      pub reaches-done : (most : ℕ) → n ≤ s .done → Reaches j apart own most n b₀ s₀ b s
       reaches-done most h = record { comes = p .comes; far = inl (omega (arith, p .comes .is-step .upto)) }
 
-      pub reaches-less : (most : ℕ) → most ≤ m → Reaches j most n b₀ s₀ b s
+      pub reaches-less : (most : ℕ) → most ≤ m → Reaches j apart own most n b₀ s₀ b s
       reaches-less most h = record { comes = p .comes; far = ⊎-elim inl (λ f. inr (omega arith)) (p .far) }
 
-      pub reaches-on : (most m′ : ℕ) (b′ : Slices) (s′ : Step) → Reaches j m′ n b s b′ s′ → most ≤ m′ → Reaches j most n b₀ s₀ b′ s′
+      pub reaches-on : (most m′ : ℕ) (b′ : Slices) (s′ : Step) → Reaches j apart own m′ n b s b′ s′ → most ≤ m′ → Reaches j apart own most n b₀ s₀ b′ s′
       reaches-on most m′ b′ s′ q h = record {
         comes = record { is-step = q .comes .is-step; goes = goes-on _ _ _ _ _ _ _ _ _ (p .comes .goes) (q .comes .goes) };
         far = ⊎-elim inl (λ f. inr (omega arith)) (q .far);
       }
 
   -- the whole list
-  pub reaches-all : (n : ℕ) (b b′ : Slices) (s : Step) → Reaches j n n b start b′ s → Left (merged j [] (cornersOf b n)) b (s .kept) b′
+  pub reaches-all : (apart : Bool) (own : Slices) (n : ℕ) (b b′ : Slices) (s : Step) → Reaches j apart own n n b start b′ s
+      → Left (merged j [] (cornersOf (given apart own b) n)) b (s .kept) b′
   unfolding tab
-  reaches-all n b b′ s p =
+  reaches-all apart own n b b′ s p =
       let done : n ≤ s .done = ⊎-elim (λ (e : s .done ≡ n). omega arith) (λ f. omega (arith, p .comes .is-step .few)) (p .far) in
-      let none : unsettled b′ n (s .done) ≡ [] = drop-of-length-le (cornersOf b′ n) {i = s .done} (omega (arith, corners-length b′ n)) in
-      let all : cornersOf b′ (s .kept) ≡ merged j [] (cornersOf b n) = ap (merged j (cornersOf b′ (s .kept))) (sym none) ∙ p .comes .goes .leaves in
+      let last : Slices = given apart own b′ in
+      let none : unsettled last n (s .done) ≡ [] = drop-of-length-le (cornersOf last n) {i = s .done} (omega (arith, corners-length last n)) in
+      let all : cornersOf b′ (s .kept) ≡ merged j [] (cornersOf (given apart own b) n)
+      = ap (merged j (cornersOf b′ (s .kept))) (sym none) ∙ p .comes .goes .leaves in
       record {
         count = sym (corners-length b′ (s .kept)) ∙ ap length all;
         buffer = p .comes .goes .buffer ∙ ap (λ (l : List Corner). frontCorners l b) all;

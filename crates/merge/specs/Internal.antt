@@ -128,12 +128,16 @@ pub record Goes (j : Corner → Corner → Bool) (b : Slices) (k : ℕ) (rest : 
   pub leaves : merged j (cornersOf b′ k′) rest′ ≡ merged j (cornersOf b k) rest
   pub buffer : b′ ≡ frontCorners (cornersOf b′ k′) b
 
--- merging n corners in place came from a step to another
-pub record Comes (j : Corner → Corner → Bool) (n : ℕ) (b : Slices) (s : Step) (b′ : Slices) (s′ : Step) : Type 0 where
+-- where the list is that is merged: in a buffer of its own, or else in the one in which the kept corners are
+abbrev pub given : Bool → Slices → Slices → Slices
+given apart own b = cond apart own b
+
+-- merging a list of n corners came from a step to another
+pub record Comes (j : Corner → Corner → Bool) (apart : Bool) (own : Slices) (n : ℕ) (b : Slices) (s : Step) (b′ : Slices) (s′ : Step) : Type 0 where
   pub is-step : IsStep n s′
-  pub goes : Goes j b (s .kept) (unsettled b n (s .done)) b′ (s′ .kept) (unsettled b′ n (s′ .done))
+  pub goes : Goes j b (s .kept) (unsettled (given apart own b) n (s .done)) b′ (s′ .kept) (unsettled (given apart own b′) n (s′ .done))
 
 -- and is at the list's end, or keeps so many
-pub record Reaches (j : Corner → Corner → Bool) (most n : ℕ) (b : Slices) (s : Step) (b′ : Slices) (s′ : Step) : Type 0 where
-  pub comes : Comes j n b s b′ s′
+pub record Reaches (j : Corner → Corner → Bool) (apart : Bool) (own : Slices) (most n : ℕ) (b : Slices) (s : Step) (b′ : Slices) (s′ : Step) : Type 0 where
+  pub comes : Comes j apart own n b s b′ s′
   pub far : (s′ .done ≡ n) ⊎ (most ≤ s′ .kept)

@@ -56,9 +56,13 @@ abbrev pub bufferOf : ℕ → List Corner → Slices → Slices
 bufferOf zero left b = frontCorners left b
 bufferOf (suc k) left b = b
 
--- What merging the first `count` corners of a buffer of so many places promises of the answer, its number and values, and the buffer after
-pub record Merges (radius : Float) (places count : ℕ) (b : Slices) (r : Merged) (b′ : Slices) : Type 0 where
-  pub answer : r ≡ answerOf (refusalOf radius places count b) (length (resultOf radius (cornersOf b count)))
-  pub number : numberOf r ≡ refusalOf radius places count b
-  pub values : valuesOf r ≡ valuesUnless (refusalOf radius places count b) (length (resultOf radius (cornersOf b count)) ∷ [])
-  pub buffer : b′ ≡ bufferOf (refusalOf radius places count b) (resultOf radius (cornersOf b count)) b
+-- What a call promises that leaves the corners `left`, or is refused by the number k: of the answer, its number and values, and the buffer after
+pub record Leaves (k : ℕ) (left : List Corner) (b : Slices) (r : Merged) (b′ : Slices) : Type 0 where
+  pub answer : r ≡ answerOf k (length left)
+  pub number : numberOf r ≡ k
+  pub values : valuesOf r ≡ valuesUnless k (length left ∷ [])
+  pub buffer : b′ ≡ bufferOf k left b
+
+-- merging the first `count` corners of a buffer of so many places
+abbrev pub Merges : Float → ℕ → ℕ → Slices → Merged → Slices → Type 0
+Merges radius places count b r b′ = Leaves (refusalOf radius places count b) (resultOf radius (cornersOf b count)) b r b′

@@ -2,6 +2,7 @@
 // its own by at most one each way, for the lowest place with a corner at most the radius away. It replaces that corner, in its place and with
 // its own neighbours, if it is strictly stronger, and is dropped if not; where there is none it is kept behind the others. So two corners nearer
 // than the radius may both stay, and the strongest of several need not: the grid decides who is looked at, and the list's order who is joined.
+pub mod apart; // merge_apart: the list that merging would leave, in a separate buffer
 mod grid;
 mod index;
 mod refusing;

@@ -6,6 +6,7 @@ ghost use lib.Dec.{ltb};
 ghost use Rattle.lists.specs.Places.{any};
 ghost use Rattle.corner_list.specs.CornerList.{slices, cornersOf, placesOf};
 ghost use Rattle.merge.specs.Refusals.{isOutside, refusalOf};
+ghost use Rattle.merge.specs.Apart.{refusalApart};
 
 // Whether one of the first n corners of a buffer is not inside.
 fn has_outside(xs: &[f32], ys: &[f32], strengths: &[f32], neighbours: &[u32], n: usize) -> bool
@@ -75,4 +76,23 @@ pub fn refusal(
         corner_list::places(xs.len(), ys.len(), strengths.len(), neighbours.len()),
     );
     refusal_at(xs, ys, strengths, neighbours, held, count, radius)
+}
+
+// The number of the refusal of merging the first `count` corners of a buffer into a separate one of so many places, 0 for none.
+pub fn refusal_apart(
+    xs: &[f32],
+    ys: &[f32],
+    strengths: &[f32],
+    neighbours: &[u32],
+    places: usize,
+    count: usize,
+    radius: f32,
+) -> u8
+    ensures { λ r. ⌜ r ≡ refusalApart radius places count (slices (now (xs .entry)) (now (ys .entry)) (now (strengths .entry)) (now (neighbours .entry))) ⌝ }
+{
+    let number = refusal(xs, ys, strengths, neighbours, xs.len(), count, radius);
+    if number != 0 {
+        return number;
+    }
+    crowding(places, count)
 }

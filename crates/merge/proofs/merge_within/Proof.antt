@@ -4,7 +4,7 @@ use borrow.Author.Needs.{needs}
 use native.Mathlib.Omega.{arith}
 use mathlib.Core.Path.{sym, _∙_}
 use Rattle.merge.proofs.Judged.{judged-fits}
-use Rattle.merge.proofs.Answer.{merges-refused, merges-kept}
+use Rattle.merge.proofs.Answer.{leaves-refused, leaves-kept}
 use Rattle.merge.proofs.merge_within.Statement.{statement}
 use Rattle.merge.proofs.merge_within.Tie as tie
 use Landmarks.*
@@ -25,7 +25,7 @@ same-length-4 : tie.Need-same-length-4
 same-length-4 c = search needs
 
 returns : tie.Need-returns
-returns c = merges-refused _ _ _ _ _ (c .before .refusal .ensures) (c .if1 .taken)
+returns c = leaves-refused _ _ _ _ (c .before .refusal .ensures) (c .if1 .taken)
 
 merge-list-requires : tie.Need-merge-list-requires
 merge-list-requires c κs =
@@ -48,7 +48,7 @@ returns-2 : tie.Need-returns-2
 returns-2 c =
     let done = merge-list-from-returns-2 c in
     let judged = if1-from-returns-2 c in
-    merges-kept _ _ _ _ _ _ _ (judged .before .refusal .ensures) (judged .if1 .left) (done .merge-list .ensures)
+    leaves-kept _ _ _ _ _ _ (judged .before .refusal .ensures) (judged .if1 .left) (done .merge-list .ensures)
 
 pub merge-within-spec : {M : Type 1} → statement M
 merge-within-spec =

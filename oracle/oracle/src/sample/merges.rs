@@ -158,16 +158,19 @@ fn with_faults(rng: &mut Rng) -> Case {
     case
 }
 
+/// One of the random lists.
+pub fn random_case(seed: u64, case: u64) -> Case {
+    let mut rng = Rng::of_case(seed, SUBJECT, case);
+    match case % 4 {
+        0 => in_range(&mut rng),
+        1 => with_faults(&mut rng),
+        _ => at_cell_borders(&mut rng),
+    }
+}
+
 /// The random lists, also for a check that the wrong merges show on them.
 pub fn random_cases(seed: u64) -> impl Iterator<Item = Case> {
-    (0..RANDOM).map(move |case| {
-        let mut rng = Rng::of_case(seed, SUBJECT, case);
-        match case % 4 {
-            0 => in_range(&mut rng),
-            1 => with_faults(&mut rng),
-            _ => at_cell_borders(&mut rng),
-        }
-    })
+    (0..RANDOM).map(move |case| random_case(seed, case))
 }
 
 /// Cases by hand: the grid above 2^20 cells, replacing in place, and the limits.

@@ -16,19 +16,19 @@ use Rattle.merge.proofs.settling.+merge_up_to.{statement}
 use Rattle.merge.proofs.settling.+merge_up_to.Tie.{close}
 use Landmarks.*
 
-abbrev μ-merge-up-to : Measures 4 kinds.ps ℕ
-μ-merge-up-to κs a = a .1 .1 .1 .1 .1 .1 .0
+abbrev μ-merge-up-to : Measures 8 kinds.ps ℕ
+μ-merge-up-to κs a = a .1 .1 .1 .1 .1 .1 .1 .1 .1 .1 .1 .0
 
 module _ (t : ℕ) where
   -- what it is given at the measure t, and what it and a call of itself, below t, ask and promise
-  abbrev given : In 4 kinds.ps
-  given = and 4 kinds.ps (is 4 kinds.ps μ-merge-up-to t) reads.Pre
+  abbrev given : In 8 kinds.ps
+  given = and 8 kinds.ps (is 8 kinds.ps μ-merge-up-to t) reads.Pre
 
   abbrev claims : lts.Claims
   claims = (
     merge-few-reads.Asked,
     merge-few-reads.Learnt,
-    and 4 kinds.ps (falls 4 kinds.ps _<_ μ-merge-up-to t) reads.Pre,
+    and 8 kinds.ps (falls 8 kinds.ps _<_ μ-merge-up-to t) reads.Pre,
     reads.Post,
     merge-more-reads.Asked,
     merge-more-reads.Learnt,
@@ -61,7 +61,7 @@ module _ (t : ℕ) where
   returns : lts.Need-returns claims given reads.Post
   returns c =
       let few = merge-few-from-returns c in
-      reaches-less _ _ _ _ _ _ _ (few .merge-few .ensures) _ (omega (arith, if1-from-returns c .if1 .taken))
+      reaches-less _ _ _ _ _ _ _ _ _ (few .merge-few .ensures) _ (omega (arith, if1-from-returns c .if1 .taken))
 
   merge-up-to-requires : lts.Need-merge-up-to-requires claims given reads.Post
   merge-up-to-requires c κs =
@@ -81,10 +81,10 @@ module _ (t : ℕ) where
   same-length-8 c = search needs
 
   returns-2 : lts.Need-returns-2 claims given reads.Post
-  returns-2 c = reaches-done _ _ _ _ _ _ _ (merge-up-to-from-returns-2 c .merge-up-to .ensures) _ (c .if2 .taken)
+  returns-2 c = reaches-done _ _ _ _ _ _ _ _ _ (merge-up-to-from-returns-2 c .merge-up-to .ensures) _ (c .if2 .taken)
 
   merge-more-requires : lts.Need-merge-more-requires claims given reads.Post
-  merge-more-requires c κs = let p = called (if2-from-merge-more-requires c) in reaches-ready _ _ _ _ _ _ _ (p .merge-up-to .ensures) (start p .pre .1 .0)
+  merge-more-requires c κs = let p = called (if2-from-merge-more-requires c) in reaches-ready _ _ _ _ _ _ _ _ _ (p .merge-up-to .ensures) (start p .pre .1 .0)
 
   same-length-9 : lts.Need-same-length-9 claims given reads.Post
   same-length-9 c = search needs
@@ -102,10 +102,10 @@ module _ (t : ℕ) where
   returns-3 c =
       let more = merge-more-from-returns-3 c in
       let low = if3-from-returns-3 c in
-      reaches-on _ _ _ _ _ _ _ (called (low .before) .merge-up-to .ensures) _ _ _ _ (more .merge-more .ensures) (omega (arith, low .if3 .taken))
+      reaches-on _ _ _ _ _ _ _ _ _ (called (low .before) .merge-up-to .ensures) _ _ _ _ (more .merge-more .ensures) (omega (arith, low .if3 .taken))
 
   merge-most-requires : lts.Need-merge-most-requires claims given reads.Post
-  merge-most-requires c κs = let p = called (if2-from-merge-most-requires c) in reaches-ready _ _ _ _ _ _ _ (p .merge-up-to .ensures) (start p .pre .1 .0)
+  merge-most-requires c κs = let p = called (if2-from-merge-most-requires c) in reaches-ready _ _ _ _ _ _ _ _ _ (p .merge-up-to .ensures) (start p .pre .1 .0)
 
   same-length-13 : lts.Need-same-length-13 claims given reads.Post
   same-length-13 c = search needs
@@ -123,7 +123,7 @@ module _ (t : ℕ) where
   returns-4 c =
       let most = merge-most-from-returns-4 c in
       let p = called (if2-from-returns-4 c) in
-      reaches-on _ _ _ _ _ _ _ (p .merge-up-to .ensures) _ _ _ _ (most .merge-most .ensures) (omega (arith, start p .pre .1 .1))
+      reaches-on _ _ _ _ _ _ _ _ _ (p .merge-up-to .ensures) _ _ _ _ (most .merge-most .ensures) (omega (arith, start p .pre .1 .1))
 
 pub +merge-up-to-spec : {M : Type 1} → statement M
 +merge-up-to-spec =

@@ -2,20 +2,39 @@
 mod Landmarks
 use borrow.Author.Needs.{needs}
 use mathlib.Core.Path.{sym, _∙_}
+use Rattle.corner_list.specs.CornerList.{Slices, slices}
 use Rattle.merge.proofs.Stepping.{reaches-all}
-use Rattle.merge.proofs.Answer.{left-off, left-on}
+use Rattle.merge.proofs.Answer.{left-off, left-on, left-all}
 use Rattle.merge.proofs.settling.merge_list.Statement.{statement}
 use Rattle.merge.proofs.settling.merge_list.Tie as tie
 use Landmarks.*
+
+-- the buffer at the start
+abbrev buffer : tie.Start → Slices
+buffer c = slices (c .args .xs .now) (c .args .ys .now) (c .args .strengths .now) (c .args .neighbours .now)
 
 is-off-requires : tie.Need-is-off-requires
 is-off-requires c κs = search needs
 
 returns : tie.Need-returns
-returns c = left-off _ _ _ (sym (c .before .is-off .ensures) ∙ c .if1 .taken) (start-from-returns c .pre)
+returns c =
+    let s = start-from-returns c in
+    left-off _ (buffer s) _ _ _ _ (sym (c .before .is-off .ensures) ∙ c .if1 .taken) (left-all _ _ (s .pre))
 
 grid-of-requires : tie.Need-grid-of-requires
 grid-of-requires c κs = search needs
+
+slice-aggregate-merge-up-to : tie.Need-slice-aggregate-merge-up-to
+slice-aggregate-merge-up-to c = search needs
+
+slice-aggregate-merge-up-to-2 : tie.Need-slice-aggregate-merge-up-to-2
+slice-aggregate-merge-up-to-2 c = search needs
+
+slice-aggregate-merge-up-to-3 : tie.Need-slice-aggregate-merge-up-to-3
+slice-aggregate-merge-up-to-3 c = search needs
+
+slice-aggregate-merge-up-to-4 : tie.Need-slice-aggregate-merge-up-to-4
+slice-aggregate-merge-up-to-4 c = search needs
 
 merge-up-to-requires : tie.Need-merge-up-to-requires
 merge-up-to-requires c κs = search needs
@@ -37,7 +56,8 @@ returns-2 c =
     let done = merge-up-to-from-returns-2 c in
     let made = grid-of-from-returns-2 c in
     let on = if1-from-returns-2 c in
-    left-on _ _ _ _ _ _ (sym (on .before .is-off .ensures) ∙ on .if1 .left) (made .grid-of .ensures) (reaches-all _ _ _ _ _ (done .merge-up-to .ensures))
+    left-on _ (buffer (start-from-returns-2 c)) _ _ _ _ _ (sym (on .before .is-off .ensures) ∙ on .if1 .left) (made .grid-of .ensures)
+    (reaches-all _ _ _ _ _ _ _ (done .merge-up-to .ensures))
 
 pub merge-list-spec : {M : Type 1} → statement M
 merge-list-spec =
@@ -46,6 +66,10 @@ merge-list-spec =
     is-off-requires
     returns
     grid-of-requires
+    slice-aggregate-merge-up-to
+    slice-aggregate-merge-up-to-2
+    slice-aggregate-merge-up-to-3
+    slice-aggregate-merge-up-to-4
     merge-up-to-requires
     same-length
     same-length-2

@@ -3,7 +3,7 @@
 use borrow.Fn.Kinds
 use Rattle.merge.proofs.settling.+merge_up_to.Lts-merge_up_to as tie
 
-module _ {claims : tie.Claims} {given : Kinds.In 4 tie.ps} {post : Kinds.Out 4 tie.ps tie.r} where
+module _ {claims : tie.Claims} {given : Kinds.In 8 tie.ps} {post : Kinds.Out 8 tie.ps tie.r} where
   abbrev pub merge-few-from-returns : tie.After-slice-known8 claims given post → tie.After-merge-few claims given post
   merge-few-from-returns c = c .before .before .before .before .before .before .before .before
 
@@ -14,7 +14,8 @@ module _ {claims : tie.Claims} {given : Kinds.In 4 tie.ps} {post : Kinds.Out 4 t
   if1-from-merge-up-to-requires c = c .before .before .before .before
 
   abbrev pub start-from-merge-up-to-requires : tie.After-merge-up-to-arg4 claims given post → tie.Start claims given post
-  start-from-merge-up-to-requires c = if1-from-merge-up-to-requires c .before .before .before .before .before
+  start-from-merge-up-to-requires c =
+      if1-from-merge-up-to-requires c .before .before .before .before .before .before .before .before .before
 
   abbrev pub merge-up-to-from-returns-2 : tie.Then2 claims given post → tie.After-merge-up-to claims given post
   merge-up-to-from-returns-2 c = c .before .before .before .before .before .before .before .before .before .before
@@ -38,7 +39,8 @@ module _ {claims : tie.Claims} {given : Kinds.In 4 tie.ps} {post : Kinds.Out 4 t
   if2-from-returns-4 c = merge-most-from-returns-4 c .before .before .before .before .before .before
 
   abbrev pub start-from-merge-up-to : tie.After-merge-up-to claims given post → tie.Start claims given post
-  start-from-merge-up-to c = c .before .before .before .before .before .before .before .before .before .before
+  start-from-merge-up-to c =
+      c .before .before .before .before .before .before .before .before .before .before .before .before .before .before
 
   abbrev pub merge-up-to-from-else2 : tie.Else2 claims given post → tie.After-merge-up-to claims given post
   merge-up-to-from-else2 c = c .before .before .before .before .before .before .before .before .before .before

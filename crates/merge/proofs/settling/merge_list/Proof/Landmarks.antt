@@ -9,7 +9,10 @@ abbrev pub merge-up-to-from-returns-2 : tie.After-slice-known8 → tie.After-mer
 merge-up-to-from-returns-2 c = c .before .before .before .before .before .before .before .before
 
 abbrev pub grid-of-from-returns-2 : tie.After-slice-known8 → tie.After-grid-of
-grid-of-from-returns-2 c = merge-up-to-from-returns-2 c .before .before .before .before .before
+grid-of-from-returns-2 c = merge-up-to-from-returns-2 c .before .before .before .before .before .before .before .before .before
 
 abbrev pub if1-from-returns-2 : tie.After-slice-known8 → tie.Else1
 if1-from-returns-2 c = grid-of-from-returns-2 c .before .before .before
+
+abbrev pub start-from-returns-2 : tie.After-slice-known8 → tie.Start
+start-from-returns-2 c = if1-from-returns-2 c .before .before .before .before .before .before

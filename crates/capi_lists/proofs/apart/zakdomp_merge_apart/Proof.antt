@@ -1,0 +1,44 @@
+-- `capi_lists::zakdomp_merge_apart` meets its contract: the answer of the function that it calls, taken apart. Assumes nothing.
+mod Landmarks
+use borrow.Author.Needs.{needs}
+use Rattle.capi_lists.proofs.Separate.{merged-apart}
+use Rattle.capi_lists.proofs.apart.zakdomp_merge_apart.Statement.{statement}
+use Rattle.capi_lists.proofs.apart.zakdomp_merge_apart.Tie as tie
+use Landmarks.*
+
+merge-apart-requires : tie.Need-merge-apart-requires
+merge-apart-requires c κs = search needs
+
+kept-of-requires : tie.Need-kept-of-requires
+kept-of-requires c κs = search needs
+
+number-of-requires : tie.Need-number-of-requires
+number-of-requires c κs = search needs
+
+same-length : tie.Need-same-length
+same-length c = search needs
+
+same-length-2 : tie.Need-same-length-2
+same-length-2 c = search needs
+
+same-length-3 : tie.Need-same-length-3
+same-length-3 c = search needs
+
+same-length-4 : tie.Need-same-length-4
+same-length-4 c = search needs
+
+returns : tie.Need-returns
+returns c = merged-apart _ _ _ _ _ _ _ _ _ (merge-apart-from-returns c .merge-apart .ensures) (c .number-of .ensures) (c .before .kept-of .ensures)
+
+pub zakdomp-merge-apart-spec : {M : Type 1} → statement M
+zakdomp-merge-apart-spec =
+    tie.close
+    (tie.spec
+    merge-apart-requires
+    kept-of-requires
+    number-of-requires
+    same-length
+    same-length-2
+    same-length-3
+    same-length-4
+    returns)

@@ -1,0 +1,51 @@
+// The list that merging would leave, in a separate buffer.
+use merge::Merged;
+ghost use mathlib.Core.Path.{_≡_};
+ghost use Rattle.corner_list.specs.CornerList.{slices};
+ghost use Rattle.merge.specs.Merge.{numberOf};
+ghost use Rattle.capi_lists.specs.Apart.{keptOf, CornersMergedApart};
+
+// The number of an answer, 0 where a list was written.
+fn number_of(a: Merged) -> u8
+    ensures { λ r. ⌜ r ≡ numberOf a ⌝ }
+{
+    match a {
+        Merged::Kept(_) => 0,
+        Merged::Refused(n) => n,
+    }
+}
+
+// How many corners are left, or `before` where refused.
+fn kept_of(a: Merged, before: usize) -> usize
+    ensures { λ r. ⌜ r ≡ keptOf a before ⌝ }
+{
+    match a {
+        Merged::Kept(n) => n,
+        Merged::Refused(_) => before,
+    }
+}
+
+// Leaves in a separate buffer, `mx` to `mn`, what merging the first `count` corners of a buffer in place would leave there, and puts the number of
+// those corners into `kept`.
+#[no_mangle]
+pub extern "C" fn zakdomp_merge_apart(
+    xs: &[f32],
+    ys: &[f32],
+    strengths: &[f32],
+    neighbours: &[u32],
+    count: usize,
+    radius: f32,
+    mx: &mut [f32],
+    my: &mut [f32],
+    ms: &mut [f32],
+    mn: &mut [u32],
+    kept: &mut usize,
+) -> u8
+    ensures { λ r. ⌜ CornersMergedApart radius count (slices (now (xs .entry)) (now (ys .entry)) (now (strengths .entry)) (now (neighbours .entry)))
+        (slices (now (mx .entry)) (now (my .entry)) (now (ms .entry)) (now (mn .entry))) (now (kept .entry))
+        r (slices (now (mx .exit)) (now (my .exit)) (now (ms .exit)) (now (mn .exit))) (now (kept .exit)) ⌝ }
+{
+    let a = merge::apart::merge_apart(xs, ys, strengths, neighbours, count, radius, mx, my, ms, mn);
+    *kept = kept_of(a, *kept);
+    number_of(a)
+}
