@@ -408,6 +408,29 @@ static void striking(void) {
     expect(memcmp(&l, &before, sizeof l) == 0, "refused: the shown corner too as it was");
 }
 
+/* Corners merged by distance alone, in slices of different lengths; both merges of the case that tells them apart (RULES 31.5). */
+static void merging_naively(void) {
+    float x[4] = {0.99999994f, 2, 0, 7}, y[3] = {0, 0, 100}, s[3] = {1, 1, 1};
+    uint32_t n[3] = {4, 5, 6};
+    size_t kept = 77;
+    expect(zakdomp_merge_naive(x, 4, y, 3, s, 3, n, 2, 3, 1, &kept) == ZAKDOMP_LIST_SHORT, "neighbours for two corners of three");
+    expect(zakdomp_merge_naive(x, 4, y, 3, s, 3, n, 3, 3, 5000, &kept) == ZAKDOMP_MERGE_RADIUS, "a radius of 5000 for distances");
+    x[1] = -1;
+    expect(zakdomp_merge_naive(x, 4, y, 3, s, 3, n, 2, 3, 5000, &kept) == ZAKDOMP_COORDINATE, "4 before 5 and 10");
+    expect(zakdomp_merge_naive(x, 4, y, 3, s, 3, n, 2, 3, 0, &kept) == ZAKDOMP_LIST_SHORT, "an off radius: 10 alone");
+    expect(kept == 77 && x[1] == -1 && n[0] == 4, "refused: as it was");
+    expect(zakdomp_merge_naive(x, 4, y, 3, s, 3, n, 3, 3, -INFINITY, &kept) == 0 && kept == 3 && x[1] == -1, "an off radius keeps the list");
+    x[1] = 2;
+    expect(zakdomp_merge_naive(x, 4, y, 3, s, 3, n, 3, 3, 1, &kept) == 0 && kept == 2, "two corners by distance alone");
+    expect(x[0] == 0.99999994f && x[1] == 0 && y[1] == 100 && n[0] == 4 && n[1] == 6, "the first and the third");
+    expect(x[2] == 0 && y[2] == 100 && n[2] == 6 && x[3] == 7, "behind them as it was");
+    x[1] = 2;
+    y[1] = 0;
+    expect(zakdomp_merge(x, 4, y, 3, s, 3, n, 3, 3, 1, &kept) == 0 && kept == 3, "three by cells");
+    s[1] = 2;
+    expect(zakdomp_merge_naive(x, 4, y, 3, s, 3, n, 3, 3, 1, &kept) == 0 && kept == 2 && x[0] == 2 && n[0] == 6, "a stronger one with its neighbours");
+}
+
 int main(void) {
     uint8_t img[CELLS];
     whole_case(img);
@@ -421,6 +444,7 @@ int main(void) {
     retouching(img);
     known_between(img);
     striking();
+    merging_naively();
     streams(img);
     writing(img);
     holdings();

@@ -203,6 +203,15 @@ uint8_t zakdomp_merge_apart(const float *xs, size_t xs_length, const float *ys, 
                             float *mx, size_t mx_length, float *my, size_t my_length, float *ms, size_t ms_length, uint32_t *mn,
                             size_t mn_length, size_t *kept);
 
+/* The same by distance alone, without cells: each corner in turn looks among all that are kept for the first at most `radius` away. It leaves what
+ * zakdomp_merge leaves where the coordinates are multiples of 1/64 and the radius is a power of two from 1/64 to 4096. Elsewhere the two may
+ * differ: of (0.99999994, 0), (2, 0), (0, 100) at radius 1 it leaves two, and zakdomp_merge all three. Its time grows with `count` times `kept`;
+ * the frame merges by cells.
+ *   kept  the number of corners that are left
+ * Refusals: 4, 5, 10. */
+uint8_t zakdomp_merge_naive(float *xs, size_t xs_length, float *ys, size_t ys_length, float *strengths, size_t strengths_length,
+                            uint32_t *neighbours, size_t neighbours_length, size_t count, float radius, size_t *kept);
+
 /* How many bytes the level buffer of an image of w by h pixels needs. */
 size_t zakdomp_level_bytes(size_t w, size_t h, uint32_t level_count, size_t minimum);
 

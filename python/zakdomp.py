@@ -11,6 +11,7 @@
     sure_peak(lows, highs, width, height, x, y)        ->  whether a place is a peak of every image between the limits
     EditedList(corners)                                ->  a list from which corners are struck: `show(place)`, then `strike(place, change)`
     merged(corners, radius)                            ->  the corners that merging would leave, to try several radii
+    merge_naive(corners, radius)                       ->  the corners that are left when they are merged by distance alone
     write_stream(pixels, width, height, threshold=30)  ->  the bytes that the program `corners` reads
     holding(kind, start, time), holdings(stream)       ->  "N" not yet, "H" held or "G" gone, for an item and for each of a stream
 
@@ -145,11 +146,12 @@ def _load():
     library.zakdomp_has_peaks.argtypes = piece + [size, size] + numbers[:5] + [size, ctypes.POINTER(u8), out]
     library.zakdomp_show_corner.argtypes = 4 * piece + [size, u32, size] + 3 * [ctypes.POINTER(f32)] + 2 * [ctypes.POINTER(u32)]
     library.zakdomp_strike_corner.argtypes = 4 * piece + [out, ctypes.POINTER(u32), size, u32]
+    library.zakdomp_merge_naive.argtypes = 4 * piece + [size, f32, out]
     library.zakdomp_write_stream.argtypes = piece + [size, size] + 7 * [u32] + [size, u32] + piece + [out]
     library.zakdomp_holding.argtypes = [u8, u64, u64, ctypes.POINTER(u8)]
     library.zakdomp_holdings.argtypes = piece + [ctypes.c_void_p]
-    for function in ("find_corners", "find_corners_pgm", "pgm", "response", "has_peaks", "merge_apart", "retouch", "response_limits", "sure_peak",
-                     "show_corner", "strike_corner", "write_stream", "holding"):
+    for function in ("find_corners", "find_corners_pgm", "pgm", "response", "has_peaks", "merge_apart", "merge_naive", "retouch",
+                     "response_limits", "sure_peak", "show_corner", "strike_corner", "write_stream", "holding"):
         getattr(library, "zakdomp_" + function).restype = u8
     library.zakdomp_level_bytes.restype = library.zakdomp_holdings.restype = size
     return library
@@ -418,6 +420,26 @@ class EditedList:
         number = _library.zakdomp_strike_corner(*self._pieces, ctypes.byref(self._count), ctypes.byref(self._change), place, change)
         if number:
             raise Refusal(number)
+
+
+def merge_naive(corners, radius):
+    """What is left of corners that are merged by distance alone. Each in turn looks among those kept for the first at most `radius` away, takes its place
+    if it is strictly stronger, and is dropped if not; where there is none it is kept behind the others. A radius of 0, a negative one and one that
+    is not finite keep all. No frame is merged so: the two merges leave the same where the coordinates are multiples of 1/64 and the radius is a
+    power of two from 1/64 to 4096."""
+    corners = list(corners)
+    kinds = (ctypes.c_float, ctypes.c_float, ctypes.c_float, ctypes.c_uint32)
+    slices = [(kind * max(len(corners), 1))() for kind in kinds]
+    for i, corner in enumerate(corners):
+        _whole("neighbours", corner.neighbours, 32)
+        for values, value in zip(slices, corner):
+            values[i] = value
+    pieces = [word for values in slices for word in (ctypes.addressof(values), len(corners))]
+    kept = ctypes.c_size_t(0)
+    number = _library.zakdomp_merge_naive(*pieces, len(corners), radius, ctypes.byref(kept))
+    if number:
+        raise Refusal(number)
+    return [Corner(*fields) for fields in zip(*(values[:kept.value] for values in slices))]
 
 
 def write_stream(pixels, width, height, *, ring=5, threshold=0.0, window=2, least_neighbours=2, centroid_radius=2, merge_radius=3.0, levels=1,

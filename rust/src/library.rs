@@ -2,8 +2,9 @@
 use crate::editing::EditedList;
 use crate::raw::{
     zakdomp_find_corners, zakdomp_find_corners_pgm, zakdomp_has_peaks, zakdomp_holding, zakdomp_holdings,
-    zakdomp_level_bytes, zakdomp_pgm, zakdomp_response, zakdomp_response_limits, zakdomp_retouch,
-    zakdomp_show_corner, zakdomp_strike_corner, zakdomp_sure_peak, zakdomp_write_stream, HOLDINGS,
+    zakdomp_level_bytes, zakdomp_merge_naive, zakdomp_pgm, zakdomp_response, zakdomp_response_limits,
+    zakdomp_retouch, zakdomp_show_corner, zakdomp_strike_corner, zakdomp_sure_peak, zakdomp_write_stream,
+    HOLDINGS,
 };
 use crate::{Corner, Lists, Params, Refusal};
 use std::ops::Range;
@@ -173,6 +174,22 @@ pub(crate) fn strike_corner(list: &mut EditedList, place: usize, shown: u32) -> 
         )
     };
     unless_refused(number, ())
+}
+
+/// How many corners are left.
+#[rustfmt::skip]
+pub(crate) fn merge_naive(
+    xs: &mut [f32], ys: &mut [f32], strengths: &mut [f32], neighbours: &mut [u32], count: usize, radius: f32,
+) -> Result<usize, Refusal> {
+    let mut kept = 0;
+    // SAFETY: every slice is whole, none overlaps another, and the call keeps none.
+    let number = unsafe {
+        zakdomp_merge_naive(
+            xs.as_mut_ptr(), xs.len(), ys.as_mut_ptr(), ys.len(), strengths.as_mut_ptr(), strengths.len(),
+            neighbours.as_mut_ptr(), neighbours.len(), count, radius, &mut kept,
+        )
+    };
+    unless_refused(number, kept)
 }
 
 #[rustfmt::skip]

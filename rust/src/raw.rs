@@ -76,6 +76,10 @@ extern "C" {
         mx: *mut f32, mx_length: usize, my: *mut f32, my_length: usize, ms: *mut f32, ms_length: usize, mn: *mut u32, mn_length: usize,
         kept: *mut usize,
     ) -> u8;
+    pub fn zakdomp_merge_naive(
+        xs: *mut f32, xs_length: usize, ys: *mut f32, ys_length: usize, strengths: *mut f32, strengths_length: usize,
+        neighbours: *mut u32, neighbours_length: usize, count: usize, radius: f32, kept: *mut usize,
+    ) -> u8;
     pub fn zakdomp_level_bytes(w: usize, h: usize, level_count: u32, minimum: usize) -> usize;
     pub fn zakdomp_levels(
         img: *const u8, img_length: usize, w: usize, h: usize, level_count: u32, minimum: usize,

@@ -1,3 +1,4 @@
+pub mod Naive
 pub mod Showing
 pub mod Striking
 pub mod Apart

@@ -9,6 +9,7 @@ use Rattle.published.proofs.Centroid.{refine-as-published}
 use Rattle.published.proofs.Roi.{roi-as-published}
 use Rattle.published.proofs.Cells.{cells-as-published}
 use Rattle.published.proofs.Merge.{merge-as-published}
+use Rattle.published.proofs.Naive.{naive-as-published}
 use Rattle.demands.specs.AsPublished.{AsPublished}
 
 pub as-published : AsPublished
@@ -24,4 +25,5 @@ as-published = record {
   roi = roi-as-published;
   cells = cells-as-published;
   merge = merge-as-published;
+  naive = naive-as-published;
 }

@@ -52,11 +52,9 @@ kept-is : (k n m : ℕ) → Kept n ≡ merge.answerOf k m → (k ≡ 0) × (n �
 kept-is zero n m e = (refl, (cc))
 kept-is (suc k) n m e = absurd (let z : _≡_ {A = ℕ} 0 1 = cc in omega arith)
 
-merged-is : (radius : Float) (places count : ℕ) (b b′ : Slices) (n : ℕ) → merge.Merges radius places count b (Kept n) b′
-    → cornersOf b′ n ≡ merge.resultOf radius (cornersOf b count)
-merged-is radius places count b b′ n f =
-    let left = merge.resultOf radius (cornersOf b count) in
-    let k = kept-is (merge.refusalOf radius places count b) n (length left) (f .answer) in
+left-is : (number : ℕ) (left : List Corner) (b b′ : Slices) (n : ℕ) → merge.Leaves number left b (Kept n) b′ → cornersOf b′ n ≡ left
+left-is number left b b′ n f =
+    let k = kept-is number n (length left) (f .answer) in
     ap (λ (s : Slices). cornersOf s n) (f .buffer ∙ ap (λ (j : ℕ). merge.bufferOf j left b) (k .0)) ∙ corners-front left b n (k .1)
 
 slice-is : (radius : Float) (count : ℕ) (cs cs′ : List Corner) (b b′ : Slices) (n : ℕ) → MergesSlice radius count cs b (Kept n) cs′ b′
@@ -74,7 +72,8 @@ bit-for-bit = record {
   «build_pyramid» = λ base w h count least d e n f k l.
       level-found base w h count least d e n (built base w h count least d _ e f n refl) k l;
   «compute_roi» = box-is;
-  «merge_corners_simple» = λ radius count b b′ n f. merged-is radius _ count b b′ n f;
+  «merge_corners_simple» = λ radius count b b′ n f. left-is _ _ b b′ n f;
+  «merge_corners_naive» = λ radius count b b′ n f. left-is _ _ b b′ n f;
   «merge_corner_slice» = slice-is;
   «find_corners» = λ c. finished-tells (c .parameters) (c .img) (c .w) (c .h) (c .before) (c .count) (c .ties) (c .after) (c .promise) .corners;
   find = λ input text text′ end f. rw (f .holds) (front-take (outputOf input) text end (f .ends));

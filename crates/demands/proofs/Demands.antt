@@ -14,6 +14,7 @@ use Rattle.demands.proofs.Apart.{apart-is-merge}
 use Rattle.demands.proofs.Enough.{enough-is-counting, looks-no-further}
 use Rattle.demands.proofs.Strike.{raised-by-strikes-only, shown-is-struck}
 use Rattle.demands.proofs.Writing.{read-back, written-back}
+use Rattle.demands.proofs.MergeNaive.{naive-alike, naive-refuses-alike, naive-off, naive-case}
 use Rattle.demands.proofs.Retention.{held-when, retained-total, retained-reads}
 use Rattle.demands.proofs.Retouch.{only-touched, at-most-21, fresh-again, moves-little}
 use Rattle.demands.proofs.Limits.{limits-contain, limits-exact, sure-peak-exact}
@@ -70,6 +71,10 @@ demands = record {
   shown-is-struck = shown-is-struck;
   read-back = read-back;
   written-back = written-back;
+  naive-alike = naive-alike;
+  naive-refuses-alike = naive-refuses-alike;
+  naive-off = naive-off;
+  naive-case = naive-case;
   held-when = held-when;
   retained-total = retained-total;
   retained-reads = retained-reads;

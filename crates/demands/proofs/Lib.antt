@@ -23,6 +23,7 @@ pub mod PlainHeader
 pub mod Photographs
 pub mod Strike
 pub mod Writing
+pub mod MergeNaive
 pub mod Retouch
 pub mod Limits
 pub mod Demands

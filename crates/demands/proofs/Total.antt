@@ -343,6 +343,7 @@ total = record {
   «merge_corners_simple» = λ radius count b b′ r f. merge-refuses radius (placesOf b) count b _ r (f .answer);
   «merge_within» = λ radius places count b b′ r f. merge-refuses radius (min places (placesOf b)) count b _ r (f .answer);
   «merge_apart» = λ radius count b d d′ r f. apart-refuses radius (placesOf d) count b _ r (f .answer);
+  «merge_corners_naive» = λ radius count b b′ r f. merge-refuses radius (placesOf b) count b _ r (f .answer);
   «merge_corner_slice» = λ radius count cs cs′ b b′ r f. slice-refuses radius count cs b _ r (f .answer);
   «show_corner» = show-refuses;
   «strike_corner» = strike-refuses;

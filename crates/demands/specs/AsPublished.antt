@@ -8,7 +8,7 @@ use Rattle.published.specs.NeighborsRs.{WindowAsPublished}
 use Rattle.published.specs.DetectRs.{PeaksAsPublished}
 use Rattle.published.specs.CenterOfMassRs.{RefineAsPublished}
 use Rattle.published.specs.MultiscaleRs.{RoiAsPublished}
-use Rattle.published.specs.MergeRs.{CellsAsPublished, MergeAsPublished}
+use Rattle.published.specs.MergeRs.{CellsAsPublished, MergeAsPublished, NaiveAsPublished}
 
 pub record AsPublished : Type 0 where
   -- ring.rs: signed offsets
@@ -27,6 +27,7 @@ pub record AsPublished : Type 0 where
   pub centroid : RefineAsPublished
   -- multiscale.rs: a search radius over the scale, rounded up, and boxes in signed numbers
   pub roi : RoiAsPublished
-  -- merge.rs: cell numbers that are capped, and the grid of lists
+  -- merge.rs: cell numbers that are capped, and the grid of lists; and the merge without it
   pub cells : CellsAsPublished
   pub merge : MergeAsPublished
+  pub naive : NaiveAsPublished

@@ -26,6 +26,7 @@ use Rattle.multiscale.specs.Multiscale as multiscale
 use Rattle.multiscale.specs.Promise.{Boxed}
 use Rattle.merge.specs.declared.Merged.the-variants.{Kept}
 use Rattle.merge.specs.Merge.{resultOf, Merges}
+use Rattle.merge_naive.specs.MergeNaive.{naiveOf, MergesNaive}
 use Rattle.merge_slice.specs.MergeSlice.{MergesSlice}
 use Rattle.patch_corners.specs.OneMap.{computedChoice}
 use Rattle.frame_pass.specs.Pass.{framePass}
@@ -53,6 +54,8 @@ pub record BitForBit : Type 0 where
   -- "merged corners": first in the buffer, or in the slice
   pub «merge_corners_simple» : (radius : Float) (count : ℕ) (b b′ : Slices) (n : ℕ) → Merges radius (placesOf b) count b (Kept n) b′
       → cornersOf b′ n ≡ resultOf radius (cornersOf b count)
+  pub «merge_corners_naive» : (radius : Float) (count : ℕ) (b b′ : Slices) (n : ℕ) → MergesNaive radius count b (Kept n) b′
+      → cornersOf b′ n ≡ naiveOf radius (cornersOf b count)
   pub «merge_corner_slice» : (radius : Float) (count : ℕ) (cs cs′ : List Corner) (b b′ : Slices) (n : ℕ) → MergesSlice radius count cs b (Kept n) cs′ b′
       → take n cs′ ≡ resultOf radius (take count cs)
   -- and a whole frame: the pass that is composed of these

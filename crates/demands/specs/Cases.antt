@@ -5,7 +5,7 @@ use mathlib.Core.List.{List, [], _∷_, map}
 use lib.IntN.{ℤ, pos, negsuc}
 use lib.ListN.{length, replicate, set}
 use mathlib.Core.Bool.{false}
-use lib.Ieee.{Float, fin}
+use lib.Ieee.{Float, fin, binary32, toBits}
 use Rattle.float32.specs.Float32.{zero, floatOf}
 use Rattle.corner_list.specs.declared.Corner.{Corner}
 use Rattle.multiscale.specs.declared.RoiContext.{RoiContext}
@@ -14,6 +14,9 @@ use Rattle.pyramid_levels.specs.Levels.{levelSide, levelCount}
 use Rattle.pyramid.specs.Pyramid.{halved}
 use Rattle.ring.specs.Ring.{ring5}
 use Rattle.response.specs.Exact.{fifthsAt}
+use Rattle.merge.specs.Merge.{resultOf}
+use Rattle.merge_naive.specs.MergeNaive.{naiveOf}
+use Rattle.merge_naive.specs.Case.{one, three}
 
 pub record Case : Type 0 where
   pub given : List ℤ
@@ -63,9 +66,13 @@ seed x y = record { x = x; y = y; strength = zero; neighbours = 0 }
 abbrev box : Corner → List ℕ
 box s = numberOf (roiOf context s) ∷ valuesOf (roiOf context s)
 
+-- ---- corners: the bits of their columns
+abbrev columnBits : List Corner → List ℕ
+columnBits = map (λ (c : Corner). toBits binary32 (c .x))
+
 -- ---- the table
 unfoldable pub cases : List Case
-unfolding fifthsAt halved levelCount roiOf
+unfolding fifthsAt halved levelCount roiOf resultOf naiveOf
 cases =
     -- box 0,0,0,1 → 0; 0,0,1,1 → 1; four 255 → 255
     naturals (halved (0 ∷ 0 ∷ 0 ∷ 1 ∷ []) 2 2) (0 ∷ [])
@@ -84,6 +91,9 @@ cases =
     ∷ naturals (box (seed (floatOf 50) (floatOf 40))) (0 ∷ 89 ∷ 69 ∷ 112 ∷ 92 ∷ [])
     ∷ naturals (box (seed (fin false 15 (negsuc 0)) (floatOf 50))) (0 ∷ [])
     ∷ naturals (box (seed (floatOf 8) (floatOf 50))) (0 ∷ 9 ∷ 89 ∷ 28 ∷ 112 ∷ [])
+    -- merge radius 1, (1 - 2^-24, 0), (2, 0), (0, 100) → all three by cells; the first and the third by distance alone
+    ∷ naturals (columnBits (resultOf one three)) (0x3f7f_ffff ∷ 0x4000_0000 ∷ 0 ∷ [])
+    ∷ naturals (columnBits (naiveOf one three)) (0x3f7f_ffff ∷ 0 ∷ [])
     ∷ []
 
 -- each comes out as it is said

@@ -14,6 +14,7 @@ use Rattle.demands.specs.Apart.{ApartIsMerge}
 use Rattle.demands.specs.Enough.{EnoughIsCounting, LooksNoFurther}
 use Rattle.demands.specs.Strike.{RaisedByStrikesOnly, ShownIsStruck}
 use Rattle.demands.specs.Writing.{ReadBack, WrittenBack}
+use Rattle.demands.specs.MergeNaive.{MergesAlike, RefusesAlike, OffReturnsList, CaseToldApart}
 use Rattle.demands.specs.Retention.{HeldWhen, RetainedTotal, RetainedReads}
 use Rattle.demands.specs.Retouch.{OnlyTouched, AtMost21, Fresh, MovesLittle}
 use Rattle.demands.specs.Limits.{LimitsContain, LimitsExact, SurePeakExact}
@@ -128,6 +129,15 @@ pub record Demands : Type 0 where
   pub read-back : ReadBack
   -- "an accepted stream, read and rewritten, is the same up to its kind 4 byte"
   pub written-back : WrittenBack
+  -- ---- Request 12: merge without cells
+  -- "equal to the one in use whenever all coordinates are multiples of 1/64 and the radius is a power of two from 1/64 to 4,096"
+  pub naive-alike : MergesAlike
+  -- "It gives the old merge's refusals in their order"
+  pub naive-refuses-alike : RefusesAlike
+  -- "and an off radius returns the list"
+  pub naive-off : OffReturnsList
+  -- "Outside that the case .. two corners by one and three by the other"
+  pub naive-case : CaseToldApart
   -- ---- Request 13: what may be deleted
   -- "whether we hold it": for each kind the interval in which an item is held
   pub held-when : HeldWhen

@@ -22,6 +22,7 @@ pub mod Texts
 pub mod Photographs
 pub mod Strike
 pub mod Writing
+pub mod MergeNaive
 pub mod Retouch
 pub mod Limits
 pub mod Demands

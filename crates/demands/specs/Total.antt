@@ -17,6 +17,8 @@
 --   pyramid         level (nothing where `level_at` refuses)
 --   pgm             pgm_pixels (nothing where `read_pgm` refuses)
 --   merge_radius    is_off, is_sized, is_outside
+--   merge           position_of, position_at, grid_of, column_of, row_of, is_near, is_joined (of its module `grid`), refusal (of `refusing`; the
+--                   number alone)
 --   patch_corners   clear, clear_bytes, clear_list (of its module `clearing`)
 --   frame_pass      refusal (the number before the pass)
 --   stream          wanted
@@ -59,6 +61,7 @@ use Rattle.merge.specs.declared.Merged.{Merged}
 use Rattle.merge.specs.declared.Merged.the-variants as merge
 use Rattle.merge.specs.Merge.{Merges}
 use Rattle.merge.specs.Apart.{MergedApart}
+use Rattle.merge_naive.specs.MergeNaive.{MergesNaive}
 use Rattle.merge_slice.specs.MergeSlice.{MergesSlice}
 use Rattle.corner_strike.specs.declared.Edition.{Edition}
 use Rattle.corner_strike.specs.declared.showing.Shown.{Shown}
@@ -137,6 +140,8 @@ pub record Total : Type 0 where
   pub «merge_within» : (radius : Float) (places count : ℕ) (b b′ : Slices) (r : Merged) → Merges radius (min places (placesOf b)) count b r b′
       → Refuses merge.Refused (4 ∷ 5 ∷ 10 ∷ []) r
   pub «merge_apart» : (radius : Float) (count : ℕ) (b d d′ : Slices) (r : Merged) → MergedApart radius count b d r d′
+      → Refuses merge.Refused (4 ∷ 5 ∷ 10 ∷ []) r
+  pub «merge_corners_naive» : (radius : Float) (count : ℕ) (b b′ : Slices) (r : Merged) → MergesNaive radius count b r b′
       → Refuses merge.Refused (4 ∷ 5 ∷ 10 ∷ []) r
   pub «merge_corner_slice» : (radius : Float) (count : ℕ) (cs cs′ : List Corner) (b b′ : Slices) (r : Merged) → MergesSlice radius count cs b r cs′ b′
       → Refuses merge.Refused (4 ∷ 5 ∷ 10 ∷ []) r

@@ -278,7 +278,7 @@ pub record Digits (f : Format) (p n i : ℕ) : Type 0 where
 gap-below : (x y z : ℕ) → y ≤ x → x < y + z → x - y < z
 gap-below x y z l h = omega arith
 
-round-exact-at : (f : Format) (s : Bool) (a C p n i : ℕ) → 0 < C → IsFrac s a C p n (2 ^ i) → Digits f p n i → IsValue (round f s a C) p n (2 ^ i)
+pub round-exact-at : (f : Format) (s : Bool) (a C p n i : ℕ) → 0 < C → IsFrac s a C p n (2 ^ i) → Digits f p n i → IsValue (round f s a C) p n (2 ^ i)
 round-exact-at f s a C p n i K e d = go s e
   where
     split : 2 ^ low f ≡ 2 ^ i * 2 ^ (low f - i)
@@ -309,7 +309,7 @@ round-exact-at f s a C p n i K e d = go s e
         rescale (round f false a C) a 0 C p n (2 ^ i) K (omega arith)
         (of-HasValue (round f false a C) false a C (val false (p - n) (gap-below p n (2 ^ prec f) h (d .under)) (omega (arith, spread C p n))))
 
-frac-exact : (f : Format) (x : Float) (P N D p n i : ℕ) → 0 < D → SignedFrac f x P N D → P * 2 ^ i + n * D ≡ p * D + N * 2 ^ i
+pub frac-exact : (f : Format) (x : Float) (P N D p n i : ℕ) → 0 < D → SignedFrac f x P N D → P * 2 ^ i + n * D ≡ p * D + N * 2 ^ i
     → Digits f p n i → IsValue x p n (2 ^ i)
 frac-exact f x P N D p n i E s e d =
     subst (λ (z : Float). IsValue z p n (2 ^ i)) (sym (s .is))

@@ -93,10 +93,10 @@ own-units m e f = (refl, ap (λ (z : ℕ). m * up e * z) (sym (down-rest e (own-
     regroup n d t = simp (mul-assoc, mul-comm)
 
 -- far below overflow
-abbrev Small : Format → ℕ → Type 0
+abbrev pub Small : Format → ℕ → Type 0
 Small f s = s < 2 ^ emax f * 2 ^ low f
 
-round-units : (f : Format) (s : ℕ) → Small f s → Units f (round f false s (2 ^ low f)) (rounded f s)
+pub round-units : (f : Format) (s : ℕ) → Small f s → Units f (round f false s (2 ^ low f)) (rounded f s)
 round-units f s h = round-val f false s (2 ^ low f) (grid-under f s (2 ^ low f) (emax f) (pow-pos (low f)) (same (emax f)) h)
   where
     same : (e : ℕ) → e ≤ e

@@ -16,7 +16,7 @@ use lib.Ieee.Fits.{down-pos, reach, and-i, and-l, and-r, eq→eqb}
 use lib.Ieee.Exact.{HasValue, round-exact}
 use lib.Ieee.Positive.{den, den-pos, first-pos}
 use lib.Ieee.Scale.{finite, round-same}
-use Rattle.float32.specs.Value.{gain, loss, IsValue, Within}
+use Rattle.float32.specs.Value.{gain, loss, IsValue, Within, dist}
 use Rattle.float32.proofs.Poly.{poly}
 
 -- ---- ±a / c = (p - n) / d
@@ -270,6 +270,24 @@ plus-of-above nan p n c h e = absurd (e .is-finite)
 plus-of-above (inf s) p n c h e = absurd (e .is-finite)
 plus-of-above (fin true m i) p n c h e = absurd (let x = mul-lt-mul-of-pos-right h (down-pos i) in omega (arith, e .equal))
 plus-of-above (fin false m i) p n c h e = (refl, size-of (m * up i) c (down i) p n (down-pos i) (omega (arith, e .equal)) .0)
+
+-- the sign and the size of any value: what has the sign - is not above 0
+pub record Sized (x : Float) (p n c : ℕ) : Type 0 where
+  pub sign : Bool
+  pub value : HasValue x sign (dist p n) c
+  pub minus : sign ≡ true → p ≤ n
+
+pub sized : (x : Float) (p n c : ℕ) → IsValue x p n c → Sized x p n c
+sized nan p n c e = absurd (e .is-finite)
+sized (inf s) p n c e = absurd (e .is-finite)
+sized (fin true m i) p n c e =
+    let s = size-of (m * up i) c (down i) n p (down-pos i) (omega (arith, e .equal)) in
+    let d : dist p n ≡ n - p = omega (arith, s .1) in
+    record { sign = true; value = (refl, rw d (s .0)); minus = λ _. omega (arith, s .1) }
+sized (fin false m i) p n c e =
+    let s = size-of (m * up i) c (down i) p n (down-pos i) (omega (arith, e .equal)) in
+    let d : dist p n ≡ p - n = omega (arith, s .1) in
+    record { sign = false; value = (refl, rw d (s .0)); minus = λ q. absurd (true≢false (sym q)) }
 
 -- a difference of two equal values of the sign + is +0
 round-zero : (f : Format) → round f false 0 1 ≡ fin false 0 (pos 0)

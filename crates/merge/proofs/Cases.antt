@@ -9,7 +9,7 @@ use lib.Ieee.{Float, fin, lt, le, add, sub, mul, div, toUnsigned}
 use Rattle.float32.specs.Float32.{zero}
 use Rattle.corner_list.specs.declared.Corner.{Corner}
 use Rattle.merge_radius.specs.MergeRadius.{isOff}
-use Rattle.merge.specs.Grid.{positionOf, gridOf, near, neighbours}
+use Rattle.merge.specs.Grid.{positionOf, squared, gridOf, near, neighbours}
 use Rattle.merge.specs.Merge.{merged, resultOf}
 
 module _ (s t u : Float) (k m n : ℕ) where
@@ -34,9 +34,9 @@ module _ (s t u : Float) (k m n : ℕ) where
 
   -- by distance alone
   abbrev pub near-by : Corner → Corner → Bool
-  near-by c o = near (gridOf one given) (positionOf c) (positionOf o)
+  near-by c o = near (squared one) (positionOf c) (positionOf o)
 
   pub two-by-distance : (b : Bool) → lt s t ≡ b → merged near-by [] given ≡ cond b second first ∷ third ∷ []
-  unfolding gridOf near le add sub mul div
+  unfolding near le add sub mul
   two-by-distance true e = rw e
   two-by-distance false e = rw e

@@ -5,11 +5,13 @@ use mathlib.Core.Path.{_≡_, sym, ap, _∙_}
 use mathlib.Core.Bool.{Bool, true, false, not, cond, _&&_, true≢false}
 use mathlib.Core.List.{List, [], _∷_}
 use lib.Dec.{ltb}
-use borrow.Author.Tests.{ltb-false, le-ltb, not-true}
+use borrow.Author.Tests.{ltb-false, le-ltb, not-true, not-false}
 use lib.Ieee.{Float}
 use Rattle.lists.specs.Places.{any, All}
-use Rattle.lists.proofs.Members.{all-map, none-any}
+use Rattle.lists.proofs.Tests.{is-false}
+use Rattle.lists.proofs.Members.{all-map, none-any, any-none}
 use Rattle.lists.proofs.Refusals.{lowest-none}
+use Rattle.corner_list.specs.declared.Corner.{Corner}
 use Rattle.corner_list.specs.CornerList.{Slices, isInside, cornersOf}
 use Rattle.merge_radius.specs.MergeRadius.{isOff, isSized}
 use Rattle.merge.specs.Refusals.{isOutside, refusalOf}
@@ -39,16 +41,35 @@ module _ (radius : Float) (places count : ℕ) (b : Slices) where
       unfolding refusalOf
       judged-count e = rw (on, inside, e)
 
-  -- ---- no refusal: the buffer has the corners
-  pub judged-fits : refusalOf radius places count b ≡ 0 → count ≤ places
+  -- ---- no refusal: no test is met
+  tests-none : refusalOf radius places count b ≡ 0
+      → (not (isOff radius) && any isOutside (cornersOf b (min count places))) ≡ false
+      × (not (isOff radius) && not (isSized radius)) ≡ false
+      × ltb places count ≡ false
   unfolding refusalOf
-  judged-fits e =
+  tests-none e =
       let on = not (isOff radius) in
       let count-test : List (Bool × ℕ) = (ltb places count, 10) ∷ [] in
       let radius-test : List (Bool × ℕ) = (on && not (isSized radius), 5) ∷ count-test in
       let first = lowest-none (on && any isOutside (cornersOf b (min count places))) 4 radius-test (omega arith) e in
       let second = lowest-none (on && not (isSized radius)) 5 count-test (omega arith) (first .1) in
-      ltb-false places count (lowest-none (ltb places count) 10 [] (omega arith) (second .1) .0)
+      (first .0, second .0, lowest-none (ltb places count) 10 [] (omega arith) (second .1) .0)
+
+  -- the buffer has the corners
+  pub judged-fits : refusalOf radius places count b ≡ 0 → count ≤ places
+  judged-fits e = ltb-false places count (tests-none e .2)
+
+  -- and with a radius that is on, that is in range, and so are their coordinates
+  pub judged-allowed : refusalOf radius places count b ≡ 0 → isOff radius ≡ false
+      → (isSized radius ≡ true) × All (λ c. isInside c ≡ true) (cornersOf b count)
+  judged-allowed e on =
+      let tests = tests-none e in
+      let all : min count places ≡ count = omega (arith, judged-fits e) in
+      let none : any isOutside (cornersOf b count) ≡ false = rw (on, all) at (tests .0) in
+      (not-false (isSized radius) (rw on at (tests .1)), all-map _ _ inside (cornersOf b count) (any-none isOutside (cornersOf b count) none))
+    where
+      inside : (c : Corner) → (isOutside c ≡ true → ⊥) → isInside c ≡ true
+      inside c n = not-false (isInside c) (is-false (isOutside c) n)
 
   -- ---- a list that the buffer has is not refused with an off radius, nor with a radius in range where its coordinates are
   module _ (fits : count ≤ places) where

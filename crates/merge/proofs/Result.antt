@@ -14,7 +14,7 @@ use Rattle.merge.specs.declared.Merged.the-variants.{Kept}
 use Rattle.merge_radius.specs.MergeRadius.{isOff}
 use Rattle.merge.specs.Refusals.{refusalOf}
 use Rattle.merge.specs.Grid.{gridOf, joins}
-use Rattle.merge.specs.Merge.{stronger, settle, merged, resultOf, answerOf, bufferOf, Merges}
+use Rattle.merge.specs.Merge.{stronger, settle, merged, resultOf, answerOf, bufferOf, Leaves, Merges}
 use Rattle.merge.proofs.Settle.{settle-one}
 
 -- ---- no corner is added
@@ -39,7 +39,7 @@ module _ (P : Corner → Type 0) where
       pick true = pc
       pick false = po
 
-  settle-all : (j : Corner → Corner → Bool) (kept : List Corner) (c : Corner) → P c → All P kept → All P (settle j kept c)
+  pub settle-all : (j : Corner → Corner → Bool) (kept : List Corner) (c : Corner) → P c → All P kept → All P (settle j kept c)
   settle-all j [] c pc h = (pc, tt)
   settle-all j (o ∷ kept) c pc h = pick (j c o) (settle-all j kept c pc (h .1))
     where
@@ -60,10 +60,14 @@ module _ (P : Corner → Type 0) where
       pick false r = r
 
 -- ---- where nothing is refused (proofs/Judged.antt) the answer is the number of corners left, which stand first in the buffer
+pub leaves-done : (number : ℕ) (left : List Corner) (b : Slices) (answer : Merged) (b′ : Slices) → number ≡ 0 → Leaves number left b answer b′
+    → (answer ≡ Kept (length left)) × (b′ ≡ frontCorners left b)
+leaves-done number left b answer b′ none m =
+    (m .answer ∙ ap (λ (k : ℕ). answerOf k (length left)) none, m .buffer ∙ ap (λ (k : ℕ). bufferOf k left b) none)
+
 pub merges-done : (radius : Float) (places count : ℕ) (b b′ : Slices) (answer : Merged) (cs : List Corner) → cornersOf b count ≡ cs
     → refusalOf radius places count b ≡ 0 → Merges radius places count b answer b′
     → (answer ≡ Kept (length (resultOf radius cs))) × (b′ ≡ frontCorners (resultOf radius cs) b)
-merges-done radius places count b b′ answer cs is none m = (
-  m .answer ∙ ap (λ (k : ℕ). answerOf k (length (resultOf radius (cornersOf b count)))) none ∙ ap (λ (l : List Corner). Kept (length (resultOf radius l))) is,
-  m .buffer ∙ ap (λ (k : ℕ). bufferOf k (resultOf radius (cornersOf b count)) b) none ∙ ap (λ (l : List Corner). frontCorners (resultOf radius l) b) is,
-)
+merges-done radius places count b b′ answer cs is none m =
+    let done = leaves-done (refusalOf radius places count b) (resultOf radius (cornersOf b count)) b answer b′ none m in
+    (done .0 ∙ ap (λ (l : List Corner). Kept (length (resultOf radius l))) is, done .1 ∙ ap (λ (l : List Corner). frontCorners (resultOf radius l) b) is)

@@ -41,13 +41,13 @@ neighbours g p q = adjacent (columnOf g p) (columnOf g q) && adjacent (rowOf g p
 abbrev pub squared : Float → Float
 squared d = mul binary32 d d
 
--- two positions whose squared distance is at most the radius squared, in f32
-unfoldable pub near : Grid → Position → Position → Bool
-near g p q = le (add binary32 (squared (sub binary32 (p .x) (q .x))) (squared (sub binary32 (p .y) (q .y)))) (g .square)
+-- two positions whose squared distance is at most the radius squared, which is given, in f32
+unfoldable pub near : Float → Position → Position → Bool
+near square p q = le (add binary32 (squared (sub binary32 (p .x) (q .x))) (squared (sub binary32 (p .y) (q .y)))) square
 
 -- two positions whose corners join: near each other, and in neighbouring cells
 abbrev pub meets : Grid → Position → Position → Bool
-meets g p q = near g p q && neighbours g p q
+meets g p q = near (g .square) p q && neighbours g p q
 
 -- two corners that join, whatever their strengths
 abbrev pub joins : Grid → Corner → Corner → Bool

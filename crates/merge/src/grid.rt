@@ -8,7 +8,7 @@ ghost use lib.ListN.{getD};
 ghost use lib.Ieee.{Float, nan, inf};
 ghost use Rattle.lists.specs.Tab.{tab};
 ghost use Rattle.corner_list.specs.CornerList.{slices, cornersOf};
-ghost use Rattle.merge.specs.Grid.{positionOf, positionAt, cellOf, columnOf, rowOf, adjacent, neighbours, meets, leastFrom, gridOf};
+ghost use Rattle.merge.specs.Grid.{positionOf, positionAt, cellOf, columnOf, rowOf, adjacent, neighbours, near, meets, leastFrom, gridOf};
 use corner_list::Corner;
 
 // Where a corner is, in pixels.
@@ -123,13 +123,20 @@ fn are_neighbours(g: Grid, p: Position, q: Position) -> bool
     }
 }
 
+// Whether the squared distance of two positions is at most a number.
+pub fn is_near(square: f32, p: Position, q: Position) -> bool
+    ensures { λ r. ⌜ r ≡ near square p q ⌝ }
+{
+    let dx = p.x - q.x;
+    let dy = p.y - q.y;
+    dx * dx + dy * dy <= square
+}
+
 // Whether corners at two positions join: near enough, and in neighbouring cells.
 pub fn is_joined(g: Grid, p: Position, q: Position) -> bool
     ensures { λ r. ⌜ r ≡ meets g p q ⌝ }
 {
-    let dx = p.x - q.x;
-    let dy = p.y - q.y;
-    if dx * dx + dy * dy <= g.square {
+    if is_near(g.square, p, q) {
         are_neighbours(g, p, q)
     } else {
         false

@@ -3,9 +3,9 @@
 // its own neighbours, if it is strictly stronger, and is dropped if not; where there is none it is kept behind the others. So two corners nearer
 // than the radius may both stay, and the strongest of several need not: the grid decides who is looked at, and the list's order who is joined.
 pub mod apart; // merge_apart: the list that merging would leave, in a separate buffer
-mod grid;
+pub mod grid; // where a corner is, and which corners join
 mod index;
-mod refusing;
+pub mod refusing; // refusal: the number of a call
 mod search;
 mod settling;
 

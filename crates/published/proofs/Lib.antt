@@ -19,3 +19,4 @@ pub mod Grid
 pub mod Scan
 pub mod Turns
 pub mod Merge
+pub mod Naive

@@ -2,25 +2,23 @@
 use mathlib.Core.Path.{_≡_, refl, _∙_}
 use mathlib.Core.Bool.{Bool, true, false, cond, not, _&&_}
 use mathlib.Core.List.{List, [], _∷_, map}
-use Prim.Native.Nat.{ℕ, _<_, min}
+use Prim.Native.Nat.{ℕ, _<_}
 use native.Mathlib.Omega.{arith}
-use lib.Dec.{ltb, eqb·suc-zero, lit<}
+use lib.Dec.{eqb·suc-zero}
 use lib.ListN.{length}
 use lib.Ieee.{Float, inf}
 use lib.Ieee.Scale.{finite}
-use borrow.Author.Tests.{ltb-false, not-false}
-use Rattle.lists.specs.Places.{any, All}
-use Rattle.lists.proofs.Tests.{from-T, is-false}
-use Rattle.lists.proofs.Members.{all-map, all-mapped, any-none}
-use Rattle.lists.proofs.Refusals.{all-clear}
+use Rattle.lists.specs.Places.{All}
+use Rattle.lists.proofs.Tests.{from-T}
+use Rattle.lists.proofs.Members.{all-map, all-mapped}
 use Rattle.corner_list.specs.declared.Corner.{Corner}
-use Rattle.corner_list.specs.CornerList.{Slices, xOf, yOf, isInside, cornersOf}
+use Rattle.corner_list.specs.CornerList.{xOf, yOf, isInside, cornersOf}
 use Rattle.corner_list.proofs.Inside.{inside-parts}
 use Rattle.corner_list.proofs.Corners.{corners-length}
-use Rattle.merge_radius.specs.MergeRadius.{isOff, isSized, radiusOutside}
-use Rattle.merge.specs.Refusals.{isOutside, refusalOf}
+use Rattle.merge_radius.specs.MergeRadius.{isOff, isSized}
 use Rattle.merge.specs.Grid.{joins, leastFrom, gridOf}
 use Rattle.merge.specs.Merge.{merged, resultOf}
+use Rattle.merge.proofs.Judged.{judged-allowed}
 use Rattle.published.specs.MergeRs.{greatestFrom, GridRs, gridRs, indexRs, noHit, mergeRs, MergeAsPublished}
 use Rattle.published.proofs.Extremes.{Plain, extremes}
 use Rattle.published.proofs.Cells.{coordinate, cells-as-published}
@@ -90,24 +88,6 @@ merge-whole radius (c ∷ l) few h = go (isOff radius) refl
     go true e = merge-off radius c l e
     go false e = let k = h e in merge-on radius c l (k .0) (k .1) few e
 
--- ---- what is not refused
-allowed : (radius : Float) (places count : ℕ) (b : Slices) → refusalOf radius places count b ≡ 0 → isOff radius ≡ false
-    → (isSized radius ≡ true) × All (λ c. isInside c ≡ true) (cornersOf b count)
-unfolding refusalOf
-allowed radius places count b e off =
-    let table : List (Bool × ℕ) =
-    (not (isOff radius) && any isOutside (cornersOf b (min count places)), 4)
-    ∷ (radiusOutside radius, 5)
-    ∷ (ltb places count, 10)
-    ∷ [] in
-    let clear = all-clear table (lit< tt, (lit< tt, (lit< tt, tt))) e in
-    let all : min count places ≡ count = omega (arith, ltb-false places count (clear .1 .1 .0)) in
-    let none : any isOutside (cornersOf b count) ≡ false = rw (off, all) at (clear .0) in
-    (not-false (isSized radius) (rw off at (clear .1 .0)), all-map _ _ (λ c n. inside c n) (cornersOf b count) (any-none isOutside (cornersOf b count) none))
-  where
-    inside : (c : Corner) → (isOutside c ≡ true → ⊥) → isInside c ≡ true
-    inside c n = not-false (isInside c) (is-false (isOutside c) n)
-
 pub merge-as-published : MergeAsPublished
 merge-as-published radius places count b e few =
-    merge-whole radius (cornersOf b count) (rw (corners-length b count) few) (allowed radius places count b e)
+    merge-whole radius (cornersOf b count) (rw (corners-length b count) few) (judged-allowed radius places count b e)

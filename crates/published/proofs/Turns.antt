@@ -29,7 +29,7 @@ module _ (g : GridRs) (G : Grid) (square : g .r2 ≡ G .square) where
   abbrev Stands : StateRs → Type 0
   Stands s = Holds (indexRs g) (Placed g G) (s .out) (s .grid)
 
-  close-is : (c o : Corner) → closeRs (g .r2) c o ≡ near G (positionOf c) (positionOf o)
+  close-is : (c o : Corner) → closeRs (g .r2) c o ≡ near (G .square) (positionOf c) (positionOf o)
   unfolding near
   close-is c o = rw square
 
@@ -46,7 +46,7 @@ module _ (g : GridRs) (G : Grid) (square : g .r2 ≡ G .square) where
     -- none that c joins stands before the hit
     before : (i : ℕ) → i < length (s .out) → joins G c (outAt (s .out) i) ≡ true → hit ≤ i
     before i l e =
-        let p = and-parts (near G (positionOf c) (positionOf (outAt (s .out) i))) (neighbours G (positionOf c) (positionOf (outAt (s .out) i))) e in
+        let p = and-parts (near (G .square) (positionOf c) (positionOf (outAt (s .out) i))) (neighbours G (positionOf c) (positionOf (outAt (s .out) i))) e in
         best .before i (near-scanned g G (s .out) (s .grid) h c at i l (p .1)) (close-is c (outAt (s .out) i) ∙ p .0)
 
     -- and a hit is one that it joins

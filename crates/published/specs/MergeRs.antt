@@ -1,4 +1,5 @@
--- merge.rs: `merge_corners_simple`. No test of it reads the neighbours: they go with the corner that is pushed, or that replaces another.
+-- merge.rs: `merge_corners_simple` and `merge_corners_naive`. No test of them reads the neighbours: they go with the corner that is pushed, or that
+-- replaces another.
 use Prim.Native.Nat.{ℕ, _+_, _-_, _*_, _%_, _^_, _<_, min}
 use mathlib.Core.Path.{_≡_}
 use mathlib.Core.Bool.{Bool, true, false, cond, not, _&&_, _||_}
@@ -11,10 +12,11 @@ use Rattle.lists.specs.Places.{range, keep, flatMap, All}
 use Rattle.float32.specs.Float32.{zero}
 use Rattle.corner_list.specs.declared.Corner.{Corner}
 use Rattle.corner_list.specs.CornerList.{Slices, xOf, yOf, isInside, cornersOf}
-use Rattle.merge_radius.specs.MergeRadius.{isSized}
+use Rattle.merge_radius.specs.MergeRadius.{isOff, isSized}
 use Rattle.merge.specs.Refusals.{refusalOf}
 use Rattle.merge.specs.Grid.{leastFrom, positionOf, columnOf, rowOf, gridOf}
-use Rattle.merge.specs.Merge.{merged, resultOf}
+use Rattle.merge.specs.Merge.{resultOf}
+use Rattle.merge_naive.specs.MergeNaive.{naiveOf}
 use Rattle.published.specs.Rust.{floorF, cutUsize}
 use Rattle.published.specs.PyramidRs.{one32}
 
@@ -145,13 +147,42 @@ unfoldable pub loopRs : GridRs → StateRs → List Corner → StateRs
 loopRs g s [] = s
 loopRs g s (c ∷ cs) = loopRs g (turnRs g c s) cs
 
--- the whole; `merge_corners_naive` joins by distance alone
+-- ---- `merge_corners_naive`
+
+-- what the inner loop leaves: `out`, and whether it ended in `continue 'outer`
+pub record ScannedRs : Type 0 where
+  pub out : List Corner
+  pub continued : Bool
+
+-- `for o in &mut out`: the first that is close is `*o = c` where c is stronger, and none is looked at behind it
+unfoldable pub scanRs : Float → Corner → List Corner → ScannedRs
+scanRs r2 c [] = record { out = []; continued = false }
+scanRs r2 c (o ∷ behind) =
+    let s = scanRs r2 c behind in
+    cond (closeRs r2 c o) (record { out = cond (lt (o .strength) (c .strength)) c o ∷ behind; continued = true })
+    (record { out = o ∷ s .out; continued = s .continued })
+
+-- `for c in corners.drain(..)`: `out.push(c)` where the inner loop came to its end
+unfoldable pub naiveLoopRs : Float → List Corner → List Corner → List Corner
+naiveLoopRs r2 out [] = out
+naiveLoopRs r2 out (c ∷ cs) =
+    let s = scanRs r2 c out in
+    naiveLoopRs r2 (cond (s .continued) (s .out) (s .out ++ (c ∷ []))) cs
+
+abbrev pub naiveRs : List Corner → Float → List Corner
+naiveRs cs r2 = naiveLoopRs r2 [] cs
+
+-- of corners and radii of any kind, where the radius is on: the square is the one that `merge_corners_simple` hands it
+abbrev pub NaiveAsPublished : Type 0
+NaiveAsPublished = (radius : Float) (cs : List Corner) → isOff radius ≡ false → naiveRs cs (mul binary32 radius radius) ≡ naiveOf radius cs
+
+-- ---- the whole of `merge_corners_simple`
 unfoldable pub mergeRs : List Corner → Float → List Corner
 mergeRs cs radius =
     let g = gridRs radius cs in
     cond (eqb (length cs) 0) []
     (cond (not (finite radius) || le radius zero) cs
-    (cond (not (finite (g .min-x) && finite (g .min-y) && finite (g .max-x) && finite (g .max-y))) (merged (closeRs (g .r2)) [] cs)
+    (cond (not (finite (g .min-x) && finite (g .min-y) && finite (g .max-x) && finite (g .max-y))) (naiveRs cs (g .r2))
     (loopRs g (record { out = []; grid = λ i. [] }) cs .out)))
 
 -- a call that is not refused, of fewer corners than an index can tell

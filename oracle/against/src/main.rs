@@ -1,9 +1,10 @@
 //! against N SEED [FOLDER]: as oracle_compare, with our corner finder linked in instead of a process for each stream; and N frames of the
 //! library, in buffers of every size, each of which is compared afterwards; N maps that are asked for enough peaks; N pixels that are changed; N pairs
-//! of images, a low and a high value for each pixel; N lists of which corners are struck; and N lists that
-//! are merged apart.
+//! of images, a low and a high value for each pixel; N lists of which corners are struck; N that are merged apart; and N that are merged by distance
+//! alone.
 mod apart;
 mod limits;
+mod merging;
 mod retouching;
 mod striking;
 
@@ -107,6 +108,8 @@ fn main() -> ExitCode {
     let folder = words.get(2).map_or("differing", String::as_str);
     let folder = Path::new(folder);
     let frames = run(cases(count, seed), folder, answer).and(run_library(count, seed, folder, left));
-    let maps = run_enough(count, seed, enough).and(retouching::run(count, seed)).and(limits::run(count, seed));
-    frames.and(maps).and(striking::run(count, seed)).and(apart::run(count, seed)).finish()
+    let maps =
+        run_enough(count, seed, enough).and(retouching::run(count, seed)).and(limits::run(count, seed));
+    let lists = striking::run(count, seed).and(apart::run(count, seed)).and(merging::run(count, seed));
+    frames.and(maps).and(lists).finish()
 }

@@ -2,7 +2,7 @@
 //! answer, and what it must leave in every buffer. See ../../README.md.
 //!
 //! - The leaves, each the original function behind the checks that RULES 2.4 puts before it: [`ring`], [`response`],
-//!   [`peaks`], [`centroid`], [`search_box`], [`pyramid`], [`merge`].
+//!   [`peaks`], [`centroid`], [`search_box`], [`pyramid`], [`merge`], [`naive`].
 //! - What the rules add: [`pass`] and [`frame`], [`stream`], [`listing`], [`program`]; and [`exact`], the pass by
 //!   exact values, with [`tolerance`], the centroid by them.
 //! - What the oracle is run on: [`generate`], [`wrong`], [`sample`], [`compare`], [`timing`].
@@ -16,6 +16,7 @@ pub mod generate;
 pub mod image;
 pub mod listing;
 pub mod merge;
+pub mod naive;
 pub mod numbers;
 pub mod params;
 pub mod pass;

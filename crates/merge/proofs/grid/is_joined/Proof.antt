@@ -1,21 +1,21 @@
 -- `merge::grid::is_joined` meets its contract. Assumes nothing.
 use borrow.Author.Needs.{needs}
-use mathlib.Core.Path.{_∙_}
+use mathlib.Core.Path.{sym, _∙_}
 use Rattle.lists.proofs.Tests.{and-on, and-off}
-use Rattle.merge.specs.Grid.{near}
 use Rattle.merge.proofs.grid.is_joined.Statement.{statement}
 use Rattle.merge.proofs.grid.is_joined.Tie as tie
+
+is-near-requires : tie.Need-is-near-requires
+is-near-requires c κs = search needs
 
 are-neighbours-requires : tie.Need-are-neighbours-requires
 are-neighbours-requires c κs = search needs
 
 returns : tie.Need-returns
-unfolding near
-returns c = c .are-neighbours .ensures ∙ and-on _ _ (c .before .if1 .taken)
+returns c = c .are-neighbours .ensures ∙ and-on _ _ (sym (c .before .before .is-near .ensures) ∙ c .before .if1 .taken)
 
 returns-2 : tie.Need-returns-2
-unfolding near
-returns-2 c = and-off _ _ (c .if1 .left)
+returns-2 c = and-off _ _ (sym (c .before .is-near .ensures) ∙ c .if1 .left)
 
 pub is-joined-spec : {M : Type 1} → statement M
-is-joined-spec = tie.close (tie.spec are-neighbours-requires returns returns-2)
+is-joined-spec = tie.close (tie.spec is-near-requires are-neighbours-requires returns returns-2)

@@ -1,0 +1,45 @@
+-- `capi_lists::zakdomp_merge_naive` meets its contract: the answer of the function that it calls, taken apart. Assumes nothing.
+mod Landmarks
+use borrow.Author.Needs.{needs}
+use Rattle.capi_lists.proofs.Merging.{merged-naively}
+use Rattle.capi_lists.proofs.naive.zakdomp_merge_naive.Statement.{statement}
+use Rattle.capi_lists.proofs.naive.zakdomp_merge_naive.Tie as tie
+use Landmarks.*
+
+merge-corners-naive-requires : tie.Need-merge-corners-naive-requires
+merge-corners-naive-requires c κs = search needs
+
+kept-of-requires : tie.Need-kept-of-requires
+kept-of-requires c κs = search needs
+
+number-of-requires : tie.Need-number-of-requires
+number-of-requires c κs = search needs
+
+same-length : tie.Need-same-length
+same-length c = search needs
+
+same-length-2 : tie.Need-same-length-2
+same-length-2 c = search needs
+
+same-length-3 : tie.Need-same-length-3
+same-length-3 c = search needs
+
+same-length-4 : tie.Need-same-length-4
+same-length-4 c = search needs
+
+returns : tie.Need-returns
+returns c =
+    merged-naively _ _ _ _ _ _ _ _ (merge-corners-naive-from-returns c .merge-corners-naive .ensures) (c .number-of .ensures) (c .before .kept-of .ensures)
+
+pub zakdomp-merge-naive-spec : {M : Type 1} → statement M
+zakdomp-merge-naive-spec =
+    tie.close
+    (tie.spec
+    merge-corners-naive-requires
+    kept-of-requires
+    number-of-requires
+    same-length
+    same-length-2
+    same-length-3
+    same-length-4
+    returns)

@@ -1,0 +1,45 @@
+// Corners merged in place by distance alone.
+use merge::Merged;
+ghost use mathlib.Core.Path.{_≡_};
+ghost use Rattle.corner_list.specs.CornerList.{slices};
+ghost use Rattle.merge.specs.Merge.{numberOf};
+ghost use Rattle.capi_lists.specs.Naive.{keptOf, CornersMergedNaively};
+
+// The number of an answer, 0 where corners were merged.
+fn number_of(a: Merged) -> u8
+    ensures { λ r. ⌜ r ≡ numberOf a ⌝ }
+{
+    match a {
+        Merged::Kept(_) => 0,
+        Merged::Refused(n) => n,
+    }
+}
+
+// How many corners are left, or `before` where refused.
+fn kept_of(a: Merged, before: usize) -> usize
+    ensures { λ r. ⌜ r ≡ keptOf a before ⌝ }
+{
+    match a {
+        Merged::Kept(n) => n,
+        Merged::Refused(_) => before,
+    }
+}
+
+// Merges the first `count` corners of a buffer in place by distance alone, and puts the number of those that are left into `kept`.
+#[no_mangle]
+pub extern "C" fn zakdomp_merge_naive(
+    xs: &mut [f32],
+    ys: &mut [f32],
+    strengths: &mut [f32],
+    neighbours: &mut [u32],
+    count: usize,
+    radius: f32,
+    kept: &mut usize,
+) -> u8
+    ensures { λ r. ⌜ CornersMergedNaively radius count (slices (now (xs .entry)) (now (ys .entry)) (now (strengths .entry)) (now (neighbours .entry)))
+        (now (kept .entry)) r (slices (now (xs .exit)) (now (ys .exit)) (now (strengths .exit)) (now (neighbours .exit))) (now (kept .exit)) ⌝ }
+{
+    let a = merge_naive::merge_corners_naive(xs, ys, strengths, neighbours, count, radius);
+    *kept = kept_of(a, *kept);
+    number_of(a)
+}

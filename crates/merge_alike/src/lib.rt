@@ -1,0 +1,1 @@
+// No code: where merging by distance alone and merging by cells leave the same. See specs/ and proofs/.

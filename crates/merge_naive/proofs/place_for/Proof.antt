@@ -1,0 +1,56 @@
+-- `merge_naive::place_for` meets its contract: by the first corner that is near, and its strength. Assumes nothing.
+mod Landmarks
+use borrow.Author.Needs.{needs}
+use native.Mathlib.Omega.{arith}
+use mathlib.Core.Path.{subst}
+use Rattle.corner_list.specs.CornerList.{slices, cornerAt}
+use Rattle.merge.specs.declared.grid.Position.{Position}
+use Rattle.merge.specs.Grid.{positionAt, near}
+use Rattle.merge.specs.Internal.{IsFirst}
+use Rattle.merge.proofs.Settle.{takes-new, takes-stronger, takes-none}
+use Rattle.merge_naive.specs.MergeNaive.{nearBy}
+use Rattle.merge_naive.proofs.place_for.Statement.{statement}
+use Rattle.merge_naive.proofs.place_for.Tie as tie
+use Landmarks.*
+
+-- from the search to the function's start, and what was found, of corners
+abbrev start : tie.After-first-near → tie.Start
+start c = start-from-first-near c
+
+found : (c : tie.After-first-near)
+    → let a = start c .args in
+    IsFirst (λ m. nearBy (a .square) (a .c) (cornerAt (slices (a .xs .now) (a .ys .now) (a .strengths .now) (a .neighbours .now)) m)) (a .k)
+    (c .first-near .result)
+found c =
+    let a = start c .args in
+    subst (λ (p : Position). IsFirst (λ i. near (a .square) p (positionAt (a .xs .now) (a .ys .now) i)) (a .k) (c .first-near .result))
+    (c .before .position-of .ensures) (c .first-near .ensures)
+
+position-of-requires : tie.Need-position-of-requires
+position-of-requires c κs = search needs
+
+first-near-requires : tie.Need-first-near-requires
+first-near-requires c κs = search needs
+
+returns : tie.Need-returns
+returns c = let f = c .before in takes-new _ _ _ _ (start f .pre) _ (found f) (c .if1 .taken)
+
+corner-at-requires : tie.Need-corner-at-requires
+corner-at-requires c κs = search needs
+
+returns-2 : tie.Need-returns-2
+returns-2 c =
+    let read = corner-at-from-returns-2 c in
+    let f = read .before .before in
+    takes-stronger _ _ _ _ (start f .pre) _ (found f) (read .before .if1 .left) _ (read .corner-at .ensures) (c .if2 .taken)
+
+returns-3 : tie.Need-returns-3
+returns-3 c =
+    let read = corner-at-from-returns-3 c in
+    let f = read .before .before in
+    takes-none _ _ _ _ (start f .pre) _ (found f) (read .before .if1 .left) _ (read .corner-at .ensures)
+    _ (omega (arith, start f .good)) (omega arith) (c .if2 .left)
+
+pub place-for-spec : {M : Type 1} → statement M
+place-for-spec =
+    tie.close (tie.spec position-of-requires first-near-requires returns corner-at-requires returns-2 returns-3)

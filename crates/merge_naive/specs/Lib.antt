@@ -1,0 +1,2 @@
+pub mod MergeNaive
+pub mod Case

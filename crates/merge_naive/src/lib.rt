@@ -1,0 +1,117 @@
+// Merging corners by distance alone, without cells. Each corner of a list, in its order, looks among those kept so far for the lowest place with
+// a corner at most the radius away. It replaces that corner, in its place and with its own neighbours, if it is strictly stronger, and is dropped
+// if not; where there is none it is kept behind the others. The time of a call grows with the list times what is kept of it: the frame merges by
+// cells (`merge`).
+ghost use mathlib.Core.Path.{_≡_};
+ghost use Prim.Native.Nat.{_<_, _≤_};
+ghost use Rattle.corner_list.specs.CornerList.{slices, placesOf, cornersOf};
+ghost use Rattle.merge.specs.Grid.{positionAt, near};
+ghost use Rattle.merge.specs.Internal.{IsFirst, Takes, Settled, Left};
+ghost use Rattle.merge_naive.specs.MergeNaive.{nearBy, naiveOf, MergesNaive};
+use corner_list::Corner;
+use merge::Merged;
+use merge::grid::Position;
+
+// What stands for no place: no buffer has it.
+const NOWHERE: usize = 18446744073709551615;
+
+// The lowest of the first k places of a buffer whose corner is near a position, or k.
+fn first_near(xs: &[f32], ys: &[f32], square: f32, k: usize, p: Position) -> usize
+    ensures { λ r. ⌜ IsFirst (λ i. near square p (positionAt (now (xs .entry)) (now (ys .entry)) i)) k r ⌝ }
+{
+    for i in 0..k {
+        if merge::grid::is_near(square, p, merge::grid::position_at(xs, ys, i)) {
+            return i;
+        }
+    }
+    k
+}
+
+// The place that c takes among the first k of a buffer: that of the first that it is near, if it is stronger; k, if it is near none; and
+// NOWHERE, if it is dropped.
+fn place_for(
+    xs: &[f32],
+    ys: &[f32],
+    strengths: &[f32],
+    neighbours: &[u32],
+    square: f32,
+    k: usize,
+    c: Corner,
+) -> usize
+    requires { ⌜ k < placesOf (slices (now xs) (now ys) (now strengths) (now neighbours)) ⌝ }
+    ensures { λ r. ⌜ Takes (nearBy square) k c (slices (now (xs .entry)) (now (ys .entry)) (now (strengths .entry)) (now (neighbours .entry))) r ⌝ }
+{
+    let i = first_near(xs, ys, square, k, merge::grid::position_of(c));
+    if k <= i {
+        return k;
+    }
+    let o = corner_list::corner_at(xs, ys, strengths, neighbours, i);
+    if o.strength < c.strength {
+        return i;
+    }
+    NOWHERE
+}
+
+// Settles c among the first k corners of a buffer, and returns how many are kept then.
+fn settle_corner(
+    xs: &mut [f32],
+    ys: &mut [f32],
+    strengths: &mut [f32],
+    neighbours: &mut [u32],
+    square: f32,
+    k: usize,
+    c: Corner,
+) -> usize
+    requires { ⌜ k < placesOf (slices (now xs) (now ys) (now strengths) (now neighbours)) ⌝ }
+    ensures { λ n. ⌜ Settled (nearBy square) k c (slices (now (xs .entry)) (now (ys .entry)) (now (strengths .entry)) (now (neighbours .entry)))
+        n (slices (now (xs .exit)) (now (ys .exit)) (now (strengths .exit)) (now (neighbours .exit))) ⌝ }
+{
+    let at = place_for(xs, ys, strengths, neighbours, square, k, c);
+    corner_list::put_corner(xs, ys, strengths, neighbours, at, c);
+    if at == k { k + 1 } else { k }
+}
+
+// Merges the first n corners of a buffer in place, and returns how many are left. It judges nothing.
+fn merge_list(
+    xs: &mut [f32],
+    ys: &mut [f32],
+    strengths: &mut [f32],
+    neighbours: &mut [u32],
+    n: usize,
+    radius: f32,
+) -> usize
+    requires { ⌜ n ≤ placesOf (slices (now xs) (now ys) (now strengths) (now neighbours)) ⌝ }
+    ensures { λ k. ⌜ Left (naiveOf radius (cornersOf (slices (now (xs .entry)) (now (ys .entry)) (now (strengths .entry)) (now (neighbours .entry))) n))
+        (slices (now (xs .entry)) (now (ys .entry)) (now (strengths .entry)) (now (neighbours .entry))) k
+        (slices (now (xs .exit)) (now (ys .exit)) (now (strengths .exit)) (now (neighbours .exit))) ⌝ }
+{
+    if merge_radius::is_off(radius) {
+        return n;
+    }
+    let square = radius * radius;
+    let mut k = 0;
+    for i in 0..n {
+        let c = corner_list::corner_at(xs, ys, strengths, neighbours, i);
+        k = settle_corner(xs, ys, strengths, neighbours, square, k, c);
+    }
+    k
+}
+
+// Merges the first `count` corners of a buffer in place, as the Rust's `merge_corners_naive`. It refuses what `merge_corners_simple` refuses.
+pub fn merge_corners_naive(
+    xs: &mut [f32],
+    ys: &mut [f32],
+    strengths: &mut [f32],
+    neighbours: &mut [u32],
+    count: usize,
+    radius: f32,
+) -> Merged
+    ensures { λ r. ⌜ MergesNaive radius count (slices (now (xs .entry)) (now (ys .entry)) (now (strengths .entry)) (now (neighbours .entry))) r
+        (slices (now (xs .exit)) (now (ys .exit)) (now (strengths .exit)) (now (neighbours .exit))) ⌝ }
+{
+    let number = merge::refusing::refusal(xs, ys, strengths, neighbours, xs.len(), count, radius);
+    if number != 0 {
+        return Merged::Refused(number);
+    }
+    Merged::Kept(merge_list(xs, ys, strengths, neighbours, count, radius))
+}
