@@ -1,0 +1,220 @@
+"""`zakdomp stream`, `retained`, `merge` and `strike`: python3 -m unittest test_commands"""
+import csv
+import io
+import json
+import math
+import os
+import time
+import unittest
+from typing import NamedTuple
+from unittest import mock
+
+import zakdomp
+from test_command import PLAIN, Command, board, example, noise, pgm
+from test_zakdomp import SIDE, whole_case
+from zakdomp_command import formats
+
+
+class Streams(Command):
+    def test_the_stream_of_the_whole_case(self):
+        photo = self.put("whole.pgm", pgm(whole_case(), SIDE, SIDE))
+        self.assertEqual(self.done("stream", photo, *PLAIN), example("whole.stream"))
+        self.assertEqual(self.done("stream", photo, *PLAIN, "--out", self.path("s")), b"")
+        self.assertEqual(self.content("s"), example("whole.stream"))
+
+    def test_what_has_no_stream(self):
+        self.fails(1, "refused 1: ", "stream", "-", given=board(97, 4))
+        self.fails(1, "refused 3: ", "stream", "-", "--ring", 7, given=board(9, 4))
+        self.fails(2, "No such file", "stream", self.path("none"))
+
+
+class Retained(Command):
+    def test_a_photograph_for_90_days(self):
+        for at, due in (("2026-08-17T23:59:59", b"N not yet\n"), ("2026-08-18", b"H held\n"), ("2026-11-15T23:59:59+00:00", b"H held\n"),
+                        ("2026-11-16", b"G gone\n"), (1_794_787_200, b"G gone\n"), ("2026-11-16T01:00:00+02:00", b"H held\n")):
+            self.assertEqual(self.done("retained", "photograph", "2026-08-18", "--at", at), due, at)
+
+    def test_kinds_and_now(self):
+        self.assertEqual(self.done("retained", "file", 0, "--at", 1 << 40), b"H held\n")
+        self.assertEqual(self.done("retained", "token", 100, "--at", 604_899), b"H held\n")
+        self.assertEqual(self.done("retained", "token", 100, "--at", 604_900), b"G gone\n")
+        self.assertEqual(self.done("retained", "token", int(time.time()) - 9), b"H held\n")
+        self.assertEqual(self.done("retained", "token", int(time.time()) + 999), b"N not yet\n")
+
+    def test_a_stream_of_items(self):
+        items = zakdomp_items(50, (1, 3), (2, 0), (3, 60))
+        self.assertEqual(self.done("retained", "--stream", "-", given=items), b"H\nH\nN\n")
+        status, output, said = self.run_command("retained", "--stream", self.put("items", items + b"\x07"))
+        self.assertEqual((status, output), (1, b"H\nH\nN\nrefused 6\n"))
+        self.assertIn("refused 6: there is no such kind of item", said)
+
+    def test_usage(self):
+        self.fails(1, "refused 20: ", "retained", "file", (1 << 40) + 1, "--at", 5)
+        self.fails(2, "KIND and START", "retained")
+        self.fails(2, "KIND and START", "retained", "file")
+        self.fails(2, "KIND and START", "retained", "file", 3, "--stream", "-")
+        for arguments in (("photo", 3), ("file", "yesterday"), ("file", "1969-12-31"), ("file", -1)):
+            self.assertEqual(self.run_command("retained", *arguments)[0], 2)
+
+
+def zakdomp_items(at, *records):
+    """A stream of items: the time asked about, then the kind and the start of each."""
+    return at.to_bytes(8, "little") + b"".join(bytes([kind]) + start.to_bytes(8, "little") for kind, start in records)
+
+
+def kept(corners, radius):
+    """A stand-in for merging: each corner that is farther than the radius from all that were kept before it."""
+    if not 1 / 64 <= radius <= 4096 and radius > 0:
+        raise zakdomp.Refusal(5)
+    left = []
+    for corner in corners:
+        if all(math.hypot(corner.x - other.x, corner.y - other.y) > radius for other in left):
+            left.append(corner)
+    return left
+
+
+class Shown(NamedTuple):
+    corner: zakdomp.Corner
+    change: int
+
+
+class Edited:
+    """A stand-in for zakdomp.EditedList, by the words of request 10."""
+
+    def __init__(self, corners, change=0):
+        self.corners, self.change = list(corners), change
+
+    def __len__(self):
+        return len(self.corners)
+
+    def show(self, place):
+        if not 0 <= place < len(self):
+            raise zakdomp.Refusal(17)
+        return Shown(self.corners[place], self.change)
+
+    def strike(self, place, change):
+        if change != self.change:
+            raise zakdomp.Refusal(16)
+        self.show(place)
+        del self.corners[place]
+        self.change += 1
+
+
+class Merging(Command):
+    """The command around a merge; the library's own in `LibraryMerging`."""
+    merged = merge_naive = staticmethod(kept)
+
+    def setUp(self):
+        super().setUp()
+        for name in ("merged", "merge_naive"):
+            patch = mock.patch.object(zakdomp, name, getattr(self, name), create=True)
+            patch.start()
+            self.addCleanup(patch.stop)
+        self.corners = zakdomp.find_corners_pgm(noise(120, 8), merge_radius=0)
+        self.file = self.put("a.corners", zakdomp.listing(self.corners).encode())
+
+    def test_one_radius_gives_a_corner_file(self):
+        for options, merge in (((), self.merged), (("--naive",), self.merge_naive)):
+            due = list(merge(self.corners, 10.0))
+            self.assertLess(len(due), len(self.corners))
+            self.assertEqual(self.done("merge", self.file, "--radius", 10, *options), zakdomp.listing(due).encode())
+        self.assertEqual(formats.read(self.done("merge", self.file, "--radius", 10, "--format", "json")).corners, due)
+        self.assertEqual(self.content("a.corners"), zakdomp.listing(self.corners).encode())
+
+    def test_several_radii(self):
+        due = [(radius, list(self.merged(self.corners, radius))) for radius in (0.0, 5.0, 20.0)]
+        arguments = ("merge", self.file, "--radius", "0,5,20")
+        self.assertEqual(self.done(*arguments).decode(), "".join(f"radius {radius:g}\n{zakdomp.listing(corners)}" for radius, corners in due))
+        rows = list(csv.DictReader(io.StringIO(self.done(*arguments, "--format", "csv").decode())))
+        self.assertEqual([sum(row["radius"] == f"{radius:g}" for row in rows) for radius, _ in due], [len(corners) for _, corners in due])
+        said = json.loads(self.done(*arguments, "--format", "json"))
+        self.assertEqual([(each["radius"], len(each["corners"])) for each in said], [(radius, len(corners)) for radius, corners in due])
+
+    def test_refusals_and_usage(self):
+        self.fails(1, "refused 5: ", "merge", self.file, "--radius", "3,5000")
+        self.fails(2, "no corner file", "merge", "-", "--radius", "3", given=b"x")
+        self.assertEqual(self.run_command("merge", self.file, "--radius", "a,b")[0], 2)
+
+
+@unittest.skipUnless(hasattr(zakdomp, "merged") and hasattr(zakdomp, "merge_naive"), "this library has no merged and merge_naive")
+class LibraryMerging(Merging):
+    merged, merge_naive = (staticmethod(getattr(zakdomp, name, kept)) for name in ("merged", "merge_naive"))
+
+
+class Striking(Command):
+    """The command around an edited list; the library's own in `LibraryStriking`."""
+    edited = Edited
+
+    def setUp(self):
+        super().setUp()
+        patches = (mock.patch.object(zakdomp, "EditedList", self.edited, create=True),
+                   mock.patch.dict(zakdomp.REFUSALS, {16: "the change number differs from the list's", 17: "the place is beyond the list"}))
+        for patch in patches:
+            patch.start()
+            self.addCleanup(patch.stop)
+        self.corners = zakdomp.find_corners_pgm(noise(120, 9))
+        self.beside = {"ties": 4}
+
+    def left(self, kind):
+        return formats.read(self.content("a" + formats.SUFFIXES[kind]))
+
+    def test_shown_and_struck(self):
+        for kind, suffix in formats.SUFFIXES.items():
+            file = self.put("a" + suffix, formats.written(kind, self.corners, self.beside).encode())
+            shown = self.done("strike", file, 2).decode()
+            self.assertIn(f"corner 2: x {formats.shortest(self.corners[2].x):g}, ", shown)
+            self.assertIn("change 0: ", shown)
+            self.assertEqual(self.left(kind).corners, self.corners)
+            self.assertIn("struck corner 2: ", self.done("strike", file, 2, "--confirm", 0).decode())
+            self.assertEqual(self.left(kind), (kind, self.corners[:2] + self.corners[3:], self.beside if kind == "json" else {}))
+            self.fails(1, "refused 16: ", "strike", file, 2, "--confirm", 0)
+            self.assertIn("change 1: ", self.done("strike", file, 0).decode())
+            self.done("strike", file, 0, "--confirm", 1)
+            self.assertEqual(self.left(kind).corners, [self.corners[1], *self.corners[3:]])
+            self.assertEqual(self.content("a" + suffix + ".change"), b"2\n")
+
+    def test_refusals_leave_the_file(self):
+        file = self.put("a.corners", zakdomp.listing(self.corners).encode())
+        self.fails(1, "refused 17: ", "strike", file, len(self.corners))
+        self.fails(1, "refused 17: ", "strike", file, len(self.corners), "--confirm", 0)
+        self.fails(1, "refused 16: ", "strike", file, 0, "--confirm", 1)
+        self.assertEqual(os.listdir(self.folder), ["a.corners"])
+        self.assertEqual(self.left("listing").corners, self.corners)
+
+    def test_a_strike_that_is_killed_between_its_files_strikes_nothing(self):
+        file = self.put("a.corners", zakdomp.listing(self.corners).encode())
+        self.put("a.corners.change", b"1\n")
+        self.fails(1, "refused 16: ", "strike", file, 0, "--confirm", 0)
+        self.assertEqual(self.left("listing").corners, self.corners)
+
+    def test_usage(self):
+        self.fails(2, "No such file", "strike", self.path("none"), 0)
+        self.fails(2, "no corner file", "strike", self.put("x", b"x"), 0)
+        self.assertEqual(self.run_command("strike", self.path("x"))[0], 2)
+
+
+@unittest.skipUnless(hasattr(zakdomp, "EditedList"), "this library has no EditedList")
+class LibraryStriking(Striking):
+    edited = getattr(zakdomp, "EditedList", Edited)
+
+
+class Help(Command):
+    def test_each_command_has_an_example(self):
+        for name in ("find", "batch", "stream", "retained", "merge", "strike"):
+            status, text, _ = self.run_command(name, "--help")
+            self.assertEqual(status, 0)
+            self.assertIn(f"example: zakdomp {name} ", text.decode())
+            self.assertIn(name.encode(), self.run_command("--help")[1])
+        self.assertEqual(self.run_command("--version")[1], f"zakdomp {zakdomp.__version__}\n".encode())
+
+    def test_what_the_library_has_not(self):
+        file = self.put("a", b"corners 0\n")
+        for name, arguments in (("merged", ("merge", file, "--radius", 3)), ("EditedList", ("strike", file, 0))):
+            with mock.patch.object(zakdomp, name, None, create=True):
+                delattr(zakdomp, name)
+                self.fails(2, "this version of the library", *arguments)
+                setattr(zakdomp, name, None)
+
+
+if __name__ == "__main__":
+    unittest.main()

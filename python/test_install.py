@@ -1,0 +1,227 @@
+"""What is installed, used in an empty folder by a program of three lines each in C, Rust and Python: python3 -m unittest test_install"""
+import ast
+import importlib.util
+import os
+import re
+import shutil
+import subprocess
+import sys
+import tempfile
+import unittest
+import zipfile
+
+import wheel_backend
+import zakdomp
+from test_command import HERE, board
+from zakdomp_command.main import _parser
+
+TOP = os.path.dirname(HERE)
+C = """#include <stdio.h>
+#include <zakdomp.h>
+int main(void) { uint8_t letter; return zakdomp_holding(2, 0, 0, &letter) || printf("%c %s\\n", letter, ZAKDOMP_VERSION) < 0; }
+"""
+RUST = """fn main() {
+    println!("{:?}", zakdomp::Finder::new().find(&[7; 400], 20, 20, &zakdomp::Params::default()).map(|corners| corners.len()));
+}
+"""
+PYTHON = """import sys, zakdomp
+corners = zakdomp.find_corners_pgm(sys.stdin.buffer.read(), threshold=30)
+print(len(corners), zakdomp.__version__)
+"""
+ARRAYS = """import numpy, zakdomp_numpy
+image = numpy.kron([[0, 1, 0, 1], [1, 0, 1, 0]] * 2, numpy.ones((30, 30))).astype("uint8") * 200
+found = zakdomp_numpy.find(image, threshold=30)
+assert found.corners.dtype.names[:3] == ("x", "y", "strength") and len(found.corners) == 9, found
+assert (zakdomp_numpy.find_corners(image[::-1].T, threshold=30)["x"] > 20).all()
+assert zakdomp_numpy.response(image).shape == image.shape and zakdomp_numpy.response(image).max() == found.corners["strength"].max()
+assert len(zakdomp_numpy.find_corners(image[:0])) == 0
+print(len(zakdomp_numpy.find_corners(memoryview(image), threshold=30)))
+"""
+BUILT = all(os.path.exists(os.path.join(TOP, "target", path)) for path in ("bin/corners", "bin/retained", "zakdomp/libzakdomp.a"))
+
+
+def runs(*command):
+    """Whether a program is on this machine and runs."""
+    try:
+        return subprocess.run(command, capture_output=True, check=False).returncode == 0
+    except OSError:
+        return False
+
+
+def clean(**named):
+    """The environment without what would find the repository's own library and modules."""
+    return {name: value for name, value in os.environ.items() if name not in ("ZAKDOMP_LIBRARY", "PYTHONPATH", "ZAKDOMP_DIR")} | named
+
+
+class Folder(unittest.TestCase):
+    def setUp(self):
+        folder = tempfile.TemporaryDirectory()
+        self.addCleanup(folder.cleanup)
+        self.folder = folder.name
+
+    def ran(self, *command, given=b"", **named):
+        """What a command prints, run in the folder."""
+        run = subprocess.run(command, input=given, capture_output=True, cwd=self.folder, env=clean(**named), check=False)
+        self.assertEqual(run.returncode, 0, run.stderr.decode())
+        return run.stdout.decode()
+
+    def put(self, name, text):
+        os.makedirs(os.path.dirname(os.path.join(self.folder, name)), exist_ok=True)
+        with open(os.path.join(self.folder, name), "w", encoding="utf-8") as file:
+            file.write(text)
+
+
+DUE = f"{len(zakdomp.find_corners_pgm(board(), threshold=30))} {zakdomp.__version__}\n"
+
+
+@unittest.skipUnless(runs(sys.executable, "-m", "pip", "--version"), "no pip on this machine")
+class Wheels(Folder):
+    @classmethod
+    def setUpClass(cls):
+        cls.place = cls.enterClassContext(tempfile.TemporaryDirectory())
+        library = os.environ.get("ZAKDOMP_LIBRARY") or os.path.join(TOP, "target", "bindings", "libzakdomp.so")
+        command = [sys.executable, "-m", "pip", "install", "--quiet", "--no-index", "--no-compile", "--disable-pip-version-check", "--no-cache-dir",
+                   "--target", cls.place, HERE]
+        subprocess.run(command, check=True, env=clean(ZAKDOMP_LIBRARY=os.path.abspath(library), PYTHONDONTWRITEBYTECODE="1",
+                                                          PIP_ROOT_USER_ACTION="ignore"))
+
+    def test_three_lines_of_python(self):
+        self.put("a.py", PYTHON)
+        self.assertEqual(self.ran(sys.executable, "-B", "a.py", given=board(), PYTHONPATH=self.place), DUE)
+
+    def test_the_command(self):
+        said = self.ran(os.path.join(self.place, "bin", "zakdomp"), "find", "-", "--threshold", "30", given=board(), PYTHONPATH=self.place)
+        self.assertEqual(said, zakdomp.listing(zakdomp.find_corners_pgm(board(), threshold=30)))
+
+    @unittest.skipUnless(importlib.util.find_spec("numpy"), "no numpy on this machine")
+    def test_arrays(self):
+        self.put("a.py", ARRAYS)
+        self.assertEqual(self.ran(sys.executable, "-B", "a.py", PYTHONPATH=self.place), "9\n")
+
+    @unittest.skipUnless(runs("mypy", "--version"), "no mypy on this machine")
+    def test_types(self):
+        self.put("a.py", "import zakdomp\ncorners: list[zakdomp.Corner] = zakdomp.find_corners(b'', 0, 0)\nties: str = zakdomp.find(b'', 0, 0).ties\n")
+        run = subprocess.run(["mypy", "--strict", "a.py"], capture_output=True, cwd=self.folder, env=clean(MYPYPATH=self.place), check=False)
+        self.assertRegex(run.stdout.decode(), r'^a\.py:3: error: Incompatible types in assignment .*\nFound 1 error')
+
+
+class Contents(Folder):
+    def test_the_same_bytes_give_the_same_wheel(self):
+        name = wheel_backend.build_wheel(self.folder)
+        with open(os.path.join(self.folder, name), "rb") as file:
+            first = file.read()
+        wheel_backend.build_wheel(self.folder)
+        with open(os.path.join(self.folder, name), "rb") as file:
+            self.assertEqual(file.read(), first)
+        with zipfile.ZipFile(os.path.join(self.folder, name)) as wheel:
+            self.assertIsNone(wheel.testzip())
+            names = wheel.namelist()
+        self.assertEqual(len(names), len(set(names)))
+        self.assertLessEqual({"zakdomp/libzakdomp.so", "zakdomp/py.typed", "zakdomp/__init__.pyi", "zakdomp_command/main.py"}, set(names))
+
+    def test_the_types_name_what_the_module_has(self):
+        """Every public name of zakdomp.py stands in zakdomp.pyi, with the same parameters and fields."""
+        module, stub = (public(os.path.join(HERE, name)) for name in ("zakdomp.py", "zakdomp.pyi"))
+        self.assertEqual({name: said for name, said in stub.items() if name in module}, module)
+
+
+def public(path):
+    """The functions with the names of their parameters, and the classes with their fields, of a module or its stub."""
+    with open(path, encoding="utf-8") as file:
+        body = ast.parse(file.read()).body
+    functions = {each.name: fields(each) for each in body if isinstance(each, ast.FunctionDef)}
+    classes = {each.name: [part.target.id for part in each.body if isinstance(part, ast.AnnAssign) and "NamedTuple" in map(ast.unparse, each.bases)]
+               for each in body if isinstance(each, ast.ClassDef)}
+    return {name: said for name, said in (functions | classes).items() if not name.startswith("_")}
+
+
+def fields(function):
+    """The parameters; those that stand for the fields of `Params` count as such."""
+    names = [each.arg for each in function.args.args + function.args.kwonlyargs]
+    if function.args.kwarg or (set(zakdomp.Params._fields) < set(names) and function.name != "write_stream"):
+        return [name for name in names if name not in (*zakdomp.Params._fields, "most")]
+    return names
+
+
+@unittest.skipUnless(BUILT, "the programs and the static library are not built")
+@unittest.skipUnless(runs("gcc", "--version"), "no gcc on this machine")
+class Installed(Folder):
+    @classmethod
+    def setUpClass(cls):
+        cls.prefix = os.path.join(cls.enterClassContext(tempfile.TemporaryDirectory()), "usr")
+        subprocess.run([os.path.join(TOP, "tools", "install"), cls.prefix], check=True, stdout=subprocess.DEVNULL)
+        cls.lib = os.path.join(cls.prefix, "lib")
+
+    def test_three_lines_of_c_against_the_shared_library(self):
+        self.put("a.c", C)
+        self.ran("gcc", "-Wall", "-Werror", "a.c", "-o", "a", "-I", os.path.join(self.prefix, "include"), "-L", self.lib, "-lzakdomp")
+        self.assertEqual(self.ran("./a", LD_LIBRARY_PATH=self.lib), f"H {zakdomp.__version__}\n")
+        with open(os.path.join(self.folder, "a"), "rb") as file:
+            self.assertIn(b"libzakdomp.so." + zakdomp.__version__.rpartition(".")[0].encode() + b"\0", file.read())
+
+    @unittest.skipUnless(runs("pkg-config", "--version"), "no pkg-config on this machine")
+    def test_three_lines_of_c_by_pkg_config(self):
+        self.put("a.c", C)
+        words = self.ran("pkg-config", "--cflags", "--libs", "--static", "zakdomp", PKG_CONFIG_PATH=os.path.join(self.lib, "pkgconfig")).split()
+        self.ran("gcc", "-static", "a.c", "-o", "a", *words)
+        self.assertEqual(self.ran("./a"), f"H {zakdomp.__version__}\n")
+        self.assertEqual(self.ran("pkg-config", "--modversion", "zakdomp", PKG_CONFIG_PATH=os.path.join(self.lib, "pkgconfig")), zakdomp.__version__ + "\n")
+
+    @unittest.skipUnless(runs("cargo", "--version"), "no cargo on this machine")
+    def test_three_lines_of_rust(self):
+        self.put("src/main.rs", RUST)
+        crate = os.path.join(self.prefix, "share", "zakdomp", "rust")
+        self.put("Cargo.toml", f'[package]\nname = "a"\nversion = "0.1.0"\nedition = "2021"\n[dependencies]\nzakdomp = {{ path = "{crate}" }}\n')
+        said = self.ran("cargo", "run", "--quiet", "--offline", CARGO_TARGET_DIR=os.path.join(self.folder, "target"))
+        self.assertEqual(said, "Ok(0)\n")
+
+    def test_three_lines_of_python(self):
+        self.put("a.py", PYTHON)
+        self.assertEqual(self.ran(sys.executable, "-B", "a.py", given=board(), PYTHONPATH=os.path.join(self.lib, "zakdomp")), DUE)
+
+    def test_the_programs(self):
+        bin = os.path.join(self.prefix, "bin")
+        photo = board(90, 90)
+        stream = subprocess.run([os.path.join(bin, "zakdomp"), "stream", "-"], input=photo, capture_output=True, env=clean(PYTHONDONTWRITEBYTECODE="1"),
+                                check=True).stdout
+        self.assertEqual(self.ran(os.path.join(bin, "corners"), given=stream), zakdomp.listing(zakdomp.find_corners_pgm(photo)))
+        self.assertEqual(self.ran(os.path.join(bin, "retained"), given=bytes(17)[:8] + b"\1" + bytes(8)), "H\n")
+
+    def test_nothing_names_the_repository(self):
+        for place, _, names in os.walk(self.prefix):
+            for name in names:
+                with open(os.path.join(place, name), "rb") as file:
+                    self.assertNotIn(TOP.encode() + b"/", file.read(), name)
+
+    def test_the_manual(self):
+        pages = {}
+        for name in ("man1/corners.1", "man1/retained.1", "man1/zakdomp.1", "man3/zakdomp.3"):
+            with open(os.path.join(self.prefix, "share", "man", name), encoding="utf-8") as file:
+                pages[name] = file.read().replace("\\-", "-")
+            if shutil.which("man"):
+                said = subprocess.run(["man", "--warnings", "-l", os.path.join(self.prefix, "share", "man", name)], capture_output=True, check=True,
+                                      env=clean(MANWIDTH="80", LC_ALL="C.UTF-8"))
+                self.assertEqual(said.stderr, b"")
+        with open(os.path.join(self.prefix, "include", "zakdomp.h"), encoding="utf-8") as file:
+            functions = set(re.findall(r"^\w+ (zakdomp_\w+)\(", file.read(), re.MULTILINE))
+        self.assertGreater(len(functions), 10)
+        self.assertEqual(functions, set(re.findall(r"^\.SH (zakdomp_\w+)", pages["man3/zakdomp.3"], re.MULTILINE)))
+        commands = next(action.choices for action in _parser()._actions if isinstance(action.choices, dict))
+        for name, parser in commands.items():
+            self.assertIn(f".B zakdomp {name}\n", pages["man1/zakdomp.1"])
+            for option in (word for action in parser._actions for word in action.option_strings if word not in ("-h", "--help")):
+                self.assertRegex(pages["man1/zakdomp.1"], rf"(?m)[ \n]{option}\b")
+
+    def test_a_package(self):
+        """DESTDIR is where the files are put, and not what they say."""
+        subprocess.run([os.path.join(TOP, "tools", "install"), "/usr"], check=True, stdout=subprocess.DEVNULL, env={**os.environ, "DESTDIR": self.folder})
+        self.assertEqual(os.listdir(self.folder), ["usr"])
+        with open(os.path.join(self.folder, "usr", "lib", "pkgconfig", "zakdomp.pc"), encoding="utf-8") as file:
+            self.assertEqual(file.readline(), "prefix=/usr\n")
+
+    def test_usage(self):
+        self.assertEqual(subprocess.run([os.path.join(TOP, "tools", "install")], capture_output=True, check=False).returncode, 2)
+
+
+if __name__ == "__main__":
+    unittest.main()

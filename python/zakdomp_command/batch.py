@@ -1,0 +1,113 @@
+"""`zakdomp batch`: a folder of uploads, each to its corner file and its line of the invoice."""
+import argparse
+import csv
+import errno
+import io
+import os
+import sys
+from typing import Any
+
+from zakdomp_command import files, formats, parameters
+from zakdomp_command.journal import Journal
+from zakdomp_command.progress import Bar
+from zakdomp_command.runners import Runner, alone, processes
+from zakdomp_command.uploads import Order, Outcome, corner_file
+
+EXAMPLE = "example: zakdomp batch uploads --out november --threshold 100 --jobs 2"
+INVOICE, CORNERS = "invoice.csv", "corners"
+COLUMNS = ("name", "width", "height", "corners", "ties", "number", "words")
+ESCAPED = {place: f"\\x{place:02x}" for place in (*range(32), 127)} | {ord("\\"): "\\\\"}
+
+
+def add(commands: Any) -> None:
+    parser = commands.add_parser("batch", help="a folder of photographs, and its invoice", epilog=EXAMPLE,
+                                 description="Writes DIR/corners with a corner file for each photograph of a folder, and DIR/invoice.csv with a line for each "
+                                 "upload, whatever it is: name, sides, corners and ties, or the number and words of its refusal. Files appear whole or "
+                                 "not at all; a run that was killed goes on where it stopped when it is started again. Subfolders are not looked into.")
+    parser.add_argument("folder", metavar="FOLDER", help="where the uploads are; each file in it is one")
+    parser.add_argument("--out", metavar="DIR", required=True, help="where corner files and invoice are put")
+    parser.add_argument("--jobs", type=_positive, default=len(os.sched_getaffinity(0)), metavar="N", help="so many processes (default: one a core)")
+    parser.add_argument("--scheduler", metavar="ADDRESS", help="works on the Dask cluster of this scheduler instead")
+    parser.add_argument("--format", choices=formats.SUFFIXES, default="listing", help="of the corner files")
+    parameters.add(parser)
+    parser.set_defaults(run=run)
+
+
+def run(options: argparse.Namespace) -> int:
+    folder, out = options.folder, options.out
+    names = uploads(folder)
+    corners = os.path.join(out, CORNERS)
+    os.makedirs(corners, exist_ok=True)
+    if os.path.samefile(folder, out) or os.path.samefile(folder, corners):
+        raise OSError(errno.EINVAL, "the uploads' own folder cannot take the corner files", out)
+    order = Order(os.path.realpath(folder), os.path.realpath(corners), options.format, parameters.of(options))
+    with Journal(out, order) as journal:
+        files.remove_parts(out)
+        files.remove_parts(corners)
+        _work(journal, order, names, _runner(options))
+        outcomes = [journal.done[name] for name in names]
+        files.place(os.path.join(out, INVOICE), invoice(outcomes))
+        journal.end()
+    _summary(options, outcomes)
+    _others(options, order, outcomes)
+    return 0
+
+
+def uploads(folder: str) -> list[str]:
+    """The names of a folder's files, in the order of their bytes."""
+    return sorted((entry.name for entry in os.scandir(folder) if not entry.is_dir()), key=os.fsencode)
+
+
+def invoice(outcomes: list[Outcome]) -> bytes:
+    """The lines of an invoice. A name's control characters are escaped, so that each upload has one line."""
+    output = io.StringIO()
+    writer = csv.writer(output, lineterminator="\n")
+    writer.writerow(COLUMNS)
+    for outcome in outcomes:
+        writer.writerow([outcome.name.translate(ESCAPED), *(getattr(outcome, column) for column in COLUMNS[1:])])
+    return output.getvalue().encode("utf-8", "surrogateescape")
+
+
+def _runner(options: argparse.Namespace) -> Runner:
+    if options.scheduler:
+        from zakdomp_command.cluster import cluster
+        return cluster(options.scheduler)
+    return alone if options.jobs == 1 else processes(options.jobs)
+
+
+def _work(journal: Journal, order: Order, names: list[str], runner: Runner) -> None:
+    """Does what is not yet done of the uploads."""
+    left = [name for name in names if name not in journal.done]
+    bar = Bar(len(names), len(names) - len(left))
+    try:
+        for outcome in runner(order, left):
+            journal.add(outcome)
+            bar.step()
+    finally:
+        bar.end()
+
+
+def _summary(options: argparse.Namespace, outcomes: list[Outcome]) -> None:
+    found = sum(outcome.corners is not None for outcome in outcomes)
+    refused = sum(outcome.number is not None for outcome in outcomes)
+    unread = len(outcomes) - found - refused
+    files.say(f"{len(outcomes)} uploads: {found} found, {refused} refused, {unread} not read; ".encode("ascii")
+              + os.fsencode(os.path.join(options.out, INVOICE)) + b"\n")
+
+
+def _others(options: argparse.Namespace, order: Order, outcomes: list[Outcome]) -> None:
+    """Says what is there and not of this batch: subfolders of the uploads, and corner files of an earlier batch, which are kept."""
+    own = {corner_file(order, outcome.name) for outcome in outcomes if outcome.corners is not None}
+    other = sum(entry.path not in own for entry in os.scandir(order.corners))
+    if other:
+        print(f"zakdomp: {os.path.join(options.out, CORNERS)}: {other} files are not of this batch", file=sys.stderr)
+    below = sum(entry.is_dir() and not os.path.samefile(entry.path, options.out) for entry in os.scandir(options.folder))
+    if below:
+        print(f"zakdomp: {options.folder}: {below} subfolders not looked into", file=sys.stderr)
+
+
+def _positive(text: str) -> int:
+    number = int(text)
+    if number < 1:
+        raise ValueError(text)
+    return number

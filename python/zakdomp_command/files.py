@@ -1,0 +1,65 @@
+"""Files that are read whole, and files that appear whole or not at all."""
+import errno
+import os
+import sys
+import tempfile
+
+
+def read(name: str) -> bytes:
+    """The bytes of a file; `-` is standard input."""
+    if name == "-":
+        if sys.stdin is None:
+            raise OSError(errno.EBADF, os.strerror(errno.EBADF), "standard input")
+        return sys.stdin.buffer.read()
+    with open(name, "rb") as file:
+        return file.read()
+
+
+def say(content: str | bytes) -> None:
+    """Writes text or bytes to standard output, whole."""
+    try:
+        if sys.stdout is None:
+            raise OSError(errno.EBADF, os.strerror(errno.EBADF))
+        sys.stdout.flush()
+        sys.stdout.buffer.write(content.encode("utf-8", "surrogateescape") if isinstance(content, str) else content)
+        sys.stdout.flush()
+    except BrokenPipeError:
+        raise
+    except OSError as problem:
+        raise OSError(problem.errno, problem.strerror, "standard output") from problem
+
+
+def place(name: str, content: bytes) -> None:
+    """Makes a file, or puts it in the place of an older one: whoever looks finds the older bytes or all of the new ones."""
+    try:
+        _place(name, content)
+    except OSError as problem:
+        raise OSError(problem.errno, problem.strerror, name) from problem
+
+
+def _place(name: str, content: bytes) -> None:
+    handle, part = tempfile.mkstemp(prefix=".zakdomp-", suffix=".part", dir=os.path.dirname(name) or ".")
+    try:
+        with open(handle, "wb") as file:
+            file.write(content)
+            file.flush()
+            os.fchmod(handle, 0o666 & ~_mask())
+            os.fsync(handle)
+        os.replace(part, name)
+    except BaseException:
+        os.unlink(part)
+        raise
+
+
+def remove_parts(folder: str) -> None:
+    """Removes what `place` left behind in a folder where it was killed."""
+    for entry in os.scandir(folder):
+        if entry.name.startswith(".zakdomp-") and entry.name.endswith(".part"):
+            os.unlink(entry.path)
+
+
+def _mask() -> int:
+    """The bits of a mode that new files do not get."""
+    mask = os.umask(0o077)
+    os.umask(mask)
+    return mask

@@ -1,0 +1,43 @@
+"""`zakdomp find`: the corners of one photograph, printed and drawn."""
+import argparse
+from typing import Any
+
+import zakdomp
+from zakdomp_command import files, formats, parameters
+from zakdomp_command.marks import drawing
+from zakdomp_command.png import png
+from zakdomp_command.svg import svg
+
+EXAMPLE = "example: zakdomp find board.pgm --threshold 100 --format csv --png board.png"
+
+
+def add(commands: Any) -> None:
+    parser = commands.add_parser("find", help="the corners of a photograph", epilog=EXAMPLE,
+                                 description="Prints the corners of a photograph, and draws them over it: circles, large and yellow where a corner is "
+                                 "strong, small and blue where it is weak; squares where its peak ties with a cell beside it.")
+    parser.add_argument("photo", metavar="PHOTO", help="a binary PGM file (P5) with a maxval of 255; - is standard input")
+    parser.add_argument("--format", choices=formats.SUFFIXES, default="listing", help="of the list; listing is that of the program corners")
+    parser.add_argument("--svg", metavar="FILE", help="draws the corners over the photograph, as SVG")
+    parser.add_argument("--png", metavar="FILE", help="the same as PNG")
+    parameters.add(parser)
+    parser.set_defaults(run=run)
+
+
+def run(options: argparse.Namespace) -> int:
+    upload, chosen = files.read(options.photo), parameters.of(options)
+    frame, photo = zakdomp.find_pgm(upload, **chosen), zakdomp.read_pgm(upload)
+    _draw(options, photo, frame.corners, chosen)
+    beside = formats.about(photo.width, photo.height, frame.ties, chosen)
+    files.say(formats.written(options.format, frame.corners, beside))
+    return 0
+
+
+def _draw(options: argparse.Namespace, photo: zakdomp.Photograph, corners: list[zakdomp.Corner], chosen: dict[str, Any]) -> None:
+    """The pictures that are asked for."""
+    wanted = [(name, make) for name, make in ((options.svg, svg), (options.png, png)) if name]
+    if wanted and not len(photo.pixels):
+        raise ValueError("a photograph without a pixel cannot be drawn")
+    if wanted:
+        picture = drawing(photo, corners, chosen)
+        for name, make in wanted:
+            files.place(name, make(picture))

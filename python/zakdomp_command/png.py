@@ -1,0 +1,93 @@
+"""PNG files by the standard library alone: a grey photograph, and one with marks over it in colours of a palette."""
+import math
+import struct
+import zlib
+from collections.abc import Iterator
+from typing import NamedTuple
+
+from zakdomp_command.marks import STEPS, Drawing, Mark, colour
+
+GREYS = 256 - STEPS - 1
+BLACK = GREYS
+GREY, PALETTE = 0, 3
+
+
+class Canvas(NamedTuple):
+    """Places of the palette, in row order."""
+    width: int
+    height: int
+    cells: bytearray
+
+
+def png(drawing: Drawing) -> bytes:
+    """The photograph in greys, with its marks: the palette has the greys, then black, then the steps of colour."""
+    canvas = _photograph(drawing)
+    for mark in drawing.marks:
+        _draw(canvas, mark, drawing)
+    greys = [(grey, grey, grey) for grey in (round(255 * place / (GREYS - 1)) for place in range(GREYS))]
+    palette = greys + [(0, 0, 0)] + [colour(step) for step in range(STEPS)]
+    return _file(canvas.width, canvas.height, PALETTE, canvas.cells, bytes(part for entry in palette for part in entry))
+
+
+def grey_png(width: int, height: int, pixels: bytes) -> bytes:
+    """A photograph as it is."""
+    return _file(width, height, GREY, pixels)
+
+
+def _photograph(drawing: Drawing) -> Canvas:
+    photo, times = drawing.photo, drawing.enlarged
+    cells = bytes(photo.pixels).translate(bytes(round(grey * (GREYS - 1) / 255) for grey in range(256)))
+    if times > 1:
+        rows = (cells[start:start + photo.width] for start in range(0, len(cells), photo.width))
+        cells = b"".join(times * bytes(cell for cell in row for _ in range(times)) for row in rows)
+    return Canvas(times * photo.width, times * photo.height, bytearray(cells))
+
+
+def _draw(canvas: Canvas, mark: Mark, drawing: Drawing) -> None:
+    """A mark in its colour between two thin black lines, so that it stands out on white, black and grey."""
+    times = drawing.enlarged
+    x, y, radius, line = (times * value for value in (mark.x + 0.5, mark.y + 0.5, mark.radius, drawing.line))
+    line = max(line, 1.5)
+    edge = max(line / 2, 1.0)
+    for width, cell in ((line + 2 * edge, BLACK), (line, BLACK + 1 + mark.step)):
+        outer, inner = radius + width / 2, max(radius - width / 2, 0.0)
+        for row in range(max(math.ceil(y - outer - 0.5), 0), min(math.floor(y + outer - 0.5), canvas.height - 1) + 1):
+            for start, end in _spans(x, abs(row + 0.5 - y), outer, inner, mark.tied):
+                _fill(canvas, row, start, end, cell)
+
+
+def _spans(x: float, away: float, outer: float, inner: float, square: bool) -> Iterator[tuple[float, float]]:
+    """The parts of a row, so far away from the centre, that lie between the inner and the outer circle or square."""
+    far, near = _half(away, outer, square), _half(away, inner, square)
+    if near <= 0:
+        yield x - far, x + far
+    else:
+        yield x - far, x - near
+        yield x + near, x + far
+
+
+def _half(away: float, radius: float, square: bool) -> float:
+    """Half of the length of a row within a circle or a square."""
+    if away >= radius:
+        return 0.0
+    return radius if square else math.sqrt(radius * radius - away * away)
+
+
+def _fill(canvas: Canvas, row: int, start: float, end: float, cell: int) -> None:
+    """Fills the cells of a row whose middle lies within a part of it."""
+    first, behind = max(math.ceil(start - 0.5), 0), min(math.ceil(end - 0.5), canvas.width)
+    if first < behind:
+        place = row * canvas.width
+        canvas.cells[place + first:place + behind] = bytes([cell]) * (behind - first)
+
+
+def _file(width: int, height: int, kind: int, cells: bytes | bytearray, palette: bytes = b"") -> bytes:
+    """Eight bits a cell, no interlace, and each row as it is behind its 0."""
+    rows = b"".join(b"\0" + cells[start:start + width] for start in range(0, width * height, width))
+    header = _chunk(b"IHDR", struct.pack(">IIBBBBB", width, height, 8, kind, 0, 0, 0))
+    colours = _chunk(b"PLTE", palette) if palette else b""
+    return b"\x89PNG\r\n\x1a\n" + header + colours + _chunk(b"IDAT", zlib.compress(rows, 6)) + _chunk(b"IEND", b"")
+
+
+def _chunk(name: bytes, content: bytes) -> bytes:
+    return struct.pack(">I", len(content)) + name + content + struct.pack(">I", zlib.crc32(name + content))

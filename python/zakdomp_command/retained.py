@@ -1,0 +1,55 @@
+"""`zakdomp retained`: whether an item is held (request 13)."""
+import argparse
+import datetime
+import time
+from typing import Any
+
+import zakdomp
+from zakdomp_command import files
+
+EXAMPLE = "example: zakdomp retained photograph 2026-08-18 --at 2026-11-16T00:00:00"
+KINDS = {"file": 1, "photograph": 2, "token": 3}
+WORDS = {"N": "not yet", "H": "held", "G": "gone"}
+
+
+def add(commands: Any) -> None:
+    parser = commands.add_parser("retained", help="whether an item is held, or may be deleted", epilog=EXAMPLE,
+                                 description="Prints N not yet, H held or G gone. A corner file is held always, a photograph for 90 days from the day of its "
+                                 "receipt, a token for 604,800 seconds. Times are seconds since 1970 or ISO dates, in UTC where they do not say.")
+    parser.add_argument("kind", metavar="KIND", nargs="?", choices=[*KINDS], help="file (a corner file), photograph or token")
+    parser.add_argument("start", metavar="START", nargs="?", type=_seconds, help="when it was received, or issued")
+    parser.add_argument("--at", metavar="TIME", type=_seconds, help="the time asked about (default: now)")
+    parser.add_argument("--stream", metavar="FILE", help="prints instead what the program retained does for a stream of items; - is standard input")
+    parser.set_defaults(run=run)
+
+
+def run(options: argparse.Namespace) -> int:
+    if options.stream is not None and options.kind is None and options.at is None:
+        return _stream(options.stream)
+    if options.stream is not None or options.start is None:
+        raise ValueError("retained wants KIND and START, or else --stream FILE alone")
+    letter = zakdomp.holding(KINDS[options.kind], options.start, int(time.time()) if options.at is None else options.at)
+    files.say(f"{letter} {WORDS[letter]}\n")
+    return 0
+
+
+def _stream(name: str) -> int:
+    """The answers for a stream of items; a refusal, which ends them, is said a second time in words."""
+    text = zakdomp.holdings(files.read(name))
+    files.say(text)
+    last = text.splitlines()[-1:] or [""]
+    if last[0].startswith("refused "):
+        raise zakdomp.Refusal(int(last[0].split()[1]))
+    return 0
+
+
+def _seconds(text: str) -> int:
+    """A time as whole seconds since 1970."""
+    if text.isdecimal():
+        return int(text)
+    moment = datetime.datetime.fromisoformat(text)
+    aware = moment if moment.tzinfo else moment.replace(tzinfo=datetime.timezone.utc)
+    seconds = int(aware.timestamp() // 1)
+    if seconds < 0:
+        raise ValueError("before 1970")
+    return seconds

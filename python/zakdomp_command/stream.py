@@ -1,0 +1,30 @@
+"""`zakdomp stream`: the frame stream of a small photograph (request 11)."""
+import argparse
+import sys
+from typing import Any
+
+import zakdomp
+from zakdomp_command import files, parameters
+
+EXAMPLE = "example: zakdomp stream board.pgm --threshold 100 | corners"
+
+
+def add(commands: Any) -> None:
+    parser = commands.add_parser("stream", help="the frame stream of a photograph, which the program corners reads", epilog=EXAMPLE,
+                                 description="Writes the frame stream of a photograph of at most 96 by 96 pixels and of the parameters.")
+    parser.add_argument("photo", metavar="PHOTO", help="a binary PGM file (P5) with a maxval of 255; - is standard input")
+    parser.add_argument("--out", metavar="FILE", help="where it is put, and not on standard output")
+    parameters.add(parser)
+    parser.set_defaults(run=run)
+
+
+def run(options: argparse.Namespace) -> int:
+    if not options.out and sys.stdout and sys.stdout.isatty():
+        raise ValueError("a stream is no text for a terminal: give --out FILE, or a pipe")
+    photo = zakdomp.read_pgm(files.read(options.photo))
+    stream = zakdomp.write_stream(photo.pixels, photo.width, photo.height, **parameters.of(options))
+    if options.out:
+        files.place(options.out, stream)
+    else:
+        files.say(stream)
+    return 0
