@@ -10,7 +10,8 @@ use lib.Ieee.{Float}
 use Rattle.lists.specs.Places.{Place, block, keep, All}
 use Rattle.lists.proofs.Members.{at-block, all-map}
 use Rattle.float32.specs.Value.{IsWhole}
-use Rattle.detect.specs.Peaks.{window, isPeak, peakPlaces, computed, Inside}
+use Rattle.detect.specs.Peaks.{window, isPeak, peakPlaces, computed}
+use Rattle.detect.specs.Internal.{Inside}
 use Rattle.detect.specs.Exact.{exact}
 use Rattle.detect.proofs.Choice.{peaks-are}
 use Rattle.detect.proofs.Agreement as readings

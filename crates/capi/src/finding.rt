@@ -2,9 +2,10 @@
 use frame::FrameAnswer;
 use patch_corners::FrameParams;
 ghost use mathlib.Core.Path.{_≡_};
+ghost use lib.ListN.{getD};
 ghost use Rattle.corner_list.specs.CornerList.{slices};
-ghost use Rattle.frame.specs.Frame.{buffers, numberOf};
-ghost use Rattle.capi.specs.Finding.{params, countOf, tiesOf, CornersFound};
+ghost use Rattle.frame.specs.Frame.{buffers, params, numberOf, valuesOf};
+ghost use Rattle.capi.specs.Finding.{CornersFound};
 
 // The number of an answer, 0 where corners were found.
 pub(crate) fn number_of(a: FrameAnswer) -> u8
@@ -18,7 +19,7 @@ pub(crate) fn number_of(a: FrameAnswer) -> u8
 
 // How many corners there are, or `before` where refused.
 pub(crate) fn count_of(a: FrameAnswer, before: usize) -> usize
-    ensures { λ r. ⌜ r ≡ countOf a before ⌝ }
+    ensures { λ r. ⌜ r ≡ getD (valuesOf a) 0 before ⌝ }
 {
     match a {
         FrameAnswer::Corners(n, _) => n,
@@ -28,7 +29,7 @@ pub(crate) fn count_of(a: FrameAnswer, before: usize) -> usize
 
 // How many ties there are, or `before` where refused.
 pub(crate) fn ties_of(a: FrameAnswer, before: u64) -> u64
-    ensures { λ r. ⌜ r ≡ tiesOf a before ⌝ }
+    ensures { λ r. ⌜ r ≡ getD (valuesOf a) 1 before ⌝ }
 {
     match a {
         FrameAnswer::Corners(_, ties) => ties,

@@ -1,8 +1,8 @@
 // The corners of an uploaded photograph.
 use patch_corners::FrameParams;
 ghost use Rattle.corner_list.specs.CornerList.{slices};
-ghost use Rattle.frame.specs.Frame.{buffers};
-ghost use Rattle.capi.specs.Finding.{params, PhotographCorners};
+ghost use Rattle.frame.specs.Frame.{buffers, params};
+ghost use Rattle.capi.specs.Finding.{PhotographCorners};
 
 // Finds the corners of an upload, as `zakdomp_find_corners` does of its pixels.
 #[no_mangle]

@@ -8,7 +8,6 @@ use Rattle.lists.specs.Places.{Place}
 use Rattle.lists.specs.Refusals.{unless, resultOr}
 use Rattle.response_limits.specs.declared.Limits.the-variants as limits
 use Rattle.response_limits.specs.Promise.{LimitsWritten}
-use Rattle.sure_peak.specs.declared.Sure.{Sure}
 use Rattle.sure_peak.specs.declared.Sure.the-variants.{Yes, No, Refused}
 use Rattle.sure_peak.specs.SurePeak.{isSure}
 use Rattle.sure_peak.specs.Promise as sure_peak
@@ -17,14 +16,8 @@ use Rattle.sure_peak.specs.Promise as sure_peak
 pub record LimitsTold (low high : List ℕ) (w h ring : ℕ) (lows highs : List ℤ) (r : ℕ) (lows′ highs′ : List ℤ) : Type 0 where
   pub answer : LimitsWritten low high w h ring lows highs (unless limits.Refused r limits.Written) lows′ highs′
 
--- what an answer says, 1 for yes and 0 for no, or what was there before
-abbrev pub sureOr : Sure → ℕ → ℕ
-sureOr Yes before = 1
-sureOr No before = 0
-sureOr (Refused n) before = before
-
--- the number r that is returned is that of the answer, and the result is that of the answer
+-- the number r that is returned is that of the answer, and so is the result: 1 for yes and 0 for no
 pub record SureTold (lows highs : List ℤ) (w h ring threshold window least centroid : ℕ) (p : Place) (before r after : ℕ) : Type 0 where
   pub answer : sure_peak.SureTold lows highs w h ring threshold window least centroid p
-      (unless Refused r (sure_peak.answerOf (isSure lows highs w h ring threshold window least centroid p)))
+      (unless Refused r (cond (isSure lows highs w h ring threshold window least centroid p) Yes No))
   pub sure-is : after ≡ resultOr r (cond (isSure lows highs w h ring threshold window least centroid p) 1 0) before

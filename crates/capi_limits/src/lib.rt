@@ -3,9 +3,10 @@
 use response_limits::Limits;
 use sure_peak::Sure;
 ghost use mathlib.Core.Path.{_≡_};
+ghost use lib.ListN.{getD};
 ghost use Rattle.response_limits.specs.Promise as limits;
 ghost use Rattle.sure_peak.specs.Promise as sures;
-ghost use Rattle.capi_limits.specs.Limits.{sureOr, LimitsTold, SureTold};
+ghost use Rattle.capi_limits.specs.Limits.{LimitsTold, SureTold};
 
 // The number of an answer, 0 where both maps were written.
 fn limits_number(a: Limits) -> u8
@@ -46,7 +47,7 @@ fn sure_number(a: Sure) -> u8
 
 // 1 for yes and 0 for no, or `before` where refused.
 fn sure_of(a: Sure, before: u8) -> u8
-    ensures { λ r. ⌜ r ≡ sureOr a before ⌝ }
+    ensures { λ r. ⌜ r ≡ getD (sures.valuesOf a) 0 before ⌝ }
 {
     match a {
         Sure::Yes => 1,

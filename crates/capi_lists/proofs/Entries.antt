@@ -1,8 +1,10 @@
 -- Each entry's promise from that of the function it calls. Assumes nothing.
 use Prim.Native.Nat.{ℕ, zero, suc}
-use mathlib.Core.Path.{_≡_, refl, subst}
-use Rattle.lists.specs.Refusals.{unless, resultOr}
-use Rattle.lists.proofs.Answers.{answer, result}
+use mathlib.Core.Path.{_≡_, refl, ap, _∙_, subst}
+use mathlib.Core.List.{[], _∷_, map}
+use lib.ListN.{getD}
+use Rattle.lists.specs.Refusals.{unless, valuesUnless, resultOr}
+use Rattle.lists.proofs.Answers.{answer, value}
 use Rattle.corner_list.specs.declared.Corner.{Corner}
 use Rattle.corner_list.specs.CornerList.{Slices, placesOf, cornerAt}
 use Rattle.corner_strike.specs.declared.Edition.{Edition}
@@ -13,60 +15,44 @@ use Rattle.corner_strike.specs.declared.striking.Strike.the-variants as struck
 use Rattle.corner_strike.specs.Editions.{raised}
 use Rattle.corner_strike.specs.Showing as showing
 use Rattle.corner_strike.specs.Striking as striking
-use Rattle.capi_lists.specs.Showing.{cornerOr, changeOr, CornerShown}
+use Rattle.capi_lists.specs.Showing.{CornerShown}
 use Rattle.capi_lists.specs.Striking.{CornerStruck}
 
 -- ---- a corner shown
 module _ (b : Slices) (e : Edition) (place : ℕ) (a : Shown) (r : ℕ) (p : showing.Shows b e place a) (n : r ≡ showing.numberOf a) where
-  abbrev shows : ℕ → Shown
-  shows k = unless shown.Refused k (shown.Found (cornerAt b place) (e .change))
+  -- a part of its one value, the corner with the change number
+  part-is : {B : Type 0} (part : Corner × ℕ → B) (before x : B) → x ≡ getD (map part (showing.valuesOf a)) 0 before
+      → x ≡ resultOr r (part (cornerAt b place, e .change)) before
+  part-is part before x =
+      let number = showing.refusalOf (placesOf b) e place in
+      value showing.numberOf a number (p .number) r n (λ s. map part (showing.valuesOf s)) (part (cornerAt b place, e .change) ∷ [])
+      (ap (map part) (p .values) ∙ go number) 0 before x
+    where
+      go : (k : ℕ) → map part (valuesUnless k ((cornerAt b place, e .change) ∷ [])) ≡ valuesUnless k (part (cornerAt b place, e .change) ∷ [])
+      go zero = refl
+      go (suc k) = refl
 
-  shows-again : (k : ℕ) → showing.numberOf (shows k) ≡ k
-  shows-again zero = refl
-  shows-again (suc k) = refl
-
-  shown-value : {B : Type 0} (valueOf : Shown → B → B) (v before x : B) → ((k : ℕ) → valueOf (shows k) before ≡ resultOr k v before)
-      → x ≡ valueOf a before → x ≡ resultOr r v before
-  shown-value = result shows showing.numberOf shows-again a (showing.refusalOf (placesOf b) e place) (p .answer) r n
-
-  pub corner-shown : (c : Corner) (change : ℕ) (c′ : Corner) (change′ : ℕ) → c′ ≡ cornerOr a c → change′ ≡ changeOr a change
+  pub corner-shown : (c : Corner) (change : ℕ) (c′ : Corner) (change′ : ℕ)
+      → c′ ≡ getD (map (λ v. v .0) (showing.valuesOf a)) 0 c → change′ ≡ getD (map (λ v. v .1) (showing.valuesOf a)) 0 change
       → CornerShown b e place c change r c′ change′
   corner-shown c change c′ change′ x y =
+      let number = showing.refusalOf (placesOf b) e place in
+      let by : ℕ → Shown = λ k. unless shown.Refused k (shown.Found (cornerAt b place) (e .change)) in
       record {
-        answer =
-            subst (showing.Shows b e place)
-            (answer shows showing.numberOf shows-again a (showing.refusalOf (placesOf b) e place) (p .answer) r n) p;
-        corner-is = shown-value cornerOr (cornerAt b place) c c′ each-corner x;
-        shown-is = shown-value changeOr (e .change) change change′ each-change y;
+        answer = subst (showing.Shows b e place) (answer showing.numberOf a number (p .number) r n by (p .answer)) p;
+        corner-is = part-is (λ v. v .0) c c′ x;
+        shown-is = part-is (λ v. v .1) change change′ y;
       }
-    where
-      each-corner : (k : ℕ) → cornerOr (shows k) c ≡ resultOr k (cornerAt b place) c
-      each-corner zero = refl
-      each-corner (suc k) = refl
-
-      each-change : (k : ℕ) → changeOr (shows k) change ≡ resultOr k (e .change) change
-      each-change zero = refl
-      each-change (suc k) = refl
 
 -- ---- a corner struck
 module _ (b : Slices) (e : Edition) (place change : ℕ) (a : Strike) (r : ℕ) (b′ : Slices) (e′ : Edition) where
-  abbrev strikes : ℕ → Strike
-  strikes k = unless struck.Refused k (struck.Struck (raised e))
-
-  pub corner-struck : striking.Strikes b e place change a b′ → r ≡ striking.numberOf a → e′ ≡ striking.editionOf a e
+  pub corner-struck : striking.Strikes b e place change a b′ → r ≡ striking.numberOf a → e′ ≡ getD (striking.valuesOf a) 0 e
       → CornerStruck b e place change r b′ e′
   corner-struck p n x =
       let number = striking.refusalOf (placesOf b) e place change in
       record {
         answer =
-            subst (λ (o : Strike). striking.Strikes b e place change o b′) (answer strikes striking.numberOf again a number (p .answer) r n) p;
-        edition-is = result strikes striking.numberOf again a number (p .answer) r n striking.editionOf (raised e) e e′ each x;
+            subst (λ (o : Strike). striking.Strikes b e place change o b′)
+            (answer striking.numberOf a number (p .number) r n (λ k. unless struck.Refused k (struck.Struck (raised e))) (p .answer)) p;
+        edition-is = value striking.numberOf a number (p .number) r n striking.valuesOf (raised e ∷ []) (p .values) 0 e e′ x;
       }
-    where
-      again : (k : ℕ) → striking.numberOf (strikes k) ≡ k
-      again zero = refl
-      again (suc k) = refl
-
-      each : (k : ℕ) → striking.editionOf (strikes k) e ≡ resultOr k (raised e) e
-      each zero = refl
-      each (suc k) = refl

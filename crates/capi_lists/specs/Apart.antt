@@ -3,19 +3,13 @@ use Prim.Native.Nat.{ℕ}
 use mathlib.Core.Path.{_≡_}
 use lib.ListN.{length}
 use lib.Ieee.{Float}
-use Rattle.lists.specs.Refusals.{resultOr}
+use Rattle.lists.specs.Refusals.{resultOr, unless}
 use Rattle.corner_list.specs.CornerList.{Slices, cornersOf}
-use Rattle.merge.specs.declared.Merged.{Merged}
 use Rattle.merge.specs.declared.Merged.the-variants.{Kept, Refused}
-use Rattle.merge.specs.Merge.{answerOf, resultOf}
+use Rattle.merge.specs.Merge.{resultOf}
 use Rattle.merge.specs.Apart.{MergedApart}
-
--- the corners that an answer counts, or what was there before
-abbrev pub keptOf : Merged → ℕ → ℕ
-keptOf (Kept n) before = n
-keptOf (Refused k) before = before
 
 -- the number r that is returned is that of the answer, and the separate buffer d and the count are those of the answer
 pub record CornersMergedApart (radius : Float) (count : ℕ) (b d : Slices) (kept r : ℕ) (d′ : Slices) (kept′ : ℕ) : Type 0 where
-  pub answer : MergedApart radius count b d (answerOf r (length (resultOf radius (cornersOf b count)))) d′
+  pub answer : MergedApart radius count b d (unless Refused r (Kept (length (resultOf radius (cornersOf b count))))) d′
   pub kept-is : kept′ ≡ resultOr r (length (resultOf radius (cornersOf b count))) kept

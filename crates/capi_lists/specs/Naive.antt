@@ -3,19 +3,12 @@ use Prim.Native.Nat.{ℕ}
 use mathlib.Core.Path.{_≡_}
 use lib.ListN.{length}
 use lib.Ieee.{Float}
-use Rattle.lists.specs.Refusals.{resultOr}
+use Rattle.lists.specs.Refusals.{resultOr, unless}
 use Rattle.corner_list.specs.CornerList.{Slices, cornersOf}
-use Rattle.merge.specs.declared.Merged.{Merged}
 use Rattle.merge.specs.declared.Merged.the-variants.{Kept, Refused}
-use Rattle.merge.specs.Merge.{answerOf}
 use Rattle.merge_naive.specs.MergeNaive.{naiveOf, MergesNaive}
-
--- the corners that an answer counts, or what was there before
-abbrev pub keptOf : Merged → ℕ → ℕ
-keptOf (Kept n) before = n
-keptOf (Refused k) before = before
 
 -- the number r that is returned is that of the answer, and the buffer and the count are those of the answer
 pub record CornersMergedNaively (radius : Float) (count : ℕ) (b : Slices) (kept r : ℕ) (b′ : Slices) (kept′ : ℕ) : Type 0 where
-  pub answer : MergesNaive radius count b (answerOf r (length (naiveOf radius (cornersOf b count)))) b′
+  pub answer : MergesNaive radius count b (unless Refused r (Kept (length (naiveOf radius (cornersOf b count))))) b′
   pub kept-is : kept′ ≡ resultOr r (length (naiveOf radius (cornersOf b count))) kept

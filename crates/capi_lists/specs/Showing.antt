@@ -6,25 +6,12 @@ use Rattle.lists.specs.Refusals.{unless, resultOr}
 use Rattle.corner_list.specs.declared.Corner.{Corner}
 use Rattle.corner_list.specs.CornerList.{Slices, cornerAt}
 use Rattle.corner_strike.specs.declared.Edition.{Edition}
-use Rattle.corner_strike.specs.declared.showing.Shown.{Shown}
 use Rattle.corner_strike.specs.declared.showing.Shown.the-variants.{Found, Refused}
 use Rattle.corner_strike.specs.Showing.{Shows}
 
--- count and change number of a list, and the fields of a corner, in the order of the arguments
-abbrev pub edition : ℕ → ℕ → Edition
-edition count change = record { count = count; change = change }
-
+-- the fields of a corner, in the order of the arguments
 abbrev pub corner : Float → Float → Float → ℕ → Corner
 corner x y strength neighbours = record { x = x; y = y; strength = strength; neighbours = neighbours }
-
--- the corner that an answer shows, or what was there before; and the change number
-abbrev pub cornerOr : Shown → Corner → Corner
-cornerOr (Found c change) before = c
-cornerOr (Refused k) before = before
-
-abbrev pub changeOr : Shown → ℕ → ℕ
-changeOr (Found c change) before = change
-changeOr (Refused k) before = before
 
 -- the number r that is returned is that of the answer, and so are the corner and the change number
 pub record CornerShown (b : Slices) (e : Edition) (place : ℕ) (c : Corner) (shown r : ℕ) (c′ : Corner) (shown′ : ℕ) : Type 0 where

@@ -3,9 +3,12 @@ use corner_list::Corner;
 use corner_strike::Edition;
 use corner_strike::Shown;
 ghost use mathlib.Core.Path.{_≡_};
+ghost use mathlib.Core.List.{map};
+ghost use lib.ListN.{getD};
 ghost use Rattle.corner_list.specs.CornerList.{slices};
-ghost use Rattle.corner_strike.specs.Showing.{numberOf};
-ghost use Rattle.capi_lists.specs.Showing.{edition, corner, cornerOr, changeOr, CornerShown};
+ghost use Rattle.corner_strike.specs.Editions.{edition};
+ghost use Rattle.corner_strike.specs.Showing.{numberOf, valuesOf};
+ghost use Rattle.capi_lists.specs.Showing.{corner, CornerShown};
 
 // The number of an answer, 0 where a corner is shown.
 fn number_of(a: Shown) -> u8
@@ -19,7 +22,7 @@ fn number_of(a: Shown) -> u8
 
 // The corner, or `before` where refused.
 fn corner_of(a: Shown, before: Corner) -> Corner
-    ensures { λ r. ⌜ r ≡ cornerOr a before ⌝ }
+    ensures { λ r. ⌜ r ≡ getD (map (λ v. v .0) (valuesOf a)) 0 before ⌝ }
 {
     match a {
         Shown::Found(c, _) => c,
@@ -29,7 +32,7 @@ fn corner_of(a: Shown, before: Corner) -> Corner
 
 // The change number, or `before` where refused.
 fn change_of(a: Shown, before: u32) -> u32
-    ensures { λ r. ⌜ r ≡ changeOr a before ⌝ }
+    ensures { λ r. ⌜ r ≡ getD (map (λ v. v .1) (valuesOf a)) 0 before ⌝ }
 {
     match a {
         Shown::Found(_, change) => change,

@@ -2,9 +2,10 @@
 use corner_strike::Edition;
 use corner_strike::Strike;
 ghost use mathlib.Core.Path.{_≡_};
+ghost use lib.ListN.{getD};
 ghost use Rattle.corner_list.specs.CornerList.{slices};
-ghost use Rattle.corner_strike.specs.Striking.{numberOf, editionOf};
-ghost use Rattle.capi_lists.specs.Showing.{edition};
+ghost use Rattle.corner_strike.specs.Editions.{edition};
+ghost use Rattle.corner_strike.specs.Striking.{numberOf, valuesOf};
 ghost use Rattle.capi_lists.specs.Striking.{CornerStruck};
 
 // The number of an answer, 0 where a corner was struck.
@@ -19,7 +20,7 @@ fn number_of(a: Strike) -> u8
 
 // The list's count and change number, or `before` where refused.
 fn edition_of(a: Strike, before: Edition) -> Edition
-    ensures { λ r. ⌜ r ≡ editionOf a before ⌝ }
+    ensures { λ r. ⌜ r ≡ getD (valuesOf a) 0 before ⌝ }
 {
     match a {
         Strike::Struck(list) => list,

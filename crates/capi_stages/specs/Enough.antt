@@ -8,21 +8,9 @@ use lib.Dec.{leb}
 use lib.Ieee.{Float}
 use Rattle.lists.specs.Refusals.{unless, resultOr}
 use Rattle.detect.specs.declared.Search.{Search}
-use Rattle.detect.specs.declared.enough.Enough.{Enough}
-use Rattle.detect.specs.declared.enough.Enough.the-variants.{Yes, No, Refused}
+use Rattle.detect.specs.declared.enough.Enough.the-variants.{Refused}
 use Rattle.detect.specs.Detect.{peaksIn}
 use Rattle.detect.specs.Enough.{rowsFor, enoughOf, EnoughFound}
-
--- whether an answer is yes, as 1 or 0, and its rows, or what was there before
-abbrev pub yesOf : Enough → ℕ → ℕ
-yesOf (Yes rows) before = 1
-yesOf (No rows) before = 0
-yesOf (Refused k) before = before
-
-abbrev pub rowsOf : Enough → ℕ → ℕ
-rowsOf (Yes rows) before = rows
-rowsOf (No rows) before = rows
-rowsOf (Refused k) before = before
 
 -- the number r that is returned is that of the answer, and `enough` and the rows are those of the answer
 pub record PeaksCounted (conds : List (Bool × ℕ)) (m : List Float) (s : Search) (wanted enough rows r enough′ rows′ : ℕ) : Type 0 where

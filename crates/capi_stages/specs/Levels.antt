@@ -2,18 +2,12 @@
 use Prim.Native.Nat.{ℕ}
 use mathlib.Core.Path.{_≡_}
 use mathlib.Core.List.{List}
-use Rattle.pyramid.specs.declared.Pyramid.{Pyramid}
 use Rattle.pyramid.specs.declared.Pyramid.the-variants.{Levels, Refused}
 use Rattle.pyramid_levels.specs.Levels.{levelCount}
-use Rattle.pyramid.specs.Build.{answerOf, Built}
-use Rattle.lists.specs.Refusals.{resultOr}
-
--- the levels that an answer counts, or what was there before
-abbrev pub builtOf : Pyramid → ℕ → ℕ
-builtOf (Levels n) before = n
-builtOf (Refused k) before = before
+use Rattle.pyramid.specs.Build.{Built}
+use Rattle.lists.specs.Refusals.{resultOr, unless}
 
 -- the number r that is returned is that of the answer, and the level buffer and the count are those of the answer
 pub record LevelsBuilt (img : List ℕ) (w h count minimum : ℕ) (levels : List ℕ) (built r : ℕ) (levels′ : List ℕ) (built′ : ℕ) : Type 0 where
-  pub answer : Built img w h count minimum levels (answerOf r (levelCount w h count minimum)) levels′
+  pub answer : Built img w h count minimum levels (unless Refused r (Levels (levelCount w h count minimum))) levels′
   pub built-is : built′ ≡ resultOr r (levelCount w h count minimum) built

@@ -1,3 +1,4 @@
+pub mod Internal
 pub mod Patch
 pub mod Peaks
 pub mod Enough

@@ -4,17 +4,11 @@ use mathlib.Core.Path.{_≡_}
 use lib.ListN.{length}
 use lib.Ieee.{Float}
 use Rattle.corner_list.specs.CornerList.{Slices, cornersOf, placesOf}
-use Rattle.merge.specs.declared.Merged.{Merged}
 use Rattle.merge.specs.declared.Merged.the-variants.{Kept, Refused}
-use Rattle.merge.specs.Merge.{answerOf, resultOf, Merges}
-use Rattle.lists.specs.Refusals.{resultOr}
-
--- the corners that an answer counts, or what was there before
-abbrev pub keptOf : Merged → ℕ → ℕ
-keptOf (Kept n) before = n
-keptOf (Refused k) before = before
+use Rattle.merge.specs.Merge.{resultOf, Merges}
+use Rattle.lists.specs.Refusals.{resultOr, unless}
 
 -- the number r that is returned is that of the answer, and the buffer and the count are those of the answer
 pub record CornersMerged (radius : Float) (count : ℕ) (b : Slices) (kept r : ℕ) (b′ : Slices) (kept′ : ℕ) : Type 0 where
-  pub answer : Merges radius (placesOf b) count b (answerOf r (length (resultOf radius (cornersOf b count)))) b′
+  pub answer : Merges radius (placesOf b) count b (unless Refused r (Kept (length (resultOf radius (cornersOf b count))))) b′
   pub kept-is : kept′ ≡ resultOr r (length (resultOf radius (cornersOf b count))) kept

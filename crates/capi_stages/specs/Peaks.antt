@@ -6,24 +6,13 @@ use mathlib.Core.List.{List}
 use lib.ListN.{length}
 use Rattle.corner_list.specs.CornerList.{Slices}
 use Rattle.corner_list.specs.declared.Corner.{Corner}
-use Rattle.detect.specs.declared.Peaks.{Peaks}
 use Rattle.detect.specs.declared.Peaks.the-variants.{Added, Refused}
-use Rattle.detect.specs.Detect.{answerOf, PeaksAdded}
-use Rattle.lists.specs.Refusals.{resultOr}
-
--- the peaks that an answer counts, or what was there before
-abbrev pub addedOf : Peaks → ℕ → ℕ
-addedOf (Added n ties) before = n
-addedOf (Refused k) before = before
-
--- and their ties
-abbrev pub tiesOf : Peaks → ℕ → ℕ
-tiesOf (Added n ties) before = ties
-tiesOf (Refused k) before = before
+use Rattle.detect.specs.Detect.{PeaksAdded}
+use Rattle.lists.specs.Refusals.{resultOr, unless}
 
 -- the number r that is returned is that of the answer, and the buffer, the count and the ties are those of the answer
 pub record PeaksFound (conds : List (Bool × ℕ)) (cs : List Corner) (sum held : ℕ) (b : Slices) (added ties r : ℕ) (b′ : Slices) (added′ ties′ : ℕ)
     : Type 0 where
-  pub answer : PeaksAdded conds cs sum held b (answerOf r (length cs) sum) b′
+  pub answer : PeaksAdded conds cs sum held b (unless Refused r (Added (length cs) sum)) b′
   pub added-is : added′ ≡ resultOr r (length cs) added
   pub ties-are : ties′ ≡ resultOr r sum ties

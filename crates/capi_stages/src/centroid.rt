@@ -3,7 +3,8 @@ use center_of_mass::CenterOfMassRefiner;
 use center_of_mass::Outcome;
 ghost use mathlib.Core.Path.{_≡_};
 ghost use Rattle.center_of_mass.specs.CenterOfMass.{numberOf};
-ghost use Rattle.capi_stages.specs.Centroid.{seed, three, located, Located};
+ghost use Rattle.capi_stages.specs.Centroid.{seed, three, Located};
+ghost use Rattle.capi_stages.specs.Internal.{located};
 
 // A seed or its centre of mass, and the mass, which is 0 where the seed is unmoved.
 struct Seed {

@@ -1,10 +1,10 @@
 // Whether a response map has enough peaks.
 use detect::Enough;
 ghost use mathlib.Core.Path.{_≡_};
-ghost use lib.ListN.{length};
+ghost use lib.ListN.{length, getD};
 ghost use Rattle.detect.specs.Detect.{searchOf, conditions};
-ghost use Rattle.detect.specs.Enough.{numberOf};
-ghost use Rattle.capi_stages.specs.Enough.{yesOf, rowsOf, PeaksCounted};
+ghost use Rattle.detect.specs.Enough.{numberOf, valuesOf};
+ghost use Rattle.capi_stages.specs.Enough.{PeaksCounted};
 
 // The number of an answer, 0 for yes and for no.
 fn number_of(a: Enough) -> u8
@@ -19,7 +19,7 @@ fn number_of(a: Enough) -> u8
 
 // 1 for yes and 0 for no, or `before` where refused.
 fn yes_of(a: Enough, before: u8) -> u8
-    ensures { λ r. ⌜ r ≡ yesOf a before ⌝ }
+    ensures { λ r. ⌜ r ≡ getD (valuesOf a) 0 before ⌝ }
 {
     match a {
         Enough::Yes(_) => 1,
@@ -30,7 +30,7 @@ fn yes_of(a: Enough, before: u8) -> u8
 
 // The rows looked at, or `before` where refused.
 fn rows_of(a: Enough, before: usize) -> usize
-    ensures { λ r. ⌜ r ≡ rowsOf a before ⌝ }
+    ensures { λ r. ⌜ r ≡ getD (valuesOf a) 1 before ⌝ }
 {
     match a {
         Enough::Yes(n) => n,

@@ -1,9 +1,10 @@
 // The half-size levels of an image.
 use pyramid::Pyramid;
 ghost use mathlib.Core.Path.{_≡_};
+ghost use lib.ListN.{getD};
 ghost use Rattle.pyramid_levels.specs.Levels.{levelCount, cellsAbove, capped};
-ghost use Rattle.pyramid.specs.Build.{numberOf};
-ghost use Rattle.capi_stages.specs.Levels.{builtOf, LevelsBuilt};
+ghost use Rattle.pyramid.specs.Build.{numberOf, valuesOf};
+ghost use Rattle.capi_stages.specs.Levels.{LevelsBuilt};
 
 // The number of an answer, 0 where levels were built.
 fn number_of(a: Pyramid) -> u8
@@ -17,7 +18,7 @@ fn number_of(a: Pyramid) -> u8
 
 // How many levels there are, or `before` where refused.
 fn built_of(a: Pyramid, before: usize) -> usize
-    ensures { λ r. ⌜ r ≡ builtOf a before ⌝ }
+    ensures { λ r. ⌜ r ≡ getD (valuesOf a) 0 before ⌝ }
 {
     match a {
         Pyramid::Levels(n) => n,

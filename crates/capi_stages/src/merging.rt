@@ -1,9 +1,10 @@
 // Corners merged in place.
 use merge::Merged;
 ghost use mathlib.Core.Path.{_≡_};
+ghost use lib.ListN.{getD};
 ghost use Rattle.corner_list.specs.CornerList.{slices};
-ghost use Rattle.merge.specs.Merge.{numberOf};
-ghost use Rattle.capi_stages.specs.Merging.{keptOf, CornersMerged};
+ghost use Rattle.merge.specs.Merge.{numberOf, valuesOf};
+ghost use Rattle.capi_stages.specs.Merging.{CornersMerged};
 
 // The number of an answer, 0 where corners were merged.
 fn number_of(a: Merged) -> u8
@@ -17,7 +18,7 @@ fn number_of(a: Merged) -> u8
 
 // How many corners are left, or `before` where refused.
 fn kept_of(a: Merged, before: usize) -> usize
-    ensures { λ r. ⌜ r ≡ keptOf a before ⌝ }
+    ensures { λ r. ⌜ r ≡ getD (valuesOf a) 0 before ⌝ }
 {
     match a {
         Merged::Kept(n) => n,

@@ -1,9 +1,10 @@
 // The responses of a box of an image.
 use response::Patch;
 ghost use mathlib.Core.Path.{_≡_};
+ghost use lib.ListN.{getD};
 ghost use Rattle.ring.specs.Ring.{ringOf};
-ghost use Rattle.response.specs.Patch.{numberOf};
-ghost use Rattle.capi_stages.specs.Patch.{widthOf, heightOf, Responded};
+ghost use Rattle.response.specs.Patch.{numberOf, valuesOf};
+ghost use Rattle.capi_stages.specs.Patch.{Responded};
 
 // The number of an answer, 0 for a map.
 fn number_of(a: Patch) -> u8
@@ -17,7 +18,7 @@ fn number_of(a: Patch) -> u8
 
 // The width of a map, or `before` where there is none.
 fn width_of(a: Patch, before: usize) -> usize
-    ensures { λ r. ⌜ r ≡ widthOf a before ⌝ }
+    ensures { λ r. ⌜ r ≡ getD (valuesOf a) 0 before ⌝ }
 {
     match a {
         Patch::Cells { w, h: _ } => w,
@@ -27,7 +28,7 @@ fn width_of(a: Patch, before: usize) -> usize
 
 // The height of a map, or `before` where there is none.
 fn height_of(a: Patch, before: usize) -> usize
-    ensures { λ r. ⌜ r ≡ heightOf a before ⌝ }
+    ensures { λ r. ⌜ r ≡ getD (valuesOf a) 1 before ⌝ }
 {
     match a {
         Patch::Cells { w: _, h } => h,

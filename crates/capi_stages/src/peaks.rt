@@ -1,10 +1,10 @@
 // The peaks of a response map.
 use detect::Peaks;
 ghost use mathlib.Core.Path.{_≡_};
-ghost use lib.ListN.{length};
+ghost use lib.ListN.{length, getD};
 ghost use Rattle.corner_list.specs.CornerList.{slices};
-ghost use Rattle.detect.specs.Detect.{searchOf, startsIn, tiesIn, conditions, numberOf};
-ghost use Rattle.capi_stages.specs.Peaks.{addedOf, tiesOf, PeaksFound};
+ghost use Rattle.detect.specs.Detect.{searchOf, startsIn, tiesIn, conditions, numberOf, valuesOf};
+ghost use Rattle.capi_stages.specs.Peaks.{PeaksFound};
 
 // The number of an answer, 0 where peaks were added.
 fn number_of(a: Peaks) -> u8
@@ -18,7 +18,7 @@ fn number_of(a: Peaks) -> u8
 
 // How many peaks were added, or `before` where refused.
 fn added_of(a: Peaks, before: usize) -> usize
-    ensures { λ r. ⌜ r ≡ addedOf a before ⌝ }
+    ensures { λ r. ⌜ r ≡ getD (valuesOf a) 0 before ⌝ }
 {
     match a {
         Peaks::Added(n, _) => n,
@@ -28,7 +28,7 @@ fn added_of(a: Peaks, before: usize) -> usize
 
 // How many ties they have, or `before` where refused.
 fn ties_of(a: Peaks, before: u64) -> u64
-    ensures { λ r. ⌜ r ≡ tiesOf a before ⌝ }
+    ensures { λ r. ⌜ r ≡ getD (valuesOf a) 1 before ⌝ }
 {
     match a {
         Peaks::Added(_, ties) => ties,

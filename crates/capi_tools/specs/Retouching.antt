@@ -5,19 +5,13 @@ use mathlib.Core.List.{List}
 use lib.Ieee.{Float}
 use Rattle.lists.specs.Places.{Place}
 use Rattle.ring.specs.Ring.{ringOf}
-use Rattle.retouch.specs.declared.Retouched.{Retouched}
 use Rattle.retouch.specs.declared.Retouched.the-variants.{Redone, Refused}
 use Rattle.retouch.specs.Retouch.{touchedCount}
-use Rattle.retouch.specs.Promise.{answerOf, Retouches}
-use Rattle.lists.specs.Refusals.{resultOr}
-
--- the cells that an answer counts, or what was there before
-abbrev pub redoneOf : Retouched → ℕ → ℕ
-redoneOf (Redone cells) before = cells
-redoneOf (Refused n) before = before
+use Rattle.retouch.specs.Promise.{Retouches}
+use Rattle.lists.specs.Refusals.{unless, resultOr}
 
 -- the number r that is returned is that of the answer, and image, map and count are those of the answer
 pub record PixelRetouched (w h ring : ℕ) (q : Place) (value : ℕ) (img : List ℕ) (map : List Float) (redone : ℕ)
     (r : ℕ) (img′ : List ℕ) (map′ : List Float) (redone′ : ℕ) : Type 0 where
-  pub answer : Retouches w h ring q value img map (answerOf r (touchedCount w h (ringOf ring) q)) img′ map′
+  pub answer : Retouches w h ring q value img map (unless Refused r (Redone (touchedCount w h (ringOf ring) q))) img′ map′
   pub redone-is : redone′ ≡ resultOr r (touchedCount w h (ringOf ring) q) redone

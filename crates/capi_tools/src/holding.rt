@@ -2,10 +2,11 @@
 use retention::Holding;
 use retention::LONGEST;
 ghost use mathlib.Core.Path.{_≡_};
+ghost use lib.ListN.{getD};
 ghost use Rattle.lists.specs.Buffer.{Written};
-ghost use Rattle.retention.specs.Retention.{numberOf};
+ghost use Rattle.retention.specs.Retention.{numberOf, valuesOf};
 ghost use Rattle.retention.specs.Stream.{outputOf};
-ghost use Rattle.capi_tools.specs.Holding.{letterOr, HoldingTold};
+ghost use Rattle.capi_tools.specs.Holding.{HoldingTold};
 
 // The number of an answer, 0 where there is no refusal.
 fn number_of(a: Holding) -> u8
@@ -21,7 +22,7 @@ fn number_of(a: Holding) -> u8
 
 // The letter of an answer, or `before` where refused.
 fn letter_of(a: Holding, before: u8) -> u8
-    ensures { λ r. ⌜ r ≡ letterOr a before ⌝ }
+    ensures { λ r. ⌜ r ≡ getD (valuesOf a) 0 before ⌝ }
 {
     match a {
         Holding::NotYet => b'N',

@@ -1,8 +1,9 @@
 // Where the pixels of an uploaded photograph are.
 use pgm::PgmImage;
 ghost use mathlib.Core.Path.{_≡_};
-ghost use Rattle.pgm.specs.Pgm.{numberOf};
-ghost use Rattle.capi_tools.specs.Photo.{placeOr, widthOr, heightOr, ImageRead};
+ghost use lib.ListN.{getD};
+ghost use Rattle.pgm.specs.Pgm.{numberOf, valuesOf};
+ghost use Rattle.capi_tools.specs.Photo.{ImageRead};
 
 // The number of an answer, 0 where the upload is accepted.
 fn number_of(a: PgmImage) -> u8
@@ -16,7 +17,7 @@ fn number_of(a: PgmImage) -> u8
 
 // Where the pixels begin, and the sides; or `before` where refused.
 fn place_of(a: PgmImage, before: usize) -> usize
-    ensures { λ r. ⌜ r ≡ placeOr a before ⌝ }
+    ensures { λ r. ⌜ r ≡ getD (valuesOf a) 0 before ⌝ }
 {
     match a {
         PgmImage::Pixels { at, w: _, h: _ } => at,
@@ -25,7 +26,7 @@ fn place_of(a: PgmImage, before: usize) -> usize
 }
 
 fn width_of(a: PgmImage, before: usize) -> usize
-    ensures { λ r. ⌜ r ≡ widthOr a before ⌝ }
+    ensures { λ r. ⌜ r ≡ getD (valuesOf a) 1 before ⌝ }
 {
     match a {
         PgmImage::Pixels { at: _, w, h: _ } => w,
@@ -34,7 +35,7 @@ fn width_of(a: PgmImage, before: usize) -> usize
 }
 
 fn height_of(a: PgmImage, before: usize) -> usize
-    ensures { λ r. ⌜ r ≡ heightOr a before ⌝ }
+    ensures { λ r. ⌜ r ≡ getD (valuesOf a) 2 before ⌝ }
 {
     match a {
         PgmImage::Pixels { at: _, w: _, h } => h,

@@ -1,8 +1,9 @@
 // A pixel of an image changed, and its map redone.
 use retouch::Retouched;
 ghost use mathlib.Core.Path.{_≡_};
-ghost use Rattle.retouch.specs.Promise.{numberOf};
-ghost use Rattle.capi_tools.specs.Retouching.{redoneOf, PixelRetouched};
+ghost use lib.ListN.{getD};
+ghost use Rattle.retouch.specs.Promise.{numberOf, valuesOf};
+ghost use Rattle.capi_tools.specs.Retouching.{PixelRetouched};
 
 // The number of an answer, 0 where the pixel was changed.
 fn number_of(a: Retouched) -> u8
@@ -16,7 +17,7 @@ fn number_of(a: Retouched) -> u8
 
 // How many cells were computed anew, or `before` where refused.
 fn redone_of(a: Retouched, before: usize) -> usize
-    ensures { λ r. ⌜ r ≡ redoneOf a before ⌝ }
+    ensures { λ r. ⌜ r ≡ getD (valuesOf a) 0 before ⌝ }
 {
     match a {
         Retouched::Redone(n) => n,

@@ -2,8 +2,10 @@
 use frame_writer::FrameWriting;
 use stream::Header;
 ghost use mathlib.Core.Path.{_≡_};
-ghost use Rattle.frame_writer.specs.FrameWriter.{numberOf};
-ghost use Rattle.capi_tools.specs.Writing.{header, lengthOr, StreamTold};
+ghost use lib.ListN.{getD};
+ghost use Rattle.stream.specs.Stream.{header};
+ghost use Rattle.frame_writer.specs.FrameWriter.{numberOf, valuesOf};
+ghost use Rattle.capi_tools.specs.Writing.{StreamTold};
 
 // The number of an answer, 0 where a stream was written.
 fn number_of(a: FrameWriting) -> u8
@@ -17,7 +19,7 @@ fn number_of(a: FrameWriting) -> u8
 
 // How long the stream is, or `before` where refused.
 fn length_of(a: FrameWriting, before: usize) -> usize
-    ensures { λ r. ⌜ r ≡ lengthOr a before ⌝ }
+    ensures { λ r. ⌜ r ≡ getD (valuesOf a) 0 before ⌝ }
 {
     match a {
         FrameWriting::Written(n) => n,

@@ -7,7 +7,8 @@ use lib.Dec.{ltb, lit<}
 use lib.Ieee.{Float}
 use borrow.Author.Tests.{lt-ltb, le-ltb, ltb-false}
 use Rattle.lists.specs.Places.{All}
-use Rattle.lists.specs.Refusals.{isLarge, isMisfit, Sized}
+use Rattle.lists.specs.Refusals.{isLarge, isMisfit}
+use Rattle.lists.specs.Internal.{Sized}
 use Rattle.lists.proofs.Refusals.{all-clear, sized-of}
 use Rattle.image_size.specs.ImageSize.{refusalOf as imageRefusal}
 use Rattle.image_size.proofs.Judged.{refused, passed}

@@ -1,7 +1,7 @@
 -- What `refine` promises, by the way that it goes: refused, weighed, or without a map. Assumes nothing.
 use mathlib.Core.Path.{_≡_, refl, sym, ap, _∙_}
 use mathlib.Core.Bool.{Bool, true, false, cond}
-use mathlib.Core.List.{List, [], _∷_}
+use mathlib.Core.List.{List}
 use Prim.Native.Nat.{ℕ, zero, suc, _<_}
 use native.Mathlib.Omega.{arith}
 use lib.ListN.{length}
@@ -14,7 +14,6 @@ use Rattle.center_of_mass.specs.declared.Centre.the-variants.{At, Outsid
 use Rattle.center_of_mass.specs.declared.Outcome.{Outcome}
 use Rattle.center_of_mass.specs.declared.Outcome.the-variants.{Accepted, Rejected, OutOfBounds, IllConditioned, Refused}
 use Rattle.center_of_mass.specs.CenterOfMass.{windowSums, refusalOf, centreOn, meanOf, weighed, outcomeOf, refined, numberOf, valuesOf}
-use Rattle.center_of_mass.specs.CenterOfMass.{unmoved, meanValues, weighedValues, refinedValues}
 use Rattle.center_of_mass.specs.Promise.{Refined}
 
 -- ---- an outcome that is no refusal, whose number is 0
@@ -40,44 +39,33 @@ weighed-unrefused r x y m w (At cx) (At cy) k e = mean-unrefused x y (windowSums
 weighed-unrefused r x y m w (At cx) Outside k e = let z : _≡_ {A = ℕ} 0 1 = cc in omega arith
 weighed-unrefused r x y m w Outside b k e = let z : _≡_ {A = ℕ} 0 1 = cc in omega arith
 
--- ---- its values
-mean-values : (x y : Float) (s : Sums) → valuesOf (meanOf x y s) ≡ meanValues x y s
-mean-values x y s = go (lt zero32 (s .sw))
-  where
-    go : (b : Bool) → valuesOf (cond b (Accepted (div binary32 (s .sx) (s .sw)) (div binary32 (s .sy) (s .sw)) (s .sw)) (IllConditioned x y))
-        ≡ cond b (div binary32 (s .sx) (s .sw) ∷ div binary32 (s .sy) (s .sw) ∷ s .sw ∷ []) (unmoved x y)
-    go true = refl
-    go false = refl
+-- with a map it is none
+pub outcome-unrefused : (r : ℕ) (x y : Float) (m : List Float) (w h k : ℕ) → outcomeOf r x y m w h ≡ Refused k → ⊥
+unfolding outcomeOf
+outcome-unrefused r x y m w h k e = weighed-unrefused r x y m w (centreOn r w x) (centreOn r h y) k e
 
-weighed-values : (r : ℕ) (x y : Float) (m : List Float) (w : ℕ) (a b : Centre) → valuesOf (weighed r x y m w a b) ≡ weighedValues r x y m w a b
-weighed-values r x y m w (At cx) (At cy) = mean-values x y (windowSums r m w cx cy)
-weighed-values r x y m w (At cx) Outside = refl
-weighed-values r x y m w Outside b = refl
+-- ---- its values
+values-by : (k : ℕ) (o : Outcome) → valuesOf (unless Refused k o) ≡ valuesUnless k (valuesOf o)
+values-by zero o = refl
+values-by (suc k) o = refl
 
 module _ (r : ℕ) (x y : Float) (hasMap : Bool) (m : List Float) (w h : ℕ) where
-  outcome-unrefused : (b : Bool) → Unrefused (cond b (outcomeOf r x y m w h) (Rejected x y))
-  unfolding outcomeOf
-  outcome-unrefused true k e = weighed-unrefused r x y m w (centreOn r w x) (centreOn r h y) k e
-  outcome-unrefused false k e = let z : _≡_ {A = ℕ} 0 1 = cc in omega arith
+  due-unrefused : (b : Bool) → Unrefused (cond b (outcomeOf r x y m w h) (Rejected x y))
+  due-unrefused true k e = outcome-unrefused r x y m w h k e
+  due-unrefused false k e = let z : _≡_ {A = ℕ} 0 1 = cc in omega arith
 
   number-is : numberOf (refined r x y hasMap m w h) ≡ refusalOf r x y hasMap (length m) w h
   unfolding refined
-  number-is = numbered (refusalOf r x y hasMap (length m) w h) _ (outcome-unrefused hasMap)
+  number-is = numbered (refusalOf r x y hasMap (length m) w h) _ (due-unrefused hasMap)
     where
       numbered : (k : ℕ) (o : Outcome) → Unrefused o → numberOf (unless Refused k o) ≡ k
       numbered zero o u = number-none o u
       numbered (suc k) o u = refl
 
-  values-are : valuesOf (refined r x y hasMap m w h) ≡ refinedValues r x y hasMap m w h
-  unfolding refined refinedValues outcomeOf
-  values-are = of (refusalOf r x y hasMap (length m) w h) hasMap
-    where
-      of : (k : ℕ) (b : Bool)
-          → valuesOf (unless Refused k (cond b (weighed r x y m w (centreOn r w x) (centreOn r h y)) (Rejected x y)))
-          ≡ valuesUnless k (cond b (weighedValues r x y m w (centreOn r w x) (centreOn r h y)) (unmoved x y))
-      of zero true = weighed-values r x y m w (centreOn r w x) (centreOn r h y)
-      of zero false = refl
-      of (suc k) b = refl
+  values-are : valuesOf (refined r x y hasMap m w h)
+      ≡ valuesUnless (refusalOf r x y hasMap (length m) w h) (valuesOf (cond hasMap (outcomeOf r x y m w h) (Rejected x y)))
+  unfolding refined
+  values-are = values-by (refusalOf r x y hasMap (length m) w h) _
 
   -- a refusal has a number
   pub refused-numbered : (n : ℕ) → refined r x y hasMap m w h ≡ Refused n → 0 < n
@@ -85,7 +73,7 @@ module _ (r : ℕ) (x y : Float) (hasMap : Bool) (m : List Float) (w h : ℕ) wh
   refused-numbered n e = go (refusalOf r x y hasMap (length m) w h) e
     where
       go : (k : ℕ) → unless Refused k (cond hasMap (outcomeOf r x y m w h) (Rejected x y)) ≡ Refused n → 0 < n
-      go zero e = absurd (outcome-unrefused hasMap n e)
+      go zero e = absurd (due-unrefused hasMap n e)
       go (suc k) e = let z : suc k ≡ n = cc in omega arith
 
   promised : (o : Outcome) → o ≡ refined r x y hasMap m w h → Refined r x y hasMap m w h o

@@ -1,12 +1,12 @@
 -- The centre of mass of a map's positive cells about a seed: its window, its sums and its outcome, as the Rust computes them in binary32.
-use Prim.Native.Nat.{ℕ, zero, suc, _+_, _-_, _*_}
+use Prim.Native.Nat.{ℕ, _+_, _-_, _*_}
 use mathlib.Core.Bool.{Bool, not, _&&_, _||_, cond}
 use mathlib.Core.List.{List, [], _∷_}
 use lib.Dec.{ltb, leb}
 use lib.ListN.{length, getD}
 use lib.Ieee.{Float, nan, binary32, add, mul, div, ofInt, lt, le}
 use Rattle.lists.specs.Places.{Place, block}
-use Rattle.lists.specs.Refusals.{unless, lowest, valuesUnless, isLarge, isMisfit}
+use Rattle.lists.specs.Refusals.{unless, lowest, isLarge, isMisfit}
 use Rattle.float32.specs.Float32.{zero as zero32, abs, lift, roundHalfAway, floatOf}
 use Rattle.float32.specs.declared.Rounded.{Rounded}
 use Rattle.float32.specs.declared.Rounded.the-variants.{Natural, Negative, Beyond}
@@ -110,24 +110,3 @@ valuesOf (Rejected x y) = x ∷ y ∷ zero32 ∷ []
 valuesOf (OutOfBounds x y) = x ∷ y ∷ zero32 ∷ []
 valuesOf (IllConditioned x y) = x ∷ y ∷ zero32 ∷ []
 valuesOf (Refused n) = []
-
--- ---- and the values by the arguments
--- the unmoved seed and 0 (RULES 5.3)
-abbrev pub unmoved : Float → Float → List Float
-unmoved x y = x ∷ y ∷ zero32 ∷ []
-
--- accepted with x, y and mass (RULES 5.3): the quotients of the sums, where the mass is above 0
-abbrev pub meanValues : Float → Float → Sums → List Float
-meanValues x y s = cond (lt zero32 (s .sw)) (div binary32 (s .sx) (s .sw) ∷ div binary32 (s .sy) (s .sw) ∷ s .sw ∷ []) (unmoved x y)
-
--- of the window about the two centres, where both lie in the map
-abbrev pub weighedValues : ℕ → Float → Float → List Float → ℕ → Centre → Centre → List Float
-weighedValues r x y m w (At cx) (At cy) = meanValues x y (windowSums r m w cx cy)
-weighedValues r x y m w (At cx) Outside = unmoved x y
-weighedValues r x y m w Outside c = unmoved x y
-
--- with a map w wide and h high, or without one
-unfoldable pub refinedValues : ℕ → Float → Float → Bool → List Float → ℕ → ℕ → List Float
-unfolding refusalOf withCells centreOn lt
-refinedValues r x y hasMap m w h =
-    valuesUnless (refusalOf r x y hasMap (length m) w h) (cond hasMap (weighedValues r x y m w (centreOn r w x) (centreOn r h y)) (unmoved x y))

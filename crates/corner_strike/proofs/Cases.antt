@@ -5,14 +5,11 @@ use mathlib.Core.List.{List, [], _∷_, map}
 use Rattle.lists.specs.Tab.{tab}
 use Rattle.corner_list.specs.declared.Corner.{Corner}
 use Rattle.corner_list.specs.CornerList.{Slices, slices, xOf, yOf, strengthOf, neighboursOf, noCorner, withoutCorner}
-use Rattle.corner_strike.specs.declared.Edition.{Edition}
 use Rattle.corner_strike.specs.declared.showing.Shown.the-variants as shown
 use Rattle.corner_strike.specs.declared.striking.Strike.the-variants as strike
+use Rattle.corner_strike.specs.Editions.{edition}
 use Rattle.corner_strike.specs.Showing as showing
 use Rattle.corner_strike.specs.Striking as striking
-
-abbrev edition : ℕ → ℕ → Edition
-edition count change = record { count = count; change = change }
 
 -- ---- three corners, whatever their fields are, in a buffer of three places
 abbrev buffer : List Corner → Slices

@@ -4,13 +4,13 @@ use mathlib.Core.Bool.{Bool, not}
 use lib.Dec.{eqb, ltb, leb}
 use Rattle.corner_strike.specs.declared.Edition.{Edition}
 
--- a list of so many corners before any is struck: its change number is 0 (RULES 29.1)
-abbrev pub unchanged : ℕ → Edition
-unchanged count = record { count = count; change = 0 }
+-- a list of so many corners with this change number, which is 0 before any is struck (RULES 29.1)
+abbrev pub edition : ℕ → ℕ → Edition
+edition count change = record { count = count; change = change }
 
 -- one corner struck: one corner less, and the change number raised by one (RULES 29.1)
 abbrev pub raised : Edition → Edition
-raised e = record { count = e .count - 1; change = e .change + 1 }
+raised e = edition (e .count - 1) (e .change + 1)
 
 -- ---- conditions (RULES 2.2)
 

@@ -18,7 +18,7 @@ conditions places e place change =
 unfoldable pub refusalOf : ℕ → Edition → ℕ → ℕ → ℕ
 refusalOf places e place change = lowest (conditions places e place change)
 
--- the number and the values of each case
+-- the number and the values of each case: 0 for no refusal, and the list's count and change number
 abbrev pub numberOf : Strike → ℕ
 numberOf (Struck e) = 0
 numberOf (Refused k) = k
@@ -26,11 +26,6 @@ numberOf (Refused k) = k
 abbrev pub valuesOf : Strike → List Edition
 valuesOf (Struck e) = e ∷ []
 valuesOf (Refused k) = []
-
--- the list's count and change number after a call: those of the answer, and those before where it is refused
-abbrev pub editionOf : Strike → Edition → Edition
-editionOf (Struck e) before = e
-editionOf (Refused k) before = before
 
 -- the promise of `strike_corner`, of the list with the buffer b: the corner at the place is removed; where refused, the buffer is as it was
 pub record Strikes (b : Slices) (e : Edition) (place change : ℕ) (r : Strike) (b′ : Slices) : Type 0 where

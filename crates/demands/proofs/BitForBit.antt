@@ -12,7 +12,7 @@ use Rattle.response.specs.declared.Patch.the-variants.{Cells}
 use Rattle.response.proofs.Map.{filled, front-is}
 use Rattle.pyramid.proofs.Levels.{built, level-found}
 use Rattle.corner_list.specs.declared.Corner.{Corner}
-use Rattle.corner_list.specs.CornerList.{Slices, cornersOf}
+use Rattle.corner_list.specs.CornerList.{Slices, cornersOf, frontCorners}
 use Rattle.corner_list.proofs.Corners.{corners-front}
 use Rattle.center_of_mass.specs.declared.Outcome.{Outcome}
 use Rattle.center_of_mass.specs.declared.Outcome.the-variants.{Rejected}
@@ -22,14 +22,16 @@ use Rattle.multiscale.specs.declared.RoiContext.{RoiContext}
 use Rattle.multiscale.specs.declared.RoiAnswer.{RoiAnswer}
 use Rattle.multiscale.specs.Multiscale as multiscale
 use Rattle.multiscale.specs.Promise.{Boxed}
-use Rattle.merge.specs.declared.Merged.the-variants.{Kept}
+use Rattle.merge.specs.declared.Merged.the-variants.{Kept, Refused}
 use Rattle.merge.specs.Merge as merge
-use Rattle.merge_slice.specs.MergeSlice.{cornersAfter, refusalFor, MergesSlice}
+use Rattle.merge_slice.specs.MergeSlice.{refusalFor, MergesSlice}
 use Rattle.frame.proofs.Callers.{finished-tells}
 use Rattle.finder.specs.Finder.{outputOf}
 use Rattle.demands.specs.ResponseCall.{ResponseCall, viewIn, mapOf}
 use Rattle.demands.specs.BitForBit.{BitForBit}
 use Rattle.demands.proofs.Added.{added-are}
+use Rattle.lists.specs.Refusals.{unless, resultOr}
+use Rattle.lists.specs.Buffer.{front}
 
 map-is : (c : ResponseCall) → mapOf c ≡ cells (viewIn c)
 map-is c =
@@ -48,21 +50,21 @@ unfolding multiscale.roiOf
 box-is c s r f none = f .answer ∙ rw (sym (f .number) ∙ none)
 
 -- ---- merged corners
-kept-is : (k n m : ℕ) → Kept n ≡ merge.answerOf k m → (k ≡ 0) × (n ≡ m)
+kept-is : (k n m : ℕ) → Kept n ≡ unless Refused k (Kept m) → (k ≡ 0) × (n ≡ m)
 kept-is zero n m e = (refl, (cc))
 kept-is (suc k) n m e = absurd (let z : _≡_ {A = ℕ} 0 1 = cc in omega arith)
 
 left-is : (number : ℕ) (left : List Corner) (b b′ : Slices) (n : ℕ) → merge.Leaves number left b (Kept n) b′ → cornersOf b′ n ≡ left
 left-is number left b b′ n f =
     let k = kept-is number n (length left) (f .answer) in
-    ap (λ (s : Slices). cornersOf s n) (f .buffer ∙ ap (λ (j : ℕ). merge.bufferOf j left b) (k .0)) ∙ corners-front left b n (k .1)
+    ap (λ (s : Slices). cornersOf s n) (f .buffer ∙ ap (λ (j : ℕ). resultOr j (frontCorners left b) b) (k .0)) ∙ corners-front left b n (k .1)
 
 slice-is : (radius : Float) (count : ℕ) (cs cs′ : List Corner) (b b′ : Slices) (n : ℕ) → MergesSlice radius count cs b (Kept n) cs′ b′
     → take n cs′ ≡ merge.resultOf radius (take count cs)
 slice-is radius count cs cs′ b b′ n f =
     let left = merge.resultOf radius (take count cs) in
     let k = kept-is (refusalFor radius count cs b) n (length left) (f .answer) in
-    ap (take n) (f .corners ∙ ap (λ (j : ℕ). cornersAfter j left cs) (k .0)) ∙ front-take left cs n (k .1)
+    ap (take n) (f .corners ∙ ap (λ (j : ℕ). resultOr j (front left cs) cs) (k .0)) ∙ front-take left cs n (k .1)
 
 pub bit-for-bit : BitForBit
 bit-for-bit = record {

@@ -2,13 +2,13 @@
 use Prim.Native.Nat.{ℕ, zero, suc, _-_, _*_}
 use native.Mathlib.Omega.{arith}
 use mathlib.Core.Path.{_≡_, refl, subst}
-use mathlib.Core.Bool.{Bool, true, false, cond, not, _||_}
+use mathlib.Core.Bool.{Bool, true, cond, not, _||_}
 use mathlib.Core.List.{List, [], _∷_, _++_}
 use lib.ListN.{length, take, drop}
 use lib.Dec.{ltb, eqb}
 use lib.Ieee.{binary32, ofBits}
-use borrow.Author.Tests.{eqb-false}
 use Rattle.lists.specs.Places.{any}
+use Rattle.lists.specs.Refusals.{unless}
 use Rattle.merge_radius.specs.MergeRadius.{radiusOutside}
 use Rattle.stream.specs.declared.Header.{Header}
 use Rattle.stream.specs.Stream.{u8, u16, u32, known as isKnown, bodyLength, bodyOf, behind, headerOf, rangeOutside, Reading, accepted}
@@ -70,14 +70,13 @@ Few = Refuses refused numbers
 
 record-few : (due left : ℕ) (s : List ℕ) (next : List ℕ → List ℕ → Reading) → ((body rest : List ℕ) → Few (next body rest)) → Few (readRecord due left s next)
 unfolding readRecord
-record-few due left s next f = go (eqb (recordFault due left s) 0) refl
+record-few due left s next f = go (recordFault due left s) (record-known due left s)
   where
-    go : (b : Bool) → eqb (recordFault due left s) 0 ≡ b → Few (cond b (next (bodyOf due s) (behind due s)) (refused (recordFault due left s)))
-    go true q k e = f (bodyOf due s) (behind due s) k e
-    go false q k e =
-        let same : recordFault due left s ≡ k = cc in
-        let some = eqb-false (recordFault due left s) 0 q in
-        subst (λ (n : ℕ). OneOf n numbers) same (above-zero (recordFault due left s) numbers (record-known due left s) (omega (arith, some)))
+    go : (n : ℕ) → Known n → Few (unless refused n (next (bodyOf due s) (behind due s)))
+    go zero one k e = f (bodyOf due s) (behind due s) k e
+    go (suc n) one k e =
+        let same : suc n ≡ k = cc in
+        subst (λ (n : ℕ). OneOf n numbers) same (above-zero (suc n) numbers one (omega arith))
 
 pixels-few : (n : ℕ) (header : Header) (left : ℕ) (pixels s : List ℕ) → Few (readPixels n header left pixels s)
 unfolding readPixels

@@ -19,7 +19,8 @@ use Rattle.lists.proofs.Tests.{to-T, and-parts}
 use Rattle.lists.proofs.Tab.{getD-grid, length-grid}
 use Rattle.lists.proofs.Places.{in-map}
 use Rattle.ring.specs.Ring.{ringOf}
-use Rattle.detect.specs.Peaks.{isPeak, Inside}
+use Rattle.detect.specs.Peaks.{isPeak}
+use Rattle.detect.specs.Internal.{Inside}
 use Rattle.detect.specs.Exact.{exact}
 use Rattle.agreement.proofs.Threshold.{above-whole-fifths}
 use Rattle.response_limits.specs.Limits.{Between, lowAt, highAt, lowMap, highMap}

@@ -11,7 +11,7 @@ use Rattle.response.specs.Exact.{fifthsIn}
 use Rattle.accuracy.proofs.Cells.{map-accurate}
 use Rattle.agreement.proofs.Place.{counts-alike}
 use Rattle.corner_list.specs.declared.Corner.{Corner}
-use Rattle.detect.specs.Peaks.{Inside}
+use Rattle.detect.specs.Internal.{Inside}
 use Rattle.detect.specs.Detect.{neighboursAt, readIn, peakIn, startAt}
 use Rattle.detect.proofs.Choice.{peak-supported, peaks-are}
 use Rattle.center_of_mass.specs.declared.Outcome.{Outcome}

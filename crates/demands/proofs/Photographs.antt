@@ -11,16 +11,17 @@ use Rattle.listing.specs.Text.{decimal}
 use Rattle.patch_corners.specs.declared.FrameParams.{FrameParams}
 use Rattle.frame.specs.declared.FrameAnswer.{FrameAnswer}
 use Rattle.frame.specs.declared.FrameAnswer.the-variants.{Corners, Refused}
-use Rattle.frame.specs.Frame.{Buffers, Frame, FrameFound}
+use Rattle.frame.specs.Frame.{Buffers, FrameFound}
 use Rattle.pgm.specs.Header.{bare, fieldOf, Field, placeBehind, widthOf, heightOf, maxvalOf, hasHeader, rasterAt}
 use Rattle.pgm.specs.Pgm.{conditions, refusalOf, pixelsIn}
 use Rattle.pgm.proofs.Judging.{accepts}
 use Rattle.pgm.proofs.Behind.{same-raster, same-width, same-height, same-accepted, same-pixels}
-use Rattle.pgm_frame.specs.PgmFrame.{frameBy, PhotographFound}
+use Rattle.pgm_frame.specs.PgmFrame.{PhotographFound}
 use Rattle.pgm_frame.specs.PgmFrame as photograph
 use Rattle.demands.specs.Photographs.{PhotographCall, OnPixels, PhotographIsFrame}
 use Rattle.demands.specs.Photographs.{ReadAs, plainHeader, PlainHeaderRead, BehindUnread, uploads, UploadsRead}
 use Rattle.demands.proofs.PlainHeader.{width-is, height-is, maxval-is, header-is}
+use Rattle.demands.specs.FrameExact.{FrameCall}
 
 -- ---- by the number of the upload
 module _ (p : FrameParams) (upload : List ℕ) (b b′ : Buffers) (r : FrameAnswer) (f : PhotographFound p upload b r b′) where
@@ -28,19 +29,19 @@ module _ (p : FrameParams) (upload : List ℕ) (b b′ : Buffers) (r : FrameAnsw
   unfolding photograph.refusalOf
   photograph-accepted e =
       record {
-        is = f .is ∙ rw e;
+        answer = f .answer ∙ rw e;
         number = f .number ∙ rw e;
         values = f .values ∙ rw e;
+        left = f .left ∙ rw e;
       }
 
   pub photograph-refused : (refusalOf upload ≡ 0 → ⊥) → (r ≡ Refused (refusalOf upload)) × (b′ ≡ b)
+  unfolding photograph.refusalOf
   photograph-refused h = go (refusalOf upload) refl
     where
       go : (n : ℕ) → refusalOf upload ≡ n → (r ≡ Refused (refusalOf upload)) × (b′ ≡ b)
       go zero e = absurd (h e)
-      go (suc n) e =
-          let by = f .is ∙ ap (frameBy p upload b) e in
-          (ap (λ (o : Frame). o .answer) by ∙ ap Refused (sym e), ap (λ (o : Frame). o .left) by)
+      go (suc n) e = (f .answer ∙ rw e, f .left ∙ rw e)
 
 -- a part of bytes
 part-bytes : (n k : ℕ) (s : List ℕ) → Bytes s → Bytes (take n (drop k s))
@@ -68,6 +69,21 @@ finished c = go (refusalOf (c .upload)) refl
 
 pub photograph-is-frame : PhotographIsFrame
 photograph-is-frame = record { finished = finished; accepted = photograph-accepted; refused = photograph-refused }
+
+-- so every statement on a finished frame is one on a photograph
+pub frame-call : PhotographCall → FrameCall
+frame-call c = let f = finished c in record {
+  parameters = c .parameters;
+  img = pixelsIn (c .upload);
+  w = widthOf (c .upload);
+  h = heightOf (c .upload);
+  bytes = f .pixels;
+  before = c .before;
+  after = c .after;
+  count = c .count;
+  ties = c .ties;
+  promise = f .promise;
+}
 
 -- ---- what is read of an upload that is accepted
 read-as : (upload : List ℕ) (at w h : ℕ) (pixels : List ℕ) → refusalOf upload ≡ 0 → rasterAt upload ≡ at → widthOf upload ≡ w → heightOf upload ≡ h

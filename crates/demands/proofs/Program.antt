@@ -8,7 +8,7 @@ use mathlib.Core.Bool.{Bool, not, _&&_}
 use mathlib.Core.List.{List, [], _∷_, _++_}
 use lib.ListN.{length, getD}
 use borrow.Author.Tests.{lt-ltb, le-ltb, eq-eqb}
-use Rattle.lists.specs.Refusals.{lowest}
+use Rattle.lists.specs.Refusals.{lowest, unless}
 use Rattle.pyramid_levels.specs.Levels.{levelCount, cellsAbove}
 use Rattle.pyramid_levels.proofs.Cells.{cells-le}
 use Rattle.merge_radius.specs.MergeRadius.{radiusOutside}
@@ -21,12 +21,12 @@ use Rattle.stream.specs.declared.Header.{Header}
 use Rattle.stream.specs.Stream.{Reading, accepted, refused, readFrame}
 use Rattle.stream.proofs.Order.{small-sides}
 use Rattle.stream.proofs.Accepted.{accepted-good, round-trip}
-use Rattle.stream.specs.Wanted.{Open}
+use Rattle.stream.proofs.Meaning.{Open}
 use Rattle.stream.proofs.Decided.{frame-wants}
 use Rattle.stream.proofs.Prefix.{frame-prefix}
 use Rattle.listing.specs.Text.{cornersText, decimal, refusedText}
 use Rattle.listing.proofs.Numbers.{places-one}
-use Rattle.finder.specs.Finder.{paramsOf, programBuffers, textOf, frameText, readingText, outputOf}
+use Rattle.finder.specs.Finder.{paramsOf, programBuffers, frameText, readingText, outputOf}
 use Rattle.demands.specs.Program.{ProgramReads, ProgramUndecided, ProgramDecided, PrintsCorners, PrintsRefusal, ProgramTotal}
 use Rattle.demands.specs.Program.{ProgramExact, ProgramStreams}
 use Rattle.demands.proofs.Tables.{widen, numbered-one}
@@ -95,7 +95,7 @@ module _ (input : List ℕ) where
           le-ltb 3072 (cellsAbove (h .width) (h .height) n) (omega (arith, cells-le (h .width) (h .height) n, most)),
         )
 
-    printed : (n : ℕ) → number ≡ n → outputOf input ≡ textOf n (found .corners)
+    printed : (n : ℕ) → number ≡ n → outputOf input ≡ unless refusedText n (cornersText (found .corners))
     unfolding outputOf frameText
     printed n e = rw (r, e)
 

@@ -11,11 +11,12 @@ use lib.Seq.{take-all, length-take-le}
 use lib.Dec.{ltb, leb, eqb}
 use borrow.Author.Tests.{lt-ltb, le-ltb, le-leb, lt-leb, ltb-true, ltb-false, leb-true, leb-false, ne-eqb}
 use Rattle.lists.specs.Places.{counted, flatMap}
-use Rattle.listing.specs.Text.{newline, refusedText}
+use Rattle.lists.specs.Refusals.{unless}
+use Rattle.listing.specs.Text.{refusedText}
 use Rattle.retention.specs.declared.Holding.{Holding}
-use Rattle.retention.specs.declared.Holding.the-variants.{NotYet, Held, Gone}
-use Rattle.retention.specs.Retention.{known, dayOf, stays, stateOf, isLate, answerBy, letterOf}
-use Rattle.retention.specs.Stream.{timeOf, timeFault, kindAt, secondAt, recordFault, recordAnswer, placeOf, linesFrom, outputOf}
+use Rattle.retention.specs.declared.Holding.the-variants.{NotYet, Held, Gone, Refused}
+use Rattle.retention.specs.Retention.{known, dayOf, stays, stateOf, isLate, letterOf}
+use Rattle.retention.specs.Stream.{timeOf, timeFault, kindAt, secondAt, recordFault, placeOf, linesFrom, outputOf}
 use Rattle.retention.specs.Wanted.{itemFault, wantedItem, passedFrom, wantedFrom, items, wanted}
 use Rattle.retention.proofs.Records.{timed, time-cut, whole, fault-end, fault-cut}
 use Rattle.retention.proofs.Append.{settled-none}
@@ -60,7 +61,7 @@ module _ {kind : ℕ} (c : HoldingCall kind) where
 
   answer-is : c .answer ≡ by early held
   unfolding stateOf
-  answer-is = c .promise .answer ∙ ap (λ (n : ℕ). answerBy n (stateOf kind (c .start) (c .time))) (sym (c .promise .number) ∙ c .finished)
+  answer-is = c .promise .answer ∙ ap (λ (n : ℕ). unless Refused n (stateOf kind (c .start) (c .time))) (sym (c .promise .number) ∙ c .finished)
 
   not-yet : (c .answer ≡ NotYet) ↔ (c .time < c .start)
   not-yet = (
@@ -164,11 +165,6 @@ held-when = record {
 
 -- ---- what is printed
 module _ (s : List ℕ) where
-  -- a record without fault is printed as its state
-  answer-state : (at : ℕ) → recordFault s at ≡ 0 → recordAnswer s at ≡ stateOf (kindAt s at) (secondAt s at) (timeOf s)
-  unfolding recordAnswer
-  answer-state at e = rw e
-
   -- the lines of c records without fault, and those behind them
   lines-of : (c n k : ℕ) → ((i : ℕ) → k ≤ i → i < k + c → recordFault s (placeOf i) ≡ 0)
       → linesFrom s (c + n) k ≡ flatMap (lineOf s) (counted k c) ++ linesFrom s n (k + c)
@@ -183,7 +179,6 @@ module _ (s : List ℕ) where
       let next : suc k + c ≡ k + suc c = omega arith in
       ap (λ (m : ℕ). linesFrom s m k) one
       ∙ line-letter s (c + n) k (omega (arith, whole s (placeOf k) fault .long)) fault
-      ∙ ap (λ (h : Holding). letterOf h ∷ newline ∷ linesFrom s (c + n) (suc k)) (answer-state (placeOf k) fault)
       ∙ ap (λ (l : List ℕ). lineOf s k ++ l)
       (lines-of c n (suc k) (λ i m l. sound i (omega arith) (omega arith))
       ∙ ap (λ (m : ℕ). flatMap (lineOf s) (counted (suc k) c) ++ linesFrom s n m) next)

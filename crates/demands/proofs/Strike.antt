@@ -3,7 +3,7 @@ use Prim.Native.Nat.{ℕ, suc, _+_, _<_}
 use native.Mathlib.Omega.{arith}
 use mathlib.Core.Path.{_≡_, refl, sym, ap, ap₂, _∙_, subst}
 use mathlib.Core.List.{_∷_, _++_}
-use lib.ListN.{length, take, drop}
+use lib.ListN.{length, getD, take, drop}
 use lib.Seq.{length-take-le}
 use Rattle.corner_list.specs.declared.Corner.{Corner}
 use Rattle.corner_list.specs.CornerList.{Slices, cornerAt, cornersOf}
@@ -14,7 +14,7 @@ use Rattle.corner_strike.specs.declared.striking.Strike.{Strike}
 use Rattle.corner_strike.specs.declared.striking.Strike.the-variants.{Struck, Refused}
 use Rattle.corner_strike.specs.Editions.{raised}
 use Rattle.corner_strike.specs.Showing.{Shows}
-use Rattle.corner_strike.specs.Striking.{numberOf, editionOf, Strikes}
+use Rattle.corner_strike.specs.Striking.{numberOf, valuesOf, Strikes}
 use Rattle.corner_strike.proofs.Removing.{without-split, removed-corners}
 use Rattle.corner_strike.proofs.Calls.{was-shown, StruckAs, was-struck, was-refused}
 use Rattle.demands.specs.Strike.{Edited, cornersIn, StrikeCall, leftBy, StrikeCalls, none, more, strikesOf, struckIn}
@@ -26,7 +26,7 @@ module _ (s : Edited) (c : StrikeCall s) where
   told = was-struck (s .buffer) (s .edition) (c .place) (c .change) (c .answer) (c .after) (c .promise)
 
   edition-left : numberOf (c .answer) ≡ 0 → leftBy s c .edition ≡ raised (s .edition)
-  edition-left z = ap (λ (r : Strike). editionOf r (s .edition)) (told z .answer-is)
+  edition-left z = ap (λ (r : Strike). getD (valuesOf r) 0 (s .edition)) (told z .answer-is)
 
   struck : numberOf (c .answer) ≡ 0
       → (leftBy s c .edition .change ≡ s .edition .change + 1) × (leftBy s c .edition .count + 1 ≡ s .edition .count)
@@ -38,7 +38,7 @@ module _ (s : Edited) (c : StrikeCall s) where
   refused k e =
       let p = subst (λ (r : Strike). Strikes (s .buffer) (s .edition) (c .place) (c .change) r (c .after)) e (c .promise) in
       let same = was-refused (s .buffer) (s .edition) (c .place) (c .change) k (c .after) p in
-      ap₂ (λ (b : Slices) (d : Edition). record { buffer = b; edition = d }) same (ap (λ (r : Strike). editionOf r (s .edition)) e)
+      ap₂ (λ (b : Slices) (d : Edition). record { buffer = b; edition = d }) same (ap (λ (r : Strike). getD (valuesOf r) 0 (s .edition)) e)
 
   -- by its answer: one strike more, or the list as it was
   counts-one : leftBy s c .edition .change ≡ s .edition .change + strikesOf (c .answer)

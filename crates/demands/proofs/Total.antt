@@ -1,8 +1,7 @@
 -- Each answer is by its table's number, and a table gives 0 or one of its numbers. Assumes nothing.
 use Prim.Native.Nat.{ℕ, zero, suc, _+_, _*_, _<_, min}
 use native.Mathlib.Omega.{arith}
-use mathlib.Core.Path.{_≡_, refl, sym, ap, _∙_}
-use mathlib.Core.Logic.{inl}
+use mathlib.Core.Path.{_≡_, refl, sym, ap, _∙_, subst}
 use mathlib.Core.Bool.{Bool, true, false, cond, not, _&&_, _||_}
 use mathlib.Core.List.{List, [], _∷_, _++_, map}
 use lib.ListN.{length, take}
@@ -20,7 +19,7 @@ use Rattle.pyramid.specs.declared.Pyramid.{Pyramid}
 use Rattle.pyramid.specs.declared.Pyramid.the-variants as built
 use Rattle.pyramid_levels.specs.declared.LevelAnswer.{LevelAnswer}
 use Rattle.pyramid_levels.specs.declared.LevelAnswer.the-variants as level
-use Rattle.pyramid_levels.specs.Levels.{levelCount}
+use Rattle.pyramid_levels.specs.Levels.{levelCount, levelSide, cellsAbove}
 use Rattle.pyramid_levels.specs.Refusals.{Ask, ask, isAbsent, isShort, buildRefusalOf, levelRefusalOf}
 use Rattle.pyramid.specs.Build as build
 use Rattle.pyramid_levels.specs.Level as lookup
@@ -75,7 +74,8 @@ use Rattle.pgm.specs.Pgm as pgm
 use Rattle.pgm.proofs.Judging.{pixels-length}
 use Rattle.pgm_frame.specs.PgmFrame.{PhotographFound}
 use Rattle.stream.specs.declared.FrameStream.{FrameStream}
-use Rattle.stream.specs.Answer.{readingOf, FrameRead}
+use Rattle.stream.specs.Answer.{FrameRead}
+use Rattle.stream.proofs.Callers.{refusal-found}
 use Rattle.stream.specs.declared.FrameStream.the-variants as stream
 use Rattle.stream.specs.declared.Header.{Header}
 use Rattle.frame_writer.specs.declared.FrameWriting.{FrameWriting}
@@ -113,7 +113,8 @@ response-refuses : (v : response.View) (radius : ℕ) (d e : List Float) (r : Pa
     → Refuses patch.Refused (1 ∷ 2 ∷ 3 ∷ 8 ∷ []) r
 unfolding response.refusalOf
 response-refuses v radius d e r f =
-    refused-one patch.Refused (λ k. response.answerOf k v) (λ k q. let z : _≡_ {A = ℕ} 0 1 = cc in omega arith) (λ n k q. sym (ap response.numberOf q))
+    refused-one patch.Refused (λ k. unless patch.Refused k (patch.Cells (response.mapWidth v) (response.mapHeight v)))
+    (λ k q. let z : _≡_ {A = ℕ} 0 1 = cc in omega arith) (λ n k q. sym (ap response.numberOf q))
     ((isLarge (v .w) (v .h), 1)
     ∷ (isMisfit (length (v .img)) (v .w) (v .h), 2)
     ∷ (not (isRing radius), 3)
@@ -125,7 +126,7 @@ build-refuses : (base : List ℕ) (w h count least : ℕ) (d e : List ℕ) (r : 
     → Refuses built.Refused (1 ∷ 2 ∷ 9 ∷ []) r
 unfolding buildRefusalOf
 build-refuses base w h count least d e r f =
-    refused-one built.Refused (λ k. build.answerOf k (levelCount w h count least)) (λ k q. let z : _≡_ {A = ℕ} 0 1 = cc in omega arith)
+    refused-one built.Refused (λ k. unless built.Refused k (built.Levels (levelCount w h count least))) (λ k q. let z : _≡_ {A = ℕ} 0 1 = cc in omega arith)
     (λ n k q. sym (ap build.numberOf q))
     ((isLarge w h, 1) ∷ (isMisfit (length base) w h, 2) ∷ (isShort (ask (length base) (length d) w h count least), 9) ∷ []) r (f .answer)
 
@@ -133,16 +134,18 @@ level-refuses : (a : Ask) (k : ℕ) (r : LevelAnswer) → lookup.LevelFound a k 
     → Refuses level.Refused (1 ∷ 2 ∷ 3 ∷ 9 ∷ []) r
 unfolding lookup.levelAnswer levelRefusalOf
 level-refuses a k r f =
-    refused-one level.Refused (λ n. lookup.answerOf n a k) (λ k q. let z : _≡_ {A = ℕ} 0 1 = cc in omega arith) (λ n k q. sym (ap lookup.numberOf q))
+    refused-one level.Refused (λ n. unless level.Refused n
+    (level.Level (cellsAbove (a .w) (a .h) k) (levelSide (a .w) k) (levelSide (a .h) k)))
+    (λ k q. let z : _≡_ {A = ℕ} 0 1 = cc in omega arith) (λ n k q. sym (ap lookup.numberOf q))
     ((isLarge (a .w) (a .h), 1) ∷ (isMisfit (a .pixels) (a .w) (a .h), 2) ∷ (isAbsent a k, 3) ∷ (isShort a, 9) ∷ []) r (f .answer)
 
 -- peak finding, and what promises as it does
 peaks-refuse : (conds : List (Bool × ℕ)) (cs : List Corner) (ties held : ℕ) (b : Slices) (r : Peaks)
-    → r ≡ detect.answerOf (detect.refusalOf conds (placesOf b) held (length cs)) (length cs) ties
+    → r ≡ unless peaks.Refused (detect.refusalOf conds (placesOf b) held (length cs)) (peaks.Added (length cs) ties)
     → Refuses peaks.Refused (map (λ c. c .1) (conds ++ ((ltb (placesOf b) (held + length cs), 10) ∷ []))) r
 unfolding detect.refusalOf
 peaks-refuse conds cs ties held b r f =
-    refused-one peaks.Refused (λ n. detect.answerOf n (length cs) ties) (λ k q. let z : _≡_ {A = ℕ} 0 1 = cc in omega arith)
+    refused-one peaks.Refused (λ n. unless peaks.Refused n (peaks.Added (length cs) ties)) (λ k q. let z : _≡_ {A = ℕ} 0 1 = cc in omega arith)
     (λ n k q. sym (ap detect.numberOf q))
     (conds ++ ((ltb (placesOf b) (held + length cs), 10) ∷ [])) r f
 
@@ -181,26 +184,29 @@ roi-refuses c s r f k e =
     numbered-one (multiscale.conditions c s) k (sym (ap multiscale.numberOf e) ∙ f .number) (box.refused-numbered c s k (sym (f .answer) ∙ e))
 
 -- the merge entries
-merge-numbers : (four five ten : Bool) (n : ℕ) (r : Merged) → r ≡ merge.answerOf (lowest ((four, 4) ∷ (five, 5) ∷ (ten, 10) ∷ [])) n
+merge-numbers : (four five ten : Bool) (n : ℕ) (r : Merged) → r ≡ unless merged.Refused (lowest ((four, 4) ∷ (five, 5) ∷ (ten, 10) ∷ [])) (merged.Kept n)
     → Refuses merged.Refused (4 ∷ 5 ∷ 10 ∷ []) r
 merge-numbers four five ten n r f =
-    refused-one merged.Refused (λ k. merge.answerOf k n) (λ k q. let z : _≡_ {A = ℕ} 0 1 = cc in omega arith) (λ n k q. cc)
+    refused-one merged.Refused (λ k. unless merged.Refused k (merged.Kept n)) (λ k q. let z : _≡_ {A = ℕ} 0 1 = cc in omega arith) (λ n k q. cc)
     ((four, 4) ∷ (five, 5) ∷ (ten, 10) ∷ []) r f
 
-merge-refuses : (radius : Float) (places count : ℕ) (b : Slices) (n : ℕ) (r : Merged) → r ≡ merge.answerOf (merge.refusalOf radius places count b) n
+merge-refuses : (radius : Float) (places count : ℕ) (b : Slices) (n : ℕ) (r : Merged)
+    → r ≡ unless merged.Refused (merge.refusalOf radius places count b) (merged.Kept n)
     → Refuses merged.Refused (4 ∷ 5 ∷ 10 ∷ []) r
 unfolding merge.refusalOf
 merge-refuses radius places count b n r f =
     merge-numbers (not (isOff radius) && any isOutside (cornersOf b (min count places))) (radiusOutside radius) (ltb places count) n r f
 
-apart-refuses : (radius : Float) (places count : ℕ) (b : Slices) (n : ℕ) (r : Merged) → r ≡ merge.answerOf (refusalApart radius places count b) n
+apart-refuses : (radius : Float) (places count : ℕ) (b : Slices) (n : ℕ) (r : Merged)
+    → r ≡ unless merged.Refused (refusalApart radius places count b) (merged.Kept n)
     → Refuses merged.Refused (4 ∷ 5 ∷ 10 ∷ []) r
 unfolding refusalApart
 apart-refuses radius places count b n r f =
     merge-numbers (not (isOff radius) && any isOutside (cornersOf b (min count (placesOf b)))) (radiusOutside radius)
     (ltb (placesOf b) count || ltb places count) n r f
 
-slice-refuses : (radius : Float) (count : ℕ) (cs : List Corner) (b : Slices) (n : ℕ) (r : Merged) → r ≡ merge.answerOf (refusalFor radius count cs b) n
+slice-refuses : (radius : Float) (count : ℕ) (cs : List Corner) (b : Slices) (n : ℕ) (r : Merged)
+    → r ≡ unless merged.Refused (refusalFor radius count cs b) (merged.Kept n)
     → Refuses merged.Refused (4 ∷ 5 ∷ 10 ∷ []) r
 unfolding refusalFor
 slice-refuses radius count cs b n r f =
@@ -223,27 +229,30 @@ strike-refuses b b′ e place change r f =
 
 frame-refuses : (p : FrameParams) (img : List ℕ) (w h : ℕ) (b b′ : frame.Buffers) (r : FrameAnswer) → frame.FrameFound p img w h b r b′
     → Refuses answer.Refused (1 ∷ 2 ∷ 3 ∷ 5 ∷ 8 ∷ 9 ∷ 10 ∷ []) r
-unfolding frame.frameOf frame.refusalOf conditions
+unfolding frame.refusalOf conditions
 frame-refuses p img w h b b′ r f =
     let q = framePass p img w h (computedChoice p) in
-    refused-one answer.Refused (λ n. frame.answerOf n (length (q .corners)) (q .ties)) (λ k e. let z : _≡_ {A = ℕ} 0 1 = cc in omega arith)
+    refused-one answer.Refused (λ n. unless answer.Refused n (answer.Corners (length (q .corners)) (q .ties)))
+    (λ k e. let z : _≡_ {A = ℕ} 0 1 = cc in omega arith)
     (λ n k e. sym (ap frame.numberOf e))
     (conditions p (length img) w h (length (b .map)) (length (b .levels)) ++ ((frame.tooMany q b, 10) ∷ []))
-    r (ap (λ (z : frame.Frame). z .answer) (f .is))
+    r (f .answer)
 
 pgm-refuses : (upload : List ℕ) (r : PgmImage) → PgmRead upload r → Refuses image.Refused (1 ∷ 12 ∷ 13 ∷ []) r
 unfolding pgm.refusalOf pgm.conditions
 pgm-refuses upload r f =
-    refused-one image.Refused (λ n. pgm.answerBy n (rasterAt upload) (widthOf upload) (heightOf upload)) (λ k e. let z : _≡_ {A = ℕ} 0 1 = cc in omega arith)
+    refused-one image.Refused (λ n. unless image.Refused n (image.Pixels (rasterAt upload) (widthOf upload) (heightOf upload)))
+    (λ k e. let z : _≡_ {A = ℕ} 0 1 = cc in omega arith)
     (λ n k e. sym (ap pgm.numberOf e)) (pgm.conditions upload) r (f .answer)
 
 -- a frame whose image is as long as its sides say is not refused as 2
 frame-fitting : (p : FrameParams) (img : List ℕ) (w h : ℕ) (b b′ : frame.Buffers) (r : FrameAnswer) → length img ≡ w * h → frame.FrameFound p img w h b r b′
     → Refuses answer.Refused (1 ∷ 3 ∷ 5 ∷ 8 ∷ 9 ∷ 10 ∷ []) r
-unfolding frame.frameOf frame.refusalOf conditions
+unfolding frame.refusalOf conditions
 frame-fitting p img w h b b′ r fits f =
     let q = framePass p img w h (computedChoice p) in
-    refused-one answer.Refused (λ n. frame.answerOf n (length (q .corners)) (q .ties)) (λ k e. let z : _≡_ {A = ℕ} 0 1 = cc in omega arith)
+    refused-one answer.Refused (λ n. unless answer.Refused n (answer.Corners (length (q .corners)) (q .ties)))
+    (λ k e. let z : _≡_ {A = ℕ} 0 1 = cc in omega arith)
     (λ n k e. sym (ap frame.numberOf e))
     ((isLarge w h, 1)
     ∷ (not (parametersFit p), 3)
@@ -252,7 +261,7 @@ frame-fitting p img w h b b′ r fits f =
     ∷ (isShort (ask (length img) (length (b .levels)) w h (p .levels) (p .«minimum_side»)), 9)
     ∷ (frame.tooMany q b, 10)
     ∷ [])
-    r (ap (λ (z : frame.Frame). z .answer) (f .is) ∙ rw (eq-eqb (length img) (w * h) fits))
+    r (f .answer ∙ rw (eq-eqb (length img) (w * h) fits))
 
 photograph-refuses : (p : FrameParams) (upload : List ℕ) (b b′ : frame.Buffers) (r : FrameAnswer) → PhotographFound p upload b r b′
     → Refuses answer.Refused (1 ∷ 3 ∷ 5 ∷ 8 ∷ 9 ∷ 10 ∷ 12 ∷ 13 ∷ []) r
@@ -272,28 +281,28 @@ photograph-refuses p upload b b′ r f k e = go (pgm.refusalOf upload) refl
         widen k (1 ∷ 12 ∷ 13 ∷ []) (1 ∷ 3 ∷ 5 ∷ 8 ∷ 9 ∷ 10 ∷ 12 ∷ 13 ∷ []) refl (upload-one k same (omega (arith, same, some)))
 
 stream-refuses : (input pixels pixels′ : List ℕ) (r : FrameStream) → FrameRead input pixels r pixels′ → Refuses stream.Refused (1 ∷ 3 ∷ 5 ∷ 6 ∷ 7 ∷ 11 ∷ []) r
-stream-refuses input pixels pixels′ r f k e = frame-few input k (sym (f .reading) ∙ ap (λ (a : FrameStream). readingOf a pixels′) e)
+stream-refuses input pixels pixels′ r f k e =
+    frame-few input k (refusal-found input pixels k pixels′ (subst (λ (a : FrameStream). FrameRead input pixels a pixels′) e f) .0)
 
 writer-refuses : (h : Header) (pixels out out′ : List ℕ) (r : FrameWriting) → writer.FrameWritten h pixels out r out′
     → Refuses written.Refused (1 ∷ 2 ∷ 3 ∷ 5 ∷ 19 ∷ []) r
 unfolding writer.refusalOf
 writer-refuses h pixels out out′ r f =
-    refused-one written.Refused (λ n. writer.answerOf n (length (frameBytes h pixels))) (λ k q. let z : _≡_ {A = ℕ} 0 1 = cc in omega arith)
+    refused-one written.Refused (λ n. unless written.Refused n (written.Written (length (frameBytes h pixels))))
+    (λ k q. let z : _≡_ {A = ℕ} 0 1 = cc in omega arith)
     (λ n k q. sym (ap writer.numberOf q)) (writer.conditions h pixels (length out)) r (f .answer)
 
 listing-refuses : (b : Slices) (count : ℕ) (out out′ : List ℕ) (r : Listing) → listing.CornersWritten b count out r out′ → Refuses listed.Refused (10 ∷ []) r
-unfolding listing.listing
-listing-refuses b count out out′ r f k e = go (ltb 512 count) (sym (f .answer) ∙ e)
-  where
-    go : (t : Bool) → listing.answerOf (cond t (listing.refused 10) (listing.written (cornersText (cornersOf b count)))) ≡ listed.Refused k → OneOf k (10 ∷ [])
-    go true e = inl cc
-    go false e = absurd (let z : _≡_ {A = ℕ} 0 1 = cc in omega arith)
+listing-refuses b count out out′ r f =
+    refused-one listed.Refused (λ n. unless listed.Refused n (listed.Text (length (cornersText (cornersOf b count)))))
+    (λ k q. let z : _≡_ {A = ℕ} 0 1 = cc in omega arith) (λ n k q. sym (ap listing.numberOf q)) ((ltb 512 count, 10) ∷ []) r (f .answer)
 
 retouch-refuses : (w h ring : ℕ) (q : Place) (value : ℕ) (img : List ℕ) (m : List Float) (r : Retouched) (img′ : List ℕ) (m′ : List Float)
     → retouch.Retouches w h ring q value img m r img′ m′ → Refuses retouched.Refused (1 ∷ 2 ∷ 3 ∷ 14 ∷ []) r
 unfolding retouch.refusalOf
 retouch-refuses w h ring q value img m r img′ m′ f =
-    refused-one retouched.Refused (λ n. retouch.answerOf n (touchedCount w h (ringOf ring) q)) (λ k e. let z : _≡_ {A = ℕ} 0 1 = cc in omega arith)
+    refused-one retouched.Refused (λ n. unless retouched.Refused n (retouched.Redone (touchedCount w h (ringOf ring) q)))
+    (λ k e. let z : _≡_ {A = ℕ} 0 1 = cc in omega arith)
     (λ n k e. sym (ap retouch.numberOf e)) (retouch.conditions (length img) (length m) w h ring q) r (f .answer)
 
 limits-refuses : (low high : List ℕ) (w h ring : ℕ) (lows highs : List ℤ) (r : Limits) (lows′ highs′ : List ℤ)
@@ -310,10 +319,10 @@ unfolding sure.refusalOf
 sure-refuses lows highs w h ring threshold window least centroid q r f k e =
     let yes = isSure lows highs w h ring threshold window least centroid q in
     widen k (1 ∷ 2 ∷ 2 ∷ 3 ∷ 14 ∷ []) (1 ∷ 2 ∷ 3 ∷ 14 ∷ []) refl
-    (refused-one surely.Refused (λ n. unless surely.Refused n (sure.answerOf yes)) (none yes) (λ n k q. sym (ap sure.numberOf q))
+    (refused-one surely.Refused (λ n. unless surely.Refused n (cond yes surely.Yes surely.No)) (none yes) (λ n k q. sym (ap sure.numberOf q))
     (sure.conditions (length lows) (length highs) w h ring window centroid q) r (f .answer) k e)
   where
-    none : (b : Bool) (k : ℕ) → sure.answerOf b ≡ surely.Refused k → ⊥
+    none : (b : Bool) (k : ℕ) → cond b surely.Yes surely.No ≡ surely.Refused k → ⊥
     none true k q = let e = ap (λ (a : Sure). length (sure.valuesOf a)) q in omega arith
     none false k q = let e = ap (λ (a : Sure). length (sure.valuesOf a)) q in omega arith
 
@@ -321,7 +330,7 @@ holding-refuses : (kind start time : ℕ) (r : Holding) → Told kind start time
 unfolding retention.refusalOf
 holding-refuses kind start time r f =
     let state = retention.stateOf kind start time in
-    refused-one held.Refused (λ n. retention.answerBy n state) (λ k q. none k (ap retention.letterOf q)) (λ n k q. sym (ap retention.numberOf q))
+    refused-one held.Refused (λ n. unless held.Refused n state) (λ k q. none k (ap retention.letterOf q)) (λ n k q. sym (ap retention.numberOf q))
     ((not (retention.known kind), 6) ∷ (retention.isLate start || retention.isLate time, 20) ∷ []) r (f .answer)
   where
     none : (k : ℕ) → retention.letterOf (retention.stateOf kind start time) ≡ 0 → ⊥

@@ -8,18 +8,18 @@ use lib.Seq.{getD-take}
 use lib.Dec.{ltb}
 use borrow.Author.Tests.{lt-ltb, le-ltb}
 use Rattle.lists.specs.Places.{All}
-use Rattle.lists.specs.Refusals.{lowest}
+use Rattle.lists.specs.Refusals.{lowest, unless}
 use Rattle.lists.proofs.Buffer.{front-take}
 use Rattle.stream.specs.declared.Header.{Header}
 use Rattle.stream.specs.declared.FrameStream.{FrameStream}
 use Rattle.stream.specs.declared.FrameStream.the-variants as stream
 use Rattle.stream.specs.Stream.{recordsFor, accepted, readFrame}
-use Rattle.stream.specs.Answer.{readingOf}
+use Rattle.stream.proofs.Callers.{readingOf, reading-is}
 use Rattle.stream.specs.RoundTrip.{frameBytes}
 use Rattle.stream.proofs.RoundTrip.{frame-back}
 use Rattle.stream.proofs.Accepted.{accepted-good, accepted-only}
 use Rattle.frame_writer.specs.declared.FrameWriting.the-variants as writing
-use Rattle.frame_writer.specs.FrameWriter.{refusalOf, answerOf}
+use Rattle.frame_writer.specs.FrameWriter.{refusalOf}
 use Rattle.frame_writer.proofs.Bytes.{frame-long}
 use Rattle.frame_writer.proofs.Accepting.{read-number}
 use Rattle.frame_writer.proofs.Callers.{ends-with-4, stream-stands, stream-written}
@@ -43,7 +43,7 @@ read-back w n e rest r i =
     ap (take n) (written .stands) ∙ front-take (frameBytes (w .header) (w .pixels)) (w .before) n (written .long) in
     let reading : readFrame (r .input) ≡ accepted (w .header) (w .pixels) =
     ap readFrame (i ∙ ap (λ (s : List ℕ). s ++ rest) bytes) ∙ frame-back (w .header) (w .pixels) rest (written .good) in
-    let p = says (r .answer) (r .after) (w .header) (w .pixels) (r .promise .reading ∙ reading) in
+    let p = says (r .answer) (r .after) (w .header) (w .pixels) (reading-is (r .input) (r .before) (r .answer) (r .after) (r .promise) ∙ reading) in
     record { header = p .0; pixels-are = p .1 }
 
 -- ---- written back
@@ -56,7 +56,7 @@ module _ (r : ReadCall) (w : WriteCall) (s : Returns r (w .header) (w .pixels)) 
 
   reading : readFrame (r .input) ≡ accepted h (w .pixels)
   reading =
-      sym (r .promise .reading)
+      sym (reading-is (r .input) (r .before) (r .answer) (r .after) (r .promise))
       ∙ ap (λ (a : FrameStream). readingOf a (r .after)) (s .header)
       ∙ ap (accepted h) (s .pixels-are)
 
@@ -70,8 +70,8 @@ module _ (r : ReadCall) (w : WriteCall) (s : Returns r (w .header) (w .pixels)) 
   number : refusalOf h (w .pixels) (length (w .before)) ≡ lowest ((ltb (length (w .before)) (length bytes), 19) ∷ [])
   number = read-number h (w .pixels) (length (w .before)) (r .input) reading b
 
-  answers : (n : ℕ) → refusalOf h (w .pixels) (length (w .before)) ≡ n → w .answer ≡ answerOf n (length bytes)
-  answers n e = w .promise .answer ∙ ap (λ (k : ℕ). answerOf k (length bytes)) e
+  answers : (n : ℕ) → refusalOf h (w .pixels) (length (w .before)) ≡ n → w .answer ≡ unless writing.Refused n (writing.Written (length bytes))
+  answers n e = w .promise .answer ∙ ap (λ (k : ℕ). unless writing.Refused k (writing.Written (length bytes))) e
 
   long : endOf h < length (w .before) → Rewritten r w (endOf h)
   long l =
@@ -85,7 +85,7 @@ module _ (r : ReadCall) (w : WriteCall) (s : Returns r (w .header) (w .pixels)) 
             sym (getD-take (endOf h + 1) (r .input) (endOf h) 0 (omega arith))
             ∙ ap (λ (t : List ℕ). getD t (endOf h) 0) only
             ∙ ends-with-4 h (w .pixels) (endOf h) (sym bytes-long);
-        answer = answers 0 none ∙ ap (answerOf 0) bytes-long;
+        answer = answers 0 none ∙ ap writing.Written bytes-long;
         same = ap (take (endOf h + 1)) stands ∙ front-take bytes (w .before) (endOf h + 1) (sym bytes-long) ∙ sym only;
       }
 

@@ -28,13 +28,12 @@ use Rattle.merge.specs.declared.Merged.the-variants.{Kept}
 use Rattle.merge.specs.Merge.{resultOf, Merges}
 use Rattle.merge_naive.specs.MergeNaive.{naiveOf, MergesNaive}
 use Rattle.merge_slice.specs.MergeSlice.{MergesSlice}
-use Rattle.patch_corners.specs.OneMap.{computedChoice}
-use Rattle.frame_pass.specs.Pass.{framePass}
 use Rattle.finder.specs.Finder.{outputOf}
 use Rattle.demands.specs.ResponseCall.{ResponseCall, viewIn, mapOf}
 use Rattle.demands.specs.PeakCall.{PeakCall, searchIn}
 use Rattle.demands.specs.PeaksAlike.{programList}
 use Rattle.demands.specs.FrameExact.{FrameCall, frameList}
+use Rattle.frame.specs.Frame.{passOf}
 
 -- a field for each function, by its name
 pub record BitForBit : Type 0 where
@@ -60,6 +59,6 @@ pub record BitForBit : Type 0 where
       → take n cs′ ≡ resultOf radius (take count cs)
   -- and a whole frame: the pass that is composed of these
   pub «find_corners» : (c : FrameCall)
-      → frameList c ≡ framePass (c .parameters) (c .img) (c .w) (c .h) (computedChoice (c .parameters)) .corners
+      → frameList c ≡ passOf (c .parameters) (c .img) (c .w) (c .h) .corners
   -- and the bytes that the program writes out, `text[..end]`
   pub find : (input text text′ : List ℕ) (end : ℕ) → Written (outputOf input) text end text′ → take end text′ ≡ outputOf input

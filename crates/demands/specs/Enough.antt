@@ -3,31 +3,28 @@
 use Prim.Native.Nat.{ℕ, _≤_}
 use mathlib.Core.Path.{_≡_}
 use mathlib.Core.Logic.{_↔_}
-use mathlib.Core.Bool.{Bool, true, false}
+use mathlib.Core.Bool.{Bool, true}
 use mathlib.Core.List.{List}
-use lib.ListN.{length}
+use lib.ListN.{length, getD}
 use lib.Ieee.{Float}
 use Rattle.detect.specs.declared.enough.Enough.{Enough}
-use Rattle.detect.specs.declared.enough.Enough.the-variants.{Yes, No, Refused}
 use Rattle.detect.specs.Detect.{searchOf, peaksIn, conditions}
-use Rattle.detect.specs.Enough.{numberOf, EnoughFound, SameNear}
+use Rattle.detect.specs.Enough.{numberOf, EnoughFound, SameNear, valuesOf}
 use Rattle.demands.specs.PeakCall.{PeakCall}
+use lib.Dec.{eqb}
 
 -- the promise of `has_peaks` for a map m of w by h cells, word for word
 abbrev pub HasPeaks : List Float → ℕ → ℕ → ℕ → Float → ℕ → ℕ → ℕ → ℕ → Enough → Type 0
 HasPeaks m w h ring threshold window least radius wanted r =
     EnoughFound (conditions (length m) w h ring window radius) m (searchOf w h ring threshold window least radius) wanted r
 
+-- whether an answer is yes, the first of its values
 abbrev pub isYes : Enough → Bool
-isYes (Yes rows) = true
-isYes (No rows) = false
-isYes (Refused k) = false
+isYes r = eqb (getD (valuesOf r) 0 0) 1
 
--- the rows that an answer says were looked at; none where it is a refusal
+-- and the rows that it says were looked at, none where it is a refusal
 abbrev pub rowsOf : Enough → ℕ
-rowsOf (Yes rows) = rows
-rowsOf (No rows) = rows
-rowsOf (Refused k) = 0
+rowsOf r = getD (valuesOf r) 1 0
 
 -- "The answer is the one full counting gives": yes exactly where N is at most the number of the map's peaks
 pub record EnoughIsCounting : Type 0 where

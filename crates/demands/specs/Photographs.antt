@@ -16,7 +16,6 @@ use Rattle.pgm.specs.declared.PgmImage.the-variants.{Pixels}
 use Rattle.pgm.specs.Header.{widthOf, heightOf, rasterAt}
 use Rattle.pgm.specs.Pgm.{refusalOf, pixelsIn, PgmRead}
 use Rattle.pgm_frame.specs.PgmFrame.{PhotographFound}
-use Rattle.demands.specs.FrameExact.{FrameCall}
 use Rattle.demands.specs.Texts.{bytesOf}
 
 -- ---- the frame of a photograph
@@ -34,27 +33,12 @@ pub record PhotographCall : Type 0 where
   pub ties : ℕ
   pub promise : PhotographFound parameters upload before (Corners count ties) after
 
--- "The frame is the image's pixels": it is a call of `find_corners` on them
+-- "The frame is the image's pixels": it is a call of `find_corners` on them (`FrameCall`), of which demands 2 and 3 and request 14 speak
 pub record OnPixels (c : PhotographCall) : Type 0 where
   pub accepted : refusalOf (c .upload) ≡ 0
   pub pixels : Bytes (pixelsIn (c .upload))
   pub promise : FrameFound (c .parameters) (pixelsIn (c .upload)) (widthOf (c .upload)) (heightOf (c .upload)) (c .before)
       (Corners (c .count) (c .ties)) (c .after)
-
--- of which demands 2 and 3 and request 14 speak (`FrameCall`)
-abbrev pub frameCall : (c : PhotographCall) → OnPixels c → FrameCall
-frameCall c f = record {
-  parameters = c .parameters;
-  img = pixelsIn (c .upload);
-  w = widthOf (c .upload);
-  h = heightOf (c .upload);
-  bytes = f .pixels;
-  before = c .before;
-  after = c .after;
-  count = c .count;
-  ties = c .ties;
-  promise = f .promise;
-}
 
 pub record PhotographIsFrame : Type 0 where
   pub finished : (c : PhotographCall) → OnPixels c

@@ -9,8 +9,8 @@ use Rattle.lists.specs.Places.{counted, flatMap, All}
 use Rattle.listing.specs.Text.{newline, refusedText}
 use Rattle.retention.specs.declared.Holding.{Holding}
 use Rattle.retention.specs.declared.Holding.the-variants.{NotYet, Held, Gone}
-use Rattle.retention.specs.Retention.{dayOf, stateOf, numberOf, letterOf}
-use Rattle.retention.specs.Stream.{timeOf, kindAt, secondAt, placeOf, outputOf}
+use Rattle.retention.specs.Retention.{dayOf, numberOf, letterOf}
+use Rattle.retention.specs.Stream.{stateAt, placeOf, outputOf}
 use Rattle.retention.specs.Wanted.{itemFault, items, wanted}
 use Rattle.retention.specs.Answer.{Told}
 use Rattle.demands.specs.Numbers.{OneOf}
@@ -45,7 +45,7 @@ pub record HeldWhen : Type 0 where
 
 -- the line of record i, the first being record 0: "the letter N, H or G .., a line each"
 abbrev pub lineOf : List ℕ → ℕ → List ℕ
-lineOf input i = letterOf (stateOf (kindAt input (placeOf i)) (secondAt input (placeOf i)) (timeOf input)) ∷ newline ∷ []
+lineOf input i = letterOf (stateAt input (placeOf i)) ∷ newline ∷ []
 
 -- the lines of the first k records, "in input order"
 abbrev pub linesTo : List ℕ → ℕ → List ℕ

@@ -3,7 +3,7 @@
 use Prim.Native.Nat.{ℕ, _+_}
 use mathlib.Core.Path.{_≡_}
 use mathlib.Core.List.{List, _∷_, _++_}
-use lib.ListN.{length}
+use lib.ListN.{length, getD}
 use Rattle.corner_list.specs.declared.Corner.{Corner}
 use Rattle.corner_list.specs.CornerList.{Slices, cornersOf}
 use Rattle.corner_strike.specs.declared.Edition.{Edition}
@@ -11,9 +11,9 @@ use Rattle.corner_strike.specs.declared.showing.Shown.{Shown}
 use Rattle.corner_strike.specs.declared.showing.Shown.the-variants.{Found}
 use Rattle.corner_strike.specs.declared.striking.Strike.{Strike}
 use Rattle.corner_strike.specs.declared.striking.Strike.the-variants.{Struck, Refused}
-use Rattle.corner_strike.specs.Editions.{unchanged}
+use Rattle.corner_strike.specs.Editions.{edition}
 use Rattle.corner_strike.specs.Showing.{Shows}
-use Rattle.corner_strike.specs.Striking.{numberOf, editionOf, Strikes}
+use Rattle.corner_strike.specs.Striking.{numberOf, valuesOf, Strikes}
 
 -- a list that is edited, and its corners
 pub record Edited : Type 0 where
@@ -39,9 +39,9 @@ pub record StrikeCall (s : Edited) : Type 0 where
   pub after : Slices
   pub promise : Strikes (s .buffer) (s .edition) place change answer after
 
--- the list that it leaves: where refused, with the count and change number that it had
+-- the list that it leaves: with the count and change number of the answer, and where that is a refusal with those that it had
 abbrev pub leftBy : (s : Edited) → StrikeCall s → Edited
-leftBy s c = record { buffer = c .after; edition = editionOf (c .answer) (s .edition) }
+leftBy s c = record { buffer = c .after; edition = getD (valuesOf (c .answer)) 0 (s .edition) }
 
 -- any number of them, one after the other, from one list to another
 pub data StrikeCalls : Edited → Edited → Type 0 where
@@ -60,7 +60,7 @@ struckIn s s′ (more _ t calls c) = struckIn s t calls + strikesOf (c .answer)
 -- ---- "The list has a change number from 0, raised by each strike and by nothing else."
 pub record RaisedByStrikesOnly : Type 0 where
   -- a list that `Edition::new` begins
-  pub from-0 : (count : ℕ) (e : Edition) → e ≡ unchanged count → e .change ≡ 0
+  pub from-0 : (count : ℕ) (e : Edition) → e ≡ edition count 0 → e .change ≡ 0
   -- one call: a strike takes one corner and raises the number by one, a refusal leaves the list as it was
   pub struck : (s : Edited) (c : StrikeCall s) → numberOf (c .answer) ≡ 0
       → (leftBy s c .edition .change ≡ s .edition .change + 1) × (leftBy s c .edition .count + 1 ≡ s .edition .count)

@@ -13,10 +13,11 @@ use Rattle.detect.specs.declared.WindowTest.the-variants.{Top}
 use Rattle.detect.specs.Peaks.{window, windowTest, valueAt, largerIn, equalIn}
 use Rattle.detect.specs.Detect.{tiesIn}
 use Rattle.patch_corners.specs.declared.FrameParams.{FrameParams}
-use Rattle.patch_corners.specs.OneMap.{computedChoice, exactChoice}
+use Rattle.patch_corners.specs.OneMap.{exactChoice}
 use Rattle.frame_pass.specs.Pass.{framePass}
 use Rattle.demands.specs.PeakCall.{PeakCall, searchIn}
 use Rattle.demands.specs.FrameExact.{FrameCall, mapsIn, Alike}
+use Rattle.frame.specs.Frame.{passOf}
 
 -- "A NaN centre is top with 0 ties"
 abbrev pub NanTop : Type 0
@@ -28,7 +29,7 @@ PeakTies = (m : List Float) (w h : ℕ) (p : PeakCall m w h) → p .ties ≡ tie
 
 -- the total is the pass's; and where the two lists are alike for each map, that of the exact pass too, which counts in the computed maps
 pub record TiesAre (c : FrameCall) : Type 0 where
-  pub computed : c .ties ≡ framePass (c .parameters) (c .img) (c .w) (c .h) (computedChoice (c .parameters)) .ties
+  pub computed : c .ties ≡ passOf (c .parameters) (c .img) (c .w) (c .h) .ties
   pub exact : All (Alike (c .parameters)) (mapsIn c) → c .ties ≡ framePass (c .parameters) (c .img) (c .w) (c .h) (exactChoice (c .parameters)) .ties
 
 abbrev pub FrameTies : Type 0

@@ -10,7 +10,8 @@ use borrow.Author.Tests.{le-leb}
 use Rattle.lists.specs.Places.{Place, block, count, All}
 use Rattle.lists.proofs.Tests.{is-false}
 use Rattle.lists.proofs.Members.{all-block, at-block, Implies, any-more, keep-fewer, alike-only, alike-if}
-use Rattle.detect.specs.Peaks.{CellTests, window, beaten, positives, isPeak, peakPlaces, Inside}
+use Rattle.detect.specs.Peaks.{CellTests, window, beaten, positives, isPeak, peakPlaces}
+use Rattle.detect.specs.Internal.{Inside}
 use Rattle.detect.specs.Internal.{place}
 use Rattle.detect.proofs.Choice.{peak-counted, peak-above, peak-unbeaten, peak-supported}
 use Rattle.detect.proofs.Window.{window-in}

@@ -13,7 +13,7 @@ use lib.Dec.{ltb}
 use lib.Ieee.{Float}
 use borrow.Author.Tests.{lt-ltb, le-ltb, ltb-true, ltb-false, eq-eqb, not-false}
 use Rattle.lists.specs.Places.{All}
-use Rattle.lists.specs.Refusals.{lowest, valuesUnless}
+use Rattle.lists.specs.Refusals.{lowest, valuesUnless, unless, resultOr}
 use Rattle.lists.proofs.Tests.{or-neither}
 use Rattle.lists.proofs.Refusals.{all-clear, lowest-some, lowest-past, sized-of}
 use Rattle.ring.proofs.Places.{ring-small}
@@ -23,7 +23,7 @@ use Rattle.detect.specs.declared.Search.{Search}
 use Rattle.detect.specs.declared.Peaks.{Peaks}
 use Rattle.detect.specs.declared.Peaks.the-variants.{Added, Refused}
 use Rattle.detect.specs.Detect.{searchOf, peaksIn, startAt, startsIn, tiesIn, isRing}
-use Rattle.detect.specs.Detect.{conditions, refusalOf, answerOf, bufferOf, numberOf, valuesOf, PeaksAdded}
+use Rattle.detect.specs.Detect.{conditions, refusalOf, numberOf, valuesOf, PeaksAdded}
 use Rattle.detect.specs.Internal.{Searchable}
 
 -- ---- inputs
@@ -108,23 +108,23 @@ module _ (places held n : ℕ) where
     refusal-none l = lowest-past cs _ (c .numbered) (c .none) ∙ rw (le-ltb places (held + n) l)
 
 -- ---- answers, by what led to them
-pub number-is : (k n ties : ℕ) → numberOf (answerOf k n ties) ≡ k
+pub number-is : (k n ties : ℕ) → numberOf (unless Refused k (Added n ties)) ≡ k
 number-is zero n ties = refl
 number-is (suc k) n ties = refl
 
-pub values-are : (k n ties : ℕ) → valuesOf (answerOf k n ties) ≡ valuesUnless k (n ∷ ties ∷ [])
+pub values-are : (k n ties : ℕ) → valuesOf (unless Refused k (Added n ties)) ≡ valuesUnless k (n ∷ ties ∷ [])
 values-are zero n ties = refl
 values-are (suc k) n ties = refl
 
 module _ (conds : List (Bool × ℕ)) (cs : List Corner) (ties held : ℕ) (b : Slices) where
   -- by the refusal's number
   pub found-by : (k : ℕ) → refusalOf conds (placesOf b) held (length cs) ≡ k → (answer : Peaks) (b′ : Slices)
-      → answer ≡ answerOf k (length cs) ties → b′ ≡ bufferOf k held cs b → PeaksAdded conds cs ties held b answer b′
+      → answer ≡ unless Refused k (Added (length cs) ties) → b′ ≡ resultOr k (placedCorners held cs b) b → PeaksAdded conds cs ties held b answer b′
   found-by k e answer b′ p q = record {
-    answer = p ∙ ap (λ (r : ℕ). answerOf r (length cs) ties) (sym e);
+    answer = p ∙ ap (λ (r : ℕ). unless Refused r (Added (length cs) ties)) (sym e);
     number = ap numberOf p ∙ number-is k (length cs) ties ∙ sym e;
     values = ap valuesOf p ∙ values-are k (length cs) ties ∙ ap (λ (r : ℕ). valuesUnless r (length cs ∷ ties ∷ [])) (sym e);
-    buffer = q ∙ ap (λ (r : ℕ). bufferOf r held cs b) (sym e);
+    buffer = q ∙ ap (λ (r : ℕ). resultOr r (placedCorners held cs b) b) (sym e);
   }
 
   pub found-refused : (k : ℕ) → k ≡ lowest conds → (k ≡ 0 → ⊥) → PeaksAdded conds cs ties held b (Refused k) b
@@ -184,8 +184,9 @@ pub record Short (cs : List Corner) (held : ℕ) (b : Slices) (k : ℕ) (b′ : 
 module _ (conds : List (Bool × ℕ)) (clear : Clear conds) (cs : List Corner) (ties held : ℕ) (b : Slices)
     (answer : Peaks) (b′ : Slices) (f : PeaksAdded conds cs ties held b answer b′) where
   by-number : (k : ℕ) → refusalOf conds (placesOf b) held (length cs) ≡ k
-      → (answer ≡ answerOf k (length cs) ties) × (b′ ≡ bufferOf k held cs b)
-  by-number k r = (f .answer ∙ ap (λ (j : ℕ). answerOf j (length cs) ties) r, f .buffer ∙ ap (λ (j : ℕ). bufferOf j held cs b) r)
+      → (answer ≡ unless Refused k (Added (length cs) ties)) × (b′ ≡ resultOr k (placedCorners held cs b) b)
+  by-number k r =
+      (f .answer ∙ ap (λ (j : ℕ). unless Refused j (Added (length cs) ties)) r, f .buffer ∙ ap (λ (j : ℕ). resultOr j (placedCorners held cs b) b) r)
 
   pub added-tells : (n t : ℕ) → answer ≡ Added n t → Fitted cs ties held b n t b′
   added-tells n t q =

@@ -6,7 +6,7 @@ use mathlib.Core.List.{List}
 use lib.ListN.{length}
 use lib.Ieee.{Float}
 use Rattle.detect.specs.declared.Search.{Search}
-use Rattle.detect.specs.Peaks.{Inside}
+use Rattle.detect.specs.Internal.{Inside}
 use Rattle.detect.specs.Internal.{place, Searchable}
 
 module _ (m : List Float) (s : Search) (k : Searchable m s) (y : ℕ) (h : y < s .h) where

@@ -16,7 +16,8 @@ use Rattle.lists.proofs.Members.{all-map, all-keep, all-block}
 use Rattle.float32.specs.Float32.{lift}
 use Rattle.float32.proofs.Classes.{above-lifted}
 use Rattle.detect.specs.declared.Search.{Search}
-use Rattle.detect.specs.Peaks.{CellTests, beaten, positives, isPeak, peakPlaces, Inside, valueAt, largerIn, positiveIn}
+use Rattle.detect.specs.Peaks.{CellTests, beaten, positives, isPeak, peakPlaces, valueAt, largerIn, positiveIn}
+use Rattle.detect.specs.Internal.{Inside}
 use Rattle.detect.specs.Detect.{readIn, peakIn}
 use Rattle.detect.specs.Internal.{place}
 

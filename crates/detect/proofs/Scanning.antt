@@ -9,7 +9,8 @@ use Rattle.detect.specs.declared.Search.{Search}
 use Rattle.detect.specs.declared.searching.Spot.{Spot}
 use Rattle.detect.specs.declared.searching.PeakTest.{PeakTest}
 use Rattle.detect.specs.declared.searching.PeakTest.the-variants.{No, Peak}
-use Rattle.detect.specs.Peaks.{peakPlaces, Inside}
+use Rattle.detect.specs.Peaks.{peakPlaces}
+use Rattle.detect.specs.Internal.{Inside}
 use Rattle.detect.specs.Detect.{peakIn, peaksIn}
 use Rattle.detect.specs.Internal.{place, placeOf, placeBehind, peaksFrom, peakTest, Skipped, NextPeak, NextFound}
 use Rattle.detect.proofs.Ahead.{keep-hit, keep-miss, ahead-start, ahead-row, ahead-end}

@@ -17,7 +17,8 @@ use Rattle.lists.proofs.Parts.{block-split}
 use Rattle.float32.specs.Float32 as float32
 use Rattle.detect.specs.declared.Search.{Search}
 use Rattle.detect.specs.declared.enough.Enough.the-variants.{Yes}
-use Rattle.detect.specs.Peaks.{window, beaten, positives, isPeak, peakPlaces, valueAt, largerIn, positiveIn, isLow, Inside}
+use Rattle.detect.specs.Peaks.{window, beaten, positives, isPeak, peakPlaces, valueAt, largerIn, positiveIn, isLow}
+use Rattle.detect.specs.Internal.{Inside}
 use Rattle.detect.specs.Detect.{readIn, peakIn, peaksIn}
 use Rattle.detect.specs.Enough.{rowsInside, rowsTo, rowsFor, answerOf, enoughOf, SameNear}
 use Rattle.detect.specs.Internal.{place}

@@ -15,7 +15,8 @@ use Rattle.lists.proofs.Scan.{any-kept, count-kept}
 use Rattle.lists.proofs.Parts.{keep-only}
 use Rattle.lists.proofs.Members.{all-map, all-keep, all-block}
 use Rattle.float32.proofs.Classes.{lt-self}
-use Rattle.detect.specs.Peaks.{same, square, window, beaten, valueAt, largerIn, Inside}
+use Rattle.detect.specs.Peaks.{same, square, window, beaten, valueAt, largerIn}
+use Rattle.detect.specs.Internal.{Inside}
 
 -- ---- tests of places
 

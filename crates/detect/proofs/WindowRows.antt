@@ -11,7 +11,8 @@ use Rattle.lists.specs.Places.{Place, block, any, count}
 use Rattle.lists.proofs.Places.{count-block-le}
 use Rattle.lists.proofs.Rows.{rowPart, AnyRows, CountRows, any-found, any-next, any-nowhere, rows-next, rows-all}
 use Rattle.detect.specs.declared.Search.{Search}
-use Rattle.detect.specs.Peaks.{window, beaten, equals, valueAt, largerIn, equalIn, Inside}
+use Rattle.detect.specs.Peaks.{window, beaten, equals, valueAt, largerIn, equalIn}
+use Rattle.detect.specs.Internal.{Inside}
 use Rattle.detect.specs.Internal.{place, Searchable}
 use Rattle.detect.proofs.Cells.{row-in}
 use Rattle.detect.proofs.Window.{beaten-whole, count-whole}

@@ -1,5 +1,5 @@
 -- Peak finding (RULES 4): the corners that a map's peaks start as, the refusals, and what is promised of the answer and the buffer.
-use Prim.Native.Nat.{ℕ, zero, suc, _+_}
+use Prim.Native.Nat.{ℕ, _+_}
 use mathlib.Core.Path.{_≡_}
 use mathlib.Core.Bool.{Bool, not, _||_}
 use mathlib.Core.List.{List, [], _∷_, _++_, map}
@@ -7,7 +7,7 @@ use lib.ListN.{length}
 use lib.Dec.{ltb}
 use lib.Ieee.{Float}
 use Rattle.lists.specs.Places.{Place, sumOf}
-use Rattle.lists.specs.Refusals.{lowest, valuesUnless, isLarge, isMisfit}
+use Rattle.lists.specs.Refusals.{lowest, valuesUnless, isLarge, isMisfit, unless, resultOr}
 use Rattle.float32.specs.Float32.{lift, floatOf}
 pub use Rattle.ring.specs.Ring.{isRing}
 use Rattle.corner_list.specs.CornerList.{Slices, placesOf, placedCorners}
@@ -74,16 +74,6 @@ refusalOf conds places held n = lowest (conds ++ ((ltb places (held + n), 10) �
 
 -- ---- the promise
 
--- the answer for a number: how many peaks were added and how many ties they have, or the refusal
-abbrev pub answerOf : ℕ → ℕ → ℕ → Peaks
-answerOf zero n ties = Added n ties
-answerOf (suc k) n ties = Refused (suc k)
-
--- RULES 2.5: the buffer after: the corners cs behind its first `held`, or as it was
-abbrev pub bufferOf : ℕ → ℕ → List Corner → Slices → Slices
-bufferOf zero held cs b = placedCorners held cs b
-bufferOf (suc k) held cs b = b
-
 -- RULES 15.1: the number and the values of each case
 abbrev pub numberOf : Peaks → ℕ
 numberOf (Added n ties) = 0
@@ -94,9 +84,10 @@ valuesOf (Added n ties) = n ∷ ties ∷ []
 valuesOf (Refused k) = []
 
 -- What peak finding promises, under the conditions conds on the input, of a map whose peaks start as the corners cs and have so many ties,
--- and of a buffer b that holds `held`: the answer, its number and values, and the buffer after
+-- and of a buffer b that holds `held`: the answer, how many peaks were added and how many ties they have, with its number and values, and the buffer
+-- after (RULES 2.5): the corners cs behind its first `held`, or as it was
 pub record PeaksAdded (conds : List (Bool × ℕ)) (cs : List Corner) (ties held : ℕ) (b : Slices) (r : Peaks) (b′ : Slices) : Type 0 where
-  pub answer : r ≡ answerOf (refusalOf conds (placesOf b) held (length cs)) (length cs) ties
+  pub answer : r ≡ unless Refused (refusalOf conds (placesOf b) held (length cs)) (Added (length cs) ties)
   pub number : numberOf r ≡ refusalOf conds (placesOf b) held (length cs)
   pub values : valuesOf r ≡ valuesUnless (refusalOf conds (placesOf b) held (length cs)) (length cs ∷ ties ∷ [])
-  pub buffer : b′ ≡ bufferOf (refusalOf conds (placesOf b) held (length cs)) held cs b
+  pub buffer : b′ ≡ resultOr (refusalOf conds (placesOf b) held (length cs)) (placedCorners held cs b) b

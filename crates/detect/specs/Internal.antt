@@ -11,12 +11,18 @@ use Rattle.detect.specs.declared.Search.{Search}
 use Rattle.detect.specs.declared.searching.Spot.{Spot}
 use Rattle.detect.specs.declared.searching.PeakTest.{PeakTest}
 use Rattle.detect.specs.declared.searching.PeakTest.the-variants.{No, Peak}
-use Rattle.detect.specs.Peaks.{Inside}
 use Rattle.detect.specs.Detect.{peakIn, neighboursAt, tiesAt}
 
 -- column x of row y
 abbrev pub place : ℕ → ℕ → Place
 place x y = record { x = x; y = y }
+
+-- RULES 4.3: a place no nearer to an edge than the border
+pub record Inside (w h border : ℕ) (p : Place) : Type 0 where
+  pub left : border ≤ p .x
+  pub right : p .x + border < w
+  pub top : border ≤ p .y
+  pub bottom : p .y + border < h
 
 -- a map that can be searched with s
 pub record Searchable (m : List Float) (s : Search) : Type 0 where

@@ -1,5 +1,5 @@
 -- Peak choice over a map of w by h, by what is asked of the values at its places (RULES 4.2 to 4.4; neighbors.rs, detect.rs).
-use Prim.Native.Nat.{ℕ, _+_, _-_, _*_, _<_, _≤_, min}
+use Prim.Native.Nat.{ℕ, _+_, _-_, _*_, min}
 use mathlib.Core.Bool.{Bool, cond, not, _&&_}
 use mathlib.Core.List.{List}
 use lib.ListN.{getD}
@@ -53,13 +53,6 @@ positives positive w h r p = count positive (window w h r p)
 -- a peak is above the threshold, is not beaten, and has at least so many positive neighbours
 unfoldable pub isPeak : CellTests → ℕ → ℕ → ℕ → ℕ → Place → Bool
 isPeak v w h r least p = v .above p && (not (beaten (v .larger) w h r p) && leb least (positives (v .positive) w h r p))
-
--- RULES 4.3: a place no nearer to an edge than the border
-pub record Inside (w h border : ℕ) (p : Place) : Type 0 where
-  pub left : border ≤ p .x
-  pub right : p .x + border < w
-  pub top : border ≤ p .y
-  pub bottom : p .y + border < h
 
 -- RULES 4.4: the peaks inside a border, in row order; a side at most twice the border leaves no place for one
 unfoldable pub peakPlaces : CellTests → ℕ → ℕ → ℕ → ℕ → ℕ → List Place

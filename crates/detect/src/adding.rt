@@ -7,7 +7,7 @@ ghost use lib.Dec.{ltb};
 ghost use lib.IntN.{pos};
 ghost use lib.Ieee.{ofInt, binary32};
 ghost use Rattle.corner_list.specs.CornerList.{slices};
-ghost use Rattle.detect.specs.Peaks.{Inside};
+ghost use Rattle.detect.specs.Internal.{Inside};
 ghost use Rattle.detect.specs.Detect.{peaksIn, startAt, startsIn, tiesIn, PeaksAdded};
 ghost use Rattle.detect.specs.Internal.{placeOf, Searchable, Counted, PeaksListed};
 use crate::Peaks;

@@ -7,10 +7,9 @@ use lib.ListN.{length, take, drop, length-take, length-append}
 use borrow.Author.Tests.{le-ltb}
 use Rattle.lists.proofs.Buffer.{front-length}
 use Rattle.lists.specs.Buffer.{Written}
+use Rattle.lists.specs.Refusals.{unless}
 use Rattle.corner_list.specs.CornerList.{Slices, cornersOf}
 use Rattle.patch_corners.specs.declared.FrameParams.{FrameParams}
-use Rattle.patch_corners.specs.OneMap.{computedChoice}
-use Rattle.frame_pass.specs.Pass.{framePass}
 use Rattle.frame.specs.Frame.{Buffers, FrameFound}
 use Rattle.frame.specs.declared.FrameAnswer.{FrameAnswer}
 use Rattle.frame.specs.declared.FrameAnswer.the-variants.{Corners, Refused}
@@ -22,10 +21,10 @@ use Rattle.stream.specs.Answer.{FrameRead}
 use Rattle.stream.proofs.Callers.{FrameStands, frame-found, refusal-found}
 use Rattle.listing.specs.declared.Listing.{Listing}
 use Rattle.listing.specs.declared.Listing.the-variants as listing
-use Rattle.listing.specs.Text.{cornersText}
-use Rattle.listing.specs.Answer.{listing as listingOf, CornersWritten, RefusalWritten}
+use Rattle.listing.specs.Text.{cornersText, refusedText}
+use Rattle.listing.specs.Answer.{CornersWritten}
 use Rattle.listing.proofs.Texts.{listed}
-use Rattle.finder.specs.Finder.{paramsOf, programBuffers, textOf, frameText, outputOf}
+use Rattle.finder.specs.Finder.{paramsOf, programBuffers, frameText, outputOf}
 
 -- ---- a text that was written lies in the buffer
 pub written-fits : (text buffer : List ℕ) (end : ℕ) (after : List ℕ) → Written text buffer end after → end ≤ length after
@@ -39,7 +38,6 @@ module _ (b : Slices) (count : ℕ) (before : List ℕ) (r : Listing) (after : L
       record { ends = l .ends; holds = l .text }
 
   pub list-written : count ≤ 512 → (n : ℕ) → r ≡ listing.Refused n → ⊥
-  unfolding listingOf
   list-written few n e = let a = rw (le-ltb 512 count few) at (w .answer) in let z = sym a ∙ e in let no : _≡_ {A = ℕ} 0 1 = cc in omega arith
 
 -- ---- the text of a frame
@@ -62,16 +60,15 @@ module _ (h : Header) (pixels : List ℕ) (p : FrameParams) (is : p ≡ paramsOf
     corners-written before end after w = rw (finished .number, ← finished .corners) w
 
   -- or the refusal
-  pub refusal-written : (n : ℕ) → answer ≡ Refused n → (before : List ℕ) (end : ℕ) (after : List ℕ) → RefusalWritten n before end after
+  pub refusal-written : (n : ℕ) → answer ≡ Refused n → (before : List ℕ) (end : ℕ) (after : List ℕ) → Written (refusedText n) before end after
       → Written (frameText h pixels) before end after
   unfolding frameText
   refusal-written n e before end after w =
-      rw (refused-tells _ _ _ _ _ n b′ (answered (Refused n) e)) (of n (refusal-positive _ _ _ _ _ n b′ (answered (Refused n) e)) w)
+      rw (refused-tells _ _ _ _ _ n b′ (answered (Refused n) e)) (of n _ (refusal-positive _ _ _ _ _ n b′ (answered (Refused n) e)) w)
     where
-      of : (k : ℕ) → (k ≡ 0 → ⊥) → RefusalWritten k before end after
-          → Written (textOf k (framePass (paramsOf h) pixels (h .width) (h .height) (computedChoice (paramsOf h)) .corners)) before end after
-      of zero z w = absurd (z refl)
-      of (suc k) z w = record { ends = w .long; holds = w .text }
+      of : (k : ℕ) (text : List ℕ) → (k ≡ 0 → ⊥) → Written (refusedText k) before end after → Written (unless refusedText k text) before end after
+      of zero text z w = absurd (z refl)
+      of (suc k) text z w = w
 
 -- ---- the text of a stream
 module _ (input buffer : List ℕ) (answer : FrameStream) (after : List ℕ) (r : FrameRead input buffer answer after) where
@@ -90,8 +87,8 @@ module _ (input buffer : List ℕ) (answer : FrameStream) (after : List ℕ) (r 
     unfolding outputOf
     frame-listed before end out w = rw (found-frame .reading) w
 
-  pub refusal-listed : (n : ℕ) → answer ≡ stream.Refused n → (before : List ℕ) (end : ℕ) (out : List ℕ) → RefusalWritten n before end out
+  pub refusal-listed : (n : ℕ) → answer ≡ stream.Refused n → (before : List ℕ) (end : ℕ) (out : List ℕ) → Written (refusedText n) before end out
       → Written (outputOf input) before end out
   unfolding outputOf
   refusal-listed n e before end out w =
-      rw (refusal-found input buffer n after (subst (λ (a : FrameStream). FrameRead input buffer a after) e r) .0) (record { ends = w .long; holds = w .text })
+      rw (refusal-found input buffer n after (subst (λ (a : FrameStream). FrameRead input buffer a after) e r) .0) w

@@ -1,17 +1,13 @@
 -- The program `corners` as a function from its input bytes to its output bytes: reader, frame pass and listing composed.
-use Prim.Native.Nat.{ℕ, zero, suc}
-use mathlib.Core.Path.{_≡_}
+use Prim.Native.Nat.{ℕ}
 use mathlib.Core.List.{List}
-use lib.ListN.{length, replicate}
+use lib.ListN.{replicate}
 use lib.Ieee.{binary32, ofBits}
-use Rattle.lists.specs.Buffer.{front, Written}
+use Rattle.lists.specs.Refusals.{unless}
 use Rattle.float32.specs.Float32 as float32
 use Rattle.corner_list.specs.CornerList.{Slices, slices}
-use Rattle.corner_list.specs.declared.Corner.{Corner}
 use Rattle.patch_corners.specs.declared.FrameParams.{FrameParams}
-use Rattle.patch_corners.specs.OneMap.{computedChoice}
-use Rattle.frame_pass.specs.Pass.{framePass}
-use Rattle.frame.specs.Frame.{Buffers, buffers, refusalOf}
+use Rattle.frame.specs.Frame.{Buffers, buffers, params, refusalOf, passOf}
 use Rattle.stream.specs.declared.Header.{Header}
 use Rattle.stream.specs.Stream.{Reading, accepted, refused, readFrame}
 use Rattle.listing.specs.Text.{cornersText, refusedText}
@@ -19,17 +15,8 @@ use Rattle.listing.specs.Text.{cornersText, refusedText}
 -- the parameters that a header states; the floats are those of its bits, and every NaN pattern is the one NaN
 abbrev pub paramsOf : Header → FrameParams
 paramsOf h =
-    record {
-      ring = h .ring;
-      threshold = ofBits binary32 (h .«threshold_bits»);
-      window = h .window;
-      «least_neighbours» = h .«least_neighbours»;
-      «centroid_radius» = h .«centroid_radius»;
-      «merge_radius» = ofBits binary32 (h .«merge_bits»);
-      levels = h .levels;
-      «minimum_side» = h .«minimum_side»;
-      «search_radius» = h .«search_radius»;
-    }
+    params (h .ring) (ofBits binary32 (h .«threshold_bits»)) (h .window) (h .«least_neighbours») (h .«centroid_radius»)
+    (ofBits binary32 (h .«merge_bits»)) (h .levels) (h .«minimum_side») (h .«search_radius»)
 
 -- `corners` has 512 places for seeds and 512 for corners (RULES 12.4); 9,216 map cells and 3,072 level pixels are enough for 96 by 96
 abbrev pub places512 : Slices
@@ -38,16 +25,11 @@ places512 = slices (replicate 512 float32.zero) (replicate 512 float32.zero) (re
 abbrev pub programBuffers : Buffers
 programBuffers = buffers (replicate 9216 float32.zero) (replicate 3072 0) places512 places512
 
--- the text for a refusal's number, 0 for none, and the corners
-abbrev pub textOf : ℕ → List Corner → List ℕ
-textOf zero cs = cornersText cs
-textOf (suc n) cs = refusedText (suc n)
-
--- the listing of a frame
+-- the listing of a frame: the text of its corners, or of the number of its refusal
 unfoldable pub frameText : Header → List ℕ → List ℕ
 frameText h pixels =
     let p = paramsOf h in
-    textOf (refusalOf p pixels (h .width) (h .height) programBuffers) (framePass p pixels (h .width) (h .height) (computedChoice p) .corners)
+    unless refusedText (refusalOf p pixels (h .width) (h .height) programBuffers) (cornersText (passOf p pixels (h .width) (h .height) .corners))
 
 -- and of what was read
 abbrev pub readingText : Reading → List ℕ

@@ -24,8 +24,10 @@ use Rattle.patch_corners.specs.OneMap.{computedChoice}
 use Rattle.frame_pass.specs.Pass.{framePass, levelsIn, foundOf}
 use Rattle.frame_pass.specs.Refusals.{conditions}
 use Rattle.frame.specs.declared.FrameAnswer.the-variants.{Corners, Refused}
-use Rattle.frame.specs.Frame.{Buffers, tooMany, refusalOf, paddedCorners, finished, leaving, answerOf, Frame, frame, frameOf, FrameFound}
+use Rattle.frame.specs.Frame.{Buffers, tooMany, refusalOf, paddedCorners, finished, FrameFound, wiped}
+use Rattle.lists.specs.Refusals.{unless}
 use Rattle.frame.proofs.Numbers.{number-before, number-in-pass}
+use Rattle.patch_corners.specs.Clearing.{leftBy}
 
 -- corners that stand first in a buffer are read back
 own-front : {A : Type 0} (vs r : List A) → vs ++ r ≡ front vs (vs ++ r)
@@ -63,14 +65,12 @@ module _ (p : FrameParams) (img : List ℕ) (w h : ℕ) (b : Buffers) where
       omega (arith, l, result-length (p .«merge_radius») (foundOf p img w h (computedChoice p) (levelsIn p img w h)))
 
   pub finished-tells : (n t : ℕ) (b′ : Buffers) → FrameFound p img w h b (Corners n t) b′ → Finished p img w h b n t b′
-  unfolding frameOf
   finished-tells n t b′ f =
       let q = framePass p img w h (computedChoice p) in
       let none : refusalOf p img w h b ≡ 0 = sym (f .number) in
-      let is : frame (Corners n t) b′ ≡ frame (Corners (length (q .corners)) (q .ties)) (finished (above img w h (levelsIn p img w h)) q b) =
-      f .is ∙ ap (λ (k : ℕ). frame (answerOf k (length (q .corners)) (q .ties)) (leaving k (above img w h (levelsIn p img w h)) q b)) none in
-      let left = ap (λ (z : Frame). z .left) is in
-      let answer : Corners n t ≡ Corners (length (q .corners)) (q .ties) = ap (λ (z : Frame). z .answer) is in
+      let left = f .left ∙ ap (λ (k : ℕ). leftBy k (finished (above img w h (levelsIn p img w h)) q b) (wiped b) b) none in
+      let answer : Corners n t ≡ Corners (length (q .corners)) (q .ties) =
+      f .answer ∙ ap (λ (k : ℕ). unless Refused k (Corners (length (q .corners)) (q .ties))) none in
       let count : n ≡ length (q .corners) = cc in
       let tied : t ≡ q .ties = cc in
       record {
@@ -88,11 +88,9 @@ module _ (p : FrameParams) (img : List ℕ) (w h : ℕ) (b : Buffers) where
 
   -- which is none of a finished one
   pub refusal-positive : (k : ℕ) (b′ : Buffers) → FrameFound p img w h b (Refused k) b′ → k ≡ 0 → ⊥
-  unfolding frameOf
   refusal-positive k b′ f z =
       let q = framePass p img w h (computedChoice p) in
       let none : refusalOf p img w h b ≡ 0 = sym (f .number) ∙ z in
-      let is : frame (Refused k) b′ ≡ frame (Corners (length (q .corners)) (q .ties)) (finished (above img w h (levelsIn p img w h)) q b) =
-      f .is ∙ ap (λ (k : ℕ). frame (answerOf k (length (q .corners)) (q .ties)) (leaving k (above img w h (levelsIn p img w h)) q b)) none in
-      let answer : Refused k ≡ Corners (length (q .corners)) (q .ties) = ap (λ (z : Frame). z .answer) is in
+      let answer : Refused k ≡ Corners (length (q .corners)) (q .ties) =
+      f .answer ∙ ap (λ (k : ℕ). unless Refused k (Corners (length (q .corners)) (q .ties))) none in
       let no : _≡_ {A = ℕ} 0 1 = cc in omega arith

@@ -11,7 +11,7 @@ use borrow.Author.Tests.{le-ltb, ne-eqb}
 use Rattle.lists.specs.Places.{All}
 use Rattle.lists.specs.Tab.{tab}
 use Rattle.lists.specs.Buffer.{front, wipedFrom}
-use Rattle.lists.specs.Refusals.{lowest, valuesUnless}
+use Rattle.lists.specs.Refusals.{lowest, valuesUnless, unless}
 use Rattle.float32.specs.Float32 as float32
 use Rattle.pyramid.specs.Pyramid.{above}
 use Rattle.pyramid.specs.Build.{Built}
@@ -29,24 +29,24 @@ use Rattle.merge.proofs.Judged.{judged-none-off, judged-none-on}
 use Rattle.merge.proofs.Result.{result-length, merges-done}
 use Rattle.patch_corners.specs.declared.FrameParams.{FrameParams}
 use Rattle.patch_corners.specs.OneMap.{computedChoice}
-use Rattle.patch_corners.specs.Clearing.{clearedFrom}
+use Rattle.patch_corners.specs.Clearing.{clearedFrom, leftBy}
 use Rattle.frame_pass.specs.Pass.{Pass, framePass, levelsIn, seedsOf, foundOf, tiesFound}
 use Rattle.frame_pass.specs.Refusals.{conditions}
 use Rattle.frame_pass.proofs.Refusals.{Admitted, not-ten}
 use Rattle.frame.specs.declared.FrameAnswer.{FrameAnswer}
 use Rattle.frame.specs.declared.FrameAnswer.the-variants.{Corners, Refused}
 use Rattle.frame.specs.declared.search.Lists.{Lists}
-use Rattle.frame.specs.Frame.{Buffers, buffers, tooMany, refusalOf, paddedCorners, padded, finished, wiped, leaving, answerOf}
-use Rattle.frame.specs.Frame.{numberOf, valuesOf, frame, frameOf, FrameFound}
+use Rattle.frame.specs.Frame.{Buffers, buffers, tooMany, refusalOf, paddedCorners, padded, finished, wiped}
+use Rattle.frame.specs.Frame.{numberOf, valuesOf, FrameFound, wiped}
 use Rattle.frame.specs.Internal.{Searched, keptOf, Merging}
 use Rattle.frame.proofs.Numbers.{number-before, number-ten, number-none}
 use Rattle.frame.proofs.Padded.{SameLengths, padded-none, cleared-front, cleared-none}
 
-number-is : (k n t : ℕ) → numberOf (answerOf k n t) ≡ k
+number-is : (k n t : ℕ) → numberOf (unless Refused k (Corners n t)) ≡ k
 number-is zero n t = refl
 number-is (suc k) n t = refl
 
-values-are : (k n t : ℕ) → valuesOf (answerOf k n t) ≡ valuesUnless k (n ∷ t ∷ [])
+values-are : (k n t : ℕ) → valuesOf (unless Refused k (Corners n t)) ≡ valuesUnless k (n ∷ t ∷ [])
 values-are zero n t = refl
 values-are (suc k) n t = refl
 
@@ -55,15 +55,15 @@ module _ (p : FrameParams) (img : List ℕ) (w h : ℕ) (b : Buffers) where
   pass = framePass p img w h (computedChoice p)
 
   -- an answer and buffers by the number
-  found-by : (k : ℕ) → refusalOf p img w h b ≡ k → (answer : FrameAnswer) (b′ : Buffers) → answer ≡ answerOf k (length (pass .corners)) (pass .ties)
-      → b′ ≡ leaving k (above img w h (levelsIn p img w h)) pass b → FrameFound p img w h b answer b′
-  unfolding frameOf
+  found-by : (k : ℕ) → refusalOf p img w h b ≡ k → (answer : FrameAnswer) (b′ : Buffers)
+      → answer ≡ unless Refused k (Corners (length (pass .corners)) (pass .ties))
+      → b′ ≡ leftBy k (finished (above img w h (levelsIn p img w h)) pass b) (wiped b) b → FrameFound p img w h b answer b′
   found-by k e answer b′ a l = record {
-    is = ap₂ frame a l ∙ ap (λ (n : ℕ). frame (answerOf n (length (pass .corners)) (pass .ties))
-        (leaving n (above img w h (levelsIn p img w h)) pass b)) (sym e);
+    answer = a ∙ ap (λ (n : ℕ). unless Refused n (Corners (length (pass .corners)) (pass .ties))) (sym e);
     number = ap numberOf a ∙ number-is k (length (pass .corners)) (pass .ties) ∙ sym e;
     values = ap valuesOf a ∙ values-are k (length (pass .corners)) (pass .ties)
         ∙ ap (λ (n : ℕ). valuesUnless n (length (pass .corners) ∷ pass .ties ∷ [])) (sym e);
+    left = l ∙ ap (λ (n : ℕ). leftBy n (finished (above img w h (levelsIn p img w h)) pass b) (wiped b) b) (sym e);
   }
 
   -- refused before the pass

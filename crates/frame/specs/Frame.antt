@@ -1,5 +1,5 @@
--- A frame: the refusals, the answer, and every buffer after it, by one equation with the pass.
-use Prim.Native.Nat.{ℕ, zero, suc, _-_}
+-- A frame: the refusals, the answer, and every buffer after it, by equations with the pass.
+use Prim.Native.Nat.{ℕ, zero, _-_}
 use mathlib.Core.Path.{_≡_}
 use mathlib.Core.Bool.{Bool, _||_}
 use mathlib.Core.List.{List, [], _∷_, _++_, map}
@@ -7,7 +7,7 @@ use lib.ListN.{length, replicate}
 use lib.Dec.{ltb}
 use lib.Ieee.{Float}
 use Rattle.lists.specs.Buffer.{front}
-use Rattle.lists.specs.Refusals.{lowest, valuesUnless}
+use Rattle.lists.specs.Refusals.{lowest, valuesUnless, unless}
 use Rattle.float32.specs.Float32 as float32
 use Rattle.pyramid.specs.Pyramid.{above}
 use Rattle.corner_list.specs.CornerList.{Slices, slices, xOf, yOf, strengthOf, neighboursOf, placesOf}
@@ -30,17 +30,36 @@ pub record Buffers : Type 0 where
 abbrev pub buffers : List Float → List ℕ → Slices → Slices → Buffers
 buffers m levels seeds corners = record { map = m; levels = levels; seeds = seeds; corners = corners }
 
+-- parameters, in the order in which they are given
+abbrev pub params : ℕ → Float → ℕ → ℕ → ℕ → Float → ℕ → ℕ → ℕ → FrameParams
+params ring threshold window least centroid radius levels minimum search =
+    record {
+      ring = ring;
+      threshold = threshold;
+      window = window;
+      «least_neighbours» = least;
+      «centroid_radius» = centroid;
+      «merge_radius» = radius;
+      levels = levels;
+      «minimum_side» = minimum;
+      «search_radius» = search;
+    }
+
 -- ---- refusals
 
 -- 10: the seeds, or the corners before merging, do not fit their buffer; they are as many as their peaks (`NoneDropped` of frame_pass)
 abbrev pub tooMany : Pass → Buffers → Bool
 tooMany q b = ltb (placesOf (b .seeds)) (length (q .seeds)) || ltb (placesOf (b .corners)) (length (q .found))
 
+-- the pass by computed values
+abbrev pub passOf : FrameParams → List ℕ → ℕ → ℕ → Pass
+passOf p img w h = framePass p img w h (computedChoice p)
+
 -- the lowest number, 0 for none
 unfoldable pub refusalOf : FrameParams → List ℕ → ℕ → ℕ → Buffers → ℕ
 unfolding conditions framePass
 refusalOf p img w h b =
-    lowest (conditions p (length img) w h (length (b .map)) (length (b .levels)) ++ ((tooMany (framePass p img w h (computedChoice p)) b, 10) ∷ []))
+    lowest (conditions p (length img) w h (length (b .map)) (length (b .levels)) ++ ((tooMany (passOf p img w h) b, 10) ∷ []))
 
 -- ---- the buffers after
 
@@ -63,15 +82,10 @@ abbrev pub wiped : Buffers → Buffers
 wiped b = buffers (padded float32.zero [] (b .map)) (replicate (length (b .levels)) 0) (paddedCorners [] (b .seeds)) (paddedCorners [] (b .corners))
 
 -- by the number: any other refusal changes nothing
-abbrev pub leaving : ℕ → List ℕ → Pass → Buffers → Buffers
-leaving n levels q b = leftBy n (finished levels q b) (wiped b) b
+abbrev pub buffersAfter : FrameParams → List ℕ → ℕ → ℕ → Buffers → Buffers
+buffersAfter p img w h b = leftBy (refusalOf p img w h b) (finished (above img w h (levelsIn p img w h)) (passOf p img w h) b) (wiped b) b
 
 -- ---- the promise
-
--- the answer for a number, 0 for none: how many corners there are and how many ties (RULES 23.3), or the number
-abbrev pub answerOf : ℕ → ℕ → ℕ → FrameAnswer
-answerOf zero n ties = Corners n ties
-answerOf (suc k) n ties = Refused (suc k)
 
 -- the number (RULES 2.2) and the values of each case
 abbrev pub numberOf : FrameAnswer → ℕ
@@ -82,24 +96,9 @@ abbrev pub valuesOf : FrameAnswer → List ℕ
 valuesOf (Corners n ties) = n ∷ ties ∷ []
 valuesOf (Refused k) = []
 
--- an answer with the buffers that it leaves
-pub record Frame : Type 0 where
-  pub answer : FrameAnswer
-  pub left : Buffers
-
-abbrev pub frame : FrameAnswer → Buffers → Frame
-frame answer left = record { answer = answer; left = left }
-
-unfoldable pub frameOf : FrameParams → List ℕ → ℕ → ℕ → Buffers → Frame
-unfolding refusalOf framePass
-frameOf p img w h b =
-    let q = framePass p img w h (computedChoice p) in
-    let n = refusalOf p img w h b in
-    frame (answerOf n (length (q .corners)) (q .ties)) (leaving n (above img w h (levelsIn p img w h)) q b)
-
--- what `find_corners` promises: answer and buffers by one equation, and the answer's number and values
-pub record FrameFound (p : FrameParams) (img : List ℕ) (w h : ℕ) (b : Buffers) (answer : FrameAnswer) (b′ : Buffers) : Type 0 where
-  pub is : frame answer b′ ≡ frameOf p img w h b
-  pub number : numberOf answer ≡ refusalOf p img w h b
-  pub values : let q = framePass p img w h (computedChoice p) in
-      valuesOf answer ≡ valuesUnless (refusalOf p img w h b) (length (q .corners) ∷ q .ties ∷ [])
+-- what `find_corners` promises of the answer, how many corners there are and how many ties (RULES 23.3), its number and values, and the buffers after
+pub record FrameFound (p : FrameParams) (img : List ℕ) (w h : ℕ) (b : Buffers) (r : FrameAnswer) (b′ : Buffers) : Type 0 where
+  pub answer : r ≡ unless Refused (refusalOf p img w h b) (Corners (length (passOf p img w h .corners)) (passOf p img w h .ties))
+  pub number : numberOf r ≡ refusalOf p img w h b
+  pub values : valuesOf r ≡ valuesUnless (refusalOf p img w h b) (length (passOf p img w h .corners) ∷ passOf p img w h .ties ∷ [])
+  pub left : b′ ≡ buffersAfter p img w h b

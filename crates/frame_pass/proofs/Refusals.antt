@@ -8,7 +8,8 @@ use mathlib.Core.List.{List}
 use lib.ListN.{length}
 use borrow.Author.Tests.{ltb-false, not-false, lt-ltb, le-ltb, le-leb}
 use Rattle.lists.specs.Places.{All}
-use Rattle.lists.specs.Refusals.{lowest, Sized}
+use Rattle.lists.specs.Refusals.{lowest}
+use Rattle.lists.specs.Internal.{Sized}
 use Rattle.lists.proofs.Tests.{and-all}
 use Rattle.lists.proofs.Refusals.{all-clear, lowest-le, sized-of}
 use Rattle.ring.specs.Ring.{isRing}

@@ -5,7 +5,6 @@ use mathlib.Core.Path.{_≡_, sym, ap, _∙_}
 use mathlib.Core.List.{List, [], _∷_, _++_}
 use lib.ListN.{length, getD, length-append}
 use lib.Seq.{getD-at}
-use borrow.Author.Tests.{eq-eqb}
 use Rattle.lists.specs.Buffer.{front}
 use Rattle.lists.specs.Refusals.{valuesUnless}
 use Rattle.stream.specs.declared.Header.{Header}
@@ -27,7 +26,7 @@ ends-with-4 h pixels n e =
 module _ (h : Header) (pixels before : List ℕ) (r : FrameWriting) (after : List ℕ) (p : FrameWritten h pixels before r after) where
   -- a number 0: the stream stands first
   pub stream-stands : refusalOf h pixels (length before) ≡ 0 → after ≡ front (frameBytes h pixels) before
-  stream-stands z = p .out ∙ rw (eq-eqb (refusalOf h pixels (length before)) 0 z)
+  stream-stands z = p .out ∙ rw z
 
   -- a stream that was written: nothing was refused, and so many bytes are the stream
   pub record StreamWritten (n : ℕ) : Type 0 where

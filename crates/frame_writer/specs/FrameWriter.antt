@@ -1,13 +1,13 @@
 -- The frame stream written (RULES 30): what is refused, and the promise of `write_frame`. The stream itself is `frameBytes` of stream.
-use Prim.Native.Nat.{ℕ, zero, suc}
+use Prim.Native.Nat.{ℕ}
 use mathlib.Core.Path.{_≡_}
-use mathlib.Core.Bool.{Bool, cond, _||_}
+use mathlib.Core.Bool.{Bool, _||_}
 use mathlib.Core.List.{List, [], _∷_}
 use lib.ListN.{length}
-use lib.Dec.{eqb, ltb}
+use lib.Dec.{ltb}
 use lib.Ieee.{binary32, ofBits}
 use Rattle.lists.specs.Buffer.{front}
-use Rattle.lists.specs.Refusals.{lowest, valuesUnless, isMisfit}
+use Rattle.lists.specs.Refusals.{lowest, unless, valuesUnless, resultOr, isMisfit}
 use Rattle.merge_radius.specs.MergeRadius.{radiusOutside}
 use Rattle.stream.specs.declared.Header.{Header}
 use Rattle.stream.specs.Stream.{sidesOutside, rangeOutside}
@@ -33,11 +33,6 @@ unfoldable pub refusalOf : Header → List ℕ → ℕ → ℕ
 unfolding conditions
 refusalOf h pixels places = lowest (conditions h pixels places)
 
--- the answer of each number: 0 is a stream of n bytes, any other a refusal
-abbrev pub answerOf : ℕ → ℕ → FrameWriting
-answerOf zero n = Written n
-answerOf (suc k) n = Refused (suc k)
-
 -- the number and the values of each case: 0 for no refusal, and how long the stream is
 abbrev pub numberOf : FrameWriting → ℕ
 numberOf (Written n) = 0
@@ -49,7 +44,7 @@ valuesOf (Refused k) = []
 
 -- the promise of `write_frame`: the stream stands first in the buffer, which is as it was behind it, and whole where it is refused (RULES 30.3)
 pub record FrameWritten (h : Header) (pixels before : List ℕ) (r : FrameWriting) (after : List ℕ) : Type 0 where
-  pub answer : r ≡ answerOf (refusalOf h pixels (length before)) (length (frameBytes h pixels))
+  pub answer : r ≡ unless Refused (refusalOf h pixels (length before)) (Written (length (frameBytes h pixels)))
   pub number : numberOf r ≡ refusalOf h pixels (length before)
   pub values : valuesOf r ≡ valuesUnless (refusalOf h pixels (length before)) (length (frameBytes h pixels) ∷ [])
-  pub out : after ≡ cond (eqb (refusalOf h pixels (length before)) 0) (front (frameBytes h pixels) before) before
+  pub out : after ≡ resultOr (refusalOf h pixels (length before)) (front (frameBytes h pixels) before) before

@@ -4,7 +4,8 @@ use mathlib.Core.Path.{_≡_, sym, _∙_}
 use mathlib.Core.Bool.{Bool, true, false, cond}
 use mathlib.Core.List.{[]}
 use borrow.Author.Tests.{le-ltb, eq-eqb}
-use Rattle.lists.specs.Refusals.{isLarge, isMisfit, Sized}
+use Rattle.lists.specs.Refusals.{isLarge, isMisfit}
+use Rattle.lists.specs.Internal.{Sized}
 use Rattle.lists.proofs.Refusals.{sized-none}
 use Rattle.image_size.specs.ImageSize.{refusalOf}
 

@@ -7,7 +7,7 @@ use mathlib.Core.List.{List, [], _∷_, _++_}
 use lib.ListN.{length}
 use borrow.Author.Tests.{lt-ltb, le-ltb}
 use Rattle.lists.specs.Tab.{tab}
-use Rattle.lists.specs.Buffer.{front}
+use Rattle.lists.specs.Buffer.{front, Written}
 use Rattle.lists.proofs.Tab.{length-tab}
 use Rattle.lists.proofs.Buffer.{placed-first}
 use Rattle.corner_list.specs.declared.Corner.{Corner}
@@ -15,7 +15,7 @@ use Rattle.corner_list.specs.CornerList.{Slices, cornersOf}
 use Rattle.listing.specs.declared.Listing.the-variants.{Text, Refused}
 use Rattle.listing.specs.Text.{fields, line, cornersWord, heading, cornersText}
 use Rattle.listing.specs.Internal.{longest, Wrote}
-use Rattle.listing.specs.Answer.{listing, CornersWritten}
+use Rattle.listing.specs.Answer.{CornersWritten}
 use Rattle.listing.proofs.Appending.{wrote-length, wrote-more, wrote-as, wrote-none, wrote-leaves}
 use Rattle.listing.proofs.Lines.{line-long, heading-long, lines, lines-more}
 
@@ -51,23 +51,21 @@ module _ (f : ℕ → Corner) (count start : ℕ) (before : List ℕ) (i at : �
       wrote-as (ap₂ (λ (n k : ℕ). heading cornersWord n ++ lines (tab k f)) (sym (length-tab count f)) done) (wrote-more w (s .wrote))
 
 -- ---- the promises
-pub wrote-first : {text : List ℕ} {end : ℕ} {before after : List ℕ} → Wrote text 0 before end after → (end ≡ length text) × (after ≡ front text before)
-wrote-first {text} {end} {before} w = (omega (arith, w .ends), w .holds ∙ placed-first text before)
+pub wrote-first : {text : List ℕ} {end : ℕ} {before after : List ℕ} → Wrote text 0 before end after → Written text before end after
+wrote-first {text} {end} {before} w = record { ends = omega (arith, w .ends); holds = w .holds ∙ placed-first text before }
 
 module _ (b : Slices) (count : ℕ) (before : List ℕ) where
   pub too-many : 512 < count → CornersWritten b count before (Refused 10) before
-  unfolding listing
   too-many h =
       let t = lt-ltb 512 count h in
       record { answer = rw t; number = rw t; values = rw t; text = rw t }
 
   pub all-written : count ≤ 512 → (end : ℕ) (after : List ℕ) → Wrote (cornersText (cornersOf b count)) 0 before end after
       → CornersWritten b count before (Text end) after
-  unfolding listing
   all-written h end after w =
       let t = le-ltb 512 count h in
       let is = wrote-first w in
-      record { answer = rw t (ap Text (is .0)); number = rw t; values = rw t (ap (λ (n : ℕ). n ∷ []) (is .0)); text = rw t (is .1) }
+      record { answer = rw t (ap Text (is .ends)); number = rw t; values = rw t (ap (λ (n : ℕ). n ∷ []) (is .ends)); text = rw t (is .holds) }
 
 -- ---- what a caller learns: a text was written, and stands first in the buffer
 pub record Listed (b : Slices) (count : ℕ) (before : List ℕ) (end : ℕ) (after : List ℕ) : Type 0 where
@@ -76,7 +74,6 @@ pub record Listed (b : Slices) (count : ℕ) (before : List ℕ) (end : ℕ) (af
 
 pub listed : (b : Slices) (count : ℕ) (before : List ℕ) (end : ℕ) (after : List ℕ) → CornersWritten b count before (Text end) after
     → Listed b count before end after
-unfolding listing
 listed b count before end after w =
     elim (decLt 512 count) [
       | yes l ↦ absurd (let t = lt-ltb 512 count l in let r = rw t at (w .answer) in let z : _≡_ {A = ℕ} 0 1 = cc in let no : ⊥ = omega arith in no)

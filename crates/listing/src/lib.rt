@@ -4,10 +4,11 @@ ghost use mathlib.Core.List.{[], _∷_};
 ghost use Prim.Native.Nat.{_+_, _*_, _≤_, _<_};
 ghost use lib.Ieee.{binary32, toBits};
 ghost use lib.ListN.{length};
+ghost use Rattle.lists.specs.Buffer.{Written};
 ghost use Rattle.corner_list.specs.CornerList.{slices, cornersOf};
-ghost use Rattle.listing.specs.Text.{digitOf, digits, places, decimal, hexadecimal, unitsOf, fields, line, heading, cornersText};
+ghost use Rattle.listing.specs.Text.{digitOf, digits, places, decimal, hexadecimal, unitsOf, fields, line, heading, cornersText, refusedText};
 ghost use Rattle.listing.specs.Internal.{longest, Wrote, ended};
-ghost use Rattle.listing.specs.Answer.{CornersWritten, RefusalWritten};
+ghost use Rattle.listing.specs.Answer.{CornersWritten};
 
 // The longest text: a heading of 12 bytes and 512 lines of 80.
 pub const LONGEST: usize = 40972;
@@ -182,7 +183,7 @@ pub fn write_corners(
 
 // Writes the text of a refusal.
 pub fn write_refusal(number: u8, out: &mut [u8; LONGEST]) -> usize
-    ensures { λ r. ⌜ RefusalWritten number (now (out .entry)) r (now (out .exit)) ⌝ }
+    ensures { λ r. ⌜ Written (refusedText number) (now (out .entry)) r (now (out .exit)) ⌝ }
 {
     put_heading(out, b"refused ", number as usize)
 }

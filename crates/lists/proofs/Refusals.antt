@@ -7,7 +7,8 @@ use mathlib.Core.List.{List, [], _∷_, _++_}
 use lib.Dec.{ltb, eqb}
 use borrow.Author.Tests.{ltb-false, eqb-true, not-false}
 use Rattle.lists.specs.Places.{All}
-use Rattle.lists.specs.Refusals.{lowest, isLarge, isMisfit, Sized}
+use Rattle.lists.specs.Refusals.{lowest, isLarge, isMisfit}
+use Rattle.lists.specs.Internal.{Sized}
 use Rattle.lists.proofs.Tests.{or-neither}
 
 -- no number: the first condition does not hold, and none behind it

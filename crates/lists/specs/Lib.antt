@@ -2,3 +2,4 @@ pub mod Tab
 pub mod Places
 pub mod Buffer
 pub mod Refusals
+pub mod Internal

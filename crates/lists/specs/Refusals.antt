@@ -1,6 +1,5 @@
 -- Numbered conditions of refusal, the lowest first (RULES 2.3), an answer's values by its number, and the two conditions on every image and every map.
-use Prim.Native.Nat.{ℕ, zero, suc, _*_, _≤_}
-use mathlib.Core.Path.{_≡_}
+use Prim.Native.Nat.{ℕ, zero, suc, _*_}
 use mathlib.Core.Bool.{Bool, cond, not, _||_}
 use mathlib.Core.List.{List, [], _∷_}
 use lib.Dec.{ltb, eqb}
@@ -32,9 +31,3 @@ isLarge w h = ltb 4096 w || ltb 4096 h
 -- 2: the length of an image or a map is not width × height (RULES 2.2)
 abbrev pub isMisfit : ℕ → ℕ → ℕ → Bool
 isMisfit size w h = not (eqb size (w * h))
-
--- neither: an image or a map of w by h
-pub record Sized (size w h : ℕ) : Type 0 where
-  pub narrow : w ≤ 4096
-  pub low : h ≤ 4096
-  pub sized : size ≡ w * h

@@ -6,7 +6,7 @@ use mathlib.Core.Bool.{true, false}
 use mathlib.Core.List.{List, [], _∷_}
 use lib.ListN.{length}
 use lib.Ieee.{Float}
-use Rattle.lists.specs.Refusals.{valuesUnless}
+use Rattle.lists.specs.Refusals.{valuesUnless, unless, resultOr}
 use Rattle.corner_list.specs.declared.Corner.{Corner}
 use Rattle.corner_list.specs.CornerList.{Slices, slices, placesOf, cornersOf, frontCorners}
 use Rattle.corner_list.proofs.Corners.{corners-length, corners-same}
@@ -15,7 +15,7 @@ use Rattle.merge.specs.declared.Merged.{Merged}
 use Rattle.merge.specs.declared.Merged.the-variants.{Kept, Refused}
 use Rattle.merge_radius.specs.MergeRadius.{isOff}
 use Rattle.merge.specs.Grid.{gridOf, joins}
-use Rattle.merge.specs.Merge.{merged, resultOf, answerOf, valuesOf, bufferOf, Leaves, Merges}
+use Rattle.merge.specs.Merge.{merged, resultOf, valuesOf, Leaves, Merges}
 use Rattle.merge.specs.Internal.{Left}
 
 -- ---- what is left of a list: all of it, as it came, or what merging leaves
@@ -43,7 +43,7 @@ pub left-copied : (b : Slices) (n : ℕ) (d d′ : Slices) → d′ ≡ frontCor
 left-copied b n d d′ e = record { count = sym (corners-length b n); buffer = e }
 
 -- ---- the answer
-pub values-are : (k n : ℕ) → valuesOf (answerOf k n) ≡ valuesUnless k (n ∷ [])
+pub values-are : (k n : ℕ) → valuesOf (unless Refused k (Kept n)) ≡ valuesUnless k (n ∷ [])
 values-are zero n = refl
 values-are (suc k) n = refl
 
@@ -51,19 +51,19 @@ module _ (number : ℕ) (left : List Corner) (b : Slices) where
   pub leaves-refused : (k : ℕ) → k ≡ number → (k ≡ 0 → ⊥) → Leaves number left b (Refused k) b
   leaves-refused zero e h = absurd (h refl)
   leaves-refused (suc k) e h = record {
-    answer = ap (λ (m : ℕ). answerOf m (length left)) e;
+    answer = ap (λ (m : ℕ). unless Refused m (Kept (length left))) e;
     number = e;
     values = ap (λ (m : ℕ). valuesUnless m (length left ∷ [])) e;
-    buffer = ap (λ (m : ℕ). bufferOf m left b) e;
+    buffer = ap (λ (m : ℕ). resultOr m (frontCorners left b) b) e;
   }
 
   pub leaves-kept : (k n : ℕ) (b′ : Slices) → k ≡ number → k ≡ 0 → Left left b n b′ → Leaves number left b (Kept n) b′
   leaves-kept k n b′ e z l =
       let f : zero ≡ number = sym z ∙ e in record {
-        answer = ap Kept (l .count) ∙ ap (λ (m : ℕ). answerOf m (length left)) f;
+        answer = ap Kept (l .count) ∙ ap (λ (m : ℕ). unless Refused m (Kept (length left))) f;
         number = f;
         values = ap (λ (n : ℕ). n ∷ []) (l .count) ∙ ap (λ (m : ℕ). valuesUnless m (length left ∷ [])) f;
-        buffer = l .buffer ∙ ap (λ (m : ℕ). bufferOf m left b) f;
+        buffer = l .buffer ∙ ap (λ (m : ℕ). resultOr m (frontCorners left b) b) f;
       }
 
 -- a buffer of its own places

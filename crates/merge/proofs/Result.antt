@@ -10,12 +10,13 @@ use Rattle.lists.specs.Places.{All}
 use Rattle.corner_list.specs.declared.Corner.{Corner}
 use Rattle.corner_list.specs.CornerList.{Slices, cornersOf, frontCorners}
 use Rattle.merge.specs.declared.Merged.{Merged}
-use Rattle.merge.specs.declared.Merged.the-variants.{Kept}
+use Rattle.merge.specs.declared.Merged.the-variants.{Kept, Refused}
 use Rattle.merge_radius.specs.MergeRadius.{isOff}
 use Rattle.merge.specs.Refusals.{refusalOf}
 use Rattle.merge.specs.Grid.{gridOf, joins}
-use Rattle.merge.specs.Merge.{stronger, settle, merged, resultOf, answerOf, bufferOf, Leaves, Merges}
+use Rattle.merge.specs.Merge.{stronger, settle, merged, resultOf, Leaves, Merges}
 use Rattle.merge.proofs.Settle.{settle-one}
+use Rattle.lists.specs.Refusals.{unless, resultOr}
 
 -- ---- no corner is added
 merged-length : (j : Corner → Corner → Bool) (kept cs : List Corner) → length (merged j kept cs) ≤ length kept + length cs
@@ -63,7 +64,7 @@ module _ (P : Corner → Type 0) where
 pub leaves-done : (number : ℕ) (left : List Corner) (b : Slices) (answer : Merged) (b′ : Slices) → number ≡ 0 → Leaves number left b answer b′
     → (answer ≡ Kept (length left)) × (b′ ≡ frontCorners left b)
 leaves-done number left b answer b′ none m =
-    (m .answer ∙ ap (λ (k : ℕ). answerOf k (length left)) none, m .buffer ∙ ap (λ (k : ℕ). bufferOf k left b) none)
+    (m .answer ∙ ap (λ (k : ℕ). unless Refused k (Kept (length left))) none, m .buffer ∙ ap (λ (k : ℕ). resultOr k (frontCorners left b) b) none)
 
 pub merges-done : (radius : Float) (places count : ℕ) (b b′ : Slices) (answer : Merged) (cs : List Corner) → cornersOf b count ≡ cs
     → refusalOf radius places count b ≡ 0 → Merges radius places count b answer b′

@@ -9,15 +9,15 @@ use lib.Dec.{ltb}
 use borrow.Author.Tests.{lt-ltb, le-ltb, ltb-false}
 use lib.Ieee.{Float}
 use Rattle.lists.specs.Places.{any}
-use Rattle.lists.specs.Refusals.{lowest, unless}
+use Rattle.lists.specs.Refusals.{lowest, unless, resultOr}
 use Rattle.corner_list.specs.declared.Corner.{Corner}
-use Rattle.corner_list.specs.CornerList.{Slices, placesOf, cornerAt, cornersOf}
+use Rattle.corner_list.specs.CornerList.{Slices, placesOf, cornerAt, cornersOf, frontCorners}
 use Rattle.corner_list.proofs.Corners.{corners-front, corners-behind}
 use Rattle.merge_radius.specs.MergeRadius.{isOff, radiusOutside}
 use Rattle.merge.specs.declared.Merged.{Merged}
-use Rattle.merge.specs.declared.Merged.the-variants.{Kept}
+use Rattle.merge.specs.declared.Merged.the-variants.{Kept, Refused}
 use Rattle.merge.specs.Refusals.{isOutside, refusalOf}
-use Rattle.merge.specs.Merge.{resultOf, answerOf, numberOf, bufferOf, Merges}
+use Rattle.merge.specs.Merge.{resultOf, numberOf, Merges}
 use Rattle.merge.specs.Apart.{refusalApart, MergedApart}
 
 -- ---- the number
@@ -95,7 +95,7 @@ module _ (radius : Float) (count : ℕ) (b d : Slices) (r : Merged) (d′ : Slic
   left = resultOf radius (cornersOf b count)
 
   -- behind the list the separate buffer is as it was
-  behind-by : (k n : ℕ) → answerOf k (length left) ≡ Kept n → (i : ℕ) → n ≤ i → cornerAt (bufferOf k left d) i ≡ cornerAt d i
+  behind-by : (k n : ℕ) → unless Refused k (Kept (length left)) ≡ Kept n → (i : ℕ) → n ≤ i → cornerAt (resultOr k (frontCorners left d) d) i ≡ cornerAt d i
   behind-by zero n e i h = let many : n ≡ length left = cc in corners-behind left d i (omega arith)
   behind-by (suc k) n e i h = refl
 
@@ -107,17 +107,18 @@ module _ (radius : Float) (count : ℕ) (b d : Slices) (r : Merged) (d′ : Slic
   module _ (m : Merged) (b′ : Slices) (own : Merges radius (placesOf b) count b m b′) where
     -- the count fits the separate buffer: the same answer
     pub same-answer : count ≤ placesOf d → r ≡ m
-    same-answer h = apart .answer ∙ ap (λ (k : ℕ). answerOf k (length left)) (apart-as-own radius (placesOf d) count b h) ∙ sym (own .answer)
+    same-answer h = apart .answer ∙ ap (λ (k : ℕ). unless Refused k (Kept (length left))) (apart-as-own radius (placesOf d) count b h) ∙ sym (own .answer)
 
     -- and the same list
-    list-by : (k n : ℕ) → answerOf k (length left) ≡ Kept n → cornersOf (bufferOf k left d) n ≡ cornersOf (bufferOf k left b) n
+    list-by : (k n : ℕ) → unless Refused k (Kept (length left)) ≡ Kept n
+        → cornersOf (resultOr k (frontCorners left d) d) n ≡ cornersOf (resultOr k (frontCorners left b) b) n
     list-by zero n e = let many : n ≡ length left = cc in corners-front left d n many ∙ sym (corners-front left b n many)
     list-by (suc k) n e = cc
 
     pub same-list : count ≤ placesOf d → (n : ℕ) → r ≡ Kept n → cornersOf d′ n ≡ cornersOf b′ n
     same-list h n e =
         ap (λ (s : Slices). cornersOf s n) (apart .buffer)
-        ∙ ap (λ (k : ℕ). cornersOf (bufferOf k left d) n) (apart-as-own radius (placesOf d) count b h)
+        ∙ ap (λ (k : ℕ). cornersOf (resultOr k (frontCorners left d) d) n) (apart-as-own radius (placesOf d) count b h)
         ∙ list-by (refusalOf radius (placesOf b) count b) n (sym (own .answer) ∙ sym (same-answer h) ∙ e)
         ∙ ap (λ (s : Slices). cornersOf s n) (sym (own .buffer))
 

@@ -1,29 +1,19 @@
 -- Merging apart (RULES 25): the list that merging a buffer would leave, written into a separate buffer. The buffer that it is made of is only read.
 use Prim.Native.Nat.{ℕ, min}
-use mathlib.Core.Bool.{not, _&&_, _||_}
-use mathlib.Core.List.{[], _∷_}
+use mathlib.Core.Bool.{_||_}
 use lib.Dec.{ltb}
 use lib.Ieee.{Float}
-use Rattle.lists.specs.Places.{any}
 use Rattle.lists.specs.Refusals.{lowest}
 use Rattle.corner_list.specs.CornerList.{Slices, placesOf, cornersOf}
-use Rattle.merge_radius.specs.MergeRadius.{isOff, radiusOutside}
-use Rattle.merge.specs.Refusals.{isOutside}
 use Rattle.merge.specs.Merge.{resultOf, Leaves}
 use Rattle.merge.specs.declared.Merged.{Merged}
+use Rattle.merge.specs.Refusals.{conditions}
 
--- The number (RULES 2.2), 0 for none, of merging the first `count` corners of a buffer b into a separate buffer of so many places:
--- 4: a coordinate of the counted corners that b has is not finite or outside 0..4,096, however short the separate buffer
--- 5: the radius is outside 1/64..4,096
--- 10: b or the separate buffer has fewer places than the stated count, however many corners would be left
--- With an off radius only 10 is judged.
+-- the number (RULES 2.2), 0 for none, of merging the first `count` corners of a buffer b into a separate buffer of so many places: 4 of the counted
+-- corners that b has, however short the separate buffer; 10 where either has fewer places than the stated count, however many corners would be left
 unfoldable pub refusalApart : Float → ℕ → ℕ → Slices → ℕ
 refusalApart radius places count b =
-    lowest
-    ((not (isOff radius) && any isOutside (cornersOf b (min count (placesOf b))), 4)
-    ∷ (radiusOutside radius, 5)
-    ∷ (ltb (placesOf b) count || ltb places count, 10)
-    ∷ [])
+    lowest (conditions radius (cornersOf b (min count (placesOf b))) (ltb (placesOf b) count || ltb places count))
 
 -- What merging the first `count` corners of a buffer b apart promises of the answer, its number and values, and of the separate buffer d after: the
 -- list that is left of b's corners first, and behind it as it was; where refused, as it was. Of b it has nothing to promise: it is not written to,

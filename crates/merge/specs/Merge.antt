@@ -1,12 +1,12 @@
 -- Merging corners (merge.rs): each corner joins the first of the kept ones that is near and in a neighbouring cell of the grid, and replaces it
 -- if it is strictly stronger; where there is none it is kept.
-use Prim.Native.Nat.{ℕ, zero, suc}
+use Prim.Native.Nat.{ℕ}
 use mathlib.Core.Path.{_≡_}
 use mathlib.Core.Bool.{Bool, cond}
 use mathlib.Core.List.{List, [], _∷_}
 use lib.ListN.{length}
 use lib.Ieee.{Float, lt}
-use Rattle.lists.specs.Refusals.{valuesUnless}
+use Rattle.lists.specs.Refusals.{valuesUnless, unless, resultOr}
 use Rattle.corner_list.specs.declared.Corner.{Corner}
 use Rattle.corner_list.specs.CornerList.{Slices, cornersOf, frontCorners}
 use Rattle.merge_radius.specs.MergeRadius.{isOff}
@@ -37,11 +37,6 @@ resultOf radius cs = cond (isOff radius) cs (merged (joins (gridOf radius cs)) [
 
 -- ---- the promise
 
--- the answer for a number, 0 for none: how many corners are left, or the number
-abbrev pub answerOf : ℕ → ℕ → Merged
-answerOf zero n = Kept n
-answerOf (suc k) n = Refused (suc k)
-
 -- the number (RULES 2.2) and the values of each case
 abbrev pub numberOf : Merged → ℕ
 numberOf (Kept n) = 0
@@ -51,17 +46,13 @@ abbrev pub valuesOf : Merged → List ℕ
 valuesOf (Kept n) = n ∷ []
 valuesOf (Refused k) = []
 
--- the buffer after: what is left first, and behind it as it was; where refused, as it was
-abbrev pub bufferOf : ℕ → List Corner → Slices → Slices
-bufferOf zero left b = frontCorners left b
-bufferOf (suc k) left b = b
-
--- What a call promises that leaves the corners `left`, or is refused by the number k: of the answer, its number and values, and the buffer after
+-- What a call promises that leaves the corners `left`, or is refused by the number k: of the answer, how many are left, its number and values, and the
+-- buffer after: what is left first, and behind it as it was; where refused, as it was
 pub record Leaves (k : ℕ) (left : List Corner) (b : Slices) (r : Merged) (b′ : Slices) : Type 0 where
-  pub answer : r ≡ answerOf k (length left)
+  pub answer : r ≡ unless Refused k (Kept (length left))
   pub number : numberOf r ≡ k
   pub values : valuesOf r ≡ valuesUnless k (length left ∷ [])
-  pub buffer : b′ ≡ bufferOf k left b
+  pub buffer : b′ ≡ resultOr k (frontCorners left b) b
 
 -- merging the first `count` corners of a buffer of so many places
 abbrev pub Merges : Float → ℕ → ℕ → Slices → Merged → Slices → Type 0

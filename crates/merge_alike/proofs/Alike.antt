@@ -2,7 +2,7 @@
 -- Assumes nothing.
 use Prim.Native.Nat.{ℕ, min, zero, suc}
 use native.Mathlib.Omega.{arith}
-use mathlib.Core.Path.{_≡_, refl, sym, ap, ap₂, _∙_, subst}
+use mathlib.Core.Path.{_≡_, refl, sym, ap, _∙_}
 use mathlib.Core.Bool.{Bool, true, false}
 use mathlib.Core.List.{List}
 use lib.ListN.{length}
@@ -10,24 +10,25 @@ use lib.Ieee.{Float}
 use Rattle.lists.specs.Places.{All}
 use Rattle.lists.proofs.Members.{all-map, all-both}
 use Rattle.corner_list.specs.declared.Corner.{Corner}
-use Rattle.corner_list.specs.CornerList.{Slices, placesOf, cornersOf}
+use Rattle.corner_list.specs.CornerList.{Slices, placesOf, cornersOf, frontCorners}
 use Rattle.merge_radius.specs.MergeRadius.{isOff}
 use Rattle.merge.specs.declared.Merged.{Merged}
-use Rattle.merge.specs.declared.Merged.the-variants.{Kept}
+use Rattle.merge.specs.declared.Merged.the-variants.{Kept, Refused}
 use Rattle.merge.specs.Refusals.{refusalOf}
-use Rattle.merge.specs.Merge.{resultOf, answerOf, numberOf, bufferOf, Leaves, Merges}
+use Rattle.merge.specs.Merge.{resultOf, numberOf, Leaves, Merges}
 use Rattle.merge.proofs.Judged.{judged-fits, judged-allowed}
 use Rattle.merge_naive.specs.MergeNaive.{naiveOf, MergesNaive}
 use Rattle.merge_alike.specs.Alike.{IsPower, OnMultiples}
-use Rattle.merge_alike.proofs.Multiples.{Placed, placed}
+use Rattle.merge_alike.proofs.Multiples.{placed}
 use Rattle.merge_alike.proofs.Lists.{merged-alike}
+use Rattle.lists.specs.Refusals.{unless, resultOr}
 
 -- ---- two calls with one number, that leave the same where it is 0
 module _ (k : ℕ) (left left′ : List Corner) (b : Slices) (r s : Merged) (b₁ b₂ : Slices) (p : Leaves k left b r b₁) (q : Leaves k left′ b s b₂) where
   leaves-alike : (k ≡ 0 → left ≡ left′) → (r ≡ s) × (b₁ ≡ b₂)
   leaves-alike h = (
-    p .answer ∙ by-number k (λ m l. answerOf m (length l)) (λ m l l′. refl) h ∙ sym (q .answer),
-    p .buffer ∙ by-number k (λ m l. bufferOf m l b) (λ m l l′. refl) h ∙ sym (q .buffer),
+    p .answer ∙ by-number k (λ m l. unless Refused m (Kept (length l))) (λ m l l′. refl) h ∙ sym (q .answer),
+    p .buffer ∙ by-number k (λ m l. resultOr m (frontCorners l b) b) (λ m l l′. refl) h ∙ sym (q .buffer),
   )
     where
       -- where refused, whatever would be left

@@ -7,16 +7,17 @@ use lib.ListN.{length, take, getD, length-map, List·getD-map}
 use lib.Seq.{length-take-le, ext-getD, getD-take}
 use lib.Ieee.{Float}
 use Rattle.lists.specs.Buffer.{front}
-use Rattle.lists.specs.Refusals.{valuesUnless}
+use Rattle.lists.specs.Refusals.{valuesUnless, unless, resultOr}
 use Rattle.lists.proofs.Buffer.{map-front}
 use Rattle.corner_list.specs.declared.Corner.{Corner}
 use Rattle.corner_list.specs.CornerList.{Slices, slices, xOf, yOf, strengthOf, neighboursOf, placesOf, cornerAt, cornersOf, frontCorners}
 use Rattle.corner_list.proofs.Corners.{slices-alike, corners-length, corners-at}
 use Rattle.merge.specs.declared.Merged.{Merged}
-use Rattle.merge.specs.Merge.{resultOf, refusalOf, answerOf, bufferOf, Merges}
+use Rattle.merge.specs.Merge.{resultOf, refusalOf, Merges}
 use Rattle.merge.proofs.Judged.{judged-fits}
-use Rattle.merge_slice.specs.MergeSlice.{sharedPlaces, refusalFor, cornersAfter, MergesSlice}
+use Rattle.merge_slice.specs.MergeSlice.{refusalFor, MergesSlice}
 use Rattle.merge_slice.proofs.Turns.{nowhere, take-counted}
+use Rattle.merge.specs.declared.Merged.the-variants.{Kept, Refused}
 
 -- ---- the corners of a slice as four slices hold them: the first n, those that stand first, and how many there are
 abbrev pub columns : List Corner → Slices
@@ -69,15 +70,15 @@ module _ (radius : Float) (count : ℕ) (cs : List Corner) where
   same-result e =
       ap (resultOf radius) (sym (columns-corners cs count (omega (arith, columns-places cs, judged-fits radius (placesOf (columns cs)) count (columns cs) e))))
 
-  same-answer : (k : ℕ) → number ≡ k → answerOf k (length left) ≡ answerOf k (length left-four)
-  same-answer zero e = ap (λ (l : List Corner). answerOf 0 (length l)) (same-result e)
+  same-answer : (k : ℕ) → number ≡ k → unless Refused k (Kept (length left)) ≡ unless Refused k (Kept (length left-four))
+  same-answer zero e = ap (λ (l : List Corner). unless Refused 0 (Kept (length l))) (same-result e)
   same-answer (suc k) e = refl
 
   same-values : (k : ℕ) → number ≡ k → valuesUnless k (length left ∷ []) ≡ valuesUnless k (length left-four ∷ [])
   same-values zero e = ap (λ (l : List Corner). length l ∷ []) (same-result e)
   same-values (suc k) e = refl
 
-  same-buffer : (k : ℕ) → number ≡ k → columns (cornersAfter k left cs) ≡ bufferOf k left-four (columns cs)
+  same-buffer : (k : ℕ) → number ≡ k → columns (resultOr k (front left cs) cs) ≡ resultOr k (frontCorners left-four (columns cs)) (columns cs)
   same-buffer zero e = sym (columns-front left cs) ∙ ap (λ (l : List Corner). frontCorners l (columns cs)) (same-result e)
   same-buffer (suc k) e = refl
 
@@ -85,8 +86,8 @@ module _ (radius : Float) (count : ℕ) (cs : List Corner) where
       → MergesSlice radius count cs scratch answer cs′ scratch′ → Merges radius (placesOf (columns cs)) count (columns cs) answer (columns cs′)
   as-core scratch scratch′ answer cs′ h m =
       let same = same-number scratch h in record {
-        answer = m .answer ∙ ap (λ (k : ℕ). answerOf k (length left)) same ∙ same-answer number refl;
+        answer = m .answer ∙ ap (λ (k : ℕ). unless Refused k (Kept (length left))) same ∙ same-answer number refl;
         number = m .number ∙ same;
         values = m .values ∙ ap (λ (k : ℕ). valuesUnless k (length left ∷ [])) same ∙ same-values number refl;
-        buffer = ap columns (m .corners ∙ ap (λ (k : ℕ). cornersAfter k left cs) same) ∙ same-buffer number refl;
+        buffer = ap columns (m .corners ∙ ap (λ (k : ℕ). resultOr k (front left cs) cs) same) ∙ same-buffer number refl;
       }

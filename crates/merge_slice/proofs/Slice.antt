@@ -25,11 +25,12 @@ use Rattle.merge_radius.specs.MergeRadius.{isOff, radiusOutside}
 use Rattle.merge.specs.Refusals.{isOutside}
 use Rattle.merge.proofs.Judged.{judged-fits}
 use Rattle.merge.specs.declared.Merged.{Merged}
-use Rattle.merge.specs.declared.Merged.the-variants.{Refused}
-use Rattle.merge.specs.Merge.{resultOf, refusalOf, answerOf, numberOf, valuesOf, bufferOf, Merges}
+use Rattle.merge.specs.declared.Merged.the-variants.{Refused, Kept}
+use Rattle.merge.specs.Merge.{resultOf, refusalOf, numberOf, valuesOf, Merges}
 use Rattle.merge.proofs.Answer.{values-are}
 use Rattle.merge.proofs.Result.{result-length}
-use Rattle.merge_slice.specs.MergeSlice.{sharedPlaces, refusalFor, cornersAfter, MergesSlice}
+use Rattle.merge_slice.specs.MergeSlice.{sharedPlaces, refusalFor, MergesSlice}
+use Rattle.lists.specs.Refusals.{unless, resultOr}
 
 -- ---- corners over more of them that stand first
 corners-over : (us cs : List Corner) (b : Slices) → length us ≤ length cs → frontCorners us (frontCorners cs b) ≡ frontCorners (front us cs) b
@@ -68,11 +69,11 @@ and-fewer true b b′ h e = h e
 and-fewer false b b′ h e = refl
 
 -- ---- answers and buffers by their number
-numbered : (k n : ℕ) → numberOf (answerOf k n) ≡ k
+numbered : (k n : ℕ) → numberOf (unless Refused k (Kept n)) ≡ k
 numbered zero n = refl
 numbered (suc k) n = refl
 
-untouched : (k : ℕ) (left : List Corner) (b : Slices) → (k ≡ 0 → ⊥) → bufferOf k left b ≡ b
+untouched : (k : ℕ) (left : List Corner) (b : Slices) → (k ≡ 0 → ⊥) → resultOr k (frontCorners left b) b ≡ b
 untouched zero left b h = absurd (h refl)
 untouched (suc k) left b h = refl
 
@@ -161,34 +162,34 @@ module _ (radius : Float) (count : ℕ) (cs : List Corner) (scratch : Slices) (n
 
   -- the first n corners after
   abbrev after : ℕ → List Corner
-  after k = cornersAfter k left (take n cs)
+  after k = resultOr k (front left (take n cs)) (take n cs)
 
   after-length : (k : ℕ) → number ≡ k → length (after k) ≡ n
   after-length zero e = front-length left (take n cs) (left-fits e) ∙ taken
   after-length (suc k) e = taken
 
-  after-front : (k : ℕ) → number ≡ k → front (after k) cs ≡ cornersAfter k left cs
+  after-front : (k : ℕ) → number ≡ k → front (after k) cs ≡ resultOr k (front left cs) cs
   after-front zero e = sym (front-over left (take n cs) cs (left-fits e)) ∙ ap (front left) (sym (front-same n cs in-corners))
   after-front (suc k) e = sym (front-same n cs in-corners)
 
   -- the core's answer and what it leaves in the scratch, by the definitions over the slice
-  same-answer : (k : ℕ) → number ≡ k → answerOf k (length core-left) ≡ answerOf k (length left)
-  same-answer zero e = ap (λ (l : List Corner). answerOf 0 (length (resultOf radius l))) (same-corners e)
+  same-answer : (k : ℕ) → number ≡ k → unless Refused k (Kept (length core-left)) ≡ unless Refused k (Kept (length left))
+  same-answer zero e = ap (λ (l : List Corner). unless Refused 0 (Kept (length (resultOf radius l)))) (same-corners e)
   same-answer (suc k) e = refl
 
-  same-buffer : (k : ℕ) → number ≡ k → bufferOf k core-left inside ≡ frontCorners (after k) scratch
+  same-buffer : (k : ℕ) → number ≡ k → resultOr k (frontCorners core-left inside) inside ≡ frontCorners (after k) scratch
   same-buffer zero e = ap (λ (l : List Corner). frontCorners (resultOf radius l) inside) (same-corners e) ∙ corners-over left (take n cs) scratch (left-fits e)
   same-buffer (suc k) e = refl
 
   -- and by whether 4 comes first
-  answer-judged : (t : Bool) → outside ≡ t → cond t (Refused 4) (answerOf core (length core-left)) ≡ answerOf number (length left)
-  answer-judged true e = ap (λ (k : ℕ). answerOf k (length left)) (same-number true e)
-  answer-judged false e = ap (λ (k : ℕ). answerOf k (length core-left)) (same-number false e) ∙ same-answer number refl
+  answer-judged : (t : Bool) → outside ≡ t → cond t (Refused 4) (unless Refused core (Kept (length core-left))) ≡ unless Refused number (Kept (length left))
+  answer-judged true e = ap (λ (k : ℕ). unless Refused k (Kept (length left))) (same-number true e)
+  answer-judged false e = ap (λ (k : ℕ). unless Refused k (Kept (length core-left))) (same-number false e) ∙ same-answer number refl
 
-  buffer-judged : (t : Bool) → outside ≡ t → bufferOf core core-left inside ≡ frontCorners (after number) scratch
+  buffer-judged : (t : Bool) → outside ≡ t → resultOr core (frontCorners core-left inside) inside ≡ frontCorners (after number) scratch
   buffer-judged true e =
       untouched core core-left inside (λ z. true≢false (sym e ∙ core-seen z)) ∙ ap (λ (k : ℕ). frontCorners (after k) scratch) (same-number true e)
-  buffer-judged false e = ap (λ (k : ℕ). bufferOf k core-left inside) (same-number false e) ∙ same-buffer number refl
+  buffer-judged false e = ap (λ (k : ℕ). resultOr k (frontCorners core-left inside) inside) (same-number false e) ∙ same-buffer number refl
 
   -- judged, exchanged, merged, and exchanged again
   pub slice-merged : (o : Bool) (cs₁ : List Corner) (b₁ b₂ : Slices) (core-answer : Merged) (cs₂ : List Corner) (b₃ : Slices) (r : Merged)
@@ -211,7 +212,7 @@ module _ (radius : Float) (count : ℕ) (cs : List Corner) (scratch : Slices) (n
           subst (λ (k : ℕ). Merges radius k count inside core-answer b₂) (few count (length cs) (placesOf scratch) (placesOf inside) n is inside-places)
           (subst (λ (b : Slices). Merges radius (min n (placesOf b)) count b core-answer b₂) (e .1) m)
 
-      answered : r ≡ answerOf number (length left)
+      answered : r ≡ unless Refused number (Kept (length left))
       answered = g ∙ ap₂ (λ (t : Bool) (a : Merged). cond (not (isOff radius) && t) (Refused 4) a) d (own .answer) ∙ answer-judged outside refl
 
       buffer : b₂ ≡ frontCorners (after number) scratch
@@ -220,7 +221,7 @@ module _ (radius : Float) (count : ℕ) (cs : List Corner) (scratch : Slices) (n
       read : cornersOf b₂ n ≡ after number
       read = ap (λ (b : Slices). cornersOf b n) buffer ∙ corners-front (after number) scratch n (sym (after-length number refl))
 
-      corners : cs₂ ≡ cornersAfter number left cs
+      corners : cs₂ ≡ resultOr number (front left cs) cs
       corners =
           f .0 ∙ ap (front (cornersOf b₂ n)) (e .0)
           ∙ front-again (cornersOf scratch n) (cornersOf b₂ n) cs (omega (arith, corners-length scratch n, corners-length b₂ n))

@@ -8,18 +8,13 @@ use Rattle.multiscale.specs.declared.RoiAnswer.{RoiAnswer}
 use Rattle.multiscale.specs.declared.RoiAnswer.the-variants.{Bounds, NoRoi, Refused}
 use Rattle.multiscale.specs.declared.Span.{Span}
 use Rattle.multiscale.specs.declared.Span.the-variants.{Ends, Nothing}
-use Rattle.multiscale.specs.Multiscale.{refusalOf, spanOn, bounds, roiOf, numberOf, valuesOf, endsOf}
+use Rattle.multiscale.specs.Multiscale.{refusalOf, spanOn, bounds, roiOf, numberOf, valuesOf}
 use Rattle.multiscale.specs.Promise.{Boxed}
 
 bounds-number : (s t : Span) → numberOf (bounds s t) ≡ 0
 bounds-number (Ends x0 x1) (Ends y0 y1) = refl
 bounds-number (Ends x0 x1) Nothing = refl
 bounds-number Nothing t = refl
-
-bounds-values : (s t : Span) → valuesOf (bounds s t) ≡ endsOf s t
-bounds-values (Ends x0 x1) (Ends y0 y1) = refl
-bounds-values (Ends x0 x1) Nothing = refl
-bounds-values Nothing t = refl
 
 module _ (c : RoiContext) (s : Corner) where
   number-is : numberOf (roiOf c s) ≡ refusalOf c s
@@ -30,13 +25,13 @@ module _ (c : RoiContext) (s : Corner) where
       go zero = bounds-number (spanOn c (c .width) (s .x)) (spanOn c (c .height) (s .y))
       go (suc k) = refl
 
-  values-are : valuesOf (roiOf c s) ≡ valuesUnless (refusalOf c s) (endsOf (spanOn c (c .width) (s .x)) (spanOn c (c .height) (s .y)))
+  values-are : valuesOf (roiOf c s) ≡ valuesUnless (refusalOf c s) (valuesOf (bounds (spanOn c (c .width) (s .x)) (spanOn c (c .height) (s .y))))
   unfolding roiOf
   values-are = go (refusalOf c s)
     where
       go : (k : ℕ) → valuesOf (unless Refused k (bounds (spanOn c (c .width) (s .x)) (spanOn c (c .height) (s .y))))
-          ≡ valuesUnless k (endsOf (spanOn c (c .width) (s .x)) (spanOn c (c .height) (s .y)))
-      go zero = bounds-values (spanOn c (c .width) (s .x)) (spanOn c (c .height) (s .y))
+          ≡ valuesUnless k (valuesOf (bounds (spanOn c (c .width) (s .x)) (spanOn c (c .height) (s .y))))
+      go zero = refl
       go (suc k) = refl
 
   promised : (a : RoiAnswer) → a ≡ roiOf c s → Boxed c s a

@@ -1,5 +1,5 @@
 -- The box of the base image in which a seed of a coarser level is looked for again (`RoiContext::compute_roi` and `make_roi_context`).
-use Prim.Native.Nat.{ℕ, zero, suc, _+_, _-_, _*_, _^_, min, max}
+use Prim.Native.Nat.{ℕ, _+_, _-_, _*_, _^_, min, max}
 use mathlib.Core.Bool.{Bool, cond, not, _&&_, _||_}
 use mathlib.Core.List.{List, [], _∷_}
 use lib.Dec.{leb, ltb}
@@ -91,9 +91,3 @@ abbrev pub valuesOf : RoiAnswer → List ℕ
 valuesOf (Bounds x0 y0 x1 y1) = x0 ∷ y0 ∷ x1 ∷ y1 ∷ []
 valuesOf NoRoi = []
 valuesOf (Refused n) = []
-
--- and the ends by the two axes
-abbrev pub endsOf : Span → Span → List ℕ
-endsOf (Ends x0 x1) (Ends y0 y1) = x0 ∷ y0 ∷ x1 ∷ y1 ∷ []
-endsOf (Ends x0 x1) Nothing = []
-endsOf Nothing v = []

@@ -25,7 +25,8 @@ use Rattle.response.proofs.Map.{cells-length}
 use Rattle.accuracy.specs.Accurate.{Accurate}
 use Rattle.accuracy.proofs.Cells.{map-accurate}
 use Rattle.corner_list.specs.declared.Corner.{Corner}
-use Rattle.detect.specs.Peaks.{CellTests, Inside, isPeak, valueAt}
+use Rattle.detect.specs.Peaks.{CellTests, isPeak, valueAt}
+use Rattle.detect.specs.Internal.{Inside}
 use Rattle.detect.specs.Detect.{readIn, peaksBy, startAt}
 use Rattle.detect.specs.Exact.{fifthsAbove, exact}
 use Rattle.detect.proofs.Choice.{peak-above, peak-positive, peaks-are}

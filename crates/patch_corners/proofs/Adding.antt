@@ -1,6 +1,6 @@
 -- The promise of a box's corners: from the number, from what peak finding answered, for corners that are then replaced, and what a caller learns
 -- from it. Assumes nothing.
-use Prim.Native.Nat.{ℕ, zero, suc, _+_, _-_, _<_, _≤_}
+use Prim.Native.Nat.{ℕ, zero, suc, _+_, _<_, _≤_, _-_}
 use native.Mathlib.Omega.{arith}
 use native.Mathlib.Decide.{decLt}
 use mathlib.Core.Path.{_≡_, refl, sym, ap, ap₂, _∙_}
@@ -10,7 +10,7 @@ use lib.Dec.{ltb, eqb}
 use lib.Ieee.{Float}
 use borrow.Author.Tests.{ltb-false, ne-eqb}
 use Rattle.lists.specs.Buffer.{front, wipedFrom}
-use Rattle.lists.specs.Refusals.{lowest, valuesUnless}
+use Rattle.lists.specs.Refusals.{lowest, valuesUnless, unless, resultOr}
 use Rattle.lists.proofs.Refusals.{lowest-none, lowest-before, lowest-past, lowest-le}
 use Rattle.float32.specs.Float32 as float32
 use Rattle.response.specs.Patch.{View, cells}
@@ -18,7 +18,7 @@ use Rattle.corner_list.specs.declared.Corner.{Corner}
 use Rattle.corner_list.specs.CornerList.{Slices, placesOf, placedCorners}
 use Rattle.detect.specs.declared.Peaks.{Peaks}
 use Rattle.detect.specs.declared.Peaks.the-variants.{Added, Refused}
-use Rattle.detect.specs.Detect.{conditions, refusalOf, answerOf, bufferOf, numberOf, valuesOf, PeaksAdded}
+use Rattle.detect.specs.Detect.{conditions, refusalOf, numberOf, valuesOf, PeaksAdded}
 use Rattle.detect.proofs.Answers.{number-is, values-are, Clear, Fitted, refusal-input, refusal-short, refusal-none, refused-tells}
 use Rattle.patch_corners.specs.declared.FrameParams.{FrameParams}
 use Rattle.patch_corners.specs.Clearing.{clearedFrom, leftBy}
@@ -41,11 +41,11 @@ not-ten p v places = let l = lowest-le (conditionsOf p v places) 8 (omega arith,
 -- ---- an answer and the buffers, from what led to them
 module _ (p : FrameParams) (v : View) (held : ℕ) (d : List Float) (b : Slices) where
   by-number : (cs : List Corner) (ties k : ℕ) → refusalOn p v cs held d b ≡ k → (answer : Peaks) (d′ : List Float) (b′ : Slices)
-      → answer ≡ answerOf k (length cs) ties
+      → answer ≡ unless Refused k (Added (length cs) ties)
       → d′ ≡ leftBy k (front (cells v) d) (wipedFrom 0 float32.zero d) d → b′ ≡ leftBy k (placedCorners held cs b) (clearedFrom 0 b) b
       → BoxAdded p v cs ties held d b answer d′ b′
   by-number cs ties k e answer d′ b′ a m c = record {
-    answer = a ∙ ap (λ (r : ℕ). answerOf r (length cs) ties) (sym e);
+    answer = a ∙ ap (λ (r : ℕ). unless Refused r (Added (length cs) ties)) (sym e);
     number = ap numberOf a ∙ number-is k (length cs) ties ∙ sym e;
     values = ap valuesOf a ∙ values-are k (length cs) ties ∙ ap (λ (r : ℕ). valuesUnless r (length cs ∷ ties ∷ [])) (sym e);
     map = m ∙ ap (λ (r : ℕ). leftBy r (front (cells v) d) (wipedFrom 0 float32.zero d) d) (sym e);
@@ -67,7 +67,8 @@ module _ (p : FrameParams) (v : View) (held : ℕ) (d : List Float) (b : Slices)
       → (d′ : List Float) → d′ ≡ front (cells v) d → BoxAdded p v cs ties held d b (Added n t) d′ b′
   added-by cs ties n t b′ f d′ m =
       let e : refusalOn p v cs held d b ≡ 0 = sym (f .number) in
-      by-number cs ties 0 e (Added n t) d′ b′ (f .answer ∙ ap (λ (r : ℕ). answerOf r (length cs) ties) e) m (f .buffer ∙ ap (λ (r : ℕ). bufferOf r held cs b) e)
+      by-number cs ties 0 e (Added n t) d′ b′ (f .answer ∙ ap (λ (r : ℕ). unless Refused r (Added (length cs) ties)) e) m
+      (f .buffer ∙ ap (λ (r : ℕ). resultOr r (placedCorners held cs b) b) e)
 
   -- they do not fit, and both buffers were cleared
   pub cleared-by : Clear (conditionsOf p v (length d)) → (cs : List Corner) (ties : ℕ) (answer : Peaks) (b₁ : Slices)
@@ -90,7 +91,7 @@ module _ (p : FrameParams) (v : View) (cs : List Corner) (ties held : ℕ) (d : 
         | yes l ↦ l
         | no g ↦
             let e = refusal-none (placesOf b) held (length cs) (conditionsOf p v (length d)) clear (omega arith) in
-            both (sym (added .answer ∙ ap (λ (r : ℕ). answerOf r (length cs) ties) e) ∙ q)
+            both (sym (added .answer ∙ ap (λ (r : ℕ). unless Refused r (Added (length cs) ties)) e) ∙ q)
       ]
 
   -- refused: so it is for as many other corners
@@ -99,7 +100,7 @@ module _ (p : FrameParams) (v : View) (cs : List Corner) (ties held : ℕ) (d : 
       by-number p v held d b (map f cs) ties (refusalOn p v cs held d b) (rw (length-map cs f)) answer d′ b′ (rw (length-map cs f) (added .answer)) (added .map)
       (added .corners ∙ other (refusalOn p v cs held d b) (sym (added .answer) ∙ q))
     where
-      other : (r : ℕ) → answerOf r (length cs) ties ≡ Refused k
+      other : (r : ℕ) → unless Refused r (Added (length cs) ties) ≡ Refused k
           → leftBy r (placedCorners held cs b) (clearedFrom 0 b) b ≡ leftBy r (placedCorners held (map f cs) b) (clearedFrom 0 b) b
       other zero z = both z
       other (suc j) z = refl
@@ -122,7 +123,7 @@ module _ (p : FrameParams) (v : View) (cs : List Corner) (ties held : ℕ) (d : 
         let c = added-clear in
         let last = sym (lowest-past (conditionsOf p v (length d)) ((ltb (placesOf b) (held + length cs), 10) ∷ []) (c .numbered) (c .none)) ∙ whole-none in
         let free = ltb-false (placesOf b) (held + length cs) (lowest-none (ltb (placesOf b) (held + length cs)) 10 [] (omega arith) last .0) in
-        let is : Added n t ≡ Added (length cs) ties = sym q ∙ added .answer ∙ ap (λ (r : ℕ). answerOf r (length cs) ties) e in
+        let is : Added n t ≡ Added (length cs) ties = sym q ∙ added .answer ∙ ap (λ (r : ℕ). unless Refused r (Added (length cs) ties)) e in
         let count : n ≡ length cs = cc in
         let tied : t ≡ ties = cc in
         record {

@@ -5,13 +5,13 @@ use mathlib.Core.Path.{_≡_, refl, sym, ap, subst, _∙_}
 use mathlib.Core.Bool.{Bool}
 use mathlib.Core.List.{List, map}
 use lib.ListN.{length, length-map}
-use Rattle.lists.specs.Refusals.{lowest}
+use Rattle.lists.specs.Refusals.{lowest, unless, resultOr}
 use Rattle.lists.proofs.Refusals.{lowest-past}
 use Rattle.corner_list.specs.declared.Corner.{Corner}
-use Rattle.corner_list.specs.CornerList.{Slices, placesOf}
+use Rattle.corner_list.specs.CornerList.{Slices, placesOf, placedCorners}
 use Rattle.detect.specs.declared.Peaks.{Peaks}
 use Rattle.detect.specs.declared.Peaks.the-variants.{Added, Refused}
-use Rattle.detect.specs.Detect.{refusalOf, answerOf, bufferOf, PeaksAdded}
+use Rattle.detect.specs.Detect.{refusalOf, PeaksAdded}
 use Rattle.detect.proofs.Answers.{Clear, Fitted, found-by, unrefused, added-tells}
 use Rattle.patch_corners.specs.Internal.{Changed}
 use Rattle.patch_corners.proofs.Changing.{changed-fits, changed-placed}
@@ -22,7 +22,7 @@ both e = let z : _≡_ {A = ℕ} 0 1 = cc in absurd (omega arith)
 
 module _ (f : Corner → Corner) (conds : List (Bool × ℕ)) (cs : List Corner) (ties held : ℕ) (b : Slices) (answer : Peaks) (b′ : Slices)
     (found : PeaksAdded conds cs ties held b answer b′) where
-  found-map : (b″ : Slices) → b″ ≡ bufferOf (refusalOf conds (placesOf b) held (length cs)) held (map f cs) b
+  found-map : (b″ : Slices) → b″ ≡ resultOr (refusalOf conds (placesOf b) held (length cs)) (placedCorners held (map f cs) b) b
       → PeaksAdded conds (map f cs) ties held b answer b″
   found-map b″ e =
       let n = length-map cs f in
@@ -33,7 +33,8 @@ module _ (f : Corner → Corner) (conds : List (Bool × ℕ)) (cs : List Corner)
   pub found-not : (k : ℕ) → answer ≡ Refused k → PeaksAdded conds (map f cs) ties held b answer b′
   found-not k e = found-map b′ (found .buffer ∙ kept (refusalOf conds (placesOf b) held (length cs)) (sym (found .answer) ∙ e))
     where
-      kept : (r : ℕ) → answerOf r (length cs) ties ≡ Refused k → bufferOf r held cs b ≡ bufferOf r held (map f cs) b
+      kept : (r : ℕ) → unless Refused r (Added (length cs) ties) ≡ Refused k
+          → resultOr r (placedCorners held cs b) b ≡ resultOr r (placedCorners held (map f cs) b) b
       kept zero z = both z
       kept (suc j) z = refl
 
@@ -54,7 +55,8 @@ module _ (f : Corner → Corner) (conds : List (Bool × ℕ)) (cs : List Corner)
         (changed-placed f cs held b b′ n (fitted .count) (fitted .fits) (fitted .buffer) b″ c
         ∙ of (refusalOf conds (placesOf b) held (length cs)) (sym (found .answer) ∙ e)))
       where
-        of : (r : ℕ) → answerOf r (length cs) ties ≡ Added n t → bufferOf 0 held (map f cs) b ≡ bufferOf r held (map f cs) b
+        of : (r : ℕ) → unless Refused r (Added (length cs) ties) ≡ Added n t
+            → resultOr 0 (placedCorners held (map f cs) b) b ≡ resultOr r (placedCorners held (map f cs) b) b
         of zero z = refl
         of (suc j) z = both (sym z)
 

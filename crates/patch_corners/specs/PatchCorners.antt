@@ -1,22 +1,23 @@
 -- The corners of a box of an image, added to a buffer (RULES 9.7): the refusals, and what is promised of the answer and the buffers.
 use Prim.Native.Nat.{ℕ, _*_}
 use mathlib.Core.Path.{_≡_}
-use mathlib.Core.Bool.{Bool}
 use mathlib.Core.List.{List, [], _∷_, _++_}
 use lib.ListN.{length}
 use lib.Dec.{ltb}
 use lib.Ieee.{Float}
 use Rattle.lists.specs.Buffer.{front, wipedFrom}
-use Rattle.lists.specs.Refusals.{valuesUnless}
+use Rattle.lists.specs.Refusals.{valuesUnless, unless}
 use Rattle.float32.specs.Float32.{zero}
 use Rattle.response.specs.Patch.{View, mapHeight, mapWidth, cells}
 use Rattle.corner_list.specs.declared.Corner.{Corner}
 use Rattle.corner_list.specs.CornerList.{Slices, placesOf, placedCorners}
 use Rattle.detect.specs.declared.Peaks.{Peaks}
-use Rattle.detect.specs.Detect.{conditions, refusalOf, answerOf, numberOf, valuesOf}
+use Rattle.detect.specs.Detect.{conditions, refusalOf, numberOf, valuesOf}
 use Rattle.patch_corners.specs.declared.FrameParams.{FrameParams}
 use Rattle.patch_corners.specs.OneMap.{computedChoice, cornersIn, tiesOn}
 use Rattle.patch_corners.specs.Clearing.{clearedFrom, leftBy}
+use Rattle.detect.specs.declared.Peaks.the-variants.{Added, Refused}
+use mathlib.Core.Bool.{Bool}
 
 -- the conditions on the input, with their numbers (RULES 2.2): 1, 2 and 3 as for a map that is searched, here of the image; 8: the map buffer has fewer
 -- places than the clipped box has cells
@@ -33,7 +34,7 @@ refusalOn p v cs held d b = refusalOf (conditionsOf p v (length d)) (placesOf b)
 -- leaves both zero in their whole length, as in a frame; any other refusal changes neither
 pub record BoxAdded (p : FrameParams) (v : View) (cs : List Corner) (ties held : ℕ) (d : List Float) (b : Slices) (r : Peaks) (d′ : List Float)
     (b′ : Slices) : Type 0 where
-  pub answer : r ≡ answerOf (refusalOn p v cs held d b) (length cs) ties
+  pub answer : r ≡ unless Refused (refusalOn p v cs held d b) (Added (length cs) ties)
   pub number : numberOf r ≡ refusalOn p v cs held d b
   pub values : valuesOf r ≡ valuesUnless (refusalOn p v cs held d b) (length cs ∷ ties ∷ [])
   pub map : d′ ≡ leftBy (refusalOn p v cs held d b) (front (cells v) d) (wipedFrom 0 zero d) d

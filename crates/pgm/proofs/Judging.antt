@@ -10,7 +10,7 @@ use lib.Dec.{ltb, eqb}
 use lib.ListN.{length, take, drop, length-drop}
 use lib.Seq.{length-take-le}
 use borrow.Author.Tests.{ltb-false, le-ltb, eqb-true, eq-eqb, ne-eqb, not-false}
-use Rattle.lists.specs.Refusals.{lowest, isLarge}
+use Rattle.lists.specs.Refusals.{lowest, unless, isLarge}
 use Rattle.lists.proofs.Tests.{and-parts, and-none, or-neither}
 use Rattle.lists.proofs.Refusals.{lowest-none, sides-small}
 use Rattle.pgm.specs.declared.PgmImage.{PgmImage}
@@ -18,8 +18,8 @@ use Rattle.pgm.specs.declared.PgmImage.the-variants.{Pixels, Refused}
 use Rattle.pgm.specs.declared.header.Scanned.{Scanned}
 use Rattle.pgm.specs.Header.{Character, isSpace, bare, begins, widthField, heightField, maxvalField}
 use Rattle.pgm.specs.Header.{hasMagic, hasSides, hasHeader, widthOf, heightOf, maxvalOf, rasterAt}
-use Rattle.pgm.specs.Pgm.{conditionsBy, conditions, refusalOf, pixelsIn, answerBy, PgmRead}
-use Rattle.pgm.specs.Internal.{capped, bareFrom, FieldsRead}
+use Rattle.pgm.specs.Pgm.{conditions, refusalOf, pixelsIn, PgmRead}
+use Rattle.pgm.specs.Internal.{conditionsBy, capped, bareFrom, FieldsRead}
 use Rattle.pgm.proofs.Scanning.{first-at}
 use Rattle.pgm.proofs.Fields.{Within, all-rest, bare-within, first-within}
 use Rattle.pgm.proofs.Numbers.{large-capped, maxval-capped}
@@ -183,7 +183,8 @@ module _ (upload : List ℕ) where
   pub located : (a : PgmImage) → PgmRead upload a → (at w h : ℕ) → a ≡ Pixels at w h → Located upload at w h
   located a r at w h is = go (refusalOf upload) refl (sym is ∙ r .answer)
     where
-      go : (n : ℕ) → refusalOf upload ≡ n → Pixels at w h ≡ answerBy n (rasterAt upload) (widthOf upload) (heightOf upload) → Located upload at w h
+      go : (n : ℕ) → refusalOf upload ≡ n → Pixels at w h ≡ unless Refused n (Pixels (rasterAt upload) (widthOf upload) (heightOf upload))
+          → Located upload at w h
       go zero e same =
           let a = accepted upload e in
           let p : at ≡ rasterAt upload = cc in
@@ -209,7 +210,7 @@ module _ (upload : List ℕ) where
   unfolding pixelsIn
   refused-pixels a r n is = go (refusalOf upload) refl (sym is ∙ r .answer)
     where
-      go : (k : ℕ) → refusalOf upload ≡ k → Refused n ≡ answerBy k (rasterAt upload) (widthOf upload) (heightOf upload) → [] ≡ pixelsIn upload
+      go : (k : ℕ) → refusalOf upload ≡ k → Refused n ≡ unless Refused k (Pixels (rasterAt upload) (widthOf upload) (heightOf upload)) → [] ≡ pixelsIn upload
       go zero e same = absurd (let z : _≡_ {A = ℕ} 0 1 = cc in let no : ⊥ = omega arith in no)
       go (suc k) e same = rw (e, ne-eqb (suc k) 0 (λ z. let no : ⊥ = omega arith in no))
 

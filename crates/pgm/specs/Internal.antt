@@ -1,12 +1,19 @@
 -- What the private functions that scan a header ask and promise. A place of the upload stands for the characters from it on, comments gone.
-use Prim.Native.Nat.{ℕ, _<_, _≤_, min}
+use Prim.Native.Nat.{ℕ, _*_, _<_, _≤_, min}
 use mathlib.Core.Path.{_≡_}
-use mathlib.Core.Bool.{false}
-use mathlib.Core.List.{List}
+use mathlib.Core.Bool.{Bool, false, not, _&&_, _||_}
+use mathlib.Core.List.{List, [], _∷_}
+use lib.Dec.{eqb, ltb}
 use lib.ListN.{length, getD, drop}
+use Rattle.lists.specs.Refusals.{isLarge}
 use Rattle.pgm.specs.declared.header.Scanned.{Scanned}
 use Rattle.pgm.specs.declared.header.Digits.{Digits}
 use Rattle.pgm.specs.Header.{Character, bare, isDigit, leading, trailing, numberFrom, Field, widthField, heightField, maxvalField}
+
+-- the conditions of an upload by what is known of it, with so many bytes behind its header
+abbrev pub conditionsBy : Bool → Bool → ℕ → ℕ → ℕ → ℕ → List (Bool × ℕ)
+conditionsBy sides header w h maxval left =
+    (sides && isLarge w h, 1) ∷ (not header || ltb left (w * h), 12) ∷ (not (eqb maxval 255), 13) ∷ []
 
 -- numbers are kept up to 65,536: a larger one is 65,536
 abbrev pub capped : ℕ → ℕ

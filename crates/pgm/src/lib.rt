@@ -6,8 +6,8 @@ ghost use mathlib.Core.Bool.{_&&_};
 ghost use Prim.Native.Nat.{_≤_};
 ghost use Rattle.lists.specs.Refusals.{lowest, isLarge};
 ghost use Rattle.pgm.specs.Header.{hasMagic};
-ghost use Rattle.pgm.specs.Pgm.{conditionsBy, refusalOf, pixelsIn, PgmRead};
-ghost use Rattle.pgm.specs.Internal.{FieldsRead};
+ghost use Rattle.pgm.specs.Pgm.{refusalOf, pixelsIn, PgmRead};
+ghost use Rattle.pgm.specs.Internal.{conditionsBy, FieldsRead};
 use header::Scanned;
 
 // Where the pixels begin in the upload and both sides, or the number of the refusal.

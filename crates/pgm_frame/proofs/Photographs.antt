@@ -3,6 +3,7 @@ use Prim.Native.Nat.{ℕ, zero, suc}
 use native.Mathlib.Omega.{arith}
 use mathlib.Core.Path.{_≡_, refl, sym, _∙_}
 use mathlib.Core.List.{List}
+use Rattle.lists.specs.Refusals.{unless}
 use Rattle.patch_corners.specs.declared.FrameParams.{FrameParams}
 use Rattle.frame.specs.declared.FrameAnswer.{FrameAnswer}
 use Rattle.frame.specs.declared.FrameAnswer.the-variants.{Refused}
@@ -10,7 +11,7 @@ use Rattle.frame.specs.Frame.{Buffers, FrameFound}
 use Rattle.pgm.specs.declared.PgmImage.{PgmImage}
 use Rattle.pgm.specs.declared.PgmImage.the-variants as pgm
 use Rattle.pgm.specs.Header.{widthOf, heightOf, rasterAt}
-use Rattle.pgm.specs.Pgm.{pixelsIn, answerBy, PgmRead}
+use Rattle.pgm.specs.Pgm.{pixelsIn, PgmRead}
 use Rattle.pgm.specs.Pgm as upload
 use Rattle.pgm.proofs.Judging.{located}
 use Rattle.pgm_frame.specs.PgmFrame.{refusalOf, PhotographFound}
@@ -20,10 +21,10 @@ module _ (p : FrameParams) (bytes : List ℕ) (b : Buffers) (image : PgmImage) (
   unfolding refusalOf
   photograph-refused n e = go (upload.refusalOf bytes) refl (sym e ∙ read .answer)
     where
-      go : (k : ℕ) → upload.refusalOf bytes ≡ k → pgm.Refused n ≡ answerBy k (rasterAt bytes) (widthOf bytes) (heightOf bytes)
+      go : (k : ℕ) → upload.refusalOf bytes ≡ k → pgm.Refused n ≡ unless pgm.Refused k (pgm.Pixels (rasterAt bytes) (widthOf bytes) (heightOf bytes))
           → PhotographFound p bytes b (Refused n) b
       go zero is same = absurd (let z : _≡_ {A = ℕ} 0 1 = cc in let no : ⊥ = omega arith in no)
-      go (suc k) is same = let number : n ≡ suc k = cc in record { is = rw (is, number); number = rw is number; values = rw is }
+      go (suc k) is same = let number : n ≡ suc k = cc in record { answer = rw (is, number); number = rw is number; values = rw is; left = rw is }
 
   pub photograph-found : (at w h : ℕ) → image ≡ pgm.Pixels at w h → (img : List ℕ) → img ≡ pixelsIn bytes
       → (answer : FrameAnswer) (b′ : Buffers) → FrameFound p img w h b answer b′ → PhotographFound p bytes b answer b′
@@ -31,7 +32,8 @@ module _ (p : FrameParams) (bytes : List ℕ) (b : Buffers) (image : PgmImage) (
   photograph-found at w h e img pixels answer b′ f =
       let l = located bytes image read at w h e in
       record {
-        is = f .is ∙ rw (l .none, pixels, l .width, l .height);
+        answer = f .answer ∙ rw (l .none, pixels, l .width, l .height);
         number = f .number ∙ rw (l .none, pixels, l .width, l .height);
         values = f .values ∙ rw (l .none, pixels, l .width, l .height);
+        left = f .left ∙ rw (l .none, pixels, l .width, l .height);
       }

@@ -4,13 +4,12 @@ use Prim.Native.Nat.{ℕ, zero, suc}
 use mathlib.Core.Path.{_≡_}
 use mathlib.Core.List.{List, [], _∷_}
 use lib.ListN.{length}
-use Rattle.lists.specs.Refusals.{valuesUnless}
+use Rattle.lists.specs.Refusals.{valuesUnless, unless, resultOr}
 use Rattle.patch_corners.specs.declared.FrameParams.{FrameParams}
-use Rattle.patch_corners.specs.OneMap.{computedChoice}
-use Rattle.frame_pass.specs.Pass.{framePass}
+use Rattle.frame_pass.specs.Pass.{Pass}
 use Rattle.frame.specs.declared.FrameAnswer.{FrameAnswer}
-use Rattle.frame.specs.declared.FrameAnswer.the-variants.{Refused}
-use Rattle.frame.specs.Frame.{Buffers, Frame, frame, frameOf, numberOf, valuesOf}
+use Rattle.frame.specs.declared.FrameAnswer.the-variants.{Corners, Refused}
+use Rattle.frame.specs.Frame.{Buffers, passOf, buffersAfter, numberOf, valuesOf}
 use Rattle.frame.specs.Frame as frames
 use Rattle.pgm.specs.Header.{widthOf, heightOf}
 use Rattle.pgm.specs.Pgm.{pixelsIn}
@@ -26,14 +25,14 @@ module _ (p : FrameParams) (upload : List ℕ) (b : Buffers) where
   unfoldable pub refusalOf : ℕ
   refusalOf = firstOf (pgm.refusalOf upload) (frames.refusalOf p (pixelsIn upload) (widthOf upload) (heightOf upload) b)
 
-  -- answer and buffers by the upload's number: that of the frame of its pixels, or a refusal that changes nothing
-  abbrev pub frameBy : ℕ → Frame
-  frameBy zero = frameOf p (pixelsIn upload) (widthOf upload) (heightOf upload) b
-  frameBy (suc n) = frame (Refused (suc n)) b
+-- the pass over the pixels of an upload
+abbrev pub passOn : FrameParams → List ℕ → Pass
+passOn p upload = passOf p (pixelsIn upload) (widthOf upload) (heightOf upload)
 
--- what `find_pgm_corners` promises: answer and buffers by one equation, and the answer's number and values
-pub record PhotographFound (p : FrameParams) (upload : List ℕ) (b : Buffers) (answer : FrameAnswer) (b′ : Buffers) : Type 0 where
-  pub is : frame answer b′ ≡ frameBy p upload b (pgm.refusalOf upload)
-  pub number : numberOf answer ≡ refusalOf p upload b
-  pub values : let q = framePass p (pixelsIn upload) (widthOf upload) (heightOf upload) (computedChoice p) in
-      valuesOf answer ≡ valuesUnless (refusalOf p upload b) (length (q .corners) ∷ q .ties ∷ [])
+-- what `find_pgm_corners` promises of the answer, its number and values, and the buffers after: as the frame of the upload's pixels leaves them; a
+-- refusal of the upload changes none
+pub record PhotographFound (p : FrameParams) (upload : List ℕ) (b : Buffers) (r : FrameAnswer) (b′ : Buffers) : Type 0 where
+  pub answer : r ≡ unless Refused (refusalOf p upload b) (Corners (length (passOn p upload .corners)) (passOn p upload .ties))
+  pub number : numberOf r ≡ refusalOf p upload b
+  pub values : valuesOf r ≡ valuesUnless (refusalOf p upload b) (length (passOn p upload .corners) ∷ passOn p upload .ties ∷ [])
+  pub left : b′ ≡ resultOr (pgm.refusalOf upload) (buffersAfter p (pixelsIn upload) (widthOf upload) (heightOf upload) b) b

@@ -1,11 +1,10 @@
 -- Building the levels one behind the other, and what `build_pyramid` answers and leaves. Assumes nothing.
-use Prim.Native.Nat.{ℕ, zero, suc, _+_, _-_, _*_, _/_, _<_, _≤_}
+use Prim.Native.Nat.{ℕ, zero, suc, _+_, _*_, _/_, _<_, _≤_, _-_}
 use native.Mathlib.Numerals.{add-one}
 use native.Mathlib.Omega.{arith}
 use mathlib.Core.Path.{_≡_, refl, sym, ap, ap₂, _∙_}
 use mathlib.Core.List.{List}
 use lib.ListN.{length, drop}
-use borrow.Author.Tests.{ne-eqb}
 use Rattle.lists.specs.Buffer.{front, placed}
 use Rattle.lists.proofs.Buffer.{front-more}
 use Rattle.pyramid_levels.specs.Levels.{levelSide, levelCount, cellsAbove}
@@ -88,7 +87,7 @@ module _ (base : List ℕ) (w h count minimumSide : ℕ) (d : List ℕ) where
   pub built-refused : (n : ℕ) → buildRefusalOf (ask (length base) (length d) w h count minimumSide) ≡ n → (n ≡ 0 → ⊥)
       → Built base w h count minimumSide d (Refused n) d
   built-refused zero e z = absurd (z refl)
-  built-refused (suc n) e z = record { answer = rw e; number = sym e; values = rw e; buffer = rw (e, ne-eqb (suc n) 0 z) }
+  built-refused (suc n) e z = record { answer = rw e; number = sym e; values = rw e; buffer = rw e }
 
   pub built-filled : (n : ℕ) (s : List ℕ) → buildRefusalOf (ask (length base) (length d) w h count minimumSide) ≡ 0
       → n ≡ levelCount w h count minimumSide → Filled base w h n d s

@@ -5,8 +5,9 @@ use native.Mathlib.Omega.{arith}
 use mathlib.Core.Path.{_≡_, refl, sym, ap, _∙_}
 use mathlib.Core.List.{List}
 use lib.ListN.{length, getD}
-use borrow.Author.Tests.{ne-eqb}
 use Rattle.lists.specs.Buffer.{front}
+use Rattle.lists.specs.Refusals.{unless}
+use Rattle.lists.proofs.Answers.{refused-keeps}
 use Rattle.lists.proofs.Tab.{getD-grid-any}
 use Rattle.lists.proofs.Buffer.{front-length}
 use Rattle.pyramid_levels.specs.Levels.{levelSide, levelCount, cellsAbove}
@@ -18,7 +19,7 @@ use Rattle.pyramid_levels.specs.Internal.{LevelsAccepted}
 use Rattle.pyramid_levels.proofs.Refusals.{accepts, accepted, level-accepts}
 use Rattle.pyramid_levels.proofs.Answers as answers
 use Rattle.pyramid.specs.Pyramid.{boxOf, halfPixel, halved, levelPixels, above}
-use Rattle.pyramid.specs.Build.{answerOf, Built}
+use Rattle.pyramid.specs.Build.{Built}
 use Rattle.pyramid.specs.Level.{levelIn}
 use Rattle.pyramid.specs.Internal.{LevelsComplete}
 use Rattle.pyramid.specs.declared.Pyramid.{Pyramid}
@@ -28,11 +29,11 @@ use Rattle.pyramid.proofs.Above.{level-built}
 
 -- ---- the answer
 
-levels-is : (n k m : ℕ) → answerOf k n ≡ Levels m → (k ≡ 0) × (m ≡ n)
+levels-is : (n k m : ℕ) → unless Refused k (Levels n) ≡ Levels m → (k ≡ 0) × (m ≡ n)
 levels-is n zero m e = (refl, (cc))
 levels-is n (suc k) m e = let z : _≡_ {A = ℕ} 0 1 = cc in absurd (omega arith)
 
-refused-is : (n k m : ℕ) → answerOf k n ≡ Refused m → (k ≡ m) × (0 < m)
+refused-is : (n k m : ℕ) → unless Refused k (Levels n) ≡ Refused m → (k ≡ m) × (0 < m)
 refused-is n zero m e = let z : _≡_ {A = ℕ} 0 1 = cc in absurd (omega arith)
 refused-is n (suc k) m e = let q : suc k ≡ m = cc in (q, omega arith)
 
@@ -54,11 +55,14 @@ module _ (base : List ℕ) (w h count minimumSide : ℕ) (d : List ℕ) (r : Pyr
   pub refused : (n : ℕ) → r ≡ Refused n → (buildRefusalOf (ask (length base) (length d) w h count minimumSide) ≡ n) × (e ≡ d)
   refused n c =
       let q = refused-is (levelCount w h count minimumSide) (buildRefusalOf (ask (length base) (length d) w h count minimumSide)) n (sym (b .answer) ∙ c) in
-      (q .0, b .buffer ∙ rw (q .0, ne-eqb n 0 (λ (z : n ≡ 0). omega (arith, q .1))))
+      let kept =
+      refused-keeps (buildRefusalOf (ask (length base) (length d) w h count minimumSide)) (front (above base w h (levelCount w h count minimumSide)) d) d
+      (rw (q .0) (q .1)) in
+      (q .0, b .buffer ∙ kept)
 
   -- where nothing refuses, all levels are built
   pub builds : LevelsAccepted (ask (length base) (length d) w h count minimumSide) → r ≡ Levels (levelCount w h count minimumSide)
-  builds a = b .answer ∙ ap (λ (k : ℕ). answerOf k (levelCount w h count minimumSide)) (accepts _ a)
+  builds a = b .answer ∙ ap (λ (k : ℕ). unless Refused k (Levels (levelCount w h count minimumSide))) (accepts _ a)
 
 -- ---- how many levels: at most 13
 pub levels-few : (base : List ℕ) (w h count minimumSide : ℕ) (d e : List ℕ) (n : ℕ) → LevelsComplete base w h count minimumSide d e n → n ≤ 13

@@ -4,7 +4,7 @@ use native.Mathlib.Omega.{arith}
 use mathlib.Core.Path.{_≡_, sym, _∙_}
 use mathlib.Core.List.{[], _∷_}
 use borrow.Author.Tests.{lt-ltb, le-ltb, le-leb, lt-leb, ltb-false, leb-false}
-use Rattle.lists.specs.Refusals.{Sized}
+use Rattle.lists.specs.Internal.{Sized}
 use Rattle.lists.proofs.Refusals.{lowest-none, sized-none}
 use Rattle.image_size.proofs.Judged.{passed}
 use Rattle.pyramid_levels.specs.Levels.{cellsAbove, capped}

@@ -1,6 +1,6 @@
 -- What contracts of private functions say of a pyramid that is not refused: no public promise rests on it.
 use Prim.Native.Nat.{_≤_}
-use Rattle.lists.specs.Refusals.{Sized}
+use Rattle.lists.specs.Internal.{Sized}
 use Rattle.pyramid_levels.specs.Levels.{cellsAbove}
 use Rattle.pyramid_levels.specs.Refusals.{Ask, levelsOf}
 

@@ -1,17 +1,12 @@
 -- What `level_at` answers: where level k lies.
-use Prim.Native.Nat.{ℕ, zero, suc}
+use Prim.Native.Nat.{ℕ}
 use mathlib.Core.Path.{_≡_}
 use mathlib.Core.List.{List, [], _∷_}
-use Rattle.lists.specs.Refusals.{valuesUnless}
+use Rattle.lists.specs.Refusals.{valuesUnless, unless}
 use Rattle.pyramid_levels.specs.Levels.{levelSide, cellsAbove}
 use Rattle.pyramid_levels.specs.Refusals.{Ask, levelRefusalOf}
 use Rattle.pyramid_levels.specs.declared.LevelAnswer.{LevelAnswer}
 use Rattle.pyramid_levels.specs.declared.LevelAnswer.the-variants.{Level, Refused}
-
--- the answer of each number for level k: 0 is where it begins, in the base or in the level buffer, and its sides; any other is a refusal
-abbrev pub answerOf : ℕ → Ask → ℕ → LevelAnswer
-answerOf zero a k = Level (cellsAbove (a .w) (a .h) k) (levelSide (a .w) k) (levelSide (a .h) k)
-answerOf (suc n) a k = Refused (suc n)
 
 -- the number and the values of each case (RULES 6.5): 0 for no refusal, and where the level begins with its sides
 abbrev pub numberOf : LevelAnswer → ℕ
@@ -22,10 +17,10 @@ abbrev pub valuesOf : LevelAnswer → List ℕ
 valuesOf (Level from w h) = from ∷ w ∷ h ∷ []
 valuesOf (Refused n) = []
 
--- the answer for level k
+-- the answer for level k: where it begins, in the base or in the level buffer, and its sides
 unfoldable pub levelAnswer : Ask → ℕ → LevelAnswer
 unfolding levelRefusalOf
-levelAnswer a k = answerOf (levelRefusalOf a k) a k
+levelAnswer a k = unless Refused (levelRefusalOf a k) (Level (cellsAbove (a .w) (a .h) k) (levelSide (a .w) k) (levelSide (a .h) k))
 
 -- the promise of `level_at`
 pub record LevelFound (a : Ask) (k : ℕ) (r : LevelAnswer) : Type 0 where

@@ -1,7 +1,7 @@
 -- What a caller of the patch function can use: the answer taken apart, and the buffer by column and row. Assumes nothing.
-use mathlib.Core.Path.{_≡_, refl, sym, ap, _∙_}
+use mathlib.Core.Path.{_≡_, refl, sym, _∙_}
 use mathlib.Core.List.{List}
-use Prim.Native.Nat.{ℕ, zero, suc, _+_, _*_, _-_, _<_, _≤_}
+use Prim.Native.Nat.{ℕ, zero, suc, _+_, _*_, _<_, _≤_, _-_}
 use native.Mathlib.Omega.{arith}
 use native.Mathlib.Nat.{mul-comm}
 use borrow.Author.Tests.{ne-eqb}
@@ -14,10 +14,12 @@ use Rattle.lists.proofs.Places.{in-map}
 use Rattle.lists.proofs.Members.{all-grid}
 use Rattle.lists.proofs.Buffer.{front-length, front-take, front-drop}
 use Rattle.ring.specs.Ring.{Ring}
-use Rattle.response.specs.Patch.{View, whole, sideOf, mapWidth, mapHeight, left, top, responseIn, cells, refusalOf, answerOf, Patched}
+use Rattle.response.specs.Patch.{View, whole, sideOf, mapWidth, mapHeight, left, top, responseIn, cells, refusalOf, Patched}
 use Rattle.response.specs.declared.Patch.{Patch}
 use Rattle.response.specs.declared.Patch.the-variants.{Cells, Refused}
 use Rattle.response.proofs.Outcome.{number-of, taken}
+use Rattle.lists.specs.Refusals.{unless}
+use Rattle.lists.proofs.Answers.{refused-keeps}
 
 -- the buffer d after a map of pw by ph was made
 pub record Filled (v : View) (d e : List Float) (pw ph : ℕ) : Type 0 where
@@ -27,11 +29,11 @@ pub record Filled (v : View) (d e : List Float) (pw ph : ℕ) : Type 0 where
   pub fills : e ≡ front (cells v) d
 
 -- ---- the answer
-cells-is : (v : View) (n pw ph : ℕ) → answerOf n v ≡ Cells pw ph → (n ≡ 0) × (pw ≡ mapWidth v) × (ph ≡ mapHeight v)
+cells-is : (v : View) (n pw ph : ℕ) → unless Refused n (Cells (mapWidth v) (mapHeight v)) ≡ Cells pw ph → (n ≡ 0) × (pw ≡ mapWidth v) × (ph ≡ mapHeight v)
 cells-is v zero pw ph e = (refl, (cc), (cc))
 cells-is v (suc n) pw ph e = let z : _≡_ {A = ℕ} 0 1 = cc in absurd (omega arith)
 
-refused-is : (v : View) (n m : ℕ) → answerOf n v ≡ Refused m → (n ≡ m) × (0 < m)
+refused-is : (v : View) (n m : ℕ) → unless Refused n (Cells (mapWidth v) (mapHeight v)) ≡ Refused m → (n ≡ m) × (0 < m)
 refused-is v zero m e = let z : _≡_ {A = ℕ} 0 1 = cc in absurd (omega arith)
 refused-is v (suc n) m e = let q : suc n ≡ m = cc in (q, omega arith)
 
@@ -51,7 +53,7 @@ module _ (v : View) (radius : ℕ) (d e : List Float) (r : Patch) (p : Patched v
   pub refused : (n : ℕ) → r ≡ Refused n → (refusalOf v radius (length d) ≡ n) × (e ≡ d)
   refused n c =
       let q = refused-is v (refusalOf v radius (length d)) n (sym (p .answer) ∙ c) in
-      (q .0, p .buffer ∙ rw (q .0, ne-eqb n 0 (λ (z : n ≡ 0). let no : ⊥ = omega (arith, q .1) in no)))
+      (q .0, p .buffer ∙ refused-keeps (refusalOf v radius (length d)) (front (cells v) d) d (rw (q .0) (q .1)))
 
   -- where nothing refuses, a map is made
   module _ (none : refusalOf v radius (length d) ≡ 0) where

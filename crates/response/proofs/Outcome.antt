@@ -7,11 +7,11 @@ use Prim.Native.Nat.{ℕ, zero, suc, _+_, _*_, _≤_}
 use native.Mathlib.Nat.{mul-le-mul, mul-comm, le-trans, le-of-eq}
 use native.Mathlib.Omega.{arith}
 use borrow.Author.Tests.{ltb-false, not-false, eq-eqb, le-ltb}
-use lib.Dec.{eqb, ltb, eqb·suc-zero}
+use lib.Dec.{eqb, ltb}
 use lib.Ieee.{Float}
 use lib.ListN.{length, drop}
 use Rattle.lists.specs.Tab.{grid}
-use Rattle.lists.specs.Refusals.{Sized}
+use Rattle.lists.specs.Internal.{Sized}
 use Rattle.lists.proofs.Refusals.{lowest-none, sized-none}
 use Rattle.lists.proofs.Tab.{length-grid}
 use Rattle.ring.specs.Ring.{ringOf, isRing}
@@ -90,7 +90,7 @@ number-is v radius places n pw ph e c r = rw (e, c, r, number-of v radius places
 module _ (v : View) (radius : ℕ) (d : List Float) where
   pub when-refused : (n : ℕ) → n ≡ refusalOf v radius (length d) → (n ≡ 0 → ⊥) → Patched v radius d (Refused n) d
   when-refused zero e z = absurd (z refl)
-  when-refused (suc n) e z = record { answer = rw (← e); number = e; values = rw (← e); buffer = rw (← e, eqb·suc-zero n) }
+  when-refused (suc n) e z = record { answer = rw (← e); number = e; values = rw (← e); buffer = rw (← e) }
 
   -- what the rows fill is what the map holds
   pub when-filled : (n pw ph x y : ℕ) (e : List Float) → n ≡ refusalOf v radius (length d) → n ≡ 0 → pw ≡ mapWidth v → ph ≡ mapHeight v → x ≡ left v → y ≡ top v

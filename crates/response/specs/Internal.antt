@@ -6,7 +6,8 @@ use mathlib.Core.List.{List, [], _∷_}
 use lib.Dec.{ltb}
 use lib.ListN.{length, getD}
 use Rattle.lists.specs.Tab.{tab}
-use Rattle.lists.specs.Refusals.{lowest, isLarge, isMisfit, Sized}
+use Rattle.lists.specs.Refusals.{lowest, isLarge, isMisfit}
+use Rattle.lists.specs.Internal.{Sized}
 use Rattle.ring.specs.Ring.{Ring, dx, dy, isRing, IsRing}
 use Rattle.response.specs.declared.cell.Held.{Held}
 use Rattle.response.specs.Response.{inside, samples, srOf, drOf, ringSumOf, crossOf}

@@ -1,5 +1,5 @@
 -- The response map of a box of an image: the clipped box, the refusals, the answer and the buffer.
-use Prim.Native.Nat.{ℕ, zero, suc, _+_, _*_, _-_, min}
+use Prim.Native.Nat.{ℕ, _+_, _*_, min, _-_}
 use mathlib.Core.Path.{_≡_}
 use mathlib.Core.Bool.{cond, not}
 use mathlib.Core.List.{List, [], _∷_}
@@ -8,7 +8,7 @@ use lib.ListN.{length}
 use lib.Ieee.{Float}
 use Rattle.lists.specs.Tab.{grid}
 use Rattle.lists.specs.Buffer.{front}
-use Rattle.lists.specs.Refusals.{lowest, valuesUnless, isLarge, isMisfit}
+use Rattle.lists.specs.Refusals.{lowest, valuesUnless, isLarge, isMisfit, unless, resultOr}
 use Rattle.ring.specs.Ring.{Ring, isRing}
 use Rattle.response.specs.Response.{responseAt}
 use Rattle.response.specs.declared.Patch.{Patch}
@@ -71,11 +71,6 @@ refusalOf v radius places =
     ∷ (ltb places (mapHeight v * mapWidth v), 8)
     ∷ [])
 
--- the answer of each number: 0 is a map with its sides, any other a refusal
-abbrev pub answerOf : ℕ → View → Patch
-answerOf zero v = Cells (mapWidth v) (mapHeight v)
-answerOf (suc n) v = Refused (suc n)
-
 -- the number and the values of each case (RULES 3.8): 0 for no refusal, and the map's sides
 abbrev pub numberOf : Patch → ℕ
 numberOf (Cells pw ph) = 0
@@ -88,7 +83,7 @@ valuesOf (Refused n) = []
 -- the promise of `chess_response_u8_patch`: r is the answer, and the buffer d becomes e: the map's cells first and the rest as it was, and
 -- all of it as it was where the call is refused
 pub record Patched (v : View) (radius : ℕ) (d : List Float) (r : Patch) (e : List Float) : Type 0 where
-  pub answer : r ≡ answerOf (refusalOf v radius (length d)) v
+  pub answer : r ≡ unless Refused (refusalOf v radius (length d)) (Cells (mapWidth v) (mapHeight v))
   pub number : numberOf r ≡ refusalOf v radius (length d)
   pub values : valuesOf r ≡ valuesUnless (refusalOf v radius (length d)) (mapWidth v ∷ mapHeight v ∷ [])
-  pub buffer : e ≡ cond (eqb (refusalOf v radius (length d)) 0) (front (cells v) d) d
+  pub buffer : e ≡ resultOr (refusalOf v radius (length d)) (front (cells v) d) d

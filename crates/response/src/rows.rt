@@ -4,7 +4,7 @@ ghost use mathlib.Core.List.{_++_};
 ghost use Prim.Native.Nat.{ℕ, _+_, _*_, _/_, _<_, _≤_};
 ghost use lib.ListN.{length, drop};
 ghost use Rattle.lists.specs.Tab.{tab, grid};
-ghost use Rattle.lists.specs.Refusals.{Sized};
+ghost use Rattle.lists.specs.Internal.{Sized};
 ghost use Rattle.ring.specs.Ring.{ringOf};
 ghost use Rattle.response.specs.Response.{response, responseAt};
 ghost use Rattle.response.specs.Internal.{Framed, Inner, Span, offsetAt};

@@ -9,7 +9,8 @@ use lib.Dec.{ltb}
 use lib.ListN.{length, drop}
 use lib.IntN.{ℤ}
 use borrow.Author.Tests.{ltb-false, not-false, eq-eqb, ne-eqb}
-use Rattle.lists.specs.Refusals.{lowest, Sized}
+use Rattle.lists.specs.Refusals.{lowest}
+use Rattle.lists.specs.Internal.{Sized}
 use Rattle.lists.proofs.Refusals.{all-clear, sized-of}
 use Rattle.lists.proofs.Tab.{length-grid}
 use Rattle.image_size.proofs.Judged.{passed}

@@ -5,7 +5,7 @@ use mathlib.Core.List.{List}
 use lib.ListN.{length, take, drop}
 use lib.IntN.{ℤ, pos}
 use Rattle.lists.specs.Tab.{tab}
-use Rattle.lists.specs.Refusals.{Sized}
+use Rattle.lists.specs.Internal.{Sized}
 use Rattle.ring.specs.Ring.{ringOf}
 use Rattle.ring.specs.Offsets.{offsetsOf}
 use Rattle.ring.specs.declared.RingOffsets.{RingOffsets}

@@ -1,5 +1,5 @@
 -- RULES 28.5: what a call of `response_limits` refuses, answers and leaves.
-use Prim.Native.Nat.{ℕ, zero, suc, _*_}
+use Prim.Native.Nat.{ℕ, _*_}
 use mathlib.Core.Path.{_≡_}
 use mathlib.Core.Bool.{Bool, not}
 use mathlib.Core.List.{List, [], _∷_}
@@ -9,7 +9,7 @@ use lib.IntN.{ℤ}
 use Rattle.lists.specs.Buffer.{front}
 use Rattle.lists.specs.Places.{any}
 use Rattle.lists.specs.Tab.{tab}
-use Rattle.lists.specs.Refusals.{lowest, unless, isLarge, isMisfit}
+use Rattle.lists.specs.Refusals.{lowest, unless, resultOr, isLarge, isMisfit}
 use Rattle.ring.specs.Ring.{ringOf, isRing}
 use Rattle.response_limits.specs.Limits.{rangeAt, lowMap, highMap}
 use Rattle.response_limits.specs.declared.Limits.{Limits}
@@ -40,14 +40,9 @@ abbrev pub numberOf : Limits → ℕ
 numberOf Written = 0
 numberOf (Refused n) = n
 
--- a buffer after a call with this number: the cells first and the rest as it was, or all of it as it was
-abbrev pub bufferOf : ℕ → List ℤ → List ℤ → List ℤ
-bufferOf zero cells d = front cells d
-bufferOf (suc n) cells d = d
-
 -- the promise of `response_limits`, for the images `low` and `high` of w by h: the buffers d and e become `lows` and `highs`
 pub record LimitsWritten (low high : List ℕ) (w h ring : ℕ) (d e : List ℤ) (r : Limits) (lows highs : List ℤ) : Type 0 where
   pub answer : r ≡ unless Refused (refusalOf low high w h ring (length d) (length e)) Written
   pub number : numberOf r ≡ refusalOf low high w h ring (length d) (length e)
-  pub lows-are : lows ≡ bufferOf (refusalOf low high w h ring (length d) (length e)) (lowMap low high w h (ringOf ring)) d
-  pub highs-are : highs ≡ bufferOf (refusalOf low high w h ring (length d) (length e)) (highMap low high w h (ringOf ring)) e
+  pub lows-are : lows ≡ resultOr (refusalOf low high w h ring (length d) (length e)) (front (lowMap low high w h (ringOf ring)) d) d
+  pub highs-are : highs ≡ resultOr (refusalOf low high w h ring (length d) (length e)) (front (highMap low high w h (ringOf ring)) e) e

@@ -5,7 +5,7 @@ ghost use Prim.Native.Nat.{ℕ, _+_, _*_, _<_, _≤_};
 ghost use lib.ListN.{length, drop};
 ghost use lib.IntN.{pos};
 ghost use Rattle.lists.specs.Tab.{tab};
-ghost use Rattle.lists.specs.Refusals.{Sized};
+ghost use Rattle.lists.specs.Internal.{Sized};
 ghost use Rattle.ring.specs.Ring.{ringOf};
 ghost use Rattle.response.specs.Internal.{Inner, Span};
 ghost use Rattle.response_limits.specs.Limits.{lowAt, highAt, lowMap, highMap};

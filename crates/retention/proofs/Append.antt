@@ -8,9 +8,8 @@ use mathlib.Core.List.{List, _++_}
 use lib.ListN.{length, take, drop, length-append, length-drop, List·getD-append}
 use lib.Seq.{take-append-le, drop-append-le}
 use borrow.Author.Tests.{le-leb, lt-leb, le-ltb}
-use Rattle.retention.specs.declared.Holding.{Holding}
-use Rattle.retention.specs.Retention.{known, stateOf, answerBy}
-use Rattle.retention.specs.Stream.{littleEndian, timeOf, timeFault, kindAt, secondAt, recordFault, recordAnswer, placeOf}
+use Rattle.retention.specs.Retention.{known}
+use Rattle.retention.specs.Stream.{littleEndian, timeOf, timeFault, kindAt, secondAt, recordFault, stateAt, placeOf}
 use Rattle.retention.specs.Wanted.{itemFault, wantedRecord}
 use Rattle.retention.proofs.Records.{timed, whole, fault-kind}
 
@@ -40,11 +39,6 @@ module _ (s : List ℕ) (at : ℕ) where
 
   pub settled-whole : recordFault s at ≡ 0 → Settled s at
   settled-whole e = let w = whole s at e in record { some = omega (arith, w .long); all = λ k. w .long }
-
--- a refusal does not look at the state
-refusal-same : (n : ℕ) (a b : Holding) → 0 < n → answerBy n a ≡ answerBy n b
-refusal-same zero a b l = absurd (let no : ⊥ = omega arith in no)
-refusal-same (suc n) a b l = refl
 
 module _ (s t : List ℕ) where
   pub longer : length (s ++ t) ≡ length s + length t
@@ -86,18 +80,8 @@ module _ (s t : List ℕ) where
                 le-ltb (length s) (at + 9) (w .all k),
               )
 
-      pub answer-same : 8 ≤ length s → recordAnswer (s ++ t) at ≡ recordAnswer s at
-      unfolding recordAnswer
-      answer-same l =
-          elim (decLt 0 (recordFault s at)) [
-            | yes p ↦ rw fault-same (refusal-same (recordFault s at) (state (s ++ t)) (state s) p)
-            | no g ↦
-                let all = whole s at (let z : recordFault s at ≡ 0 = omega arith in z) in
-                rw (fault-same, kind-same (w .some), start-same (all .long), time-same l)
-          ]
-        where
-          state : List ℕ → Holding
-          state u = stateOf (kindAt u at) (secondAt u at) (timeOf u)
+    pub state-same : 8 ≤ length s → at + 9 ≤ length s → stateAt (s ++ t) at ≡ stateAt s at
+    state-same l w = rw (kind-same (omega arith), start-same w, time-same l)
 
   -- ---- an item without fault stays so
   pub item-same : (k : ℕ) → itemFault s k ≡ 0 → itemFault (s ++ t) k ≡ 0

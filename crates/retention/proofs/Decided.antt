@@ -12,8 +12,8 @@ use Rattle.retention.specs.Retention.{known}
 use Rattle.retention.specs.Stream.{timeFault, kindAt, recordFault, placeOf, linesFrom, outputOf}
 use Rattle.retention.specs.Wanted.{wantedRecord, wantedFrom, wanted}
 use Rattle.retention.proofs.Records.{timed, whole}
-use Rattle.retention.proofs.Texts.{line-refused, line-letter}
-use Rattle.retention.proofs.Append.{settled, settled-whole, longer, time-fault-same, fault-same, answer-same}
+use Rattle.retention.proofs.Texts.{refuses, line-refused, line-letter}
+use Rattle.retention.proofs.Append.{settled, settled-whole, longer, time-fault-same, fault-same, state-same}
 
 -- ---- the time, and one record, of those looked at
 module _ (s : List ℕ) (n : ℕ) where
@@ -59,14 +59,14 @@ module _ (s t : List ℕ) (long : 8 ≤ length s) where
             let done = settled-whole s (placeOf k) z in
             let same = fault-same s t (placeOf k) done in
             line-letter (s ++ t) n k (omega (arith, done .some, longer s t)) (same ∙ z)
-            ∙ rw (answer-same s t (placeOf k) done long, lines-same n (suc k) (sym (wanted-past s n k z) ∙ w))
+            ∙ rw (state-same s t (placeOf k) long (whole s (placeOf k) z .long), lines-same n (suc k) (sym (wanted-past s n k z) ∙ w))
             (sym (line-letter s n k (done .some) z))
       ]
 
 module _ (s : List ℕ) where
   pub refused-time : (timeFault s ≡ 0 → ⊥) → outputOf s ≡ refusedText (timeFault s)
   unfolding outputOf
-  refused-time h = rw (ne-eqb (timeFault s) 0 h)
+  refused-time h = refuses (timeFault s) (linesFrom s 65536 0) h
 
   pub listed-time : timeFault s ≡ 0 → outputOf s ≡ linesFrom s 65536 0
   unfolding outputOf

@@ -5,7 +5,7 @@ use mathlib.Core.List.{List, [], _∷_, _++_, map}
 use Rattle.lists.specs.Places.{flatMap}
 use Rattle.listing.specs.Text.{decimal, refusedText}
 use Rattle.retention.specs.Retention.{stays, stateOf}
-use Rattle.retention.specs.Stream.{timeFault, recordFault, recordAnswer, linesFrom, outputOf}
+use Rattle.retention.specs.Stream.{timeFault, recordFault, linesFrom, outputOf}
 use Rattle.retention.specs.Wanted.{wantedRecord, wantedFrom, wanted}
 
 -- eight bytes of a number, and a record
@@ -68,7 +68,7 @@ texts =
     ∷ []
 
 pub printed-so : map outputOf streams ≡ texts
-unfolding outputOf timeFault recordFault recordAnswer linesFrom stateOf stays refusedText decimal
+unfolding outputOf timeFault recordFault linesFrom stateOf stays refusedText decimal
 printed-so = refl
 
 -- ---- the bytes that are wanted: none where a fault decides, else a kind, or the rest of a body

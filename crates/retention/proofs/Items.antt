@@ -3,17 +3,15 @@ use Prim.Native.Nat.{ℕ, zero, suc, _^_, _<_, _≤_}
 use native.Mathlib.Omega.{arith}
 use mathlib.Core.Path.{_≡_, refl, sym, ap, _∙_}
 use mathlib.Core.Bool.{Bool, true, false, cond, not, _||_}
-use mathlib.Core.List.{List, [], _∷_}
+use mathlib.Core.List.{[], _∷_}
 use lib.Dec.{ltb}
 use borrow.Author.Tests.{le-ltb, ltb-false, not-false}
-use Rattle.lists.specs.Refusals.{valuesUnless}
+use Rattle.lists.specs.Refusals.{unless, valuesUnless}
 use Rattle.lists.proofs.Tests.{or-neither}
 use Rattle.lists.proofs.Refusals.{lowest-none}
-use Rattle.listing.specs.Text.{newline}
 use Rattle.retention.specs.declared.Holding.{Holding}
 use Rattle.retention.specs.declared.Holding.the-variants.{NotYet, Held, Gone, Refused}
-use Rattle.retention.specs.Retention.{known, stays, stateOf, isLate, refusalOf, answerBy, numberOf, letterOf, valuesOf}
-use Rattle.retention.specs.Stream.{printed}
+use Rattle.retention.specs.Retention.{known, stays, stateOf, isLate, refusalOf, numberOf, letterOf, valuesOf}
 use Rattle.retention.specs.Answer.{Told}
 
 -- an item that is not refused
@@ -58,18 +56,6 @@ lettered kind start time = go (ltb time start) (stays kind start time)
     go false true = omega arith
     go false false = omega arith
 
--- which is printed
-pub state-printed : (kind start time : ℕ) (more : List ℕ)
-    → printed (stateOf kind start time) more ≡ letterOf (stateOf kind start time) ∷ newline ∷ more
-unfolding stateOf
-state-printed kind start time more = go (ltb time start) (stays kind start time)
-  where
-    go : (a b : Bool)
-        → printed (cond a NotYet (cond b Held Gone)) more ≡ letterOf (cond a NotYet (cond b Held Gone)) ∷ newline ∷ more
-    go true b = refl
-    go false true = refl
-    go false false = refl
-
 -- ---- the promise of `holding`
 module _ (kind start time : ℕ) where
   abbrev number : ℕ
@@ -79,7 +65,7 @@ module _ (kind start time : ℕ) where
   refused-told zero e h = absurd (h refl)
   refused-told (suc n) e h =
       record {
-        answer = ap (λ (k : ℕ). answerBy k (stateOf kind start time)) e;
+        answer = ap (λ (k : ℕ). unless Refused k (stateOf kind start time)) e;
         number = e;
         values = ap (λ (k : ℕ). valuesUnless k (valuesOf (stateOf kind start time))) e;
       }

@@ -6,21 +6,20 @@ use mathlib.Core.Path.{_≡_, refl, sym, ap, ap₂, _∙_}
 use mathlib.Core.List.{List, [], _∷_, _++_, append-assoc, append-nil}
 use lib.ListN.{length, take, drop, set, length-append, length-drop, length-set, drop-of-length-le}
 use lib.Seq.{length-take-le, take-length}
-use borrow.Author.Tests.{le-leb, lt-leb, ne-eqb}
+use borrow.Author.Tests.{le-leb, lt-leb}
 use borrow.Rule.Slice.PartMut.{midOf, putMid}
 use Rattle.lists.proofs.Buffer.{front-take, put-placed}
 use Rattle.lists.specs.Buffer.{Written}
+use Rattle.lists.specs.Refusals.{unless}
 use Rattle.listing.specs.Text.{newline, decimal, refusedText}
 use Rattle.listing.specs.Internal.{Wrote}
-use Rattle.listing.specs.Answer.{RefusalWritten}
 use Rattle.listing.proofs.Numbers.{decimal-long}
 use Rattle.listing.proofs.Lines.{ended-long}
 use Rattle.listing.proofs.Texts.{wrote-first}
 use Rattle.listing.proofs.Appending.{wrote-length, wrote-more, wrote-as, wrote-none, wrote-byte}
 use Rattle.retention.specs.Retention.{letterOf}
-use Rattle.retention.specs.Stream.{timeOf, timeFault, kindAt, secondAt, recordFault, recordAnswer, placeOf, linesFrom, outputOf}
+use Rattle.retention.specs.Stream.{timeFault, recordFault, stateAt, placeOf, linesFrom, outputOf}
 use Rattle.retention.specs.Internal.{longest}
-use Rattle.retention.proofs.Items.{state-printed}
 
 -- ---- a refusal
 
@@ -30,15 +29,15 @@ unfolding refusedText
 refusal-long n h = omega (arith, ended-long (decimal n) newline, decimal-long 1 n (omega arith))
 
 -- it was written into a text of its own, and is copied from there
-module _ (number : ℕ) (small : number ≤ 20) (before : List ℕ) (n : ℕ) (after : List ℕ) (w : RefusalWritten number before n after) where
+module _ (number : ℕ) (small : number ≤ 20) (before : List ℕ) (n : ℕ) (after : List ℕ) (w : Written (refusedText number) before n after) where
   pub text-fits : n ≤ length after
-  text-fits = omega (arith, w .long, ap length (w .text) ∙ length-append (refusedText number) (drop (length (refusedText number)) before))
+  text-fits = omega (arith, w .ends, ap length (w .holds) ∙ length-append (refusedText number) (drop (length (refusedText number)) before))
 
   pub text-short : n ≤ 11
-  text-short = omega (arith, w .long, refusal-long number small)
+  text-short = omega (arith, w .ends, refusal-long number small)
 
   text-is : take n after ≡ refusedText number
-  text-is = ap (take n) (w .text) ∙ front-take (refusedText number) before n (w .long)
+  text-is = ap (take n) (w .holds) ∙ front-take (refusedText number) before n (w .ends)
 
   module _ (out : List ℕ) (at : ℕ) (room : at + 11 ≤ length out) where
     part-long : length (midOf at (at + n - at) out) ≡ n
@@ -58,10 +57,10 @@ module _ (number : ℕ) (small : number ≤ 20) (before : List ℕ) (n : ℕ) (a
         ∙ ap₂ (λ (a b : List ℕ). a ++ b) (take-length source ∙ text-is)
         (drop-of-length-le (midOf at (at + n - at) out) {i = length source} (omega (arith, part-long, length-take-le n after text-fits)))
         ∙ append-nil (refusedText number) in
-        let k : at + n - at ≡ length (refusedText number) = omega (arith, w .long) in
+        let k : at + n - at ≡ length (refusedText number) = omega (arith, w .ends) in
         record {
-          fits = omega (arith, w .long, text-short);
-          ends = ap (λ (j : ℕ). at + j) (w .long);
+          fits = omega (arith, w .ends, text-short);
+          ends = ap (λ (j : ℕ). at + j) (w .ends);
           holds = rw is (put-placed at (at + n - at) (refusedText number) out k);
         }
 
@@ -74,20 +73,21 @@ letter-written at out letter l =
     (wrote-more (wrote-byte at out letter (omega arith)) (wrote-byte (at + 1) (set out at letter) newline (simp length-set (omega arith))))
 
 -- ---- the lines of a stream
+pub refuses : (fault : ℕ) (lines : List ℕ) → (fault ≡ 0 → ⊥) → unless refusedText fault lines ≡ refusedText fault
+refuses zero lines h = absurd (h refl)
+refuses (suc fault) lines h = refl
+
 module _ (s : List ℕ) where
   -- one record more: its fault, or its letter
   module _ (n k : ℕ) (some : placeOf k < length s) where
     pub line-refused : (fault : ℕ) → fault ≡ recordFault s (placeOf k) → (fault ≡ 0 → ⊥) → linesFrom s (suc n) k ≡ refusedText fault
-    unfolding linesFrom recordAnswer
-    line-refused zero e h = absurd (h refl)
-    line-refused (suc fault) e h = rw (lt-leb (length s) (placeOf k) some, ← e)
+    unfolding linesFrom
+    line-refused fault e h = rw (lt-leb (length s) (placeOf k) some, ← e) (refuses fault _ h)
 
     pub line-letter : recordFault s (placeOf k) ≡ 0
-        → linesFrom s (suc n) k ≡ letterOf (recordAnswer s (placeOf k)) ∷ newline ∷ linesFrom s n (suc k)
-    unfolding linesFrom recordAnswer
-    line-letter e =
-        rw (lt-leb (length s) (placeOf k) some, e)
-        (state-printed (kindAt s (placeOf k)) (secondAt s (placeOf k)) (timeOf s) (linesFrom s n (suc k)))
+        → linesFrom s (suc n) k ≡ letterOf (stateAt s (placeOf k)) ∷ newline ∷ linesFrom s n (suc k)
+    unfolding linesFrom
+    line-letter e = rw (lt-leb (length s) (placeOf k) some, e)
 
   -- no record more
   pub lines-none : (k : ℕ) → linesFrom s 0 k ≡ []
@@ -157,11 +157,11 @@ module _ (s : List ℕ) where
           let last = ap (λ (n : ℕ). linesFrom s n k) one ∙ line-refused left k here fault (e ∙ ap (recordFault s) (l .place)) h in
           wrote-as (sym (l .rest ∙ ap (λ (t : List ℕ). l .text ++ t) last)) (wrote-more (l .wrote) w)
 
-      pub listed-next : (letter end′ : ℕ) (out′ : List ℕ) → recordFault s at ≡ 0 → letter ≡ letterOf (recordAnswer s at)
+      pub listed-next : (letter end′ : ℕ) (out′ : List ℕ) → recordFault s at ≡ 0 → letter ≡ letterOf (stateAt s at)
           → Wrote (letter ∷ newline ∷ []) end out end′ out′ → Listed before (at + 9) end′ out′
       listed-next letter end′ out′ e is w =
           let line = ap (λ (n : ℕ). linesFrom s n k) one ∙ line-letter left k here (sym (ap (recordFault s) (l .place)) ∙ e) in
-          let same : letterOf (recordAnswer s (placeOf k)) ≡ letter = sym (is ∙ ap (λ (p : ℕ). letterOf (recordAnswer s p)) (l .place)) in
+          let same : letterOf (stateAt s (placeOf k)) ≡ letter = sym (is ∙ ap (λ (p : ℕ). letterOf (stateAt s p)) (l .place)) in
           record {
             passed = suc k;
             place = omega (arith, l .place);
@@ -177,13 +177,10 @@ module _ (s : List ℕ) where
 
 -- ---- the promise of `list_holdings`
 module _ (s before : List ℕ) (end : ℕ) (after : List ℕ) where
-  first-written : (text : List ℕ) → Wrote text 0 before end after → Written text before end after
-  first-written text w = let is = wrote-first w in record { ends = is .0; holds = is .1 }
-
   pub time-refused : (k : ℕ) → k ≡ timeFault s → (k ≡ 0 → ⊥) → Wrote (refusedText k) 0 before end after → Written (outputOf s) before end after
   unfolding outputOf
-  time-refused k e h w = rw (← e, ne-eqb k 0 h) (first-written (refusedText k) w)
+  time-refused k e h w = rw (← e, refuses k (linesFrom s 65536 0) h) (wrote-first w)
 
   pub lines-written : timeFault s ≡ 0 → Wrote (linesFrom s 65536 0) 0 before end after → Written (outputOf s) before end after
   unfolding outputOf
-  lines-written e w = rw e (first-written (linesFrom s 65536 0) w)
+  lines-written e w = rw e (wrote-first w)

@@ -1,5 +1,5 @@
 -- What may be deleted (RULES 32): whether an item is held at a time. Times are seconds.
-use Prim.Native.Nat.{ℕ, zero, suc, _+_, _/_, _^_}
+use Prim.Native.Nat.{ℕ, _+_, _/_, _^_}
 use mathlib.Core.Bool.{Bool, true, cond, not, _&&_, _||_}
 use mathlib.Core.List.{List, [], _∷_}
 use lib.Dec.{eqb, ltb, leb}
@@ -33,11 +33,6 @@ isLate second = ltb (2 ^ 40) second
 -- 6: the kind is unknown; then 20 (RULES 32.3)
 unfoldable pub refusalOf : ℕ → ℕ → ℕ → ℕ
 refusalOf kind start time = lowest ((not (known kind), 6) ∷ (isLate start || isLate time, 20) ∷ [])
-
--- the state of an item, unless this number, 0 for none, refuses it
-abbrev pub answerBy : ℕ → Holding → Holding
-answerBy zero state = state
-answerBy (suc n) state = Refused (suc n)
 
 -- ---- an answer's number and values
 

@@ -3,12 +3,11 @@ use Prim.Native.Nat.{ℕ, zero, suc, _+_, _*_}
 use mathlib.Core.Bool.{cond, not}
 use mathlib.Core.List.{List, [], _∷_}
 use lib.ListN.{length, getD, take, drop}
-use lib.Dec.{eqb, ltb, leb}
-use Rattle.lists.specs.Refusals.{lowest}
+use lib.Dec.{ltb, leb}
+use Rattle.lists.specs.Refusals.{lowest, unless}
 use Rattle.listing.specs.Text.{newline, refusedText}
 use Rattle.retention.specs.declared.Holding.{Holding}
-use Rattle.retention.specs.declared.Holding.the-variants.{NotYet, Held, Gone, Refused}
-use Rattle.retention.specs.Retention.{known, stateOf, isLate, answerBy, letterOf}
+use Rattle.retention.specs.Retention.{known, stateOf, isLate, letterOf}
 
 -- an unsigned number, little-endian (RULES 32.4)
 abbrev pub littleEndian : List ℕ → ℕ
@@ -42,32 +41,24 @@ recordFault s at =
     ∷ (isLate (secondAt s at), 20)
     ∷ [])
 
-unfoldable pub recordAnswer : List ℕ → ℕ → Holding
-recordAnswer s at = answerBy (recordFault s at) (stateOf (kindAt s at) (secondAt s at) (timeOf s))
+-- the state of its item at the stream's time
+abbrev pub stateAt : List ℕ → ℕ → Holding
+stateAt s at = stateOf (kindAt s at) (secondAt s at) (timeOf s)
 
 -- ---- what is printed
-
--- the line of an item with its letter, and the lines behind it; at a faulty record a line `refused N` with its
--- number ends the output (RULES 32.5)
-abbrev pub printed : Holding → List ℕ → List ℕ
-printed NotYet more = letterOf NotYet ∷ newline ∷ more
-printed Held more = letterOf Held ∷ newline ∷ more
-printed Gone more = letterOf Gone ∷ newline ∷ more
-printed (Refused n) more = refusedText n
 
 -- record k, the first being record 0, stands behind the time and k records of nine bytes
 abbrev pub placeOf : ℕ → ℕ
 placeOf k = 8 + 9 * k
 
--- the lines of at most n records from record k on, in their order; the stream may end behind any record (RULES 32.4)
+-- the lines of at most n records from record k on, in their order: the letter of each item; at a faulty record a line `refused N` with its number
+-- ends the output (RULES 32.5); the stream may end behind any record (RULES 32.4)
 unfoldable pub linesFrom : List ℕ → ℕ → ℕ → List ℕ
 linesFrom s zero k = []
 linesFrom s (suc n) k =
-    let lines = printed (recordAnswer s (placeOf k)) (linesFrom s n (suc k)) in
-    cond (leb (length s) (placeOf k)) [] lines
+    let lines = letterOf (stateAt s (placeOf k)) ∷ newline ∷ linesFrom s n (suc k) in
+    cond (leb (length s) (placeOf k)) [] (unless refusedText (recordFault s (placeOf k)) lines)
 
 -- at most 65,536 records are read, and what follows is not (RULES 32.4); of a faulty time the line `refused N` is all (RULES 32.5)
 unfoldable pub outputOf : List ℕ → List ℕ
-outputOf s =
-    let lines = linesFrom s 65536 0 in
-    cond (eqb (timeFault s) 0) lines (refusedText (timeFault s))
+outputOf s = unless refusedText (timeFault s) (linesFrom s 65536 0)

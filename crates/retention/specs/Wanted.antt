@@ -28,16 +28,12 @@ wantedItem s (suc k) = wantedRecord s (placeOf k)
 -- the first item that is faulty or cut short
 unfoldable pub passedFrom : List ℕ → ℕ → ℕ → ℕ
 passedFrom s zero k = k
-passedFrom s (suc n) k =
-    let past = passedFrom s n (suc k) in
-    cond (eqb (itemFault s k) 0) past k
+passedFrom s (suc n) k = cond (eqb (itemFault s k) 0) (passedFrom s n (suc k)) k
 
 -- the bytes of it that are wanted
 unfoldable pub wantedFrom : List ℕ → ℕ → ℕ → ℕ
 wantedFrom s zero k = 0
-wantedFrom s (suc n) k =
-    let past = wantedFrom s n (suc k) in
-    cond (eqb (itemFault s k) 0) past (wantedItem s k)
+wantedFrom s (suc n) k = cond (eqb (itemFault s k) 0) (wantedFrom s n (suc k)) (wantedItem s k)
 
 -- ---- of a stream: the time and 65,536 records
 abbrev pub items : ℕ

@@ -8,7 +8,7 @@ ghost use Rattle.lists.specs.Buffer.{Written};
 ghost use Rattle.listing.specs.Text.{newline, refusedText};
 ghost use Rattle.listing.specs.Internal.{Wrote};
 ghost use Rattle.retention.specs.Retention.{letterOf};
-ghost use Rattle.retention.specs.Stream.{timeOf, recordFault, recordAnswer, linesFrom, outputOf};
+ghost use Rattle.retention.specs.Stream.{timeOf, recordFault, stateAt, linesFrom, outputOf};
 ghost use Rattle.retention.specs.Internal.{longest};
 
 // The longest text: 65,535 letters, each with a newline, and `refused 20`.
@@ -56,7 +56,7 @@ fn put_refusal(out: &mut [u8], at: usize, number: u8) -> usize
 // The letter of the record at a place, which has no fault.
 fn letter_at(input: &[u8], at: usize, time: u64) -> u8
     requires { ⌜ (recordFault (now input) at ≡ 0) × (time ≡ timeOf (now input)) × (time ≤ 2 ^ 40) ⌝ }
-    ensures { λ r. ⌜ r ≡ letterOf (recordAnswer (now (input .entry)) at) ⌝ }
+    ensures { λ r. ⌜ r ≡ letterOf (stateAt (now (input .entry)) at) ⌝ }
 {
     let start = crate::start_at(input, at);
     letter_of(crate::item::holding(input[at], start, time))

@@ -4,12 +4,13 @@ use mathlib.Core.Bool.{Bool, true, false, cond, not, _||_}
 use mathlib.Core.List.{List, [], _∷_}
 use Prim.Native.Nat.{ℕ, zero, suc, _+_, _*_}
 use native.Mathlib.Omega.{arith}
-use lib.Dec.{eqb, leb, eqb·suc-zero}
+use lib.Dec.{leb}
 use lib.ListN.{length, length-set}
 use lib.Ieee.{Float}
 use borrow.Author.Tests.{le-ltb, eq-eqb, leb-false, not-false}
 use Rattle.lists.specs.Places.{Place}
-use Rattle.lists.specs.Refusals.{lowest, isLarge, isMisfit, Sized}
+use Rattle.lists.specs.Refusals.{lowest, isLarge, isMisfit}
+use Rattle.lists.specs.Internal.{Sized}
 use Rattle.lists.proofs.Tests.{or-neither}
 use Rattle.lists.proofs.Refusals.{all-clear, sized-of}
 use Rattle.image_size.specs.ImageSize as image_size
@@ -80,7 +81,7 @@ module _ (w h ring : ℕ) (q : Place) (value : ℕ) (img : List ℕ) (m : List F
   pub when-refused : (n : ℕ) → n ≡ refusalOf (length img) (length m) w h ring q → (n ≡ 0 → ⊥) → Retouches w h ring q value img m (Refused n) img m
   when-refused zero e z = absurd (z refl)
   when-refused (suc n) e z =
-      record { answer = rw (← e); number = e; values = rw (← e); image = rw (← e, eqb·suc-zero n); map = rw (← e, eqb·suc-zero n) }
+      record { answer = rw (← e); number = e; values = rw (← e); image = rw (← e); map = rw (← e) }
 
   pub when-redone : (n cells : ℕ) (img′ : List ℕ) (m′ : List Float) → n ≡ refusalOf (length img) (length m) w h ring q → n ≡ 0 → img′ ≡ changed img w q value
       → cells ≡ touchedCount w h (ringOf ring) q → m′ ≡ redone img′ w h (ringOf ring) q m → Retouches w h ring q value img m (Redone cells) img′ m′

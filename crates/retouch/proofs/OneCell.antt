@@ -13,7 +13,7 @@ use lib.Ieee.{Float}
 use borrow.Rule.Slice.PartMut.{putMid}
 use Rattle.float32.specs.Float32.{zero}
 use Rattle.lists.specs.Places.{Place}
-use Rattle.lists.specs.Refusals.{Sized}
+use Rattle.lists.specs.Internal.{Sized}
 use Rattle.lists.proofs.Places.{in-map}
 use Rattle.lists.proofs.Buffer.{put-placed}
 use Rattle.ring.specs.Ring.{ringOf}

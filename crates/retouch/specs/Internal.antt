@@ -10,7 +10,7 @@ use lib.Ieee.{Float}
 use Rattle.float32.specs.Float32.{zero}
 use Rattle.lists.specs.Tab.{grid}
 use Rattle.lists.specs.Places.{Place, any, count, block}
-use Rattle.lists.specs.Refusals.{Sized}
+use Rattle.lists.specs.Internal.{Sized}
 use Rattle.ring.specs.Ring.{Ring}
 use Rattle.response.specs.Response.{inside, responseAt}
 use Rattle.retouch.specs.Retouch.{isAt}

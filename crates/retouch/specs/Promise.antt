@@ -1,13 +1,13 @@
 -- RULES 27.4: what a call of `retouch` refuses, answers and leaves.
-use Prim.Native.Nat.{ℕ, zero, suc}
+use Prim.Native.Nat.{ℕ}
 use mathlib.Core.Path.{_≡_}
-use mathlib.Core.Bool.{Bool, cond, not, _||_}
+use mathlib.Core.Bool.{Bool, not, _||_}
 use mathlib.Core.List.{List, [], _∷_}
-use lib.Dec.{eqb, leb}
+use lib.Dec.{leb}
 use lib.ListN.{length}
 use lib.Ieee.{Float}
 use Rattle.lists.specs.Places.{Place}
-use Rattle.lists.specs.Refusals.{lowest, valuesUnless, isLarge, isMisfit}
+use Rattle.lists.specs.Refusals.{lowest, unless, valuesUnless, resultOr, isLarge, isMisfit}
 use Rattle.ring.specs.Ring.{ringOf, isRing}
 use Rattle.retouch.specs.Retouch.{touchedCount, changed, redone}
 use Rattle.retouch.specs.declared.Retouched.{Retouched}
@@ -26,12 +26,7 @@ conditions pixels cells w h ring q =
 unfoldable pub refusalOf : ℕ → ℕ → ℕ → ℕ → ℕ → Place → ℕ
 refusalOf pixels cells w h ring q = lowest (conditions pixels cells w h ring q)
 
--- the answer of each number: 0 is the number of cells that were computed anew, any other a refusal
-abbrev pub answerOf : ℕ → ℕ → Retouched
-answerOf zero cells = Redone cells
-answerOf (suc n) cells = Refused (suc n)
-
--- the number and the values of each case
+-- the number and the values of each case: 0 for no refusal, and how many cells were computed anew
 abbrev pub numberOf : Retouched → ℕ
 numberOf (Redone cells) = 0
 numberOf (Refused n) = n
@@ -43,8 +38,8 @@ valuesOf (Refused n) = []
 -- the promise of `retouch`, for the pixel q of an image of w by h and the value it gets: the image becomes `image`, and the map `map`; both are as
 -- they were where the call is refused
 pub record Retouches (w h ring : ℕ) (q : Place) (value : ℕ) (img : List ℕ) (m : List Float) (r : Retouched) (img′ : List ℕ) (m′ : List Float) : Type 0 where
-  pub answer : r ≡ answerOf (refusalOf (length img) (length m) w h ring q) (touchedCount w h (ringOf ring) q)
+  pub answer : r ≡ unless Refused (refusalOf (length img) (length m) w h ring q) (Redone (touchedCount w h (ringOf ring) q))
   pub number : numberOf r ≡ refusalOf (length img) (length m) w h ring q
   pub values : valuesOf r ≡ valuesUnless (refusalOf (length img) (length m) w h ring q) (touchedCount w h (ringOf ring) q ∷ [])
-  pub image : img′ ≡ cond (eqb (refusalOf (length img) (length m) w h ring q) 0) (changed img w q value) img
-  pub map : m′ ≡ cond (eqb (refusalOf (length img) (length m) w h ring q) 0) (redone (changed img w q value) w h (ringOf ring) q m) m
+  pub image : img′ ≡ resultOr (refusalOf (length img) (length m) w h ring q) (changed img w q value) img
+  pub map : m′ ≡ resultOr (refusalOf (length img) (length m) w h ring q) (redone (changed img w q value) w h (ringOf ring) q m) m

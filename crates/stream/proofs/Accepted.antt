@@ -9,7 +9,7 @@ use mathlib.Core.List.{List, [], _∷_, _++_, append-assoc, append-nil}
 use lib.ListN.{length, getD, take, drop, replicate, length-append, length-take, length-drop, take-append-drop, drop-of-length-le}
 use lib.Seq.{take-at, drop-at, take-all, drop-drop, length-take-le, ext-getD}
 use lib.Dec.{eqb}
-use borrow.Author.Tests.{eqb-true, ne-eqb, not-false}
+use borrow.Author.Tests.{eqb-true, not-false}
 use Rattle.lists.specs.Tab.{tab}
 use Rattle.lists.specs.Places.{any, All}
 use Rattle.lists.proofs.Tab.{length-tab, getD-tab}
@@ -18,8 +18,9 @@ use Rattle.lists.proofs.Refusals.{lowest-none}
 use Rattle.stream.specs.declared.Header.{Header}
 use Rattle.stream.specs.Stream.{u8, u16, u32, bodyLength, bodyOf, behind, headerOf, recordsFor, paddingFault, bodyFault, recordFault}
 use Rattle.stream.specs.Stream.{Reading, accepted, readRecord, readPixels, readParameters, readFrame}
-use Rattle.stream.specs.RoundTrip.{bytes16, bytes32, sidesBytes, parametersBytes, pixelBytes, frameBytes, Accepted, AcceptedGood, AcceptedOnly, RoundTrip}
+use Rattle.stream.specs.RoundTrip.{bytes16, bytes32, sidesBytes, parametersBytes, pixelBytes, frameBytes, Accepted, RoundTrip}
 use Rattle.stream.proofs.Records.{sound}
+use Rattle.stream.proofs.Order.{read-faulty}
 use Rattle.stream.proofs.RoundTrip.{frame-back}
 
 -- ---- a record behind which the stream is accepted
@@ -32,12 +33,10 @@ pub record Came (kind left : ℕ) (s : List ℕ) (next : List ℕ → List ℕ �
 module _ (kind left : ℕ) (s : List ℕ) (next : List ℕ → List ℕ → Reading) (h : Header) (pixels : List ℕ)
     (e : readRecord kind left s next ≡ accepted h pixels) where
   no-fault : recordFault kind left s ≡ 0
-  unfolding readRecord
   no-fault =
       elim (decLt 0 (recordFault kind left s)) [
         | yes l ↦
-            let f = ne-eqb (recordFault kind left s) 0 (λ z. let no : ⊥ = omega arith in no) in
-            let r = rw f at e in
+            let r = sym (read-faulty kind left s next (λ z. let no : ⊥ = omega arith in no)) ∙ e in
             let z : _≡_ {A = ℕ} 0 1 = cc in
             absurd (let no : ⊥ = omega arith in no)
         | no g ↦ omega arith
@@ -231,9 +230,9 @@ module _ (s : List ℕ) (h : Header) (pixels : List ℕ) (e : readFrame s ≡ ac
   third : Pixels said (recordsFor (said .width * said .height)) (said .width * said .height) [] (behind 2 (behind 1 s)) h pixels
   third = pixels-only said (recordsFor (said .width * said .height)) (said .width * said .height) [] (behind 2 (behind 1 s)) h pixels refl (second .goes-on)
 
-  good : Accepted h pixels
+  pub accepted-good : Accepted h pixels
   unfolding bodyFault
-  good = record {
+  accepted-good = record {
     sides = rw (third .same) (first .good);
     parameters = rw (third .same) (second .good);
     long = ap length (third .gathered) ∙ third .long ∙ ap (λ (k : Header). k .width * k .height) (sym (third .same));
@@ -261,18 +260,11 @@ module _ (s : List ℕ) (h : Header) (pixels : List ℕ) (e : readFrame s ≡ ac
         ∙ ap (λ (t : List ℕ). 1 ∷ (t ++ (2 ∷ (bodyOf 2 (behind 1 s) ++ behind 2 (behind 1 s))))) sides
         ∙ ap₂ (λ (p t : List ℕ). 1 ∷ (sidesBytes said ++ (2 ∷ (p ++ t)))) parameters pixels-part
 
-    only : take (length (frameBytes h pixels)) s ≡ frameBytes h pixels
-    only =
+    pub accepted-only : take (length (frameBytes h pixels)) s ≡ frameBytes h pixels
+    accepted-only =
         rw (third .same, third .gathered)
         (ap (take (length (frameBytes said (third .more)))) written
         ∙ take-at (frameBytes said (third .more)) (third .rest) (length (frameBytes said (third .more))) refl)
 
--- ---- the statements
-pub accepted-good : AcceptedGood
-accepted-good = good
-
-pub accepted-only : AcceptedOnly
-accepted-only = only
-
 pub round-trip : RoundTrip
-round-trip = record { frame-back = frame-back; accepted-good = good; accepted-only = only }
+round-trip = record { frame-back = frame-back; accepted-good = accepted-good; accepted-only = accepted-only }

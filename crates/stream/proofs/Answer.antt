@@ -2,19 +2,16 @@
 use Prim.Native.Nat.{ℕ, _*_, _≤_}
 use native.Mathlib.Nat.{mul-le-mul}
 use native.Mathlib.Omega.{arith}
-use mathlib.Core.Path.{_≡_, sym, ap, _∙_}
+use mathlib.Core.Path.{_≡_, refl, sym, ap, _∙_}
 use mathlib.Core.List.{List}
-use lib.ListN.{take}
-use borrow.Author.Tests.{ne-eqb}
 use Rattle.lists.specs.Tab.{tab}
 use Rattle.lists.specs.Buffer.{front}
-use Rattle.lists.proofs.Tab.{length-tab}
-use Rattle.lists.proofs.Buffer.{front-take}
 use Rattle.stream.specs.declared.Header.{Header}
 use Rattle.stream.specs.declared.FrameStream.the-variants.{Frame, Refused}
-use Rattle.stream.specs.Stream.{accepted, refused, readFrame}
-use Rattle.stream.specs.Answer.{faultOf, statedIn, bufferAfter, FrameRead}
+use Rattle.stream.specs.Stream.{Reading, accepted, refused, readFrame}
+use Rattle.stream.specs.Answer.{answerOf, numberOf, valuesOf, bufferAfter, FrameRead}
 use Rattle.stream.specs.Internal.{headerAt, pixelCount, pixelByte, Small, Judged}
+use Rattle.stream.proofs.Order.{unless-faulty}
 
 pub pixels-are : (s : List ℕ) (header : Header) → header ≡ headerAt s → header .width * header .height ≡ pixelCount s
 unfolding headerAt pixelCount
@@ -24,24 +21,18 @@ pub pixels-fit : (s : List ℕ) → Small s → pixelCount s ≤ 9216
 unfolding pixelCount
 pixels-fit s p = omega (arith, mul-le-mul (p .width) (p .height))
 
-module _ (s d : List ℕ) (n : ℕ) (j : Judged s n) where
-  pub refused-read : (n ≡ 0 → ⊥) → FrameRead s d (Refused n) d
-  refused-read h =
-      let is : readFrame s ≡ refused n = j .reading ∙ rw (ne-eqb n 0 h) in
-      record { reading = sym is; number = ap faultOf (sym is); values = ap statedIn (sym is); pixels = ap (λ r. bufferAfter r d) (sym is) }
+module _ (s d : List ℕ) where
+  -- the promise from what is read
+  told : (k : Reading) (after : List ℕ) → readFrame s ≡ k → after ≡ bufferAfter k d → FrameRead s d (answerOf k) after
+  told k after is stands =
+      let same : answerOf k ≡ answerOf (readFrame s) = ap answerOf (sym is) in
+      record { answer = same; number = ap numberOf same; values = ap valuesOf same; pixels = stands ∙ ap (λ r. bufferAfter r d) (sym is) }
 
-  pub frame-read : n ≡ 0 → (header : Header) (k : ℕ) (after : List ℕ) → header ≡ headerAt s → k ≡ pixelCount s
-      → after ≡ front (tab k (pixelByte s)) d → FrameRead s d (Frame header) after
-  frame-read z header k after e q r =
-      let pixels = tab (pixelCount s) (pixelByte s) in
-      let is : readFrame s ≡ accepted header pixels = j .reading ∙ rw (z, e) in
-      let stands : after ≡ front pixels d = r ∙ ap (λ (k : ℕ). front (tab k (pixelByte s)) d) q in
-      let first : take (header .width * header .height) after ≡ pixels =
-      ap (take (header .width * header .height)) stands
-      ∙ front-take pixels d (header .width * header .height) (pixels-are s header e ∙ sym (length-tab (pixelCount s) (pixelByte s))) in
-      record {
-        reading = ap (accepted header) first ∙ sym is;
-        number = ap faultOf (sym is);
-        values = ap statedIn (sym is);
-        pixels = stands ∙ ap (λ r. bufferAfter r d) (sym is);
-      }
+  module _ (n : ℕ) (j : Judged s n) where
+    pub refused-read : (n ≡ 0 → ⊥) → FrameRead s d (Refused n) d
+    refused-read h = told (refused n) d (j .reading ∙ unless-faulty n _ h) refl
+
+    pub frame-read : n ≡ 0 → (header : Header) (k : ℕ) (after : List ℕ) → header ≡ headerAt s → k ≡ pixelCount s
+        → after ≡ front (tab k (pixelByte s)) d → FrameRead s d (Frame header) after
+    frame-read z header k after e q r =
+        told (accepted header (tab (pixelCount s) (pixelByte s))) after (j .reading ∙ rw (z, e)) (r ∙ ap (λ (k : ℕ). front (tab k (pixelByte s)) d) q)

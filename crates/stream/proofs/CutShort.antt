@@ -17,7 +17,8 @@ use Rattle.lists.proofs.Refusals.{lowest-le}
 use Rattle.merge_radius.specs.MergeRadius.{radiusOutside}
 use Rattle.stream.specs.Stream.{u8, u16, u32, known, bodyLength, Reading, refused, readRecord}
 use Rattle.stream.specs.Stream.{sidesFault, rangeOutside, parametersFault, paddingFault, bodyFault, recordFault}
-use Rattle.stream.specs.Wanted.{wantedBody, Open}
+use Rattle.stream.specs.Wanted.{wantedBody}
+use Rattle.stream.proofs.Meaning.{Open}
 use Rattle.stream.proofs.Records.{fault-same}
 use Rattle.stream.proofs.Order.{read-faulty}
 use Rattle.stream.proofs.RoundTrip.{record-back}

@@ -13,7 +13,8 @@ use borrow.Author.Tests.{ne-eqb, eqb-true, eqb-false}
 use Rattle.stream.specs.declared.Header.{Header}
 use Rattle.stream.specs.Stream.{u16, known, bodyLength, bodyOf, behind, headerOf, bodyFault, recordFault}
 use Rattle.stream.specs.Stream.{Reading, accepted, refused, readRecord, recordsFor, readPixels, readParameters, readFrame}
-use Rattle.stream.specs.Wanted.{wantedBody, wantedHere, wantedRecord, wantedPixels, wantedParameters, wanted, Open, Wanted}
+use Rattle.stream.specs.Wanted.{wantedBody, wantedHere, wantedRecord, wantedPixels, wantedParameters, wanted}
+use Rattle.stream.proofs.Meaning.{Open, Wanted}
 use Rattle.stream.proofs.Records.{sound, fault-same, body-same}
 use Rattle.stream.proofs.Order.{read-faulty, read-sound, small-sides}
 use Rattle.stream.proofs.CutShort.{other-kind, cut-open, body-cut, body-still, body-total}

@@ -7,6 +7,7 @@ pub mod Answer
 pub mod RoundTrip
 pub mod Accepted
 pub mod Callers
+pub mod Meaning
 pub mod CutShort
 pub mod Decided
 pub mod Prefix

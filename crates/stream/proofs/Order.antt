@@ -12,6 +12,7 @@ use lib.Seq.{drop-drop}
 use lib.Dec.{eqb, ltb}
 use borrow.Author.Tests.{ne-eqb, ltb-false}
 use Rattle.lists.specs.Tab.{tab}
+use Rattle.lists.specs.Refusals.{unless}
 use Rattle.lists.proofs.Tests.{or-neither}
 use Rattle.lists.proofs.Refusals.{lowest-none}
 use Rattle.stream.specs.declared.Header.{Header}
@@ -23,10 +24,14 @@ use Rattle.stream.proofs.Records.{sound}
 use Rattle.stream.proofs.PixelPlaces.{one-fewer, pixels-more}
 
 -- ---- a record that is read: its fault, or what follows
+pub unless-faulty : (fault : ℕ) (next : Reading) → (fault ≡ 0 → ⊥) → unless refused fault next ≡ refused fault
+unless-faulty zero next h = absurd (h refl)
+unless-faulty (suc n) next h = refl
+
 module _ (kind left : ℕ) (s : List ℕ) (next : List ℕ → List ℕ → Reading) where
   pub read-faulty : (recordFault kind left s ≡ 0 → ⊥) → readRecord kind left s next ≡ refused (recordFault kind left s)
   unfolding readRecord
-  read-faulty h = rw (ne-eqb (recordFault kind left s) 0 h)
+  read-faulty h = unless-faulty (recordFault kind left s) (next (bodyOf kind s) (behind kind s)) h
 
   pub read-sound : recordFault kind left s ≡ 0 → readRecord kind left s next ≡ next (bodyOf kind s) (behind kind s)
   unfolding readRecord
@@ -360,7 +365,7 @@ module _ {s : List ℕ} {kind at left : ℕ} (st : Standing s kind at left) wher
     standing-faulty h =
         let f = stage-faulty (st .stage) going (λ e. h (fault-is ∙ e)) in
         record {
-          judged = record { reading = f .reading ∙ ap refused (sym fault-is) ∙ rw (ne-eqb n 0 h); whole = λ e. absurd (h e) };
+          judged = record { reading = f .reading ∙ ap refused (sym fault-is) ∙ sym (unless-faulty n _ h); whole = λ e. absurd (h e) };
           wants = rw (ne-eqb n 0 h, due-is, st .at-is, st .left-is) (f .wanting);
         }
 

@@ -15,7 +15,7 @@ use Rattle.stream.specs.declared.Header.{Header}
 use Rattle.stream.specs.Stream.{known, bodyLength, bodyOf, behind, headerOf, recordsFor}
 use Rattle.stream.specs.Stream.{sidesFault, parametersFault, paddingFault, bodyFault, recordFault}
 use Rattle.stream.specs.Stream.{Reading, accepted, readRecord, readPixels, readParameters, readFrame}
-use Rattle.stream.specs.RoundTrip.{sidesBytes, parametersBytes, pixelBytes, frameBytes, FrameBack}
+use Rattle.stream.specs.RoundTrip.{sidesBytes, parametersBytes, pixelBytes, frameBytes, Accepted}
 use Rattle.stream.proofs.Order.{read-sound}
 
 -- ---- a record that is written without fault is read
@@ -113,7 +113,7 @@ pixels-back h (suc n) left done pixels rest e q =
     ∙ ap (accepted h) (append-assoc done (take 32 pixels) (drop 32 pixels) ∙ ap (λ (l : List ℕ). done ++ l) (take-append-drop 32 pixels)))
 
 -- ---- the whole stream
-pub frame-back : FrameBack
+pub frame-back : (h : Header) (pixels rest : List ℕ) → Accepted h pixels → readFrame (frameBytes h pixels ++ rest) ≡ accepted h pixels
 unfolding readFrame readParameters frameBytes bodyLength
 frame-back h pixels rest good =
     let l = good .long in

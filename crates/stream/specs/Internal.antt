@@ -7,11 +7,11 @@ use lib.ListN.{length, take, drop}
 use lib.Dec.{eqb}
 use lib.Ieee.{binary32, ofBits}
 use Rattle.lists.specs.Tab.{tab}
-use Rattle.lists.specs.Refusals.{lowest}
+use Rattle.lists.specs.Refusals.{lowest, unless}
 use Rattle.merge_radius.specs.MergeRadius.{radiusOutside}
 use Rattle.stream.specs.declared.Header.{Header}
 use Rattle.stream.specs.declared.judging.Stop.{Stop}
-use Rattle.stream.specs.Stream.{u8, u16, known, headerOf, rangeOutside, accepted, unlessFaulty, recordsFor, readFrame}
+use Rattle.stream.specs.Stream.{u8, u16, known, headerOf, rangeOutside, accepted, refused, recordsFor, readFrame}
 use Rattle.stream.specs.Wanted.{wantedHere, wanted}
 
 -- the kind that is due behind one of kind `kind`, 0 at the start, where `left` pixels have not come yet
@@ -59,7 +59,7 @@ pub record Whole (s : List ℕ) : Type 0 where
 
 -- the number of the earliest fault
 pub record Judged (s : List ℕ) (fault : ℕ) : Type 0 where
-  pub reading : readFrame s ≡ unlessFaulty fault (accepted (headerAt s) (tab (pixelCount s) (pixelByte s)))
+  pub reading : readFrame s ≡ unless refused fault (accepted (headerAt s) (tab (pixelCount s) (pixelByte s)))
   pub whole : fault ≡ 0 → Whole s
 
 -- where judging ends: the fault, and the bytes that are wanted there

@@ -1,5 +1,4 @@
--- A frame stream and what it holds are one to one: writing, and what reading gives of it. `proofs/` has each statement under its name in small
--- letters.
+-- A frame stream and what it holds are one to one: writing, and what reading gives of it.
 use Prim.Native.Nat.{ℕ, zero, suc, _-_, _*_, _/_, _%_, _<_}
 use mathlib.Core.Path.{_≡_}
 use mathlib.Core.List.{List, [], _∷_, _++_}
@@ -42,21 +41,11 @@ pub record Accepted (h : Header) (pixels : List ℕ) : Type 0 where
   pub parameters : parametersFault (h .ring) (h .window) (h .«centroid_radius») (h .«merge_bits») ≡ 0
   pub long : length pixels ≡ h .width * h .height
 
--- what is written for it is read back, whatever stands behind
-abbrev pub FrameBack : Type 0
-FrameBack = (h : Header) (pixels rest : List ℕ) → Accepted h pixels → readFrame (frameBytes h pixels ++ rest) ≡ accepted h pixels
-
--- nothing else is read from any stream
-abbrev pub AcceptedGood : Type 0
-AcceptedGood = (s : List ℕ) (h : Header) (pixels : List ℕ) → readFrame s ≡ accepted h pixels → Accepted h pixels
-
--- and from no other stream of bytes: up to its end it is the one that is written
-abbrev pub AcceptedOnly : Type 0
-AcceptedOnly =
-    (s : List ℕ) (h : Header) (pixels : List ℕ) → readFrame s ≡ accepted h pixels → All (λ v. v < 256) s
-    → take (length (frameBytes h pixels)) s ≡ frameBytes h pixels
-
 pub record RoundTrip : Type 0 where
-  pub frame-back : FrameBack
-  pub accepted-good : AcceptedGood
-  pub accepted-only : AcceptedOnly
+  -- what is written for it is read back, whatever stands behind
+  pub frame-back : (h : Header) (pixels rest : List ℕ) → Accepted h pixels → readFrame (frameBytes h pixels ++ rest) ≡ accepted h pixels
+  -- nothing else is read from any stream
+  pub accepted-good : (s : List ℕ) (h : Header) (pixels : List ℕ) → readFrame s ≡ accepted h pixels → Accepted h pixels
+  -- and from no other stream of bytes: up to its end it is the one that is written
+  pub accepted-only : (s : List ℕ) (h : Header) (pixels : List ℕ) → readFrame s ≡ accepted h pixels → All (λ v. v < 256) s
+      → take (length (frameBytes h pixels)) s ≡ frameBytes h pixels

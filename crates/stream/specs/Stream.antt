@@ -6,7 +6,7 @@ use lib.ListN.{length, getD, take, drop}
 use lib.Dec.{eqb, ltb, leb}
 use lib.Ieee.{binary32, ofBits}
 use Rattle.lists.specs.Places.{any}
-use Rattle.lists.specs.Refusals.{lowest}
+use Rattle.lists.specs.Refusals.{lowest, unless}
 use Rattle.ring.specs.Ring.{isRing}
 use Rattle.merge_radius.specs.MergeRadius.{radiusOutside}
 use Rattle.stream.specs.declared.Header.{Header}
@@ -37,23 +37,27 @@ bodyOf kind s = take (bodyLength kind) (drop 1 s)
 abbrev pub behind : ℕ → List ℕ → List ℕ
 behind kind s = drop (1 + bodyLength kind) s
 
--- kind 1: width u16, height u16; kind 2: ring u8, threshold f32, window u8, least u8, centroid u8, merge radius f32, levels u8, minimum u16,
--- search u8 (RULES 11.1); the floats as the 32 bits that came (RULES 11.3)
-abbrev pub headerOf : List ℕ → List ℕ → Header
-headerOf sides parameters =
+-- sides and parameters in the order of the stream (RULES 11.1); the floats as their 32 bits (RULES 11.3)
+abbrev pub header : ℕ → ℕ → ℕ → ℕ → ℕ → ℕ → ℕ → ℕ → ℕ → ℕ → ℕ → Header
+header width height ring threshold window least centroid merge levels minimum search =
     record {
-      width = u16 sides 0;
-      height = u16 sides 2;
-      ring = u8 parameters 0;
-      «threshold_bits» = u32 parameters 1;
-      window = u8 parameters 5;
-      «least_neighbours» = u8 parameters 6;
-      «centroid_radius» = u8 parameters 7;
-      «merge_bits» = u32 parameters 8;
-      levels = u8 parameters 12;
-      «minimum_side» = u16 parameters 13;
-      «search_radius» = u8 parameters 15;
+      width = width;
+      height = height;
+      ring = ring;
+      «threshold_bits» = threshold;
+      window = window;
+      «least_neighbours» = least;
+      «centroid_radius» = centroid;
+      «merge_bits» = merge;
+      levels = levels;
+      «minimum_side» = minimum;
+      «search_radius» = search;
     }
+
+-- kind 1: width u16, height u16; kind 2: ring u8, threshold f32, window u8, least u8, centroid u8, merge radius f32, levels u8, minimum u16,
+-- search u8 (RULES 11.1)
+abbrev pub headerOf : List ℕ → List ℕ → Header
+headerOf sides p = header (u16 sides 0) (u16 sides 2) (u8 p 0) (u32 p 1) (u8 p 5) (u8 p 6) (u8 p 7) (u32 p 8) (u8 p 12) (u16 p 13) (u8 p 15)
 
 -- ---- faults by their numbers, 0 for none (RULES 11.4)
 
@@ -107,13 +111,10 @@ pub data Reading : Type 0 where
   accepted : Header → List ℕ → Reading
   refused : ℕ → Reading
 
-abbrev pub unlessFaulty : ℕ → Reading → Reading
-unlessFaulty fault next = cond (eqb fault 0) next (refused fault)
-
 -- the record of kind `due` at the front of s, and then `next` of its body and of the bytes behind it
 unfoldable pub readRecord : ℕ → ℕ → List ℕ → (List ℕ → List ℕ → Reading) → Reading
 unfolding recordFault
-readRecord due left s next = unlessFaulty (recordFault due left s) (next (bodyOf due s) (behind due s))
+readRecord due left s next = unless refused (recordFault due left s) (next (bodyOf due s) (behind due s))
 
 -- as many records of kind 3 as the pixels need, then one of kind 4
 abbrev pub recordsFor : ℕ → ℕ

@@ -1,12 +1,10 @@
--- How many bytes of a stream can be read before what is read of it may be decided, and what it means that it is decided (RULES 12.4).
-use Prim.Native.Nat.{ℕ, zero, suc, _+_, _-_, _*_, _<_, _≤_, min}
-use mathlib.Core.Path.{_≡_}
+-- How many bytes of a stream can be read before what is read of it may be decided (RULES 12.4).
+use Prim.Native.Nat.{ℕ, zero, suc, _-_, _*_, min}
 use mathlib.Core.Bool.{cond}
-use mathlib.Core.List.{List, [], _∷_, _++_}
+use mathlib.Core.List.{List, [], _∷_}
 use lib.ListN.{length}
 use lib.Dec.{eqb}
-use Rattle.lists.specs.Places.{All}
-use Rattle.stream.specs.Stream.{u16, bodyLength, bodyOf, behind, paddingFault, recordFault, Reading, refused, recordsFor}
+use Rattle.stream.specs.Stream.{u16, bodyLength, bodyOf, behind, paddingFault, recordFault, recordsFor}
 
 -- ---- a number of bytes: fewer do not decide it, and 0 says that it is decided
 
@@ -47,24 +45,3 @@ wantedParameters sides s =
 unfoldable pub wanted : List ℕ → ℕ
 unfolding wantedParameters
 wanted s = wantedRecord 1 0 s wantedParameters
-
--- ---- what it means, for a way to read bytes
-
--- whatever follows, the same is read
-abbrev pub Decided : (List ℕ → Reading) → List ℕ → Type 0
-Decided read s = (t : List ℕ) → read (s ++ t) ≡ read s
-
--- the bytes are refused as cut short, and some that may follow make another refusal of it
-pub record Open (read : List ℕ → Reading) (s : List ℕ) : Type 0 where
-  pub cut : read s ≡ refused 7
-  pub more : List ℕ
-  pub bytes : All (λ v. v < 256) more
-  pub number : ℕ
-  pub other : number < 7
-  pub refusal : read (s ++ more) ≡ refused number
-
--- n bytes are wanted: with none it is decided, with fewer it is open, and there are at most `most` in all
-pub record Wanted (read : List ℕ → Reading) (most : ℕ) (s : List ℕ) (n : ℕ) : Type 0 where
-  pub decided : n ≡ 0 → Decided read s
-  pub fewer : (t : List ℕ) → length t < n → Open read (s ++ t)
-  pub total : 0 < n → length s + n ≤ most

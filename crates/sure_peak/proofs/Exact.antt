@@ -12,9 +12,11 @@ use borrow.Author.Tests.{ltb-true, lt-ltb, le-leb, leb-true, not-true}
 use Rattle.lists.specs.Places.{Place, block, any, keep, count}
 use Rattle.lists.proofs.Tests.{to-T, from-T, is-false, and-parts}
 use Rattle.lists.proofs.Members.{Implies, any-none, at-block, any-more, keep-fewer}
-use Rattle.detect.specs.Peaks.{CellTests, same, window, beaten, positives, isPeak, Inside, peakPlaces}
+use Rattle.detect.specs.Peaks.{CellTests, same, window, beaten, positives, isPeak, peakPlaces}
+use Rattle.detect.specs.Internal.{Inside}
 use Rattle.detect.proofs.Window.{same-self, window-in}
-use Rattle.sure_peak.specs.SurePeak.{fifthsIn, byLimits, sure, insideBorder, isSure}
+use Rattle.sure_peak.specs.SurePeak.{fifthsIn, byLimits, insideBorder, isSure}
+use Rattle.sure_peak.specs.Internal.{sure}
 use Rattle.sure_peak.proofs.Judging.{inside}
 
 -- ---- tests of integers in order

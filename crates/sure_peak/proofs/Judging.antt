@@ -9,17 +9,20 @@ use lib.ListN.{length}
 use lib.IntN.{ℤ}
 use borrow.Author.Tests.{leb-true, ltb-true, ltb-false, leb-false, not-false, eq-eqb, ne-eqb}
 use Rattle.lists.specs.Places.{Place}
-use Rattle.lists.specs.Refusals.{lowest, Sized}
+use Rattle.lists.specs.Refusals.{lowest}
+use Rattle.lists.specs.Internal.{Sized}
 use Rattle.lists.proofs.Tests.{and-parts, and-none, or-neither}
 use Rattle.lists.proofs.Refusals.{all-clear, sized-of}
 use Rattle.image_size.proofs.Judged.{passed}
 use Rattle.ring.specs.Ring.{isRing}
 use Rattle.ring.proofs.Places.{ring-small}
-use Rattle.detect.specs.Peaks.{Inside, isPeak}
+use Rattle.detect.specs.Peaks.{isPeak}
+use Rattle.detect.specs.Internal.{Inside}
 use Rattle.detect.specs.Detect as detect
 use Rattle.retouch.specs.Promise.{isOutside}
-use Rattle.sure_peak.specs.SurePeak.{sure, isSure}
-use Rattle.sure_peak.specs.Promise.{conditions, refusalOf, answerOf, SureTold}
+use Rattle.sure_peak.specs.SurePeak.{isSure}
+use Rattle.sure_peak.specs.Internal.{sure}
+use Rattle.sure_peak.specs.Promise.{conditions, refusalOf, SureTold}
 use Rattle.sure_peak.specs.declared.Sure.the-variants.{Yes, No, Refused}
 
 -- 3, of the parameters
@@ -124,7 +127,7 @@ module _ (lows highs : List ℤ) (w h ring threshold window least centroid : ℕ
 
   module _ (z : n ≡ 0) where
     told : (b : Bool) → isSure lows highs w h ring threshold window least centroid p ≡ b
-        → SureTold lows highs w h ring threshold window least centroid p (answerOf b)
+        → SureTold lows highs w h ring threshold window least centroid p (cond b Yes No)
     told true s = record { answer = rw (← e, z, s); number = sym z ∙ e; values = rw (← e, z, s) }
     told false s = record { answer = rw (← e, z, s); number = sym z ∙ e; values = rw (← e, z, s) }
 

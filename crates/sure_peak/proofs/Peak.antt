@@ -10,7 +10,8 @@ use lib.IntN.{ℤ, pos}
 use lib.Signed.{ltZ}
 use Rattle.lists.specs.Places.{Place, any, keep, count}
 use Rattle.detect.specs.Peaks.{window, beaten, positives, isPeak}
-use Rattle.sure_peak.specs.SurePeak.{fifthsIn, sure}
+use Rattle.sure_peak.specs.SurePeak.{fifthsIn}
+use Rattle.sure_peak.specs.Internal.{sure}
 
 -- ---- one passes a test exactly if their number is not 0
 module _ {A : Type 0} (f : A → Bool) where

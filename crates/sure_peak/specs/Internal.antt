@@ -4,8 +4,14 @@ use mathlib.Core.List.{List}
 use lib.ListN.{length}
 use lib.IntN.{ℤ}
 use Rattle.lists.specs.Places.{Place}
-use Rattle.lists.specs.Refusals.{Sized}
-use Rattle.detect.specs.Peaks.{Inside}
+use Rattle.lists.specs.Internal.{Sized}
+use Rattle.detect.specs.Internal.{Inside}
+use Rattle.detect.specs.Peaks.{CellTests}
+use Rattle.sure_peak.specs.SurePeak.{fifthsIn, byLimits}
+
+-- two maps w wide by what is sure
+abbrev pub sure : List ℤ → List ℤ → ℕ → ℕ → CellTests
+sure lows highs w threshold = byLimits (fifthsIn lows w) (fifthsIn highs w) threshold
 
 -- a map of w by h, and a window of that radius about a place of it that lies in the map
 pub record Windowed (m : List ℤ) (w h r : ℕ) (p : Place) : Type 0 where

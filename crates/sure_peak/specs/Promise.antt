@@ -1,7 +1,7 @@
 -- RULES 28.7: what a call of `sure_peak` refuses and answers.
 use Prim.Native.Nat.{ℕ}
 use mathlib.Core.Path.{_≡_}
-use mathlib.Core.Bool.{Bool, true, false, cond, not, _||_}
+use mathlib.Core.Bool.{Bool, cond, not, _||_}
 use mathlib.Core.List.{List, [], _∷_}
 use lib.Dec.{ltb}
 use lib.ListN.{length}
@@ -28,11 +28,7 @@ conditions lows highs w h ring window centroid p =
 unfoldable pub refusalOf : ℕ → ℕ → ℕ → ℕ → ℕ → ℕ → ℕ → Place → ℕ
 refusalOf lows highs w h ring window centroid p = lowest (conditions lows highs w h ring window centroid p)
 
--- the answer, and the number and the values of each case: 1 for yes and 0 for no
-abbrev pub answerOf : Bool → Sure
-answerOf true = Yes
-answerOf false = No
-
+-- the number and the values of each case: 1 for yes and 0 for no
 abbrev pub numberOf : Sure → ℕ
 numberOf Yes = 0
 numberOf No = 0
@@ -47,7 +43,7 @@ valuesOf (Refused n) = []
 pub record SureTold (lows highs : List ℤ) (w h ring threshold window least centroid : ℕ) (p : Place) (r : Sure) : Type 0 where
   pub answer : r
       ≡ unless Refused (refusalOf (length lows) (length highs) w h ring window centroid p)
-      (answerOf (isSure lows highs w h ring threshold window least centroid p))
+      (cond (isSure lows highs w h ring threshold window least centroid p) Yes No)
   pub number : numberOf r ≡ refusalOf (length lows) (length highs) w h ring window centroid p
   pub values : valuesOf r
       ≡ valuesUnless (refusalOf (length lows) (length highs) w h ring window centroid p)

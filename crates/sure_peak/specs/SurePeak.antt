@@ -23,9 +23,6 @@ byLimits low high threshold = record {
   positive = λ q. ltZ (pos 0) (low q);
 }
 
-abbrev pub sure : List ℤ → List ℤ → ℕ → ℕ → CellTests
-sure lows highs w threshold = byLimits (fifthsIn lows w) (fifthsIn highs w) threshold
-
 -- a place no nearer to an edge of a map of w by h than the border (RULES 4.3)
 abbrev pub insideBorder : ℕ → ℕ → ℕ → Place → Bool
 insideBorder w h border p = (leb border (p .x) && ltb (p .x + border) w) && (leb border (p .y) && ltb (p .y + border) h)
@@ -33,4 +30,4 @@ insideBorder w h border p = (leb border (p .x) && ltb (p .x + border) w) && (leb
 -- a sure peak is a peak (RULES 4.3) by that reading, inside the border that a ring, a window and a centroid radius make
 unfoldable pub isSure : List ℤ → List ℤ → ℕ → ℕ → ℕ → ℕ → ℕ → ℕ → ℕ → Place → Bool
 isSure lows highs w h ring threshold window least centroid p =
-    insideBorder w h (ring + window + centroid) p && isPeak (sure lows highs w threshold) w h window least p
+    insideBorder w h (ring + window + centroid) p && isPeak (byLimits (fifthsIn lows w) (fifthsIn highs w) threshold) w h window least p

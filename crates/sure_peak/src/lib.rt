@@ -8,9 +8,8 @@ ghost use lib.Dec.{leb, ltb};
 ghost use lib.IntN.{pos};
 ghost use lib.Signed.{ltZ};
 ghost use Rattle.detect.specs.Peaks.{isPeak};
-ghost use Rattle.sure_peak.specs.SurePeak.{sure};
 ghost use Rattle.sure_peak.specs.Promise.{refusalOf, SureTold};
-ghost use Rattle.sure_peak.specs.Internal.{Windowed};
+ghost use Rattle.sure_peak.specs.Internal.{sure, Windowed};
 use crate::window::count_window;
 
 // Whether the place is a sure peak, or the number of the refusal.

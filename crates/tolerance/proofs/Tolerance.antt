@@ -3,8 +3,8 @@
 use Prim.Native.Nat.{ℕ, _+_, _-_, _*_, _^_, _≤_, _<_}
 use native.Mathlib.Omega.{arith}
 use mathlib.Core.Path.{_≡_, refl}
-use mathlib.Core.Bool.{true}
-use mathlib.Core.List.{map}
+use mathlib.Core.Bool.{true, Bool}
+use mathlib.Core.List.{map, List}
 use lib.Dec.{T}
 use lib.ListN.{length}
 use lib.IntN.{ℤ}
@@ -29,8 +29,9 @@ use Rattle.patch_corners.specs.declared.FrameParams.{FrameParams}
 use Rattle.patch_corners.specs.OneMap.{Choice, searchOn, landed, localized}
 use Rattle.patch_corners.proofs.Fine.{Fine, map-usual}
 use Rattle.frame_pass.specs.Pass.{lookedAt}
+use Rattle.frame_pass.specs.Theorems.{SoundFrame}
 use Rattle.frame_pass.proofs.Maps.{looked-fine}
-use Rattle.tolerance.specs.Tolerance.{summedCells, Close, CentreTolerance, CloseCorner, CloseCorners, FrameTolerance}
+use Rattle.tolerance.specs.Tolerance.{summedCells, Close, CloseCorner, CloseCorners}
 use Rattle.tolerance.proofs.Means.{Alike}
 use Rattle.tolerance.proofs.Cell.{alike-cell}
 use Rattle.tolerance.proofs.Mean.{exact-above, mean-close}
@@ -79,7 +80,9 @@ close-centre : (v : View) → Bytes (v .img) → (r : ℕ) (x y cx cy mass : Flo
 close-centre v bytes r x y cx cy mass R g =
     rw (g .column-is, g .row-is, g .cx-is, g .cy-is) (close-window v bytes r (g .px) (g .py) R (g .inside) (g .above))
 
-pub centre-tolerance : CentreTolerance
+-- in the map of any box, about any seed. Its sides are at most 4,096: a larger map is refused as 1
+pub centre-tolerance : (v : View) → Bytes (v .img) → (r : ℕ) (x y : Float) (hasMap : Bool) (cx cy mass : Float) → r ≤ 2
+    → refined r x y hasMap (cells v) (mapWidth v) (mapHeight v) ≡ Accepted cx cy mass → Close (λ q. fifthsIn v (q .x) (q .y)) (summedCells r x y) cx cy
 centre-tolerance v bytes r x y hasMap cx cy mass R e =
     close-centre v bytes r x y cx cy mass R (weighing r x y (cells v) (mapWidth v) (mapHeight v) cx cy mass hasMap e)
 
@@ -97,7 +100,8 @@ module _ (p : FrameParams) (v : View) (bytes : Bytes (v .img)) (R : p .«centroi
   close-corners choose =
       all-of (λ s. All (CloseCorner p v s) (localized p v s)) (λ s. close-landed s _ refl) (map (startAt (cells v) (searchOn p v)) (choose v))
 
--- ---- a frame
-pub frame-tolerance : FrameTolerance
+-- ---- each map that a frame looks at, by any choice of peaks
+pub frame-tolerance : (p : FrameParams) (img : List ℕ) (w h : ℕ) (choose : Choice) → SoundFrame p img w h → p .«centroid_radius» ≤ 2
+    → All (CloseCorners p choose) (lookedAt p img w h choose)
 frame-tolerance p img w h choose s R =
     all-map (Fine p) (CloseCorners p choose) (λ v f. close-corners p v (f .bytes) R choose) (lookedAt p img w h choose) (looked-fine p img w h choose s)

@@ -1,7 +1,5 @@
--- How far the centre of mass lies from the exact one, in a map made by the response. Statements; `proofs/Tolerance.antt` proves them.
-use Prim.Native.Nat.{ℕ, _*_, _≤_, _<_}
-use mathlib.Core.Path.{_≡_}
-use mathlib.Core.Bool.{Bool}
+-- How far the centre of mass lies from the exact one, in a map made by the response: what it is to be close.
+use Prim.Native.Nat.{ℕ, _*_, _<_}
 use mathlib.Core.List.{List, [], map}
 use lib.IntN.{ℤ}
 use lib.Ieee.{Float}
@@ -10,17 +8,13 @@ use Rattle.float32.specs.Float32.{roundHalfAway}
 use Rattle.float32.specs.declared.Rounded.{Rounded}
 use Rattle.float32.specs.declared.Rounded.the-variants.{Natural, Negative, Beyond}
 use Rattle.float32.specs.Value.{Within, plusPart}
-use Rattle.response.specs.Patch.{View, mapWidth, mapHeight, cells}
+use Rattle.response.specs.Patch.{View, cells}
 use Rattle.response.specs.Exact.{fifthsIn}
-use Rattle.accuracy.specs.Accurate.{Bytes}
 use Rattle.corner_list.specs.declared.Corner.{Corner}
 use Rattle.detect.specs.Detect.{startAt}
-use Rattle.center_of_mass.specs.CenterOfMass.{cellsAbout, refined}
-use Rattle.center_of_mass.specs.declared.Outcome.the-variants.{Accepted}
+use Rattle.center_of_mass.specs.CenterOfMass.{cellsAbout}
 use Rattle.patch_corners.specs.declared.FrameParams.{FrameParams}
 use Rattle.patch_corners.specs.OneMap.{Choice, searchOn, localized}
-use Rattle.frame_pass.specs.Pass.{lookedAt}
-use Rattle.frame_pass.specs.Theorems.{SoundFrame}
 
 -- ---- the cells that the centroid sums, the centre included (RULES 33.1): its window about the seed (x, y), which is rounded half away from zero
 abbrev pub windowAbout : ℕ → Rounded → Rounded → List Place
@@ -57,24 +51,10 @@ pub record Close (fifths : Place → ℤ) (ps : List Place) (cx cy : Float) : Ty
   pub across : Within32nd cx (exactX fifths ps) (exactMass fifths ps)
   pub down : Within32nd cy (exactY fifths ps) (exactMass fifths ps)
 
--- ---- an accepted outcome in the map of any box, about any seed. Its sides are at most 4,096: a larger map is refused as 1
-abbrev pub CentreTolerance : Type 0
-CentreTolerance =
-    (v : View) → Bytes (v .img) → (r : ℕ) (x y : Float) (hasMap : Bool) (cx cy mass : Float) → r ≤ 2
-    → refined r x y hasMap (cells v) (mapWidth v) (mapHeight v) ≡ Accepted cx cy mass
-    → Close (λ q. fifthsIn v (q .x) (q .y)) (summedCells r x y) cx cy
-
 -- ---- the corners of a map, by its own columns and rows: a peak starts as the corner s, which goes to its centre of mass c
 abbrev pub CloseCorner : FrameParams → View → Corner → Corner → Type 0
 CloseCorner p v s c = Close (λ q. fifthsIn v (q .x) (q .y)) (summedCells (p .«centroid_radius») (s .x) (s .y)) (c .x) (c .y)
 
--- of each peak the corner that it becomes, where it is accepted: one behind the other these are `cornersIn`
+-- of each peak the corner that it becomes, where it is accepted: one behind the other these are `cornersIn`, not yet moved by a box's corner
 abbrev pub CloseCorners : FrameParams → Choice → View → Type 0
 CloseCorners p choose v = All (λ (s : Corner). All (CloseCorner p v s) (localized p v s)) (map (startAt (cells v) (searchOn p v)) (choose v))
-
--- those of each map that a frame looks at, by any choice of peaks: the seeds are the corners of the last level's map, and the corners about a
--- seed those of its box's map, not yet moved by the box's corner
-abbrev pub FrameTolerance : Type 0
-FrameTolerance =
-    (p : FrameParams) (img : List ℕ) (w h : ℕ) (choose : Choice) → SoundFrame p img w h → p .«centroid_radius» ≤ 2
-    → All (CloseCorners p choose) (lookedAt p img w h choose)

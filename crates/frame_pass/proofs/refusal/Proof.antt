@@ -4,7 +4,7 @@ use mathlib.Core.Path.{_≡_, sym, _∙_}
 use mathlib.Core.Bool.{true, false}
 use borrow.Author.Needs.{needs}
 use borrow.Author.Tests.{lt-ltb, le-ltb, not-true, not-false}
-use Rattle.lists.specs.Refusals.{Sized}
+use Rattle.lists.specs.Internal.{Sized}
 use Rattle.image_size.proofs.Judged.{refused, sized, passed}
 use Rattle.merge_radius.specs.MergeRadius.{radiusOutside}
 use Rattle.frame_pass.specs.Refusals.{parametersFit, conditions}

@@ -13,9 +13,7 @@ put-heading-requires c κs = search needs
 
 returns : tie.Need-returns
 unfolding refusedText
-returns c =
-    let is = wrote-first (c .put-heading .ensures) in
-    record { long = is .0; text = is .1 }
+returns c = wrote-first (c .put-heading .ensures)
 
 pub write-refusal-spec : {M : Type 1} → statement M
 write-refusal-spec = tie.close (tie.spec slice-aggregate-put-heading put-heading-requires returns)

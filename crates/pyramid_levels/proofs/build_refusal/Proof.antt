@@ -1,6 +1,6 @@
 -- `pyramid_levels::build_refusal` meets its contract: the base is judged first, and then the level buffer. Assumes nothing.
 use borrow.Author.Needs.{needs}
-use Rattle.lists.specs.Refusals.{Sized}
+use Rattle.lists.specs.Internal.{Sized}
 use Rattle.image_size.proofs.Judged.{refused, sized}
 use Rattle.pyramid_levels.specs.Refusals.{buildRefusalOf}
 use Rattle.pyramid_levels.proofs.Refusals.{build-short, build-long}

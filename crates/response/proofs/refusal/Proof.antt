@@ -3,7 +3,7 @@ use native.Mathlib.Nat.{le-trans}
 use native.Mathlib.Omega.{arith}
 use borrow.Author.Needs.{needs}
 use borrow.Author.Tests.{lt-ltb, le-ltb}
-use Rattle.lists.specs.Refusals.{Sized}
+use Rattle.lists.specs.Internal.{Sized}
 use Rattle.image_size.proofs.Judged.{refused, sized, passed}
 use Rattle.response.specs.Internal.{refusalFor}
 use Rattle.response.proofs.Indices.{area-le}

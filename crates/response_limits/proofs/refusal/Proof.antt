@@ -7,7 +7,8 @@ use native.Mathlib.Omega.{arith}
 use lib.Dec.{ltb}
 use lib.ListN.{length}
 use borrow.Author.Tests.{lt-ltb, le-ltb}
-use Rattle.lists.specs.Refusals.{lowest, Sized}
+use Rattle.lists.specs.Refusals.{lowest}
+use Rattle.lists.specs.Internal.{Sized}
 use Rattle.image_size.proofs.Judged.{refused, sized}
 use Rattle.ring.specs.Ring.{isRing}
 use Rattle.response.proofs.Indices.{area-le}

@@ -1,6 +1,6 @@
 -- `retouch::refusal` meets its contract: each return is the first condition of the table that holds. Assumes nothing.
 use borrow.Author.Needs.{needs}
-use Rattle.lists.specs.Refusals.{Sized}
+use Rattle.lists.specs.Internal.{Sized}
 use Rattle.image_size.proofs.Judged.{sized}
 use Rattle.retouch.proofs.Judging.{by-image, by-map, by-rest}
 use Rattle.retouch.proofs.refusal.Statement.{statement}

@@ -7,7 +7,7 @@ use lib.Dec.{leb, ltb}
 use lib.ListN.{length}
 use borrow.Author.Tests.{not-true, not-false}
 use Rattle.lists.specs.Places.{Place}
-use Rattle.detect.specs.Peaks.{Inside}
+use Rattle.detect.specs.Internal.{Inside}
 use Rattle.sure_peak.proofs.Judging.{Given, given, inside, narrower, when-refused, outside-across, outside-down, is-sure, not-sure}
 use borrow.Author.Needs.{needs}
 use Rattle.sure_peak.proofs.sure_peak.Statement.{statement}

@@ -6,7 +6,7 @@ use borrow.Author.Needs.{needs}
 use Rattle.lists.specs.Places.{Place}
 use Rattle.corner_list.specs.CornerList.{Slices, slices, placesOf}
 use Rattle.corner_list.proofs.Growing.{growing-xs, growing-ys, growing-strengths, growing-neighbours}
-use Rattle.detect.specs.Peaks.{Inside}
+use Rattle.detect.specs.Internal.{Inside}
 use Rattle.detect.specs.Internal.{place, peaksFrom}
 use Rattle.detect.proofs.Scanning.{next-inside}
 use Rattle.detect.proofs.Answers.{fits-behind, short-behind, found-short}
