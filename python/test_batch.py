@@ -16,6 +16,20 @@ import zakdomp
 from test_command import HERE, Command, board, noise
 from zakdomp_command import batch, formats, runners, uploads
 
+LIMIT = 120  # seconds; what is waited for takes less than one on a machine that has time
+HELD = """import os, sys, time
+from zakdomp_command import cluster, main, uploads
+last, gate, read = sys.argv[1], sys.argv[2], uploads.read
+
+def held(order, name):
+    while name > last and not os.path.exists(gate):
+        time.sleep(0.01)
+    return read(order, name)
+
+uploads.read = cluster.read = held
+cluster.PATIENCE = 20
+sys.exit(main.main(sys.argv[3:]))
+"""
 REFUSED = {"a.jpg": b"\xff\xd8\xff", "empty": b"", "large.pgm": b"P5 5000 1 255\n", "maxval.pgm": b"P5 1 1 15\na", "short.pgm": board()[:-1]}
 
 
@@ -30,6 +44,8 @@ def tree(folder):
 
 
 class Batch(Command):
+    variables: dict[str, str] = {}
+
     def setUp(self):
         super().setUp()
         os.mkdir(self.path("in"))
@@ -44,10 +60,33 @@ class Batch(Command):
     def batch(self, *options, out="out"):
         return self.done("batch", self.path("in"), "--out", self.path(out), *options)
 
-    def started(self, *options, out="out", **named):
-        """The same in a process of its own."""
-        command = [sys.executable, "-B", "-m", "zakdomp_command", "batch", self.path("in"), "--out", self.path(out), *options]
-        return subprocess.Popen(command, env={**os.environ, "PYTHONPATH": HERE}, stdout=subprocess.DEVNULL, **named)
+    def started(self, *options, last=None, interrupt=signal.default_int_handler, **named):
+        """The same in a process of its own, which ends with the test. Uploads behind `last` are held until the file `gate` is there. A process that
+        is started with SIGINT ignored, as by a shell in the background, stays so: here it has the default, or ignores it."""
+        start = ["-m", "zakdomp_command"] if last is None else ["-c", HELD, last, self.path("gate")]
+        command = [sys.executable, "-B", *start, "batch", self.path("in"), "--out", self.path("out"), *options]
+        before = signal.signal(signal.SIGINT, interrupt)
+        try:
+            run = subprocess.Popen(command, env={**os.environ, **self.variables, "PYTHONPATH": HERE}, stdout=subprocess.DEVNULL, **named)
+        finally:
+            signal.signal(signal.SIGINT, before)
+        self.addCleanup(run.wait)
+        self.addCleanup(run.kill)
+        return run
+
+    def corners(self):
+        """How many corner files are there."""
+        folder = self.path("out/corners")
+        return len([name for name in os.listdir(folder) if not name.startswith(".")]) if os.path.isdir(folder) else 0
+
+    def waited(self, question):
+        """The answer to a question, once there is one."""
+        end = time.monotonic() + LIMIT
+        while time.monotonic() < end:
+            if answer := question():
+                return answer
+            time.sleep(0.005)
+        self.fail(f"not within {LIMIT} seconds")
 
 
 class Invoices(Batch):
@@ -127,17 +166,49 @@ class Invoices(Batch):
         self.fails(2, "No such file", "batch", self.path("none"), "--out", self.path("out"))
         self.fails(2, "Not a directory", "batch", self.put("file", b""), "--out", self.path("out"))
         self.fails(2, "own folder", "batch", self.path("in"), "--out", self.path("in"))
-        for options in ((), ("--out",), ("--out", "x", "--jobs", "0")):
-            self.assertEqual(self.run_command("batch", self.path("in"), *options)[0], 2)
+        self.assertEqual(sorted(os.listdir(self.folder)), ["file", "in"])
+        self.assertEqual(os.listdir(self.path("in")), [])
+        for options, words in (((), "--out"), (("--out",), "--out"), (("--out", ""), "no folder is named"),
+                               (("--out", "x", "--jobs", "0"), "'0' is no whole number from 1"), (("--out", "x", "--jobs", "two"), "'two' is no whole")):
+            status, _, said = self.run_command("batch", self.path("in"), *options)
+            self.assertEqual((status, words in said), (2, True), said)
+
+    def test_where_nothing_can_be_put(self):
+        self.fill(1)
+        self.fails(2, "file/corners: Not a directory", "batch", self.path("in"), "--out", self.put("file", b""))
+        os.makedirs(self.path("out/invoice.csv"))
+        self.fails(2, "invoice.csv: Is a directory", "batch", self.path("in"), "--out", self.path("out"))
+        with mock.patch("os.makedirs", side_effect=PermissionError(13, "Permission denied", "locked")):
+            self.fails(2, "zakdomp: locked: Permission denied", "batch", self.path("in"), "--out", self.path("locked"))
+
+    def test_an_upload_that_disappears(self):
+        """It was there when the folder was listed, and has its line."""
+        self.fill(4)
+        real = uploads.read
+
+        def vanishing(order, name):
+            if name == "002.pgm":
+                os.unlink(self.path("in/002.pgm"))
+            return real(order, name)
+
+        with mock.patch.object(uploads, "read", vanishing):
+            said = self.batch("--jobs", 1).decode()
+        self.assertTrue(said.startswith("4 uploads: 3 found, 0 refused, 1 not read; "))
+        self.assertEqual([line["words"] for line in self.lines()], ["", "", "cannot be read: No such file or directory", ""])
+
+    def test_names_that_differ_in_little(self):
+        for name in ("a.pgm", "a.PGM", "a", "a.pgm.corners", "A.pgm"):
+            self.put("in/" + name, board())
+        self.batch("--jobs", 1)
+        self.assertEqual(len(self.lines()), 5)
+        self.assertEqual(set(os.listdir(self.path("out/corners"))), {name + ".corners" for name in os.listdir(self.path("in"))})
 
 
 class Resuming(Batch):
     def killed(self, jobs, after):
         """A run that is killed when so many corner files are there."""
-        run = self.started("--jobs", str(jobs))
-        corners = self.path("out/corners")
-        while run.poll() is None and (not os.path.isdir(corners) or len([name for name in os.listdir(corners) if not name.startswith(".")]) < after):
-            time.sleep(0.002)
+        run = self.started("--jobs", str(jobs), last="029.pgm")
+        self.waited(lambda: self.corners() >= after)
         run.send_signal(signal.SIGKILL)
         self.assertEqual(run.wait(), -signal.SIGKILL)
         with open(self.path("out/unfinished.journal"), "rb") as journal:
@@ -247,39 +318,44 @@ class Processes(Batch):
             self.fails(2, "died 3 times", "batch", self.path("in"), "--out", self.path("out"), "--jobs", 2)
 
     def test_an_interrupt(self):
-        self.fill(60, 300)
-        run = self.started("--jobs", "2", stderr=subprocess.PIPE)
-        while run.poll() is None and not (os.path.isdir(self.path("out/corners")) and os.listdir(self.path("out/corners"))):
-            time.sleep(0.002)
+        self.fill(30)
+        for jobs in ("1", "2"):
+            run = self.started("--jobs", jobs, last="019.pgm", stderr=subprocess.PIPE)
+            self.waited(lambda: self.corners() >= 10)
+            run.send_signal(signal.SIGINT)
+            self.put("gate", b"")
+            self.assertEqual((run.communicate(timeout=LIMIT)[1].decode(), run.returncode), (f"zakdomp: {self.path('in')}: stopped\n", 130))
+            self.assertFalse(os.path.exists(self.path("out/invoice.csv")))
+            self.batch()
+            self.assertEqual(len(self.lines()), 30)
+            os.unlink(self.path("gate"))
+            os.rename(self.path("out"), self.path("out" + jobs))
+
+    def test_an_interrupt_that_is_ignored(self):
+        """A run that was started with SIGINT ignored, in the background or by nohup, goes on."""
+        self.fill(30)
+        run = self.started("--jobs", "2", last="019.pgm", interrupt=signal.SIG_IGN, stderr=subprocess.PIPE)
+        self.waited(lambda: self.corners() >= 10)
         run.send_signal(signal.SIGINT)
-        self.assertEqual((run.communicate()[1].decode(), run.returncode), (f"zakdomp: {self.path('in')}: stopped\n", 130))
-        self.batch()
-        self.assertEqual(len(self.lines()), 60)
+        self.put("gate", b"")
+        self.assertEqual((run.communicate(timeout=LIMIT)[1], run.returncode), (b"", 0))
+        self.assertEqual(len(self.lines()), 30)
 
     def test_processes_end_with_a_killed_run(self):
-        self.fill(40, 300)
-        run = self.started("--jobs", "2")
-        children = f"/proc/{run.pid}/task/{run.pid}/children"
-        begun = []
-        while run.poll() is None and len(begun) < 2:
-            with open(children) as file:
-                begun = file.read().split()
+        self.fill(30)
+        run = self.started("--jobs", "2", last="009.pgm")
+        self.waited(lambda: self.corners() >= 5)
+        self.waited(lambda: len(_living(run.pid)) == 2)
+        begun = _living(run.pid)
         run.kill()
         run.wait()
-        end = time.monotonic() + 20
-        while any(_lives(child) for child in begun) and time.monotonic() < end:
-            time.sleep(0.05)
-        self.assertEqual([child for child in begun if _lives(child)], [])
+        self.waited(lambda: not begun & _living())
 
-
-def _lives(process):
-    """Whether a process is there, and no zombie."""
-    try:
-        with open(f"/proc/{process}/stat") as file:
-            return file.read().rpartition(")")[2].split()[0] != "Z"
-    except OSError:
-        return False
-
+    def test_no_more_processes_than_uploads(self):
+        self.fill(2)
+        with mock.patch.object(runners, "ProcessPoolExecutor", wraps=runners.ProcessPoolExecutor) as pool:
+            self.batch("--jobs", 1_000_000)
+        self.assertEqual([call.args[0] for call in pool.call_args_list], [2])
 
     def test_groups(self):
         for count in (0, 1, 7, 40, 1000):
@@ -289,10 +365,27 @@ def _lives(process):
             self.assertTrue(all(1 <= len(group) <= runners.GROUP for group in groups))
 
 
+def _living(parent=None):
+    """The processes that are there and no zombies, of all or of one parent."""
+    found = set()
+    for process in filter(str.isdecimal, os.listdir("/proc")):
+        try:
+            with open(f"/proc/{process}/stat", encoding="utf-8", errors="replace") as file:
+                state, above, *_ = file.read().rpartition(")")[2].split()
+        except OSError:
+            continue
+        if state != "Z" and parent in (None, int(above)):
+            found.add(process)
+    return found
+
+
 class Progress(Batch):
     def test_a_bar_on_a_terminal(self):
         self.fill(5)
-        master, slave = pty.openpty()
+        try:
+            master, slave = pty.openpty()
+        except OSError:
+            self.skipTest("no terminals on this machine")
         run = self.started("--jobs", "1", stderr=slave)
         os.close(slave)
         shown = b""
@@ -312,7 +405,7 @@ class Progress(Batch):
     def test_none_in_a_log(self):
         self.fill(5)
         run = self.started("--jobs", "1", stderr=subprocess.PIPE)
-        self.assertEqual((run.communicate()[1], run.returncode), (b"", 0))
+        self.assertEqual((run.communicate(timeout=LIMIT)[1], run.returncode), (b"", 0))
 
 
 if __name__ == "__main__":

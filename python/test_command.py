@@ -33,8 +33,7 @@ def board(width=160, height=120, square=20):
 
 
 def noise(side, seed, values=range(256)):
-    numbers = random.Random(seed)
-    return pgm((numbers.choice(values) for _ in range(side * side)), side, side)
+    return pgm(random.Random(seed).choices(values, k=side * side), side, side)
 
 
 def example(name):
@@ -147,6 +146,19 @@ class Finding(Command):
         self.assertEqual(os.listdir(self.folder), [])
 
 
+    def test_nothing_takes_the_place_of_what_is_read(self):
+        photo, picture = self.put("a.pgm", board()), self.path("a.png")
+        os.symlink(photo, self.path("link"))
+        for options in (("--png", photo), ("--svg", self.path("link")), ("--png", picture, "--svg", os.path.join(self.folder, ".", "a.png"))):
+            self.fails(2, "would be written over", "find", photo, *options)
+        self.fails(2, "would be written over", "stream", photo, "--out", photo)
+        self.assertEqual((self.content("a.pgm"), sorted(os.listdir(self.folder))), (board(), ["a.pgm", "link"]))
+        self.done("find", photo, "--png", os.devnull, "--svg", os.devnull)
+
+    def test_a_name_takes_one_line(self):
+        self.fails(2, "two\\x0alines: No such file", "find", self.path("two\nlines"))
+
+
 class Formats(Command):
     def test_csv(self):
         upload = board()
@@ -181,8 +193,17 @@ class Formats(Command):
     def test_what_is_no_corner_file(self):
         for content in (b"", b"corners 1\n", b"corners 1\n1 2 3\n", b"corners x\n", b"\xff", b"x,y\n1,2\n", b"{}", b"{", b'{"corners": [{"x": 1}]}',
                         b'{"corners": [1]}', (",".join(formats.FIELDS) + "\n" + ",".join(["1e99"] * len(formats.FIELDS))).encode()):
-            with self.assertRaises(ValueError):
+            with self.assertRaisesRegex(ValueError, "^no corner file: "):
                 formats.read(content)
+
+    def test_numbers_that_no_corner_has(self):
+        head, one = ",".join(formats.FIELDS) + "\n", '{"corners": [{"x": 1, "y": 1, "strength": 1, "neighbours": %s}]}'
+        self.assertEqual(formats.read((head + "1,1,1,4294967295\n").encode()).corners[0].neighbours, (1 << 32) - 1)
+        self.assertEqual(formats.read((one % 7).encode()).corners[0].neighbours, 7)
+        for content in (head + "1,1,1,3.5\n", head + "1,1,1,-1\n", head + "1,1,1,4294967296\n", one % "1.5", one % "true", one % "null",
+                        '{"corners":' + "[" * 100_000):
+            with self.assertRaisesRegex(ValueError, "^no corner file: "):
+                formats.read(content.encode())
 
 
 def decoded(content):
@@ -308,6 +329,21 @@ class Files(Command):
         files.place(name, b"newer")
         self.assertEqual((self.content("a"), os.listdir(self.folder)), (b"newer", ["a"]))
         self.assertEqual(os.stat(name).st_mode & 0o777, 0o666 & ~files._mask())
+
+    def test_a_link_and_what_is_no_file_stay_what_they_are(self):
+        name = self.put("a", b"older")
+        os.symlink("a", self.path("link"))
+        files.place(self.path("link"), b"newer")
+        self.assertTrue(os.path.islink(self.path("link")))
+        self.assertEqual(self.content("a"), b"newer")
+        os.mkfifo(self.path("pipe"))
+        handle = os.open(self.path("pipe"), os.O_RDONLY | os.O_NONBLOCK)
+        self.addCleanup(os.close, handle)
+        files.place(self.path("pipe"), b"through")
+        self.assertEqual(os.read(handle, 99), b"through")
+        with self.assertRaisesRegex(OSError, "Is a directory"):
+            files.place(self.folder, b"")
+        self.assertEqual(sorted(os.listdir(self.folder)), ["a", "link", "pipe"])
 
     def test_parts_of_a_killed_run_are_removed(self):
         self.put(".zakdomp-x.part", b"half")

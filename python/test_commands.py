@@ -47,14 +47,17 @@ class Retained(Command):
         status, output, said = self.run_command("retained", "--stream", self.put("items", items + b"\x07"))
         self.assertEqual((status, output), (1, b"H\nH\nN\nrefused 6\n"))
         self.assertIn("refused 6: there is no such kind of item", said)
+        self.assertEqual(self.run_command("retained", "--stream", "-"), (1, b"refused 7\n", "zakdomp: refused 7: the stream is cut short\n"))
 
     def test_usage(self):
         self.fails(1, "refused 20: ", "retained", "file", (1 << 40) + 1, "--at", 5)
         self.fails(2, "KIND and START", "retained")
         self.fails(2, "KIND and START", "retained", "file")
         self.fails(2, "KIND and START", "retained", "file", 3, "--stream", "-")
-        for arguments in (("photo", 3), ("file", "yesterday"), ("file", "1969-12-31"), ("file", -1)):
-            self.assertEqual(self.run_command("retained", *arguments)[0], 2)
+        for arguments, words in ((("photo", 3), "invalid choice: 'photo'"), (("file", "now"), "'now' is no whole number of seconds and no ISO date"),
+                                 (("file", "1969-12-31"), "'1969-12-31' is before 1970"), (("file", -1), "")):
+            status, _, said = self.run_command("retained", *arguments)
+            self.assertEqual((status, words in said), (2, True), said)
 
 
 def zakdomp_items(at, *records):
@@ -133,7 +136,9 @@ class Merging(Command):
     def test_refusals_and_usage(self):
         self.fails(1, "refused 5: ", "merge", self.file, "--radius", "3,5000")
         self.fails(2, "no corner file", "merge", "-", "--radius", "3", given=b"x")
-        self.assertEqual(self.run_command("merge", self.file, "--radius", "a,b")[0], 2)
+        for radii in ("a,b", "3,", ""):
+            status, _, said = self.run_command("merge", self.file, "--radius", radii)
+            self.assertEqual((status, f"'{radii}' is no number" in said), (2, True), said)
 
 
 @unittest.skipUnless(hasattr(zakdomp, "merged") and hasattr(zakdomp, "merge_naive"), "this library has no merged and merge_naive")
@@ -190,6 +195,9 @@ class Striking(Command):
     def test_usage(self):
         self.fails(2, "No such file", "strike", self.path("none"), 0)
         self.fails(2, "no corner file", "strike", self.put("x", b"x"), 0)
+        self.fails(2, "not standard input", "strike", "-", 0, "--confirm", 0, given=b"corners 0\n")
+        self.put("a.change", b"many\n")
+        self.fails(2, "a.change: no change number", "strike", self.put("a", zakdomp.listing(self.corners).encode()), 0)
         self.assertEqual(self.run_command("strike", self.path("x"))[0], 2)
 
 

@@ -40,6 +40,9 @@ print(len(zakdomp_numpy.find_corners(memoryview(image), threshold=30)))
 BUILT = all(os.path.exists(os.path.join(TOP, "target", path)) for path in ("bin/corners", "bin/retained", "zakdomp/libzakdomp.a"))
 
 
+HIDDEN = ("ZAKDOMP_LIBRARY", "PYTHONPATH", "ZAKDOMP_DIR", "PKG_CONFIG", "PKG_CONFIG_PATH", "PKG_CONFIG_LIBDIR")
+
+
 def runs(*command):
     """Whether a program is on this machine and runs."""
     try:
@@ -50,7 +53,7 @@ def runs(*command):
 
 def clean(**named):
     """The environment without what would find the repository's own library and modules."""
-    return {name: value for name, value in os.environ.items() if name not in ("ZAKDOMP_LIBRARY", "PYTHONPATH", "ZAKDOMP_DIR")} | named
+    return {name: value for name, value in os.environ.items() if name not in HIDDEN} | named
 
 
 class Folder(unittest.TestCase):
@@ -167,13 +170,24 @@ class Installed(Folder):
         self.assertEqual(self.ran("./a"), f"H {zakdomp.__version__}\n")
         self.assertEqual(self.ran("pkg-config", "--modversion", "zakdomp", PKG_CONFIG_PATH=os.path.join(self.lib, "pkgconfig")), zakdomp.__version__ + "\n")
 
+    def rust(self, crate, **named):
+        """Three lines of Rust over a crate, with the environment's words for it."""
+        self.put("src/main.rs", RUST)
+        self.put("Cargo.toml", f'[package]\nname = "a"\nversion = "0.1.0"\nedition = "2021"\n[dependencies]\nzakdomp = {{ path = "{crate}" }}\n')
+        said = self.ran("cargo", "run", "--quiet", "--offline", CARGO_TARGET_DIR=os.path.join(self.folder, "target"), **named)
+        self.assertEqual(said, "Ok(0)\n")
+
     @unittest.skipUnless(runs("cargo", "--version"), "no cargo on this machine")
     def test_three_lines_of_rust(self):
-        self.put("src/main.rs", RUST)
-        crate = os.path.join(self.prefix, "share", "zakdomp", "rust")
-        self.put("Cargo.toml", f'[package]\nname = "a"\nversion = "0.1.0"\nedition = "2021"\n[dependencies]\nzakdomp = {{ path = "{crate}" }}\n')
-        said = self.ran("cargo", "run", "--quiet", "--offline", CARGO_TARGET_DIR=os.path.join(self.folder, "target"))
-        self.assertEqual(said, "Ok(0)\n")
+        self.rust(os.path.join(self.prefix, "share", "zakdomp", "rust"))
+
+    @unittest.skipUnless(runs("cargo", "--version"), "no cargo on this machine")
+    @unittest.skipUnless(runs("pkg-config", "--version"), "no pkg-config on this machine")
+    def test_three_lines_of_rust_by_pkg_config(self):
+        """A copy of the crate with no library beside it."""
+        crate = os.path.join(self.folder, "crate")
+        shutil.copytree(os.path.join(TOP, "rust"), crate, ignore=shutil.ignore_patterns("target"))
+        self.rust(crate, PKG_CONFIG_PATH=os.path.join(self.lib, "pkgconfig"))
 
     def test_three_lines_of_python(self):
         self.put("a.py", PYTHON)

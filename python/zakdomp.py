@@ -39,6 +39,7 @@ REFUSALS = {
     4: "a coordinate is out of range",
     5: "the merge radius is not within 1/64 to 4096",
     6: "there is no such kind of item",
+    7: "the stream is cut short",
     8: "the map buffer is too short",
     9: "the level buffer is too short",
     10: "there are more corners than places for them",

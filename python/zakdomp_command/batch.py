@@ -16,7 +16,6 @@ from zakdomp_command.uploads import Order, Outcome, corner_file
 EXAMPLE = "example: zakdomp batch uploads --out november --threshold 100 --jobs 2"
 INVOICE, CORNERS = "invoice.csv", "corners"
 COLUMNS = ("name", "width", "height", "corners", "ties", "number", "words")
-ESCAPED = {place: f"\\x{place:02x}" for place in (*range(32), 127)} | {ord("\\"): "\\\\"}
 
 
 def add(commands: Any) -> None:
@@ -25,8 +24,8 @@ def add(commands: Any) -> None:
                                  "upload, whatever it is: name, sides, corners and ties, or the number and words of its refusal. Files appear whole or "
                                  "not at all; a run that was killed goes on where it stopped when it is started again. Subfolders are not looked into.")
     parser.add_argument("folder", metavar="FOLDER", help="where the uploads are; each file in it is one")
-    parser.add_argument("--out", metavar="DIR", required=True, help="where corner files and invoice are put")
-    parser.add_argument("--jobs", type=_positive, default=len(os.sched_getaffinity(0)), metavar="N", help="so many processes (default: one a core)")
+    parser.add_argument("--out", metavar="DIR", required=True, type=_named, help="where corner files and invoice are put")
+    parser.add_argument("--jobs", type=_jobs, default=len(os.sched_getaffinity(0)), metavar="N", help="so many processes (default: one a core)")
     parser.add_argument("--scheduler", metavar="ADDRESS", help="works on the Dask cluster of this scheduler instead")
     parser.add_argument("--format", choices=formats.SUFFIXES, default="listing", help="of the corner files")
     parameters.add(parser)
@@ -37,9 +36,9 @@ def run(options: argparse.Namespace) -> int:
     folder, out = options.folder, options.out
     names = uploads(folder)
     corners = os.path.join(out, CORNERS)
-    os.makedirs(corners, exist_ok=True)
-    if os.path.samefile(folder, out) or os.path.samefile(folder, corners):
+    if any(os.path.exists(place) and os.path.samefile(folder, place) for place in (out, corners)):
         raise OSError(errno.EINVAL, "the uploads' own folder cannot take the corner files", out)
+    os.makedirs(corners, exist_ok=True)
     order = Order(os.path.realpath(folder), os.path.realpath(corners), options.format, parameters.of(options))
     with Journal(out, order) as journal:
         files.remove_parts(out)
@@ -64,12 +63,12 @@ def invoice(outcomes: list[Outcome]) -> bytes:
     writer = csv.writer(output, lineterminator="\n")
     writer.writerow(COLUMNS)
     for outcome in outcomes:
-        writer.writerow([outcome.name.translate(ESCAPED), *(getattr(outcome, column) for column in COLUMNS[1:])])
+        writer.writerow([files.line(outcome.name), *(getattr(outcome, column) for column in COLUMNS[1:])])
     return output.getvalue().encode("utf-8", "surrogateescape")
 
 
 def _runner(options: argparse.Namespace) -> Runner:
-    if options.scheduler:
+    if options.scheduler is not None:
         from zakdomp_command.cluster import cluster
         return cluster(options.scheduler)
     return alone if options.jobs == 1 else processes(options.jobs)
@@ -106,8 +105,13 @@ def _others(options: argparse.Namespace, order: Order, outcomes: list[Outcome]) 
         print(f"zakdomp: {options.folder}: {below} subfolders not looked into", file=sys.stderr)
 
 
-def _positive(text: str) -> int:
-    number = int(text)
-    if number < 1:
-        raise ValueError(text)
-    return number
+def _named(text: str) -> str:
+    if not text:
+        raise argparse.ArgumentTypeError("no folder is named")
+    return text
+
+
+def _jobs(text: str) -> int:
+    if not text.isdecimal() or int(text) < 1:
+        raise argparse.ArgumentTypeError(f"'{text}' is no whole number from 1")
+    return int(text)

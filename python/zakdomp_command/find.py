@@ -24,6 +24,7 @@ def add(commands: Any) -> None:
 
 
 def run(options: argparse.Namespace) -> int:
+    files.apart(options.photo, options.svg, options.png)
     upload, chosen = files.read(options.photo), parameters.of(options)
     frame, photo = zakdomp.find_pgm(upload, **chosen), zakdomp.read_pgm(upload)
     _draw(options, photo, frame.corners, chosen)

@@ -41,12 +41,14 @@ def about(width: int, height: int, ties: int, parameters: dict[str, Any]) -> dic
 
 def read(content: bytes) -> CornerFile:
     """A corner file of any of the three formats. Raises ValueError where it is none."""
-    text = content.decode("utf-8")
     try:
+        text = content.decode("utf-8")
         if text.startswith("corners "):
             return CornerFile("listing", _read_listing(text), {})
         return _read_json(text) if text.lstrip().startswith("{") else CornerFile("csv", _read_csv(text), {})
-    except (KeyError, TypeError, OverflowError, struct.error, csv.Error) as problem:
+    except KeyError as problem:
+        raise ValueError(f"no corner file: a corner has no {problem}") from problem
+    except (ValueError, TypeError, OverflowError, RecursionError, struct.error, csv.Error) as problem:
         raise ValueError(f"no corner file: {problem}") from problem
 
 
@@ -78,7 +80,15 @@ def _corner(values: list[Any]) -> zakdomp.Corner:
     """A corner of the values of its fields, as numbers of the library's types."""
     if len(values) != len(FIELDS):
         raise ValueError(f"a corner has {len(FIELDS)} fields, not {len(values)}")
-    return zakdomp.Corner(*(int(value) if whole else _single(float(value)) for value, whole in zip(values, WHOLE)))
+    numbers: Any = (_whole(value) if whole else _single(float(value)) for value, whole in zip(values, WHOLE))
+    return zakdomp.Corner(*numbers)
+
+
+def _whole(value: Any) -> int:
+    """A whole number of 32 bits, from a number or from its digits."""
+    if not str(value).isdecimal() or int(value) >= 1 << 32:
+        raise ValueError(f"{value} is no whole number below 2^32")
+    return int(value)
 
 
 def _read_listing(text: str) -> list[zakdomp.Corner]:
@@ -98,7 +108,7 @@ def _listed(words: list[str]) -> zakdomp.Corner:
 def _read_csv(text: str) -> list[zakdomp.Corner]:
     rows = csv.reader(io.StringIO(text))
     if tuple(next(rows, ())) != FIELDS:
-        raise ValueError(f"no corner file: no listing, no JSON, and no CSV that begins with '{','.join(FIELDS)}'")
+        raise ValueError(f"no listing, no JSON, and no CSV that begins with '{','.join(FIELDS)}'")
     return [_corner(row) for row in rows]
 
 

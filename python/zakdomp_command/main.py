@@ -4,11 +4,11 @@ import os
 import sys
 
 import zakdomp
-from zakdomp_command import batch, find, merge, retained, stream, strike
+from zakdomp_command import batch, files, find, merge, retained, stream, strike
 
 REFUSED, FAILED, INTERRUPTED = 1, 2, 130
 SUBCOMMANDS = (find, batch, stream, retained, merge, strike)
-STATUS = "Exit status: 0 done, 1 refused (number and words on standard error), 2 usage, or a file that cannot be read or written."
+STATUS = "Exit status: 0 done, 1 refused (number and words on standard error), 2 usage, a file that cannot be read or written, or no scheduler."
 
 
 def main(arguments: list[str] | None = None) -> int:
@@ -53,6 +53,5 @@ def _input(options: argparse.Namespace) -> str | None:
 def _said(options: argparse.Namespace, problem: str, status: int, name: str | None = None) -> int:
     """Says a problem with a file, that which is read if no other is named, in one line."""
     name = name or _input(options)
-    line = f"zakdomp: {name + ': ' if name else ''}{problem}"
-    print(line, file=sys.stderr)
+    print(f"zakdomp: {files.line(name) + ': ' if name else ''}{files.line(problem)}", file=sys.stderr)
     return status

@@ -49,4 +49,7 @@ def _several(kind: str, lists: list[tuple[float, list[zakdomp.Corner]]]) -> str:
 
 
 def _radii(text: str) -> list[float]:
-    return [float(word) for word in text.split(",")]
+    try:
+        return [float(word) for word in text.split(",")]
+    except ValueError as problem:
+        raise argparse.ArgumentTypeError(f"'{text}' is no number, and no numbers with commas between them") from problem

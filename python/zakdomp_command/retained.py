@@ -47,9 +47,12 @@ def _seconds(text: str) -> int:
     """A time as whole seconds since 1970."""
     if text.isdecimal():
         return int(text)
-    moment = datetime.datetime.fromisoformat(text)
+    try:
+        moment = datetime.datetime.fromisoformat(text)
+    except ValueError as problem:
+        raise argparse.ArgumentTypeError(f"'{text}' is no whole number of seconds and no ISO date") from problem
     aware = moment if moment.tzinfo else moment.replace(tzinfo=datetime.timezone.utc)
     seconds = int(aware.timestamp() // 1)
     if seconds < 0:
-        raise ValueError("before 1970")
+        raise argparse.ArgumentTypeError(f"'{text}' is before 1970")
     return seconds

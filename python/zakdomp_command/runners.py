@@ -46,7 +46,8 @@ def _surviving(jobs: int, order: Order, names: list[str]) -> Iterator[Outcome]:
 
 
 def _pool(jobs: int, order: Order, names: list[str]) -> Iterator[Outcome]:
-    """Some groups of uploads are under way for each process, so that none of them waits."""
+    """Some groups of uploads are under way for each process, so that none of them waits. There are no more processes than uploads."""
+    jobs = min(jobs, len(names))
     context = multiprocessing.get_context("fork")
     executor = ProcessPoolExecutor(jobs, context, _begin, (os.getpid(),))
     waiting = _groups(names, jobs)

@@ -21,6 +21,7 @@ def add(commands: Any) -> None:
 def run(options: argparse.Namespace) -> int:
     if not options.out and sys.stdout and sys.stdout.isatty():
         raise ValueError("a stream is no text for a terminal: give --out FILE, or a pipe")
+    files.apart(options.photo, options.out)
     photo = zakdomp.read_pgm(files.read(options.photo))
     stream = zakdomp.write_stream(photo.pixels, photo.width, photo.height, **parameters.of(options))
     if options.out:

@@ -1,6 +1,7 @@
 """`zakdomp strike`: a corner of a corner file, shown and then struck (request 10). The change number of a file that was struck from stands beside it,
 in FILE.change."""
 import argparse
+import errno
 import fcntl
 import os
 import shlex
@@ -27,6 +28,8 @@ def add(commands: Any) -> None:
 def run(options: argparse.Namespace) -> int:
     if not hasattr(zakdomp, "EditedList"):
         raise ValueError("this version of the library cannot strike corners")
+    if options.file == "-":
+        raise ValueError("strike wants a file, and not standard input")
     with _alone(os.path.dirname(options.file) or "."):
         given = formats.read(files.read(options.file))
         edited = zakdomp.EditedList(given.corners, _change(options.file))
@@ -58,9 +61,12 @@ def _said(corner: zakdomp.Corner) -> str:
 def _change(name: str) -> int:
     """The change number of a corner file: 0 where nothing was struck from it."""
     try:
-        return int(files.read(name + ".change"))
+        text = files.read(name + ".change").strip()
     except FileNotFoundError:
         return 0
+    if not text.isdigit():
+        raise OSError(errno.EINVAL, "no change number", name + ".change")
+    return int(text)
 
 
 @contextmanager
