@@ -489,11 +489,10 @@ def holdings(stream):
 def listing(corners):
     """The text of a corner list, as the program `corners` prints it: x and y to the nearest 256th of a pixel, a half up, the bits of each float, and
     the neighbours."""
-    def bits(value):
-        return struct.pack(">f", value).hex()
+    def line(x, y, strength, neighbours):
+        return f"{int(256 * x + 0.5)} {int(256 * y + 0.5)} {struct.pack('>3f', x, y, strength).hex(' ', 4)} {neighbours}\n"
 
-    lines = [f"{int(256 * x + 0.5)} {int(256 * y + 0.5)} {bits(x)} {bits(y)} {bits(strength)} {neighbours}" for x, y, strength, neighbours in corners]
-    return "\n".join([f"corners {len(corners)}", *lines]) + "\n"
+    return f"corners {len(corners)}\n" + "".join(line(*corner) for corner in corners)
 
 
 def main(arguments):
