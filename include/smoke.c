@@ -6,17 +6,18 @@
 #include <string.h>
 
 static int passed, failed;
+static int exact; /* which choice `find` and `find_pgm` call: 0 the computed one, 1 the exact one */
 
 static void expect(int holds, const char *what) {
     if (holds) {
         passed++;
     } else {
         failed++;
-        printf("failed: %s\n", what);
+        printf("failed: %s%s\n", what, exact ? ", by the exact choice" : "");
     }
 }
 
-enum { SIDE = 11, CELLS = SIDE * SIDE, PLACES = 4 };
+enum { SIDE = 11, CELLS = SIDE * SIDE, PLACES = 4, WIDE = 13, MAP = WIDE * WIDE };
 
 /* The whole case (RULES 14): one corner in the middle of 11 by 11 pixels. */
 static void whole_case(uint8_t *img) {
@@ -28,17 +29,21 @@ static void whole_case(uint8_t *img) {
 }
 
 struct buffers {
-    float map[CELLS], seeds[3][PLACES], corners[3][PLACES];
+    float map[MAP], seeds[3][PLACES], corners[3][PLACES];
     uint32_t seed_neighbours[PLACES], neighbours[PLACES];
     uint8_t levels[CELLS];
     size_t count;
     uint64_t ties;
 };
 
+/* What the four functions that find corners are handed behind their parameters. */
+#define BUFFERS(b, places)                                                                                                                   \
+    (b)->map, MAP, (b)->levels, CELLS, (b)->seeds[0], PLACES, (b)->seeds[1], PLACES, (b)->seeds[2], PLACES, (b)->seed_neighbours, PLACES,  \
+        (b)->corners[0], PLACES, (b)->corners[1], PLACES, (b)->corners[2], PLACES, (b)->neighbours, places, &(b)->count, &(b)->ties
+
 static uint8_t find(const uint8_t *img, size_t length, uint32_t ring, float radius, size_t places, struct buffers *b) {
-    return zakdomp_find_corners(img, length, SIDE, SIDE, ring, 0, 0, 0, 0, radius, 1, 1, 0, b->map, CELLS, b->levels, CELLS, b->seeds[0],
-                                PLACES, b->seeds[1], PLACES, b->seeds[2], PLACES, b->seed_neighbours, PLACES, b->corners[0], PLACES,
-                                b->corners[1], PLACES, b->corners[2], PLACES, b->neighbours, places, &b->count, &b->ties);
+    return exact ? zakdomp_find_exact_corners(img, length, SIDE, SIDE, ring, 0, 0, 0, 0, radius, 1, 1, 0, BUFFERS(b, places))
+                 : zakdomp_find_corners(img, length, SIDE, SIDE, ring, 0, 0, 0, 0, radius, 1, 1, 0, BUFFERS(b, places));
 }
 
 static void frames(const uint8_t *img) {
@@ -63,9 +68,8 @@ static void frames(const uint8_t *img) {
 }
 
 static uint8_t find_pgm(const uint8_t *upload, size_t length, uint32_t ring, size_t places, struct buffers *b) {
-    return zakdomp_find_corners_pgm(upload, length, ring, 0, 0, 0, 0, 3, 1, 1, 0, b->map, CELLS, b->levels, CELLS, b->seeds[0], PLACES,
-                                    b->seeds[1], PLACES, b->seeds[2], PLACES, b->seed_neighbours, PLACES, b->corners[0], PLACES,
-                                    b->corners[1], PLACES, b->corners[2], PLACES, b->neighbours, places, &b->count, &b->ties);
+    return exact ? zakdomp_find_exact_corners_pgm(upload, length, ring, 0, 0, 0, 0, 3, 1, 1, 0, BUFFERS(b, places))
+                 : zakdomp_find_corners_pgm(upload, length, ring, 0, 0, 0, 0, 3, 1, 1, 0, BUFFERS(b, places));
 }
 
 static void photographs(const uint8_t *img) {
@@ -98,6 +102,36 @@ static void photographs(const uint8_t *img) {
     expect(find_pgm(upload, sizeof upload, 6, PLACES, &b) == ZAKDOMP_PARAMETER, "a photograph with a ring of 6");
     expect(memcmp(&b, &before, sizeof b) == 0, "refused: every buffer as it was");
     expect(find_pgm(upload, sizeof upload, 5, 0, &b) == ZAKDOMP_LIST_SHORT && b.map[60] == 0, "a photograph without a place: cleared");
+}
+
+static uint8_t tipped_in(const uint8_t *img, float threshold, size_t places, struct buffers *b) {
+    memset(b, 0x41, sizeof *b);
+    return exact ? zakdomp_find_exact_corners(img, MAP, WIDE, WIDE, 5, threshold, 1, 0, 0, 0, 1, 1, 0, BUFFERS(b, places))
+                 : zakdomp_find_corners(img, MAP, WIDE, WIDE, 5, threshold, 1, 0, 0, 0, 1, 1, 0, BUFFERS(b, places));
+}
+
+static uint8_t tipped_in_pgm(const uint8_t *upload, size_t length, struct buffers *b) {
+    memset(b, 0x41, sizeof *b);
+    return exact ? zakdomp_find_exact_corners_pgm(upload, length, 5, 0, 1, 0, 0, 0, 1, 1, 0, BUFFERS(b, PLACES))
+                 : zakdomp_find_corners_pgm(upload, length, 5, 0, 1, 0, 0, 0, 1, 1, 0, BUFFERS(b, PLACES));
+}
+
+/* With a window of 1 the middle of 13 by 13 pixels is the one cell inside the border. Its response is 28 fifths, and so is that of a cell
+ * beside it, whose float is larger: a corner by exact values that rounding tips over. */
+static void tipped(void) {
+    enum { AT = 13 };
+    uint8_t upload[AT + MAP] = "P5 13 13 255\n", *img = upload + AT;
+    const size_t due = (size_t)exact;
+    struct buffers b;
+    for (int i = 0; i < MAP; i++) img[i] = (uint8_t)(7 * i * i % 24);
+    expect(tipped_in(img, 0, PLACES, &b) == ZAKDOMP_DONE && b.count == due && b.ties == 0, "a corner that rounding tips over, and no tie");
+    expect(!exact || (b.corners[0][0] == 6 && b.corners[1][0] == 6 && fabsf(b.corners[2][0] - 5.6f) < 0.001f), "in the middle");
+    expect(b.corners[0][due] == 0 && b.map[84] == 0, "cleared behind it");
+    expect(tipped_in(img, 5.5f, PLACES, &b) == ZAKDOMP_DONE && b.count == due, "above 27 fifths and a half");
+    expect(tipped_in(img, 5.6f, PLACES, &b) == ZAKDOMP_DONE && b.count == due, "above 5.6f, which is a little less than 28");
+    expect(tipped_in(img, 5.6000004f, PLACES, &b) == ZAKDOMP_DONE && b.count == 0, "not above the float behind it");
+    expect(tipped_in_pgm(upload, sizeof upload, &b) == ZAKDOMP_DONE && b.count == due, "the same of a photograph");
+    expect(tipped_in(img, 0, 0, &b) == (exact ? ZAKDOMP_LIST_SHORT : ZAKDOMP_DONE) && b.map[84] == 0, "10 by one of the two");
 }
 
 static void stages(const uint8_t *img) {
@@ -434,8 +468,12 @@ static void merging_naively(void) {
 int main(void) {
     uint8_t img[CELLS];
     whole_case(img);
-    frames(img);
-    photographs(img);
+    for (exact = 0; exact < 2; exact++) {
+        frames(img);
+        photographs(img);
+        tipped();
+    }
+    exact = 0;
     stages(img);
     ties();
     neighbours();

@@ -32,8 +32,10 @@ struct frame {
     size_t least; /* so many corners at least: the tables on the stack are then those that the test is about */
 };
 
+static int exact; /* which choice a frame is run by: 0 the computed one, 1 the exact one */
+
 struct call {
-    const struct frame *frame; /* of zakdomp_find_corners; NULL: zakdomp_corners reads `stream` */
+    const struct frame *frame; /* whose corners are found; NULL: zakdomp_corners reads `stream` */
     uint8_t number;
     size_t count;
     uint64_t ties;
@@ -60,9 +62,9 @@ static void run(struct call *c) {
     size_t cells = f->side * f->side;
     uint32_t search = f->side <= 96 ? 255 : 1;
     float **l = c->lists;
-    c->number = zakdomp_find_corners(img, cells, f->side, f->side, f->ring, 0, 0, 0, 0, radius, f->levels, 1, search, c->map, cells, c->levels,
-                                     cells, l[0], PLACES, l[1], PLACES, l[2], PLACES, c->neighbours[0], PLACES, l[3], PLACES, l[4], PLACES,
-                                     l[5], PLACES, c->neighbours[1], PLACES, &c->count, &c->ties);
+    c->number = (exact ? zakdomp_find_exact_corners : zakdomp_find_corners)(
+        img, cells, f->side, f->side, f->ring, 0, 0, 0, 0, radius, f->levels, 1, search, c->map, cells, c->levels, cells, l[0], PLACES, l[1], PLACES,
+        l[2], PLACES, c->neighbours[0], PLACES, l[3], PLACES, l[4], PLACES, l[5], PLACES, c->neighbours[1], PLACES, &c->count, &c->ties);
 }
 
 /* Marks the thread's stack below its own frame, runs the call, and looks how far the marks are gone. */
@@ -133,7 +135,7 @@ static void frame(const struct frame *f) {
     char what[80];
     struct call c;
     board(f->side, f->square);
-    snprintf(what, sizeof what, "%zu x %zu, ring %u, levels %u", f->side, f->side, (unsigned)f->ring, (unsigned)f->levels);
+    snprintf(what, sizeof what, "%zu x %zu, ring %u, levels %u%s", f->side, f->side, (unsigned)f->ring, (unsigned)f->levels, exact ? ", exact" : "");
     c = both(f, f->side <= 96 ? SMALL : LARGE, what);
     expect(c.number == ZAKDOMP_DONE && c.count >= f->least, "as many corners as are wanted");
     drop(&c);
@@ -162,7 +164,9 @@ int main(void) {
         {96, 3, 5, 1, 3000}, {96, 3, 5, 2, 2000}, {96, 3, 5, 3, 2000}, {96, 3, 10, 1, 2000}, {96, 3, 10, 2, 1000}, {96, 3, 10, 3, 1000},
         {400, 3, 5, 1, 60000}, {400, 3, 5, 2, 9000}, {400, 3, 5, 3, 9000}, {400, 3, 10, 1, 60000}, {400, 3, 10, 2, 9000}, {400, 3, 10, 3, 9000},
     };
-    for (size_t i = 0; i < sizeof frames / sizeof *frames; i++) frame(frames + i);
+    for (exact = 0; exact < 2; exact++) {
+        for (size_t i = 0; i < sizeof frames / sizeof *frames; i++) frame(frames + i);
+    }
     streamed(9, 5, 1, "corners 400\n");
     streamed(7, 10, 1, "corners 484\n");
     streamed(12, 10, 3, "corners 100\n");

@@ -8,8 +8,8 @@
  *
  * Each function but zakdomp_level_bytes, zakdomp_corners and zakdomp_holdings returns 0, or the number of a refusal: the lowest that applies,
  * unless the function says another order.
- * A refusal leaves every buffer and every place for a result as it was; the one exception is ZAKDOMP_LIST_SHORT from zakdomp_find_corners
- * and zakdomp_find_corners_pgm. What lies in a buffer behind a result stays as it was; these two alone clear map and list buffers behind it.
+ * A refusal leaves every buffer and every place for a result as it was; the one exception is ZAKDOMP_LIST_SHORT from the four functions whose
+ * names begin with zakdomp_find. What lies in a buffer behind a result stays as it was; these four alone clear map and list buffers behind it.
  *
  * Corners are held in four slices: columns, rows, strengths, and neighbours, which are the cells above 0 in the window of the peak that became the
  * corner, the peak not counted. The shortest of the four says how many places there are. */
@@ -76,6 +76,20 @@ uint8_t zakdomp_find_corners(const uint8_t *img, size_t img_length, size_t w, si
                              float *cy, size_t cy_length, float *cs, size_t cs_length, uint32_t *cn, size_t cn_length, size_t *count,
                              uint64_t *ties);
 
+/* The corners of an image by the exact choice. All is as with zakdomp_find_corners, but that the peaks of each map, that of the seeds too, are
+ * chosen by exact responses, which are those without rounding: a peak's is above the threshold, no cell of its window has a larger one, and
+ * `least` cells of the window have one above 0. Strengths, centres of mass, boxes and merging are the computed ones. Where both calls leave the
+ * same list, rounding has tipped no corner of it.
+ *   ties  as there, by the floats: a peak that has a larger float in its window, of the same exact response, counts 0
+ * Arguments, buffers and refusals are as there. The two calls can find different numbers of seeds, or of corners before merging, so that 10
+ * may be the answer of one of them only. */
+uint8_t zakdomp_find_exact_corners(const uint8_t *img, size_t img_length, size_t w, size_t h, uint32_t ring, float threshold,
+                                   uint32_t window, uint32_t least, uint32_t centroid, float radius, uint32_t level_count, size_t minimum,
+                                   uint32_t search, float *map, size_t map_length, uint8_t *levels, size_t levels_length, float *sx,
+                                   size_t sx_length, float *sy, size_t sy_length, float *ss, size_t ss_length, uint32_t *sn,
+                                   size_t sn_length, float *cx, size_t cx_length, float *cy, size_t cy_length, float *cs, size_t cs_length,
+                                   uint32_t *cn, size_t cn_length, size_t *count, uint64_t *ties);
+
 /* Where the pixels of an uploaded photograph are: binary PGM, the form P5 of Netpbm's description (pgm(5), and pbm(5) on comments).
  *   at             where they begin in the upload: width * height bytes, in row order
  *   width, height  the sides, 0 included
@@ -94,6 +108,15 @@ uint8_t zakdomp_find_corners_pgm(const uint8_t *upload, size_t upload_length, ui
                                  size_t sy_length, float *ss, size_t ss_length, uint32_t *sn, size_t sn_length, float *cx, size_t cx_length,
                                  float *cy, size_t cy_length, float *cs, size_t cs_length, uint32_t *cn, size_t cn_length, size_t *count,
                                  uint64_t *ties);
+
+/* The corners of an uploaded photograph by the exact choice: what zakdomp_find_exact_corners leaves for its pixels and sides.
+ * Refusals: as those of zakdomp_find_corners_pgm. */
+uint8_t zakdomp_find_exact_corners_pgm(const uint8_t *upload, size_t upload_length, uint32_t ring, float threshold, uint32_t window,
+                                       uint32_t least, uint32_t centroid, float radius, uint32_t level_count, size_t minimum,
+                                       uint32_t search, float *map, size_t map_length, uint8_t *levels, size_t levels_length, float *sx,
+                                       size_t sx_length, float *sy, size_t sy_length, float *ss, size_t ss_length, uint32_t *sn,
+                                       size_t sn_length, float *cx, size_t cx_length, float *cy, size_t cy_length, float *cs,
+                                       size_t cs_length, uint32_t *cn, size_t cn_length, size_t *count, uint64_t *ties);
 
 /* The responses of the cells in the columns x0 up to, not including, x1 of the rows y0 up to y1. The box is clipped to the image.
  *   map            at least as many floats as the clipped box has cells; they stand first in it, in row order

@@ -101,7 +101,9 @@ class Invoices(Batch):
         self.assertEqual(sorted(lines), sorted(os.listdir(self.path("in"))))
         self.assertEqual(len(self.content("out/invoice.csv").splitlines()), 10)
         frame = zakdomp.find_pgm(board(), threshold=30)
-        self.assertEqual(list(lines["board.pgm"].values()), ["board.pgm", "160", "120", str(len(frame.corners)), str(frame.ties), "", ""])
+        count = str(len(frame.corners))
+        self.assertEqual(list(lines["board.pgm"].values()),
+                         ["board.pgm", "160", "120", count, str(frame.ties), "", "", count, "yes", "", ""])
         due = {"a.jpg": "12", "empty": "12", "large.pgm": "1", "maxval.pgm": "13", "short.pgm": "12"}
         self.assertEqual({name: lines[name]["number"] for name in REFUSED}, due)
         self.assertEqual(lines["maxval.pgm"]["words"], zakdomp.REFUSALS[13])

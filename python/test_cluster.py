@@ -11,7 +11,7 @@ from unittest import mock
 
 import zakdomp
 from test_batch import LIMIT, Batch, tree
-from test_command import HERE
+from test_command import HERE, noise
 from zakdomp_command import cluster, uploads
 
 HAS = importlib.util.find_spec("distributed") is not None
@@ -116,6 +116,7 @@ class Cluster(Batch):
         """It is stopped before the batch begins, so that it has tasks in hand when it is killed."""
         self.begin(workers=2)
         self.fill(20)
+        self.put("in/tipped.pgm", noise(48, 114, (0, 1)))
         self.put("in/x.jpg", b"no photograph")
         os.symlink(self.path("none"), self.path("in/dangling"))
         self.ask("len(client.nthreads()) == 2")
@@ -123,8 +124,10 @@ class Cluster(Batch):
         run = self.begun(last="y")
         self.waited(lambda: self.corners() >= 1)
         self.workers[0].kill()
-        self.ends(run)
+        remark = "1 photographs have another list by the exact choice"
+        self.ends(run, said=f"zakdomp: {self.path('out/invoice.csv')}: {remark}\n")
         self.assertEqual(tree(self.path("out")), self.due())
+        self.assertEqual(sum(line["same_list"] == "no" for line in self.lines()), 1)
 
     def test_a_worker_that_dies_with_what_it_found(self):
         """It is killed when it has found and the batch, which is held, has not yet asked for it; then comes a new one."""

@@ -5,6 +5,7 @@ import io
 import json
 import os
 import random
+import re
 import struct
 import subprocess
 import sys
@@ -16,12 +17,14 @@ from unittest import mock
 
 import zakdomp
 from test_zakdomp import SIDE, whole_case
-from zakdomp_command import files, formats, marks, png
+from zakdomp_command import choices, files, formats, marks, png
 from zakdomp_command.main import main
 
 HERE = os.path.dirname(os.path.abspath(__file__))
 EXAMPLES = os.path.join(HERE, "..", "examples")
 PLAIN = "--window 0 --least-neighbours 0 --centroid-radius 0 --search-radius 0".split()
+COMPARED = re.compile(r"zakdomp: .*: (computed (only: .*|\d+ corners, exact choice .*)|exact choice only: .*|"
+                      r"\d+ photographs have another list by the exact choice)\n")
 
 
 def pgm(pixels, width, height):
@@ -39,6 +42,11 @@ def noise(side, seed, values=range(256)):
 def example(name):
     with open(os.path.join(EXAMPLES, name), "rb") as file:
         return file.read()
+
+
+def beside(said):
+    """What is said on standard error beside how the two choices compare, which test_choices.py looks at."""
+    return COMPARED.sub("", said)
 
 
 class Command(unittest.TestCase):
@@ -74,7 +82,7 @@ class Command(unittest.TestCase):
 
     def done(self, *arguments, given=b""):
         status, output, said = self.run_command(*arguments, given=given)
-        self.assertEqual((status, said), (0, ""))
+        self.assertEqual((status, beside(said)), (0, ""))
         return output
 
     def fails(self, status, words, *arguments, given=b""):
@@ -99,7 +107,8 @@ class Finding(Command):
         self.assertEqual(self.done("find", "-", *PLAIN, given=upload), example("whole.txt"))
         environment = {**os.environ, "PYTHONPATH": HERE}
         ran = subprocess.run([sys.executable, "-B", "-m", "zakdomp_command", "find", "-", *PLAIN], input=upload, capture_output=True, env=environment)
-        self.assertEqual((ran.returncode, ran.stdout, ran.stderr), (0, example("whole.txt"), b""))
+        self.assertEqual((ran.returncode, ran.stdout), (0, example("whole.txt")))
+        self.assertEqual(ran.stderr, b"zakdomp: -: computed 1 corners, exact choice 1 corners: the same list\n")
 
     def test_the_defaults_are_the_library_s(self):
         upload = noise(64, 1)
@@ -133,7 +142,10 @@ class Finding(Command):
         self.assertEqual(self.in_a_shell("$ZAKDOMP find - <&-"), (2, "zakdomp: standard input: Bad file descriptor\n"))
         self.assertEqual(self.in_a_shell("$ZAKDOMP find $PHOTO >&-"), (2, "zakdomp: standard output: Bad file descriptor\n"))
         self.assertEqual(self.in_a_shell("$ZAKDOMP find $PHOTO >/dev/full"), (2, "zakdomp: standard output: No space left on device\n"))
-        self.assertEqual(self.in_a_shell("$ZAKDOMP find $PHOTO | head -n 1"), (0, ""))
+        status, said = self.in_a_shell("$ZAKDOMP find $PHOTO | head -n 1")
+        self.assertEqual((status, beside(said)), (0, ""))
+        closed = "cmp <($ZAKDOMP find $PHOTO 2>&-) <($ZAKDOMP find $PHOTO 2>/dev/null)"
+        self.assertEqual(self.in_a_shell(closed), (0, ""), "a closed standard error puts nothing on standard output")
 
     def test_what_is_no_usage_and_no_file(self):
         self.fails(2, "No such file", "find", self.path("none.pgm"))
@@ -234,6 +246,12 @@ def tied_peaks(photo, window, border):
     return tied
 
 
+def drawn(photo, corners, parameters):
+    """The marks of a list that is the same by both choices."""
+    frame = zakdomp.Frame(corners, 0)
+    return marks.drawing(choices.Found(photo, False, frame, choices.compared(frame, frame)), parameters).marks
+
+
 class Pictures(Command):
     def drawn(self, upload, *options):
         self.done("find", "-", "--png", self.path("a.png"), "--svg", self.path("a.svg"), *options, given=upload)
@@ -246,7 +264,7 @@ class Pictures(Command):
         self.assertEqual((width, height, kind, len(palette)), (640, 480, 3, 768))
         corners = zakdomp.find_corners_pgm(upload, threshold=100)
         self.assertEqual(len(corners), 35)
-        coloured = [(x, y) for y, row in enumerate(rows) for x, cell in enumerate(row) if cell > png.BLACK]
+        coloured = [(x, y) for y, row in enumerate(rows) for x, cell in enumerate(row) if cell > png.GREYS]
         near = {min(range(35), key=lambda c: abs(corners[c].x - x) + abs(corners[c].y - y)) for x, y in coloured}
         self.assertEqual(len(near), 35)
         self.assertTrue(all(min(max(abs(c.x - x), abs(c.y - y)) for c in corners) < 12 for x, y in coloured))
@@ -273,7 +291,7 @@ class Pictures(Command):
     def test_strength_is_size_and_colour(self):
         corners = zakdomp.find_corners_pgm(noise(100, 7))
         photo = zakdomp.read_pgm(noise(100, 7))
-        made = marks.drawing(photo, corners, zakdomp.Params()._asdict()).marks
+        made = drawn(photo, corners, zakdomp.Params()._asdict())
         self.assertEqual([mark.corner for mark in made], sorted(corners, key=lambda corner: corner.strength))
         for one, other in zip(made, made[1:]):
             self.assertLessEqual((one.radius, one.step), (other.radius, other.step))
@@ -288,7 +306,7 @@ class Pictures(Command):
             for window, radius in ((1, 0), (1, 1), (2, 2)):
                 chosen = zakdomp.Params(window=window, least_neighbours=0, centroid_radius=radius, merge_radius=0)._asdict()
                 corners = zakdomp.find_corners_pgm(upload, **chosen)
-                made = {mark.corner: mark.tied for mark in marks.drawing(photo, corners, chosen).marks}
+                made = {mark.corner: mark.tied for mark in drawn(photo, corners, chosen)}
                 due = tied_peaks(photo, window, 5 + window + radius)
                 self.assertEqual([made[corner] for corner in corners], due)
                 total += sum(due)
@@ -306,9 +324,9 @@ class Pictures(Command):
 
     def test_marks_at_the_edge_and_none_at_all(self):
         (_, _, _, _, rows), _ = self.drawn(pgm(whole_case(), SIDE, SIDE), *PLAIN)
-        self.assertTrue(any(cell > png.BLACK for row in rows for cell in row))
+        self.assertTrue(any(cell > png.GREYS for row in rows for cell in row))
         (_, _, _, _, rows), _ = self.drawn(pgm(bytes(600 * 3), 600, 3))
-        self.assertFalse(any(cell >= png.BLACK for row in rows for cell in row))
+        self.assertFalse(any(cell >= png.GREYS for row in rows for cell in row))
 
     def test_a_large_picture_has_large_marks(self):
         photo = zakdomp.Photograph(0, 4096, 4096, memoryview(bytes(1)))

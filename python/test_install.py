@@ -35,6 +35,10 @@ assert found.corners.dtype.names[:3] == ("x", "y", "strength") and len(found.cor
 assert (zakdomp_numpy.find_corners(image[::-1].T, threshold=30)["x"] > 20).all()
 assert zakdomp_numpy.response(image).shape == image.shape and zakdomp_numpy.response(image).max() == found.corners["strength"].max()
 assert len(zakdomp_numpy.find_corners(image[:0])) == 0
+tipped = (7 * numpy.arange(169) ** 2 % 24).astype("uint8").reshape(13, 13)
+bare = dict(window=1, least_neighbours=0, centroid_radius=0, merge_radius=0)
+assert len(zakdomp_numpy.find_exact(tipped, **bare).corners) == len(zakdomp_numpy.find_exact_corners(tipped, **bare)) == 1
+assert len(zakdomp_numpy.find_corners(tipped, **bare)) == 0
 print(len(zakdomp_numpy.find_corners(memoryview(image), threshold=30)))
 """
 BUILT = all(os.path.exists(os.path.join(TOP, "target", path)) for path in ("bin/corners", "bin/retained", "zakdomp/libzakdomp.a"))

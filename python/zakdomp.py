@@ -3,6 +3,8 @@
     find_corners(pixels, width, height, threshold=30)  ->  [Corner(x, y, strength, neighbours), ..]
     find(pixels, width, height, threshold=30)          ->  Frame(corners, ties), and so `find_pgm` of a photograph
     find_corners_pgm(upload, threshold=30)             ->  the same of a photograph, the bytes of a binary PGM file
+    find_exact(pixels, width, height, threshold=30)    ->  the Frame of the exact choice; `find_exact_pgm`, `find_exact_corners` and
+                                                           `find_exact_corners_pgm` are to it as those without `exact` are to `find`
     read_pgm(upload)                                   ->  Photograph(at, width, height, pixels)
     response(pixels, width, height, ring=5)            ->  ResponseMap(width, height, cells)
     retouch(pixels, cells, width, height, x, y, value) ->  how many cells of the map were computed anew
@@ -135,8 +137,9 @@ def _load():
     piece, out = [ctypes.c_void_p, size], ctypes.POINTER(size)
     numbers = [u32, f32, u32, u32, u32, f32, u32, size, u32]
     u8, u64 = ctypes.c_uint8, ctypes.c_uint64
-    library.zakdomp_find_corners.argtypes = piece + [size, size] + numbers + 10 * piece + [out, ctypes.POINTER(u64)]
-    library.zakdomp_find_corners_pgm.argtypes = piece + numbers + 10 * piece + [out, ctypes.POINTER(u64)]
+    found = numbers + 10 * piece + [out, ctypes.POINTER(u64)]
+    library.zakdomp_find_corners.argtypes = library.zakdomp_find_exact_corners.argtypes = piece + [size, size] + found
+    library.zakdomp_find_corners_pgm.argtypes = library.zakdomp_find_exact_corners_pgm.argtypes = piece + found
     library.zakdomp_pgm.argtypes = piece + 3 * [out]
     library.zakdomp_response.argtypes = piece + [size, size, u32, size, size, size, size] + piece + [out, out]
     library.zakdomp_retouch.argtypes = piece + [size, size, u32] + piece + [size, size, ctypes.c_uint8, out]
@@ -151,8 +154,9 @@ def _load():
     library.zakdomp_write_stream.argtypes = piece + [size, size] + 7 * [u32] + [size, u32] + piece + [out]
     library.zakdomp_holding.argtypes = [u8, u64, u64, ctypes.POINTER(u8)]
     library.zakdomp_holdings.argtypes = piece + [ctypes.c_void_p]
-    for function in ("find_corners", "find_corners_pgm", "pgm", "response", "has_peaks", "merge_apart", "merge_naive", "retouch",
-                     "response_limits", "sure_peak", "show_corner", "strike_corner", "write_stream", "holding"):
+    for function in ("find_corners", "find_corners_pgm", "find_exact_corners", "find_exact_corners_pgm", "pgm", "response",
+                     "has_peaks", "merge_apart", "merge_naive", "retouch", "response_limits", "sure_peak", "show_corner",
+                     "strike_corner", "write_stream", "holding"):
         getattr(library, "zakdomp_" + function).restype = u8
     library.zakdomp_level_bytes.restype = library.zakdomp_holdings.restype = size
     return library
@@ -237,12 +241,24 @@ def _search(call, width, height, params, most):
     return Frame([Corner(*fields) for fields in zip(*slices)], ties.value)
 
 
-def find(pixels, width, height, *, most=1 << 22, **params):
-    """The corners of an image, at most `most` of them before merging, and its ties. The parameters are the fields of `Params`."""
+def _of_pixels(function, pixels, width, height, most, params):
+    """What a function of the library finds in an image."""
     for name, value in (("width", width), ("height", height)):
         _whole(name, value, 64)
     held, image = _given(pixels)
-    return _search(functools.partial(_library.zakdomp_find_corners, *image, width, height), width, height, Params(**params), most)
+    return _search(functools.partial(function, *image, width, height), width, height, Params(**params), most)
+
+
+def _of_upload(function, upload, most, params):
+    """What a function of the library finds in a photograph."""
+    held, given = _given(upload)
+    photo = read_pgm(held)
+    return _search(functools.partial(function, *given), photo.width, photo.height, Params(**params), most)
+
+
+def find(pixels, width, height, *, most=1 << 22, **params):
+    """The corners of an image, at most `most` of them before merging, and its ties. The parameters are the fields of `Params`."""
+    return _of_pixels(_library.zakdomp_find_corners, pixels, width, height, most, params)
 
 
 def find_corners(pixels, width, height, **named):
@@ -252,14 +268,34 @@ def find_corners(pixels, width, height, **named):
 
 def find_pgm(upload, *, most=1 << 22, **params):
     """The corners of an uploaded photograph, a binary PGM (P5) with a maxval of 255, and its ties."""
-    held, given = _given(upload)
-    photo = read_pgm(held)
-    return _search(functools.partial(_library.zakdomp_find_corners_pgm, *given), photo.width, photo.height, Params(**params), most)
+    return _of_upload(_library.zakdomp_find_corners_pgm, upload, most, params)
 
 
 def find_corners_pgm(upload, **named):
     """The corners alone, as `find_pgm` finds them."""
     return find_pgm(upload, **named).corners
+
+
+def find_exact(pixels, width, height, *, most=1 << 22, **params):
+    """What `find` answers by the exact choice: peaks are chosen by responses without rounding. Where the two lists are the
+    same, rounding has tipped no corner of them. One of the two may have more than `most` corners and the other not. Ties
+    are counted by floats: a peak that has a larger float in its window counts 0."""
+    return _of_pixels(_library.zakdomp_find_exact_corners, pixels, width, height, most, params)
+
+
+def find_exact_corners(pixels, width, height, **named):
+    """The corners alone, as `find_exact` finds them."""
+    return find_exact(pixels, width, height, **named).corners
+
+
+def find_exact_pgm(upload, *, most=1 << 22, **params):
+    """The corners of an uploaded photograph by the exact choice, as `find_exact` has them of its pixels, and its ties."""
+    return _of_upload(_library.zakdomp_find_exact_corners_pgm, upload, most, params)
+
+
+def find_exact_corners_pgm(upload, **named):
+    """The corners alone, as `find_exact_pgm` finds them."""
+    return find_exact_pgm(upload, **named).corners
 
 
 def read_pgm(upload):

@@ -5,6 +5,7 @@
 
 `image` is anything that numpy makes a two-dimensional array of bytes from, rows first, in any layout. The parameters are the fields of
 `zakdomp.Params`, and what the library refuses is raised as `zakdomp.Refusal`."""
+from collections.abc import Callable
 from typing import Any, NamedTuple
 
 import numpy
@@ -23,15 +24,22 @@ class Frame(NamedTuple):
 
 def find(image: numpy.typing.ArrayLike, **named: Any) -> Frame:
     """The corners of an image, and how many ties its peaks have."""
-    pixels = _pixels(image)
-    height, width = pixels.shape
-    frame = zakdomp.find(pixels.tobytes(), width, height, **named)
-    return Frame(numpy.array([tuple(corner) for corner in frame.corners], CORNER), frame.ties)
+    return _frame(zakdomp.find, image, named)
 
 
 def find_corners(image: numpy.typing.ArrayLike, **named: Any) -> numpy.typing.NDArray[Any]:
     """The corners alone."""
     return find(image, **named).corners
+
+
+def find_exact(image: numpy.typing.ArrayLike, **named: Any) -> Frame:
+    """The same by the exact choice, as `zakdomp.find_exact`."""
+    return _frame(zakdomp.find_exact, image, named)
+
+
+def find_exact_corners(image: numpy.typing.ArrayLike, **named: Any) -> numpy.typing.NDArray[Any]:
+    """The corners of the exact choice alone."""
+    return find_exact(image, **named).corners
 
 
 def response(image: numpy.typing.ArrayLike, **named: Any) -> numpy.typing.NDArray[numpy.float32]:
@@ -40,6 +48,13 @@ def response(image: numpy.typing.ArrayLike, **named: Any) -> numpy.typing.NDArra
     height, width = pixels.shape
     box = zakdomp.response(pixels.tobytes(), width, height, **named)
     return numpy.array(box.cells, numpy.float32).reshape(box.height, box.width)
+
+
+def _frame(search: Callable[..., zakdomp.Frame], image: numpy.typing.ArrayLike, named: dict[str, Any]) -> Frame:
+    pixels = _pixels(image)
+    height, width = pixels.shape
+    frame = search(pixels.tobytes(), width, height, **named)
+    return Frame(numpy.array([tuple(corner) for corner in frame.corners], CORNER), frame.ties)
 
 
 def _pixels(image: numpy.typing.ArrayLike) -> numpy.typing.NDArray[numpy.uint8]:

@@ -4,7 +4,6 @@ import csv
 import errno
 import io
 import os
-import sys
 from typing import Any
 
 from zakdomp_command import files, formats, parameters
@@ -14,15 +13,19 @@ from zakdomp_command.runners import Runner, alone, processes
 from zakdomp_command.uploads import Order, Outcome, corner_file
 
 EXAMPLE = "example: zakdomp batch uploads --out november --threshold 100 --jobs 2"
+DESCRIPTION = """Writes DIR/corners with a corner file for each photograph of a folder, and DIR/invoice.csv with a line
+for each upload, whatever it is: name, sides, corners and ties, or the number and words of its refusal; then how many
+corners the exact choice has, whether both have the same list, and the corners that stand in one list only. Files appear
+whole or not at all; a run that was killed goes on where it stopped when it is started again. Subfolders are not looked
+into."""
 INVOICE, CORNERS = "invoice.csv", "corners"
-COLUMNS = ("name", "width", "height", "corners", "ties", "number", "words")
+COLUMNS = ("name", "width", "height", "corners", "ties", "number", "words", "exact_corners", "same_list",
+           "computed_only", "exact_only")
 
 
 def add(commands: Any) -> None:
     parser = commands.add_parser("batch", help="a folder of photographs, and its invoice", epilog=EXAMPLE,
-                                 description="Writes DIR/corners with a corner file for each photograph of a folder, and DIR/invoice.csv with a line for each "
-                                 "upload, whatever it is: name, sides, corners and ties, or the number and words of its refusal. Files appear whole or "
-                                 "not at all; a run that was killed goes on where it stopped when it is started again. Subfolders are not looked into.")
+                                 description=DESCRIPTION)
     parser.add_argument("folder", metavar="FOLDER", help="where the uploads are; each file in it is one")
     parser.add_argument("--out", metavar="DIR", required=True, type=_named, help="where corner files and invoice are put")
     parser.add_argument("--jobs", type=_jobs, default=len(os.sched_getaffinity(0)), metavar="N", help="so many processes (default: one a core)")
@@ -48,6 +51,7 @@ def run(options: argparse.Namespace) -> int:
         files.place(os.path.join(out, INVOICE), invoice(outcomes))
         journal.end()
     _summary(options, outcomes)
+    _tipped(options, outcomes)
     _others(options, order, outcomes)
     return 0
 
@@ -94,15 +98,25 @@ def _summary(options: argparse.Namespace, outcomes: list[Outcome]) -> None:
               + os.fsencode(os.path.join(options.out, INVOICE)) + b"\n")
 
 
+def _tipped(options: argparse.Namespace, outcomes: list[Outcome]) -> None:
+    """Says of how many photographs the two choices have not the same list, or one of them none."""
+    words = {"no": "photographs have another list by the exact choice",
+             "unknown": "photographs are refused by the exact choice"}
+    for answer, said in words.items():
+        count = sum(outcome.same_list == answer for outcome in outcomes)
+        if count:
+            files.tell(f"{count} {said}", os.path.join(options.out, INVOICE))
+
+
 def _others(options: argparse.Namespace, order: Order, outcomes: list[Outcome]) -> None:
     """Says what is there and not of this batch: subfolders of the uploads, and corner files of an earlier batch, which are kept."""
     own = {corner_file(order, outcome.name) for outcome in outcomes if outcome.corners is not None}
     other = sum(entry.path not in own for entry in os.scandir(order.corners))
     if other:
-        print(f"zakdomp: {os.path.join(options.out, CORNERS)}: {other} files are not of this batch", file=sys.stderr)
+        files.tell(f"{other} files are not of this batch", os.path.join(options.out, CORNERS))
     below = sum(entry.is_dir() and not os.path.samefile(entry.path, options.out) for entry in os.scandir(options.folder))
     if below:
-        print(f"zakdomp: {options.folder}: {below} subfolders not looked into", file=sys.stderr)
+        files.tell(f"{below} subfolders not looked into", options.folder)
 
 
 def _named(text: str) -> str:

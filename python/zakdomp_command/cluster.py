@@ -9,9 +9,8 @@ from functools import partial
 from itertools import islice
 from typing import Any
 
-import zakdomp
 from zakdomp_command.runners import AHEAD, Runner
-from zakdomp_command.uploads import Order, Outcome, find, read, settle, unread, work
+from zakdomp_command.uploads import VERSION, Order, Outcome, find, read, settle, unread, work
 
 PATIENCE = 30
 GONE = "the scheduler is gone: start the batch again to go on"
@@ -78,7 +77,7 @@ def _begun(client: Any, order: Order, name: str) -> Any:
     except OSError as problem:
         return unread(name, problem)
     with _asking(client):
-        task = client.submit(_find, zakdomp.__version__, order, name, upload, size, time, pure=False)
+        task = client.submit(_find, VERSION, order, name, upload, size, time, pure=False)
     task.zakdomp_name = name
     return task
 
@@ -102,6 +101,6 @@ def _ended(client: Any, killed: type[Exception], order: Order, task: Any) -> Out
 
 def _find(version: str, order: Order, name: str, upload: bytes, size: int, time: int) -> Outcome:
     """What a worker does; its library is to be that of the batch."""
-    if zakdomp.__version__ != version:
-        raise ValueError(f"a worker has zakdomp {zakdomp.__version__}, and not {version}")
+    if VERSION != version:
+        raise ValueError(f"a worker has zakdomp {VERSION}, and not {version}")
     return find(order, name, upload)._replace(size=size, time=time)

@@ -31,6 +31,13 @@ def say(content: str | bytes) -> None:
         raise OSError(problem.errno, problem.strerror, "standard output") from problem
 
 
+def tell(words: str, name: str | None) -> None:
+    """Says a line on standard error, of a file if one is named. Where standard error is closed nothing is said, for
+    `print` would then take standard output."""
+    if sys.stderr is not None:
+        print(f"zakdomp: {line(name) + ': ' if name else ''}{line(words)}", file=sys.stderr)
+
+
 def apart(given: str, *made: str | None) -> None:
     """Sees that no file that is made takes the place of the one that is read, or of another that is made."""
     names = [name for name in made if name and (os.path.isfile(name) or not os.path.exists(name))] + [given] * (given != "-")

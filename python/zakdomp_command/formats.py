@@ -57,6 +57,11 @@ def plain(corner: zakdomp.Corner) -> dict[str, float]:
     return {name: value if isinstance(value, int) else shortest(value) for name, value in zip(FIELDS, corner)}
 
 
+def words(corner: zakdomp.Corner) -> str:
+    """A corner for people."""
+    return ", ".join(f"{name} {value}" for name, value in plain(corner).items())
+
+
 def _single(value: float) -> float:
     return float(struct.unpack("<f", struct.pack("<f", value))[0])
 

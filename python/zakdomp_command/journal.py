@@ -8,8 +8,7 @@ import time
 from types import TracebackType
 from typing import BinaryIO
 
-import zakdomp
-from zakdomp_command.uploads import Order, Outcome, stands
+from zakdomp_command.uploads import VERSION, Order, Outcome, stands
 
 NAME = "unfinished.journal"
 PATIENCE = 5.0
@@ -43,7 +42,7 @@ class Journal:
 
     def _read(self) -> dict[str, Outcome]:
         """The outcomes that still hold. The file goes on behind the last whole line."""
-        head = _line({"version": zakdomp.__version__, **self._order._asdict()})
+        head = _line({"version": VERSION, **self._order._asdict()})
         lines = self._file.read().splitlines(keepends=True)
         if lines[:1] != [head]:
             lines = [head]

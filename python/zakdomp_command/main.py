@@ -52,6 +52,5 @@ def _input(options: argparse.Namespace) -> str | None:
 
 def _said(options: argparse.Namespace, problem: str, status: int, name: str | None = None) -> int:
     """Says a problem with a file, that which is read if no other is named, in one line."""
-    name = name or _input(options)
-    print(f"zakdomp: {files.line(name) + ': ' if name else ''}{files.line(problem)}", file=sys.stderr)
+    files.tell(problem, name or _input(options))
     return status

@@ -1,47 +1,65 @@
 """What is drawn of corners over a photograph: a circle about each, large and yellow where it is strong, small and blue where it is weak, and a
-square instead where its peak ties with a cell beside it."""
+square instead where its peak ties with a cell beside it. A corner that only one of the two choices of peaks has is a
+large diamond, green where the exact choice has it and white where the computed one does."""
 import math
 from typing import Any, NamedTuple
 
 import zakdomp
+from zakdomp_command.choices import Found
 
 STEPS = 31
 WEAK, MIDDLE, STRONG = (64, 160, 255), (255, 64, 160), (255, 232, 32)
+ALONE = {"computed": (255, 255, 255), "exact": (32, 255, 96)}
 SMALLEST = 2.5
 SAMPLE = 400
 Cell = tuple[int, int]
 
 
 class Mark(NamedTuple):
-    """A place in pixels, the mark's radius, its step of colour from 0, weak, and whether a cell ties with the corner's peak."""
+    """A place in pixels, the mark's radius, its step of colour from 0, weak, whether a cell ties with the corner's
+    peak, and which choice alone has the corner, if only one has."""
     x: float
     y: float
     radius: float
     step: int
     tied: bool
     corner: zakdomp.Corner
+    alone: str = ""
+
+    @property
+    def shape(self) -> str:
+        return "diamond" if self.alone else "square" if self.tied else "circle"
 
 
 class Drawing(NamedTuple):
-    """A photograph enlarged by a whole number, the marks over it, weakest first, and the width of their lines."""
+    """A photograph enlarged by a whole number, the marks over it, weakest first and diamonds last, and the width of
+    their lines."""
     photo: zakdomp.Photograph
     enlarged: int
     marks: list[Mark]
     line: float
 
 
-def drawing(photo: zakdomp.Photograph, corners: list[zakdomp.Corner], parameters: dict[str, Any]) -> Drawing:
-    """The marks of the corners of a photograph, sized for the photograph and for how near the corners are to each other."""
+def drawing(found: Found, parameters: dict[str, Any]) -> Drawing:
+    """The marks of the corners that are listed of a photograph and of those that the other choice alone has, sized for
+    the photograph and for how near the corners are to each other."""
+    photo, comparison = found.photo, found.comparison
+    corners = found.frame.corners + (comparison.computed_only if found.exact else comparison.exact_only)
+    alone = dict.fromkeys(comparison.computed_only, "computed") | dict.fromkeys(comparison.exact_only, "exact")
     enlarged = max(1, -(-480 // max(photo.width, photo.height)))
     largest = _largest(photo, corners)
     top = max((corner.strength for corner in corners), default=1.0)
     pixels = bytes(photo.pixels)
-    marks = [_mark(corner, top, largest, _tied(pixels, photo, corner, parameters)) for corner in corners]
-    return Drawing(photo, enlarged, sorted(marks, key=lambda mark: mark.corner.strength), largest / 4)
+    tied = [_tied(pixels, photo, corner, parameters) for corner in corners]
+    marks = [_diamond(photo, corner, ties, alone[corner]) if corner in alone else _mark(corner, top, largest, ties)
+             for corner, ties in zip(corners, tied)]
+    return Drawing(photo, enlarged, sorted(marks, key=lambda mark: (mark.alone, mark.corner.strength)), largest / 4)
 
 
 def colour(step: int) -> tuple[int, int, int]:
-    """The colour of a step: from blue over red to yellow."""
+    """The colour of a step: from blue over red to yellow, and behind these those of the diamonds."""
+    if step >= STEPS:
+        return list(ALONE.values())[step - STEPS]
     share = 2 * step / (STEPS - 1)
     low, high, part = (WEAK, MIDDLE, share) if share <= 1 else (MIDDLE, STRONG, share - 1)
     red, green, blue = (round(a + (b - a) * part) for a, b in zip(low, high))
@@ -53,10 +71,19 @@ def _mark(corner: zakdomp.Corner, top: float, largest: float, tied: bool) -> Mar
     return Mark(corner.x, corner.y, largest * (0.4 + 0.6 * share), round(share * (STEPS - 1)), tied, corner)
 
 
+def _diamond(photo: zakdomp.Photograph, corner: zakdomp.Corner, tied: bool, alone: str) -> Mark:
+    """Large however dense the corners are: such a corner is to be seen among hundreds."""
+    radius, step = 1.5 * max(_part(photo), SMALLEST), STEPS + list(ALONE).index(alone)
+    return Mark(corner.x, corner.y, radius, step, tied, corner, alone)
+
+
+def _part(photo: zakdomp.Photograph) -> float:
+    return max(photo.width, photo.height) / 80
+
+
 def _largest(photo: zakdomp.Photograph, corners: list[zakdomp.Corner]) -> float:
     """The radius of the strongest corner's mark: a part of the picture, less where the corners are dense."""
-    part = max(photo.width, photo.height) / 80
-    return max(min(part, 0.3 * _spacing(corners)), SMALLEST)
+    return max(min(_part(photo), 0.3 * _spacing(corners)), SMALLEST)
 
 
 def _spacing(corners: list[zakdomp.Corner]) -> float:

@@ -1,9 +1,12 @@
 """SVG files: the photograph inside, and the marks as shapes that name their corner where one points at them."""
 import base64
 
-from zakdomp_command.formats import plain
+from zakdomp_command.formats import words
 from zakdomp_command.marks import Drawing, Mark, colour
 from zakdomp_command.png import grey_png
+
+ONLY = {"computed": "computed only", "exact": "by the exact choice only"}
+PAINTS = {"computed": "white", "exact": "green"}
 
 
 def svg(drawing: Drawing) -> bytes:
@@ -13,7 +16,7 @@ def svg(drawing: Drawing) -> bytes:
     image = base64.b64encode(grey_png(photo.width, photo.height, bytes(photo.pixels))).decode("ascii")
     lines = [
         f'<svg xmlns="http://www.w3.org/2000/svg" width="{width}" height="{height}" viewBox="0 0 {photo.width} {photo.height}">',
-        f"<title>{len(drawing.marks)} corners, {sum(mark.tied for mark in drawing.marks)} of them tie (squares)</title>",
+        f"<title>{_legend(drawing.marks)}</title>",
         f'<image width="{photo.width}" height="{photo.height}" style="image-rendering:pixelated" href="data:image/png;base64,{image}"/>',
         '<g transform="translate(0.5 0.5)" fill="none">',
         *(_shape(mark, drawing.line) for mark in drawing.marks),
@@ -23,14 +26,29 @@ def svg(drawing: Drawing) -> bytes:
     return "\n".join(lines).encode("ascii") + b"\n"
 
 
+def _legend(marks: list[Mark]) -> str:
+    """What the marks are."""
+    legend = [f"{len(marks)} corners, {sum(mark.shape == 'square' for mark in marks)} of them tie (squares)"]
+    for choice, said in ONLY.items():
+        count = sum(mark.alone == choice for mark in marks)
+        legend += [f"{count} {said} ({PAINTS[choice]} diamonds)"] if count else []
+    return ", ".join(legend)
+
+
 def _shape(mark: Mark, line: float) -> str:
     """A mark in its colour over a wider black one."""
-    x, y, radius = (f"{value:.3f}" for value in (mark.x, mark.y, mark.radius))
-    shape = f'circle cx="{x}" cy="{y}" r="{radius}"'
-    if mark.tied:
-        side = f"{2 * mark.radius:.3f}"
-        shape = f'rect x="{mark.x - mark.radius:.3f}" y="{mark.y - mark.radius:.3f}" width="{side}" height="{side}"'
-    words = ", ".join(f"{name} {value}" for name, value in plain(mark.corner).items())
     strokes = [("#000", 2 * line), ("#%02x%02x%02x" % colour(mark.step), line)]
-    drawn = "".join(f'<{shape} stroke="{paint}" stroke-width="{width:.3f}"/>' for paint, width in strokes)
-    return f"<g><title>{words}{', tied' if mark.tied else ''}</title>{drawn}</g>"
+    drawn = "".join(f'<{_outline(mark)} stroke="{paint}" stroke-width="{width:.3f}"/>' for paint, width in strokes)
+    alone = f", {ONLY[mark.alone]}" if mark.alone else ""
+    return f"<g><title>{words(mark.corner)}{', tied' if mark.tied else ''}{alone}</title>{drawn}</g>"
+
+
+def _outline(mark: Mark) -> str:
+    """The element of a mark, and where it lies."""
+    x, y, radius = mark.x, mark.y, mark.radius
+    if mark.shape == "diamond":
+        corners = ((x, y - radius), (x + radius, y), (x, y + radius), (x - radius, y))
+        return f'polygon points="{" ".join(f"{across:.3f},{down:.3f}" for across, down in corners)}"'
+    if mark.shape == "square":
+        return f'rect x="{x - radius:.3f}" y="{y - radius:.3f}" width="{2 * radius:.3f}" height="{2 * radius:.3f}"'
+    return f'circle cx="{x:.3f}" cy="{y:.3f}" r="{radius:.3f}"'

@@ -6,7 +6,7 @@ import stat
 from typing import Any, NamedTuple
 
 import zakdomp
-from zakdomp_command import files, formats
+from zakdomp_command import choices, files, formats
 
 
 class Order(NamedTuple):
@@ -18,8 +18,9 @@ class Order(NamedTuple):
 
 
 class Outcome(NamedTuple):
-    """What became of an upload: its sides, corners and ties; or the number and words of its refusal; or words alone, where it could not be read.
-    `text` is the corner file, and `digest` that of the text once it is placed; `size` and `time` are those of the upload when it was read."""
+    """What became of an upload: its sides, corners and ties, and how the exact choice compares, in the invoice's words;
+    or the number and words of its refusal; or words alone, where it could not be read. `text` is the corner file, and
+    `digest` that of the text once it is placed; `size` and `time` are those of the upload when it was read."""
     name: str
     width: int | None = None
     height: int | None = None
@@ -27,10 +28,18 @@ class Outcome(NamedTuple):
     ties: int | None = None
     number: int | None = None
     words: str = ""
+    exact_corners: int | str | None = None
+    same_list: str = ""
+    computed_only: str = ""
+    exact_only: str = ""
     text: str | None = None
     digest: str | None = None
     size: int = 0
     time: int = 0
+
+
+# a worker, and the journal of a killed run, is to be of this version and to say as much of each upload
+VERSION = f"{zakdomp.__version__} ({' '.join(Outcome._fields)})"
 
 
 def read(order: Order, name: str) -> tuple[bytes, int, int]:
@@ -50,11 +59,13 @@ def unread(name: str, problem: OSError) -> Outcome:
 def find(order: Order, name: str, upload: bytes) -> Outcome:
     """What the library finds in an upload, with the text of its corner file."""
     try:
-        frame, photo = zakdomp.find_pgm(upload, **order.parameters), zakdomp.read_pgm(upload)
+        found = choices.find(upload, order.parameters)
     except zakdomp.Refusal as refusal:
         return Outcome(name, number=refusal.number, words=str(zakdomp.REFUSALS.get(refusal.number, "refused")))
-    text = formats.written(order.kind, frame.corners, formats.about(photo.width, photo.height, frame.ties, order.parameters))
-    return Outcome(name, photo.width, photo.height, len(frame.corners), frame.ties, text=text)
+    text = choices.written(order.kind, found, order.parameters)
+    said: dict[str, Any] = choices.cells(found.comparison)
+    photo, frame = found.photo, found.frame
+    return Outcome(name, photo.width, photo.height, len(frame.corners), frame.ties, **said, text=text)
 
 
 def settle(order: Order, outcome: Outcome) -> Outcome:

@@ -12,6 +12,7 @@ mod retention;
 mod stream;
 
 pub use editing::{EditedList, Shown};
+use library::Choice;
 pub use limits::{response_limits, sure_peak, ResponseLimits};
 pub use merging::merged;
 pub use naive::merge_naive;
@@ -147,20 +148,52 @@ impl Finder {
         height: usize,
         params: &Params,
     ) -> Result<Vec<Corner>, Refusal> {
-        self.fit(width, height, params);
-        self.grown(|finder| {
-            let Self { map, levels, seeds, corners, .. } = finder;
-            library::find_corners(image, width, height, params, map, levels, seeds, corners)
-        })
+        self.of_pixels(Choice::Computed, image, width, height, params)
+    }
+
+    /// The same by the exact choice: peaks are chosen by responses without rounding. Where `find` gives the same list,
+    /// rounding has tipped no corner of it. `Refusal::ListShort` may come from one of the two only.
+    pub fn find_exact(
+        &mut self,
+        image: &[u8],
+        width: usize,
+        height: usize,
+        params: &Params,
+    ) -> Result<Vec<Corner>, Refusal> {
+        self.of_pixels(Choice::Exact, image, width, height, params)
     }
 
     /// The corners of an uploaded photograph, a binary PGM (P5) with a maxval of 255.
     pub fn find_pgm(&mut self, upload: &[u8], params: &Params) -> Result<Vec<Corner>, Refusal> {
+        self.of_upload(Choice::Computed, upload, params)
+    }
+
+    /// The corners of an uploaded photograph by the exact choice, as `find_exact` has them of its pixels.
+    pub fn find_exact_pgm(&mut self, upload: &[u8], params: &Params) -> Result<Vec<Corner>, Refusal> {
+        self.of_upload(Choice::Exact, upload, params)
+    }
+
+    fn of_pixels(
+        &mut self,
+        choice: Choice,
+        image: &[u8],
+        width: usize,
+        height: usize,
+        params: &Params,
+    ) -> Result<Vec<Corner>, Refusal> {
+        self.fit(width, height, params);
+        self.grown(|finder| {
+            let Self { map, levels, seeds, corners, .. } = finder;
+            library::find_corners(choice, image, width, height, params, map, levels, seeds, corners)
+        })
+    }
+
+    fn of_upload(&mut self, choice: Choice, upload: &[u8], params: &Params) -> Result<Vec<Corner>, Refusal> {
         let (_, width, height) = library::pgm(upload)?;
         self.fit(width, height, params);
         self.grown(|finder| {
             let Self { map, levels, seeds, corners, .. } = finder;
-            library::find_corners_pgm(upload, params, map, levels, seeds, corners)
+            library::find_corners_pgm(choice, upload, params, map, levels, seeds, corners)
         })
     }
 
@@ -198,7 +231,7 @@ impl Finder {
     }
 
     /// How many cells of the peaks' windows equalled the peak, over all peaks of the last image before merging, seeds not counted; 0 where it
-    /// was refused.
+    /// was refused. By the exact choice too they are counted in floats: a peak with a larger float in its window counts 0.
     pub fn ties(&self) -> u64 {
         self.ties
     }

@@ -1,13 +1,21 @@
 //! The functions of libzakdomp.a that this crate calls, over slices.
 use crate::editing::EditedList;
 use crate::raw::{
-    zakdomp_find_corners, zakdomp_find_corners_pgm, zakdomp_has_peaks, zakdomp_holding, zakdomp_holdings,
+    zakdomp_find_corners, zakdomp_find_corners_pgm, zakdomp_find_exact_corners,
+    zakdomp_find_exact_corners_pgm, zakdomp_has_peaks, zakdomp_holding, zakdomp_holdings,
     zakdomp_level_bytes, zakdomp_merge_naive, zakdomp_pgm, zakdomp_response, zakdomp_response_limits,
     zakdomp_retouch, zakdomp_show_corner, zakdomp_strike_corner, zakdomp_sure_peak, zakdomp_write_stream,
     HOLDINGS,
 };
 use crate::{Corner, Lists, Params, Refusal};
 use std::ops::Range;
+
+/// By which responses the peaks of a map are chosen.
+#[derive(Clone, Copy)]
+pub(crate) enum Choice {
+    Computed,
+    Exact,
+}
 
 /// The results, unless the number is one of a refusal.
 fn unless_refused<T>(number: u8, results: T) -> Result<T, Refusal> {
@@ -26,15 +34,19 @@ pub(crate) fn level_bytes(width: usize, height: usize, p: &Params) -> usize {
 #[allow(clippy::too_many_arguments)]
 #[rustfmt::skip]
 pub(crate) fn find_corners(
-    image: &[u8], width: usize, height: usize, p: &Params,
+    choice: Choice, image: &[u8], width: usize, height: usize, p: &Params,
     map: &mut [f32], levels: &mut [u8], seeds: &mut Lists, corners: &mut Lists,
 ) -> Result<(usize, u64), Refusal> {
     let (mut count, mut ties) = (0, 0);
     let Lists { xs: sx, ys: sy, strengths: ss, neighbours: sn } = seeds;
     let Lists { xs: cx, ys: cy, strengths: cs, neighbours: cn } = corners;
+    let call = match choice {
+        Choice::Computed => zakdomp_find_corners,
+        Choice::Exact => zakdomp_find_exact_corners,
+    };
     // SAFETY: every slice is whole, none overlaps another, and the call keeps none. It is proved to stay within their lengths.
     let number = unsafe {
-        zakdomp_find_corners(
+        call(
             image.as_ptr(), image.len(), width, height,
             p.ring, p.threshold, p.window, p.least_neighbours, p.centroid_radius, p.merge_radius, p.levels, p.minimum_side, p.search_radius,
             map.as_mut_ptr(), map.len(), levels.as_mut_ptr(), levels.len(),
@@ -54,16 +66,22 @@ pub(crate) fn pgm(upload: &[u8]) -> Result<(usize, usize, usize), Refusal> {
     unless_refused(number, (at, w, h))
 }
 
+#[allow(clippy::too_many_arguments)]
 #[rustfmt::skip]
 pub(crate) fn find_corners_pgm(
-    upload: &[u8], p: &Params, map: &mut [f32], levels: &mut [u8], seeds: &mut Lists, corners: &mut Lists,
+    choice: Choice, upload: &[u8], p: &Params,
+    map: &mut [f32], levels: &mut [u8], seeds: &mut Lists, corners: &mut Lists,
 ) -> Result<(usize, u64), Refusal> {
     let (mut count, mut ties) = (0, 0);
     let Lists { xs: sx, ys: sy, strengths: ss, neighbours: sn } = seeds;
     let Lists { xs: cx, ys: cy, strengths: cs, neighbours: cn } = corners;
+    let call = match choice {
+        Choice::Computed => zakdomp_find_corners_pgm,
+        Choice::Exact => zakdomp_find_exact_corners_pgm,
+    };
     // SAFETY: as above.
     let number = unsafe {
-        zakdomp_find_corners_pgm(
+        call(
             upload.as_ptr(), upload.len(),
             p.ring, p.threshold, p.window, p.least_neighbours, p.centroid_radius, p.merge_radius, p.levels, p.minimum_side, p.search_radius,
             map.as_mut_ptr(), map.len(), levels.as_mut_ptr(), levels.len(),

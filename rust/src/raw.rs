@@ -20,8 +20,24 @@ extern "C" {
         cx: *mut f32, cx_length: usize, cy: *mut f32, cy_length: usize, cs: *mut f32, cs_length: usize, cn: *mut u32, cn_length: usize,
         count: *mut usize, ties: *mut u64,
     ) -> u8;
+    pub fn zakdomp_find_exact_corners(
+        img: *const u8, img_length: usize, w: usize, h: usize,
+        ring: u32, threshold: f32, window: u32, least: u32, centroid: u32, radius: f32, level_count: u32, minimum: usize, search: u32,
+        map: *mut f32, map_length: usize, levels: *mut u8, levels_length: usize,
+        sx: *mut f32, sx_length: usize, sy: *mut f32, sy_length: usize, ss: *mut f32, ss_length: usize, sn: *mut u32, sn_length: usize,
+        cx: *mut f32, cx_length: usize, cy: *mut f32, cy_length: usize, cs: *mut f32, cs_length: usize, cn: *mut u32, cn_length: usize,
+        count: *mut usize, ties: *mut u64,
+    ) -> u8;
     pub fn zakdomp_pgm(upload: *const u8, upload_length: usize, at: *mut usize, width: *mut usize, height: *mut usize) -> u8;
     pub fn zakdomp_find_corners_pgm(
+        upload: *const u8, upload_length: usize,
+        ring: u32, threshold: f32, window: u32, least: u32, centroid: u32, radius: f32, level_count: u32, minimum: usize, search: u32,
+        map: *mut f32, map_length: usize, levels: *mut u8, levels_length: usize,
+        sx: *mut f32, sx_length: usize, sy: *mut f32, sy_length: usize, ss: *mut f32, ss_length: usize, sn: *mut u32, sn_length: usize,
+        cx: *mut f32, cx_length: usize, cy: *mut f32, cy_length: usize, cs: *mut f32, cs_length: usize, cn: *mut u32, cn_length: usize,
+        count: *mut usize, ties: *mut u64,
+    ) -> u8;
+    pub fn zakdomp_find_exact_corners_pgm(
         upload: *const u8, upload_length: usize,
         ring: u32, threshold: f32, window: u32, least: u32, centroid: u32, radius: f32, level_count: u32, minimum: usize, search: u32,
         map: *mut f32, map_length: usize, levels: *mut u8, levels_length: usize,

@@ -13,18 +13,18 @@ use lib.Ieee.Fits.{sub-fits, cond-fits}
 use Rattle.lists.specs.Places.{All}
 use Rattle.lists.proofs.Tab.{getD-tab-any}
 use Rattle.float32.specs.Float32.{zero, floatOf}
-use Rattle.float32.specs.Value.{IsWhole, plusPart}
+use Rattle.float32.specs.Value.{IsWhole, plusPart, minusPart}
 use Rattle.float32.proofs.Sums.{total-bound}
 use Rattle.float32.proofs.Values.{of-HasValue, ofInt-value}
 use Rattle.ring.specs.Ring.{Ring}
 use Rattle.response.specs.Response.{samples, srOf, drOf, ringSumOf, crossOf, responseOf, inside, response, responseAt}
 use Rattle.response.specs.Patch.{View, mapWidth, mapHeight, cells, Patched}
-use Rattle.response.specs.Exact.{credit, fifthsAt, fifthsIn}
+use Rattle.response.specs.Exact.{credit, debit, fifthsAt, fifthsIn}
 use Rattle.response.specs.declared.Patch.{Patch}
 use Rattle.response.specs.declared.Patch.the-variants.{Cells}
 use Rattle.response.proofs.Map.{cells-at, cells-all, filled, cell-at}
 use Rattle.accuracy.specs.Accurate.{Accurate, Bytes}
-use Rattle.accuracy.proofs.Integers.{plus-le, less-parts}
+use Rattle.accuracy.proofs.Integers.{plus-le, minus-le, less-parts}
 use Rattle.accuracy.proofs.Error.{InRange}
 use Rattle.accuracy.proofs.Judged.{response-accurate, zero-accurate, at-most-whole}
 
@@ -86,6 +86,19 @@ fifths-small img w h t x y bytes =
   where
     pick : (b : Bool) (c d : ℕ) → c ≤ 10200 → plusPart (cond b (subℕ c d) (pos 0)) ≤ 10200
     pick true c d h = le-trans (plus-le c d) h
+    pick false c d h = omega arith
+
+-- and at least -6120
+pub fifths-deep : (img : List ℕ) (w h : ℕ) (t : Ring) (x y : ℕ) → Bytes img → minusPart (fifthsAt img w h t x y) ≤ 30600
+unfolding fifthsAt
+fifths-deep img w h t x y bytes =
+    let i = in-range img w t x y bytes in
+    let d : debit (drOf (samples img w t x y)) (ringSumOf (samples img w t x y)) (crossOf img w x y) ≤ 30600 = omega
+    (arith, i .dr-small, i .ring-small, i .cross-small) in
+    pick (inside w h t x y) _ _ d
+  where
+    pick : (b : Bool) (c d : ℕ) → d ≤ 30600 → minusPart (cond b (subℕ c d) (pos 0)) ≤ 30600
+    pick true c d h = le-trans (minus-le c d) h
     pick false c d h = omega arith
 
 -- the float is one of binary32, and at most 8192

@@ -25,6 +25,13 @@ plus-le c d = go (ltb c d)
     go true = omega arith
     go false = omega arith
 
+pub minus-le : (c d : ℕ) → minusPart (subℕ c d) ≤ d
+minus-le c d = go (ltb c d) (ltb→lt c d)
+  where
+    go : (w : Bool) → (T w → c < d) → minusPart (cond w (negsuc (d - suc c)) (pos (c - d))) ≤ d
+    go true h = let x = h tt in omega arith
+    go false h = omega arith
+
 pub less-parts : (a b : ℤ) → (a <ℤ b) ↔ (plusPart a + minusPart b < plusPart b + minusPart a)
 less-parts (pos a) (pos b) = (λ h. let x = ltb→lt a b (h .lt) in omega arith, λ h. record { lt = lt→ltb a b (omega arith) })
 less-parts (pos a) (negsuc b) = (λ h. absurd (h .lt), λ h. absurd (omega arith))

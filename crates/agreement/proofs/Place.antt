@@ -31,7 +31,7 @@ abbrev pub CellsAccurate : List Float → (Place → ℤ) → ℕ → ℕ → Ty
 CellsAccurate m fifths w h = (p : Place) → p .x < w → p .y < h → Accurate (valueAt m w p) (fifths p)
 
 module _ (m : List Float) (fifths : Place → ℤ) (w h : ℕ) (cells : CellsAccurate m fifths w h) where
-  positive-both : (q : Place) → q .x < w → q .y < h → (positiveIn m w q ≡ true) ↔ (ltZ (pos 0) (fifths q) ≡ true)
+  pub positive-both : (q : Place) → q .x < w → q .y < h → (positiveIn m w q ≡ true) ↔ (ltZ (pos 0) (fifths q) ≡ true)
   positive-both q qx qy = (
     λ e. less-is (pos 0) (fifths q) .1 (cells q qx qy .positive .0 (to-T e)),
     λ e. from-T _ (cells q qx qy .positive .1 (less-is (pos 0) (fifths q) .0 e)),

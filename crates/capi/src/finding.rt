@@ -1,40 +1,81 @@
 // The corners of an image.
-use frame::FrameAnswer;
+use frame::answers::count_of;
+use frame::answers::number_of;
+use frame::answers::ties_of;
+use frame::find_corners_by;
 use patch_corners::FrameParams;
-ghost use mathlib.Core.Path.{_≡_};
-ghost use lib.ListN.{getD};
 ghost use Rattle.corner_list.specs.CornerList.{slices};
-ghost use Rattle.frame.specs.Frame.{buffers, params, numberOf, valuesOf};
+ghost use Rattle.patch_corners.specs.OneMap.{choiceOf, computedChoice, exactChoice};
+ghost use Rattle.frame.specs.Frame.{buffers, params};
 ghost use Rattle.capi.specs.Finding.{CornersFound};
 
-// The number of an answer, 0 where corners were found.
-pub(crate) fn number_of(a: FrameAnswer) -> u8
-    ensures { λ r. ⌜ r ≡ numberOf a ⌝ }
+// Finds the corners of an image, by computed or by exact values, and takes the answer apart.
+fn find(
+    img: &[u8],
+    w: usize,
+    h: usize,
+    ring: u32,
+    threshold: f32,
+    window: u32,
+    least_neighbours: u32,
+    centroid_radius: u32,
+    merge_radius: f32,
+    level_count: u32,
+    minimum_side: usize,
+    search_radius: u32,
+    exact: bool,
+    map: &mut [f32],
+    levels: &mut [u8],
+    sx: &mut [f32],
+    sy: &mut [f32],
+    ss: &mut [f32],
+    sn: &mut [u32],
+    cx: &mut [f32],
+    cy: &mut [f32],
+    cs: &mut [f32],
+    cn: &mut [u32],
+    count: &mut usize,
+    ties: &mut u64,
+) -> u8
+    ensures { λ r. ⌜ CornersFound (choiceOf (params ring threshold window «least_neighbours» «centroid_radius» «merge_radius» «level_count» «minimum_side» «search_radius») exact) (params ring threshold window «least_neighbours» «centroid_radius» «merge_radius» «level_count» «minimum_side» «search_radius») (now (img .entry)) w h
+        (buffers (now (map .entry)) (now (levels .entry)) (slices (now (sx .entry)) (now (sy .entry)) (now (ss .entry)) (now (sn .entry)))
+        (slices (now (cx .entry)) (now (cy .entry)) (now (cs .entry)) (now (cn .entry))))
+        (now (count .entry)) (now (ties .entry)) r
+        (buffers (now (map .exit)) (now (levels .exit)) (slices (now (sx .exit)) (now (sy .exit)) (now (ss .exit)) (now (sn .exit)))
+        (slices (now (cx .exit)) (now (cy .exit)) (now (cs .exit)) (now (cn .exit))))
+        (now (count .exit)) (now (ties .exit)) ⌝ }
 {
-    match a {
-        FrameAnswer::Corners(_, _) => 0,
-        FrameAnswer::Refused(n) => n,
-    }
-}
-
-// How many corners there are, or `before` where refused.
-pub(crate) fn count_of(a: FrameAnswer, before: usize) -> usize
-    ensures { λ r. ⌜ r ≡ getD (valuesOf a) 0 before ⌝ }
-{
-    match a {
-        FrameAnswer::Corners(n, _) => n,
-        FrameAnswer::Refused(_) => before,
-    }
-}
-
-// How many ties there are, or `before` where refused.
-pub(crate) fn ties_of(a: FrameAnswer, before: u64) -> u64
-    ensures { λ r. ⌜ r ≡ getD (valuesOf a) 1 before ⌝ }
-{
-    match a {
-        FrameAnswer::Corners(_, ties) => ties,
-        FrameAnswer::Refused(_) => before,
-    }
+    let p = FrameParams {
+        ring,
+        threshold,
+        window,
+        least_neighbours,
+        centroid_radius,
+        merge_radius,
+        levels: level_count,
+        minimum_side,
+        search_radius,
+    };
+    let a = find_corners_by(
+        img,
+        w,
+        h,
+        p,
+        exact,
+        map,
+        levels,
+        sx,
+        sy,
+        ss,
+        sn,
+        cx,
+        cy,
+        cs,
+        cn,
+    );
+    *count = count_of(a, *count);
+    *ties = ties_of(a, *ties);
+    number_of(a)
 }
 
 // Finds the corners of an image of w by h pixels: they stand first in the corner buffer (cx, cy, cs, cn), their number goes into `count`, and that of
@@ -66,7 +107,7 @@ pub extern "C" fn zakdomp_find_corners(
     count: &mut usize,
     ties: &mut u64,
 ) -> u8
-    ensures { λ r. ⌜ CornersFound (params ring threshold window «least_neighbours» «centroid_radius» «merge_radius» «level_count» «minimum_side» «search_radius») (now (img .entry)) w h
+    ensures { λ r. ⌜ CornersFound (computedChoice (params ring threshold window «least_neighbours» «centroid_radius» «merge_radius» «level_count» «minimum_side» «search_radius»)) (params ring threshold window «least_neighbours» «centroid_radius» «merge_radius» «level_count» «minimum_side» «search_radius») (now (img .entry)) w h
         (buffers (now (map .entry)) (now (levels .entry)) (slices (now (sx .entry)) (now (sy .entry)) (now (ss .entry)) (now (sn .entry)))
         (slices (now (cx .entry)) (now (cy .entry)) (now (cs .entry)) (now (cn .entry))))
         (now (count .entry)) (now (ties .entry)) r
@@ -74,19 +115,96 @@ pub extern "C" fn zakdomp_find_corners(
         (slices (now (cx .exit)) (now (cy .exit)) (now (cs .exit)) (now (cn .exit))))
         (now (count .exit)) (now (ties .exit)) ⌝ }
 {
-    let p = FrameParams {
+    find(
+        img,
+        w,
+        h,
         ring,
         threshold,
         window,
         least_neighbours,
         centroid_radius,
         merge_radius,
-        levels: level_count,
+        level_count,
         minimum_side,
         search_radius,
-    };
-    let a = frame::find_corners(img, w, h, p, map, levels, sx, sy, ss, sn, cx, cy, cs, cn);
-    *count = count_of(a, *count);
-    *ties = ties_of(a, *ties);
-    number_of(a)
+        false,
+        map,
+        levels,
+        sx,
+        sy,
+        ss,
+        sn,
+        cx,
+        cy,
+        cs,
+        cn,
+        count,
+        ties,
+    )
+}
+
+// The same by the exact values of the paper's formula.
+#[no_mangle]
+pub extern "C" fn zakdomp_find_exact_corners(
+    img: &[u8],
+    w: usize,
+    h: usize,
+    ring: u32,
+    threshold: f32,
+    window: u32,
+    least_neighbours: u32,
+    centroid_radius: u32,
+    merge_radius: f32,
+    level_count: u32,
+    minimum_side: usize,
+    search_radius: u32,
+    map: &mut [f32],
+    levels: &mut [u8],
+    sx: &mut [f32],
+    sy: &mut [f32],
+    ss: &mut [f32],
+    sn: &mut [u32],
+    cx: &mut [f32],
+    cy: &mut [f32],
+    cs: &mut [f32],
+    cn: &mut [u32],
+    count: &mut usize,
+    ties: &mut u64,
+) -> u8
+    ensures { λ r. ⌜ CornersFound (exactChoice (params ring threshold window «least_neighbours» «centroid_radius» «merge_radius» «level_count» «minimum_side» «search_radius»)) (params ring threshold window «least_neighbours» «centroid_radius» «merge_radius» «level_count» «minimum_side» «search_radius») (now (img .entry)) w h
+        (buffers (now (map .entry)) (now (levels .entry)) (slices (now (sx .entry)) (now (sy .entry)) (now (ss .entry)) (now (sn .entry)))
+        (slices (now (cx .entry)) (now (cy .entry)) (now (cs .entry)) (now (cn .entry))))
+        (now (count .entry)) (now (ties .entry)) r
+        (buffers (now (map .exit)) (now (levels .exit)) (slices (now (sx .exit)) (now (sy .exit)) (now (ss .exit)) (now (sn .exit)))
+        (slices (now (cx .exit)) (now (cy .exit)) (now (cs .exit)) (now (cn .exit))))
+        (now (count .exit)) (now (ties .exit)) ⌝ }
+{
+    find(
+        img,
+        w,
+        h,
+        ring,
+        threshold,
+        window,
+        least_neighbours,
+        centroid_radius,
+        merge_radius,
+        level_count,
+        minimum_side,
+        search_radius,
+        true,
+        map,
+        levels,
+        sx,
+        sy,
+        ss,
+        sn,
+        cx,
+        cy,
+        cs,
+        cn,
+        count,
+        ties,
+    )
 }

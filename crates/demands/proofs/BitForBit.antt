@@ -77,6 +77,6 @@ bit-for-bit = record {
   «merge_corners_simple» = λ radius count b b′ n f. left-is _ _ b b′ n f;
   «merge_corners_naive» = λ radius count b b′ n f. left-is _ _ b b′ n f;
   «merge_corner_slice» = slice-is;
-  «find_corners» = λ c. finished-tells (c .parameters) (c .img) (c .w) (c .h) (c .before) (c .count) (c .ties) (c .after) (c .promise) .corners;
+  «find_corners» = λ c. finished-tells _ (c .parameters) (c .img) (c .w) (c .h) (c .before) (c .count) (c .ties) (c .after) (c .promise) .corners;
   find = λ input text text′ end f. rw (f .holds) (front-take (outputOf input) text end (f .ends));
 }

@@ -6,7 +6,7 @@ use Rattle.lists.specs.Tab.{tab, grid}
 use Rattle.pyramid_levels.specs.Levels.{halvings, levelCount}
 use Rattle.pyramid.specs.Pyramid.{halfPixel, halved}
 use Rattle.ring.specs.Ring.{ring5}
-use Rattle.response.specs.Response.{samples}
+use Rattle.response.specs.Response.{samples, responseOf}
 use Rattle.response.specs.Exact.{fifthsAt}
 use Rattle.float32.specs.Value.{total}
 use Rattle.merge_radius.specs.MergeRadius.{isOff}
@@ -17,5 +17,5 @@ use Rattle.demands.specs.Cases.{cases, CasesHold}
 
 pub cases-hold : CasesHold
 unfolding cases fifthsAt samples total tab grid ring5 halfPixel halved halvings levelCount roiOf mul le ofInt
-    resultOf naiveOf isOff gridOf near neighbours lt add sub div toUnsigned toBits
+    resultOf naiveOf responseOf isOff gridOf near neighbours lt add sub div toUnsigned toBits
 cases-hold = refl

@@ -20,6 +20,7 @@ use Rattle.demands.proofs.Retouch.{only-touched, at-most-21, fresh-agai
 use Rattle.demands.proofs.Limits.{limits-contain, limits-exact, sure-peak-exact}
 use Rattle.demands.proofs.FrameExact.{frame-exact, alike-by-name, maps-searched, maps-alike, frame-without-ties, four-never, peaks-kept}
 use Rattle.demands.proofs.Photographs.{photograph-is-frame, plain-header-read, behind-unread, uploads-read}
+use Rattle.demands.proofs.OnePrice.{exact-frame, one-price, nothing-tipped}
 use Rattle.demands.proofs.Ties.{nan-top, peak-ties, frame-ties, maps-alike-without-equals}
 use Rattle.demands.proofs.Neighbours.{neighbours-kept, counts-exact}
 use Rattle.demands.proofs.Tolerance.{centre-tolerance, frame-tolerance}
@@ -45,6 +46,9 @@ demands = record {
   maps-searched = maps-searched;
   maps-alike = maps-alike;
   frame-without-ties = frame-without-ties;
+  exact-frame = exact-frame;
+  one-price = one-price;
+  nothing-tipped = nothing-tipped;
   photograph-is-frame = photograph-is-frame;
   plain-header-read = plain-header-read;
   behind-unread = behind-unread;

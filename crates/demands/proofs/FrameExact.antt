@@ -19,7 +19,7 @@ use Rattle.detect.specs.Detect.{peaksIn}
 use Rattle.detect.specs.Detect as detect
 use Rattle.detect.specs.Exact.{exact, exactPeaks}
 use Rattle.patch_corners.specs.declared.FrameParams.{FrameParams}
-use Rattle.patch_corners.specs.OneMap.{searchOn, computedChoice, exactChoice}
+use Rattle.patch_corners.specs.OneMap.{Choice, searchOn, exactChoice}
 use Rattle.patch_corners.proofs.Fine.{Fine}
 use Rattle.frame_pass.specs.Refusals.{conditions}
 use Rattle.frame_pass.specs.Pass.{Pass, framePass}
@@ -32,14 +32,15 @@ use Rattle.frame.specs.Frame.{tooMany, refusalOf}
 use Rattle.frame.proofs.Callers.{finished-tells}
 use Rattle.demands.specs.PeakCall.{searchIn}
 use Rattle.demands.specs.PeaksAlike.{programList, position, nameOf}
-use Rattle.demands.specs.FrameExact.{FrameCall, mapsIn, Alike, WithoutTie, FrameExact, AlikeByName, MapsSearched, MapsAlike, FrameWithoutTies, FourNever}
+use Rattle.demands.specs.FrameExact.{CallBy, FrameCall, mapsIn, Alike, WithoutTie, FrameExact, AlikeByName, MapsSearched, MapsAlike}
+use Rattle.demands.specs.FrameExact.{FrameWithoutTies, FourNever}
 use Rattle.demands.specs.FrameExact.{PeaksKept}
 use Rattle.lists.proofs.Refusals.{lowest-before}
 use Rattle.demands.proofs.Added.{named}
 
 pub frame-exact : FrameExact
 frame-exact c alike =
-    let f = finished-tells (c .parameters) (c .img) (c .w) (c .h) (c .before) (c .count) (c .ties) (c .after) (c .promise) in
+    let f = finished-tells _ (c .parameters) (c .img) (c .w) (c .h) (c .before) (c .count) (c .ties) (c .after) (c .promise) in
     let same = ap (λ (q : Pass). q .corners) (pass-same (c .parameters) (c .img) (c .w) (c .h) alike) in
     record { corners = f .corners ∙ same; count = f .count ∙ ap length same }
 
@@ -53,13 +54,13 @@ alike-by-name p v c same =
 -- ---- the maps of a frame
 
 -- a frame that finished was not refused before its pass
-pub sound : (c : FrameCall) → SoundFrame (c .parameters) (c .img) (c .w) (c .h)
+pub sound : {choose : FrameParams → Choice} (c : CallBy choose) → SoundFrame (c .parameters) (c .img) (c .w) (c .h)
 unfolding refusalOf
-sound c =
+sound {choose} c =
     let cells = length (c .before .map) in
     let places = length (c .before .levels) in
     let none = lowest-before (conditions (c .parameters) (length (c .img)) (c .w) (c .h) cells places)
-    ((tooMany (framePass (c .parameters) (c .img) (c .w) (c .h) (computedChoice (c .parameters))) (c .before), 10) ∷ []) (sym (c .promise .number)) in
+    ((tooMany (framePass (c .parameters) (c .img) (c .w) (c .h) (choose (c .parameters))) (c .before), 10) ∷ []) (sym (c .promise .number)) in
     admitted-sound (c .parameters) (c .img) (c .w) (c .h) cells places (admitted (c .parameters) (length (c .img)) (c .w) (c .h) cells places none) (c .bytes)
 
 pub fine-maps : (c : FrameCall) → All (Fine (c .parameters)) (mapsIn c)
@@ -82,12 +83,15 @@ pub maps-alike : MapsAlike
 maps-alike c k whole =
     all-map (Fine (c .parameters)) (λ v. Alike (c .parameters) v ↔ WithoutTie (c .parameters) v) (map-alike (c .parameters) k whole) (mapsIn c) (fine-maps c)
 
-pub frame-without-ties : FrameWithoutTies
-frame-without-ties c k whole untied =
+pub all-alike : (c : FrameCall) (k : ℕ) → IsWhole (lift (c .parameters .threshold)) k → All (WithoutTie (c .parameters)) (mapsIn c)
+    → All (Alike (c .parameters)) (mapsIn c)
+all-alike c k whole untied =
     let p = c .parameters in
-    frame-exact c
-    (all-map (λ v. (Alike p v ↔ WithoutTie p v) × WithoutTie p v) (Alike p) (λ v b. b .0 .1 (b .1)) (mapsIn c)
-    (all-both (λ v. Alike p v ↔ WithoutTie p v) (WithoutTie p) (mapsIn c) (maps-alike c k whole) untied))
+    all-map (λ v. (Alike p v ↔ WithoutTie p v) × WithoutTie p v) (Alike p) (λ v b. b .0 .1 (b .1)) (mapsIn c)
+    (all-both (λ v. Alike p v ↔ WithoutTie p v) (WithoutTie p) (mapsIn c) (maps-alike c k whole) untied)
+
+pub frame-without-ties : FrameWithoutTies
+frame-without-ties c k whole untied = frame-exact c (all-alike c k whole untied)
 
 -- ---- number 4
 pub four-never : FourNever

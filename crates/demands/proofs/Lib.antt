@@ -8,6 +8,7 @@ pub mod PeaksAlike
 pub mod Apart
 pub mod Enough
 pub mod FrameExact
+pub mod OnePrice
 pub mod Ties
 pub mod Neighbours
 pub mod Faults

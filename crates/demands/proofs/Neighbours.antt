@@ -120,7 +120,7 @@ neighbours-kept c =
     let p = c .parameters in
     let n = levelsIn p (c .img) (c .w) (c .h) in
     let maps = mapsSearched c in
-    let f = finished-tells p (c .img) (c .w) (c .h) (c .before) (c .count) (c .ties) (c .after) (c .promise) in
+    let f = finished-tells _ p (c .img) (c .w) (c .h) (c .before) (c .count) (c .ties) (c .after) (c .promise) in
     rw (f .corners)
     (result-all (OfPeak p maps) (p .«merge_radius») (foundOf p (c .img) (c .w) (c .h) (computedChoice p) n)
     (found-of p maps (c .img) (c .w) (c .h) n (all-in maps)))

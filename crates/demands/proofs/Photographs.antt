@@ -9,6 +9,7 @@ use lib.Seq.{getD-take, getD-drop, take-at, drop-at}
 use Rattle.accuracy.specs.Accurate.{Bytes}
 use Rattle.listing.specs.Text.{decimal}
 use Rattle.patch_corners.specs.declared.FrameParams.{FrameParams}
+use Rattle.patch_corners.specs.OneMap.{Choice}
 use Rattle.frame.specs.declared.FrameAnswer.{FrameAnswer}
 use Rattle.frame.specs.declared.FrameAnswer.the-variants.{Corners, Refused}
 use Rattle.frame.specs.Frame.{Buffers, FrameFound}
@@ -21,11 +22,11 @@ use Rattle.pgm_frame.specs.PgmFrame as photograph
 use Rattle.demands.specs.Photographs.{PhotographCall, OnPixels, PhotographIsFrame}
 use Rattle.demands.specs.Photographs.{ReadAs, plainHeader, PlainHeaderRead, BehindUnread, uploads, UploadsRead}
 use Rattle.demands.proofs.PlainHeader.{width-is, height-is, maxval-is, header-is}
-use Rattle.demands.specs.FrameExact.{FrameCall}
+use Rattle.demands.specs.FrameExact.{CallBy}
 
 -- ---- by the number of the upload
-module _ (p : FrameParams) (upload : List ℕ) (b b′ : Buffers) (r : FrameAnswer) (f : PhotographFound p upload b r b′) where
-  pub photograph-accepted : refusalOf upload ≡ 0 → FrameFound p (pixelsIn upload) (widthOf upload) (heightOf upload) b r b′
+module _ (choose : Choice) (p : FrameParams) (upload : List ℕ) (b b′ : Buffers) (r : FrameAnswer) (f : PhotographFound choose p upload b r b′) where
+  pub photograph-accepted : refusalOf upload ≡ 0 → FrameFound choose p (pixelsIn upload) (widthOf upload) (heightOf upload) b r b′
   unfolding photograph.refusalOf
   photograph-accepted e =
       record {
@@ -51,28 +52,30 @@ part-bytes n k s all i =
       | no g ↦ rw (List·getD-eq-default (take n (drop k s)) 0 {n = i} (omega (arith, length-take n (drop k s)))) (omega arith)
     ]
 
-finished : (c : PhotographCall) → OnPixels c
+finished : (choose : FrameParams → Choice) (c : PhotographCall choose) → OnPixels c
 unfolding pixelsIn
-finished c = go (refusalOf (c .upload)) refl
+finished choose c = go (refusalOf (c .upload)) refl
   where
     go : (n : ℕ) → refusalOf (c .upload) ≡ n → OnPixels c
     go zero e =
         record {
           accepted = e;
           pixels = rw e (part-bytes (widthOf (c .upload) * heightOf (c .upload)) (rasterAt (c .upload)) (c .upload) (c .bytes));
-          promise = photograph-accepted (c .parameters) (c .upload) (c .before) (c .after) (Corners (c .count) (c .ties)) (c .promise) e;
+          promise = photograph-accepted (choose (c .parameters)) (c .parameters) (c .upload) (c .before) (c .after)
+              (Corners (c .count) (c .ties)) (c .promise) e;
         }
     go (suc n) e =
         let some : refusalOf (c .upload) ≡ 0 → ⊥ = λ z. omega arith in
-        let refused = photograph-refused (c .parameters) (c .upload) (c .before) (c .after) (Corners (c .count) (c .ties)) (c .promise) some in
+        let refused = photograph-refused (choose (c .parameters)) (c .parameters) (c .upload) (c .before) (c .after)
+        (Corners (c .count) (c .ties)) (c .promise) some in
         absurd (let same = refused .0 in let z : _≡_ {A = ℕ} 0 1 = cc in let no : ⊥ = omega arith in no)
 
 pub photograph-is-frame : PhotographIsFrame
 photograph-is-frame = record { finished = finished; accepted = photograph-accepted; refused = photograph-refused }
 
 -- so every statement on a finished frame is one on a photograph
-pub frame-call : PhotographCall → FrameCall
-frame-call c = let f = finished c in record {
+pub frame-call : {choose : FrameParams → Choice} → PhotographCall choose → CallBy choose
+frame-call {choose} c = let f = finished choose c in record {
   parameters = c .parameters;
   img = pixelsIn (c .upload);
   w = widthOf (c .upload);

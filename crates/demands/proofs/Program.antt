@@ -70,7 +70,7 @@ module _ (input : List ℕ) where
     found = framePass (paramsOf h) pixels (h .width) (h .height) (computedChoice (paramsOf h))
 
     abbrev number : ℕ
-    number = refusalOf (paramsOf h) pixels (h .width) (h .height) programBuffers
+    number = refusalOf (computedChoice (paramsOf h)) (paramsOf h) pixels (h .width) (h .height) programBuffers
 
     -- what can be refused: the program's buffers are large enough for what the reader accepts
     abbrev table : List (Bool × ℕ)

@@ -47,7 +47,7 @@ peak-ties m w h p = ties-are m w h p
 
 pub frame-ties : FrameTies
 frame-ties c =
-    let f = finished-tells (c .parameters) (c .img) (c .w) (c .h) (c .before) (c .count) (c .ties) (c .after) (c .promise) in
+    let f = finished-tells _ (c .parameters) (c .img) (c .w) (c .h) (c .before) (c .count) (c .ties) (c .after) (c .promise) in
     record {
       computed = f .tied;
       exact = λ alike. f .tied ∙ ap (λ (q : Pass). q .ties) (pass-same (c .parameters) (c .img) (c .w) (c .h) alike);

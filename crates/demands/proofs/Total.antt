@@ -59,7 +59,7 @@ use Rattle.corner_strike.specs.declared.striking.Strike.the-variants as struck
 use Rattle.corner_strike.specs.Striking as striking
 use Rattle.corner_strike.specs.Editions.{raised}
 use Rattle.patch_corners.specs.declared.FrameParams.{FrameParams}
-use Rattle.patch_corners.specs.OneMap.{computedChoice}
+use Rattle.patch_corners.specs.OneMap.{Choice, choiceOf, computedChoice, exactChoice}
 use Rattle.patch_corners.specs.PatchCorners.{conditionsOf, BoxAdded}
 use Rattle.frame_pass.specs.Refusals.{parametersFit, conditions}
 use Rattle.frame_pass.specs.Pass.{framePass}
@@ -104,7 +104,7 @@ use Rattle.retention.specs.Answer.{Told}
 use Rattle.retention.proofs.Items.{lettered}
 use Rattle.demands.specs.ResponseCall.{viewOf}
 use Rattle.demands.specs.Numbers.{OneOf, Refuses}
-use Rattle.demands.specs.Total.{Total}
+use Rattle.demands.specs.Total.{PeaksRefuse, FrameRefuses, PhotographRefuses, Total}
 use Rattle.demands.proofs.Tables.{widen, numbered-one, refused-one}
 use Rattle.demands.proofs.Photographs.{photograph-accepted, photograph-refused}
 use Rattle.demands.proofs.Faults.{frame-few}
@@ -227,11 +227,10 @@ strike-refuses b b′ e place change r f =
     (λ k q. let some = ap (λ (a : Strike). length (striking.valuesOf a)) q in omega arith) (λ n k q. sym (ap striking.numberOf q))
     (striking.conditions (placesOf b) e place change) r (f .answer)
 
-frame-refuses : (p : FrameParams) (img : List ℕ) (w h : ℕ) (b b′ : frame.Buffers) (r : FrameAnswer) → frame.FrameFound p img w h b r b′
-    → Refuses answer.Refused (1 ∷ 2 ∷ 3 ∷ 5 ∷ 8 ∷ 9 ∷ 10 ∷ []) r
+frame-refuses : (choose : FrameParams → Choice) → FrameRefuses choose
 unfolding frame.refusalOf conditions
-frame-refuses p img w h b b′ r f =
-    let q = framePass p img w h (computedChoice p) in
+frame-refuses choose p img w h b b′ r f =
+    let q = framePass p img w h (choose p) in
     refused-one answer.Refused (λ n. unless answer.Refused n (answer.Corners (length (q .corners)) (q .ties)))
     (λ k e. let z : _≡_ {A = ℕ} 0 1 = cc in omega arith)
     (λ n k e. sym (ap frame.numberOf e))
@@ -246,11 +245,12 @@ pgm-refuses upload r f =
     (λ n k e. sym (ap pgm.numberOf e)) (pgm.conditions upload) r (f .answer)
 
 -- a frame whose image is as long as its sides say is not refused as 2
-frame-fitting : (p : FrameParams) (img : List ℕ) (w h : ℕ) (b b′ : frame.Buffers) (r : FrameAnswer) → length img ≡ w * h → frame.FrameFound p img w h b r b′
+frame-fitting : (choose : Choice) (p : FrameParams) (img : List ℕ) (w h : ℕ) (b b′ : frame.Buffers) (r : FrameAnswer) → length img ≡ w * h
+    → frame.FrameFound choose p img w h b r b′
     → Refuses answer.Refused (1 ∷ 3 ∷ 5 ∷ 8 ∷ 9 ∷ 10 ∷ []) r
 unfolding frame.refusalOf conditions
-frame-fitting p img w h b b′ r fits f =
-    let q = framePass p img w h (computedChoice p) in
+frame-fitting choose p img w h b b′ r fits f =
+    let q = framePass p img w h choose in
     refused-one answer.Refused (λ n. unless answer.Refused n (answer.Corners (length (q .corners)) (q .ties)))
     (λ k e. let z : _≡_ {A = ℕ} 0 1 = cc in omega arith)
     (λ n k e. sym (ap frame.numberOf e))
@@ -263,9 +263,8 @@ frame-fitting p img w h b b′ r fits f =
     ∷ [])
     r (f .answer ∙ rw (eq-eqb (length img) (w * h) fits))
 
-photograph-refuses : (p : FrameParams) (upload : List ℕ) (b b′ : frame.Buffers) (r : FrameAnswer) → PhotographFound p upload b r b′
-    → Refuses answer.Refused (1 ∷ 3 ∷ 5 ∷ 8 ∷ 9 ∷ 10 ∷ 12 ∷ 13 ∷ []) r
-photograph-refuses p upload b b′ r f k e = go (pgm.refusalOf upload) refl
+photograph-refuses : (choose : FrameParams → Choice) → PhotographRefuses choose
+photograph-refuses choose p upload b b′ r f k e = go (pgm.refusalOf upload) refl
   where
     upload-one : (k : ℕ) → k ≡ pgm.refusalOf upload → 0 < k → OneOf k (1 ∷ 12 ∷ 13 ∷ [])
     upload-one k same some = unfold pgm.refusalOf pgm.conditions in (numbered-one (pgm.conditions upload) k same some)
@@ -273,10 +272,10 @@ photograph-refuses p upload b b′ r f k e = go (pgm.refusalOf upload) refl
     go : (n : ℕ) → pgm.refusalOf upload ≡ n → OneOf k (1 ∷ 3 ∷ 5 ∷ 8 ∷ 9 ∷ 10 ∷ 12 ∷ 13 ∷ [])
     go zero none =
         widen k (1 ∷ 3 ∷ 5 ∷ 8 ∷ 9 ∷ 10 ∷ []) (1 ∷ 3 ∷ 5 ∷ 8 ∷ 9 ∷ 10 ∷ 12 ∷ 13 ∷ []) refl
-        (frame-fitting p (pgm.pixelsIn upload) (widthOf upload) (heightOf upload) b b′ r (pixels-length upload none)
-        (photograph-accepted p upload b b′ r f none) k e)
+        (frame-fitting (choose p) p (pgm.pixelsIn upload) (widthOf upload) (heightOf upload) b b′ r (pixels-length upload none)
+        (photograph-accepted (choose p) p upload b b′ r f none) k e)
     go (suc n) some =
-        let told = photograph-refused p upload b b′ r f (λ z. let no : ⊥ = omega arith in no) .0 in
+        let told = photograph-refused (choose p) p upload b b′ r f (λ z. let no : ⊥ = omega arith in no) .0 in
         let same : k ≡ pgm.refusalOf upload = ap frame.numberOf (sym e ∙ told) in
         widen k (1 ∷ 12 ∷ 13 ∷ []) (1 ∷ 3 ∷ 5 ∷ 8 ∷ 9 ∷ 10 ∷ 12 ∷ 13 ∷ []) refl (upload-one k same (omega (arith, same, some)))
 
@@ -336,17 +335,20 @@ holding-refuses kind start time r f =
     none : (k : ℕ) → retention.letterOf (retention.stateOf kind start time) ≡ 0 → ⊥
     none k e = omega (arith, lettered kind start time)
 
+search-refuses : (search : ℕ → ℕ → ℕ → Float → ℕ → ℕ → ℕ → Search) → PeaksRefuse search
+search-refuses search m w h ring t window least radius b b′ held r f = peaks-of (length m) w h ring window radius _ _ held b b′ r f
+
 pub total : Total
 total = record {
   «chess_response_u8_patch» = λ img w h ring x0 y0 x1 y1 d e r f. response-refuses (viewOf img w h ring x0 y0 x1 y1) ring d e r f;
   «build_pyramid» = build-refuses;
   «level_at» = level-refuses;
-  «detect_peaks_from_response_with_refine_radius» = λ m w h ring t window least radius b b′ held r f. peaks-of
-      (length m) w h ring window radius _ _ held b b′ r f;
+  «detect_peaks_from_response_with_refine_radius» = search-refuses detect.searchOf;
+  «find_peaks» = λ exact. search-refuses (detect.searchBy exact);
   «has_peaks» = λ m w h ring t window least radius wanted r f. unfold detect.conditions in
       (enough-refuses (detect.conditions (length m) w h ring window radius) m _ wanted r f);
-  «add_patch_corners» = λ p img w h x0 y0 x1 y1 held d d′ b b′ r f. corners-of p (viewOf img w h (p .ring) x0 y0 x1 y1) _ _ held d d′ b b′ r f;
-  «add_box_corners» = λ p img w h x0 y0 x1 y1 held d d′ b b′ r f. corners-of p (viewOf img w h (p .ring) x0 y0 x1 y1) _ _ held d d′ b b′ r f;
+  «add_patch_corners» = λ p exact img w h x0 y0 x1 y1 held d d′ b b′ r f. corners-of p (viewOf img w h (p .ring) x0 y0 x1 y1) _ _ held d d′ b b′ r f;
+  «add_box_corners» = λ p exact img w h x0 y0 x1 y1 held d d′ b b′ r f. corners-of p (viewOf img w h (p .ring) x0 y0 x1 y1) _ _ held d d′ b b′ r f;
   refine = refine-refuses;
   «compute_roi» = roi-refuses;
   «merge_corners_simple» = λ radius count b b′ r f. merge-refuses radius (placesOf b) count b _ r (f .answer);
@@ -356,9 +358,13 @@ total = record {
   «merge_corner_slice» = λ radius count cs cs′ b b′ r f. slice-refuses radius count cs b _ r (f .answer);
   «show_corner» = show-refuses;
   «strike_corner» = strike-refuses;
-  «find_corners» = frame-refuses;
+  «find_corners» = frame-refuses computedChoice;
+  «find_exact_corners» = frame-refuses exactChoice;
+  «find_corners_by» = λ exact. frame-refuses (λ p. choiceOf p exact);
   «read_pgm» = pgm-refuses;
-  «find_pgm_corners» = photograph-refuses;
+  «find_pgm_corners» = photograph-refuses computedChoice;
+  «find_exact_pgm_corners» = photograph-refuses exactChoice;
+  «find_pgm_corners_by» = λ exact. photograph-refuses (λ p. choiceOf p exact);
   «read_frame» = stream-refuses;
   «write_frame» = writer-refuses;
   «write_corners» = listing-refuses;

@@ -4,8 +4,8 @@ use mathlib.Core.Path.{_≡_}
 use mathlib.Core.List.{List, [], _∷_, map}
 use lib.IntN.{ℤ, pos, negsuc}
 use lib.ListN.{length, replicate, set}
-use mathlib.Core.Bool.{false}
-use lib.Ieee.{Float, fin, binary32, toBits}
+use mathlib.Core.Bool.{Bool, true, false, cond}
+use lib.Ieee.{Float, fin, binary32, lt, toBits}
 use Rattle.float32.specs.Float32.{zero, floatOf}
 use Rattle.corner_list.specs.declared.Corner.{Corner}
 use Rattle.multiscale.specs.declared.RoiContext.{RoiContext}
@@ -13,7 +13,9 @@ use Rattle.multiscale.specs.Multiscale.{roiOf, numberOf, valuesOf}
 use Rattle.pyramid_levels.specs.Levels.{levelSide, levelCount}
 use Rattle.pyramid.specs.Pyramid.{halved}
 use Rattle.ring.specs.Ring.{ring5}
-use Rattle.response.specs.Exact.{fifthsAt}
+use Rattle.response.specs.Response.{responseOf}
+use Rattle.response.specs.Exact.{fifths, fifthsAt}
+use Rattle.detect.specs.Peaks.{beats}
 use Rattle.merge.specs.Merge.{resultOf}
 use Rattle.merge_naive.specs.MergeNaive.{naiveOf}
 use Rattle.merge_naive.specs.Case.{one, three}
@@ -70,9 +72,13 @@ box s = numberOf (roiOf context s) ∷ valuesOf (roiOf context s)
 abbrev columnBits : List Corner → List ℕ
 columnBits = map (λ (c : Corner). toBits binary32 (c .x))
 
+-- ---- 1 for yes, 0 for no
+abbrev told : Bool → ℕ
+told b = cond b 1 0
+
 -- ---- the table
 unfoldable pub cases : List Case
-unfolding fifthsAt halved levelCount roiOf resultOf naiveOf
+unfolding fifthsAt halved levelCount roiOf resultOf naiveOf responseOf
 cases =
     -- box 0,0,0,1 → 0; 0,0,1,1 → 1; four 255 → 255
     naturals (halved (0 ∷ 0 ∷ 0 ∷ 1 ∷ []) 2 2) (0 ∷ [])
@@ -87,6 +93,13 @@ cases =
     -- the whole case's centre → 10,160 fifths; cross sum 641 → 10,144
     ∷ case (fifthsAt wholeCase 11 11 ring5 5 5 ∷ []) (pos 10160 ∷ [])
     ∷ case (fifthsAt brighter 11 11 ring5 5 5 ∷ []) (pos 10144 ∷ [])
+    -- SR 8, DR 0, ring sum 1,600, cross sum 501; and 8, 0, 32, 11 → 24 fifths both, and the first float is larger
+    ∷ case (fifths 8 0 1600 501 ∷ fifths 8 0 32 11 ∷ []) (pos 24 ∷ pos 24 ∷ [])
+    ∷ naturals (toBits binary32 (responseOf 8 0 1600 501) ∷ toBits binary32 (responseOf 8 0 32 11) ∷ []) (0x4099_9a00 ∷ 0x4099_9998 ∷ [])
+    -- so the first beats the second by floats, and by exact values (RULES 34.2) it does not; 1 fifth beats 0, and with a slack of 1/4 it would not
+    ∷ naturals (told (beats false (responseOf 8 0 32 11) (responseOf 8 0 1600 501)) ∷ told (beats true (responseOf 8 0 32 11) (responseOf 8 0 1600 501)) ∷ [])
+    (1 ∷ 0 ∷ [])
+    ∷ naturals (told (beats true zero (responseOf 1 0 4 1)) ∷ told (lt (fin false 1 (negsuc 1)) (responseOf 1 0 4 1)) ∷ []) (1 ∷ 0 ∷ [])
     -- seed (50,40) → (89,69,112,92); (7.5,50) → no box; (8,50) → box with x from 9 to 28
     ∷ naturals (box (seed (floatOf 50) (floatOf 40))) (0 ∷ 89 ∷ 69 ∷ 112 ∷ 92 ∷ [])
     ∷ naturals (box (seed (fin false 15 (negsuc 0)) (floatOf 50))) (0 ∷ [])

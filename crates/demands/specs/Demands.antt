@@ -19,6 +19,7 @@ use Rattle.demands.specs.Retention.{HeldWhen, RetainedTotal, RetainedRea
 use Rattle.demands.specs.Retouch.{OnlyTouched, AtMost21, Fresh, MovesLittle}
 use Rattle.demands.specs.Limits.{LimitsContain, LimitsExact, SurePeakExact}
 use Rattle.demands.specs.FrameExact.{FrameExact, AlikeByName, MapsSearched, MapsAlike, FrameWithoutTies, FourNever, PeaksKept}
+use Rattle.demands.specs.OnePrice.{ExactFrame, OnePrice, NothingTipped}
 use Rattle.demands.specs.Ties.{NanTop, PeakTies, FrameTies, MapsAlikeWithoutEquals}
 use Rattle.demands.specs.Neighbours.{NeighboursKept, CountsExact}
 use Rattle.demands.specs.Tolerance.{CentreTolerance, FrameTolerance}
@@ -66,6 +67,13 @@ pub record Demands : Type 0 where
   pub maps-alike : MapsAlike
   -- and so a frame without ties has the exact list
   pub frame-without-ties : FrameWithoutTies
+  -- ---- The exact choice as a program: "A corner tipped over by rounding puts two prices on one photograph."
+  -- a frame by exact values has the exact list, whatever its ties and its threshold
+  pub exact-frame : ExactFrame
+  -- so beside it a computed list is seen to be the exact one, or not, and so is its count
+  pub one-price : OnePrice
+  -- and where demand 3's tie does not occur the two are equal
+  pub nothing-tipped : NothingTipped
   -- ---- Request 1: PGM photographs
   -- "The frame is the image's pixels as a part of the uploaded bytes": demands 2 and 3 hold of it
   pub photograph-is-frame : PhotographIsFrame

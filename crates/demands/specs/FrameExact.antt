@@ -25,8 +25,8 @@ use Rattle.frame.specs.Frame.{Buffers, FrameFound}
 use Rattle.demands.specs.PeakCall.{PeakCall, searchIn}
 use Rattle.demands.specs.PeaksAlike.{programList, position, nameOf}
 
--- a call of `find_corners` that finished, with its promise word for word
-pub record FrameCall : Type 0 where
+-- a call that finished, with its promise word for word: of `find_corners`, which chooses by computed values, or of `find_exact_corners`
+pub record CallBy (choose : FrameParams → Choice) : Type 0 where
   pub parameters : FrameParams
   pub img : List ℕ
   pub w : ℕ
@@ -38,10 +38,13 @@ pub record FrameCall : Type 0 where
   pub after : Buffers
   pub count : ℕ
   pub ties : ℕ
-  pub promise : FrameFound parameters img w h before (Corners count ties) after
+  pub promise : FrameFound (choose parameters) parameters img w h before (Corners count ties) after
+
+abbrev pub FrameCall : Type 0
+FrameCall = CallBy computedChoice
 
 -- "its whole corner list": it stands first in the corner buffer
-abbrev pub frameList : FrameCall → List Corner
+abbrev pub frameList : {choose : FrameParams → Choice} → CallBy choose → List Corner
 frameList c = cornersOf (c .after .corners) (c .count)
 
 -- "the one that exact peak choice leads to"

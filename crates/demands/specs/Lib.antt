@@ -7,6 +7,7 @@ pub mod PeaksAlike
 pub mod Apart
 pub mod Enough
 pub mod FrameExact
+pub mod OnePrice
 pub mod Ties
 pub mod Neighbours
 pub mod AsPublished

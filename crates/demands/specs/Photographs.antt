@@ -1,5 +1,5 @@
--- Request 1, "PGM photographs": what a call of `find_pgm_corners` leaves is what the frame of the upload's pixels leaves, so that demands 2 and 3 hold
--- of it; and what the reader `read_pgm` makes of uploads. Which numbers the two give is in `Total`.
+-- Request 1, "PGM photographs": what a call of `find_pgm_corners`, or of `find_exact_pgm_corners`, leaves is what the frame of the upload's pixels
+-- leaves, so that demands 2 and 3 hold of it; and what the reader `read_pgm` makes of uploads. Which numbers they give is in `Total`.
 use Prim.Native.Nat.{ℕ, _+_, _*_, _≤_}
 use mathlib.Core.Path.{_≡_}
 use mathlib.Core.List.{List, [], _∷_, _++_, map}
@@ -8,6 +8,7 @@ use Rattle.lists.specs.Refusals.{valuesUnless}
 use Rattle.accuracy.specs.Accurate.{Bytes}
 use Rattle.listing.specs.Text.{decimal, space, newline}
 use Rattle.patch_corners.specs.declared.FrameParams.{FrameParams}
+use Rattle.patch_corners.specs.OneMap.{Choice}
 use Rattle.frame.specs.declared.FrameAnswer.{FrameAnswer}
 use Rattle.frame.specs.declared.FrameAnswer.the-variants.{Corners, Refused}
 use Rattle.frame.specs.Frame.{Buffers, FrameFound}
@@ -20,8 +21,8 @@ use Rattle.demands.specs.Texts.{bytesOf}
 
 -- ---- the frame of a photograph
 
--- a call of `find_pgm_corners` that finished, with its promise word for word
-pub record PhotographCall : Type 0 where
+-- a call that finished, with its promise word for word: of `find_pgm_corners`, which chooses by computed values, or of `find_exact_pgm_corners`
+pub record PhotographCall (choose : FrameParams → Choice) : Type 0 where
   pub parameters : FrameParams
   pub upload : List ℕ
   -- the upload is of type u8
@@ -31,22 +32,23 @@ pub record PhotographCall : Type 0 where
   pub after : Buffers
   pub count : ℕ
   pub ties : ℕ
-  pub promise : PhotographFound parameters upload before (Corners count ties) after
+  pub promise : PhotographFound (choose parameters) parameters upload before (Corners count ties) after
 
--- "The frame is the image's pixels": it is a call of `find_corners` on them (`FrameCall`), of which demands 2 and 3 and request 14 speak
-pub record OnPixels (c : PhotographCall) : Type 0 where
+-- "The frame is the image's pixels": it is a call of `find_corners` or `find_exact_corners` on them (`CallBy`), of which demands 2 and 3 and request 14
+-- speak
+pub record OnPixels {choose : FrameParams → Choice} (c : PhotographCall choose) : Type 0 where
   pub accepted : refusalOf (c .upload) ≡ 0
   pub pixels : Bytes (pixelsIn (c .upload))
-  pub promise : FrameFound (c .parameters) (pixelsIn (c .upload)) (widthOf (c .upload)) (heightOf (c .upload)) (c .before)
+  pub promise : FrameFound (choose (c .parameters)) (c .parameters) (pixelsIn (c .upload)) (widthOf (c .upload)) (heightOf (c .upload)) (c .before)
       (Corners (c .count) (c .ties)) (c .after)
 
 pub record PhotographIsFrame : Type 0 where
-  pub finished : (c : PhotographCall) → OnPixels c
+  pub finished : (choose : FrameParams → Choice) (c : PhotographCall choose) → OnPixels c
   -- finished or not: an upload that is accepted has the frame's promise, and one that is not its own number, and changes no buffer
-  pub accepted : (p : FrameParams) (upload : List ℕ) (b b′ : Buffers) (r : FrameAnswer) → PhotographFound p upload b r b′ → refusalOf upload ≡ 0
-      → FrameFound p (pixelsIn upload) (widthOf upload) (heightOf upload) b r b′
-  pub refused : (p : FrameParams) (upload : List ℕ) (b b′ : Buffers) (r : FrameAnswer) → PhotographFound p upload b r b′ → (refusalOf upload ≡ 0 → ⊥)
-      → (r ≡ Refused (refusalOf upload)) × (b′ ≡ b)
+  pub accepted : (choose : Choice) (p : FrameParams) (upload : List ℕ) (b b′ : Buffers) (r : FrameAnswer) → PhotographFound choose p upload b r b′
+      → refusalOf upload ≡ 0 → FrameFound choose p (pixelsIn upload) (widthOf upload) (heightOf upload) b r b′
+  pub refused : (choose : Choice) (p : FrameParams) (upload : List ℕ) (b b′ : Buffers) (r : FrameAnswer) → PhotographFound choose p upload b r b′
+      → (refusalOf upload ≡ 0 → ⊥) → (r ≡ Refused (refusalOf upload)) × (b′ ≡ b)
 
 -- ---- the reader
 

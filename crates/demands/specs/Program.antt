@@ -48,7 +48,7 @@ pub record PrintsCorners (input : List ℕ) : Type 0 where
   pub header : Header
   pub pixels : List ℕ
   pub reading : readFrame input ≡ accepted header pixels
-  pub finished : refusalOf (paramsOf header) pixels (header .width) (header .height) programBuffers ≡ 0
+  pub finished : refusalOf (computedChoice (paramsOf header)) (paramsOf header) pixels (header .width) (header .height) programBuffers ≡ 0
   pub prints : outputOf input ≡ textBy computedChoice header pixels
 
 -- it prints `refused` and a number. 2, 8 and 9 do not arise, since its buffers are large enough for what the reader accepts, and neither does 4

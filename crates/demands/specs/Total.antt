@@ -44,6 +44,7 @@ use Rattle.pyramid_levels.specs.Refusals.{Ask}
 use Rattle.pyramid_levels.specs.Level.{LevelFound}
 use Rattle.corner_list.specs.declared.Corner.{Corner}
 use Rattle.corner_list.specs.CornerList.{Slices, placesOf}
+use Rattle.detect.specs.declared.Search.{Search}
 use Rattle.detect.specs.declared.Peaks.{Peaks}
 use Rattle.detect.specs.declared.Peaks.the-variants as peaks
 use Rattle.detect.specs.Detect as detect
@@ -70,6 +71,7 @@ use Rattle.corner_strike.specs.declared.striking.Strike.{Strike}
 use Rattle.corner_strike.specs.declared.striking.Strike.the-variants as striking
 use Rattle.corner_strike.specs.Striking.{Strikes}
 use Rattle.patch_corners.specs.declared.FrameParams.{FrameParams}
+use Rattle.patch_corners.specs.OneMap.{Choice, choiceOf, computedChoice, exactChoice}
 use Rattle.patch_corners.specs.PatchCorners.{AddedCorners}
 use Rattle.patch_corners.specs.BoxCorners.{AddedBox}
 use Rattle.frame.specs.declared.FrameAnswer.{FrameAnswer}
@@ -106,6 +108,24 @@ use Rattle.demands.specs.Numbers.{Refuses}
 use Rattle.demands.specs.ResponseCall.{viewOf}
 use Rattle.demands.specs.Enough.{HasPeaks}
 
+-- of a search of maps, of a frame and of the frame of an upload, by whichever choice of peaks
+abbrev pub PeaksRefuse : (ℕ → ℕ → ℕ → Float → ℕ → ℕ → ℕ → Search) → Type 0
+PeaksRefuse search =
+    (m : List Float) (w h ring : ℕ) (threshold : Float) (window least radius : ℕ) (b b′ : Slices) (held : ℕ) (r : Peaks)
+    → detect.PeaksAdded (detect.conditions (length m) w h ring window radius)
+    (detect.startsIn m (search w h ring threshold window least radius)) (detect.tiesIn m (search w h ring threshold window least radius)) held b r b′
+    → Refuses peaks.Refused (1 ∷ 2 ∷ 3 ∷ 10 ∷ []) r
+
+abbrev pub FrameRefuses : (FrameParams → Choice) → Type 0
+FrameRefuses choose =
+    (p : FrameParams) (img : List ℕ) (w h : ℕ) (b b′ : Buffers) (r : FrameAnswer) → FrameFound (choose p) p img w h b r b′
+    → Refuses frame.Refused (1 ∷ 2 ∷ 3 ∷ 5 ∷ 8 ∷ 9 ∷ 10 ∷ []) r
+
+abbrev pub PhotographRefuses : (FrameParams → Choice) → Type 0
+PhotographRefuses choose =
+    (p : FrameParams) (upload : List ℕ) (b b′ : Buffers) (r : FrameAnswer) → PhotographFound (choose p) p upload b r b′
+    → Refuses frame.Refused (1 ∷ 3 ∷ 5 ∷ 8 ∷ 9 ∷ 10 ∷ 12 ∷ 13 ∷ []) r
+
 -- a field for each function, by its name
 pub record Total : Type 0 where
   pub «chess_response_u8_patch» : (img : List ℕ) (w h ring x0 y0 x1 y1 : ℕ) (d e : List Float) (r : Patch)
@@ -115,20 +135,16 @@ pub record Total : Type 0 where
       → Refuses pyramid.Refused (1 ∷ 2 ∷ 9 ∷ []) r
   pub «level_at» : (a : Ask) (k : ℕ) (r : LevelAnswer) → LevelFound a k r
       → Refuses levels.Refused (1 ∷ 2 ∷ 3 ∷ 9 ∷ []) r
-  pub «detect_peaks_from_response_with_refine_radius» : (m : List Float) (w h ring : ℕ) (threshold : Float) (window least radius : ℕ)
-      (b b′ : Slices) (held : ℕ) (r : Peaks)
-      → detect.PeaksAdded (detect.conditions (length m) w h ring window radius)
-      (detect.startsIn m (detect.searchOf w h ring threshold window least radius)) (detect.tiesIn m (detect.searchOf w h ring threshold window least radius))
-      held b r b′
-      → Refuses peaks.Refused (1 ∷ 2 ∷ 3 ∷ 10 ∷ []) r
+  pub «detect_peaks_from_response_with_refine_radius» : PeaksRefuse detect.searchOf
+  pub «find_peaks» : (exact : Bool) → PeaksRefuse (detect.searchBy exact)
   pub «has_peaks» : (m : List Float) (w h ring : ℕ) (threshold : Float) (window least radius wanted : ℕ) (r : Enough)
       → HasPeaks m w h ring threshold window least radius wanted r
       → Refuses enough.Refused (1 ∷ 2 ∷ 3 ∷ []) r
-  pub «add_patch_corners» : (p : FrameParams) (img : List ℕ) (w h x0 y0 x1 y1 held : ℕ) (d d′ : List Float) (b b′ : Slices) (r : Peaks)
-      → AddedCorners p (viewOf img w h (p .ring) x0 y0 x1 y1) held d b r d′ b′
+  pub «add_patch_corners» : (p : FrameParams) (exact : Bool) (img : List ℕ) (w h x0 y0 x1 y1 held : ℕ) (d d′ : List Float) (b b′ : Slices) (r : Peaks)
+      → AddedCorners p exact (viewOf img w h (p .ring) x0 y0 x1 y1) held d b r d′ b′
       → Refuses peaks.Refused (1 ∷ 2 ∷ 3 ∷ 8 ∷ 10 ∷ []) r
-  pub «add_box_corners» : (p : FrameParams) (img : List ℕ) (w h x0 y0 x1 y1 held : ℕ) (d d′ : List Float) (b b′ : Slices) (r : Peaks)
-      → AddedBox p (viewOf img w h (p .ring) x0 y0 x1 y1) held d b r d′ b′
+  pub «add_box_corners» : (p : FrameParams) (exact : Bool) (img : List ℕ) (w h x0 y0 x1 y1 held : ℕ) (d d′ : List Float) (b b′ : Slices) (r : Peaks)
+      → AddedBox p exact (viewOf img w h (p .ring) x0 y0 x1 y1) held d b r d′ b′
       → Refuses peaks.Refused (1 ∷ 2 ∷ 3 ∷ 8 ∷ 10 ∷ []) r
   pub refine : (radius : ℕ) (x y : Float) (hasMap : Bool) (m : List Float) (w h : ℕ) (r : Outcome) → Refined radius x y hasMap m w h r
       → Refuses outcome.Refused (1 ∷ 2 ∷ 3 ∷ 4 ∷ []) r
@@ -148,12 +164,14 @@ pub record Total : Type 0 where
       → Refuses showing.Refused (10 ∷ 17 ∷ []) r
   pub «strike_corner» : (b b′ : Slices) (e : Edition) (place change : ℕ) (r : Strike) → Strikes b e place change r b′
       → Refuses striking.Refused (10 ∷ 16 ∷ 17 ∷ 18 ∷ []) r
-  pub «find_corners» : (p : FrameParams) (img : List ℕ) (w h : ℕ) (b b′ : Buffers) (r : FrameAnswer) → FrameFound p img w h b r b′
-      → Refuses frame.Refused (1 ∷ 2 ∷ 3 ∷ 5 ∷ 8 ∷ 9 ∷ 10 ∷ []) r
+  pub «find_corners» : FrameRefuses computedChoice
+  pub «find_exact_corners» : FrameRefuses exactChoice
+  pub «find_corners_by» : (exact : Bool) → FrameRefuses (λ p. choiceOf p exact)
   pub «read_pgm» : (upload : List ℕ) (r : PgmImage) → PgmRead upload r
       → Refuses pgm.Refused (1 ∷ 12 ∷ 13 ∷ []) r
-  pub «find_pgm_corners» : (p : FrameParams) (upload : List ℕ) (b b′ : Buffers) (r : FrameAnswer) → PhotographFound p upload b r b′
-      → Refuses frame.Refused (1 ∷ 3 ∷ 5 ∷ 8 ∷ 9 ∷ 10 ∷ 12 ∷ 13 ∷ []) r
+  pub «find_pgm_corners» : PhotographRefuses computedChoice
+  pub «find_exact_pgm_corners» : PhotographRefuses exactChoice
+  pub «find_pgm_corners_by» : (exact : Bool) → PhotographRefuses (λ p. choiceOf p exact)
   pub «read_frame» : (input pixels pixels′ : List ℕ) (r : FrameStream) → FrameRead input pixels r pixels′
       → Refuses stream.Refused (1 ∷ 3 ∷ 5 ∷ 6 ∷ 7 ∷ 11 ∷ []) r
   pub «write_frame» : (h : Header) (pixels out out′ : List ℕ) (r : FrameWriting) → FrameWritten h pixels out r out′

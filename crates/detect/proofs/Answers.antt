@@ -22,7 +22,7 @@ use Rattle.corner_list.specs.declared.Corner.{Corner}
 use Rattle.detect.specs.declared.Search.{Search}
 use Rattle.detect.specs.declared.Peaks.{Peaks}
 use Rattle.detect.specs.declared.Peaks.the-variants.{Added, Refused}
-use Rattle.detect.specs.Detect.{searchOf, peaksIn, startAt, startsIn, tiesIn, isRing}
+use Rattle.detect.specs.Detect.{searchBy, peaksIn, startAt, startsIn, tiesIn, isRing}
 use Rattle.detect.specs.Detect.{conditions, refusalOf, numberOf, valuesOf, PeaksAdded}
 use Rattle.detect.specs.Internal.{Searchable}
 
@@ -71,9 +71,9 @@ module _ (size w h ring window radius : ℕ) where
       (rw (le-ltb 4096 w (k .wide), le-ltb 4096 h (k .high), eq-eqb size (w * h) (k .whole), k .ring-is, in-window, in-radius))
 
 -- so its map can be searched
-pub searchable : (m : List Float) (w h ring : ℕ) (t : Float) (window least radius : ℕ)
-    → Clear (conditions (length m) w h ring window radius) → Searchable m (searchOf w h ring t window least radius)
-searchable m w h ring t window least radius e =
+pub searchable : (m : List Float) (exact : Bool) (w h ring : ℕ) (t : Float) (window least radius : ℕ)
+    → Clear (conditions (length m) w h ring window radius) → Searchable m (searchBy exact w h ring t window least radius)
+searchable m exact w h ring t window least radius e =
     let k = sound (length m) w h ring window radius e in record {
       size = k .whole;
       wide = k .wide;

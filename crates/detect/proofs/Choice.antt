@@ -16,7 +16,7 @@ use Rattle.lists.proofs.Members.{all-map, all-keep, all-block}
 use Rattle.float32.specs.Float32.{lift}
 use Rattle.float32.proofs.Classes.{above-lifted}
 use Rattle.detect.specs.declared.Search.{Search}
-use Rattle.detect.specs.Peaks.{CellTests, beaten, positives, isPeak, peakPlaces, valueAt, largerIn, positiveIn}
+use Rattle.detect.specs.Peaks.{CellTests, beaten, positives, isPeak, peakPlaces, valueAt, largerBy, positiveIn}
 use Rattle.detect.specs.Internal.{Inside}
 use Rattle.detect.specs.Detect.{readIn, peakIn}
 use Rattle.detect.specs.Internal.{place}
@@ -58,7 +58,7 @@ module _ (m : List Float) (s : Search) (p : Place) (u : Float) (e : u ≡ valueA
   pub cell-below : le u (s .threshold) ≡ true → false ≡ peakIn m s p
   cell-below l = peak-below (readIn m s) (s .w) (s .h) (s .window) (s .«least_neighbours») p (above-is true l)
 
-  module _ (t : Bool) (top : t ≡ not (beaten (largerIn m (s .w)) (s .w) (s .h) (s .window) p)) where
+  module _ (t : Bool) (top : t ≡ not (beaten (largerBy (s .exact) m (s .w)) (s .w) (s .h) (s .window) p)) where
     pub cell-beaten : t ≡ false → false ≡ peakIn m s p
     cell-beaten b = peak-beaten (readIn m s) (s .w) (s .h) (s .window) (s .«least_neighbours») p (sym top ∙ b)
 

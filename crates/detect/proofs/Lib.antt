@@ -15,3 +15,4 @@ pub mod Ties
 pub mod Writing
 pub mod Sample
 pub mod Column
+pub mod Thresholds

@@ -17,7 +17,7 @@ use Rattle.lists.proofs.Parts.{block-split}
 use Rattle.float32.specs.Float32 as float32
 use Rattle.detect.specs.declared.Search.{Search}
 use Rattle.detect.specs.declared.enough.Enough.the-variants.{Yes}
-use Rattle.detect.specs.Peaks.{window, beaten, positives, isPeak, peakPlaces, valueAt, largerIn, positiveIn, isLow}
+use Rattle.detect.specs.Peaks.{window, beaten, positives, isPeak, peakPlaces, valueAt, beats, largerBy, positiveIn, isLow}
 use Rattle.detect.specs.Internal.{Inside}
 use Rattle.detect.specs.Detect.{readIn, peakIn, peaksIn}
 use Rattle.detect.specs.Enough.{rowsInside, rowsTo, rowsFor, answerOf, enoughOf, SameNear}
@@ -43,12 +43,12 @@ module _ (m m′ : List Float) (s : Search) (p : Place) (px : p .x < s .w)
   here : valueAt m (s .w) p ≡ valueAt m′ (s .w) p
   here = same p px (omega arith) (omega arith)
 
-  beaten-alike : beaten (largerIn m (s .w)) (s .w) (s .h) (s .window) p ≡ beaten (largerIn m′ (s .w)) (s .w) (s .h) (s .window) p
+  beaten-alike : beaten (largerBy (s .exact) m (s .w)) (s .w) (s .h) (s .window) p ≡ beaten (largerBy (s .exact) m′ (s .w)) (s .w) (s .h) (s .window) p
   unfolding beaten
   beaten-alike =
-      any-alike (λ q. largerIn m (s .w) q p) (λ q. largerIn m′ (s .w) q p) (window (s .w) (s .h) (s .window) p)
-      (window-near (λ q. largerIn m (s .w) q p ≡ largerIn m′ (s .w) q p) (s .w) (s .h) (s .window) p
-      (λ q i j a b. ap₂ lt here (same q i a b)))
+      any-alike (λ q. largerBy (s .exact) m (s .w) q p) (λ q. largerBy (s .exact) m′ (s .w) q p) (window (s .w) (s .h) (s .window) p)
+      (window-near (λ q. largerBy (s .exact) m (s .w) q p ≡ largerBy (s .exact) m′ (s .w) q p) (s .w) (s .h) (s .window) p
+      (λ q i j a b. ap₂ (beats (s .exact)) here (same q i a b)))
 
   positives-alike : positives (positiveIn m (s .w)) (s .w) (s .h) (s .window) p ≡ positives (positiveIn m′ (s .w)) (s .w) (s .h) (s .window) p
   unfolding positives count

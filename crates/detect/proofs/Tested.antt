@@ -1,18 +1,20 @@
 -- The test of a place by what led to its answer, and what its answer says. Assumes nothing.
 use Prim.Native.Nat.{ℕ, _<_, _≤_}
 use mathlib.Core.Path.{_≡_, refl, sym, ap, ap₂, _∙_}
-use mathlib.Core.Bool.{Bool, true, false, not, cond}
+use mathlib.Core.Bool.{Bool, true, false, not, cond, false≢true}
 use mathlib.Core.List.{List}
 use lib.Dec.{leb}
 use lib.Ieee.{Float, le}
-use borrow.Author.Tests.{le-leb, lt-leb}
+use borrow.Author.Tests.{le-leb, lt-leb, not-true, not-false}
 use Rattle.lists.specs.Places.{Place}
+use Rattle.lists.proofs.Tests.{is-false, and-parts}
+use Rattle.lists.proofs.Members.{Implies, any-more, all-of}
 use Rattle.detect.specs.declared.Search.{Search}
 use Rattle.detect.specs.declared.WindowTest.{WindowTest}
 use Rattle.detect.specs.declared.WindowTest.the-variants.{Beaten, Top}
 use Rattle.detect.specs.declared.searching.PeakTest.{PeakTest}
 use Rattle.detect.specs.declared.searching.PeakTest.the-variants.{No, Peak}
-use Rattle.detect.specs.Peaks.{valueAt, largerIn, positiveIn, beaten, equals, equalIn, windowTest, tiesOf, positives}
+use Rattle.detect.specs.Peaks.{valueAt, window, largerIn, largerBy, positiveIn, beaten, equals, equalIn, windowTest, tiesOf, positives}
 use Rattle.detect.specs.Detect.{peakIn, neighboursAt, testAt, tiesAt}
 use Rattle.detect.specs.Internal.{peakTest}
 use Rattle.detect.proofs.Choice.{cell-below, cell-beaten, cell-counted}
@@ -36,13 +38,40 @@ tiesOr d (Peak n k) = k
 
 module _ (m : List Float) (s : Search) (p : Place) where
   -- ---- what led to the answer
-  top-told : (t : WindowTest) → t ≡ testAt m s p → isTop t ≡ not (beaten (largerIn m (s .w)) (s .w) (s .h) (s .window) p)
+  abbrev lost : Bool → Bool
+  lost b = beaten (largerBy b m (s .w)) (s .w) (s .h) (s .window) p
+
+  top-told : (t : WindowTest) → t ≡ testAt m s p → isTop t ≡ not (lost false)
   unfolding windowTest
   top-told t e = ap isTop e ∙ pick (beaten (largerIn m (s .w)) (s .w) (s .h) (s .window) p)
     where
       pick : (b : Bool) → isTop (cond b Beaten (Top (equals (equalIn m (s .w)) (s .w) (s .h) (s .window) p))) ≡ not b
       pick true = refl
       pick false = refl
+
+  -- what is not larger is not larger by more than the slack
+  fewer-beat : (b : Bool) → lost false ≡ false → lost b ≡ false
+  unfolding beaten
+  fewer-beat false e = e
+  fewer-beat true e =
+      is-false (lost true)
+      (λ t. false≢true
+      (sym e ∙ any-more (λ q. largerBy true m (s .w) q p) (λ q. largerIn m (s .w) q p) (window (s .w) (s .h) (s .window) p)
+      (all-of (Implies (λ q. largerBy true m (s .w) q p) (λ q. largerIn m (s .w) q p)) (λ q g. and-parts _ _ g .0) (window (s .w) (s .h) (s .window) p)) t))
+
+  -- beaten, by the window test and where that is asked by exact values
+  pub lost-not : (t : WindowTest) → t ≡ testAt m s p → (n : ℕ) → t ≡ Top n → false ≡ lost (s .exact)
+  lost-not t told n is = sym (fewer-beat (s .exact) (not-true (lost false) (sym (top-told t told) ∙ ap isTop is)))
+
+  pub lost-exactly : s .exact ≡ true → (b : Bool) → b ≡ not (lost true) → not b ≡ lost (s .exact)
+  lost-exactly x b e = rw (x, e) (not-not (lost true))
+    where
+      not-not : (c : Bool) → not (not c) ≡ c
+      not-not true = refl
+      not-not false = refl
+
+  pub lost-plainly : s .exact ≡ false → (t : WindowTest) → t ≡ testAt m s p → t ≡ Beaten → true ≡ lost (s .exact)
+  lost-plainly x t told is = rw x (sym (not-false (lost false) (sym (top-told t told) ∙ ap isTop is)))
 
   tested-no : false ≡ peakIn m s p → No ≡ peakTest m s p
   tested-no e = rw (← e)
@@ -51,19 +80,19 @@ module _ (m : List Float) (s : Search) (p : Place) where
     pub tested-low : le u (s .threshold) ≡ true → No ≡ peakTest m s p
     tested-low l = tested-no (cell-below m s p u e l)
 
-    pub tested-beaten : (t : WindowTest) → t ≡ testAt m s p → t ≡ Beaten → No ≡ peakTest m s p
-    tested-beaten t told is = tested-no (cell-beaten m s p u e (isTop t) (top-told t told) (ap isTop is))
+    pub tested-beaten : (b : Bool) → b ≡ lost (s .exact) → b ≡ true → No ≡ peakTest m s p
+    tested-beaten b told is = tested-no (cell-beaten m s p u e (not b) (ap not told) (ap not is))
 
-    module _ (l : le u (s .threshold) ≡ false) (t : WindowTest) (told : t ≡ testAt m s p) (k : ℕ) (is : t ≡ Top k)
+    module _ (l : le u (s .threshold) ≡ false) (b : Bool) (told : b ≡ lost (s .exact)) (is : b ≡ false) (k : ℕ) (tied : k ≡ tiesAt m s p)
         (n : ℕ) (c : n ≡ positives (positiveIn m (s .w)) (s .w) (s .h) (s .window) p) where
       enough : leb (s .«least_neighbours») n ≡ peakIn m s p
-      enough = cell-counted m s p u e (isTop t) (top-told t told) l (ap isTop is) n c
+      enough = cell-counted m s p u e (not b) (ap not told) l (ap not is) n c
 
       pub tested-few : n < s .«least_neighbours» → No ≡ peakTest m s p
       tested-few o = tested-no (sym (lt-leb (s .«least_neighbours») n o) ∙ enough)
 
       pub tested-peak : s .«least_neighbours» ≤ n → Peak n k ≡ peakTest m s p
-      tested-peak o = rw (← (sym (le-leb (s .«least_neighbours») n o) ∙ enough)) (ap₂ Peak c (ap tiesOf (sym is ∙ told)))
+      tested-peak o = rw (← (sym (le-leb (s .«least_neighbours») n o) ∙ enough)) (ap₂ Peak c tied)
 
   -- ---- what the answer says
   module _ (t : PeakTest) (told : t ≡ peakTest m s p) where

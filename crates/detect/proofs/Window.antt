@@ -6,7 +6,7 @@ use mathlib.Core.Bool.{Bool, true, false, not, cond, _&&_}
 use mathlib.Core.List.{List, [], _∷_}
 use lib.ListN.{length}
 use lib.Dec.{eqb}
-use lib.Ieee.{Float, lt}
+use lib.Ieee.{Float, binary32, add, lt}
 use borrow.Author.Tests.{eq-eqb, eqb-true, not-false}
 use Rattle.lists.specs.Places.{Place, block, any, keep, count, All}
 use Rattle.lists.proofs.Tests.{and-parts}
@@ -15,7 +15,7 @@ use Rattle.lists.proofs.Scan.{any-kept, count-kept}
 use Rattle.lists.proofs.Parts.{keep-only}
 use Rattle.lists.proofs.Members.{all-map, all-keep, all-block}
 use Rattle.float32.proofs.Classes.{lt-self}
-use Rattle.detect.specs.Peaks.{same, square, window, beaten, valueAt, largerIn}
+use Rattle.detect.specs.Peaks.{same, square, window, beaten, valueAt, slack, beats, largerBy}
 use Rattle.detect.specs.Internal.{Inside}
 
 -- ---- tests of places
@@ -76,12 +76,29 @@ square-whole w h border r p k i =
     rw (ex, ey)
 
 -- a centre does not beat itself
-module _ (m : List Float) (w h r : ℕ) (p : Place) where
-  beaten-square : beaten (largerIn m w) w h r p ≡ any (λ q. lt (valueAt m w p) (valueAt m w q)) (square w h r p)
+beats-self : (b : Bool) (v : Float) → beats b v v ≡ false
+beats-self false v = lt-self v
+beats-self true v = rw (lt-self v)
+
+-- what the code asks of a cell: above v and above the bar
+over : (b : Bool) (v bar u : Float) → bar ≡ cond b (add binary32 v slack) v → (lt v u && lt bar u) ≡ beats b v u
+over false v bar u e = rw e (twice (lt v u))
+  where
+    twice : (t : Bool) → (t && t) ≡ t
+    twice true = refl
+    twice false = refl
+over true v bar u e = rw e
+
+pub over-bar : (b : Bool) (v bar : Float) → bar ≡ cond b (add binary32 v slack) v → (cells : List Float)
+    → any (λ u. lt v u && lt bar u) cells ≡ any (beats b v) cells
+over-bar b v bar e cells = ap (λ (f : Float → Bool). any f cells) (λ i u. over b v bar u e i)
+
+module _ (b : Bool) (m : List Float) (w h r : ℕ) (p : Place) where
+  beaten-square : beaten (largerBy b m w) w h r p ≡ any (λ q. beats b (valueAt m w p) (valueAt m w q)) (square w h r p)
   unfolding beaten window
   beaten-square =
-      any-kept (λ q. largerIn m w q p) (λ q. not (same q p))
-      (λ q e. ap (λ (t : Place). largerIn m w t p) (same-place p q (not-false (same q p) e)) ∙ lt-self (valueAt m w p))
+      any-kept (λ q. largerBy b m w q p) (λ q. not (same q p))
+      (λ q e. ap (λ (t : Place). largerBy b m w t p) (same-place p q (not-false (same q p) e)) ∙ beats-self b (valueAt m w p))
       (square w h r p)
 
 -- and is counted once
@@ -112,8 +129,8 @@ module _ (m : List Float) (w h border r : ℕ) (p : Place) (v : Float) (k : r �
   whole : square w h r p ≡ about r p
   whole = square-whole w h border r p k i
 
-  pub beaten-whole : any (λ q. lt v (valueAt m w q)) (about r p) ≡ beaten (largerIn m w) w h r p
-  beaten-whole = rw e (sym (beaten-square m w h r p ∙ ap (any (λ q. lt (valueAt m w p) (valueAt m w q))) whole))
+  pub beaten-whole : (b : Bool) → any (λ q. beats b v (valueAt m w q)) (about r p) ≡ beaten (largerBy b m w) w h r p
+  beaten-whole b = rw e (sym (beaten-square b m w h r p ∙ ap (any (λ q. beats b (valueAt m w p) (valueAt m w q))) whole))
 
   -- how many cells pass a test of their values
   pub count-whole : (f : Float → Bool)

@@ -3,19 +3,19 @@
 use Prim.Native.Nat.{ℕ, _+_, _-_, _*_, _<_, _≤_}
 use native.Mathlib.Omega.{arith}
 use mathlib.Core.Path.{_≡_, sym, ap, _∙_}
-use mathlib.Core.Bool.{Bool, true, false, not, cond}
+use mathlib.Core.Bool.{Bool, true, false, not, cond, _&&_}
 use mathlib.Core.List.{List}
 use lib.ListN.{length}
-use lib.Ieee.{Float, nan, lt, eq}
+use lib.Ieee.{Float, nan, binary32, add, lt, eq}
 use Rattle.lists.specs.Places.{Place, block, any, count}
 use Rattle.lists.proofs.Places.{count-block-le}
 use Rattle.lists.proofs.Rows.{rowPart, AnyRows, CountRows, any-found, any-next, any-nowhere, rows-next, rows-all}
 use Rattle.detect.specs.declared.Search.{Search}
-use Rattle.detect.specs.Peaks.{window, beaten, equals, valueAt, largerIn, equalIn}
+use Rattle.detect.specs.Peaks.{window, beaten, equals, valueAt, slack, beats, largerBy, equalIn}
 use Rattle.detect.specs.Internal.{Inside}
 use Rattle.detect.specs.Internal.{place, Searchable}
 use Rattle.detect.proofs.Cells.{row-in}
-use Rattle.detect.proofs.Window.{beaten-whole, count-whole}
+use Rattle.detect.proofs.Window.{over-bar, beaten-whole, count-whole}
 
 -- the first column or row of the window about x, and the one past its last
 abbrev from : Search → ℕ → ℕ
@@ -30,15 +30,15 @@ part m s x yy = rowPart m (s .w) yy (from s x) (past s x)
 
 module _ (m : List Float) (s : Search) (x y : ℕ) where
   -- what the rows of the window about (x, y) before row yy have said: that none has a cell above v, and that n cells pass a test
-  abbrev NoneAbove : Float → ℕ → Type 0
-  NoneAbove v yy = AnyRows (lt v) m (s .w) nan (from s x) (past s x) (from s y) (past s y) yy
+  abbrev NoneAbove : Bool → Float → ℕ → Type 0
+  NoneAbove b v yy = AnyRows (beats b v) m (s .w) nan (from s x) (past s x) (from s y) (past s y) yy
 
   abbrev Counted : (Float → Bool) → ℕ → ℕ → Type 0
   Counted f n yy = CountRows f m (s .w) nan (from s x) (past s x) (from s y) (past s y) n yy
 
   -- what the two tests are to answer
-  abbrev unbeaten : Bool
-  unbeaten = not (beaten (largerIn m (s .w)) (s .w) (s .h) (s .window) (place x y))
+  abbrev unbeaten : Bool → Bool
+  unbeaten b = not (beaten (largerBy b m (s .w)) (s .w) (s .h) (s .window) (place x y))
 
   abbrev passing : (Float → Bool) → ℕ
   passing f = count (λ q. f (valueAt m (s .w) q)) (window (s .w) (s .h) (s .window) (place x y))
@@ -58,16 +58,20 @@ module _ (m : List Float) (s : Search) (x y : ℕ) (v : Float) (k : Searchable m
     row-within : yy * s .w + past s x ≤ length m
     row-within = row-in m s k yy (omega (arith, i .bottom, k .inside)) (past s x) (omega (arith, i .right, k .inside))
 
-    module _ (a : NoneAbove m s x y v yy) (t : Bool) (found : t ≡ any (lt v) (part m s x yy)) where
-      pub larger-here : t ≡ true → false ≡ unbeaten m s x y
+    module _ (b : Bool) (bar : Float) (is : bar ≡ cond b (add binary32 v slack) v) (a : NoneAbove m s x y b v yy)
+        (t : Bool) (found : t ≡ any (λ u. lt v u && lt bar u) (part m s x yy)) where
+      beating : t ≡ any (beats b v) (part m s x yy)
+      beating = found ∙ over-bar b v bar is (part m s x yy)
+
+      pub larger-here : t ≡ true → false ≡ unbeaten m s x y b
       larger-here q =
           ap not
-          (sym (any-found (lt v) m (s .w) nan (from s x) (past s x) (from s y) (past s y) yy a (omega arith) l row-within t found q)
-          ∙ beaten-whole m (s .w) (s .h) (s .border) (s .window) (place x y) v (k .inside) i e)
+          (sym (any-found (beats b v) m (s .w) nan (from s x) (past s x) (from s y) (past s y) yy a (omega arith) l row-within t beating q)
+          ∙ beaten-whole m (s .w) (s .h) (s .border) (s .window) (place x y) v (k .inside) i e b)
 
-      pub larger-next : t ≡ false → NoneAbove m s x y v (yy + 1)
+      pub larger-next : t ≡ false → NoneAbove m s x y b v (yy + 1)
       larger-next q =
-          any-next (lt v) m (s .w) nan (from s x) (past s x) (from s y) (past s y) yy a (omega arith) l row-within t found q
+          any-next (beats b v) m (s .w) nan (from s x) (past s x) (from s y) (past s y) yy a (omega arith) l row-within t beating q
 
     module _ (f : Float → Bool) (n : ℕ) (a : Counted m s x y f n yy) (t : ℕ) (found : t ≡ count f (part m s x yy)) where
       pub count-next : Counted m s x y f (n + t) (yy + 1)
@@ -78,11 +82,11 @@ module _ (m : List Float) (s : Search) (x y : ℕ) (v : Float) (k : Searchable m
 
   -- ---- behind the last
   module _ (yy : ℕ) (l : past s y ≤ yy) where
-    pub larger-nowhere : NoneAbove m s x y v yy → true ≡ unbeaten m s x y
-    larger-nowhere a =
+    pub larger-nowhere : (b : Bool) → NoneAbove m s x y b v yy → true ≡ unbeaten m s x y b
+    larger-nowhere b a =
         ap not
-        (sym (any-nowhere (lt v) m (s .w) nan (from s x) (past s x) (from s y) (past s y) yy a l)
-        ∙ beaten-whole m (s .w) (s .h) (s .border) (s .window) (place x y) v (k .inside) i e)
+        (sym (any-nowhere (beats b v) m (s .w) nan (from s x) (past s x) (from s y) (past s y) yy a l)
+        ∙ beaten-whole m (s .w) (s .h) (s .border) (s .window) (place x y) v (k .inside) i e b)
 
     module _ (f : Float → Bool) (n : ℕ) (a : Counted m s x y f n yy) where
       count-all : n ≡ passing m s x y f + cond (f v) 1 0

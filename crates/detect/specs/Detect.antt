@@ -1,7 +1,7 @@
 -- Peak finding (RULES 4): the corners that a map's peaks start as, the refusals, and what is promised of the answer and the buffer.
 use Prim.Native.Nat.{ℕ, _+_}
 use mathlib.Core.Path.{_≡_}
-use mathlib.Core.Bool.{Bool, not, _||_}
+use mathlib.Core.Bool.{Bool, false, cond, not, _||_}
 use mathlib.Core.List.{List, [], _∷_, _++_, map}
 use lib.ListN.{length}
 use lib.Dec.{ltb}
@@ -16,12 +16,26 @@ use Rattle.detect.specs.declared.Search.{Search}
 use Rattle.detect.specs.declared.Peaks.{Peaks}
 use Rattle.detect.specs.declared.Peaks.the-variants.{Added, Refused}
 use Rattle.detect.specs.declared.WindowTest.{WindowTest}
-use Rattle.detect.specs.Peaks.{CellTests, isPeak, peakPlaces, valueAt, largerIn, equalIn, positiveIn, computed, windowTest, tiesOf, positives}
+use Rattle.detect.specs.Fifths.{betweenFifths}
+use Rattle.detect.specs.Peaks.{CellTests, isPeak, peakPlaces, valueAt, largerIn, equalIn, positiveIn, reading, windowTest, tiesOf, positives}
 
--- ---- RULES 4.1, what a map is searched with: border = ring + window + refine radius; a threshold that is NaN or negative counts as 0
+-- ---- RULES 4.1, what a map is searched with: border = ring + window + refine radius; a threshold that is NaN or negative counts as 0. By exact
+-- values the threshold moves to where no response is (RULES 34.3)
+abbrev pub searchBy : Bool → ℕ → ℕ → ℕ → Float → ℕ → ℕ → ℕ → Search
+searchBy exact w h ring threshold window least radius =
+    record {
+      w = w;
+      h = h;
+      border = ring + window + radius;
+      window = window;
+      threshold = cond exact (betweenFifths (lift threshold)) (lift threshold);
+      «least_neighbours» = least;
+      exact = exact;
+    }
+
+-- by computed values
 abbrev pub searchOf : ℕ → ℕ → ℕ → Float → ℕ → ℕ → ℕ → Search
-searchOf w h ring threshold window least radius =
-    record { w = w; h = h; border = ring + window + radius; window = window; threshold = lift threshold; «least_neighbours» = least }
+searchOf = searchBy false
 
 -- the peaks of a map that is read by v
 abbrev pub peaksBy : CellTests → Search → List Place
@@ -29,7 +43,7 @@ peaksBy v s = peakPlaces v (s .w) (s .h) (s .border) (s .window) (s .«least_nei
 
 -- the peaks of a list of floats
 abbrev pub readIn : List Float → Search → CellTests
-readIn m s = computed m (s .w) (s .threshold)
+readIn m s = reading (s .exact) m (s .w) (s .threshold)
 
 abbrev pub peakIn : List Float → Search → Place → Bool
 peakIn m s = isPeak (readIn m s) (s .w) (s .h) (s .window) (s .«least_neighbours»)

@@ -1,4 +1,5 @@
 pub mod Peaks
+pub mod Fifths
 pub mod Detect
 pub mod Exact
 pub mod Enough

@@ -1,10 +1,11 @@
 -- Peak choice over a map of w by h, by what is asked of the values at its places (RULES 4.2 to 4.4; neighbors.rs, detect.rs).
 use Prim.Native.Nat.{ℕ, _+_, _-_, _*_, min}
-use mathlib.Core.Bool.{Bool, cond, not, _&&_}
+use mathlib.Core.Bool.{Bool, true, false, cond, not, _&&_}
 use mathlib.Core.List.{List}
 use lib.ListN.{getD}
 use lib.Dec.{leb, eqb}
-use lib.Ieee.{Float, nan, lt, le, eq}
+use lib.IntN.{negsuc}
+use lib.Ieee.{Float, nan, fin, binary32, add, lt, le, eq}
 use Rattle.lists.specs.Places.{Place, block, any, keep, count}
 use Rattle.float32.specs.Float32.{zero}
 use Rattle.detect.specs.declared.WindowTest.{WindowTest}
@@ -73,6 +74,18 @@ equalIn m w q p = eq (valueAt m w p) (valueAt m w q)
 abbrev pub positiveIn : List Float → ℕ → Place → Bool
 positiveIn m w q = lt zero (valueAt m w q)
 
+-- RULES 34.2: 1/256; the computed values of one exact value are nearer, those of two exact values further apart (`larger-exactly` of agreement)
+abbrev pub slack : Float
+slack = fin false 1 (negsuc 7)
+
+-- a cell of value u beats one of value v: it is larger and, by exact values, larger by more than that
+abbrev pub beats : Bool → Float → Float → Bool
+beats false v u = lt v u
+beats true v u = lt v u && lt (add binary32 v slack) u
+
+abbrev pub largerBy : Bool → List Float → ℕ → Place → Place → Bool
+largerBy exact m w q p = beats exact (valueAt m w p) (valueAt m w q)
+
 -- at or below t
 abbrev pub isLow : Float → Float → Bool
 isLow t v = le v t
@@ -80,3 +93,7 @@ isLow t v = le v t
 -- RULES 4.3: a cell is dropped if it is at or below the threshold, so a NaN cell passes
 abbrev pub computed : List Float → ℕ → Float → CellTests
 computed m w t = record { above = λ p. not (isLow t (valueAt m w p)); larger = largerIn m w; positive = positiveIn m w }
+
+-- the same by either choice
+abbrev pub reading : Bool → List Float → ℕ → Float → CellTests
+reading exact m w t = record { above = λ p. not (isLow t (valueAt m w p)); larger = largerBy exact m w; positive = positiveIn m w }

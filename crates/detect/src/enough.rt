@@ -77,6 +77,7 @@ pub fn has_peaks(
         window,
         least_neighbours,
         refine_radius,
+        false,
     );
     search_for(map, s, wanted)
 }

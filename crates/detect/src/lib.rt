@@ -1,6 +1,7 @@
 // Peaks of a response map, added to a buffer of corners (RULES 4).
 mod adding;
 mod enough; // has_peaks: whether there are as many as wanted
+mod fifths; // the threshold of the choice by exact values
 mod neighbors;
 mod searching;
 mod table;
@@ -8,13 +9,16 @@ mod table;
 pub use enough::Enough;
 pub use enough::has_peaks;
 ghost use mathlib.Core.Path.{_≡_};
+ghost use mathlib.Core.Bool.{cond};
 ghost use lib.ListN.{length};
+ghost use Rattle.float32.specs.Float32.{lift};
+ghost use Rattle.detect.specs.Fifths.{betweenFifths};
 ghost use Rattle.lists.specs.Refusals.{lowest};
 ghost use Rattle.corner_list.specs.CornerList.{slices};
-ghost use Rattle.detect.specs.Detect.{searchOf, startsIn, tiesIn, conditions, PeaksAdded};
+ghost use Rattle.detect.specs.Detect.{searchBy, searchOf, startsIn, tiesIn, conditions, PeaksAdded};
 
-// What a map is searched with: its sides, the border that no peak lies in, the window's radius, the lifted threshold and the
-// least number of positive neighbours. It is public because the promise speaks of it.
+// What a map is searched with: its sides, the border that no peak lies in, the window's radius, the lifted threshold, the
+// least number of positive neighbours, and whether peaks are chosen by exact values. It is public because the promise speaks of it.
 pub struct Search {
     pub w: usize,
     pub h: usize,
@@ -22,6 +26,7 @@ pub struct Search {
     pub window: usize,
     pub threshold: f32,
     pub least_neighbours: u32,
+    pub exact: bool,
 }
 
 // What the window about a cell says of it: one of its cells is larger, or none is and so many equal it. It is public for the same reason.
@@ -55,6 +60,17 @@ pub fn refusal(size: usize, w: usize, h: usize, ring: u32, window: u32, refine_r
     }
 }
 
+// The threshold that cells are compared with.
+fn threshold_of(threshold: f32, exact: bool) -> f32
+    ensures { λ t. ⌜ t ≡ cond exact (betweenFifths (lift threshold)) (lift threshold) ⌝ }
+{
+    if exact {
+        fifths::between_fifths(threshold)
+    } else {
+        float32::lifted(threshold)
+    }
+}
+
 // What a map is searched with, by the parameters.
 fn search_of(
     w: usize,
@@ -64,8 +80,9 @@ fn search_of(
     window: u32,
     least_neighbours: u32,
     radius: u32,
+    exact: bool,
 ) -> Search
-    ensures { λ s. ⌜ s ≡ searchOf w h ring threshold window «least_neighbours» radius ⌝ }
+    ensures { λ s. ⌜ s ≡ searchBy exact w h ring threshold window «least_neighbours» radius ⌝ }
 {
     let border = ring as usize + window as usize + radius as usize;
     Search {
@@ -73,13 +90,55 @@ fn search_of(
         h,
         border,
         window: window as usize,
-        threshold: float32::lifted(threshold),
+        threshold: threshold_of(threshold, exact),
         least_neighbours,
+        exact,
     }
 }
 
 // Finds the peaks of a map of w by h, in row order, adds the corners that they start as to a buffer, behind the first `held`, and sums their ties.
-// The table of the first peaks stands on the stack: 4 KB for a map of fewer than 65,536 cells, 224 KB for a larger one.
+// With `exact` the peaks of a response map are those of its exact values (RULES 34). The table of the first peaks stands on the stack: 4 KB for a
+// map of fewer than 65,536 cells, 224 KB for a larger one.
+pub fn find_peaks(
+    map: &[f32],
+    w: usize,
+    h: usize,
+    ring: u32,
+    threshold: f32,
+    window: u32,
+    least_neighbours: u32,
+    refine_radius: u32,
+    exact: bool,
+    xs: &mut [f32],
+    ys: &mut [f32],
+    strengths: &mut [f32],
+    neighbours: &mut [u32],
+    held: usize,
+) -> Peaks
+    ensures { λ r. ⌜ PeaksAdded (conditions (length (now (map .entry))) w h ring window «refine_radius»)
+        (startsIn (now (map .entry)) (searchBy exact w h ring threshold window «least_neighbours» «refine_radius»))
+        (tiesIn (now (map .entry)) (searchBy exact w h ring threshold window «least_neighbours» «refine_radius»))
+        held (slices (now (xs .entry)) (now (ys .entry)) (now (strengths .entry)) (now (neighbours .entry)))
+        r (slices (now (xs .exit)) (now (ys .exit)) (now (strengths .exit)) (now (neighbours .exit))) ⌝ }
+{
+    let k = refusal(map.len(), w, h, ring, window, refine_radius);
+    if k != 0 {
+        return Peaks::Refused(k);
+    }
+    let s = search_of(
+        w,
+        h,
+        ring,
+        threshold,
+        window,
+        least_neighbours,
+        refine_radius,
+        exact,
+    );
+    adding::add_by_table(map, s, xs, ys, strengths, neighbours, held, map.len())
+}
+
+// The same by computed values.
 pub fn detect_peaks_from_response_with_refine_radius(
     map: &[f32],
     w: usize,
@@ -101,11 +160,8 @@ pub fn detect_peaks_from_response_with_refine_radius(
         held (slices (now (xs .entry)) (now (ys .entry)) (now (strengths .entry)) (now (neighbours .entry)))
         r (slices (now (xs .exit)) (now (ys .exit)) (now (strengths .exit)) (now (neighbours .exit))) ⌝ }
 {
-    let k = refusal(map.len(), w, h, ring, window, refine_radius);
-    if k != 0 {
-        return Peaks::Refused(k);
-    }
-    let s = search_of(
+    find_peaks(
+        map,
         w,
         h,
         ring,
@@ -113,6 +169,11 @@ pub fn detect_peaks_from_response_with_refine_radius(
         window,
         least_neighbours,
         refine_radius,
-    );
-    adding::add_by_table(map, s, xs, ys, strengths, neighbours, held, map.len())
+        false,
+        xs,
+        ys,
+        strengths,
+        neighbours,
+        held,
+    )
 }

@@ -8,8 +8,9 @@ ghost use Rattle.detect.specs.Peaks.{valueAt, isLow};
 ghost use Rattle.detect.specs.Internal.{Inside};
 ghost use Rattle.detect.specs.Internal.{place, peakTest, Searchable, Below, LowRow, LowRows, Skipped, NextFound};
 use crate::Search;
-use crate::WindowTest;
 use crate::neighbors::count_positive_neighbors;
+use crate::neighbors::is_beaten;
+use crate::neighbors::ties_of;
 use crate::neighbors::window_test;
 
 // What a search found: a place of the map, column x of row y, and how many positive neighbours and ties the peak there has.
@@ -47,9 +48,11 @@ fn peak_test(map: &[f32], s: Search, x: usize, y: usize) -> PeakTest
     if v <= s.threshold {
         return PeakTest::No;
     }
-    let WindowTest::Top(ties) = window_test(map, s, x, y, v) else {
+    let t = window_test(map, s, x, y, v);
+    if is_beaten(map, s, x, y, v, t) {
         return PeakTest::No;
-    };
+    }
+    let ties = ties_of(t);
     let neighbours = count_positive_neighbors(map, s, x, y, v);
     if s.least_neighbours <= neighbours {
         PeakTest::Peak(neighbours, ties)

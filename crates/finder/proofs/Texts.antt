@@ -10,6 +10,7 @@ use Rattle.lists.specs.Buffer.{Written}
 use Rattle.lists.specs.Refusals.{unless}
 use Rattle.corner_list.specs.CornerList.{Slices, cornersOf}
 use Rattle.patch_corners.specs.declared.FrameParams.{FrameParams}
+use Rattle.patch_corners.specs.OneMap.{computedChoice}
 use Rattle.frame.specs.Frame.{Buffers, FrameFound}
 use Rattle.frame.specs.declared.FrameAnswer.{FrameAnswer}
 use Rattle.frame.specs.declared.FrameAnswer.the-variants.{Corners, Refused}
@@ -42,14 +43,14 @@ module _ (b : Slices) (count : ℕ) (before : List ℕ) (r : Listing) (after : L
 
 -- ---- the text of a frame
 module _ (h : Header) (pixels : List ℕ) (p : FrameParams) (is : p ≡ paramsOf h) (answer : FrameAnswer) (b′ : Buffers)
-    (f : FrameFound p pixels (h .width) (h .height) programBuffers answer b′) where
-  answered : (a : FrameAnswer) → answer ≡ a → FrameFound (paramsOf h) pixels (h .width) (h .height) programBuffers a b′
+    (f : FrameFound (computedChoice p) p pixels (h .width) (h .height) programBuffers answer b′) where
+  answered : (a : FrameAnswer) → answer ≡ a → FrameFound (computedChoice (paramsOf h)) (paramsOf h) pixels (h .width) (h .height) programBuffers a b′
   answered a e = rw (← is, ← e) f
 
   -- its corners, which are at most 512
   module _ (n t : ℕ) (e : answer ≡ Corners n t) where
-    finished : Finished (paramsOf h) pixels (h .width) (h .height) programBuffers n t b′
-    finished = finished-tells _ _ _ _ _ n t b′ (answered (Corners n t) e)
+    finished : Finished (computedChoice (paramsOf h)) (paramsOf h) pixels (h .width) (h .height) programBuffers n t b′
+    finished = finished-tells _ _ _ _ _ _ n t b′ (answered (Corners n t) e)
 
     pub corners-few : n ≤ 512
     corners-few = omega (arith, finished .fits)
@@ -64,7 +65,8 @@ module _ (h : Header) (pixels : List ℕ) (p : FrameParams) (is : p ≡ paramsOf
       → Written (frameText h pixels) before end after
   unfolding frameText
   refusal-written n e before end after w =
-      rw (refused-tells _ _ _ _ _ n b′ (answered (Refused n) e)) (of n _ (refusal-positive _ _ _ _ _ n b′ (answered (Refused n) e)) w)
+      rw (refused-tells (computedChoice (paramsOf h)) _ _ _ _ _ n b′ (answered (Refused n) e))
+      (of n _ (refusal-positive _ _ _ _ _ _ n b′ (answered (Refused n) e)) w)
     where
       of : (k : ℕ) (text : List ℕ) → (k ≡ 0 → ⊥) → Written (refusedText k) before end after → Written (unless refusedText k text) before end after
       of zero text z w = absurd (z refl)

@@ -7,6 +7,7 @@ use Rattle.lists.specs.Refusals.{unless}
 use Rattle.float32.specs.Float32 as float32
 use Rattle.corner_list.specs.CornerList.{Slices, slices}
 use Rattle.patch_corners.specs.declared.FrameParams.{FrameParams}
+use Rattle.patch_corners.specs.OneMap.{computedChoice}
 use Rattle.frame.specs.Frame.{Buffers, buffers, params, refusalOf, passOf}
 use Rattle.stream.specs.declared.Header.{Header}
 use Rattle.stream.specs.Stream.{Reading, accepted, refused, readFrame}
@@ -29,7 +30,8 @@ programBuffers = buffers (replicate 9216 float32.zero) (replicate 3072 0) places
 unfoldable pub frameText : Header → List ℕ → List ℕ
 frameText h pixels =
     let p = paramsOf h in
-    unless refusedText (refusalOf p pixels (h .width) (h .height) programBuffers) (cornersText (passOf p pixels (h .width) (h .height) .corners))
+    unless refusedText (refusalOf (computedChoice p) p pixels (h .width) (h .height) programBuffers)
+    (cornersText (passOf p pixels (h .width) (h .height) .corners))
 
 -- and of what was read
 abbrev pub readingText : Reading → List ℕ

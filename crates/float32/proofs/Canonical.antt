@@ -40,7 +40,7 @@ own-parts s m e h =
     let r = and-parts A B (q .0) in
     (eqb-true (suc m % 2) 1 (r .0), ltb-true (suc m) (2 ^ 24) (r .1), leb-true (down e) (2 ^ 149) (q .1), ltb-true (suc m * up e) (2 ^ 128 * down e) (p .1))
 
-own : (s : Bool) (m : ℕ) (e : ℤ) → fits binary32 (fin s m e) ≡ true → (m < 2 ^ 24) × (down e ≤ 2 ^ 149) × (m * up e < 2 ^ 128 * down e)
+pub own : (s : Bool) (m : ℕ) (e : ℤ) → fits binary32 (fin s m e) ≡ true → (m < 2 ^ 24) × (down e ≤ 2 ^ 149) × (m * up e < 2 ^ 128 * down e)
 own s zero e h = rw (own-zero s e h) (pow-pos 24, lit≤ tt, pow-pos 128)
 own s (suc m) e h = let p = own-parts s m e h in (p .1, p .2, p .3)
 
@@ -67,7 +67,7 @@ unfolding rest place
 up-place (pos k) = sym (pow-add 2 k 149)
 up-place (negsuc k) = one-mul (2 ^ (149 - suc k))
 
-exponent-le : (j k : ℕ) → 2 ^ j ≤ 2 ^ k → j ≤ k
+pub exponent-le : (j k : ℕ) → 2 ^ j ≤ 2 ^ k → j ≤ k
 exponent-le j k h = go (leb j k) refl
   where
     go : (b : Bool) → leb j k ≡ b → j ≤ k

@@ -47,12 +47,12 @@ unfolding lift
 lift-rest x h = rw h
 
 -- a lifted threshold has no minus sign
-abbrev plus : Float → Bool
+abbrev pub plus : Float → Bool
 plus nan = false
 plus (inf s) = not s
 plus (fin s m e) = not s
 
-lift-plus : (t : Float) → T (plus (lift t))
+pub lift-plus : (t : Float) → T (plus (lift t))
 unfolding lift lt
 lift-plus nan = tt
 lift-plus (inf true) = tt

@@ -8,6 +8,7 @@ use mathlib.Core.List.{List, [], _∷_, map, append-nil}
 use types.Run.{OneOf}
 use denote.Enum.Declared.{tagOf}
 use Rattle.lists.specs.Places.{flatMap, sumOf}
+use Rattle.response.specs.Patch.{left, top}
 use Rattle.response.proofs.Map.{box-left, box-top}
 use Rattle.corner_list.specs.declared.Corner.{Corner}
 use Rattle.corner_list.specs.CornerList.{Slices, placesOf}
@@ -19,13 +20,12 @@ use Rattle.multiscale.specs.declared.RoiAnswer.the-variants as roi
 use Rattle.multiscale.specs.Promise.{Boxed}
 use Rattle.multiscale.proofs.Box.{box-inside}
 use Rattle.patch_corners.specs.declared.FrameParams.{FrameParams}
-use Rattle.patch_corners.specs.OneMap.{computedChoice, moved, cornersIn, tiesOn}
-use Rattle.patch_corners.specs.BoxCorners.{boxCorners}
+use Rattle.patch_corners.specs.OneMap.{Choice, moved, cornersIn, tiesOn}
 use Rattle.frame_pass.specs.Pass.{contextAt, patchOf, cornersOn, cornersAbout, tiesAbout}
 use Rattle.frame.specs.Internal.{Adds}
 use Rattle.frame.proofs.Adding.{adds-none, adds-to, boxIn}
 
-module _ (p : FrameParams) (img : List ℕ) (w h : ℕ) (k : ℕ) (s : Corner) (a : RoiAnswer) (boxed : Boxed (contextAt p img w h k) s a) where
+module _ (choose : Choice) (p : FrameParams) (img : List ℕ) (w h : ℕ) (k : ℕ) (s : Corner) (a : RoiAnswer) (boxed : Boxed (contextAt p img w h k) s a) where
   -- ---- no box
   no-patch : (a : RoiAnswer) → OneOf (1 ∷ 2 ∷ []) (tagOf answer-type a) → patchOf p img w h a ≡ []
   no-patch (roi.Bounds x0 y0 x1 y1) (inl e) = absurd (omega arith)
@@ -34,30 +34,33 @@ module _ (p : FrameParams) (img : List ℕ) (w h : ℕ) (k : ℕ) (s : Corner) (
   no-patch (roi.Refused n) e = refl
 
   pub about-none : OneOf (1 ∷ 2 ∷ []) (tagOf answer-type a) → (held : ℕ) (b : Slices) → held ≤ placesOf b
-      → Adds (cornersAbout p img w h (computedChoice p) k s) (tiesAbout p img w h (computedChoice p) k s) held b (Added 0 0) b
+      → Adds (cornersAbout p img w h choose k s) (tiesAbout p img w h choose k s) held b (Added 0 0) b
   about-none o held b l =
-      adds-none (cornersAbout p img w h (computedChoice p) k s) (tiesAbout p img w h (computedChoice p) k s) held b
-      (ap (λ (r : RoiAnswer). flatMap (cornersOn p img w h (computedChoice p)) (patchOf p img w h r)) (sym (boxed .answer))
-      ∙ ap (flatMap (cornersOn p img w h (computedChoice p))) (no-patch a o))
-      (ap (λ (r : RoiAnswer). sumOf (tiesOn p (computedChoice p)) (patchOf p img w h r)) (sym (boxed .answer))
-      ∙ ap (sumOf (tiesOn p (computedChoice p))) (no-patch a o)) l
+      adds-none (cornersAbout p img w h choose k s) (tiesAbout p img w h choose k s) held b
+      (ap (λ (r : RoiAnswer). flatMap (cornersOn p img w h choose) (patchOf p img w h r)) (sym (boxed .answer))
+      ∙ ap (flatMap (cornersOn p img w h choose)) (no-patch a o))
+      (ap (λ (r : RoiAnswer). sumOf (tiesOn p choose) (patchOf p img w h r)) (sym (boxed .answer))
+      ∙ ap (sumOf (tiesOn p choose)) (no-patch a o)) l
 
   -- ---- a box: it lies in the image, so that its corner is that of the clipped box
   module _ (x0 y0 x1 y1 : ℕ) (q : a ≡ roi.Bounds x0 y0 x1 y1) where
-    about : boxCorners p (boxIn p img w h x0 y0 x1 y1) ≡ cornersAbout p img w h (computedChoice p) k s
+    abbrev boxed-corners : List Corner
+    boxed-corners = let v = boxIn p img w h x0 y0 x1 y1 in map (moved (left v) (top v)) (cornersIn p choose v)
+
+    about : boxed-corners ≡ cornersAbout p img w h choose k s
     about =
         let v = boxIn p img w h x0 y0 x1 y1 in
         let i = box-inside (contextAt p img w h k) s x0 y0 x1 y1 (sym (boxed .answer) ∙ q) in
         rw (box-left v (i .0) (i .2) (i .1) (i .3), box-top v (i .0) (i .2) (i .1) (i .3))
-        (sym (append-nil (map (moved x0 y0) (cornersIn p (computedChoice p) v))))
-        ∙ ap (λ (r : RoiAnswer). flatMap (cornersOn p img w h (computedChoice p)) (patchOf p img w h r)) (sym q ∙ boxed .answer)
+        (sym (append-nil (map (moved x0 y0) (cornersIn p choose v))))
+        ∙ ap (λ (r : RoiAnswer). flatMap (cornersOn p img w h choose) (patchOf p img w h r)) (sym q ∙ boxed .answer)
 
-    tied : tiesOn p (computedChoice p) (boxIn p img w h x0 y0 x1 y1) ≡ tiesAbout p img w h (computedChoice p) k s
+    tied : tiesOn p choose (boxIn p img w h x0 y0 x1 y1) ≡ tiesAbout p img w h choose k s
     tied =
-        sym (add-zero (tiesOn p (computedChoice p) (boxIn p img w h x0 y0 x1 y1)))
-        ∙ ap (λ (r : RoiAnswer). sumOf (tiesOn p (computedChoice p)) (patchOf p img w h r)) (sym q ∙ boxed .answer)
+        sym (add-zero (tiesOn p choose (boxIn p img w h x0 y0 x1 y1)))
+        ∙ ap (λ (r : RoiAnswer). sumOf (tiesOn p choose) (patchOf p img w h r)) (sym q ∙ boxed .answer)
 
     pub about-added : (held : ℕ) (b : Slices) (answer : Peaks) (b′ : Slices)
-        → Adds (boxCorners p (boxIn p img w h x0 y0 x1 y1)) (tiesOn p (computedChoice p) (boxIn p img w h x0 y0 x1 y1)) held b answer b′
-        → Adds (cornersAbout p img w h (computedChoice p) k s) (tiesAbout p img w h (computedChoice p) k s) held b answer b′
+        → Adds boxed-corners (tiesOn p choose (boxIn p img w h x0 y0 x1 y1)) held b answer b′
+        → Adds (cornersAbout p img w h choose k s) (tiesAbout p img w h choose k s) held b answer b′
     about-added held b answer b′ d = adds-to _ _ held b _ _ answer b′ about tied d

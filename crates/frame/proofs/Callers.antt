@@ -20,7 +20,7 @@ use Rattle.corner_list.specs.CornerList.{Slices, xOf, yOf, strengthOf, neighbou
 use Rattle.corner_list.proofs.Corners.{slices-alike, corners-front}
 use Rattle.merge.proofs.Result.{result-length}
 use Rattle.patch_corners.specs.declared.FrameParams.{FrameParams}
-use Rattle.patch_corners.specs.OneMap.{computedChoice}
+use Rattle.patch_corners.specs.OneMap.{Choice}
 use Rattle.frame_pass.specs.Pass.{framePass, levelsIn, foundOf}
 use Rattle.frame_pass.specs.Refusals.{conditions}
 use Rattle.frame.specs.declared.FrameAnswer.the-variants.{Corners, Refused}
@@ -40,34 +40,34 @@ corners-padded cs b n e =
     ∙ corners-front cs (paddedCorners cs b) n e
 
 -- a finished frame: its corners and ties, by the pass, and the buffers
-pub record Finished (p : FrameParams) (img : List ℕ) (w h : ℕ) (b : Buffers) (n t : ℕ) (b′ : Buffers) : Type 0 where
-  pub number : refusalOf p img w h b ≡ 0
-  pub count : n ≡ length (framePass p img w h (computedChoice p) .corners)
-  pub tied : t ≡ framePass p img w h (computedChoice p) .ties
+pub record Finished (choose : Choice) (p : FrameParams) (img : List ℕ) (w h : ℕ) (b : Buffers) (n t : ℕ) (b′ : Buffers) : Type 0 where
+  pub number : refusalOf choose p img w h b ≡ 0
+  pub count : n ≡ length (framePass p img w h choose .corners)
+  pub tied : t ≡ framePass p img w h choose .ties
   pub fits : n ≤ placesOf (b .corners)
-  pub corners : cornersOf (b′ .corners) n ≡ framePass p img w h (computedChoice p) .corners
-  pub left : b′ ≡ finished (above img w h (levelsIn p img w h)) (framePass p img w h (computedChoice p)) b
+  pub corners : cornersOf (b′ .corners) n ≡ framePass p img w h choose .corners
+  pub left : b′ ≡ finished (above img w h (levelsIn p img w h)) (framePass p img w h choose) b
 
-module _ (p : FrameParams) (img : List ℕ) (w h : ℕ) (b : Buffers) where
+module _ (choose : Choice) (p : FrameParams) (img : List ℕ) (w h : ℕ) (b : Buffers) where
   -- no refusal, so no list is too long
-  not-many : refusalOf p img w h b ≡ 0 → tooMany (framePass p img w h (computedChoice p)) b ≡ false
+  not-many : refusalOf choose p img w h b ≡ 0 → tooMany (framePass p img w h choose) b ≡ false
   not-many e =
       let before = lowest (conditions p (length img) w h (length (b .map)) (length (b .levels))) in
       let none : before ≡ 0 =
-      ⊎-elim (λ z. z) (λ l. sym (number-before p img w h b (λ (z : before ≡ 0). let no : ⊥ = omega arith in no)) ∙ e) (eq-zero-or-pos before) in
-      lowest-none (tooMany (framePass p img w h (computedChoice p)) b) 10 [] (omega arith) (sym (number-in-pass p img w h b none) ∙ e) .0
+      ⊎-elim (λ z. z) (λ l. sym (number-before choose p img w h b (λ (z : before ≡ 0). let no : ⊥ = omega arith in no)) ∙ e) (eq-zero-or-pos before) in
+      lowest-none (tooMany (framePass p img w h choose) b) 10 [] (omega arith) (sym (number-in-pass choose p img w h b none) ∙ e) .0
 
-  few : refusalOf p img w h b ≡ 0 → length (framePass p img w h (computedChoice p) .corners) ≤ placesOf (b .corners)
+  few : refusalOf choose p img w h b ≡ 0 → length (framePass p img w h choose .corners) ≤ placesOf (b .corners)
   unfolding framePass
   few e =
-      let q = framePass p img w h (computedChoice p) in
+      let q = framePass p img w h choose in
       let l = ltb-false (placesOf (b .corners)) (length (q .found)) (or-neither (ltb (placesOf (b .seeds)) (length (q .seeds))) _ (not-many e) .1) in
-      omega (arith, l, result-length (p .«merge_radius») (foundOf p img w h (computedChoice p) (levelsIn p img w h)))
+      omega (arith, l, result-length (p .«merge_radius») (foundOf p img w h choose (levelsIn p img w h)))
 
-  pub finished-tells : (n t : ℕ) (b′ : Buffers) → FrameFound p img w h b (Corners n t) b′ → Finished p img w h b n t b′
+  pub finished-tells : (n t : ℕ) (b′ : Buffers) → FrameFound choose p img w h b (Corners n t) b′ → Finished choose p img w h b n t b′
   finished-tells n t b′ f =
-      let q = framePass p img w h (computedChoice p) in
-      let none : refusalOf p img w h b ≡ 0 = sym (f .number) in
+      let q = framePass p img w h choose in
+      let none : refusalOf choose p img w h b ≡ 0 = sym (f .number) in
       let left = f .left ∙ ap (λ (k : ℕ). leftBy k (finished (above img w h (levelsIn p img w h)) q b) (wiped b) b) none in
       let answer : Corners n t ≡ Corners (length (q .corners)) (q .ties) =
       f .answer ∙ ap (λ (k : ℕ). unless Refused k (Corners (length (q .corners)) (q .ties))) none in
@@ -83,14 +83,14 @@ module _ (p : FrameParams) (img : List ℕ) (w h : ℕ) (b : Buffers) where
       }
 
   -- a refused one: its number
-  pub refused-tells : (k : ℕ) (b′ : Buffers) → FrameFound p img w h b (Refused k) b′ → refusalOf p img w h b ≡ k
+  pub refused-tells : (k : ℕ) (b′ : Buffers) → FrameFound choose p img w h b (Refused k) b′ → refusalOf choose p img w h b ≡ k
   refused-tells k b′ f = sym (f .number)
 
   -- which is none of a finished one
-  pub refusal-positive : (k : ℕ) (b′ : Buffers) → FrameFound p img w h b (Refused k) b′ → k ≡ 0 → ⊥
+  pub refusal-positive : (k : ℕ) (b′ : Buffers) → FrameFound choose p img w h b (Refused k) b′ → k ≡ 0 → ⊥
   refusal-positive k b′ f z =
-      let q = framePass p img w h (computedChoice p) in
-      let none : refusalOf p img w h b ≡ 0 = sym (f .number) ∙ z in
+      let q = framePass p img w h choose in
+      let none : refusalOf choose p img w h b ≡ 0 = sym (f .number) ∙ z in
       let answer : Refused k ≡ Corners (length (q .corners)) (q .ties) =
       f .answer ∙ ap (λ (k : ℕ). unless Refused k (Corners (length (q .corners)) (q .ties))) none in
       let no : _≡_ {A = ℕ} 0 1 = cc in omega arith

@@ -28,7 +28,7 @@ use Rattle.merge.specs.Merge as merge
 use Rattle.merge.proofs.Judged.{judged-none-off, judged-none-on}
 use Rattle.merge.proofs.Result.{result-length, merges-done}
 use Rattle.patch_corners.specs.declared.FrameParams.{FrameParams}
-use Rattle.patch_corners.specs.OneMap.{computedChoice}
+use Rattle.patch_corners.specs.OneMap.{Choice}
 use Rattle.patch_corners.specs.Clearing.{clearedFrom, leftBy}
 use Rattle.frame_pass.specs.Pass.{Pass, framePass, levelsIn, seedsOf, foundOf, tiesFound}
 use Rattle.frame_pass.specs.Refusals.{conditions}
@@ -50,14 +50,14 @@ values-are : (k n t : ℕ) → valuesOf (unless Refused k (Corners n t)) ≡ val
 values-are zero n t = refl
 values-are (suc k) n t = refl
 
-module _ (p : FrameParams) (img : List ℕ) (w h : ℕ) (b : Buffers) where
+module _ (choose : Choice) (p : FrameParams) (img : List ℕ) (w h : ℕ) (b : Buffers) where
   abbrev pub pass : Pass
-  pass = framePass p img w h (computedChoice p)
+  pass = framePass p img w h choose
 
   -- an answer and buffers by the number
-  found-by : (k : ℕ) → refusalOf p img w h b ≡ k → (answer : FrameAnswer) (b′ : Buffers)
+  found-by : (k : ℕ) → refusalOf choose p img w h b ≡ k → (answer : FrameAnswer) (b′ : Buffers)
       → answer ≡ unless Refused k (Corners (length (pass .corners)) (pass .ties))
-      → b′ ≡ leftBy k (finished (above img w h (levelsIn p img w h)) pass b) (wiped b) b → FrameFound p img w h b answer b′
+      → b′ ≡ leftBy k (finished (above img w h (levelsIn p img w h)) pass b) (wiped b) b → FrameFound choose p img w h b answer b′
   found-by k e answer b′ a l = record {
     answer = a ∙ ap (λ (n : ℕ). unless Refused n (Corners (length (pass .corners)) (pass .ties))) (sym e);
     number = ap numberOf a ∙ number-is k (length (pass .corners)) (pass .ties) ∙ sym e;
@@ -68,22 +68,22 @@ module _ (p : FrameParams) (img : List ℕ) (w h : ℕ) (b : Buffers) where
 
   -- refused before the pass
   pub found-refused : (k : ℕ) → k ≡ lowest (conditions p (length img) w h (length (b .map)) (length (b .levels))) → (k ≡ 0 → ⊥)
-      → FrameFound p img w h b (Refused k) b
+      → FrameFound choose p img w h b (Refused k) b
   found-refused zero e n = absurd (n refl)
   found-refused (suc k) e n =
       let ten = not-ten p (length img) w h (length (b .map)) (length (b .levels)) in
-      found-by (suc k) (number-before p img w h b (λ z. n (e ∙ z)) ∙ sym e) (Refused (suc k)) b refl
+      found-by (suc k) (number-before choose p img w h b (λ z. n (e ∙ z)) ∙ sym e) (Refused (suc k)) b refl
       (sym (rw (ne-eqb (suc k) 10 (λ (z : suc k ≡ 10). let no : ⊥ = omega arith in no))))
 
   module _ (none : lowest (conditions p (length img) w h (length (b .map)) (length (b .levels))) ≡ 0) where
     -- a list does not fit
-    pub found-short : tooMany pass b ≡ true → (b′ : Buffers) → b′ ≡ wiped b → FrameFound p img w h b (Refused 10) b′
-    found-short t b′ e = found-by 10 (number-ten p img w h b none t) (Refused 10) b′ refl e
+    pub found-short : tooMany pass b ≡ true → (b′ : Buffers) → b′ ≡ wiped b → FrameFound choose p img w h b (Refused 10) b′
+    found-short t b′ e = found-by 10 (number-ten choose p img w h b none t) (Refused 10) b′ refl e
 
     -- finished
     pub found-done : tooMany pass b ≡ false → (k u : ℕ) (b′ : Buffers) → k ≡ length (pass .corners) → u ≡ pass .ties
-        → b′ ≡ finished (above img w h (levelsIn p img w h)) pass b → FrameFound p img w h b (Corners k u) b′
-    found-done t k u b′ c d e = found-by 0 (number-none p img w h b none t) (Corners k u) b′ (ap₂ Corners c d) e
+        → b′ ≡ finished (above img w h (levelsIn p img w h)) pass b → FrameFound choose p img w h b (Corners k u) b′
+    found-done t k u b′ c d e = found-by 0 (number-none choose p img w h b none t) (Corners k u) b′ (ap₂ Corners c d) e
 
 -- ---- the pyramid is built
 pub build-free : (img : List ℕ) (w h count least : ℕ) (d : List ℕ) (r : Pyramid) (e : List ℕ) → Built img w h count least d r e
@@ -106,29 +106,30 @@ unfolding tab
 none-read c = refl
 
 -- ---- after the search of n levels, which answered `answer` and left s′ and c′
-module _ (p : FrameParams) (img : List ℕ) (w h : ℕ) (m : List Float) (levels : List ℕ) (s c : Slices) (n : ℕ) (counted : n ≡ levelsIn p img w h)
+module _ (choose : Choice) (p : FrameParams) (img : List ℕ) (w h : ℕ) (m : List Float) (levels : List ℕ) (s c : Slices) (n : ℕ)
+    (counted : n ≡ levelsIn p img w h)
     (answer : Lists) (s′ c′ : Slices)
-    (found : Searched (seedsOf p img w h (computedChoice p) n) (foundOf p img w h (computedChoice p) n) (tiesFound p img w h (computedChoice p) n) s c
+    (found : Searched (seedsOf p img w h choose n) (foundOf p img w h choose n) (tiesFound p img w h choose n) s c
     answer s′ c′) where
-  seeds-are : framePass p img w h (computedChoice p) .seeds ≡ seedsOf p img w h (computedChoice p) n
+  seeds-are : framePass p img w h choose .seeds ≡ seedsOf p img w h choose n
   unfolding framePass
-  seeds-are = ap (seedsOf p img w h (computedChoice p)) (sym counted)
+  seeds-are = ap (seedsOf p img w h choose) (sym counted)
 
-  found-are : framePass p img w h (computedChoice p) .found ≡ foundOf p img w h (computedChoice p) n
+  found-are : framePass p img w h choose .found ≡ foundOf p img w h choose n
   unfolding framePass
-  found-are = ap (foundOf p img w h (computedChoice p)) (sym counted)
+  found-are = ap (foundOf p img w h choose) (sym counted)
 
-  corners-are : framePass p img w h (computedChoice p) .corners ≡ merge.resultOf (p .«merge_radius») (foundOf p img w h (computedChoice p) n)
+  corners-are : framePass p img w h choose .corners ≡ merge.resultOf (p .«merge_radius») (foundOf p img w h choose n)
   unfolding framePass
-  corners-are = ap (λ (k : ℕ). merge.resultOf (p .«merge_radius») (foundOf p img w h (computedChoice p) k)) (sym counted)
+  corners-are = ap (λ (k : ℕ). merge.resultOf (p .«merge_radius») (foundOf p img w h choose k)) (sym counted)
 
-  ties-are : framePass p img w h (computedChoice p) .ties ≡ tiesFound p img w h (computedChoice p) n
+  ties-are : framePass p img w h choose .ties ≡ tiesFound p img w h choose n
   unfolding framePass
-  ties-are = ap (tiesFound p img w h (computedChoice p)) (sym counted)
+  ties-are = ap (tiesFound p img w h choose) (sym counted)
 
   -- the corners that are merged: those found, or none
-  found-read : answer .fit ≡ true → cornersOf c′ (answer .corners) ≡ foundOf p img w h (computedChoice p) n
-  found-read e = let q = found .both e in rw (q .5) (corners-front (foundOf p img w h (computedChoice p) n) c (answer .corners) (q .3))
+  found-read : answer .fit ≡ true → cornersOf c′ (answer .corners) ≡ foundOf p img w h choose n
+  found-read e = let q = found .both e in rw (q .5) (corners-front (foundOf p img w h choose n) c (answer .corners) (q .3))
 
   short-read : answer .fit ≡ false → cornersOf c′ (answer .corners) ≡ []
   short-read e = ap (cornersOf c′) (found .short e .1) ∙ none-read c′
@@ -138,7 +139,7 @@ module _ (p : FrameParams) (img : List ℕ) (w h : ℕ) (m : List Float) (levels
     places-kept = same-places c′ c (same′ .xs) (same′ .ys) (same′ .strengths) (same′ .neighbours)
 
     -- merging is not refused
-    pub merge-free : Admitted p (length img) w h (length m) (length levels) → All (λ z. isInside z ≡ true) (framePass p img w h (computedChoice p) .found)
+    pub merge-free : Admitted p (length img) w h (length m) (length levels) → All (λ z. isInside z ≡ true) (framePass p img w h choose .found)
         → merge.refusalOf (p .«merge_radius») (placesOf c′) (answer .corners) c′ ≡ 0
     merge-free ad inside = of (answer .fit) refl
       where
@@ -158,7 +159,7 @@ module _ (p : FrameParams) (img : List ℕ) (w h : ℕ) (m : List Float) (levels
         → (m′ : List Float) → m′ ≡ wipedFrom 0 float32.zero m₁ → (levels′ : List ℕ) → levels′ ≡ cond (answer .fit) levels₁ (replicate (length levels₁) 0)
         → (s″ : Slices) → s″ ≡ clearedFrom (answer .seeds) s′ → (k : ℕ) (c″ : Slices) → Merging (p .«merge_radius») (answer .corners) c′ k c″
         → (r : FrameAnswer) → r ≡ cond (answer .fit) (Corners k (answer .ties)) (Refused 10)
-        → FrameFound p img w h (buffers m levels s c) r (buffers m′ levels′ s″ c″)
+        → FrameFound choose p img w h (buffers m levels s c) r (buffers m′ levels′ s″ c″)
     entry-closed none m₁ em levels₁ el ll m′ wm levels′ wl s″ ws k c″ merged r is = of (answer .fit) refl
       where
         cleared : (cs : List Corner) → cornersOf c′ (answer .corners) ≡ cs → length (merge.resultOf (p .«merge_radius») cs) ≤ placesOf c
@@ -174,18 +175,18 @@ module _ (p : FrameParams) (img : List ℕ) (w h : ℕ) (m : List Float) (levels
         wiped-map : m′ ≡ padded float32.zero [] m
         wiped-map = wm ∙ padded-none float32.zero m m₁ em
 
-        of : (fit : Bool) → answer .fit ≡ fit → FrameFound p img w h (buffers m levels s c) r (buffers m′ levels′ s″ c″)
+        of : (fit : Bool) → answer .fit ≡ fit → FrameFound choose p img w h (buffers m levels s c) r (buffers m′ levels′ s″ c″)
         of true e =
             let q = found .both e in
-            let seeds = seedsOf p img w h (computedChoice p) n in
-            let all = foundOf p img w h (computedChoice p) n in
+            let seeds = seedsOf p img w h choose n in
+            let all = foundOf p img w h choose n in
             let done = cleared all (found-read e) (omega (arith, result-length (p .«merge_radius») all, q .3, q .4)) in
             let es : s″ ≡ paddedCorners seeds s = ws ∙ ap (clearedFrom (answer .seeds)) (q .2)
             ∙ cleared-front s s (record { xs = refl; ys = refl; strengths = refl; neighbours = refl }) seeds (answer .seeds) (q .0) (q .1) in
             let levels-left : levels′ ≡ front (above img w h n) levels = wl ∙ rw e el in
             let answered : r ≡ Corners k (answer .ties) = is ∙ rw e in
             rw answered
-            (found-done p img w h (buffers m levels s c) none
+            (found-done choose p img w h (buffers m levels s c) none
             (rw (
               seeds-are,
               found-are,
@@ -203,7 +204,7 @@ module _ (p : FrameParams) (img : List ℕ) (w h : ℕ) (m : List Float) (levels
             let levels-left : levels′ ≡ replicate (length levels) 0 = wl ∙ rw e (ap (λ (j : ℕ). replicate j 0) ll) in
             let answered : r ≡ Refused 10 = is ∙ rw e in
             rw answered
-            (found-short p img w h (buffers m levels s c) none (rw (seeds-are, found-are) (q .2)) (buffers m′ levels′ s″ c″)
+            (found-short choose p img w h (buffers m levels s c) none (rw (seeds-are, found-are) (q .2)) (buffers m′ levels′ s″ c″)
             (rw (wiped-map, levels-left, es, ec)))
 
 -- ---- merging, where it is not refused

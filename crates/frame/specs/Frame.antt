@@ -13,7 +13,7 @@ use Rattle.pyramid.specs.Pyramid.{above}
 use Rattle.corner_list.specs.CornerList.{Slices, slices, xOf, yOf, strengthOf, neighboursOf, placesOf}
 use Rattle.corner_list.specs.declared.Corner.{Corner}
 use Rattle.patch_corners.specs.declared.FrameParams.{FrameParams}
-use Rattle.patch_corners.specs.OneMap.{computedChoice}
+use Rattle.patch_corners.specs.OneMap.{Choice, computedChoice}
 use Rattle.patch_corners.specs.Clearing.{leftBy}
 use Rattle.frame_pass.specs.Refusals.{conditions}
 use Rattle.frame_pass.specs.Pass.{Pass, framePass, levelsIn}
@@ -56,10 +56,10 @@ abbrev pub passOf : FrameParams → List ℕ → ℕ → ℕ → Pass
 passOf p img w h = framePass p img w h (computedChoice p)
 
 -- the lowest number, 0 for none
-unfoldable pub refusalOf : FrameParams → List ℕ → ℕ → ℕ → Buffers → ℕ
+unfoldable pub refusalOf : Choice → FrameParams → List ℕ → ℕ → ℕ → Buffers → ℕ
 unfolding conditions framePass
-refusalOf p img w h b =
-    lowest (conditions p (length img) w h (length (b .map)) (length (b .levels)) ++ ((tooMany (passOf p img w h) b, 10) ∷ []))
+refusalOf choose p img w h b =
+    lowest (conditions p (length img) w h (length (b .map)) (length (b .levels)) ++ ((tooMany (framePass p img w h choose) b, 10) ∷ []))
 
 -- ---- the buffers after
 
@@ -82,8 +82,9 @@ abbrev pub wiped : Buffers → Buffers
 wiped b = buffers (padded float32.zero [] (b .map)) (replicate (length (b .levels)) 0) (paddedCorners [] (b .seeds)) (paddedCorners [] (b .corners))
 
 -- by the number: any other refusal changes nothing
-abbrev pub buffersAfter : FrameParams → List ℕ → ℕ → ℕ → Buffers → Buffers
-buffersAfter p img w h b = leftBy (refusalOf p img w h b) (finished (above img w h (levelsIn p img w h)) (passOf p img w h) b) (wiped b) b
+abbrev pub buffersAfter : Choice → FrameParams → List ℕ → ℕ → ℕ → Buffers → Buffers
+buffersAfter choose p img w h b =
+    leftBy (refusalOf choose p img w h b) (finished (above img w h (levelsIn p img w h)) (framePass p img w h choose) b) (wiped b) b
 
 -- ---- the promise
 
@@ -96,9 +97,12 @@ abbrev pub valuesOf : FrameAnswer → List ℕ
 valuesOf (Corners n ties) = n ∷ ties ∷ []
 valuesOf (Refused k) = []
 
--- what `find_corners` promises of the answer, how many corners there are and how many ties (RULES 23.3), its number and values, and the buffers after
-pub record FrameFound (p : FrameParams) (img : List ℕ) (w h : ℕ) (b : Buffers) (r : FrameAnswer) (b′ : Buffers) : Type 0 where
-  pub answer : r ≡ unless Refused (refusalOf p img w h b) (Corners (length (passOf p img w h .corners)) (passOf p img w h .ties))
-  pub number : numberOf r ≡ refusalOf p img w h b
-  pub values : valuesOf r ≡ valuesUnless (refusalOf p img w h b) (length (passOf p img w h .corners) ∷ passOf p img w h .ties ∷ [])
-  pub left : b′ ≡ buffersAfter p img w h b
+-- What is promised of a frame by a choice of peaks: the answer, how many corners there are and how many ties (RULES 23.3), its number and values, and
+-- the buffers after. `find_corners` promises it by computed values, `find_exact_corners` by exact ones (RULES 34.1)
+pub record FrameFound (choose : Choice) (p : FrameParams) (img : List ℕ) (w h : ℕ) (b : Buffers) (r : FrameAnswer) (b′ : Buffers) : Type 0 where
+  pub answer : r
+      ≡ unless Refused (refusalOf choose p img w h b) (Corners (length (framePass p img w h choose .corners)) (framePass p img w h choose .ties))
+  pub number : numberOf r ≡ refusalOf choose p img w h b
+  pub values : valuesOf r
+      ≡ valuesUnless (refusalOf choose p img w h b) (length (framePass p img w h choose .corners) ∷ framePass p img w h choose .ties ∷ [])
+  pub left : b′ ≡ buffersAfter choose p img w h b

@@ -6,7 +6,7 @@ ghost use lib.ListN.{length};
 ghost use Rattle.lists.specs.Places.{flatMap, sumOf};
 ghost use Rattle.corner_list.specs.CornerList.{slices, placesOf, cornersOf};
 ghost use Rattle.multiscale.specs.Promise.{Boxed};
-ghost use Rattle.patch_corners.specs.OneMap.{computedChoice};
+ghost use Rattle.patch_corners.specs.OneMap.{choiceOf};
 ghost use Rattle.frame_pass.specs.Pass.{contextAt, cornersAbout, tiesAbout, seedsOf, foundOf, tiesFound};
 ghost use Rattle.frame.specs.Internal.{Ready, BuiltLevels, Adds, addedOf, listsOf, Searched};
 use corner_list::Corner;
@@ -48,6 +48,7 @@ fn add_patch(
     w: usize,
     h: usize,
     p: FrameParams,
+    exact: bool,
     k: usize,
     seed: Corner,
     map: &mut [f32],
@@ -59,7 +60,7 @@ fn add_patch(
 ) -> Peaks
     requires { ⌜ Ready p (now img) w h (length (now map)) ⌝ }
     requires { ⌜ (held ≤ placesOf (slices (now xs) (now ys) (now strengths) (now neighbours))) × (k ≤ 12) ⌝ }
-    ensures { λ r. ⌜ Adds (cornersAbout p (now (img .entry)) w h (computedChoice p) k seed) (tiesAbout p (now (img .entry)) w h (computedChoice p) k seed)
+    ensures { λ r. ⌜ Adds (cornersAbout p (now (img .entry)) w h (choiceOf p exact) k seed) (tiesAbout p (now (img .entry)) w h (choiceOf p exact) k seed)
         held (slices (now (xs .entry)) (now (ys .entry)) (now (strengths .entry)) (now (neighbours .entry))) r (slices (now (xs .exit)) (now (ys .exit)) (now (strengths .exit)) (now (neighbours .exit))) ⌝ }
 {
     let b = box_of(w, h, p, k, seed);
@@ -71,6 +72,7 @@ fn add_patch(
         w,
         h,
         p,
+        exact,
         x0,
         y0,
         x1,
@@ -90,6 +92,7 @@ fn add_patches(
     w: usize,
     h: usize,
     p: FrameParams,
+    exact: bool,
     k: usize,
     sx: &[f32],
     sy: &[f32],
@@ -104,8 +107,8 @@ fn add_patches(
 ) -> Peaks
     requires { ⌜ Ready p (now img) w h (length (now map)) ⌝ }
     requires { ⌜ (k ≤ 12) × (n ≤ 16777216) ⌝ }
-    ensures { λ r. ⌜ Adds (flatMap (cornersAbout p (now (img .entry)) w h (computedChoice p) k) (cornersOf (slices (now (sx .entry)) (now (sy .entry)) (now (ss .entry)) (now (sn .entry))) n))
-        (sumOf (tiesAbout p (now (img .entry)) w h (computedChoice p) k) (cornersOf (slices (now (sx .entry)) (now (sy .entry)) (now (ss .entry)) (now (sn .entry))) n))
+    ensures { λ r. ⌜ Adds (flatMap (cornersAbout p (now (img .entry)) w h (choiceOf p exact) k) (cornersOf (slices (now (sx .entry)) (now (sy .entry)) (now (ss .entry)) (now (sn .entry))) n))
+        (sumOf (tiesAbout p (now (img .entry)) w h (choiceOf p exact) k) (cornersOf (slices (now (sx .entry)) (now (sy .entry)) (now (ss .entry)) (now (sn .entry))) n))
         0 (slices (now (cx .entry)) (now (cy .entry)) (now (cs .entry)) (now (cn .entry))) r (slices (now (cx .exit)) (now (cy .exit)) (now (cs .exit)) (now (cn .exit))) ⌝ }
 {
     let mut held = 0usize;
@@ -113,7 +116,7 @@ fn add_patches(
     let mut i = 0usize;
     while i < n {
         let seed = corner_list::corner_at(sx, sy, ss, sn, i);
-        let f = add_patch(img, w, h, p, k, seed, map, cx, cy, cs, cn, held);
+        let f = add_patch(img, w, h, p, exact, k, seed, map, cx, cy, cs, cn, held);
         let Peaks::Added(m, t) = f else {
             return f;
         };
@@ -163,6 +166,7 @@ fn search_boxes<'a>(
     w: usize,
     h: usize,
     p: FrameParams,
+    exact: bool,
     n: usize,
     levels: &'a [u8],
     map: &mut [f32],
@@ -178,20 +182,37 @@ fn search_boxes<'a>(
     requires { ⌜ Ready p (now img) w h (length (now map)) ⌝ }
     requires { ⌜ BuiltLevels p (now img) w h n (now levels) ⌝ }
     requires { ⌜ 1 < n ⌝ }
-    ensures { λ r. ⌜ Searched (seedsOf p (now (img .entry)) w h (computedChoice p) n) (foundOf p (now (img .entry)) w h (computedChoice p) n)
-        (tiesFound p (now (img .entry)) w h (computedChoice p) n) (slices (now (sx .entry)) (now (sy .entry)) (now (ss .entry)) (now (sn .entry))) (slices (now (cx .entry)) (now (cy .entry)) (now (cs .entry)) (now (cn .entry))) r
+    ensures { λ r. ⌜ Searched (seedsOf p (now (img .entry)) w h (choiceOf p exact) n) (foundOf p (now (img .entry)) w h (choiceOf p exact) n)
+        (tiesFound p (now (img .entry)) w h (choiceOf p exact) n) (slices (now (sx .entry)) (now (sy .entry)) (now (ss .entry)) (now (sn .entry))) (slices (now (cx .entry)) (now (cy .entry)) (now (cs .entry)) (now (cn .entry))) r
         (slices (now (sx .exit)) (now (sy .exit)) (now (ss .exit)) (now (sn .exit))) (slices (now (cx .exit)) (now (cy .exit)) (now (cs .exit)) (now (cn .exit))) ⌝ }
 {
     let k = n - 1;
     let last = pyramid::level(img, levels, w, h, p.levels, p.minimum_side, k);
     let lw = w >> k;
     let lh = h >> k;
-    let f = patch_corners::add_patch_corners(last, lw, lh, p, 0, 0, lw, lh, map, sx, sy, ss, sn, 0);
+    let f = patch_corners::add_patch_corners(
+        last,
+        lw,
+        lh,
+        p,
+        exact,
+        0,
+        0,
+        lw,
+        lh,
+        map,
+        sx,
+        sy,
+        ss,
+        sn,
+        0,
+    );
     let g = add_patches(
         img,
         w,
         h,
         p,
+        exact,
         k,
         sx,
         sy,
@@ -213,6 +234,7 @@ pub(crate) fn search<'a>(
     w: usize,
     h: usize,
     p: FrameParams,
+    exact: bool,
     n: usize,
     levels: &'a [u8],
     map: &mut [f32],
@@ -227,16 +249,49 @@ pub(crate) fn search<'a>(
 ) -> Lists
     requires { ⌜ Ready p (now img) w h (length (now map)) ⌝ }
     requires { ⌜ BuiltLevels p (now img) w h n (now levels) ⌝ }
-    ensures { λ r. ⌜ Searched (seedsOf p (now (img .entry)) w h (computedChoice p) n) (foundOf p (now (img .entry)) w h (computedChoice p) n)
-        (tiesFound p (now (img .entry)) w h (computedChoice p) n) (slices (now (sx .entry)) (now (sy .entry)) (now (ss .entry)) (now (sn .entry))) (slices (now (cx .entry)) (now (cy .entry)) (now (cs .entry)) (now (cn .entry))) r
+    ensures { λ r. ⌜ Searched (seedsOf p (now (img .entry)) w h (choiceOf p exact) n) (foundOf p (now (img .entry)) w h (choiceOf p exact) n)
+        (tiesFound p (now (img .entry)) w h (choiceOf p exact) n) (slices (now (sx .entry)) (now (sy .entry)) (now (ss .entry)) (now (sn .entry))) (slices (now (cx .entry)) (now (cy .entry)) (now (cs .entry)) (now (cn .entry))) r
         (slices (now (sx .exit)) (now (sy .exit)) (now (ss .exit)) (now (sn .exit))) (slices (now (cx .exit)) (now (cy .exit)) (now (cs .exit)) (now (cn .exit))) ⌝ }
 {
     if n == 0 {
         return lists_of(Peaks::Added(0, 0), Peaks::Added(0, 0));
     }
     if n == 1 {
-        let f = patch_corners::add_patch_corners(img, w, h, p, 0, 0, w, h, map, cx, cy, cs, cn, 0);
+        let f = patch_corners::add_patch_corners(
+            img,
+            w,
+            h,
+            p,
+            exact,
+            0,
+            0,
+            w,
+            h,
+            map,
+            cx,
+            cy,
+            cs,
+            cn,
+            0,
+        );
         return lists_of(Peaks::Added(0, 0), f);
     }
-    search_boxes(img, w, h, p, n, levels, map, sx, sy, ss, sn, cx, cy, cs, cn)
+    search_boxes(
+        img,
+        w,
+        h,
+        p,
+        exact,
+        n,
+        levels,
+        map,
+        sx,
+        sy,
+        ss,
+        sn,
+        cx,
+        cy,
+        cs,
+        cn,
+    )
 }

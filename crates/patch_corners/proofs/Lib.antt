@@ -7,3 +7,4 @@ pub mod Centring
 pub mod Adding
 pub mod Patches
 pub mod Moving
+pub mod Choices

@@ -1,14 +1,14 @@
 -- What the private functions promise.
 use Prim.Native.Nat.{ℕ, _+_}
 use mathlib.Core.Path.{_≡_}
-use mathlib.Core.Bool.{true}
+use mathlib.Core.Bool.{Bool, true}
 use mathlib.Core.List.{List, map}
 use lib.Ieee.{Float}
 use Rattle.lists.specs.Tab.{tab}
 use Rattle.corner_list.specs.CornerList.{Slices, cornerAt, placedCorners}
 use Rattle.corner_list.specs.declared.Corner.{Corner}
 use Rattle.detect.specs.declared.Search.{Search}
-use Rattle.detect.specs.Detect.{searchOf, startsIn, tiesIn}
+use Rattle.detect.specs.Detect.{searchBy, startsIn, tiesIn}
 use Rattle.center_of_mass.specs.declared.Outcome.{Outcome}
 use Rattle.center_of_mass.specs.declared.Outcome.the-variants.{Accepted, Rejected, OutOfBounds, IllConditioned, Refused}
 use Rattle.center_of_mass.specs.CenterOfMass.{refined}
@@ -31,11 +31,11 @@ unfoldable pub centred : ℕ → List Float → ℕ → ℕ → Corner → Corne
 centred radius m w h c = landing (refined radius (c .x) (c .y) true m w h) c
 
 -- the peaks of a map of w by h, each so, and their ties: `add_peaks`
-abbrev pub searchWith : FrameParams → ℕ → ℕ → Search
-searchWith p w h = searchOf w h (p .ring) (p .threshold) (p .window) (p .«least_neighbours») (p .«centroid_radius»)
+abbrev pub searchWith : FrameParams → Bool → ℕ → ℕ → Search
+searchWith p exact w h = searchBy exact w h (p .ring) (p .threshold) (p .window) (p .«least_neighbours») (p .«centroid_radius»)
 
-abbrev pub centresIn : FrameParams → List Float → ℕ → ℕ → List Corner
-centresIn p m w h = map (centred (p .«centroid_radius») m w h) (startsIn m (searchWith p w h))
+abbrev pub centresIn : FrameParams → Bool → List Float → ℕ → ℕ → List Corner
+centresIn p exact m w h = map (centred (p .«centroid_radius») m w h) (startsIn m (searchWith p exact w h))
 
-abbrev pub tiesWith : FrameParams → List Float → ℕ → ℕ → ℕ
-tiesWith p m w h = tiesIn m (searchWith p w h)
+abbrev pub tiesWith : FrameParams → Bool → List Float → ℕ → ℕ → ℕ
+tiesWith p exact m w h = tiesIn m (searchWith p exact w h)

@@ -1,7 +1,7 @@
 -- The corners of one map of a frame, by a choice of its peaks (RULES 9.2): the program's choice (4) and the exact one (10.1) are two of them.
 use Prim.Native.Nat.{ℕ}
 use mathlib.Core.Path.{_≡_}
-use mathlib.Core.Bool.{true}
+use mathlib.Core.Bool.{Bool, true, false}
 use mathlib.Core.Logic.{_⊎_}
 use mathlib.Core.List.{List, [], _∷_, map}
 use lib.Ieee.{binary32, add}
@@ -48,6 +48,11 @@ module _ (p : FrameParams) where
   -- and by exact values: "each map's peaks are its exact list" (RULES 10.1)
   abbrev pub exactChoice : Choice
   exactChoice v = exactPeaks (λ q. fifthsIn v (q .x) (q .y)) (searchOn v)
+
+  -- by computed or by exact values, as a flag says (RULES 34.1)
+  abbrev pub choiceOf : Bool → Choice
+  choiceOf false = computedChoice
+  choiceOf true = exactChoice
 
   -- by one of the two
   abbrev pub IsChoice : Choice → Type 0

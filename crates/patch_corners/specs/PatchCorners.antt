@@ -14,7 +14,7 @@ use Rattle.corner_list.specs.CornerList.{Slices, placesOf, placedCorners}
 use Rattle.detect.specs.declared.Peaks.{Peaks}
 use Rattle.detect.specs.Detect.{conditions, refusalOf, numberOf, valuesOf}
 use Rattle.patch_corners.specs.declared.FrameParams.{FrameParams}
-use Rattle.patch_corners.specs.OneMap.{computedChoice, cornersIn, tiesOn}
+use Rattle.patch_corners.specs.OneMap.{choiceOf, cornersIn, tiesOn}
 use Rattle.patch_corners.specs.Clearing.{clearedFrom, leftBy}
 use Rattle.detect.specs.declared.Peaks.the-variants.{Added, Refused}
 use mathlib.Core.Bool.{Bool}
@@ -40,6 +40,6 @@ pub record BoxAdded (p : FrameParams) (v : View) (cs : List Corner) (ties held :
   pub map : d′ ≡ leftBy (refusalOn p v cs held d b) (front (cells v) d) (wipedFrom 0 zero d) d
   pub corners : b′ ≡ leftBy (refusalOn p v cs held d b) (placedCorners held cs b) (clearedFrom 0 b) b
 
--- What `add_patch_corners` promises: so of the corners of the box's map, by the map's columns and rows
-abbrev pub AddedCorners : FrameParams → View → ℕ → List Float → Slices → Peaks → List Float → Slices → Type 0
-AddedCorners p v = BoxAdded p v (cornersIn p (computedChoice p) v) (tiesOn p (computedChoice p) v)
+-- What `add_patch_corners` promises: so of the corners of the box's map, by the choice that is asked for, by the map's columns and rows
+abbrev pub AddedCorners : FrameParams → Bool → View → ℕ → List Float → Slices → Peaks → List Float → Slices → Type 0
+AddedCorners p exact v = BoxAdded p v (cornersIn p (choiceOf p exact) v) (tiesOn p (choiceOf p exact) v)

@@ -13,6 +13,7 @@ pub fn add_box_corners(
     w: usize,
     h: usize,
     p: FrameParams,
+    exact: bool,
     x0: usize,
     y0: usize,
     x1: usize,
@@ -24,7 +25,7 @@ pub fn add_box_corners(
     neighbours: &mut [u32],
     held: usize,
 ) -> Peaks
-    ensures { λ r. ⌜ AddedBox p (record { img = now (img .entry); w = w; h = h; ring = ringOf (p .ring); x0 = x0; y0 = y0; x1 = x1; y1 = y1 })
+    ensures { λ r. ⌜ AddedBox p exact (record { img = now (img .entry); w = w; h = h; ring = ringOf (p .ring); x0 = x0; y0 = y0; x1 = x1; y1 = y1 })
         held (now (map .entry)) (slices (now (xs .entry)) (now (ys .entry)) (now (strengths .entry)) (now (neighbours .entry)))
         r (now (map .exit)) (slices (now (xs .exit)) (now (ys .exit)) (now (strengths .exit)) (now (neighbours .exit))) ⌝ }
 {
@@ -33,6 +34,7 @@ pub fn add_box_corners(
         w,
         h,
         p,
+        exact,
         x0,
         y0,
         x1,

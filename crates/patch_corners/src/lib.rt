@@ -29,22 +29,23 @@ pub struct FrameParams {
     pub search_radius: u32,
 }
 
-// Adds the peaks of a map of w by h, at their centres of mass, behind the first `held` of a buffer.
+// Adds the peaks of a map of w by h, by computed or by exact values, at their centres of mass, behind the first `held` of a buffer.
 fn add_peaks(
     map: &[f32],
     w: usize,
     h: usize,
     p: FrameParams,
+    exact: bool,
     xs: &mut [f32],
     ys: &mut [f32],
     strengths: &mut [f32],
     neighbours: &mut [u32],
     held: usize,
 ) -> Peaks
-    ensures { λ r. ⌜ PeaksAdded (conditions (length (now (map .entry))) w h (p .ring) (p .window) (p .«centroid_radius»)) (centresIn p (now (map .entry)) w h)
-        (tiesWith p (now (map .entry)) w h) held (slices (now (xs .entry)) (now (ys .entry)) (now (strengths .entry)) (now (neighbours .entry))) r (slices (now (xs .exit)) (now (ys .exit)) (now (strengths .exit)) (now (neighbours .exit))) ⌝ }
+    ensures { λ r. ⌜ PeaksAdded (conditions (length (now (map .entry))) w h (p .ring) (p .window) (p .«centroid_radius»)) (centresIn p exact (now (map .entry)) w h)
+        (tiesWith p exact (now (map .entry)) w h) held (slices (now (xs .entry)) (now (ys .entry)) (now (strengths .entry)) (now (neighbours .entry))) r (slices (now (xs .exit)) (now (ys .exit)) (now (strengths .exit)) (now (neighbours .exit))) ⌝ }
 {
-    let f = detect::detect_peaks_from_response_with_refine_radius(
+    let f = detect::find_peaks(
         map,
         w,
         h,
@@ -53,6 +54,7 @@ fn add_peaks(
         p.window,
         p.least_neighbours,
         p.centroid_radius,
+        exact,
         xs,
         ys,
         strengths,
@@ -78,12 +80,14 @@ fn add_peaks(
 }
 
 // Adds the corners of a box of an image of w by h, the columns x0 up to, not including, x1 of the rows y0 up to y1, behind the
-// first `held` of a buffer. The box's map stands first in the map buffer; where the corners do not fit, both buffers are cleared.
+// first `held` of a buffer, their peaks chosen by computed or by exact values. The box's map stands first in the map buffer; where the corners do not
+// fit, both buffers are cleared.
 pub fn add_patch_corners(
     img: &[u8],
     w: usize,
     h: usize,
     p: FrameParams,
+    exact: bool,
     x0: usize,
     y0: usize,
     x1: usize,
@@ -95,7 +99,7 @@ pub fn add_patch_corners(
     neighbours: &mut [u32],
     held: usize,
 ) -> Peaks
-    ensures { λ r. ⌜ AddedCorners p (record { img = now (img .entry); w = w; h = h; ring = ringOf (p .ring); x0 = x0; y0 = y0; x1 = x1; y1 = y1 })
+    ensures { λ r. ⌜ AddedCorners p exact (record { img = now (img .entry); w = w; h = h; ring = ringOf (p .ring); x0 = x0; y0 = y0; x1 = x1; y1 = y1 })
         held (now (map .entry)) (slices (now (xs .entry)) (now (ys .entry)) (now (strengths .entry)) (now (neighbours .entry)))
         r (now (map .exit)) (slices (now (xs .exit)) (now (ys .exit)) (now (strengths .exit)) (now (neighbours .exit))) ⌝ }
 {
@@ -113,6 +117,7 @@ pub fn add_patch_corners(
         pw,
         ph,
         p,
+        exact,
         xs,
         ys,
         strengths,

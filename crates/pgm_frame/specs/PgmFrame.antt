@@ -6,10 +6,11 @@ use mathlib.Core.List.{List, [], _∷_}
 use lib.ListN.{length}
 use Rattle.lists.specs.Refusals.{valuesUnless, unless, resultOr}
 use Rattle.patch_corners.specs.declared.FrameParams.{FrameParams}
-use Rattle.frame_pass.specs.Pass.{Pass}
+use Rattle.patch_corners.specs.OneMap.{Choice}
+use Rattle.frame_pass.specs.Pass.{Pass, framePass}
 use Rattle.frame.specs.declared.FrameAnswer.{FrameAnswer}
 use Rattle.frame.specs.declared.FrameAnswer.the-variants.{Corners, Refused}
-use Rattle.frame.specs.Frame.{Buffers, passOf, buffersAfter, numberOf, valuesOf}
+use Rattle.frame.specs.Frame.{Buffers, buffersAfter, numberOf, valuesOf}
 use Rattle.frame.specs.Frame as frames
 use Rattle.pgm.specs.Header.{widthOf, heightOf}
 use Rattle.pgm.specs.Pgm.{pixelsIn}
@@ -20,19 +21,19 @@ abbrev pub firstOf : ℕ → ℕ → ℕ
 firstOf zero n = n
 firstOf (suc k) n = suc k
 
-module _ (p : FrameParams) (upload : List ℕ) (b : Buffers) where
+module _ (choose : Choice) (p : FrameParams) (upload : List ℕ) where
+  -- the pass over the pixels of an upload
+  abbrev pub passOn : Pass
+  passOn = framePass p (pixelsIn upload) (widthOf upload) (heightOf upload) choose
+
   -- "1 .., then 12, then 13, all before 2": the upload's number, then that of the frame of its pixels
-  unfoldable pub refusalOf : ℕ
-  refusalOf = firstOf (pgm.refusalOf upload) (frames.refusalOf p (pixelsIn upload) (widthOf upload) (heightOf upload) b)
+  unfoldable pub refusalOf : Buffers → ℕ
+  refusalOf b = firstOf (pgm.refusalOf upload) (frames.refusalOf choose p (pixelsIn upload) (widthOf upload) (heightOf upload) b)
 
--- the pass over the pixels of an upload
-abbrev pub passOn : FrameParams → List ℕ → Pass
-passOn p upload = passOf p (pixelsIn upload) (widthOf upload) (heightOf upload)
-
--- what `find_pgm_corners` promises of the answer, its number and values, and the buffers after: as the frame of the upload's pixels leaves them; a
--- refusal of the upload changes none
-pub record PhotographFound (p : FrameParams) (upload : List ℕ) (b : Buffers) (r : FrameAnswer) (b′ : Buffers) : Type 0 where
-  pub answer : r ≡ unless Refused (refusalOf p upload b) (Corners (length (passOn p upload .corners)) (passOn p upload .ties))
-  pub number : numberOf r ≡ refusalOf p upload b
-  pub values : valuesOf r ≡ valuesUnless (refusalOf p upload b) (length (passOn p upload .corners) ∷ passOn p upload .ties ∷ [])
-  pub left : b′ ≡ resultOr (pgm.refusalOf upload) (buffersAfter p (pixelsIn upload) (widthOf upload) (heightOf upload) b) b
+  -- What is promised of the frame of an upload by a choice of peaks: the answer, its number and values, and the buffers after, as the frame of the upload's
+  -- pixels leaves them; a refusal of the upload changes none
+  pub record PhotographFound (b : Buffers) (r : FrameAnswer) (b′ : Buffers) : Type 0 where
+    pub answer : r ≡ unless Refused (refusalOf b) (Corners (length (passOn .corners)) (passOn .ties))
+    pub number : numberOf r ≡ refusalOf b
+    pub values : valuesOf r ≡ valuesUnless (refusalOf b) (length (passOn .corners) ∷ passOn .ties ∷ [])
+    pub left : b′ ≡ resultOr (pgm.refusalOf upload) (buffersAfter choose p (pixelsIn upload) (widthOf upload) (heightOf upload) b) b

@@ -1,12 +1,61 @@
 // The corners of an uploaded photograph: the frame pass on its pixels.
 ghost use Rattle.corner_list.specs.CornerList.{slices};
+ghost use Rattle.patch_corners.specs.OneMap.{choiceOf, computedChoice, exactChoice};
 ghost use Rattle.frame.specs.Frame.{buffers};
 ghost use Rattle.pgm_frame.specs.PgmFrame.{PhotographFound};
 use frame::FrameAnswer;
+use frame::find_corners_by;
 use patch_corners::FrameParams;
 use pgm::PgmImage;
 
-// Finds the corners of a binary PGM photograph, as `find_corners` does of its pixels.
+// Finds the corners of a binary PGM photograph, as `find_corners_by` does of its pixels.
+pub fn find_pgm_corners_by(
+    upload: &[u8],
+    p: FrameParams,
+    exact: bool,
+    map: &mut [f32],
+    levels: &mut [u8],
+    sx: &mut [f32],
+    sy: &mut [f32],
+    ss: &mut [f32],
+    sn: &mut [u32],
+    cx: &mut [f32],
+    cy: &mut [f32],
+    cs: &mut [f32],
+    cn: &mut [u32],
+) -> FrameAnswer
+    ensures { λ r. ⌜ PhotographFound (choiceOf p exact) p (now (upload .entry))
+        (buffers (now (map .entry)) (now (levels .entry)) (slices (now (sx .entry)) (now (sy .entry)) (now (ss .entry)) (now (sn .entry))) (slices (now (cx .entry)) (now (cy .entry)) (now (cs .entry)) (now (cn .entry))))
+        r
+        (buffers (now (map .exit)) (now (levels .exit)) (slices (now (sx .exit)) (now (sy .exit)) (now (ss .exit)) (now (sn .exit))) (slices (now (cx .exit)) (now (cy .exit)) (now (cs .exit)) (now (cn .exit)))) ⌝ }
+{
+    let image = pgm::read_pgm(upload);
+    match image {
+        PgmImage::Refused(n) => FrameAnswer::Refused(n),
+        PgmImage::Pixels { at: _, w, h } => {
+            let pixels = pgm::pgm_pixels(upload);
+            find_corners_by(
+                pixels,
+                w,
+                h,
+                p,
+                exact,
+                map,
+                levels,
+                sx,
+                sy,
+                ss,
+                sn,
+                cx,
+                cy,
+                cs,
+                cn,
+            )
+        }
+    }
+}
+
+// The corners by computed values, as `find_corners` finds them.
 pub fn find_pgm_corners(
     upload: &[u8],
     p: FrameParams,
@@ -21,17 +70,47 @@ pub fn find_pgm_corners(
     cs: &mut [f32],
     cn: &mut [u32],
 ) -> FrameAnswer
-    ensures { λ r. ⌜ PhotographFound p (now (upload .entry))
+    ensures { λ r. ⌜ PhotographFound (computedChoice p) p (now (upload .entry))
         (buffers (now (map .entry)) (now (levels .entry)) (slices (now (sx .entry)) (now (sy .entry)) (now (ss .entry)) (now (sn .entry))) (slices (now (cx .entry)) (now (cy .entry)) (now (cs .entry)) (now (cn .entry))))
         r
         (buffers (now (map .exit)) (now (levels .exit)) (slices (now (sx .exit)) (now (sy .exit)) (now (ss .exit)) (now (sn .exit))) (slices (now (cx .exit)) (now (cy .exit)) (now (cs .exit)) (now (cn .exit)))) ⌝ }
 {
-    let image = pgm::read_pgm(upload);
-    match image {
-        PgmImage::Refused(n) => FrameAnswer::Refused(n),
-        PgmImage::Pixels { at: _, w, h } => {
-            let pixels = pgm::pgm_pixels(upload);
-            frame::find_corners(pixels, w, h, p, map, levels, sx, sy, ss, sn, cx, cy, cs, cn)
-        }
-    }
+    find_pgm_corners_by(
+        upload,
+        p,
+        false,
+        map,
+        levels,
+        sx,
+        sy,
+        ss,
+        sn,
+        cx,
+        cy,
+        cs,
+        cn,
+    )
+}
+
+// The corners by exact values, as `find_exact_corners` finds them.
+pub fn find_exact_pgm_corners(
+    upload: &[u8],
+    p: FrameParams,
+    map: &mut [f32],
+    levels: &mut [u8],
+    sx: &mut [f32],
+    sy: &mut [f32],
+    ss: &mut [f32],
+    sn: &mut [u32],
+    cx: &mut [f32],
+    cy: &mut [f32],
+    cs: &mut [f32],
+    cn: &mut [u32],
+) -> FrameAnswer
+    ensures { λ r. ⌜ PhotographFound (exactChoice p) p (now (upload .entry))
+        (buffers (now (map .entry)) (now (levels .entry)) (slices (now (sx .entry)) (now (sy .entry)) (now (ss .entry)) (now (sn .entry))) (slices (now (cx .entry)) (now (cy .entry)) (now (cs .entry)) (now (cn .entry))))
+        r
+        (buffers (now (map .exit)) (now (levels .exit)) (slices (now (sx .exit)) (now (sy .exit)) (now (ss .exit)) (now (sn .exit))) (slices (now (cx .exit)) (now (cy .exit)) (now (cs .exit)) (now (cn .exit)))) ⌝ }
+{
+    find_pgm_corners_by(upload, p, true, map, levels, sx, sy, ss, sn, cx, cy, cs, cn)
 }

@@ -1,22 +1,22 @@
-//! against N SEED [FOLDER]: as oracle_compare, with our corner finder linked in instead of a process for each stream; and N frames of the
-//! library, in buffers of every size, each of which is compared afterwards; N maps that are asked for enough peaks; N pixels that are changed; N pairs
-//! of images, a low and a high value for each pixel; N lists of which corners are struck; N that are merged apart; and N that are merged by distance
-//! alone.
+//! against N SEED [FOLDER]: as oracle_compare, with our corner finder linked in instead of a process for each stream.
+//! Besides: N frames of the library, in buffers of every size, each of which is compared afterwards; N by the exact
+//! choice, likewise, and some uploads; N maps that are asked for enough peaks; N pixels that are changed; N pairs of
+//! images, a low and a high value for each pixel; N lists of which corners are struck; N that are merged apart; and N
+//! that are merged by distance alone.
 mod apart;
+mod exact;
+mod frames;
 mod limits;
 mod merging;
 mod retouching;
 mod striking;
 
-use oracle::buffers::Buffers;
 use oracle::compare::{cases, run, run_enough, run_library};
-use oracle::generate::refused_frames::Case;
 use oracle::refusal::Refusal;
-use oracle::sample::library::Left;
 use oracle::sample::peaks;
 use std::path::Path;
 use std::process::ExitCode;
-use zakdomp::raw::{zakdomp_corners, zakdomp_find_corners, zakdomp_has_peaks, LONGEST};
+use zakdomp::raw::{zakdomp_corners, zakdomp_has_peaks, LONGEST};
 
 fn answer(stream: &[u8]) -> Vec<u8> {
     let mut output = vec![0; LONGEST];
@@ -24,53 +24,6 @@ fn answer(stream: &[u8]) -> Vec<u8> {
     let length = unsafe { zakdomp_corners(stream.as_ptr(), stream.len(), output.as_mut_ptr()) };
     output.truncate(length);
     output
-}
-
-fn left(case: &Case) -> Left {
-    let p = &case.params;
-    let mut b = Buffers::before(&case.sizes);
-    let (mut count, mut ties) = (0, 0);
-    // SAFETY: every slice is whole, none overlaps another, and the call keeps none.
-    let number = unsafe {
-        zakdomp_find_corners(
-            case.pixels.as_ptr(),
-            case.pixels.len(),
-            case.width,
-            case.height,
-            p.ring,
-            p.threshold,
-            p.window,
-            p.least,
-            p.centroid,
-            p.merge,
-            p.levels,
-            p.minimum as usize,
-            p.search,
-            b.map.as_mut_ptr(),
-            b.map.len(),
-            b.levels.as_mut_ptr(),
-            b.levels.len(),
-            b.seeds.x.as_mut_ptr(),
-            b.seeds.x.len(),
-            b.seeds.y.as_mut_ptr(),
-            b.seeds.y.len(),
-            b.seeds.strength.as_mut_ptr(),
-            b.seeds.strength.len(),
-            b.seeds.neighbours.as_mut_ptr(),
-            b.seeds.neighbours.len(),
-            b.corners.x.as_mut_ptr(),
-            b.corners.x.len(),
-            b.corners.y.as_mut_ptr(),
-            b.corners.y.len(),
-            b.corners.strength.as_mut_ptr(),
-            b.corners.strength.len(),
-            b.corners.neighbours.as_mut_ptr(),
-            b.corners.neighbours.len(),
-            &mut count,
-            &mut ties,
-        )
-    };
-    Left { number: number.into(), count, ties, buffers: b }
 }
 
 fn enough(case: &peaks::Case, wanted: usize) -> Result<(bool, usize), Refusal> {
@@ -107,7 +60,9 @@ fn main() -> ExitCode {
     let (count, seed) = (number(0), number(1));
     let folder = words.get(2).map_or("differing", String::as_str);
     let folder = Path::new(folder);
-    let frames = run(cases(count, seed), folder, answer).and(run_library(count, seed, folder, left));
+    let frames = run(cases(count, seed), folder, answer)
+        .and(run_library(count, seed, folder, frames::computed))
+        .and(exact::run(count, seed, folder));
     let maps =
         run_enough(count, seed, enough).and(retouching::run(count, seed)).and(limits::run(count, seed));
     let lists = striking::run(count, seed).and(apart::run(count, seed)).and(merging::run(count, seed));

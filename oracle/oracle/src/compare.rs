@@ -4,6 +4,7 @@ use crate::generate::frames::{damaged_stream, random_stream};
 use crate::generate::refused_frames::Case as Frame;
 use crate::generate::{hunted, refused_streams};
 use crate::params::Params;
+use crate::pass::{Steps, STEPS};
 use crate::peaks::{has_peaks, peaks_of};
 use crate::program::corners;
 use crate::refusal::Refusal;
@@ -64,21 +65,33 @@ fn keep(folder: &Path, case: &Case, due: &[u8], got: &[u8]) {
     }
 }
 
-/// Runs `answer` on `count` random frames of the library. Their ties are compared too, and kept in no file. Of a differing one two files of one record (SAMPLE.md, kind 2) are left in
-/// `folder`: NAME.due.bin with what the oracle leaves, for a replay, and NAME.got.bin.
-pub fn run_library(count: u64, seed: u64, folder: &Path, mut answer: impl FnMut(&Frame) -> Left) -> Tally {
-    let record = |case: &Frame, left: &Left| {
-        let mut file = File::new("library.bin");
-        put(&mut file, case, left);
-        file.finished()
-    };
+/// Runs `answer` on `count` random frames of the library.
+pub fn run_library(count: u64, seed: u64, folder: &Path, answer: impl FnMut(&Frame) -> Left) -> Tally {
+    let cases = (0..count).map(|number| (format!("library-{seed}-{number}"), random(seed, number)));
+    run_frames(cases, &STEPS, folder, answer)
+}
+
+/// A frame and what is left of it, all but the ties, as a file of one record (SAMPLE.md, kind 2).
+pub fn record(case: &Frame, left: &Left) -> Vec<u8> {
+    let mut file = File::new("library.bin");
+    put(&mut file, case, left);
+    file.finished()
+}
+
+/// Runs `answer` on frames of the library, each with a name, and holds it to what the oracle leaves by some steps. Their
+/// ties are compared too, and kept in no file. Of a differing one two records are left in `folder`: NAME.due.bin with
+/// what the oracle leaves, and NAME.got.bin. A replay of them is by the computed choice, whichever it was here.
+pub fn run_frames(
+    cases: impl Iterator<Item = (String, Frame)>,
+    steps: &Steps,
+    folder: &Path,
+    mut answer: impl FnMut(&Frame) -> Left,
+) -> Tally {
     let mut tally = Tally::default();
-    for number in 0..count {
-        let case = random(seed, number);
-        let (due, got) = (due(&case), answer(&case));
+    for (name, case) in cases {
+        let (due, got) = (due(&case, steps), answer(&case));
         let ties_alike = due.ties == got.ties;
         let (due, got) = (record(&case, &due), record(&case, &got));
-        let name = format!("library-{seed}-{number}");
         if got != due {
             fs::create_dir_all(folder).expect("a folder for differing frames");
             for (ending, bytes) in [("due", &due), ("got", &got)] {

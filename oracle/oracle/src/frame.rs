@@ -2,7 +2,7 @@
 use crate::buffers::Buffers;
 use crate::image::Image;
 use crate::params::Params;
-use crate::pass::{pass, Lists, Places, Steps, STEPS, UNLIMITED};
+use crate::pass::{pass, Lists, Places, Steps, UNLIMITED};
 use crate::pyramid::{levels_of, pixels_above};
 use crate::refusal::{refuse_if, Refusal, LEVELS_SHORT, MAP_SHORT};
 use box_image_pyramid::PyramidBuffers;
@@ -10,13 +10,22 @@ use chess_corners::multiscale::visible::detect;
 use chess_corners::DetectorConfig;
 use chess_corners_core::{Corner, ImageView};
 
-/// Finds the corners of a frame: how many stand in their buffer, or refusal 1, 2, 3, 5, 8, 9 or 10.
+/// What a finished frame answers (RULES 9.6): how many corners stand in their buffer, and the ties.
+#[derive(Clone, Copy, Debug, Default, PartialEq, Eq)]
+pub struct Found {
+    pub count: usize,
+    pub ties: u64,
+}
+
+/// Finds the corners of a frame, or gives refusal 1, 2, 3, 5, 8, 9 or 10. With the steps of RULES 9 it is the computed
+/// frame, with those of [`crate::exact`] the exact one; refusals and buffers are the same for both.
 pub fn find_corners(
     image: Image,
     params: &Params,
     buffers: &mut Buffers,
     largest_side: usize,
-) -> Result<usize, Refusal> {
+    steps: &Steps,
+) -> Result<Found, Refusal> {
     image.check(largest_side)?;
     params.check()?;
     refuse_if(buffers.map.len() < image.width * image.height, MAP_SHORT)?;
@@ -25,13 +34,13 @@ pub fn find_corners(
     let above = pixels_above(&pyramid);
     refuse_if(buffers.levels.len() < above.len(), LEVELS_SHORT)?;
     let places = Places { seeds: buffers.seeds.places(), corners: buffers.corners.places() };
-    let lists = pass(&pyramid.levels, params, places, &STEPS).inspect_err(|_| buffers.clear())?;
-    let (of_seeds, of_corners) = lists.neighbours(params, &STEPS);
+    let lists = pass(&pyramid.levels, params, places, steps).inspect_err(|_| buffers.clear())?;
+    let (of_seeds, of_corners) = lists.neighbours(params, steps);
     buffers.map.fill(0.0);
     buffers.levels[..above.len()].copy_from_slice(&above);
     buffers.seeds.hold_only(&lists.seeds, &of_seeds);
     buffers.corners.hold_only(&lists.corners, &of_corners);
-    Ok(lists.corners.len())
+    Ok(Found { count: lists.corners.len(), ties: lists.ties(params, steps) })
 }
 
 /// Calls `f` with the lists of a frame that has sides, length and parameters in order, its buffers never short.
@@ -60,17 +69,20 @@ pub fn by_orchestrator(image: Image, params: &Params) -> Vec<Corner> {
 mod tests {
     use super::*;
     use crate::buffers::{bytes_before, floats_before, words_before, Sizes};
+    use crate::exact::EXACT;
+    use crate::generate::hunted::{Road, FOUND};
     use crate::generate::images::whole_case;
     use crate::params::PLAIN;
-    use crate::refusal::LARGEST_SIDE;
+    use crate::pass::STEPS;
+    use crate::refusal::{LARGEST_SIDE, LIST_SHORT};
 
     /// The whole case in a frame of two levels, of which only the base has a corner, or of one.
-    fn find(levels: u32, sizes: &Sizes) -> (Result<usize, Refusal>, Buffers) {
+    fn find(levels: u32, sizes: &Sizes) -> (Result<Found, Refusal>, Buffers) {
         let mut buffers = Buffers::before(sizes);
         let pixels = whole_case();
         let image = Image { pixels: &pixels, width: 11, height: 11 };
         let params = Params { merge: 3.0, levels, ..PLAIN };
-        (find_corners(image, &params, &mut buffers, LARGEST_SIDE), buffers)
+        (find_corners(image, &params, &mut buffers, LARGEST_SIDE, &STEPS), buffers)
     }
 
     const SIZES: Sizes = Sizes { map: 122, levels: 27, seeds: [1, 2, 3, 2], corners: [3, 2, 4, 5] };
@@ -78,7 +90,7 @@ mod tests {
     #[test]
     fn a_finished_frame_leaves_its_lists_and_zeros() {
         let (answer, buffers) = find(1, &SIZES);
-        assert_eq!(answer, Ok(1));
+        assert_eq!(answer, Ok(Found { count: 1, ties: 0 }));
         assert_eq!(buffers.map, [0.0; 122]);
         assert_eq!(buffers.levels, bytes_before(27));
         assert_eq!(buffers.seeds.strength, [0.0; 3]);
@@ -90,7 +102,7 @@ mod tests {
     #[test]
     fn levels_stand_first_and_the_rest_is_as_before() {
         let (answer, buffers) = find(2, &SIZES);
-        assert_eq!(answer, Ok(0));
+        assert_eq!(answer, Ok(Found::default()));
         assert_eq!(buffers.levels[25..], bytes_before(27)[25..]);
         assert_ne!(buffers.levels[..25], bytes_before(27)[..25]);
     }
@@ -107,5 +119,27 @@ mod tests {
         assert_eq!(buffers.map, floats_before(120));
         assert_eq!(buffers.corners.x, floats_before(3));
         assert_eq!(buffers.corners.neighbours, words_before(5));
+    }
+
+    /// Frames whose exact list has more corners: places for the computed ones alone are too few.
+    #[test]
+    fn the_exact_frame_has_buffers_of_its_own_need() {
+        for (road, number) in FOUND.into_iter().filter(|&(road, _)| road == Road::EqualFifths) {
+            let upload = road.frame(number);
+            let (image, params) = (upload.image(), &upload.params);
+            let need = |steps| with_lists(image, params, steps, |lists| lists.found.len());
+            let (fewer, all) = (need(&STEPS), need(&EXACT));
+            assert!(fewer < all);
+            let find = |places, steps| {
+                let sizes = Sizes { map: upload.pixels.len(), corners: [places; 4], ..Sizes::default() };
+                let mut buffers = Buffers::before(&sizes);
+                let answer = find_corners(image, params, &mut buffers, LARGEST_SIDE, steps);
+                (answer.map(|found| found.count), buffers)
+            };
+            assert_eq!(find(fewer, &STEPS).0, Ok(fewer));
+            assert_eq!(find(all, &EXACT).0, Ok(all));
+            let (short, buffers) = find(fewer, &EXACT);
+            assert_eq!((short, buffers.corners.x), (Err(LIST_SHORT), vec![0.0; fewer]));
+        }
     }
 }

@@ -23,7 +23,7 @@ impl View<'_> {
 }
 
 /// The steps that the exact pass and the wrong roads exchange.
-#[derive(Clone, Copy)]
+#[derive(Clone, Copy, Debug)]
 pub struct Steps {
     pub peaks: fn(&View, &ResponseMap, &Params) -> Vec<Corner>,
     pub boxes: fn(Image, f32, &Params, &[Corner]) -> Boxes,

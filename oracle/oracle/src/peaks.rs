@@ -19,9 +19,13 @@ fn count_about(map: &ResponseMap, window: u32, peak: &Corner, is: impl Fn(f32) -
     cells.filter(|&(u, v)| (u, v) != (x, y) && is(map.at(u, v))).count()
 }
 
-/// How many cells of its window equal a peak (RULES 23.1).
+/// How many cells of its window equal a peak; none where one is larger (RULES 23.1), as about a peak that only the
+/// exact choice has.
 pub fn ties_at(map: &ResponseMap, window: u32, peak: &Corner) -> u64 {
     let value = map.at(peak.x as usize, peak.y as usize);
+    if count_about(map, window, peak, |cell| cell > value) > 0 {
+        return 0;
+    }
     count_about(map, window, peak, |cell| cell == value) as u64
 }
 
@@ -65,4 +69,16 @@ pub fn has_peaks(
     let last = wanted.checked_sub(1).map(|place| list.get(place));
     let rows = last.map_or(0, |peak| peak.map_or(inside, |corner| corner.y as usize - border + 1));
     Ok((wanted <= list.len(), rows))
+}
+
+#[cfg(test)]
+mod tests {
+    use super::*;
+
+    #[test]
+    fn a_beaten_cell_has_no_ties() {
+        let map = ResponseMap::new(4, 1, vec![2.0, 2.0, 3.0, 3.0]);
+        let ties = |x: f32| ties_at(&map, 1, &Corner::new(x, 0.0, 0.0));
+        assert_eq!([0.0, 1.0, 2.0, 3.0].map(ties), [1, 0, 1, 1]);
+    }
 }

@@ -9,11 +9,11 @@ add-border c = search needs
 add-border-2 : tie.Need-add-border-2
 add-border-2 c = search needs
 
-lifted-requires : tie.Need-lifted-requires
-lifted-requires c κs = search needs
+threshold-of-requires : tie.Need-threshold-of-requires
+threshold-of-requires c κs = search needs
 
 returns : tie.Need-returns
-returns c = rw (c .lifted .ensures)
+returns c = rw (c .threshold-of .ensures)
 
 pub search-of-spec : {M : Type 1} → statement M
-search-of-spec = tie.close (tie.spec add-border add-border-2 lifted-requires returns)
+search-of-spec = tie.close (tie.spec add-border add-border-2 threshold-of-requires returns)

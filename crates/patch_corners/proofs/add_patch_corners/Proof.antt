@@ -30,7 +30,7 @@ refusal-requires : tie.Need-refusal-requires
 refusal-requires c κs = search needs
 
 returns : tie.Need-returns
-returns c = when-fault _ _ _ _ _ _ (c .before .refusal .ensures) (c .if1 .taken)
+returns c = when-fault _ _ _ _ _ _ _ _ (c .before .refusal .ensures) (c .if1 .taken)
 
 chess-response-u8-patch-requires : tie.Need-chess-response-u8-patch-requires
 chess-response-u8-patch-requires c κs = search needs
@@ -48,7 +48,7 @@ returns-2 : tie.Need-returns-2
 returns-2 c =
     let r = chess-response-u8-patch-from-returns-2 c in
     let passed = r .before .before in
-    when-short _ _ _ _ _ (sym (passed .before .refusal .ensures) ∙ passed .if1 .left) _ _ (r .chess-response-u8-patch .ensures) _ (c .enum-told .given .1)
+    when-short _ _ _ _ _ (sym (passed .before .refusal .ensures) ∙ passed .if1 .left) _ _ (r .chess-response-u8-patch .ensures) _ _ _ (c .enum-told .given .1)
 
 mul-cells : tie.Need-mul-cells
 mul-cells c = omega (arith, map-small _ _ _ _ _ _ (made c))
@@ -92,7 +92,8 @@ same-length-6 c = search needs
 
 returns-3 : tie.Need-returns-3
 returns-3 c =
-    when-full _ _ _ _ _ _ (made (known-told-from-returns-3 c)) (λ i. shared-slice-known-from-returns-3 c .shared-slice-known .given i .fits) refl _ _ _ _
+    when-full _ _ _ _ _ _ (made (known-told-from-returns-3 c)) (start-from-returns-3 c .args .exact)
+    (λ i. shared-slice-known-from-returns-3 c .shared-slice-known .given i .fits) refl _ _ _ _
     (add-peaks-from-returns-3 c .add-peaks .ensures) _ (enum-told2-from-returns-3 c .enum-told2 .given .1)
     _ (clear-from-returns-3 c .clear .ensures) _ (clear-list-from-returns-3 c .clear-list .ensures)
 
@@ -113,7 +114,8 @@ same-length-11 c = search needs
 
 returns-4 : tie.Need-returns-4
 returns-4 c =
-    when-added _ _ _ _ _ _ (made (known-told-from-returns-4 c)) (λ i. shared-slice-known-from-returns-4 c .shared-slice-known .given i .fits) refl _ _ _ _
+    when-added _ _ _ _ _ _ (made (known-told-from-returns-4 c)) (start-from-returns-4 c .args .exact)
+    (λ i. shared-slice-known-from-returns-4 c .shared-slice-known .given i .fits) refl _ _ _ _
     (add-peaks-from-returns-4 c .add-peaks .ensures) _ _ (c .before .f .given .1)
 
 pub add-patch-corners-spec : {M : Type 1} → statement M

@@ -7,8 +7,8 @@ use Rattle.patch_corners.proofs.add_peaks.Statement.{statement}
 use Rattle.patch_corners.proofs.add_peaks.Tie as tie
 use Landmarks.*
 
-detect-peaks-from-response-with-refine-radius-requires : tie.Need-detect-peaks-from-response-with-refine-radius-requires
-detect-peaks-from-response-with-refine-radius-requires c κs = search needs
+find-peaks-requires : tie.Need-find-peaks-requires
+find-peaks-requires c κs = search needs
 
 enum-known-f : tie.Need-enum-known-f
 enum-known-f c = search needs
@@ -30,14 +30,14 @@ same-length-4 c = search needs
 
 returns : tie.Need-returns
 returns c =
-    let call = detect-peaks-from-response-with-refine-radius-from-returns c in
-    found-not _ _ _ _ _ _ _ _ (call .detect-peaks-from-response-with-refine-radius .ensures) _ (c .enum-told .given .1)
+    let call = find-peaks-from-returns c in
+    found-not _ _ _ _ _ _ _ _ (call .find-peaks .ensures) _ (c .enum-told .given .1)
 
 centre-all-requires : tie.Need-centre-all-requires
 centre-all-requires c κs =
     let f = f-from-centre-all-requires c in
-    let call = detect-peaks-from-response-with-refine-radius-from-f f in
-    found-fits (λ z. z) _ _ _ _ _ _ _ (call .detect-peaks-from-response-with-refine-radius .ensures) (clear _ _ _ _ _ _) _ _ (f .f .given .1)
+    let call = find-peaks-from-f f in
+    found-fits (λ z. z) _ _ _ _ _ _ _ (call .find-peaks .ensures) (clear _ _ _ _ _ _) _ _ (f .f .given .1)
 
 same-length-5 : tie.Need-same-length-5
 same-length-5 c = search needs
@@ -55,15 +55,15 @@ returns-2 : tie.Need-returns-2
 returns-2 c =
     let all = centre-all-from-returns-2 c in
     let f = f-from-returns-2 c in
-    let call = detect-peaks-from-response-with-refine-radius-from-f f in
-    found-changed _ _ _ _ _ _ _ _ (call .detect-peaks-from-response-with-refine-radius .ensures) (clear _ _ _ _ _ _) _ _ (f .f .given .1) _
+    let call = find-peaks-from-f f in
+    found-changed _ _ _ _ _ _ _ _ (call .find-peaks .ensures) (clear _ _ _ _ _ _) _ _ (f .f .given .1) _
     (all .centre-all .ensures)
 
 pub add-peaks-spec : {M : Type 1} → statement M
 add-peaks-spec =
     tie.close
     (tie.spec
-    detect-peaks-from-response-with-refine-radius-requires
+    find-peaks-requires
     enum-known-f
     enum-told
     same-length

@@ -3,7 +3,7 @@
 //! each wrong road.
 use oracle::buffers::{same_list, Buffers};
 use oracle::centroid::{refine, Map};
-use oracle::exact::fifths_map;
+use oracle::exact::{fifths_map, EXACT};
 use oracle::frame::{by_orchestrator, find_corners, with_lists};
 use oracle::generate::frames::{frame, Shape};
 use oracle::generate::images::{around_centre, whole_case};
@@ -85,9 +85,11 @@ fn refusal_cases(tally: &mut Tally) {
         tally.same(case.name, number_of(&CORNERS.run(&case.stream).0), case.number);
     }
     for case in refused_frames::cases() {
-        let mut buffers = Buffers::before(&case.sizes);
-        let answer = find_corners(case.image(), &case.params, &mut buffers, LARGEST_SIDE);
-        tally.same(case.name, number_of(&answer), case.number);
+        let buffers = Buffers::before(&case.sizes);
+        for steps in [&STEPS, &EXACT] {
+            let answer = find_corners(case.image(), &case.params, &mut buffers.clone(), LARGEST_SIDE, steps);
+            tally.same(case.name, number_of(&answer), case.number);
+        }
     }
 }
 

@@ -1,31 +1,27 @@
 //! oracle_corners [OPTIONS] < STREAM: what `corners` must print.
-//!   --state                               then what each buffer holds afterwards, as `corners` would leave it
-//!   --exact                               instead the list of the pass by exact values
+//!   --state                               then the ties and what each buffer holds, as `corners` would leave it
+//!   --exact                               the same by the exact choice (RULES 10.2) instead of the computed one
 //!   --side N                              the largest side (96)
 //!   --buffers MAP LEVELS SEEDS CORNERS    the buffers' lengths (9216 3072 512 512)
 use oracle::buffers::{byte_front, float_front, word_front, Buffers, CornerBuffer, Rest, Sizes};
 use oracle::exact::EXACT;
-use oracle::frame::with_lists;
-use oracle::listing::{listing, refused};
 use oracle::numbers::bits;
-use oracle::program::{Program, CORNERS};
-use oracle::stream::read;
+use oracle::program::{printed, Program, CORNERS};
 use std::io::Read;
 
 struct Options {
     program: Program,
     state: bool,
-    exact: bool,
 }
 
 fn options() -> Options {
-    let mut options = Options { program: CORNERS, state: false, exact: false };
+    let mut options = Options { program: CORNERS, state: false };
     let mut words = std::env::args().skip(1);
     while let Some(word) = words.next() {
         let mut number = || words.next().and_then(|w| w.parse().ok()).expect("a number");
         match word.as_str() {
             "--state" => options.state = true,
-            "--exact" => options.exact = true,
+            "--exact" => options.program.steps = EXACT,
             "--side" => options.program.largest_side = number(),
             "--buffers" => {
                 let (map, levels) = (number(), number());
@@ -76,18 +72,12 @@ fn main() {
     let options = options();
     let mut stream = Vec::new();
     std::io::stdin().read_to_end(&mut stream).expect("standard input");
-    if options.exact {
-        match read(&stream, options.program.largest_side) {
-            Ok(u) => with_lists(u.image(), &u.params, &EXACT, |lists| {
-                print!("{}", listing(&lists.corners, &lists.neighbours(&u.params, &EXACT).1));
-            }),
-            Err(number) => print!("{}", refused(number)),
-        }
-        return;
-    }
-    print!("{}", options.program.print(&stream));
+    let (answer, after) = options.program.run(&stream);
+    print!("{}", printed(answer, &after));
     if options.state {
-        let before = Buffers::before(&options.program.sizes);
-        show_state(&before, &options.program.run(&stream).1);
+        if let Ok(found) = answer {
+            println!("ties {}", found.ties);
+        }
+        show_state(&Buffers::before(&options.program.sizes), &after);
     }
 }

@@ -13,6 +13,7 @@ use oracle::generate::images::noise;
 use oracle::generate::Rng;
 use oracle::image::Image;
 use oracle::params::{Params, PLAIN};
+use oracle::pass::STEPS;
 use oracle::peaks::find_peaks;
 use oracle::refusal::{Refusal, LARGEST_SIDE};
 use oracle::response::{map_of, response};
@@ -92,9 +93,9 @@ fn frame(width: usize, height: usize, levels: u32) -> Pair {
     let image = Image { pixels: &pixels, width, height };
     let size = pixels.len();
     let mut buffers = Buffers::before(&Sizes { map: size, levels: size, ..Sizes::default() });
-    let found = find_corners(image, &params, &mut buffers, LARGEST_SIDE);
+    let found = find_corners(image, &params, &mut buffers, LARGEST_SIDE, &STEPS);
     let original = outcome(|| format!("{} corners", by_orchestrator(image, &params).len()));
-    Pair { original, oracle: answer(found, |count| format!("{count} corners")) }
+    Pair { original, oracle: answer(found, |found| format!("{} corners", found.count)) }
 }
 
 /// `CenterOfMassRefiner::refine` on a map of 2.0 in every cell.

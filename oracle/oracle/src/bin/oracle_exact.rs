@@ -1,4 +1,4 @@
-//! oracle_exact [N [SEED]]: demand 3 by running. On N frames (2000) of each of three kinds: for each map that the exact
+//! oracle_exact [N [SEED]]: demand 3 by running. On N frames (2000) of each of four kinds: for each map that the exact
 //! pass looks at, computed and exact peak lists are alike exactly when no exact peak is overtaken, and each computed peak
 //! has as many neighbours by exact values; and where all are alike, the whole corner lists are the same. Then the responses themselves: error, sign and order.
 use oracle::buffers::same_list;
@@ -7,7 +7,7 @@ use oracle::frame::{corners_of, with_lists};
 use oracle::generate::frames::{frame, Shape};
 use oracle::generate::hunted::Road;
 use oracle::generate::images::{tiled, Board};
-use oracle::generate::Rng;
+use oracle::generate::{tipped, Rng};
 use oracle::params::{Params, PLAIN};
 use oracle::pass::STEPS;
 use oracle::stream::Upload;
@@ -130,6 +130,7 @@ fn main() -> ExitCode {
     frames(&mut tally, "random", count, |case| frame(&mut rng(201, case), Shape::Small));
     frames(&mut tally, "faint noise", count, |case| Road::EqualFifths.frame(seed * 1_000_000 + case));
     frames(&mut tally, "few grey levels", count, |case| tied(&mut rng(202, case)));
+    frames(&mut tally, "tipped", count, |case| tipped::frame(&mut rng(203, case)));
     responses(&mut tally);
     tally.finish()
 }

@@ -42,6 +42,38 @@ pub fn threshold(rng: &mut Rng) -> f32 {
     }
 }
 
+/// A float above 0, or one of the two next to it.
+pub fn beside(rng: &mut Rng, x: f32) -> f32 {
+    f32::from_bits(x.to_bits() + rng.below(3) as u32 - 1)
+}
+
+/// A threshold for the exact choice (RULES 10.1), which asks for more fifths than five times the threshold: at whole
+/// fifths and beside them, at the ends of the responses, of kinds that count as 0, and beyond everything.
+pub fn threshold_beside_fifths(rng: &mut Rng) -> f32 {
+    match rng.below(24) {
+        0..=2 => {
+            let fifth = rng.pick(&[0.2, 0.4, 0.6, 0.8, 4.8]);
+            beside(rng, fifth)
+        }
+        3..=6 => {
+            let most = rng.pick(&[8, 40, 40, 2041]);
+            let fifths = rng.from_to(1, 5 * most);
+            beside(rng, fifths as f32 / 5.0)
+        }
+        7 => rng.pick(&[-0.0, -1.0, f32::NEG_INFINITY, -f32::from_bits(1)]),
+        8 => nan(rng),
+        9 => {
+            let end = rng.pick(&[2040.0, 2041.0]);
+            beside(rng, end)
+        }
+        10 => rng.pick(&[f32::INFINITY, f32::MAX, 10_200.0, 3e9, 3e19]),
+        11 => rng.pick(&[f32::from_bits(1), f32::MIN_POSITIVE, next_toward(f32::MIN_POSITIVE)]),
+        12 => (rng.unit() * 60.0) as f32,
+        13..=15 => rng.below(30) as f32,
+        _ => 0.0,
+    }
+}
+
 /// A merge radius of any kind that a frame takes; most are off or a few pixels.
 pub fn merge_radius(rng: &mut Rng) -> f32 {
     match rng.below(16) {

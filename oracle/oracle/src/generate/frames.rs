@@ -22,7 +22,7 @@ const RANDOM: u64 = 1;
 const DAMAGED: u64 = 2;
 
 /// Parameters that often leave corners to be found.
-fn likely(rng: &mut Rng) -> Params {
+pub(super) fn likely(rng: &mut Rng) -> Params {
     let window = rng.pick(&[0, 1, 1, 1, 2, 2]);
     Params {
         ring: rng.pick(&[5, 5, 5, 5, 5, 5, 5, 10]),
@@ -38,7 +38,7 @@ fn likely(rng: &mut Rng) -> Params {
 }
 
 /// The same with one of them at or near an end of its range.
-fn at_an_end(rng: &mut Rng) -> Params {
+pub(super) fn at_an_end(rng: &mut Rng) -> Params {
     let mut params = likely(rng);
     match rng.below(7) {
         0 => params.threshold = floats::odd(rng),
@@ -53,7 +53,7 @@ fn at_an_end(rng: &mut Rng) -> Params {
 }
 
 /// The least side at which the last level has a cell inside the border.
-fn least_side(params: &Params) -> usize {
+pub(super) fn least_side(params: &Params) -> usize {
     (2 * params.border() + 1) << (params.levels.clamp(1, 4) - 1)
 }
 
@@ -82,7 +82,7 @@ fn side(rng: &mut Rng, shape: Shape, params: &Params) -> usize {
 }
 
 /// A threshold that is exactly the strength of a corner of the frame, or the next float to it.
-fn at_a_strength(rng: &mut Rng, upload: &Upload) -> f32 {
+pub(super) fn at_a_strength(rng: &mut Rng, upload: &Upload) -> f32 {
     let corners = crate::frame::corners_of(upload.image(), &upload.params, &STEPS);
     if corners.is_empty() {
         return upload.params.threshold;

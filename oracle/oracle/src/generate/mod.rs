@@ -9,5 +9,6 @@ pub mod images;
 pub mod refused_frames;
 pub mod refused_streams;
 pub mod rng;
+pub mod tipped;
 
 pub use rng::Rng;

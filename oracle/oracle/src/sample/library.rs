@@ -1,18 +1,21 @@
 //! Frames of the library: buffers of every size, and what each holds afterwards.
 use super::file::{kind, Body, File};
 use crate::buffers::{Buffers, Sizes};
-use crate::frame::{find_corners, with_lists};
+use crate::exact::EXACT;
+use crate::frame::{find_corners, with_lists, Found};
 use crate::generate::frames::{frame, Shape};
 use crate::generate::refused_frames::{self, Case};
-use crate::generate::{images, Rng};
+use crate::generate::{images, tipped, Rng};
 use crate::image::Image;
 use crate::params::{Params, PLAIN};
-use crate::pass::STEPS;
+use crate::pass::{Steps, STEPS};
 use crate::pyramid::{levels_of, pixels_above};
 use crate::refusal::{number_of, LARGEST_SIDE};
+use crate::stream::Upload;
 use box_image_pyramid::PyramidBuffers;
 
 const SUBJECT: u64 = 102;
+const TIPPED: u64 = 103;
 const RANDOM: u64 = 200;
 
 /// What a call leaves: the number of the refusal, 0 for none, how many corners and ties there are, and every buffer.
@@ -23,16 +26,12 @@ pub struct Left {
     pub buffers: Buffers,
 }
 
-/// What the oracle leaves of a frame, in buffers that hold the sample's rule before.
-pub fn due(case: &Case) -> Left {
+/// What the oracle leaves of a frame by some steps, in buffers that hold the sample's rule before.
+pub fn due(case: &Case, steps: &Steps) -> Left {
     let mut buffers = Buffers::before(&case.sizes);
-    let image = Image { pixels: &case.pixels, width: case.width, height: case.height };
-    let answer = find_corners(image, &case.params, &mut buffers, LARGEST_SIDE);
-    let ties = match answer {
-        Ok(_) => with_lists(image, &case.params, &STEPS, |lists| lists.ties(&case.params, &STEPS)),
-        Err(_) => 0,
-    };
-    Left { number: number_of(&answer), count: answer.unwrap_or(0), ties, buffers }
+    let answer = find_corners(case.image(), &case.params, &mut buffers, LARGEST_SIDE, steps);
+    let Found { count, ties } = answer.unwrap_or_default();
+    Left { number: number_of(&answer), count, ties, buffers }
 }
 
 /// Writes a frame as given, and what is left of it.
@@ -54,11 +53,11 @@ pub fn put(file: &mut File, case: &Case, left: &Left) {
     file.record(kind::LIBRARY_FRAME, left.number, &body);
 }
 
-/// The buffers that a frame just needs.
-fn needed(image: Image, params: &Params) -> Sizes {
+/// The buffers that a frame just needs by some steps.
+fn needed(image: Image, params: &Params, steps: &Steps) -> Sizes {
     let mut scratch = PyramidBuffers::new();
     let levels = pixels_above(&levels_of(image, params, &mut scratch)).len();
-    with_lists(image, params, &STEPS, |lists| Sizes {
+    with_lists(image, params, steps, |lists| Sizes {
         map: image.width * image.height,
         levels,
         seeds: [lists.seeds.len(); 4],
@@ -88,14 +87,11 @@ fn varied(rng: &mut Rng, needed: Sizes) -> Sizes {
     sizes
 }
 
-/// The random frame of a number.
-pub fn random(seed: u64, case: u64) -> Case {
-    let rng = &mut Rng::of_case(seed, SUBJECT, case);
-    let shape = if rng.once_in(10) { Shape::Thin } else { Shape::Small };
-    let upload = frame(rng, shape);
+/// A frame in buffers about as long as it needs.
+fn in_buffers(rng: &mut Rng, name: &'static str, upload: Upload, needed: Sizes) -> Case {
     Case {
-        name: "random",
-        sizes: varied(rng, needed(upload.image(), &upload.params)),
+        name,
+        sizes: varied(rng, needed),
         width: upload.width,
         height: upload.height,
         params: upload.params,
@@ -104,17 +100,47 @@ pub fn random(seed: u64, case: u64) -> Case {
     }
 }
 
+/// The random frame of a number.
+pub fn random(seed: u64, case: u64) -> Case {
+    let rng = &mut Rng::of_case(seed, SUBJECT, case);
+    let shape = if rng.once_in(10) { Shape::Thin } else { Shape::Small };
+    let upload = frame(rng, shape);
+    let sizes = needed(upload.image(), &upload.params, &STEPS);
+    in_buffers(rng, "random", upload, sizes)
+}
+
+/// The frame of a number for both choices. Most are of a kind on which rounding can tip a choice; the buffers are made
+/// for either choice, or for both.
+pub fn random_tipped(seed: u64, case: u64) -> Case {
+    let rng = &mut Rng::of_case(seed, TIPPED, case);
+    let upload = match rng.below(300) {
+        0 => tipped::large_frame(rng),
+        1..=25 => frame(rng, Shape::Thin),
+        26..=50 => frame(rng, Shape::Small),
+        _ => tipped::frame(rng),
+    };
+    let [exact, computed] = [&EXACT, &STEPS].map(|steps| needed(upload.image(), &upload.params, steps));
+    let longer = |a: [usize; 4], b: [usize; 4]| if a[0] < b[0] { b } else { a };
+    let both = Sizes {
+        seeds: longer(exact.seeds, computed.seeds),
+        corners: longer(exact.corners, computed.corners),
+        ..exact
+    };
+    let sizes = rng.pick(&[exact, computed, both, both]);
+    in_buffers(rng, "tipped", upload, sizes)
+}
+
 /// A long frame: sides that `corners` never sees.
 fn long(rng: &mut Rng, width: usize, height: usize, levels: u32) -> Case {
     let pixels = images::stamped(rng, width, height, 5, 6);
     let params = Params { window: 1, merge: 3.0, levels, ..PLAIN };
-    let sizes = needed(Image { pixels: &pixels, width, height }, &params);
+    let sizes = needed(Image { pixels: &pixels, width, height }, &params, &STEPS);
     Case { name: "long", width, height, pixels, params, sizes, number: 0 }
 }
 
 pub fn file(seed: u64) -> File {
     let mut file = File::new("library.bin");
-    let mut add = |case: Case| put(&mut file, &case, &due(&case));
+    let mut add = |case: Case| put(&mut file, &case, &due(&case, &STEPS));
     refused_frames::cases().into_iter().for_each(&mut add);
     (0..RANDOM).map(|case| random(seed, case)).for_each(&mut add);
     let mut rng = Rng::of_case(seed, SUBJECT, RANDOM);

@@ -25,7 +25,7 @@ none : (c : tie.After-search-of)
 none c = sym (c .before .before .refusal .ensures) ∙ c .before .if1 .left
 
 search-for-requires : tie.Need-search-for-requires
-search-for-requires c κs = rw (c .search-of .ensures) (searchable _ _ _ _ _ _ _ _ (clear _ _ _ _ _ _ (none c)))
+search-for-requires c κs = rw (c .search-of .ensures) (searchable _ _ _ _ _ _ _ _ _ (clear _ _ _ _ _ _ (none c)))
 
 returns-2 : tie.Need-returns-2
 returns-2 c = enough-found _ _ _ _ (none (c .before)) _ (c .before .search-of .ensures) _ (c .search-for .ensures)

@@ -2,30 +2,47 @@
 use borrow.Author.Needs.{needs}
 use Prim.Native.Nat.{_-_}
 use mathlib.Core.Path.{_≡_, refl, sym, _∙_}
+use mathlib.Core.Bool.{Bool, _&&_}
 use lib.ListN.{length, drop}
-use lib.Ieee.{lt}
+use lib.Ieee.{Float, lt}
 use Rattle.lists.specs.Places.{any}
 use Rattle.lists.proofs.Scan.{any-here, any-on, any-none-left}
 use Rattle.detect.proofs.neighbors.any_larger.Statement.{statement}
 use Rattle.detect.proofs.neighbors.any_larger.Tie as tie
 
+abbrev above : Float → Float → Float → Bool
+above v bar u = lt v u && lt bar u
+
 abbrev Inv-loop : tie.InvT-loop
-Inv-loop cells v i₀ i = any (lt v) (drop i cells) ≡ any (lt v) cells
+Inv-loop cells v bar i₀ i = any (above v bar) (drop i cells) ≡ any (above v bar) cells
 
 abbrev μ-loop : tie.MeasureT-loop
-μ-loop cells v i₀ i = length cells - i
+μ-loop cells v bar i₀ i = length cells - i
+
+-- ---- the function's start, from the loop, and what is asked of a cell there
+abbrev start : tie.At-loop Inv-loop μ-loop → tie.Start Inv-loop μ-loop
+start c = c .before .before
+
+abbrev asked : tie.Start Inv-loop μ-loop → Float → Bool
+asked c = above (c .args .v) (c .args .bar)
 
 loop-holds : tie.Need-loop-holds Inv-loop μ-loop
 loop-holds c = refl
 
-mul-if1 : tie.Need-mul-if1 Inv-loop μ-loop
-mul-if1 c = search needs
+mul-is-larger : tie.Need-mul-is-larger Inv-loop μ-loop
+mul-is-larger c = search needs
 
-shared-slice-read-if1 : tie.Need-shared-slice-read-if1 Inv-loop μ-loop
-shared-slice-read-if1 c = search needs
+shared-slice-read-is-larger : tie.Need-shared-slice-read-is-larger Inv-loop μ-loop
+shared-slice-read-is-larger c = search needs
+
+is-larger-requires : tie.Need-is-larger-requires Inv-loop μ-loop
+is-larger-requires c κs = search needs
 
 returns : tie.Need-returns Inv-loop μ-loop
-returns c = sym (any-here (lt _) _ _ _ (c .before .before .loop-test .taken) (c .if1 .taken)) ∙ c .before .before .before .loop .inv
+returns c =
+    let turn = c .before .before .before in
+    sym (any-here (asked (start (turn .before))) _ _ _ (turn .loop-test .taken) (sym (c .before .is-larger .ensures) ∙ c .if1 .taken))
+    ∙ turn .before .loop .inv
 
 add-i : tie.Need-add-i Inv-loop μ-loop
 add-i c = search needs
@@ -34,10 +51,13 @@ loop-less : tie.Need-loop-less Inv-loop μ-loop
 loop-less c = search needs
 
 loop-again : tie.Need-loop-again Inv-loop μ-loop
-loop-again c = sym (any-on (lt _) _ _ _ (c .before .before .loop-test .taken) (c .if1 .left)) ∙ c .before .before .before .loop .inv
+loop-again c =
+    let turn = c .before .before .before in
+    sym (any-on (asked (start (turn .before))) _ _ _ (turn .loop-test .taken) (sym (c .before .is-larger .ensures) ∙ c .if1 .left))
+    ∙ turn .before .loop .inv
 
 returns-2 : tie.Need-returns-2 Inv-loop μ-loop
-returns-2 c = sym (any-none-left (lt (c .before .before .args .v)) _ _ (c .loop-test .left)) ∙ c .before .loop .inv
+returns-2 c = sym (any-none-left (asked (start (c .before))) _ _ (c .loop-test .left)) ∙ c .before .loop .inv
 
 pub any-larger-spec : {M : Type 1} → statement M
 any-larger-spec =
@@ -46,8 +66,9 @@ any-larger-spec =
     Inv-loop
     μ-loop
     loop-holds
-    mul-if1
-    shared-slice-read-if1
+    mul-is-larger
+    shared-slice-read-is-larger
+    is-larger-requires
     returns
     add-i
     loop-less

@@ -1,23 +1,24 @@
 -- `detect::neighbors::is_local_max` meets its contract: what beats v in the rows ahead is what beats it in all. Assumes nothing.
 use Prim.Native.Nat.{_-_, _*_, _<_, _≤_}
 use native.Mathlib.Omega.{arith}
-use lib.Ieee.{lt, nan}
+use lib.Ieee.{nan}
 use borrow.Author.Needs.{needs}
 use Rattle.lists.proofs.Rows.{AnyRows, any-start}
+use Rattle.detect.specs.Peaks.{beats}
 use Rattle.detect.proofs.Cells.{row-in, row-small}
 use Rattle.detect.proofs.WindowRows.{larger-here, larger-next, larger-nowhere}
 use Rattle.detect.proofs.neighbors.is_local_max.Statement.{statement}
 use Rattle.detect.proofs.neighbors.is_local_max.Tie as tie
 
 abbrev Inv-loop : tie.InvT-loop
-Inv-loop map x y v w r x0 x1 y1 yy₀ yy = AnyRows (lt v) map w nan x0 x1 yy₀ y1 yy
+Inv-loop map x y v exact bar w r x0 x1 y1 yy₀ yy = AnyRows (beats exact v) map w nan x0 x1 yy₀ y1 yy
 
 abbrev μ-loop : tie.MeasureT-loop
-μ-loop map x y v w r x0 x1 y1 yy₀ yy = y1 - yy
+μ-loop map x y v exact bar w r x0 x1 y1 yy₀ yy = y1 - yy
 
 -- ---- places of the code: the function's start, from the loop, and the turn, from where its row was asked
 abbrev start : tie.At-loop Inv-loop μ-loop → tie.Start Inv-loop μ-loop
-start c = c .before .before
+start c = c .before .before .before
 
 abbrev turn : tie.After-any-larger Inv-loop μ-loop → tie.In-loop Inv-loop μ-loop
 turn c = c .before .before
@@ -29,6 +30,9 @@ module _ (c : tie.In-loop Inv-loop μ-loop) where
 
   small : c .before .loop .yy * start (c .before) .args .s .w ≤ 16777216
   small = row-small _ _ (start (c .before) .pre .0) _ in-rows
+
+bar-of-requires : tie.Need-bar-of-requires Inv-loop μ-loop
+bar-of-requires c κs = search needs
 
 sub-x0 : tie.Need-sub-x0 Inv-loop μ-loop
 sub-x0 c = search needs
@@ -49,7 +53,7 @@ sub-yy : tie.Need-sub-yy Inv-loop μ-loop
 sub-yy c = search needs
 
 loop-holds : tie.Need-loop-holds Inv-loop μ-loop
-loop-holds c = any-start (lt _) _ _ _ _ _ _ _
+loop-holds c = let a = c .before .before .args in any-start (beats (a .exact) (a .v)) _ _ _ _ _ _ _
 
 mul-a : tie.Need-mul-a Inv-loop μ-loop
 mul-a c = omega (arith, small c)
@@ -82,8 +86,8 @@ returns : tie.Need-returns Inv-loop μ-loop
 returns c =
     let t = turn (c .before) in
     let given = start (t .before) .pre in
-    larger-here _ _ _ _ _ (given .0) (given .1 .0) (given .1 .1) _ (t .loop-test .taken) (t .before .loop .inv)
-    _ (c .before .any-larger .ensures) (c .if1 .taken)
+    larger-here _ _ _ _ _ (given .0) (given .1 .0) (given .1 .1) _ (t .loop-test .taken) (start (t .before) .args .exact)
+    _ (t .before .before .bar-of .ensures) (t .before .loop .inv) _ (c .before .any-larger .ensures) (c .if1 .taken)
 
 add-yy : tie.Need-add-yy Inv-loop μ-loop
 add-yy c = search needs
@@ -95,13 +99,13 @@ loop-again : tie.Need-loop-again Inv-loop μ-loop
 loop-again c =
     let t = turn (c .before) in
     let given = start (t .before) .pre in
-    larger-next _ _ _ _ _ (given .0) (given .1 .0) (given .1 .1) _ (t .loop-test .taken) (t .before .loop .inv)
-    _ (c .before .any-larger .ensures) (c .if1 .left)
+    larger-next _ _ _ _ _ (given .0) (given .1 .0) (given .1 .1) _ (t .loop-test .taken) (start (t .before) .args .exact)
+    _ (t .before .before .bar-of .ensures) (t .before .loop .inv) _ (c .before .any-larger .ensures) (c .if1 .left)
 
 returns-2 : tie.Need-returns-2 Inv-loop μ-loop
 returns-2 c =
     let given = start (c .before) .pre in
-    larger-nowhere _ _ _ _ _ (given .0) (given .1 .0) (given .1 .1) _ (c .loop-test .left) (c .before .loop .inv)
+    larger-nowhere _ _ _ _ _ (given .0) (given .1 .0) (given .1 .1) _ (c .loop-test .left) (start (c .before) .args .exact) (c .before .loop .inv)
 
 pub is-local-max-spec : {M : Type 1} → statement M
 is-local-max-spec =
@@ -109,6 +113,7 @@ is-local-max-spec =
     (tie.spec
     Inv-loop
     μ-loop
+    bar-of-requires
     sub-x0
     add-x1
     add-x1-2

@@ -10,7 +10,7 @@ use Rattle.lists.specs.Places.{flatMap, sumOf}
 use Rattle.lists.proofs.Tab.{length-tab}
 use Rattle.corner_list.specs.CornerList.{slices, cornerAt, cornersOf}
 use Rattle.detect.specs.declared.Peaks.the-variants.{Added}
-use Rattle.patch_corners.specs.OneMap.{computedChoice}
+use Rattle.patch_corners.specs.OneMap.{choiceOf}
 use Rattle.frame_pass.specs.Pass.{cornersAbout, tiesAbout}
 use Rattle.frame_pass.proofs.Ties.{seeds-tied}
 use Rattle.frame.specs.Internal.{Adds}
@@ -20,13 +20,13 @@ use Rattle.frame.proofs.search.add_patches.Tie as tie
 use Landmarks.*
 
 abbrev Inv-loop : tie.InvT-loop
-Inv-loop img w h p k sx sy ss sn n map₀ cx₀ cy₀ cs₀ cn₀ held₀ ties₀ i₀ map cx cy cs cn held ties i =
+Inv-loop img w h p exact k sx sy ss sn n map₀ cx₀ cy₀ cs₀ cn₀ held₀ ties₀ i₀ map cx cy cs cn held ties i =
     (i ≤ n) × (length map ≡ length map₀) × (length cx ≡ length cx₀) × (length cy ≡ length cy₀) × (length cs ≡ length cs₀) × (length cn ≡ length cn₀)
-    × Adds (flatMap (cornersAbout p img w h (computedChoice p) k) (cornersOf (slices sx sy ss sn) i))
-    (sumOf (tiesAbout p img w h (computedChoice p) k) (cornersOf (slices sx sy ss sn) i)) 0 (slices cx₀ cy₀ cs₀ cn₀) (Added held ties) (slices cx cy cs cn)
+    × Adds (flatMap (cornersAbout p img w h (choiceOf p exact) k) (cornersOf (slices sx sy ss sn) i))
+    (sumOf (tiesAbout p img w h (choiceOf p exact) k) (cornersOf (slices sx sy ss sn) i)) 0 (slices cx₀ cy₀ cs₀ cn₀) (Added held ties) (slices cx cy cs cn)
 
 abbrev μ-loop : tie.MeasureT-loop
-μ-loop img w h p k sx sy ss sn n map₀ cx₀ cy₀ cs₀ cn₀ held₀ ties₀ i₀ map cx cy cs cn held ties i = n - i
+μ-loop img w h p exact k sx sy ss sn n map₀ cx₀ cy₀ cs₀ cn₀ held₀ ties₀ i₀ map cx cy cs cn held ties i = n - i
 
 loop-holds : tie.Need-loop-holds Inv-loop μ-loop
 loop-holds c = (omega arith, refl, refl, refl, refl, refl, turn-none _ _ _ _)
@@ -81,7 +81,7 @@ add-ties c =
     let more = turn-more _ _ _ _ _ _ _ _ (turn .inv .6) _ (corner-at-from-add-ties c .corner-at .ensures) _ _
     (add-patch-from-add-ties c .add-patch .ensures) _ _ (c .before .f .given .1) in
     let seeds = slices (a .sx .now) (a .sy .now) (a .ss .now) (a .sn .now) in
-    let few = seeds-tied (a .p) (a .img .now) (a .w) (a .h) (start-from-add-ties c .pre .0 .sound) (a .k) (cornersOf seeds (turn .i + 1)) in
+    let few = seeds-tied (a .p) (a .exact) (a .img .now) (a .w) (a .h) (start-from-add-ties c .pre .0 .sound) (a .k) (cornersOf seeds (turn .i + 1)) in
     let test = loop-test-from-add-ties c .loop-test .taken in
     omega
     (arith, sum-fits _ _ _ _ (more .added _ _ refl .3) few _ (length-tab (turn .i + 1) (cornerAt seeds)) test (start-from-add-ties c .pre .1 .1))
@@ -117,9 +117,9 @@ returns-2 : tie.Need-returns-2 Inv-loop μ-loop
 returns-2 c =
     let a = start-from-returns-2 c .args in
     let all : c .before .loop .i ≡ a .n = omega arith in
-    let about = cornersAbout (a .p) (a .img .now) (a .w) (a .h) (computedChoice (a .p)) (a .k) in
+    let about = cornersAbout (a .p) (a .img .now) (a .w) (a .h) (choiceOf (a .p) (a .exact)) (a .k) in
     let seeds = slices (a .sx .now) (a .sy .now) (a .ss .now) (a .sn .now) in
-    let tied = tiesAbout (a .p) (a .img .now) (a .w) (a .h) (computedChoice (a .p)) (a .k) in
+    let tied = tiesAbout (a .p) (a .img .now) (a .w) (a .h) (choiceOf (a .p) (a .exact)) (a .k) in
     adds-to _ _ _ _ _ _ _ _ (ap (λ (m : ℕ). flatMap about (cornersOf seeds m)) all) (ap (λ (m : ℕ). sumOf tied (cornersOf seeds m)) all)
     (c .before .loop .inv .6)
 

@@ -1,6 +1,7 @@
 -- `frame::search::search` meets its contract, by the laws of `Levels`. Assumes nothing.
 mod Landmarks
 use borrow.Author.Needs.{needs}
+use Rattle.patch_corners.specs.OneMap.{choiceOf}
 use Rattle.frame.proofs.Adding.{box-adds}
 use Rattle.frame.proofs.Levels.{search-none, search-one, several}
 use Rattle.frame.proofs.search.search.Statement.{statement}
@@ -11,7 +12,8 @@ lists-of-requires : tie.Need-lists-of-requires
 lists-of-requires c κs = search needs
 
 returns : tie.Need-returns
-returns c = search-none _ _ _ _ _ _ _ (c .before .if1 .taken) _ (c .lists-of .ensures)
+returns c =
+    search-none (choiceOf (start-from-returns c .args .p) (start-from-returns c .args .exact)) _ _ _ _ _ _ _ (c .before .if1 .taken) _ (c .lists-of .ensures)
 
 add-patch-corners-requires : tie.Need-add-patch-corners-requires
 add-patch-corners-requires c κs = search needs
@@ -37,7 +39,7 @@ same-length-5 c = search needs
 returns-2 : tie.Need-returns-2
 returns-2 c =
     let start = start-from-returns-2 c in
-    search-one _ _ _ _ _ _ _ (if2-from-returns-2 c .if2 .taken) _ _
+    search-one (choiceOf (start .args .p) (start .args .exact)) _ _ _ _ _ _ _ (if2-from-returns-2 c .if2 .taken) _ _
     (box-adds _ _ _ _ _ _ _ _ (start .args .map .now) (start .pre .0) _ _ _ _ _ _ _ (add-patch-corners-from-returns-2 c .add-patch-corners .ensures)) _
     (c .lists-of2 .ensures)
 

@@ -3,6 +3,7 @@ mod Landmarks
 use borrow.Author.Needs.{needs}
 use native.Mathlib.Omega.{arith}
 use mathlib.Core.Path.{refl}
+use Rattle.patch_corners.specs.OneMap.{choiceOf}
 use Rattle.frame.proofs.Levels.{ready-kept, last-few, last-adds, seeds-few, search-many}
 use Rattle.frame.proofs.search.search_boxes.Statement.{statement}
 use Rattle.frame.proofs.search.search_boxes.Tie as tie
@@ -30,10 +31,10 @@ add-patches-requires : tie.Need-add-patches-requires
 add-patches-requires c κs =
     let start = start-from-add-patches-requires c in
     let call = add-patch-corners-from-add-patches-requires c .add-patch-corners in
-    let kept = call .kept in
+    let kept = call .kept .1 .1 .1 .1 .1 in
     let seeds = last-adds _ _ _ _ _ _ (start .pre .1 .0) (start .pre .1 .1) _ refl _ (start .pre .0) _ (level-from-add-patches-requires c .level .ensures) _ _
-    refl refl _ _ _ _ (call .ensures) in
-    let few = seeds-few _ _ _ _ _ (start .pre .0) _ _ _ _ _ _ seeds in (
+    refl refl _ _ _ _ (choiceOf (start .args .p) (start .args .exact)) (call .ensures) in
+    let few = seeds-few _ (start .args .exact) _ _ _ _ (start .pre .0) _ _ _ _ _ _ seeds in (
       ready-kept _ _ _ _ _ _ (start .pre .0) (search kept),
       (last-few _ _ _ _ _ _ (start .pre .1 .0) (start .pre .1 .1) _ refl, omega (arith, few, added-from-add-patches-requires c .added .ensures)),
     )
@@ -42,7 +43,8 @@ lists-of-requires : tie.Need-lists-of-requires
 lists-of-requires c κs = search needs
 
 same-length : tie.Need-same-length
-same-length c = search needs
+same-length c =
+    omega (arith, add-patches-from-same-length c .add-patches .kept, add-patch-corners-from-same-length c .add-patch-corners .kept)
 
 same-length-2 : tie.Need-same-length-2
 same-length-2 c = search needs
@@ -72,9 +74,9 @@ returns : tie.Need-returns
 returns c =
     let start = start-from-returns c in
     let seeds = add-patch-corners-from-returns c .add-patch-corners .ensures in
-    search-many _ _ _ _ _ _ _ (start .pre .1 .1) _ refl _ _ _ _ _
+    search-many (choiceOf (start .args .p) (start .args .exact)) _ _ _ _ _ _ _ (start .pre .1 .1) _ refl _ _ _ _ _
     (last-adds _ _ _ _ _ _ (start .pre .1 .0) (start .pre .1 .1) _ refl _ (start .pre .0) _ (level-from-returns c .level .ensures) _ _
-    refl refl _ _ _ _ seeds)
+    refl refl _ _ _ _ (choiceOf (start .args .p) (start .args .exact)) seeds)
     _ (added-from-returns c .added .ensures) (add-patches-from-returns c .add-patches .ensures) _ (c .lists-of .ensures)
 
 pub search-boxes-spec : {M : Type 1} → statement M

@@ -34,6 +34,9 @@ shared-slice-known-from-returns-3 c =
     known-told-from-returns-3 c .before .before .before .before .before .before .before .before .before .before .before .before .before
     .before
 
+abbrev pub start-from-returns-3 : tie.After-slice-known15 → tie.Start
+start-from-returns-3 c = shared-slice-known-from-returns-3 c .before
+
 abbrev pub add-peaks-from-returns-4 : tie.After-known-told2 → tie.After-add-peaks
 add-peaks-from-returns-4 c = c .before .before .before .before .before .before .before .before .before .before .before
 
@@ -44,6 +47,9 @@ abbrev pub shared-slice-known-from-returns-4 : tie.After-known-told2 → tie.Aft
 shared-slice-known-from-returns-4 c =
     known-told-from-returns-4 c .before .before .before .before .before .before .before .before .before .before .before .before .before
     .before
+
+abbrev pub start-from-returns-4 : tie.After-known-told2 → tie.Start
+start-from-returns-4 c = shared-slice-known-from-returns-4 c .before
 
 abbrev pub chess-response-u8-patch-from-known-told : tie.After-known-told → tie.After-chess-response-u8-patch
 chess-response-u8-patch-from-known-told c = c .before .before .before .before .before

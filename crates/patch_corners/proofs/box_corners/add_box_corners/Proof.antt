@@ -32,7 +32,7 @@ same-length-5 : tie.Need-same-length-5
 same-length-5 c = search needs
 
 returns : tie.Need-returns
-returns c = moved-not _ _ _ _ _ _ _ _ (add-patch-corners-from-returns c .add-patch-corners .ensures) _ (c .enum-told .given .1)
+returns c = moved-not _ _ _ _ _ _ _ _ _ _ (add-patch-corners-from-returns c .add-patch-corners .ensures) _ (c .enum-told .given .1)
 
 lesser-requires : tie.Need-lesser-requires
 lesser-requires c κs = search needs
@@ -46,8 +46,8 @@ shift-all-requires c κs =
     let top = lesser2-from-shift-all-requires c in
     let f = f-from-shift-all-requires c in
     let added = add-patch-corners-from-shift-all-requires c .add-patch-corners .ensures in
-    let s = moved-sides _ _ _ _ _ _ _ _ added _ _ (f .f .given .1) in (
-      moved-fits _ _ _ _ _ _ _ _ added _ _ (f .f .given .1),
+    let s = moved-sides _ _ _ _ _ _ _ _ _ _ added _ _ (f .f .given .1) in (
+      moved-fits _ _ _ _ _ _ _ _ _ _ added _ _ (f .f .given .1),
       (omega (arith, s .0, left .lesser .ensures), omega (arith, s .1, top .lesser2 .ensures)),
     )
 
@@ -68,7 +68,7 @@ same-length-10 c = search needs
 
 returns-2 : tie.Need-returns-2
 returns-2 c =
-    moved-added _ _ _ _ _ _ _ _ (add-patch-corners-from-returns-2 c .add-patch-corners .ensures) _ _ (f-from-returns-2 c .f .given .1)
+    moved-added _ _ _ _ _ _ _ _ _ _ (add-patch-corners-from-returns-2 c .add-patch-corners .ensures) _ _ (f-from-returns-2 c .f .given .1)
     _ _ (lesser-from-returns-2 c .lesser .ensures) (lesser2-from-returns-2 c .lesser2 .ensures) _ (shift-all-from-returns-2 c .shift-all .ensures)
 
 pub add-box-corners-spec : {M : Type 1} → statement M

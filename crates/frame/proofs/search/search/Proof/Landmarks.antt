@@ -2,6 +2,9 @@
 -- `A-from-B` is the place where A was bound, seen from the need or the place B. Assumes nothing.
 use Rattle.frame.proofs.search.search.Tie as tie
 
+abbrev pub start-from-returns : tie.After-lists-of → tie.Start
+start-from-returns c = c .before .before .before .before .before .before .before .before .before .before .before .before .before
+
 abbrev pub add-patch-corners-from-returns-2 : tie.After-lists-of2 → tie.After-add-patch-corners
 add-patch-corners-from-returns-2 c = c .before .before .before .before .before .before .before .before .before .before .before
 

@@ -23,6 +23,14 @@ abbrev pub start-from-add-patches-requires : tie.After-add-patches-arg9 → tie.
 start-from-add-patches-requires c =
     level-from-add-patches-requires c .before .before .before .before .before .before .before .before .before .before .before .before
 
+abbrev pub add-patches-from-same-length : tie.After-lists-of → tie.After-add-patches
+add-patches-from-same-length c = c .before .before .before .before .before .before .before .before .before .before .before
+
+abbrev pub add-patch-corners-from-same-length : tie.After-lists-of → tie.After-add-patch-corners
+add-patch-corners-from-same-length c =
+    add-patches-from-same-length c .before .before .before .before .before .before .before .before .before .before .before .before .before
+    .before .before .before .before .before .before .before .before
+
 abbrev pub add-patches-from-returns : tie.After-lists-of → tie.After-add-patches
 add-patches-from-returns c = c .before .before .before .before .before .before .before .before .before .before .before
 

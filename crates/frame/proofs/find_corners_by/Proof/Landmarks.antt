@@ -1,0 +1,165 @@
+-- Written by tools/landmarks; not edited by hand. The places of `frame::find_corners_by` that its proof names:
+-- `A-from-B` is the place where A was bound, seen from the need or the place B. Assumes nothing.
+use Rattle.frame.proofs.find_corners_by.Tie as tie
+
+abbrev pub refusal-from-build-requires : tie.After-build-arg → tie.After-refusal
+refusal-from-build-requires c = c .before .before
+
+abbrev pub start-from-build-requires : tie.After-build-arg → tie.Start
+start-from-build-requires c =
+    refusal-from-build-requires c .before .before .before .before .before .before .before .before .before .before .before .before
+
+abbrev pub build-from-search-requires : tie.After-search-arg10 → tie.After-build
+build-from-search-requires c = c .before .before .before .before .before .before .before .before .before .before .before .before
+
+abbrev pub if1-from-search-requires : tie.After-search-arg10 → tie.Else1
+if1-from-search-requires c = build-from-search-requires c .before .before
+
+abbrev pub refusal-from-search-requires : tie.After-search-arg10 → tie.After-refusal
+refusal-from-search-requires c = if1-from-search-requires c .before
+
+abbrev pub shared-slice-known-from-search-requires : tie.After-search-arg10 → tie.After-shared-slice-known
+shared-slice-known-from-search-requires c =
+    refusal-from-search-requires c .before .before .before .before .before .before .before .before .before .before .before
+
+abbrev pub start-from-search-requires : tie.After-search-arg10 → tie.Start
+start-from-search-requires c = shared-slice-known-from-search-requires c .before
+
+abbrev pub search-from-finish-corners-requires : tie.After-finish-corners-arg4 → tie.After-search
+search-from-finish-corners-requires c =
+    c .before .before .before .before .before .before .before .before .before .before .before .before .before .before .before .before
+    .before .before .before .before .before .before .before .before .before .before .before .before .before .before .before .before .before
+    .before .before .before .before .before .before .before .before .before .before
+
+abbrev pub build-from-finish-corners-requires : tie.After-finish-corners-arg4 → tie.After-build
+build-from-finish-corners-requires c =
+    search-from-finish-corners-requires c .before .before .before .before .before .before .before .before .before .before .before .before
+    .before
+
+abbrev pub if1-from-finish-corners-requires : tie.After-finish-corners-arg4 → tie.Else1
+if1-from-finish-corners-requires c = build-from-finish-corners-requires c .before .before
+
+abbrev pub refusal-from-finish-corners-requires : tie.After-finish-corners-arg4 → tie.After-refusal
+refusal-from-finish-corners-requires c = if1-from-finish-corners-requires c .before
+
+abbrev pub shared-slice-known-from-finish-corners-requires : tie.After-finish-corners-arg4 → tie.After-shared-slice-known
+shared-slice-known-from-finish-corners-requires c =
+    refusal-from-finish-corners-requires c .before .before .before .before .before .before .before .before .before .before .before
+
+abbrev pub start-from-finish-corners-requires : tie.After-finish-corners-arg4 → tie.Start
+start-from-finish-corners-requires c = shared-slice-known-from-finish-corners-requires c .before
+
+abbrev pub clear-from-same-length : tie.After-answer-of → tie.After-clear
+clear-from-same-length c =
+    c .before .before .before .before .before .before .before .before .before .before .before .before .before .before .before .before
+    .before .before .before .before .before .before .before .before .before .before .before .before .before .before .before .before .before
+
+abbrev pub search-from-same-length : tie.After-answer-of → tie.After-search
+search-from-same-length c =
+    clear-from-same-length c .before .before .before .before .before .before .before .before .before .before .before .before .before .before
+    .before .before .before .before .before .before
+
+abbrev pub clear-levels-from-same-length-2 : tie.After-answer-of → tie.After-clear-levels
+clear-levels-from-same-length-2 c =
+    c .before .before .before .before .before .before .before .before .before .before .before .before .before .before .before .before
+    .before .before .before .before .before .before .before .before .before .before .before .before .before
+
+abbrev pub build-from-same-length-2 : tie.After-answer-of → tie.After-build
+build-from-same-length-2 c =
+    clear-levels-from-same-length-2 c .before .before .before .before .before .before .before .before .before .before .before .before
+    .before .before .before .before .before .before .before .before .before .before .before .before .before .before .before .before .before
+    .before .before .before .before .before .before .before .before
+
+abbrev pub clear-list-from-same-length-3 : tie.After-answer-of → tie.After-clear-list
+clear-list-from-same-length-3 c =
+    c .before .before .before .before .before .before .before .before .before .before .before .before .before .before .before .before
+    .before .before .before .before .before .before
+
+abbrev pub search-from-same-length-3 : tie.After-answer-of → tie.After-search
+search-from-same-length-3 c =
+    clear-list-from-same-length-3 c .before .before .before .before .before .before .before .before .before .before .before .before .before
+    .before .before .before .before .before .before .before .before .before .before .before .before .before .before .before .before .before
+    .before
+
+abbrev pub clear-list-from-same-length-4 : tie.After-answer-of → tie.After-clear-list
+clear-list-from-same-length-4 c =
+    c .before .before .before .before .before .before .before .before .before .before .before .before .before .before .before .before
+    .before .before .before .before .before .before
+
+abbrev pub search-from-same-length-4 : tie.After-answer-of → tie.After-search
+search-from-same-length-4 c =
+    clear-list-from-same-length-4 c .before .before .before .before .before .before .before .before .before .before .before .before .before
+    .before .before .before .before .before .before .before .before .before .before .before .before .before .before .before .before .before
+    .before
+
+abbrev pub clear-list-from-same-length-5 : tie.After-answer-of → tie.After-clear-list
+clear-list-from-same-length-5 c =
+    c .before .before .before .before .before .before .before .before .before .before .before .before .before .before .before .before
+    .before .before .before .before .before .before
+
+abbrev pub search-from-same-length-5 : tie.After-answer-of → tie.After-search
+search-from-same-length-5 c =
+    clear-list-from-same-length-5 c .before .before .before .before .before .before .before .before .before .before .before .before .before
+    .before .before .before .before .before .before .before .before .before .before .before .before .before .before .before .before .before
+    .before
+
+abbrev pub clear-list-from-same-length-6 : tie.After-answer-of → tie.After-clear-list
+clear-list-from-same-length-6 c =
+    c .before .before .before .before .before .before .before .before .before .before .before .before .before .before .before .before
+    .before .before .before .before .before .before
+
+abbrev pub search-from-same-length-6 : tie.After-answer-of → tie.After-search
+search-from-same-length-6 c =
+    clear-list-from-same-length-6 c .before .before .before .before .before .before .before .before .before .before .before .before .before
+    .before .before .before .before .before .before .before .before .before .before .before .before .before .before .before .before .before
+    .before
+
+abbrev pub finish-corners-from-same-length-7 : tie.After-answer-of → tie.After-finish-corners
+finish-corners-from-same-length-7 c = c .before .before .before .before .before .before .before .before .before
+
+abbrev pub search-from-same-length-7 : tie.After-answer-of → tie.After-search
+search-from-same-length-7 c =
+    finish-corners-from-same-length-7 c .before .before .before .before .before .before .before .before .before .before .before .before
+    .before .before .before .before .before .before .before .before .before .before .before .before .before .before .before .before .before
+    .before .before .before .before .before .before .before .before .before .before .before .before .before .before .before
+
+abbrev pub finish-corners-from-same-length-8 : tie.After-answer-of → tie.After-finish-corners
+finish-corners-from-same-length-8 c = c .before .before .before .before .before .before .before .before .before
+
+abbrev pub search-from-same-length-8 : tie.After-answer-of → tie.After-search
+search-from-same-length-8 c =
+    finish-corners-from-same-length-8 c .before .before .before .before .before .before .before .before .before .before .before .before
+    .before .before .before .before .before .before .before .before .before .before .before .before .before .before .before .before .before
+    .before .before .before .before .before .before .before .before .before .before .before .before .before .before .before
+
+abbrev pub finish-corners-from-returns-2 : tie.After-answer-of → tie.After-finish-corners
+finish-corners-from-returns-2 c = c .before .before .before .before .before .before .before .before .before
+
+abbrev pub clear-list-from-returns-2 : tie.After-answer-of → tie.After-clear-list
+clear-list-from-returns-2 c =
+    finish-corners-from-returns-2 c .before .before .before .before .before .before .before .before .before .before .before .before .before
+
+abbrev pub clear-levels-from-returns-2 : tie.After-answer-of → tie.After-clear-levels
+clear-levels-from-returns-2 c = clear-list-from-returns-2 c .before .before .before .before .before .before .before
+
+abbrev pub clear-from-returns-2 : tie.After-answer-of → tie.After-clear
+clear-from-returns-2 c = clear-levels-from-returns-2 c .before .before .before .before
+
+abbrev pub search-from-returns-2 : tie.After-answer-of → tie.After-search
+search-from-returns-2 c =
+    clear-from-returns-2 c .before .before .before .before .before .before .before .before .before .before .before .before .before .before
+    .before .before .before .before .before .before
+
+abbrev pub build-from-returns-2 : tie.After-answer-of → tie.After-build
+build-from-returns-2 c =
+    search-from-returns-2 c .before .before .before .before .before .before .before .before .before .before .before .before .before
+
+abbrev pub if1-from-returns-2 : tie.After-answer-of → tie.Else1
+if1-from-returns-2 c = build-from-returns-2 c .before .before
+
+abbrev pub refusal-from-returns-2 : tie.After-answer-of → tie.After-refusal
+refusal-from-returns-2 c = if1-from-returns-2 c .before
+
+abbrev pub start-from-returns-2 : tie.After-answer-of → tie.Start
+start-from-returns-2 c =
+    refusal-from-returns-2 c .before .before .before .before .before .before .before .before .before .before .before .before

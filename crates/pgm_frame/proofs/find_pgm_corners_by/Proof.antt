@@ -1,0 +1,82 @@
+-- `pgm_frame::find_pgm_corners_by` meets its contract: the upload is refused, or its pixels have the frame's promise. Assumes nothing.
+mod Landmarks
+use borrow.Author.Needs.{needs}
+use Rattle.pgm_frame.proofs.Photographs.{photograph-refused, photograph-found}
+use Rattle.pgm_frame.proofs.find_pgm_corners_by.Statement.{statement}
+use Rattle.pgm_frame.proofs.find_pgm_corners_by.Tie as tie
+use Landmarks.*
+
+read-pgm-requires : tie.Need-read-pgm-requires
+read-pgm-requires c κs = search needs
+
+enum-known-image : tie.Need-enum-known-image
+enum-known-image c = search needs
+
+enum-known-image-2 : tie.Need-enum-known-image-2
+enum-known-image-2 c = search needs
+
+pgm-pixels-requires : tie.Need-pgm-pixels-requires
+pgm-pixels-requires c κs = search needs
+
+find-corners-by-requires : tie.Need-find-corners-by-requires
+find-corners-by-requires c κs = search needs
+
+returns : tie.Need-returns
+returns c = photograph-refused _ _ _ _ _ (c .before .before .before .read-pgm .ensures) _ (c .before .image .given .1)
+
+same-length : tie.Need-same-length
+same-length c = search needs
+
+same-length-2 : tie.Need-same-length-2
+same-length-2 c = search needs
+
+same-length-3 : tie.Need-same-length-3
+same-length-3 c = search needs
+
+same-length-4 : tie.Need-same-length-4
+same-length-4 c = search needs
+
+same-length-5 : tie.Need-same-length-5
+same-length-5 c = search needs
+
+same-length-6 : tie.Need-same-length-6
+same-length-6 c = search needs
+
+same-length-7 : tie.Need-same-length-7
+same-length-7 c = search needs
+
+same-length-8 : tie.Need-same-length-8
+same-length-8 c = search needs
+
+same-length-9 : tie.Need-same-length-9
+same-length-9 c = search needs
+
+same-length-10 : tie.Need-same-length-10
+same-length-10 c = search needs
+
+returns-2 : tie.Need-returns-2
+returns-2 c =
+    photograph-found _ _ _ _ _ (read-pgm-from-returns-2 c .read-pgm .ensures) _ _ _ (image2-from-returns-2 c .image2 .given .1)
+    _ (pgm-pixels-from-returns-2 c .pgm-pixels .ensures) _ _ (find-corners-by-from-returns-2 c .find-corners-by .ensures)
+
+pub find-pgm-corners-by-spec : {M : Type 1} → statement M
+find-pgm-corners-by-spec =
+    tie.close
+    (tie.spec
+    read-pgm-requires
+    enum-known-image
+    enum-known-image-2
+    pgm-pixels-requires
+    find-corners-by-requires
+    returns
+    same-length
+    same-length-2
+    same-length-3
+    same-length-4
+    same-length-5
+    same-length-6
+    same-length-7
+    same-length-8
+    same-length-9
+    same-length-10
+    returns-2)
