@@ -7,12 +7,11 @@ use Rattle.lists.specs.Refusals.{unless, valuesUnless, resultOr}
 use Rattle.lists.proofs.Answers.{answer, value}
 use Rattle.corner_list.specs.declared.Corner.{Corner}
 use Rattle.corner_list.specs.CornerList.{Slices, placesOf, cornerAt}
-use Rattle.corner_strike.specs.declared.Edition.{Edition}
 use Rattle.corner_strike.specs.declared.showing.Shown.{Shown}
 use Rattle.corner_strike.specs.declared.showing.Shown.the-variants as shown
 use Rattle.corner_strike.specs.declared.striking.Strike.{Strike}
 use Rattle.corner_strike.specs.declared.striking.Strike.the-variants as struck
-use Rattle.corner_strike.specs.Editions.{raised}
+use Rattle.corner_strike.specs.Editions.{Edition}
 use Rattle.corner_strike.specs.Showing as showing
 use Rattle.corner_strike.specs.Striking as striking
 use Rattle.capi_lists.specs.Showing.{CornerShown}
@@ -24,7 +23,7 @@ module _ (b : Slices) (e : Edition) (place : ℕ) (a : Shown) (r : ℕ) (p : sho
   part-is : {B : Type 0} (part : Corner × ℕ → B) (before x : B) → x ≡ getD (map part (showing.valuesOf a)) 0 before
       → x ≡ resultOr r (part (cornerAt b place, e .change)) before
   part-is part before x =
-      let number = showing.refusalOf (placesOf b) e place in
+      let number = showing.refusalOf (placesOf b) (e .count) place in
       value showing.numberOf a number (p .number) r n (λ s. map part (showing.valuesOf s)) (part (cornerAt b place, e .change) ∷ [])
       (ap (map part) (p .values) ∙ go number) 0 before x
     where
@@ -36,7 +35,7 @@ module _ (b : Slices) (e : Edition) (place : ℕ) (a : Shown) (r : ℕ) (p : sho
       → c′ ≡ getD (map (λ v. v .0) (showing.valuesOf a)) 0 c → change′ ≡ getD (map (λ v. v .1) (showing.valuesOf a)) 0 change
       → CornerShown b e place c change r c′ change′
   corner-shown c change c′ change′ x y =
-      let number = showing.refusalOf (placesOf b) e place in
+      let number = showing.refusalOf (placesOf b) (e .count) place in
       let by : ℕ → Shown = λ k. unless shown.Refused k (shown.Found (cornerAt b place) (e .change)) in
       record {
         answer = subst (showing.Shows b e place) (answer showing.numberOf a number (p .number) r n by (p .answer)) p;
@@ -46,13 +45,12 @@ module _ (b : Slices) (e : Edition) (place : ℕ) (a : Shown) (r : ℕ) (p : sho
 
 -- ---- a corner struck
 module _ (b : Slices) (e : Edition) (place change : ℕ) (a : Strike) (r : ℕ) (b′ : Slices) (e′ : Edition) where
-  pub corner-struck : striking.Strikes b e place change a b′ → r ≡ striking.numberOf a → e′ ≡ getD (striking.valuesOf a) 0 e
+  pub corner-struck : striking.Strikes b e place change a b′ e′ → r ≡ striking.numberOf a
       → CornerStruck b e place change r b′ e′
-  corner-struck p n x =
+  corner-struck p n =
       let number = striking.refusalOf (placesOf b) e place change in
       record {
         answer =
-            subst (λ (o : Strike). striking.Strikes b e place change o b′)
-            (answer striking.numberOf a number (p .number) r n (λ k. unless struck.Refused k (struck.Struck (raised e))) (p .answer)) p;
-        edition-is = value striking.numberOf a number (p .number) r n striking.valuesOf (raised e ∷ []) (p .values) 0 e e′ x;
+            subst (λ (o : Strike). striking.Strikes b e place change o b′ e′)
+            (answer striking.numberOf a number (p .number) r n (λ k. unless struck.Refused k (striking.struckBy e)) (p .answer)) p;
       }

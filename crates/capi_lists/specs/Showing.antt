@@ -5,8 +5,8 @@ use lib.Ieee.{Float}
 use Rattle.lists.specs.Refusals.{unless, resultOr}
 use Rattle.corner_list.specs.declared.Corner.{Corner}
 use Rattle.corner_list.specs.CornerList.{Slices, cornerAt}
-use Rattle.corner_strike.specs.declared.Edition.{Edition}
 use Rattle.corner_strike.specs.declared.showing.Shown.the-variants.{Found, Refused}
+use Rattle.corner_strike.specs.Editions.{Edition}
 use Rattle.corner_strike.specs.Showing.{Shows}
 
 -- the fields of a corner, in the order of the arguments

@@ -1,6 +1,5 @@
 // The corner at a place of a list, with the list's change number.
 use corner_list::Corner;
-use corner_strike::Edition;
 use corner_strike::Shown;
 ghost use mathlib.Core.Path.{_≡_};
 ghost use mathlib.Core.List.{map};
@@ -61,8 +60,7 @@ pub extern "C" fn zakdomp_show_corner(
         (corner (now (x .entry)) (now (y .entry)) (now (strength .entry)) (now («neighbour_count» .entry))) (now (shown .entry))
         r (corner (now (x .exit)) (now (y .exit)) (now (strength .exit)) (now («neighbour_count» .exit))) (now (shown .exit)) ⌝ }
 {
-    let list = Edition { count, change };
-    let a = corner_strike::show_corner(xs, ys, strengths, neighbours, list, place);
+    let a = corner_strike::show_corner(xs, ys, strengths, neighbours, count, change, place);
     let before = Corner {
         x: *x,
         y: *y,

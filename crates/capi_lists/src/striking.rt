@@ -1,11 +1,9 @@
 // The corner at a place of a list removed.
-use corner_strike::Edition;
 use corner_strike::Strike;
 ghost use mathlib.Core.Path.{_≡_};
-ghost use lib.ListN.{getD};
 ghost use Rattle.corner_list.specs.CornerList.{slices};
 ghost use Rattle.corner_strike.specs.Editions.{edition};
-ghost use Rattle.corner_strike.specs.Striking.{numberOf, valuesOf};
+ghost use Rattle.corner_strike.specs.Striking.{numberOf};
 ghost use Rattle.capi_lists.specs.Striking.{CornerStruck};
 
 // The number of an answer, 0 where a corner was struck.
@@ -13,18 +11,8 @@ fn number_of(a: Strike) -> u8
     ensures { λ r. ⌜ r ≡ numberOf a ⌝ }
 {
     match a {
-        Strike::Struck(_) => 0,
+        Strike::Struck(_, _) => 0,
         Strike::Refused(n) => n,
-    }
-}
-
-// The list's count and change number, or `before` where refused.
-fn edition_of(a: Strike, before: Edition) -> Edition
-    ensures { λ r. ⌜ r ≡ getD (valuesOf a) 0 before ⌝ }
-{
-    match a {
-        Strike::Struck(list) => list,
-        Strike::Refused(_) => before,
     }
 }
 
@@ -45,13 +33,15 @@ pub extern "C" fn zakdomp_strike_corner(
         (edition (now (count .entry)) (now (change .entry))) place shown
         r (slices (now (xs .exit)) (now (ys .exit)) (now (strengths .exit)) (now (neighbours .exit))) (edition (now (count .exit)) (now (change .exit))) ⌝ }
 {
-    let before = Edition {
-        count: *count,
-        change: *change,
-    };
-    let a = corner_strike::strike_corner(xs, ys, strengths, neighbours, before, place, shown);
-    let after = edition_of(a, before);
-    *count = after.count;
-    *change = after.change;
+    let a = corner_strike::strike_corner(
+        xs,
+        ys,
+        strengths,
+        neighbours,
+        count,
+        change,
+        place,
+        shown,
+    );
     number_of(a)
 }

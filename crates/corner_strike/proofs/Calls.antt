@@ -7,11 +7,10 @@ use lib.ListN.{length}
 use Rattle.lists.specs.Refusals.{valuesUnless, unless, resultOr}
 use Rattle.corner_list.specs.declared.Corner.{Corner}
 use Rattle.corner_list.specs.CornerList.{Slices, placesOf, cornerAt, withoutCorner}
-use Rattle.corner_strike.specs.declared.Edition.{Edition}
 use Rattle.corner_strike.specs.declared.showing.Shown.the-variants as shown
 use Rattle.corner_strike.specs.declared.striking.Strike.{Strike}
 use Rattle.corner_strike.specs.declared.striking.Strike.the-variants as strike
-use Rattle.corner_strike.specs.Editions.{raised}
+use Rattle.corner_strike.specs.Editions.{Edition, raised}
 use Rattle.corner_strike.specs.Showing as showing
 use Rattle.corner_strike.specs.Striking as striking
 use Rattle.corner_strike.proofs.Judging.{Showable, showable, Strikable, strikable}
@@ -29,25 +28,29 @@ was-shown b e place c change p =
     record { can = showable (placesOf b) e place (sym (p .number)); corner-is = cc; change-is = cc }
 
 -- ---- a call that struck
-pub record StruckAs (b : Slices) (e : Edition) (place change : ℕ) (r : Strike) (b′ : Slices) : Type 0 where
+pub record StruckAs (b : Slices) (e : Edition) (place change : ℕ) (r : Strike) (b′ : Slices) (e′ : Edition) : Type 0 where
   pub can : Strikable (placesOf b) e place change
-  pub answer-is : r ≡ strike.Struck (raised e)
+  pub answer-is : r ≡ striking.struckBy e
   pub buffer-is : b′ ≡ withoutCorner place (e .count) b
+  pub edition-is : e′ ≡ raised e
 
-module _ (b : Slices) (e : Edition) (place change : ℕ) (r : Strike) (b′ : Slices) (p : striking.Strikes b e place change r b′) where
-  pub was-struck : striking.numberOf r ≡ 0 → StruckAs b e place change r b′
+module _ (b : Slices) (e : Edition) (place change : ℕ) (r : Strike) (b′ : Slices) (e′ : Edition) (p : striking.Strikes b e place change r b′ e′) where
+  pub was-struck : striking.numberOf r ≡ 0 → StruckAs b e place change r b′ e′
   was-struck z =
       let n : striking.refusalOf (placesOf b) e place change ≡ 0 = sym (p .number) ∙ z in
       record {
         can = strikable (placesOf b) e place change n;
-        answer-is = p .answer ∙ ap (λ (k : ℕ). unless strike.Refused k (strike.Struck (raised e))) n;
+        answer-is = p .answer ∙ ap (λ (k : ℕ). unless strike.Refused k (striking.struckBy e)) n;
         buffer-is = p .buffer ∙ ap (λ (k : ℕ). resultOr k (withoutCorner place (e .count) b) b) n;
+        edition-is = p .edition ∙ ap (λ (k : ℕ). resultOr k (raised e) e) n;
       }
 
--- ---- a call that was refused left the buffer as it was
-pub was-refused : (b : Slices) (e : Edition) (place change k : ℕ) (b′ : Slices) → striking.Strikes b e place change (strike.Refused k) b′ → b′ ≡ b
-was-refused b e place change k b′ p = go (striking.refusalOf (placesOf b) e place change) (p .values) (p .buffer)
-  where
-    go : (n : ℕ) → striking.valuesOf (strike.Refused k) ≡ valuesUnless n (raised e ∷ []) → b′ ≡ resultOr n (withoutCorner place (e .count) b) b → b′ ≡ b
-    go zero v q = let none = ap length v in absurd (let no : ⊥ = omega arith in no)
-    go (suc n) v q = q
+-- ---- a call that was refused left the list as it was
+module _ (b : Slices) (e : Edition) (place change k : ℕ) (b′ : Slices) (e′ : Edition) (p : striking.Strikes b e place change (strike.Refused k) b′ e′) where
+  pub was-refused : (b′ ≡ b) × (e′ ≡ e)
+  was-refused = go (striking.refusalOf (placesOf b) e place change) (p .values) (p .buffer) (p .edition)
+    where
+      go : (n : ℕ) → striking.valuesOf (strike.Refused k) ≡ valuesUnless n (raised e ∷ []) → b′ ≡ resultOr n (withoutCorner place (e .count) b) b
+          → e′ ≡ resultOr n (raised e) e → (b′ ≡ b) × (e′ ≡ e)
+      go zero v q q′ = let none = ap length v in absurd (let no : ⊥ = omega arith in no)
+      go (suc n) v q q′ = (q, q′)

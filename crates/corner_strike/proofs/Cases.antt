@@ -20,9 +20,16 @@ module _ (a b c : Corner) where
   unfolding showing.refusalOf
   second-shown = record { answer = refl; number = refl; values = refl }
 
-  pub second-struck : striking.Strikes (buffer (a ∷ b ∷ c ∷ [])) (edition 3 0) 1 0 (strike.Struck (edition 2 1)) (buffer (a ∷ c ∷ noCorner ∷ []))
+  pub second-struck : striking.Strikes (buffer (a ∷ b ∷ c ∷ [])) (edition 3 0) 1 0 (strike.Struck 2 1)
+      (buffer (a ∷ c ∷ noCorner ∷ [])) (edition 2 1)
   unfolding striking.refusalOf withoutCorner tab
-  second-struck = record { answer = refl; number = refl; values = refl; buffer = refl }
+  second-struck = record { answer = refl; number = refl; values = refl; buffer = refl; edition = refl }
+
+  -- the same call again, on the list that the first has left
+  pub second-stale : striking.Strikes (buffer (a ∷ c ∷ noCorner ∷ [])) (edition 2 1) 1 0 (strike.Refused 16)
+      (buffer (a ∷ c ∷ noCorner ∷ [])) (edition 2 1)
+  unfolding striking.refusalOf
+  second-stale = record { answer = refl; number = refl; values = refl; buffer = refl; edition = refl }
 
 -- ---- the numbers of calls on lists in three places: count, change number, place, and the number that is named
 abbrev struck : ℕ → ℕ → ℕ → ℕ → ℕ
@@ -35,11 +42,11 @@ pub numbers-struck :
 unfolding striking.refusalOf
 numbers-struck = refl
 
--- and of those that show: count, change number and place
-abbrev shows : ℕ → ℕ → ℕ → ℕ
-shows count change place = showing.refusalOf 3 (edition count change) place
+-- and of those that show, whatever the change number is: count and place
+abbrev shows : ℕ → ℕ → ℕ
+shows count place = showing.refusalOf 3 count place
 
 pub numbers-shown :
-    (shows 3 4294967295 2 ∷ shows 2 1 2 ∷ shows 0 0 0 ∷ shows 4 0 0 ∷ shows 4 0 9 ∷ []) ≡ 0 ∷ 17 ∷ 17 ∷ 10 ∷ 10 ∷ []
+    (shows 3 2 ∷ shows 2 2 ∷ shows 0 0 ∷ shows 4 0 ∷ shows 4 9 ∷ []) ≡ 0 ∷ 17 ∷ 17 ∷ 10 ∷ 10 ∷ []
 unfolding showing.refusalOf
 numbers-shown = refl

@@ -4,8 +4,8 @@ use native.Mathlib.Omega.{arith}
 use native.Mathlib.Numerals.{add-one}
 use mathlib.Core.Path.{_≡_, sym, ap, _∙_}
 use mathlib.Core.List.{List, [], _∷_, _++_}
-use lib.ListN.{length, getD, take, drop, length-append, length-drop, take-append-drop}
-use lib.Seq.{length-take-le, take-suc, take-at, take-all, drop-cons, getD-append-add, getD-drop}
+use lib.ListN.{length, getD, take, drop, length-append, length-drop, take-append-drop, List·getD-append}
+use lib.Seq.{length-take-le, take-suc, take-at, take-all, drop-cons, getD-append-add, getD-append-seam, getD-take, getD-drop}
 use Rattle.lists.specs.Tab.{tab}
 use Rattle.lists.proofs.Tab.{tab-add, length-tab}
 use Rattle.corner_list.specs.declared.Corner.{Corner}
@@ -23,6 +23,9 @@ module _ {A : Type 0} (place : ℕ) (l : List A) (h : place < length l) where
 
   without-first : take place (without place l) ≡ take place l
   without-first = take-at (take place l) (drop (suc place) l) place first-length
+
+  without-before : (i : ℕ) (d : A) → i < place → getD (without place l) i d ≡ getD l i d
+  without-before i d q = List·getD-append (take place l) (drop (suc place) l) d i (omega (arith, first-length)) ∙ getD-take place l i d q
 
   -- those behind the place moved up
   without-behind : (i : ℕ) (d : A) → place ≤ i → getD (without place l) i d ≡ getD l (suc i) d
@@ -71,16 +74,56 @@ module _ (b₀ : Slices) (n place : ℕ) (p : place < n) (h : n ≤ placesOf b�
         ∙ ap (λ (cs : List Corner). frontCorners cs b₀) (sym (without-first place (cornersOf b₀ n) in-list ∙ first-corners b₀ n place (omega arith)));
   }
 
-  -- the corners of the buffer that is left
-  pub removed-corners : cornersOf (withoutCorner place n b₀) (n - 1) ≡ left b₀ n place
+  -- the corners of the buffer that is left: those that stay, and behind them the one that is 0
+  abbrev freed : List Corner
+  freed = left b₀ n place ++ (noCorner ∷ [])
+
+  freed-length : n ≡ length freed
+  freed-length = omega (arith, left-length, length-append (left b₀ n place) (noCorner ∷ []))
+
+  freed-corners : cornersOf (withoutCorner place n b₀) n ≡ freed
   unfolding withoutCorner
+  freed-corners = corners-front freed b₀ n freed-length
+
+  pub removed-corners : cornersOf (withoutCorner place n b₀) (n - 1) ≡ left b₀ n place
   removed-corners =
-      let all = left b₀ n place ++ (noCorner ∷ []) in
       let last : length (left b₀ n place) ≡ n - 1 = omega (arith, left-length) in
-      let long : n ≡ length all = omega (arith, left-length, length-append (left b₀ n place) (noCorner ∷ [])) in
-      sym (first-corners (frontCorners all b₀) n (n - 1) (omega arith))
-      ∙ ap (take (n - 1)) (corners-front all b₀ n long)
+      sym (first-corners (withoutCorner place n b₀) n (n - 1) (omega arith))
+      ∙ ap (take (n - 1)) freed-corners
       ∙ take-at (left b₀ n place) (noCorner ∷ []) (n - 1) last
+
+  -- and place by place
+  removed-at : (i : ℕ) → i < n → cornerAt (withoutCorner place n b₀) i ≡ getD freed i (cornerAt b₀ 0)
+  removed-at i l =
+      sym (corners-at (withoutCorner place n b₀) n i (cornerAt b₀ 0) l) ∙ ap (λ (cs : List Corner). getD cs i (cornerAt b₀ 0)) freed-corners
+
+  removed-stays : (i : ℕ) → i < n - 1 → cornerAt (withoutCorner place n b₀) i ≡ getD (left b₀ n place) i (cornerAt b₀ 0)
+  removed-stays i l =
+      removed-at i (omega arith) ∙ List·getD-append (left b₀ n place) (noCorner ∷ []) (cornerAt b₀ 0) i (omega (arith, left-length))
+
+  pub removed-before : (i : ℕ) → i < place → cornerAt (withoutCorner place n b₀) i ≡ cornerAt b₀ i
+  removed-before i q =
+      removed-stays i (omega arith)
+      ∙ without-before place (cornersOf b₀ n) in-list i (cornerAt b₀ 0) q
+      ∙ corners-at b₀ n i (cornerAt b₀ 0) (omega arith)
+
+  pub removed-later : (i : ℕ) → place ≤ i → i + 1 < n → cornerAt (withoutCorner place n b₀) i ≡ cornerAt b₀ (i + 1)
+  removed-later i q l =
+      removed-stays i (omega arith)
+      ∙ without-behind place (cornersOf b₀ n) in-list i (cornerAt b₀ 0) q
+      ∙ ap (λ (k : ℕ). getD (cornersOf b₀ n) k (cornerAt b₀ 0)) (sym (add-one i))
+      ∙ corners-at b₀ n (i + 1) (cornerAt b₀ 0) l
+
+  pub removed-last : (i : ℕ) → i + 1 ≡ n → cornerAt (withoutCorner place n b₀) i ≡ noCorner
+  removed-last i q =
+      let last : i ≡ length (left b₀ n place) = omega (arith, left-length) in
+      removed-at i (omega arith)
+      ∙ ap (λ (k : ℕ). getD freed k (cornerAt b₀ 0)) last
+      ∙ getD-append-seam (left b₀ n place) noCorner [] (cornerAt b₀ 0)
+
+  pub removed-behind : (i : ℕ) → n ≤ i → cornerAt (withoutCorner place n b₀) i ≡ cornerAt b₀ i
+  unfolding withoutCorner
+  removed-behind i q = corners-behind freed b₀ i (omega (arith, freed-length))
 
   module _ (at : ℕ) (b : Slices) (m : Moving b₀ n place at b) where
     taken : at ≡ length (take at (left b₀ n place))

@@ -2,9 +2,13 @@
 use Prim.Native.Nat.{ℕ, _+_, _-_}
 use mathlib.Core.Bool.{Bool, not}
 use lib.Dec.{eqb, ltb, leb}
-use Rattle.corner_strike.specs.declared.Edition.{Edition}
 
--- a list of so many corners with this change number, which is 0 before any is struck (RULES 29.1)
+-- what a list has beside its buffer: how many corners, and its change number (RULES 29.1)
+pub record Edition : Type 0 where
+  pub count : ℕ
+  pub change : ℕ
+
+-- a list of so many corners with this change number (RULES 29.1)
 abbrev pub edition : ℕ → ℕ → Edition
 edition count change = record { count = count; change = change }
 
@@ -15,16 +19,16 @@ raised e = edition (e .count - 1) (e .change + 1)
 -- ---- conditions (RULES 2.2)
 
 -- 10: the count of the list exceeds its buffer's places
-abbrev pub isShort : ℕ → Edition → Bool
-isShort places e = ltb places (e .count)
+abbrev pub isShort : ℕ → ℕ → Bool
+isShort places count = ltb places count
 
 -- 16: the change number that is named differs from the list's
 abbrev pub isOther : Edition → ℕ → Bool
 isOther e change = not (eqb change (e .change))
 
 -- 17: the place is beyond the list; places count from 0
-abbrev pub isBeyond : Edition → ℕ → Bool
-isBeyond e place = leb (e .count) place
+abbrev pub isBeyond : ℕ → ℕ → Bool
+isBeyond count place = leb count place
 
 -- 18: the change number is the largest u32
 abbrev pub isLargest : Edition → Bool

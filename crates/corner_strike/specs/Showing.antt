@@ -6,17 +6,16 @@ use mathlib.Core.List.{List, [], _∷_}
 use Rattle.lists.specs.Refusals.{lowest, unless, valuesUnless}
 use Rattle.corner_list.specs.declared.Corner.{Corner}
 use Rattle.corner_list.specs.CornerList.{Slices, placesOf, cornerAt}
-use Rattle.corner_strike.specs.declared.Edition.{Edition}
 use Rattle.corner_strike.specs.declared.showing.Shown.{Shown}
 use Rattle.corner_strike.specs.declared.showing.Shown.the-variants.{Found, Refused}
-use Rattle.corner_strike.specs.Editions.{isShort, isBeyond}
+use Rattle.corner_strike.specs.Editions.{Edition, isShort, isBeyond}
 
 -- 10, then 17; the change number is not judged
-abbrev pub conditions : ℕ → Edition → ℕ → List (Bool × ℕ)
-conditions places e place = (isShort places e, 10) ∷ (isBeyond e place, 17) ∷ []
+abbrev pub conditions : ℕ → ℕ → ℕ → List (Bool × ℕ)
+conditions places count place = (isShort places count, 10) ∷ (isBeyond count place, 17) ∷ []
 
-unfoldable pub refusalOf : ℕ → Edition → ℕ → ℕ
-refusalOf places e place = lowest (conditions places e place)
+unfoldable pub refusalOf : ℕ → ℕ → ℕ → ℕ
+refusalOf places count place = lowest (conditions places count place)
 
 -- the number and the values of each case
 abbrev pub numberOf : Shown → ℕ
@@ -29,6 +28,6 @@ valuesOf (Refused k) = []
 
 -- the promise of `show_corner`, of the list with the buffer b: the corner at the place, and the list's change number. It has no buffer to change
 pub record Shows (b : Slices) (e : Edition) (place : ℕ) (r : Shown) : Type 0 where
-  pub answer : r ≡ unless Refused (refusalOf (placesOf b) e place) (Found (cornerAt b place) (e .change))
-  pub number : numberOf r ≡ refusalOf (placesOf b) e place
-  pub values : valuesOf r ≡ valuesUnless (refusalOf (placesOf b) e place) ((cornerAt b place, e .change) ∷ [])
+  pub answer : r ≡ unless Refused (refusalOf (placesOf b) (e .count) place) (Found (cornerAt b place) (e .change))
+  pub number : numberOf r ≡ refusalOf (placesOf b) (e .count) place
+  pub values : valuesOf r ≡ valuesUnless (refusalOf (placesOf b) (e .count) place) ((cornerAt b place, e .change) ∷ [])

@@ -5,31 +5,36 @@ use mathlib.Core.Bool.{Bool}
 use mathlib.Core.List.{List, [], _∷_}
 use Rattle.lists.specs.Refusals.{lowest, unless, valuesUnless, resultOr}
 use Rattle.corner_list.specs.CornerList.{Slices, placesOf, withoutCorner}
-use Rattle.corner_strike.specs.declared.Edition.{Edition}
 use Rattle.corner_strike.specs.declared.striking.Strike.{Strike}
 use Rattle.corner_strike.specs.declared.striking.Strike.the-variants.{Struck, Refused}
-use Rattle.corner_strike.specs.Editions.{raised, isShort, isOther, isBeyond, isLargest}
+use Rattle.corner_strike.specs.Editions.{Edition, edition, raised, isShort, isOther, isBeyond, isLargest}
 
 -- 10, 16, 17, 18, in this order
 abbrev pub conditions : ℕ → Edition → ℕ → ℕ → List (Bool × ℕ)
 conditions places e place change =
-    (isShort places e, 10) ∷ (isOther e change, 16) ∷ (isBeyond e place, 17) ∷ (isLargest e, 18) ∷ []
+    (isShort places (e .count), 10) ∷ (isOther e change, 16) ∷ (isBeyond (e .count) place, 17) ∷ (isLargest e, 18) ∷ []
 
 unfoldable pub refusalOf : ℕ → Edition → ℕ → ℕ → ℕ
 refusalOf places e place change = lowest (conditions places e place change)
 
--- the number and the values of each case: 0 for no refusal, and the list's count and change number
+-- what is answered where nothing refuses: the list's count and change number after the strike
+abbrev pub struckBy : Edition → Strike
+struckBy e = Struck (raised e .count) (raised e .change)
+
+-- the number and the values of each case
 abbrev pub numberOf : Strike → ℕ
-numberOf (Struck e) = 0
+numberOf (Struck count change) = 0
 numberOf (Refused k) = k
 
 abbrev pub valuesOf : Strike → List Edition
-valuesOf (Struck e) = e ∷ []
+valuesOf (Struck count change) = edition count change ∷ []
 valuesOf (Refused k) = []
 
--- the promise of `strike_corner`, of the list with the buffer b: the corner at the place is removed; where refused, the buffer is as it was
-pub record Strikes (b : Slices) (e : Edition) (place change : ℕ) (r : Strike) (b′ : Slices) : Type 0 where
-  pub answer : r ≡ unless Refused (refusalOf (placesOf b) e place change) (Struck (raised e))
+-- the promise of `strike_corner`, of the list with the buffer b and the count and change number e: the corner at the place is removed, and both
+-- numbers are changed in their places; where refused, buffer, count and change number are as they were
+pub record Strikes (b : Slices) (e : Edition) (place change : ℕ) (r : Strike) (b′ : Slices) (e′ : Edition) : Type 0 where
+  pub answer : r ≡ unless Refused (refusalOf (placesOf b) e place change) (struckBy e)
   pub number : numberOf r ≡ refusalOf (placesOf b) e place change
   pub values : valuesOf r ≡ valuesUnless (refusalOf (placesOf b) e place change) (raised e ∷ [])
   pub buffer : b′ ≡ resultOr (refusalOf (placesOf b) e place change) (withoutCorner place (e .count) b) b
+  pub edition : e′ ≡ resultOr (refusalOf (placesOf b) e place change) (raised e) e

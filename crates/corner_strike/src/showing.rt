@@ -1,8 +1,8 @@
 // The corner at a place of a list, and the list's change number.
-use crate::Edition;
 use corner_list::Corner;
 ghost use mathlib.Core.Path.{_≡_};
 ghost use Rattle.corner_list.specs.CornerList.{slices};
+ghost use Rattle.corner_strike.specs.Editions.{edition};
 ghost use Rattle.corner_strike.specs.Showing.{refusalOf, Shows};
 
 // The corner with the list's change number, or the number of the refusal.
@@ -12,10 +12,9 @@ pub enum Shown {
 }
 
 // The number of the refusal, 0 for none.
-fn refusal(places: usize, edition: Edition, place: usize) -> u8
-    ensures { λ r. ⌜ r ≡ refusalOf places edition place ⌝ }
+fn refusal(places: usize, count: usize, place: usize) -> u8
+    ensures { λ r. ⌜ r ≡ refusalOf places count place ⌝ }
 {
-    let count = edition.count;
     if places < count {
         return 10;
     }
@@ -25,22 +24,24 @@ fn refusal(places: usize, edition: Edition, place: usize) -> u8
     0
 }
 
-// Shows the corner at a place of a list, and the change number by which it can be struck.
+// Shows the corner at a place of a list of `count` corners with the change number `change`, and that number, by which it can be struck.
 pub fn show_corner(
     xs: &[f32],
     ys: &[f32],
     strengths: &[f32],
     neighbours: &[u32],
-    edition: Edition,
+    count: usize,
+    change: u32,
     place: usize,
 ) -> Shown
-    ensures { λ r. ⌜ Shows (slices (now (xs .entry)) (now (ys .entry)) (now (strengths .entry)) (now (neighbours .entry))) edition place r ⌝ }
+    ensures { λ r. ⌜ Shows (slices (now (xs .entry)) (now (ys .entry)) (now (strengths .entry)) (now (neighbours .entry)))
+        (edition count change) place r ⌝ }
 {
     let places = corner_list::places(xs.len(), ys.len(), strengths.len(), neighbours.len());
-    let number = refusal(places, edition, place);
+    let number = refusal(places, count, place);
     if number != 0 {
         return Shown::Refused(number);
     }
     let c = corner_list::corner_at(xs, ys, strengths, neighbours, place);
-    Shown::Found(c, edition.change)
+    Shown::Found(c, change)
 }

@@ -1,31 +1,31 @@
 // The corner at a place of a list removed.
-use crate::Edition;
 use corner_list::Corner;
 ghost use mathlib.Core.Path.{_≡_};
 ghost use Prim.Native.Nat.{_<_, _≤_};
 ghost use Rattle.corner_list.specs.CornerList.{slices, placesOf, withoutCorner};
+ghost use Rattle.corner_strike.specs.Editions.{edition};
 ghost use Rattle.corner_strike.specs.Striking.{refusalOf, Strikes};
 
 // The list's count and change number after the strike, or the number of the refusal.
 pub enum Strike {
-    Struck(Edition),
+    Struck(usize, u32),
     Refused(u8),
 }
 
 // The number of the refusal, 0 for none.
-fn refusal(places: usize, edition: Edition, place: usize, change: u32) -> u8
-    ensures { λ r. ⌜ r ≡ refusalOf places edition place change ⌝ }
+fn refusal(places: usize, count: usize, change: u32, place: usize, shown: u32) -> u8
+    ensures { λ r. ⌜ r ≡ refusalOf places (edition count change) place shown ⌝ }
 {
-    if places < edition.count {
+    if places < count {
         return 10;
     }
-    if change != edition.change {
+    if shown != change {
         return 16;
     }
-    if edition.count <= place {
+    if count <= place {
         return 17;
     }
-    if edition.change == 4294967295 {
+    if change == 4294967295 {
         return 18;
     }
     0
@@ -60,27 +60,32 @@ fn remove_corner(
     corner_list::put_corner(xs, ys, strengths, neighbours, last, none);
 }
 
-// Strikes the corner at a place of a list whose change number is the one named.
+// Strikes the corner at a place of a list of `count` corners whose change number `change` is the one that was shown. Both are borrowed: one corner
+// fewer is counted and the change number is raised by one in place, so whoever has the list sees that it changed, and a second call by the number
+// that was shown is refused.
 pub fn strike_corner(
     xs: &mut [f32],
     ys: &mut [f32],
     strengths: &mut [f32],
     neighbours: &mut [u32],
-    edition: Edition,
+    count: &mut usize,
+    change: &mut u32,
     place: usize,
-    change: u32,
+    shown: u32,
 ) -> Strike
-    ensures { λ r. ⌜ Strikes (slices (now (xs .entry)) (now (ys .entry)) (now (strengths .entry)) (now (neighbours .entry))) edition place change
-        r (slices (now (xs .exit)) (now (ys .exit)) (now (strengths .exit)) (now (neighbours .exit))) ⌝ }
+    ensures { λ r. ⌜ Strikes (slices (now (xs .entry)) (now (ys .entry)) (now (strengths .entry)) (now (neighbours .entry)))
+        (edition (now (count .entry)) (now (change .entry))) place shown
+        r (slices (now (xs .exit)) (now (ys .exit)) (now (strengths .exit)) (now (neighbours .exit))) (edition (now (count .exit)) (now (change .exit))) ⌝ }
 {
     let places = corner_list::places(xs.len(), ys.len(), strengths.len(), neighbours.len());
-    let number = refusal(places, edition, place, change);
+    let number = refusal(places, *count, *change, place, shown);
     if number != 0 {
         return Strike::Refused(number);
     }
-    remove_corner(xs, ys, strengths, neighbours, edition.count, place);
-    Strike::Struck(Edition {
-        count: edition.count - 1,
-        change: edition.change + 1,
-    })
+    remove_corner(xs, ys, strengths, neighbours, *count, place);
+    let left = *count - 1;
+    let raised = *change + 1;
+    *count = left;
+    *change = raised;
+    Strike::Struck(left, raised)
 }

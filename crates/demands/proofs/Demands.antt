@@ -12,7 +12,7 @@ use Rattle.demands.proofs.Units.{units-nearest}
 use Rattle.demands.proofs.RingPass.{ring-one-pass}
 use Rattle.demands.proofs.Apart.{apart-is-merge}
 use Rattle.demands.proofs.Enough.{enough-is-counting, looks-no-further}
-use Rattle.demands.proofs.Strike.{raised-by-strikes-only, shown-is-struck}
+use Rattle.demands.proofs.Strike.{raised-by-strikes-only, later-move-up, shown-is-struck}
 use Rattle.demands.proofs.Writing.{read-back, written-back}
 use Rattle.demands.proofs.MergeNaive.{naive-alike, naive-refuses-alike, naive-off, naive-case}
 use Rattle.demands.proofs.Retention.{held-when, retained-total, retained-reads}
@@ -72,6 +72,7 @@ demands = record {
   limits-exact = limits-exact;
   sure-peak-exact = sure-peak-exact;
   raised-by-strikes-only = raised-by-strikes-only;
+  later-move-up = later-move-up;
   shown-is-struck = shown-is-struck;
   read-back = read-back;
   written-back = written-back;

@@ -50,14 +50,13 @@ use Rattle.merge.specs.declared.Merged.the-variants as merged
 use Rattle.merge.specs.Merge as merge
 use Rattle.merge.specs.Apart.{refusalApart}
 use Rattle.merge_slice.specs.MergeSlice.{sharedPlaces, refusalFor}
-use Rattle.corner_strike.specs.declared.Edition.{Edition}
 use Rattle.corner_strike.specs.declared.showing.Shown.{Shown}
 use Rattle.corner_strike.specs.declared.showing.Shown.the-variants as shown
 use Rattle.corner_strike.specs.Showing as showing
 use Rattle.corner_strike.specs.declared.striking.Strike.{Strike}
 use Rattle.corner_strike.specs.declared.striking.Strike.the-variants as struck
 use Rattle.corner_strike.specs.Striking as striking
-use Rattle.corner_strike.specs.Editions.{raised}
+use Rattle.corner_strike.specs.Editions.{Edition}
 use Rattle.patch_corners.specs.declared.FrameParams.{FrameParams}
 use Rattle.patch_corners.specs.OneMap.{Choice, choiceOf, computedChoice, exactChoice}
 use Rattle.patch_corners.specs.PatchCorners.{conditionsOf, BoxAdded}
@@ -217,13 +216,13 @@ unfolding showing.refusalOf
 show-refuses b e place r f =
     refused-one shown.Refused (λ n. unless shown.Refused n (shown.Found (cornerAt b place) (e .change)))
     (λ k q. let some = ap (λ (a : Shown). length (showing.valuesOf a)) q in omega arith) (λ n k q. sym (ap showing.numberOf q))
-    (showing.conditions (placesOf b) e place) r (f .answer)
+    (showing.conditions (placesOf b) (e .count) place) r (f .answer)
 
-strike-refuses : (b b′ : Slices) (e : Edition) (place change : ℕ) (r : Strike) → striking.Strikes b e place change r b′
+strike-refuses : (b b′ : Slices) (e e′ : Edition) (place change : ℕ) (r : Strike) → striking.Strikes b e place change r b′ e′
     → Refuses struck.Refused (10 ∷ 16 ∷ 17 ∷ 18 ∷ []) r
 unfolding striking.refusalOf
-strike-refuses b b′ e place change r f =
-    refused-one struck.Refused (λ n. unless struck.Refused n (struck.Struck (raised e)))
+strike-refuses b b′ e e′ place change r f =
+    refused-one struck.Refused (λ n. unless struck.Refused n (striking.struckBy e))
     (λ k q. let some = ap (λ (a : Strike). length (striking.valuesOf a)) q in omega arith) (λ n k q. sym (ap striking.numberOf q))
     (striking.conditions (placesOf b) e place change) r (f .answer)
 

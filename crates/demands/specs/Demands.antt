@@ -12,7 +12,7 @@ use Rattle.demands.specs.Units.{UnitsNearest}
 use Rattle.demands.specs.RingPass.{RingOnePass}
 use Rattle.demands.specs.Apart.{ApartIsMerge}
 use Rattle.demands.specs.Enough.{EnoughIsCounting, LooksNoFurther}
-use Rattle.demands.specs.Strike.{RaisedByStrikesOnly, ShownIsStruck}
+use Rattle.demands.specs.Strike.{RaisedByStrikesOnly, LaterMoveUp, ShownIsStruck}
 use Rattle.demands.specs.Writing.{ReadBack, WrittenBack}
 use Rattle.demands.specs.MergeNaive.{MergesAlike, RefusesAlike, OffReturnsList, CaseToldApart}
 use Rattle.demands.specs.Retention.{HeldWhen, RetainedTotal, RetainedReads}
@@ -130,6 +130,8 @@ pub record Demands : Type 0 where
   -- ---- Request 10: strike a corner in two steps
   -- "The list has a change number from 0, raised by each strike and by nothing else."
   pub raised-by-strikes-only : RaisedByStrikesOnly
+  -- "it removes the corner at that place, later ones moving up and the freed last place becoming zero."
+  pub later-move-up : LaterMoveUp
   -- "a confirming not refused removes the very corner shown for that place and number"
   pub shown-is-struck : ShownIsStruck
   -- ---- Request 11: write the frame stream

@@ -1,19 +1,18 @@
 -- Request 10, "Strike a corner in two steps" (RULES 29): over any sequence of calls of `strike_corner`, refused or not. `show_corner` borrows the
--- buffer only to read it and takes the edition by value: it leaves no list that differs from the one it was called on.
-use Prim.Native.Nat.{ℕ, _+_}
+-- buffer only to read it and takes count and change number by value: it leaves no list that differs from the one it was called on.
+use Prim.Native.Nat.{ℕ, _+_, _<_, _≤_}
 use mathlib.Core.Path.{_≡_}
 use mathlib.Core.List.{List, _∷_, _++_}
-use lib.ListN.{length, getD}
+use lib.ListN.{length}
 use Rattle.corner_list.specs.declared.Corner.{Corner}
-use Rattle.corner_list.specs.CornerList.{Slices, cornersOf}
-use Rattle.corner_strike.specs.declared.Edition.{Edition}
+use Rattle.corner_list.specs.CornerList.{Slices, cornerAt, cornersOf, noCorner}
 use Rattle.corner_strike.specs.declared.showing.Shown.{Shown}
 use Rattle.corner_strike.specs.declared.showing.Shown.the-variants.{Found}
 use Rattle.corner_strike.specs.declared.striking.Strike.{Strike}
 use Rattle.corner_strike.specs.declared.striking.Strike.the-variants.{Struck, Refused}
-use Rattle.corner_strike.specs.Editions.{edition}
+use Rattle.corner_strike.specs.Editions.{Edition}
 use Rattle.corner_strike.specs.Showing.{Shows}
-use Rattle.corner_strike.specs.Striking.{numberOf, valuesOf, Strikes}
+use Rattle.corner_strike.specs.Striking.{numberOf, Strikes}
 
 -- a list that is edited, and its corners
 pub record Edited : Type 0 where
@@ -31,26 +30,22 @@ pub record ShowCall (s : Edited) : Type 0 where
   pub answer : Shown
   pub promise : Shows (s .buffer) (s .edition) place answer
 
--- of `strike_corner`, with any place and any change number: `after` is the buffer that it leaves
+-- of `strike_corner`, with any place and any change number: `after` is the list that it leaves, in the buffer and the two numbers that it borrows
 pub record StrikeCall (s : Edited) : Type 0 where
   pub place : ℕ
   pub change : ℕ
   pub answer : Strike
-  pub after : Slices
-  pub promise : Strikes (s .buffer) (s .edition) place change answer after
-
--- the list that it leaves: with the count and change number of the answer, and where that is a refusal with those that it had
-abbrev pub leftBy : (s : Edited) → StrikeCall s → Edited
-leftBy s c = record { buffer = c .after; edition = getD (valuesOf (c .answer)) 0 (s .edition) }
+  pub after : Edited
+  pub promise : Strikes (s .buffer) (s .edition) place change answer (after .buffer) (after .edition)
 
 -- any number of them, one after the other, from one list to another
 pub data StrikeCalls : Edited → Edited → Type 0 where
   none : (s : Edited) → StrikeCalls s s
-  more : (s s′ : Edited) → StrikeCalls s s′ → (c : StrikeCall s′) → StrikeCalls s (leftBy s′ c)
+  more : (s s′ : Edited) → StrikeCalls s s′ → (c : StrikeCall s′) → StrikeCalls s (c .after)
 
 -- how many of them struck a corner
 abbrev pub strikesOf : Strike → ℕ
-strikesOf (Struck e) = 1
+strikesOf (Struck count change) = 1
 strikesOf (Refused k) = 0
 
 unfoldable pub struckIn : (s s′ : Edited) → StrikeCalls s s′ → ℕ
@@ -59,14 +54,29 @@ struckIn s s′ (more _ t calls c) = struckIn s t calls + strikesOf (c .answer)
 
 -- ---- "The list has a change number from 0, raised by each strike and by nothing else."
 pub record RaisedByStrikesOnly : Type 0 where
-  -- a list that `Edition::new` begins
-  pub from-0 : (count : ℕ) (e : Edition) → e ≡ edition count 0 → e .change ≡ 0
   -- one call: a strike takes one corner and raises the number by one, a refusal leaves the list as it was
   pub struck : (s : Edited) (c : StrikeCall s) → numberOf (c .answer) ≡ 0
-      → (leftBy s c .edition .change ≡ s .edition .change + 1) × (leftBy s c .edition .count + 1 ≡ s .edition .count)
-  pub refused : (s : Edited) (c : StrikeCall s) (k : ℕ) → c .answer ≡ Refused k → leftBy s c ≡ s
-  -- many: the number says how many corners were struck
+      → (c .after .edition .change ≡ s .edition .change + 1) × (c .after .edition .count + 1 ≡ s .edition .count)
+  pub refused : (s : Edited) (c : StrikeCall s) (k : ℕ) → c .answer ≡ Refused k → c .after ≡ s
+  -- many: the number has grown by the corners that were struck; from 0, as its owner begins a list, it is how many these are
   pub counted : (s s′ : Edited) (calls : StrikeCalls s s′) → s′ .edition .change ≡ s .edition .change + struckIn s s′ calls
+  pub from-0 : (s s′ : Edited) (calls : StrikeCalls s s′) → s .edition .change ≡ 0 → s′ .edition .change ≡ struckIn s s′ calls
+  -- so a number that the list had before a strike strikes nothing behind it
+  pub once : (s s′ : Edited) (calls : StrikeCalls s s′) → 0 < struckIn s s′ calls
+      → (c : StrikeCall s′) → c .change ≡ s .edition .change → numberOf (c .answer) ≡ 0 → ⊥
+
+-- ---- "it removes the corner at that place, later ones moving up and the freed last place becoming zero."
+
+-- place by place of the buffer: those before it stay, each later corner is at the place before its own, the last of the list's places is 0 in every
+-- slice, and behind it nothing is changed
+pub record MovedUp (s : Edited) (c : StrikeCall s) : Type 0 where
+  pub before : (i : ℕ) → i < c .place → cornerAt (c .after .buffer) i ≡ cornerAt (s .buffer) i
+  pub later : (i : ℕ) → c .place ≤ i → i + 1 < s .edition .count → cornerAt (c .after .buffer) i ≡ cornerAt (s .buffer) (i + 1)
+  pub freed : (i : ℕ) → i + 1 ≡ s .edition .count → cornerAt (c .after .buffer) i ≡ noCorner
+  pub behind : (i : ℕ) → s .edition .count ≤ i → cornerAt (c .after .buffer) i ≡ cornerAt (s .buffer) i
+
+abbrev pub LaterMoveUp : Type 0
+LaterMoveUp = (s : Edited) (c : StrikeCall s) → numberOf (c .answer) ≡ 0 → MovedUp s c
 
 -- ---- "Where only strikes came between, a confirming not refused removes the very corner shown for that place and number."
 
@@ -83,4 +93,4 @@ ShownIsStruck =
     (s s′ : Edited) (showing : ShowCall s) (shown : Corner) (number : ℕ) → showing .answer ≡ Found shown number
     → StrikeCalls s s′
     → (c : StrikeCall s′) → c .place ≡ showing .place → c .change ≡ number → numberOf (c .answer) ≡ 0
-    → Removed shown (c .place) (cornersIn s′) (cornersIn (leftBy s′ c))
+    → Removed shown (c .place) (cornersIn s′) (cornersIn (c .after))

@@ -10,7 +10,6 @@
 --   ring            ring_offsets, is_ring
 --   float32         abs, is_finite, lifted, is_between, from_bits, to_bits, cut_off, round_half_away (with its number, 0, and its values)
 --   corner_list     is_inside, corner_at, put_corner, places
---   corner_strike   new (of `Edition`)
 --   detect          refusal (the number alone)
 --   pyramid_levels  level_count, cells_before, cells_above, build_refusal and level_refusal (the number alone)
 --   pyramid         level (nothing where `level_at` refuses)
@@ -63,7 +62,7 @@ use Rattle.merge.specs.Merge.{Merges}
 use Rattle.merge.specs.Apart.{MergedApart}
 use Rattle.merge_naive.specs.MergeNaive.{MergesNaive}
 use Rattle.merge_slice.specs.MergeSlice.{MergesSlice}
-use Rattle.corner_strike.specs.declared.Edition.{Edition}
+use Rattle.corner_strike.specs.Editions.{Edition}
 use Rattle.corner_strike.specs.declared.showing.Shown.{Shown}
 use Rattle.corner_strike.specs.declared.showing.Shown.the-variants as showing
 use Rattle.corner_strike.specs.Showing.{Shows}
@@ -162,7 +161,7 @@ pub record Total : Type 0 where
       → Refuses merge.Refused (4 ∷ 5 ∷ 10 ∷ []) r
   pub «show_corner» : (b : Slices) (e : Edition) (place : ℕ) (r : Shown) → Shows b e place r
       → Refuses showing.Refused (10 ∷ 17 ∷ []) r
-  pub «strike_corner» : (b b′ : Slices) (e : Edition) (place change : ℕ) (r : Strike) → Strikes b e place change r b′
+  pub «strike_corner» : (b b′ : Slices) (e e′ : Edition) (place change : ℕ) (r : Strike) → Strikes b e place change r b′ e′
       → Refuses striking.Refused (10 ∷ 16 ∷ 17 ∷ 18 ∷ []) r
   pub «find_corners» : FrameRefuses computedChoice
   pub «find_exact_corners» : FrameRefuses exactChoice

@@ -9,9 +9,6 @@ use Landmarks.*
 strike-corner-requires : tie.Need-strike-corner-requires
 strike-corner-requires c κs = search needs
 
-edition-of-requires : tie.Need-edition-of-requires
-edition-of-requires c κs = search needs
-
 number-of-requires : tie.Need-number-of-requires
 number-of-requires c κs = search needs
 
@@ -30,14 +27,12 @@ same-length-4 c = search needs
 returns : tie.Need-returns
 returns c =
     corner-struck _ _ _ _ _ _ _ _ (strike-corner-from-returns c .strike-corner .ensures) (c .number-of .ensures)
-    (edition-of-from-returns c .edition-of .ensures)
 
 pub zakdomp-strike-corner-spec : {M : Type 1} → statement M
 zakdomp-strike-corner-spec =
     tie.close
     (tie.spec
     strike-corner-requires
-    edition-of-requires
     number-of-requires
     same-length
     same-length-2

@@ -10,20 +10,20 @@ returns c = rw (lt-ltb _ _ (c .if1 .taken))
 
 returns-2 : tie.Need-returns-2
 unfolding refusalOf
-returns-2 c = rw (le-ltb _ _ (c .before .before .if1 .left), ne-eqb _ _ (c .if2 .taken))
+returns-2 c = rw (le-ltb _ _ (c .before .if1 .left), ne-eqb _ _ (c .if2 .taken))
 
 returns-3 : tie.Need-returns-3
 unfolding refusalOf
 returns-3 c =
-    rw (le-ltb _ _ (c .before .before .before .before .if1 .left), eq-eqb _ _ (c .before .before .if2 .left), le-leb _ _ (c .if3 .taken))
+    rw (le-ltb _ _ (c .before .before .if1 .left), eq-eqb _ _ (c .before .if2 .left), le-leb _ _ (c .if3 .taken))
 
 returns-4 : tie.Need-returns-4
 unfolding refusalOf
 returns-4 c =
     rw (
-      le-ltb _ _ (c .before .before .before .before .before .before .if1 .left),
-      eq-eqb _ _ (c .before .before .before .before .if2 .left),
-      lt-leb _ _ (c .before .before .if3 .left),
+      le-ltb _ _ (c .before .before .before .if1 .left),
+      eq-eqb _ _ (c .before .before .if2 .left),
+      lt-leb _ _ (c .before .if3 .left),
       eq-eqb _ _ (c .if4 .taken),
     )
 
@@ -31,9 +31,9 @@ returns-5 : tie.Need-returns-5
 unfolding refusalOf
 returns-5 c =
     rw (
-      le-ltb _ _ (c .before .before .before .before .before .before .if1 .left),
-      eq-eqb _ _ (c .before .before .before .before .if2 .left),
-      lt-leb _ _ (c .before .before .if3 .left),
+      le-ltb _ _ (c .before .before .before .if1 .left),
+      eq-eqb _ _ (c .before .before .if2 .left),
+      lt-leb _ _ (c .before .if3 .left),
       ne-eqb _ _ (c .if4 .left),
     )
 

@@ -3,6 +3,7 @@ mod Landmarks
 use native.Mathlib.Omega.{arith}
 use borrow.Author.Needs.{needs}
 use Rattle.corner_list.specs.CornerList.{Slices, slices, placesOf}
+use Rattle.corner_strike.specs.Editions.{edition}
 use Rattle.corner_strike.proofs.Judging.{Strikable, strike-granted, strike-refused, strike-struck}
 use Rattle.corner_strike.proofs.striking.strike_corner.Statement.{statement}
 use Rattle.corner_strike.proofs.striking.strike_corner.Tie as tie
@@ -14,9 +15,9 @@ buffer s = slices (s .args .xs .now) (s .args .ys .now) (s .args .strengths .now
 -- nothing refuses
 granted : (c : tie.Else1)
     → let s = start-from-else1 c in
-    Strikable (placesOf (buffer s)) (s .args .edition) (s .args .place) (s .args .change)
+    Strikable (placesOf (buffer s)) (edition (s .args .count .now) (s .args .change .now)) (s .args .place) (s .args .shown)
 granted c =
-    strike-granted (buffer (start-from-else1 c)) _ _ _ (c .before .before .places .ensures) _ _ (c .before .refusal .ensures) (c .if1 .left)
+    strike-granted (buffer (start-from-else1 c)) _ _ _ (places-from-else1 c .places .ensures) _ _ (c .before .refusal .ensures) (c .if1 .left)
 
 places-requires : tie.Need-places-requires
 places-requires c κs = search needs
@@ -25,16 +26,16 @@ refusal-requires : tie.Need-refusal-requires
 refusal-requires c κs = search needs
 
 returns : tie.Need-returns
-returns c = strike-refused _ _ _ _ (c .before .before .places .ensures) _ _ (c .before .refusal .ensures) (c .if1 .taken)
+returns c = strike-refused _ _ _ _ (places-from-returns c .places .ensures) _ _ (c .before .refusal .ensures) (c .if1 .taken)
 
 remove-corner-requires : tie.Need-remove-corner-requires
 remove-corner-requires c κs = let g = granted (if1-from-remove-corner-requires c) in (g .inside, g .fits)
 
-sub-t10 : tie.Need-sub-t10
-sub-t10 c = omega (arith, granted (if1-from-sub-t10 c) .inside)
+sub-left : tie.Need-sub-left
+sub-left c = omega (arith, granted (if1-from-sub-left c) .inside)
 
-add-t24 : tie.Need-add-t24
-add-t24 c = omega (arith, granted (if1-from-add-t24 c) .not-largest)
+add-raised : tie.Need-add-raised
+add-raised c = omega (arith, granted (if1-from-add-raised c) .not-largest)
 
 same-length : tie.Need-same-length
 same-length c = search needs
@@ -51,7 +52,7 @@ same-length-4 c = search needs
 returns-2 : tie.Need-returns-2
 returns-2 c =
     let e = if1-from-returns-2 c in
-    strike-struck _ _ _ _ (e .before .before .places .ensures) _ _ _ (e .before .refusal .ensures) (e .if1 .left)
+    strike-struck _ _ _ _ (places-from-returns-2 c .places .ensures) _ _ _ (e .before .refusal .ensures) (e .if1 .left)
     (remove-corner-from-returns-2 c .remove-corner .ensures)
 
 pub strike-corner-spec : {M : Type 1} → statement M
@@ -62,8 +63,8 @@ strike-corner-spec =
     refusal-requires
     returns
     remove-corner-requires
-    sub-t10
-    add-t24
+    sub-left
+    add-raised
     same-length
     same-length-2
     same-length-3

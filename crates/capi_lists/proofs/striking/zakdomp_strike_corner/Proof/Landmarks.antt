@@ -2,8 +2,5 @@
 -- `A-from-B` is the place where A was bound, seen from the need or the place B. Assumes nothing.
 use Rattle.capi_lists.proofs.striking.zakdomp_strike_corner.Tie as tie
 
-abbrev pub edition-of-from-returns : tie.After-number-of → tie.After-edition-of
-edition-of-from-returns c = c .before
-
 abbrev pub strike-corner-from-returns : tie.After-number-of → tie.After-strike-corner
-strike-corner-from-returns c = edition-of-from-returns c .before .before .before .before .before .before .before .before .before
+strike-corner-from-returns c = c .before .before .before .before .before .before .before .before .before
