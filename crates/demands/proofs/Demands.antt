@@ -5,6 +5,7 @@ use Rattle.demands.proofs.Program.{program-total, program-reads, progra
 use Rattle.demands.proofs.BitForBit.{bit-for-bit}
 use Rattle.demands.proofs.AsPublished.{as-published}
 use Rattle.demands.proofs.Cases.{cases-hold}
+use Rattle.demands.proofs.AnyRing.{own-rings}
 use Rattle.demands.proofs.ResponseAccurate.{response-accurate}
 use Rattle.demands.proofs.ResponsesOrdered.{responses-ordered}
 use Rattle.demands.proofs.PeaksAlike.{peaks-alike}
@@ -37,6 +38,7 @@ demands = record {
   bit-for-bit = bit-for-bit;
   as-published = as-published;
   cases-hold = cases-hold;
+  own-rings = own-rings;
   response-accurate = response-accurate;
   responses-ordered = responses-ordered;
   peaks-alike = peaks-alike;

@@ -1,5 +1,6 @@
 pub mod Cases
 pub mod Tables
+pub mod AnyRing
 pub mod ResponseAccurate
 pub mod ResponsesOrdered
 pub mod Names

@@ -10,7 +10,7 @@ use Rattle.float32.specs.Float32.{zero}
 use Rattle.lists.specs.Places.{Place}
 use Rattle.lists.proofs.Tab.{getD-any, getD-grid, length-grid}
 use Rattle.lists.proofs.Places.{in-map}
-use Rattle.ring.specs.Ring.{Ring, ringOf}
+use Rattle.ring.specs.Ring.{Ring, ringOf, IsRing}
 use Rattle.ring.proofs.Table.{ringOf-is}
 use Rattle.response.specs.Response.{responseAt}
 use Rattle.response.specs.Patch.{cells}
@@ -21,7 +21,8 @@ use Rattle.retouch.proofs.Judging.{ready}
 use Rattle.retouch.proofs.Fresh as fresh
 use Rattle.retouch.proofs.Moves as moves
 use Rattle.demands.specs.ResponseCall.{ResponseCall, viewIn, mapOf}
-use Rattle.demands.specs.Retouch.{RetouchCall, InImage, cellBefore, cellAfter, viewBefore, viewAfter, OnlyTouched, AtMost21, Fresh, MovesLittle}
+use Rattle.demands.specs.Retouch.{RetouchCall, InImage, cellBefore, cellAfter, viewBefore, viewAfter}
+use Rattle.demands.specs.Retouch.{OnlyTouched, AtMost21, Fresh, MovedLittle, MovesLittle}
 use Rattle.demands.proofs.BitForBit.{bit-for-bit}
 
 -- ---- the map by column and row
@@ -99,15 +100,15 @@ fresh-again = record {
   any-ring = λ t is img w h q value sized across down. fresh.fresh-map img w h sized t is q across down value;
 }
 
-pub moves-little : MovesLittle
-moves-little = record {
-  through-ring = λ c t is p e.
-      let g = given c in
+moved-little : (c : RetouchCall) (t : Ring) → IsRing t → MovedLittle c t
+moved-little c t is = let g = given c in record {
+  through-ring = λ p e.
       rw (pixel-changed c) (moves.through-ring (c .img) (c .w) (c .h) (g .image .sized) t is (c .pixel) (g .column) (g .row) (c .value) p e);
-  through-cross = λ c t is p e.
-      let g = given c in
+  through-cross = λ p e.
       rw (pixel-changed c) (moves.through-cross (c .img) (c .w) (c .h) (g .image .sized) t is (c .pixel) (g .column) (g .row) (c .value) p e);
-  no-other = λ c t is p e.
-      let g = given c in
+  no-other = λ p e.
       rw (pixel-changed c) (fresh.exact-kept (c .img) (c .w) (c .h) (g .image .sized) t is (c .pixel) (g .column) (g .row) (c .value) p e);
 }
+
+pub moves-little : MovesLittle
+moves-little = record { call = λ c. moved-little c (ringOf (c .ring)) (ringOf-is (c .ring)); any-ring = moved-little }

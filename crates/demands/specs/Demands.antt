@@ -5,6 +5,7 @@ use Rattle.demands.specs.Program.{ProgramTotal, ProgramReads, ProgramDec
 use Rattle.demands.specs.BitForBit.{BitForBit}
 use Rattle.demands.specs.AsPublished.{AsPublished}
 use Rattle.demands.specs.Cases.{CasesHold}
+use Rattle.demands.specs.AnyRing.{OwnRings}
 use Rattle.demands.specs.ResponseAccurate.{ResponseAccurate}
 use Rattle.demands.specs.ResponsesOrdered.{ResponsesOrdered}
 use Rattle.demands.specs.PeaksAlike.{PeaksAlike}
@@ -48,6 +49,8 @@ pub record Demands : Type 0 where
   pub as-published : AsPublished
   -- and what the definitions give in the worked cases
   pub cases-hold : CasesHold
+  -- "Facts common to both rings are shown for any ring table of sixteen different places ..": the program's two are such tables
+  pub own-rings : OwnRings
   -- ---- 3. Exact choice
   -- "every computed response is within 1/1024 of the paper's exact value and has its sign, 0 for 0"
   pub response-accurate : ResponseAccurate

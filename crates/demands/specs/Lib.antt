@@ -1,6 +1,7 @@
 pub mod Cases
 pub mod ResponseCall
 pub mod PeakCall
+pub mod AnyRing
 pub mod ResponseAccurate
 pub mod ResponsesOrdered
 pub mod PeaksAlike

@@ -2,6 +2,10 @@
 use Rattle.lists.specs.Places.{Place}
 use Rattle.accuracy.specs.Accurate.{Accurate}
 use Rattle.demands.specs.ResponseCall.{ResponseCall, InMap, computedAt, exactAt}
+use Rattle.demands.specs.AnyRing.{AnyMap, HasCell, computedIn, exactIn}
 
-abbrev pub ResponseAccurate : Type 0
-ResponseAccurate = (c : ResponseCall) (p : Place) → InMap c p → Accurate (computedAt c p) (exactAt c p)
+pub record ResponseAccurate : Type 0 where
+  -- each cell of the map that a call left in its buffer
+  pub call : (c : ResponseCall) (p : Place) → InMap c p → Accurate (computedAt c p) (exactAt c p)
+  -- and of a map by any ring table
+  pub any-ring : (a : AnyMap) (p : Place) → HasCell a p → Accurate (computedIn a p) (exactIn a p)

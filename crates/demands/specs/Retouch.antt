@@ -83,11 +83,13 @@ exactBefore c t p = fifthsAt (c .img) (c .w) (c .h) t (p .x) (p .y)
 abbrev pub exactAfter : RetouchCall → Ring → Place → ℤ
 exactAfter c t p = fifthsAt (c .img′) (c .w) (c .h) t (p .x) (p .y)
 
--- by any ring, whichever the call was given
+-- by the ring t, whichever the call was given: the exact values are those of the image before and after it
+pub record MovedLittle (c : RetouchCall) (t : Ring) : Type 0 where
+  pub through-ring : (p : Place) → onRing t (c .pixel) p ≡ true → natAbs (exactAfter c t p -ℤ exactBefore c t p) ≤ 15 * levels c
+  pub through-cross : (p : Place) → inCross t (c .pixel) p ≡ true → natAbs (exactAfter c t p -ℤ exactBefore c t p) ≤ 16 * levels c
+  pub no-other : (p : Place) → touched (c .w) (c .h) t (c .pixel) p ≡ false → exactAfter c t p ≡ exactBefore c t p
+
 pub record MovesLittle : Type 0 where
-  pub through-ring : (c : RetouchCall) (t : Ring) → IsRing t → (p : Place) → onRing t (c .pixel) p ≡ true
-      → natAbs (exactAfter c t p -ℤ exactBefore c t p) ≤ 15 * levels c
-  pub through-cross : (c : RetouchCall) (t : Ring) → IsRing t → (p : Place) → inCross t (c .pixel) p ≡ true
-      → natAbs (exactAfter c t p -ℤ exactBefore c t p) ≤ 16 * levels c
-  pub no-other : (c : RetouchCall) (t : Ring) → IsRing t → (p : Place) → touched (c .w) (c .h) t (c .pixel) p ≡ false
-      → exactAfter c t p ≡ exactBefore c t p
+  -- by the call's own ring
+  pub call : (c : RetouchCall) → MovedLittle c (ringOf (c .ring))
+  pub any-ring : (c : RetouchCall) (t : Ring) → IsRing t → MovedLittle c t
