@@ -61,7 +61,7 @@ given low high w h ring lows highs e =
 module _ (low high : List ℕ) (w h ring : ℕ) (d e : List ℤ) where
   pub when-refused : (n : ℕ) → n ≡ refusalOf low high w h ring (length d) (length e) → (n ≡ 0 → ⊥) → LimitsWritten low high w h ring d e (Refused n) d e
   when-refused zero q z = absurd (z refl)
-  when-refused (suc n) q z = record { answer = rw (← q); number = q; lows-are = rw (← q); highs-are = rw (← q) }
+  when-refused (suc n) q z = record { answer = rw (← q); number = q; values = refl; lows-are = rw (← q); highs-are = rw (← q) }
 
   pub when-written : (n : ℕ) (lows highs : List ℤ) → n ≡ refusalOf low high w h ring (length d) (length e) → n ≡ 0
       → lows ≡ lowMap low high w h (ringOf ring) ++ drop (h * w) d → highs ≡ highMap low high w h (ringOf ring) ++ drop (h * w) e
@@ -70,6 +70,7 @@ module _ (low high : List ℕ) (w h ring : ℕ) (d e : List ℤ) where
       record {
         answer = rw (← q, z);
         number = sym z ∙ q;
+        values = refl;
         lows-are = a ∙ rw (← q, z, length-grid w h (lowAt low high w h (ringOf ring)));
         highs-are = b ∙ rw (← q, z, length-grid w h (highAt low high w h (ringOf ring)));
       }

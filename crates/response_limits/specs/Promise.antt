@@ -35,14 +35,19 @@ conditions low high w h ring lows highs =
 unfoldable pub refusalOf : List ℕ → List ℕ → ℕ → ℕ → ℕ → ℕ → ℕ → ℕ
 refusalOf low high w h ring lows highs = lowest (conditions low high w h ring lows highs)
 
--- the number of each case; no case has values
+-- number and values of each case: what is found stands in the buffers, so the answer itself has no values
 abbrev pub numberOf : Limits → ℕ
 numberOf Written = 0
 numberOf (Refused n) = n
+
+abbrev pub valuesOf : Limits → List ℕ
+valuesOf Written = []
+valuesOf (Refused n) = []
 
 -- the promise of `response_limits`, for the images `low` and `high` of w by h: the buffers d and e become `lows` and `highs`
 pub record LimitsWritten (low high : List ℕ) (w h ring : ℕ) (d e : List ℤ) (r : Limits) (lows highs : List ℤ) : Type 0 where
   pub answer : r ≡ unless Refused (refusalOf low high w h ring (length d) (length e)) Written
   pub number : numberOf r ≡ refusalOf low high w h ring (length d) (length e)
+  pub values : valuesOf r ≡ []
   pub lows-are : lows ≡ resultOr (refusalOf low high w h ring (length d) (length e)) (front (lowMap low high w h (ringOf ring)) d) d
   pub highs-are : highs ≡ resultOr (refusalOf low high w h ring (length d) (length e)) (front (highMap low high w h (ringOf ring)) e) e
