@@ -4,6 +4,7 @@ use mathlib.Core.Path.{_≡_, refl, sym, ap, ap₂, _∙_}
 use mathlib.Core.Bool.{Bool, true, false, not, cond, false≢true}
 use mathlib.Core.List.{List}
 use lib.Dec.{leb}
+use lib.ListN.{getD}
 use lib.Ieee.{Float, le}
 use borrow.Author.Tests.{le-leb, lt-leb, not-true, not-false}
 use Rattle.lists.specs.Places.{Place}
@@ -16,7 +17,7 @@ use Rattle.detect.specs.declared.searching.PeakTest.{PeakTest}
 use Rattle.detect.specs.declared.searching.PeakTest.the-variants.{No, Peak}
 use Rattle.detect.specs.Peaks.{valueAt, window, largerIn, largerBy, positiveIn, beaten, equals, equalIn, windowTest, tiesOf, positives}
 use Rattle.detect.specs.Detect.{peakIn, neighboursAt, testAt, tiesAt}
-use Rattle.detect.specs.Internal.{peakTest}
+use Rattle.detect.specs.Internal.{peakTest, valuesOf}
 use Rattle.detect.proofs.Choice.{cell-below, cell-beaten, cell-counted}
 
 abbrev isTop : WindowTest → Bool
@@ -29,12 +30,10 @@ passes (Peak n k) = true
 
 -- the two counts, or what stands for them where there is no peak
 abbrev neighboursOr : ℕ → PeakTest → ℕ
-neighboursOr d No = d
-neighboursOr d (Peak n k) = n
+neighboursOr d t = getD (valuesOf t) 0 d
 
 abbrev tiesOr : ℕ → PeakTest → ℕ
-tiesOr d No = d
-tiesOr d (Peak n k) = k
+tiesOr d t = getD (valuesOf t) 1 d
 
 module _ (m : List Float) (s : Search) (p : Place) where
   -- ---- what led to the answer

@@ -2,7 +2,7 @@
 use Prim.Native.Nat.{ℕ, zero, suc, _+_, _-_, _*_, _/_, _%_, _<_, _≤_}
 use mathlib.Core.Path.{_≡_}
 use mathlib.Core.Bool.{true, cond}
-use mathlib.Core.List.{List, [], _++_}
+use mathlib.Core.List.{List, [], _∷_, _++_}
 use lib.ListN.{length, getD}
 use lib.Dec.{ltb}
 use lib.Ieee.{Float, nan, le}
@@ -38,6 +38,15 @@ pub record Searchable (m : List Float) (s : Search) : Type 0 where
 -- the test of a place: whether it is a peak, and then its positive neighbours and its ties
 abbrev pub peakTest : List Float → Search → Place → PeakTest
 peakTest m s p = cond (peakIn m s p) (Peak (neighboursAt m s p) (tiesAt m s p)) No
+
+-- number and values of each case: it refuses nothing, and a peak has two values
+abbrev pub numberOf : PeakTest → ℕ
+numberOf No = 0
+numberOf (Peak n k) = 0
+
+abbrev pub valuesOf : PeakTest → List ℕ
+valuesOf No = []
+valuesOf (Peak n k) = n ∷ k ∷ []
 
 -- the first n of the cells are at or below t
 pub record Below (cells : List Float) (t : Float) (n : ℕ) : Type 0 where

@@ -1,7 +1,7 @@
 -- Peak choice over a map of w by h, by what is asked of the values at its places (RULES 4.2 to 4.4; neighbors.rs, detect.rs).
 use Prim.Native.Nat.{ℕ, _+_, _-_, _*_, min}
 use mathlib.Core.Bool.{Bool, true, false, cond, not, _&&_}
-use mathlib.Core.List.{List}
+use mathlib.Core.List.{List, [], _∷_}
 use lib.ListN.{getD}
 use lib.Dec.{leb, eqb}
 use lib.IntN.{negsuc}
@@ -43,9 +43,18 @@ equals equal w h r p = count (λ q. equal q p) (window w h r p)
 unfoldable pub windowTest : (Place → Place → Bool) → (Place → Place → Bool) → ℕ → ℕ → ℕ → Place → WindowTest
 windowTest larger equal w h r p = cond (beaten larger w h r p) Beaten (Top (equals equal w h r p))
 
+-- number and values of each case: the test refuses nothing, and its value is the number of ties, none where the centre is beaten
+abbrev pub numberOf : WindowTest → ℕ
+numberOf Beaten = 0
+numberOf (Top n) = 0
+
+abbrev pub valuesOf : WindowTest → List ℕ
+valuesOf Beaten = []
+valuesOf (Top n) = n ∷ []
+
+-- RULES 23.2: the ties that count, 0 where the test has no value
 abbrev pub tiesOf : WindowTest → ℕ
-tiesOf Beaten = 0
-tiesOf (Top n) = n
+tiesOf t = getD (valuesOf t) 0 0
 
 -- its positive neighbours: the cells of the window that are above 0
 unfoldable pub positives : (Place → Bool) → ℕ → ℕ → ℕ → Place → ℕ
