@@ -1,5 +1,5 @@
 -- response.rs: `chess_response_at_u8` and `chess_response_u8_patch` without SIMD.
-use Prim.Native.Nat.{ℕ, _+_, _-_, _*_, _≤_, min, max}
+use Prim.Native.Nat.{ℕ, _+_, _-_, _*_, _<_, _≤_, min, max}
 use mathlib.Core.Path.{_≡_}
 use mathlib.Core.Bool.{cond, _&&_, _||_}
 use mathlib.Core.List.{List, []}
@@ -108,8 +108,10 @@ wholeRs img w h radius =
     grid w h (λ x y.
     cond (leb r y && ltb y y1) (cond (leb r x && ltb x x1) (responseRs img w (pos x) (pos y) (ringOffsets radius)) zero) zero)
 
--- "The whole image is one box", wherever the Rust has an answer: it panics on narrower images
+-- "The whole image is one box", wherever the Rust has an answer. It panics with fewer rows than the radius, and where it cuts a row that is narrower
+-- than twice the radius; it cuts none unless there are more rows than that, and then w - r, which may be below 0, is not used. (A build with overflow
+-- checks panics there too.)
 abbrev pub WholeAsPublished : Type 0
 WholeAsPublished =
-    (img : List ℕ) (w h radius : ℕ) → Bytes img → 2 * ringRadius radius ≤ w → ringRadius radius ≤ h
+    (img : List ℕ) (w h radius : ℕ) → Bytes img → ringRadius radius ≤ h → (2 * ringRadius radius < h → 2 * ringRadius radius ≤ w)
     → wholeRs img w h radius ≡ cells (whole img w h (ringOf radius))
