@@ -6,7 +6,7 @@ use lib.Ieee.{Float}
 use Rattle.lists.specs.Refusals.{unless}
 use Rattle.corner_list.specs.CornerList.{Slices, placesOf, cornerAt, cornersOf}
 use Rattle.merge.specs.declared.Merged.{Merged}
-use Rattle.merge.specs.declared.Merged.the-variants.{Kept}
+use Rattle.merge.specs.declared.Merged.the-variants.{Kept, Refused}
 use Rattle.merge.specs.Merge.{numberOf, Merges}
 use Rattle.merge.specs.Apart.{MergedApart}
 
@@ -33,5 +33,7 @@ pub record ApartIsMerge : Type 0 where
       → cornersOf (t .separate′) n ≡ cornersOf (t .original′) n
   -- where it does not fit: the number of the merge, and 10 where that is none
   pub crowded : (t : TwoMerges) → placesOf (t .separate) < t .count → numberOf (t .answer) ≡ unless (λ k. k) (numberOf (t .own-answer)) 10
+  -- refused, by whatever number, it leaves the separate buffer as it was
+  pub refused : (t : TwoMerges) (k : ℕ) → t .answer ≡ Refused k → t .separate′ ≡ t .separate
   -- what is behind the list stays: it is no copy that is merged in place
   pub behind : (t : TwoMerges) (n : ℕ) → t .answer ≡ Kept n → (i : ℕ) → n ≤ i → cornerAt (t .separate′) i ≡ cornerAt (t .separate) i
