@@ -20,7 +20,7 @@ use Rattle.pgm.proofs.Behind.{same-raster, same-width, same-height, same-accept
 use Rattle.pgm_frame.specs.PgmFrame.{PhotographFound}
 use Rattle.pgm_frame.specs.PgmFrame as photograph
 use Rattle.demands.specs.Photographs.{PhotographCall, OnPixels, PhotographIsFrame}
-use Rattle.demands.specs.Photographs.{ReadAs, plainHeader, PlainHeaderRead, BehindUnread, uploads, UploadsRead}
+use Rattle.demands.specs.Photographs.{ReadAs, plainHeader, PlainHeaderRead, withBehind, BehindUnread, uploads, UploadsRead}
 use Rattle.demands.proofs.PlainHeader.{width-is, height-is, maxval-is, header-is}
 use Rattle.demands.specs.FrameExact.{CallBy}
 
@@ -94,11 +94,24 @@ read-as : (upload : List ℕ) (at w h : ℕ) (pixels : List ℕ) → refusalOf u
 read-as upload at w h pixels none place width height part =
     record { image = λ r f. f .answer ∙ rw (none, place, width, height); part = part }
 
+-- two calls on frames that are the same
+frames-same : (choose : Choice) (p : FrameParams) (i i′ : List ℕ) (w w′ h h′ : ℕ) (b b₁ b₂ : Buffers) (r₁ r₂ : FrameAnswer) → i′ ≡ i → w′ ≡ w → h′ ≡ h
+    → FrameFound choose p i w h b r₁ b₁ → FrameFound choose p i′ w′ h′ b r₂ b₂ → (r₂ ≡ r₁) × (b₂ ≡ b₁)
+frames-same choose p i i′ w w′ h h′ b b₁ b₂ r₁ r₂ pixels wide high f g =
+    (g .answer ∙ rw (pixels, wide, high) (sym (f .answer)), g .left ∙ rw (pixels, wide, high) (sym (f .left)))
+
 pub behind-unread : BehindUnread
-behind-unread upload none behind =
-    read-as (take (rasterAt upload + widthOf upload * heightOf upload) upload ++ behind) (rasterAt upload) (widthOf upload) (heightOf upload) (pixelsIn upload)
-    (same-accepted upload none behind) (same-raster upload none behind) (same-width upload none behind) (same-height upload none behind)
-    (same-pixels upload none behind)
+behind-unread = record {
+  reader = λ upload none behind.
+      read-as (withBehind upload behind) (rasterAt upload) (widthOf upload) (heightOf upload) (pixelsIn upload)
+      (same-accepted upload none behind) (same-raster upload none behind) (same-width upload none behind) (same-height upload none behind)
+      (same-pixels upload none behind);
+  frame = λ choose p upload none behind b b₁ b₂ r₁ r₂ f g.
+      frames-same choose p (pixelsIn upload) (pixelsIn (withBehind upload behind)) (widthOf upload) (widthOf (withBehind upload behind)) (heightOf upload)
+      (heightOf (withBehind upload behind)) b b₁ b₂ r₁ r₂ (same-pixels upload none behind) (same-width upload none behind) (same-height upload none behind)
+      (photograph-accepted choose p upload b b₁ r₁ f none)
+      (photograph-accepted choose p (withBehind upload behind) b b₂ r₂ g (same-accepted upload none behind));
+}
 
 -- the plain header with what follows it, as one list, and where that begins
 header-as : (w h : ℕ) (t : List ℕ) → plainHeader w h ++ t ≡ 80 ∷ 53 ∷ 10 ∷ (decimal w ++ (32 ∷ (decimal h ++ (10 ∷ 50 ∷ 53 ∷ 53 ∷ 10 ∷ t))))

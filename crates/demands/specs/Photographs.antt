@@ -67,11 +67,18 @@ PlainHeaderRead =
     (w h : ℕ) (pixels behind : List ℕ) → w ≤ 4096 → h ≤ 4096 → length pixels ≡ w * h
     → ReadAs (plainHeader w h ++ (pixels ++ behind)) (length (plainHeader w h)) w h pixels
 
--- "Bytes after the pixels are not read": others in their place change nothing
-abbrev pub BehindUnread : Type 0
-BehindUnread =
-    (upload : List ℕ) → refusalOf upload ≡ 0 → (behind : List ℕ)
-    → ReadAs (take (rasterAt upload + widthOf upload * heightOf upload) upload ++ behind) (rasterAt upload) (widthOf upload) (heightOf upload) (pixelsIn upload)
+-- "Bytes after the pixels are not read": others in their place
+abbrev pub withBehind : List ℕ → List ℕ → List ℕ
+withBehind upload behind = take (rasterAt upload + widthOf upload * heightOf upload) upload ++ behind
+
+-- change nothing
+pub record BehindUnread : Type 0 where
+  -- of what the reader makes of it
+  pub reader : (upload : List ℕ) → refusalOf upload ≡ 0 → (behind : List ℕ)
+      → ReadAs (withBehind upload behind) (rasterAt upload) (widthOf upload) (heightOf upload) (pixelsIn upload)
+  -- and of what a call of `find_pgm_corners`, or of `find_exact_pgm_corners`, answers and leaves in the same buffers, finished or not
+  pub frame : (choose : Choice) (p : FrameParams) (upload : List ℕ) → refusalOf upload ≡ 0 → (behind : List ℕ) (b b₁ b₂ : Buffers) (r₁ r₂ : FrameAnswer)
+      → PhotographFound choose p upload b r₁ b₁ → PhotographFound choose p (withBehind upload behind) b r₂ b₂ → (r₂ ≡ r₁) × (b₂ ≡ b₁)
 
 -- ---- a table of uploads, and what is read of each: its number; where that is 0, also the pixels' place, both sides and the pixels
 pub record Upload : Type 0 where
