@@ -24,7 +24,7 @@ use Rattle.patch_corners.proofs.Fine.{Fine}
 use Rattle.frame_pass.specs.Pass.{levelsIn, levelView, seedPatch, cornersOn, cornersAbout, seedsOf, foundOf, framePass, mapsOf, lookedAt}
 use Rattle.frame_pass.proofs.Maps.{looked-fine}
 use Rattle.frame.proofs.Callers.{finished-tells}
-use Rattle.demands.specs.Neighbours.{mapsSearched, IsIn, OfPeak, NeighboursKept, exactNeighbours, CountsExact}
+use Rattle.demands.specs.Neighbours.{ownMaps, IsIn, OfPeak, NeighboursKept, exactNeighbours, CountsExact}
 use Rattle.demands.proofs.FrameExact.{sound}
 
 -- ---- each of a list is in it
@@ -119,7 +119,7 @@ unfolding framePass lookedAt
 neighbours-kept c =
     let p = c .parameters in
     let n = levelsIn p (c .img) (c .w) (c .h) in
-    let maps = mapsSearched c in
+    let maps = ownMaps c in
     let f = finished-tells _ p (c .img) (c .w) (c .h) (c .before) (c .count) (c .ties) (c .after) (c .promise) in
     rw (f .corners)
     (result-all (OfPeak p maps) (p .«merge_radius») (foundOf p (c .img) (c .w) (c .h) (computedChoice p) n)
@@ -133,4 +133,4 @@ counts-exact c =
     (λ v f a.
     counts-alike (cells v) (λ q. fifthsIn v (q .x) (q .y)) (mapWidth v) (mapHeight v) (λ q x y. map-accurate v (f .bytes) (q .x) (q .y) nan x y)
     (p .window) a)
-    (mapsSearched c) (looked-fine p (c .img) (c .w) (c .h) (computedChoice p) (sound c))
+    (ownMaps c) (looked-fine p (c .img) (c .w) (c .h) (computedChoice p) (sound c))

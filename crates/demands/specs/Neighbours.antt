@@ -17,8 +17,8 @@ use Rattle.frame_pass.specs.Pass.{lookedAt}
 use Rattle.demands.specs.FrameExact.{FrameCall, frameList}
 
 -- the maps in which the program looked for peaks
-abbrev pub mapsSearched : FrameCall → List View
-mapsSearched c = lookedAt (c .parameters) (c .img) (c .w) (c .h) (computedChoice (c .parameters))
+abbrev pub ownMaps : FrameCall → List View
+ownMaps c = lookedAt (c .parameters) (c .img) (c .w) (c .h) (computedChoice (c .parameters))
 
 -- one of a list
 pub record IsIn {A : Type 0} (a : A) (l : List A) : Type 0 where
@@ -38,7 +38,7 @@ pub record OfPeak (p : FrameParams) (maps : List View) (k : Corner) : Type 0 whe
 
 -- so does each corner of a finished frame, moved to its centre of mass and into the image, and merged with others
 abbrev pub NeighboursKept : Type 0
-NeighboursKept = (c : FrameCall) → All (OfPeak (c .parameters) (mapsSearched c)) (frameList c)
+NeighboursKept = (c : FrameCall) → All (OfPeak (c .parameters) (ownMaps c)) (frameList c)
 
 -- the positive neighbours of a place by exact values
 abbrev pub exactNeighbours : FrameParams → View → Place → ℕ
@@ -47,4 +47,4 @@ exactNeighbours p v = positives (λ q. ltZ (pos 0) (fifthsIn v (q .x) (q .y))) (
 -- are as many, about every place of each of these maps
 abbrev pub CountsExact : Type 0
 CountsExact =
-    (c : FrameCall) → All (λ v. (a : Place) → exactNeighbours (c .parameters) v a ≡ neighboursAt (cells v) (searchOn (c .parameters) v) a) (mapsSearched c)
+    (c : FrameCall) → All (λ v. (a : Place) → exactNeighbours (c .parameters) v a ≡ neighboursAt (cells v) (searchOn (c .parameters) v) a) (ownMaps c)
