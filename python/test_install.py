@@ -1,5 +1,4 @@
 """What is installed, used in an empty folder by a program of three lines each in C, Rust and Python: python3 -m unittest test_install"""
-import ast
 import importlib.util
 import os
 import re
@@ -41,6 +40,16 @@ assert len(zakdomp_numpy.find_exact(tipped, **bare).corners) == len(zakdomp_nump
 assert len(zakdomp_numpy.find_corners(tipped, **bare)) == 0
 print(len(zakdomp_numpy.find_corners(memoryview(image), threshold=30)))
 """
+TYPED = """import zakdomp
+corners: list[zakdomp.Corner] = zakdomp.find_corners(b"", width=0, height=0, threshold=30, most=7)
+frame: zakdomp.Frame = zakdomp.find_exact_pgm(b"", ring=10)
+ties: str = zakdomp.find(b"", 0, 0).ties
+zakdomp.find(b"", 0, 0, treshold=30)
+zakdomp.find(b"", "0", 0)
+zakdomp.find_pgm(b"", threshold="30")
+zakdomp.merged(corners, "3")
+"""
+WRONG = [4, 5, 6, 7, 8]
 BUILT = all(os.path.exists(os.path.join(TOP, "target", path)) for path in ("bin/corners", "bin/retained", "zakdomp/libzakdomp.a"))
 
 
@@ -107,9 +116,11 @@ class Wheels(Folder):
 
     @unittest.skipUnless(runs("mypy", "--version"), "no mypy on this machine")
     def test_types(self):
-        self.put("a.py", "import zakdomp\ncorners: list[zakdomp.Corner] = zakdomp.find_corners(b'', 0, 0)\nties: str = zakdomp.find(b'', 0, 0).ties\n")
+        """What is installed is typed to its parameters: the first lines are right, and each of the last is an error."""
+        self.put("a.py", TYPED)
         run = subprocess.run(["mypy", "--strict", "a.py"], capture_output=True, cwd=self.folder, env=clean(MYPYPATH=self.place), check=False)
-        self.assertRegex(run.stdout.decode(), r'^a\.py:3: error: Incompatible types in assignment .*\nFound 1 error')
+        said = run.stdout.decode()
+        self.assertEqual(sorted({int(line) for line in re.findall(r"^a\.py:(\d+): error", said, re.MULTILINE)}), WRONG, said)
 
 
 class Contents(Folder):
@@ -124,30 +135,16 @@ class Contents(Folder):
             self.assertIsNone(wheel.testzip())
             names = wheel.namelist()
         self.assertEqual(len(names), len(set(names)))
-        self.assertLessEqual({"zakdomp/libzakdomp.so", "zakdomp/py.typed", "zakdomp/__init__.pyi", "zakdomp_command/main.py"}, set(names))
+        due = {f"{module}/{name}" for module in ("zakdomp", "zakdomp_numpy") for name in ("__init__.py", "py.typed")}
+        self.assertLessEqual({*due, "zakdomp/libzakdomp.so", "zakdomp_command/main.py"}, set(names))
+        self.assertFalse([name for name in names if name.endswith(".pyi")], "types that stand apart go stale")
 
-    def test_the_types_name_what_the_module_has(self):
-        """Every public name of zakdomp.py stands in zakdomp.pyi, with the same parameters and fields."""
-        module, stub = (public(os.path.join(HERE, name)) for name in ("zakdomp.py", "zakdomp.pyi"))
-        self.assertEqual({name: said for name, said in stub.items() if name in module}, module)
-
-
-def public(path):
-    """The functions with the names of their parameters, and the classes with their fields, of a module or its stub."""
-    with open(path, encoding="utf-8") as file:
-        body = ast.parse(file.read()).body
-    functions = {each.name: fields(each) for each in body if isinstance(each, ast.FunctionDef)}
-    classes = {each.name: [part.target.id for part in each.body if isinstance(part, ast.AnnAssign) and "NamedTuple" in map(ast.unparse, each.bases)]
-               for each in body if isinstance(each, ast.ClassDef)}
-    return {name: said for name, said in (functions | classes).items() if not name.startswith("_")}
-
-
-def fields(function):
-    """The parameters; those that stand for the fields of `Params` count as such."""
-    names = [each.arg for each in function.args.args + function.args.kwonlyargs]
-    if function.args.kwarg or (set(zakdomp.Params._fields) < set(names) and function.name != "write_stream"):
-        return [name for name in names if name not in (*zakdomp.Params._fields, "most")]
-    return names
+    @unittest.skipUnless(runs("mypy", "--version"), "no mypy on this machine")
+    def test_the_types_of_the_repository(self):
+        """`mypy` reads in pyproject.toml what is typed, and that it is strict."""
+        cache = os.path.join(TOP, "target", "mypy")
+        run = subprocess.run(["mypy", "--cache-dir", cache], capture_output=True, cwd=HERE, env=clean(), check=False)
+        self.assertEqual(run.returncode, 0, run.stdout.decode())
 
 
 @unittest.skipUnless(BUILT, "the programs and the static library are not built")

@@ -127,7 +127,7 @@ class Writing(unittest.TestCase):
         named = dict(threshold=30, merge_radius=3)
         self.assertEqual(zakdomp.write_stream(b"\x09", 1, 1, **named)[7:11], struct.pack("<f", 30))
         self.assertEqual(zakdomp.write_stream(b"\x09", 1, 1, **named)[14:18], struct.pack("<f", 3))
-        self.assertEqual(zakdomp.write_stream(b"\x09", 1, 1, threshold=1e40)[7:11], struct.pack("<f", math.inf))
+        self.assertEqual(zakdomp.write_stream(b"\x09", 1, 1, threshold=math.inf)[7:11], struct.pack("<f", math.inf))
 
     def test_refusals_in_their_order(self):
         wide = dict(PLAIN, merge_bits=0x459c4000)

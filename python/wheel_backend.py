@@ -1,5 +1,5 @@
-"""Builds the wheel of `pip install ./python` (PEP 517) by the standard library alone: the module `zakdomp` as a package with the shared library
-beside it, the command and the module for numpy. The same bytes give the same wheel."""
+"""Builds the wheel of `pip install ./python` (PEP 517) by the standard library alone: the module `zakdomp` as a package
+with the shared library beside it, the command and the module for numpy. The same bytes give the same wheel."""
 import base64
 import hashlib
 import os
@@ -36,9 +36,11 @@ def contents_of_wheel() -> dict[str, bytes]:
 
 
 def modules() -> dict[str, bytes]:
-    """The modules, which can be imported from the folder that they are put in."""
-    files = {"zakdomp/__init__.py": _read("zakdomp.py"), "zakdomp/__init__.pyi": _read("zakdomp.pyi"), "zakdomp/py.typed": b"",
-             "zakdomp/" + LIBRARY: _library(), "zakdomp_numpy.py": _read("zakdomp_numpy.py"), "zakdomp_command/py.typed": b""}
+    """The modules, which can be imported from the folder that they are put in. Each is a package, for only a package
+    can say by `py.typed` that its types are to be read."""
+    files = {"zakdomp/" + LIBRARY: _library(), "zakdomp_command/py.typed": b""}
+    for module in ("zakdomp", "zakdomp_numpy"):
+        files |= {f"{module}/__init__.py": _read(module + ".py"), f"{module}/py.typed": b""}
     for name in sorted(os.listdir(os.path.join(HERE, "zakdomp_command"))):
         if name.endswith(".py"):
             files["zakdomp_command/" + name] = _read(os.path.join("zakdomp_command", name))

@@ -3,8 +3,9 @@
     corners = zakdomp_numpy.find_corners(image, threshold=30)
     corners["x"], corners["strength"].max()
 
-`image` is anything that numpy makes a two-dimensional array of bytes from, rows first, in any layout. The parameters are the fields of
-`zakdomp.Params`, and what the library refuses is raised as `zakdomp.Refusal`."""
+`image` is anything that numpy makes a two-dimensional array of bytes from, rows first, in any layout. The parameters are
+the fields of `zakdomp.Params`, and what the library refuses is raised as `zakdomp.Refusal`. What this module gives goes
+into the functions of `zakdomp`: corners as a list, maps as cells."""
 from collections.abc import Callable
 from typing import Any, NamedTuple
 
@@ -13,7 +14,7 @@ import numpy.typing
 
 import zakdomp
 
-CORNER = numpy.dtype([(name, "<u4" if kind in (int, "int") else "<f4") for name, kind in zakdomp.Corner.__annotations__.items()])
+CORNER = numpy.dtype([(name, "<u4" if kind is int else "<f4") for name, kind in zakdomp.Corner.__annotations__.items()])
 
 
 class Frame(NamedTuple):
