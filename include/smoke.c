@@ -465,6 +465,49 @@ static void merging_naively(void) {
     expect(zakdomp_merge_naive(x, 4, y, 3, s, 3, n, 3, 3, 1, &kept) == 0 && kept == 2 && x[0] == 2 && n[0] == 6, "a stronger one with its neighbours");
 }
 
+/* The helpers: the whole case by both choices, as an image and as a photograph, with buffers that are used again. */
+static void helpers(const uint8_t *img) {
+    enum { AT = 13, LARGE = 200 };
+    static uint8_t large[LARGE * LARGE];
+    uint8_t upload[AT + CELLS] = "P5 11 11 255\n";
+    zakdomp_lists found = {0};
+    zakdomp_params params = zakdomp_params_default();
+    memcpy(upload + AT, img, CELLS);
+    expect(zakdomp_find(img, SIDE, SIDE, &params, &found) == ZAKDOMP_DONE && found.count == 0, "no corner so near the edge");
+    params.window = params.least = params.centroid = params.search = 0;
+    for (params.exact = 0; params.exact < 2; params.exact++) {
+        expect(zakdomp_find(img, SIDE, SIDE, &params, &found) == ZAKDOMP_DONE && found.count == 1, "a corner by a helper");
+        expect(found.x[0] == 5 && found.y[0] == 5 && found.strength[0] == 2032 && found.neighbours[0] == 0, "at (5, 5)");
+        expect(zakdomp_find_pgm(upload, sizeof upload, &params, &found) == ZAKDOMP_DONE && found.count == 1, "and of a file");
+        expect(zakdomp_find_pgm(upload, sizeof upload - 1, &params, &found) == ZAKDOMP_PGM, "a pixel short for a helper");
+        expect(found.count == 0 && found.ties == 0, "refused: the lists are empty");
+    }
+    params.exact = 0;
+    expect(zakdomp_find(img, 4097, SIDE, &params, &found) == ZAKDOMP_SIDE, "a side of 4097 for a helper");
+    expect(zakdomp_find(img, (size_t)-1, (size_t)-1, &params, &found) == ZAKDOMP_SIDE, "the largest sides");
+    expect(zakdomp_find(img, 0, 0, &params, &found) == ZAKDOMP_DONE && found.count == 0, "no pixels");
+    params.ring = 6;
+    expect(zakdomp_find(img, SIDE, SIDE, &params, &found) == ZAKDOMP_PARAMETER && found.count == 0, "a ring of 6 for a helper");
+    params.ring = 5;
+    params.window = UINT32_MAX;
+    expect(zakdomp_find(img, SIDE, SIDE, &params, &found) == ZAKDOMP_PARAMETER, "the largest window");
+    params.window = 16;
+    params.radius = 0;
+    for (int i = 0; i < LARGE * LARGE; i++) large[i] = (i % LARGE / 7 + i / LARGE / 7) % 2 ? 255 : 0;
+    expect(zakdomp_find(large, LARGE, LARGE, &params, &found) == ZAKDOMP_DONE && found.count > 144, "more than places at first");
+    const size_t many = found.count;
+    params.level_count = 3;
+    expect(zakdomp_find(large, LARGE, LARGE, &params, &found) == ZAKDOMP_DONE, "on three levels");
+    params.level_count = 1;
+    expect(zakdomp_find(large, LARGE, LARGE, &params, &found) == ZAKDOMP_DONE && found.count == many, "and on one again");
+    const size_t bytes = found.room_bytes;
+    expect(zakdomp_make_room(&found, 1, 1, 1, 1) == found.room && found.room_bytes == bytes, "room that is there is kept");
+    zakdomp_free(&found);
+    expect(found.room == NULL && found.count == 0, "freed");
+    expect(zakdomp_make_room(&found, SIZE_MAX / 16, 0, 0, 0) == NULL && found.room_bytes == 0, "no memory");
+    zakdomp_free(&found);
+}
+
 int main(void) {
     uint8_t img[CELLS];
     whole_case(img);
@@ -486,6 +529,7 @@ int main(void) {
     streams(img);
     writing(img);
     holdings();
+    helpers(img);
     printf("C: %d passed, %d failed\n", passed, failed);
     return failed != 0;
 }

@@ -4,12 +4,15 @@
  *   - a slice is a pointer and a length, in elements; the pointer is to that many elements, and is not NULL even where the length is 0;
  *   - no two buffers and no places for results overlap, and an image, a map or a list that is read overlaps none of them;
  *   - enough stack is free: 192 KB for images of at most 96 by 96 pixels and for zakdomp_corners, 768 KB for any call.
- * Nothing is kept between calls, so calls may run at the same time on other buffers. No function allocates.
+ * Nothing is kept between calls, so calls may run at the same time on other buffers. No function of the library allocates.
+ *
+ * Whoever begins takes zakdomp_find or zakdomp_find_pgm at the end of this header, which allocate the buffers:
+ * include/README.md has a program of ten lines. They are C over the library's functions, and are tested, not proved.
  *
  * Each function but zakdomp_level_bytes, zakdomp_corners and zakdomp_holdings returns 0, or the number of a refusal: the lowest that applies,
  * unless the function says another order.
- * A refusal leaves every buffer and every place for a result as it was; the one exception is ZAKDOMP_LIST_SHORT from the four functions whose
- * names begin with zakdomp_find. What lies in a buffer behind a result stays as it was; these four alone clear map and list buffers behind it.
+ * A refusal leaves every buffer and every place for a result as it was; the one exception is ZAKDOMP_LIST_SHORT from the four functions of the
+ * library whose names begin with zakdomp_find. What lies in a buffer behind a result stays as it was; these four alone clear map and list buffers behind it.
  *
  * Corners are held in four slices: columns, rows, strengths, and neighbours, which are the cells above 0 in the window of the peak that became the
  * corner, the peak not counted. The shortest of the four says how many places there are. */
@@ -273,6 +276,110 @@ uint8_t zakdomp_holding(uint8_t kind, uint64_t start, uint64_t time, uint8_t *le
  * unknown kind, 7 for bytes that are missing and 20. Returns the length of the text. */
 #define ZAKDOMP_HOLDINGS 131081
 size_t zakdomp_holdings(const uint8_t *input, size_t input_length, uint8_t *output);
+
+#ifndef ZAKDOMP_BARE /* define it where there is no malloc: the helpers are then left out */
+#include <stdlib.h>
+
+/* What is looked for: the parameters of zakdomp_find_corners, by their names there, and by which choice. */
+typedef struct zakdomp_params {
+    uint32_t ring;
+    float threshold;
+    uint32_t window, least, centroid;
+    float radius;
+    uint32_t level_count;
+    size_t minimum;
+    uint32_t search;
+    int exact; /* 0: zakdomp_find_corners; 1: zakdomp_find_exact_corners */
+} zakdomp_params;
+
+/* The corners that were found, `count` in each list. It begins as {0}, and keeps its memory for its next call. */
+typedef struct zakdomp_lists {
+    float *x, *y, *strength;
+    uint32_t *neighbours;
+    size_t count;
+    uint64_t ties;
+    void *room; /* every buffer of a call; the lists point into it */
+    size_t room_bytes;
+} zakdomp_lists;
+
+#define ZAKDOMP_NO_MEMORY 255 /* the helpers alone: there is no memory for the buffers */
+
+/* The defaults, which are those of Rust and Python too: ring 5, threshold 0, window 2, least 2, centroid 2, radius 3,
+ * one level, the computed choice. For a photograph the threshold is to be set. */
+static inline zakdomp_params zakdomp_params_default(void) {
+    const zakdomp_params params = {5, 0, 2, 2, 2, 3, 1, 1, 3, 0};
+    return params;
+}
+
+/* Frees the memory of the lists, which are then empty and can be used again. */
+static inline void zakdomp_free(zakdomp_lists *found) {
+    const zakdomp_lists empty = {NULL, NULL, NULL, NULL, 0, 0, NULL, 0};
+    free(found->room);
+    *found = empty;
+}
+
+/* Makes room for a map, seeds, corners and levels, in this order, as zakdomp_find wants it, and sets the lists to the
+ * corners' places. Returns the map, or NULL where there is no memory. */
+static inline float *zakdomp_make_room(zakdomp_lists *found, size_t cells, size_t seeds, size_t places,
+                                       size_t level_bytes) {
+    const size_t needed = (cells + 4 * seeds + 4 * places + 1) * sizeof(float) + level_bytes;
+    if (found->room_bytes < needed) {
+        zakdomp_free(found);
+        found->room = calloc(needed, 1);
+        if (found->room == NULL) return NULL;
+        found->room_bytes = needed;
+    }
+    found->x = (float *)found->room + cells + 4 * seeds;
+    found->y = found->x + places;
+    found->strength = found->y + places;
+    found->neighbours = (uint32_t *)(void *)(found->strength + places);
+    return (float *)found->room;
+}
+
+/* The corners of an image of w by h pixels, in lists that are made as long as they have to be. They stay until the next
+ * call with the same struct, or zakdomp_free. Where it is refused, count and ties are 0.
+ *   img     w * h pixels, in row order
+ *   params  those of zakdomp_params_default, changed or not
+ * Refusals: 1, 3, 5, ZAKDOMP_NO_MEMORY. */
+static inline uint8_t zakdomp_find(const uint8_t *img, size_t w, size_t h, const zakdomp_params *params,
+                                   zakdomp_lists *found) {
+    const int fits = w <= 4096 && h <= 4096; /* else it is refused as 1, before a buffer is looked at */
+    const size_t cells = fits ? w * h : 0, step = (size_t)params->window + 1;
+    const size_t level_bytes = fits ? zakdomp_level_bytes(w, h, params->level_count, params->minimum) : 0;
+    size_t places = fits ? (w / step + 1) * (h / step + 1) : 1; /* enough on one level, but for equal peaks */
+    uint8_t refused;
+    found->count = 0;
+    found->ties = 0;
+#define ZAKDOMP_ARGUMENTS                                                                                             \
+    img, cells, w, h, params->ring, params->threshold, params->window, params->least, params->centroid,               \
+        params->radius, params->level_count, params->minimum, params->search, map, cells,                             \
+        (uint8_t *)(found->neighbours + places), level_bytes, sx, seeds, sx + seeds, seeds, sx + 2 * seeds, seeds,    \
+        (uint32_t *)(void *)(sx + 3 * seeds), seeds, found->x, places, found->y, places, found->strength, places,     \
+        found->neighbours, places, &found->count, &found->ties
+    do {
+        const size_t seeds = params->level_count > 1 ? places : 0;
+        float *const map = zakdomp_make_room(found, cells, seeds, places, level_bytes);
+        if (map == NULL) return ZAKDOMP_NO_MEMORY;
+        float *const sx = map + cells;
+        refused = params->exact ? zakdomp_find_exact_corners(ZAKDOMP_ARGUMENTS)
+                                : zakdomp_find_corners(ZAKDOMP_ARGUMENTS);
+        places *= 4;
+    } while (refused == ZAKDOMP_LIST_SHORT);
+#undef ZAKDOMP_ARGUMENTS
+    return refused;
+}
+
+/* The same of an uploaded photograph, the bytes of a binary PGM file.
+ * Refusals: 1, 12 and 13 of the upload; then as zakdomp_find. */
+static inline uint8_t zakdomp_find_pgm(const uint8_t *upload, size_t length, const zakdomp_params *params,
+                                       zakdomp_lists *found) {
+    size_t at = 0, w = 0, h = 0;
+    const uint8_t refused = zakdomp_pgm(upload, length, &at, &w, &h);
+    found->count = 0;
+    found->ties = 0;
+    return refused ? refused : zakdomp_find(upload + at, w, h, params, found);
+}
+#endif
 
 #ifdef __cplusplus
 }

@@ -124,6 +124,18 @@ class Wheels(Folder):
 
 
 class Contents(Folder):
+    def test_the_manual_of_the_header(self):
+        """docs/man/zakdomp.3 is what tools/manual writes, and has each function of the header and each helper."""
+        header = os.path.join(TOP, "include", "zakdomp.h")
+        written = subprocess.run([sys.executable, "-B", os.path.join(TOP, "tools", "manual"), header], capture_output=True, check=True)
+        with open(os.path.join(TOP, "docs", "man", "zakdomp.3"), "rb") as file:
+            page = file.read()
+        self.assertEqual(written.stdout, page, "run: tools/manual include/zakdomp.h >docs/man/zakdomp.3")
+        with open(header, encoding="utf-8") as file:
+            due = re.findall(r"^(?:static inline )?\w+ \**(zakdomp_\w+)\(|^} (zakdomp_\w+);", file.read(), re.MULTILINE)
+        self.assertGreater(len(due), 20)
+        self.assertEqual({"".join(names) for names in due}, set(re.findall(r"^\.SH (zakdomp_\w+)", page.decode(), re.MULTILINE)))
+
     def test_the_same_bytes_give_the_same_wheel(self):
         name = wheel_backend.build_wheel(self.folder)
         with open(os.path.join(self.folder, name), "rb") as file:
@@ -214,18 +226,31 @@ class Installed(Folder):
             with open(os.path.join(self.prefix, "share", "man", name), encoding="utf-8") as file:
                 pages[name] = file.read().replace("\\-", "-")
             if shutil.which("man"):
-                said = subprocess.run(["man", "--warnings", "-l", os.path.join(self.prefix, "share", "man", name)], capture_output=True, check=True,
+                page = os.path.join(self.prefix, "share", "man", name)
+                said = subprocess.run(["man", "--warnings", "-l", page], capture_output=True, check=True,
                                       env=clean(MANWIDTH="80", LC_ALL="C.UTF-8"))
                 self.assertEqual(said.stderr, b"")
-        with open(os.path.join(self.prefix, "include", "zakdomp.h"), encoding="utf-8") as file:
-            functions = set(re.findall(r"^\w+ (zakdomp_\w+)\(", file.read(), re.MULTILINE))
-        self.assertGreater(len(functions), 10)
-        self.assertEqual(functions, set(re.findall(r"^\.SH (zakdomp_\w+)", pages["man3/zakdomp.3"], re.MULTILINE)))
+                wide = [line for line in said.stdout.decode().splitlines() if len(line) > 80]
+                self.assertFalse(wide and name == "man3/zakdomp.3", wide)
         commands = next(action.choices for action in _parser()._actions if isinstance(action.choices, dict))
         for name, parser in commands.items():
             self.assertIn(f".B zakdomp {name}\n", pages["man1/zakdomp.1"])
             for option in (word for action in parser._actions for word in action.option_strings if word not in ("-h", "--help")):
                 self.assertRegex(pages["man1/zakdomp.1"], rf"(?m)[ \n]{option}\b")
+
+    def test_the_first_program(self):
+        """That of include/README.md, over what is installed."""
+        with open(os.path.join(TOP, "include", "README.md"), encoding="utf-8") as file:
+            program = "".join(re.findall(r"^    (.*\n)", file.read(), re.MULTILINE))
+        self.assertEqual(program.count("\n"), 10)
+        self.put("a.c", program)
+        self.ran("gcc", "-std=c99", "-Wall", "-Wextra", "-Werror", "a.c", "-o", "a", "-I", os.path.join(self.prefix, "include"),
+                 os.path.join(self.lib, "libzakdomp.a"))
+        lines = [tuple(map(float, line.split())) for line in self.ran("./a", given=board()).splitlines()]
+        due = [corner[:3] for corner in zakdomp.find_corners_pgm(board(), threshold=30)]
+        self.assertGreater(len(due), 0)
+        self.assertEqual(lines, [tuple(round(number, 6) for number in corner) for corner in due])
+        self.assertEqual(subprocess.run(["./a"], cwd=self.folder, input=b"GIF89a", check=False).returncode, 1)
 
     def test_a_package(self):
         """DESTDIR is where the files are put, and not what they say."""
