@@ -64,6 +64,14 @@ def runs(*command):
         return False
 
 
+def content(*path):
+    with open(os.path.join(*path), "rb") as file:
+        return file.read()
+
+
+NOTICE = content(TOP, "NOTICE")
+
+
 def clean(**named):
     """The environment without what would find the repository's own library and modules."""
     return {name: value for name, value in os.environ.items() if name not in HIDDEN} | named
@@ -104,6 +112,11 @@ class Wheels(Folder):
     def test_three_lines_of_python(self):
         self.put("a.py", PYTHON)
         self.assertEqual(self.ran(sys.executable, "-B", "a.py", given=board(), PYTHONPATH=self.place), DUE)
+
+    def test_the_notice(self):
+        place = os.path.join(self.place, f"zakdomp-{zakdomp.__version__}.dist-info")
+        self.assertEqual(content(place, "NOTICE"), NOTICE)
+        self.assertIn(b"\nLicense-File: NOTICE\n", content(place, "METADATA"))
 
     def test_the_command(self):
         said = self.ran(os.path.join(self.place, "bin", "zakdomp"), "find", "-", "--threshold", "30", given=board(), PYTHONPATH=self.place)
@@ -213,6 +226,9 @@ class Installed(Folder):
                                 check=True).stdout
         self.assertEqual(self.ran(os.path.join(bin, "corners"), given=stream), zakdomp.listing(zakdomp.find_corners_pgm(photo)))
         self.assertEqual(self.ran(os.path.join(bin, "retained"), given=bytes(17)[:8] + b"\1" + bytes(8)), "H\n")
+
+    def test_the_notice(self):
+        self.assertEqual(content(self.prefix, "share", "doc", "zakdomp", "NOTICE"), NOTICE)
 
     def test_nothing_names_the_repository(self):
         for place, _, names in os.walk(self.prefix):

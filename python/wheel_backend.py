@@ -55,15 +55,17 @@ def version() -> str:
 
 
 def _about() -> dict[str, bytes]:
-    """What the wheel says of itself."""
+    """What the wheel says of itself, and the notice of the code that the library carries over."""
     with open(os.path.join(HERE, "pyproject.toml"), "rb") as file:
         project = tomllib.load(file)["project"]
-    metadata = (f"Metadata-Version: 2.1\nName: {project['name']}\nVersion: {version()}\nSummary: {project['description']}\n"
-                f"License: {project['license']['text']}\nRequires-Python: {project['requires-python']}\n")
+    metadata = (f"Metadata-Version: 2.1\nName: {project['name']}\nVersion: {version()}\n"
+                f"Summary: {project['description']}\nLicense: {project['license']['text']}\nLicense-File: NOTICE\n"
+                f"Requires-Python: {project['requires-python']}\n")
     wheel = f"Wheel-Version: 1.0\nGenerator: zakdomp\nRoot-Is-Purelib: false\nTag: {_tag()}\n"
     scripts = "[console_scripts]\n" + "".join(f"{name} = {target}\n" for name, target in project["scripts"].items())
     texts = {"METADATA": metadata, "WHEEL": wheel, "entry_points.txt": scripts}
-    return {f"{_stem()}.dist-info/{name}": text.encode("utf-8") for name, text in texts.items()}
+    files = {name: text.encode("utf-8") for name, text in texts.items()} | {"NOTICE": _read("../NOTICE")}
+    return {f"{_stem()}.dist-info/{name}": content for name, content in files.items()}
 
 
 def _library() -> bytes:
