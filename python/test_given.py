@@ -153,7 +153,7 @@ class Given(unittest.TestCase):
         run = subprocess.run([sys.executable, "-c", "import zakdomp"], cwd=os.path.dirname(zakdomp.__file__),
                              env={**os.environ, "ZAKDOMP_LIBRARY": "/nowhere/a.so"}, capture_output=True, check=False)
         self.assertRegex(run.stderr.decode().splitlines()[-1],
-                         r"^ImportError: no library \(/nowhere/a\.so: .*\): tools/bindings .* makes")
+                         r"^ImportError: no library \(/nowhere/a\.so: .*\): tools/shared .* makes")
 
     def test_defaults(self):
         """The parameters of the functions begin as those of `Params` do."""

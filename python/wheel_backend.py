@@ -4,6 +4,7 @@ import base64
 import hashlib
 import os
 import re
+import subprocess
 import sysconfig
 import tomllib
 import zipfile
@@ -69,9 +70,18 @@ def _about() -> dict[str, bytes]:
 
 
 def _library() -> bytes:
-    path = os.environ.get("ZAKDOMP_LIBRARY") or os.path.join(HERE, "..", "target", "bindings", LIBRARY)
+    """The shared library. It is linked here where the static one is there; to prove that takes too long for an
+    installer, which says nothing meanwhile."""
+    top = os.path.dirname(HERE)
+    path = os.environ.get("ZAKDOMP_LIBRARY")
+    if not path:
+        path = os.path.join(top, "target", "bindings", LIBRARY)
+        if os.path.exists(os.path.join(top, "target", "zakdomp", "libzakdomp.a")):
+            if subprocess.run([os.path.join(top, "tools", "shared")], check=False).returncode:
+                raise SystemExit("zakdomp: tools/shared could not link the library; it says why above")
     if not os.path.exists(path):
-        raise FileNotFoundError(f"{path}: no shared library; tools/bindings of the repository makes it")
+        raise SystemExit(f"zakdomp: there is no library yet: run {os.path.join(top, 'tools', 'shared')}, which proves "
+                         "and compiles it, and then install again")
     return _read(path)
 
 

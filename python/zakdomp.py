@@ -26,7 +26,7 @@ buffer or no number is a TypeError, and a number that the library's type does no
 several threads: each keeps its buffers for its next call.
 
 The library is looked for in the file that the environment variable ZAKDOMP_LIBRARY names, beside this file, and where
-`tools/bindings` of the repository leaves it.
+`tools/shared` of the repository makes it.
 
     python3 zakdomp.py photo.pgm --threshold 30
 
@@ -172,7 +172,7 @@ def _opened() -> ctypes.CDLL:
     try:
         return ctypes.CDLL(path)
     except OSError as problem:
-        raise ImportError(f"no library ({problem}): tools/bindings of the repository makes {name}, "
+        raise ImportError(f"no library ({problem}): tools/shared of the repository makes {name}, "
                           "and ZAKDOMP_LIBRARY may name it") from None
 
 
