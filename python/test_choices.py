@@ -251,7 +251,7 @@ class Resuming(Batch):
         head, *lines = self.content("out/unfinished.journal").splitlines()
         older = [json.dumps({**json.loads(head), "version": zakdomp.__version__})]
         older += [json.dumps(json.loads(line)[:7] + json.loads(line)[11:]) for line in lines]
-        self.assertEqual(len(json.loads(older[-1])), 11)
+        self.assertEqual(len(json.loads(older[-1])), 13)
         self.put("out/unfinished.journal", "".join(line + "\n" for line in older).encode())
         self.assertEqual(len(self.read()), 5)
 

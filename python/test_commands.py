@@ -31,15 +31,24 @@ class Streams(Command):
 class Retained(Command):
     def test_a_photograph_for_90_days(self):
         for at, due in (("2026-08-17T23:59:59", b"N not yet\n"), ("2026-08-18", b"H held\n"), ("2026-11-15T23:59:59+00:00", b"H held\n"),
-                        ("2026-11-16", b"G gone\n"), (1_794_787_200, b"G gone\n"), ("2026-11-16T01:00:00+02:00", b"H held\n")):
+                        ("2026-11-16", b"G gone\n"), ("@1794787200", b"G gone\n"), ("2026-11-16T01:00:00+02:00", b"H held\n")):
             self.assertEqual(self.done("retained", "photograph", "2026-08-18", "--at", at), due, at)
 
     def test_kinds_and_now(self):
-        self.assertEqual(self.done("retained", "file", 0, "--at", 1 << 40), b"H held\n")
-        self.assertEqual(self.done("retained", "token", 100, "--at", 604_899), b"H held\n")
-        self.assertEqual(self.done("retained", "token", 100, "--at", 604_900), b"G gone\n")
-        self.assertEqual(self.done("retained", "token", int(time.time()) - 9), b"H held\n")
-        self.assertEqual(self.done("retained", "token", int(time.time()) + 999), b"N not yet\n")
+        self.assertEqual(self.done("retained", "file", "@0", "--at", f"@{1 << 40}"), b"H held\n")
+        self.assertEqual(self.done("retained", "token", "@100", "--at", "@604899"), b"H held\n")
+        self.assertEqual(self.done("retained", "token", "@100", "--at", "@604900"), b"G gone\n")
+        self.assertEqual(self.done("retained", "token", f"@{int(time.time()) - 9}"), b"H held\n")
+        self.assertEqual(self.done("retained", "token", f"@{int(time.time()) + 999}"), b"N not yet\n")
+
+    def test_a_time_that_can_be_read_in_two_ways_is_refused(self):
+        """20261115 is a day of 2026 and a second of 1970, by which a photograph would be gone."""
+        for text, words in (("20261115", "write @20261115 or a date as 2026-11-15"), ("0", "write @0"), ("\u0661", "can be"),
+                            ("2026-W46-1", "is no date"), ("2026-11", "is no date"), ("20261115T00", "is no date"),
+                            ("2026-02-30", "is no date"), ("@", "is no date"), ("@1e9", "is no date"), ("@-1", "is no date")):
+            for arguments in ((text,), ("2026-08-18", "--at", text)):
+                status, output, said = self.run_command("retained", "photograph", *arguments)
+                self.assertEqual((status, output, words in said), (2, b"", True), said)
 
     def test_a_stream_of_items(self):
         items = zakdomp_items(50, (1, 3), (2, 0), (3, 60))
@@ -50,11 +59,11 @@ class Retained(Command):
         self.assertEqual(self.run_command("retained", "--stream", "-"), (1, b"refused 7\n", "zakdomp: refused 7: the stream is cut short\n"))
 
     def test_usage(self):
-        self.fails(1, "refused 20: ", "retained", "file", (1 << 40) + 1, "--at", 5)
+        self.fails(1, "refused 20: ", "retained", "file", f"@{(1 << 40) + 1}", "--at", "@5")
         self.fails(2, "KIND and START", "retained")
         self.fails(2, "KIND and START", "retained", "file")
-        self.fails(2, "KIND and START", "retained", "file", 3, "--stream", "-")
-        for arguments, words in ((("photo", 3), "invalid choice: 'photo'"), (("file", "now"), "'now' is no whole number of seconds and no ISO date"),
+        self.fails(2, "KIND and START", "retained", "file", "@3", "--stream", "-")
+        for arguments, words in ((("photo", "@3"), "invalid choice: 'photo'"), (("file", "now"), "'now' is no date as "),
                                  (("file", "1969-12-31"), "'1969-12-31' is before 1970"), (("file", -1), "")):
             status, _, said = self.run_command("retained", *arguments)
             self.assertEqual((status, words in said), (2, True), said)

@@ -6,11 +6,11 @@ import io
 import os
 from typing import Any
 
-from zakdomp_command import files, formats, parameters
+from zakdomp_command import files, formats, names, parameters
 from zakdomp_command.journal import Journal
 from zakdomp_command.progress import Bar
 from zakdomp_command.runners import Runner, alone, processes
-from zakdomp_command.uploads import Order, Outcome, corner_file
+from zakdomp_command.uploads import BY_DIGEST, Order, Outcome
 
 EXAMPLE = "example: zakdomp batch uploads --out november --threshold 100 --jobs 2"
 DESCRIPTION = """Writes DIR/corners with a corner file for each photograph of a folder, and DIR/invoice.csv with a line
@@ -27,8 +27,10 @@ def add(commands: Any) -> None:
     parser = commands.add_parser("batch", help="a folder of photographs, and its invoice", epilog=EXAMPLE,
                                  description=DESCRIPTION)
     parser.add_argument("folder", metavar="FOLDER", help="where the uploads are; each file in it is one")
-    parser.add_argument("--out", metavar="DIR", required=True, type=_named, help="where corner files and invoice are put")
-    parser.add_argument("--jobs", type=_jobs, default=len(os.sched_getaffinity(0)), metavar="N", help="so many processes (default: one a core)")
+    parser.add_argument("--out", metavar="DIR", required=True, type=_named,
+                        help="where corner files and invoice are put")
+    parser.add_argument("--jobs", type=_jobs, default=len(os.sched_getaffinity(0)), metavar="N",
+                        help="so many processes (default: one a core)")
     parser.add_argument("--scheduler", metavar="ADDRESS", help="works on the Dask cluster of this scheduler instead")
     parser.add_argument("--format", choices=formats.SUFFIXES, default="listing", help="of the corner files")
     parameters.add(parser)
@@ -36,18 +38,18 @@ def add(commands: Any) -> None:
 
 
 def run(options: argparse.Namespace) -> int:
-    folder, out = options.folder, options.out
-    names = uploads(folder)
+    folder, out, chosen = options.folder, options.out, parameters.tried(parameters.of(options))
+    found = uploads(folder)
     corners = os.path.join(out, CORNERS)
     if any(os.path.exists(place) and os.path.samefile(folder, place) for place in (out, corners)):
         raise OSError(errno.EINVAL, "the uploads' own folder cannot take the corner files", out)
     os.makedirs(corners, exist_ok=True)
-    order = Order(os.path.realpath(folder), os.path.realpath(corners), options.format, parameters.of(options))
+    order = Order(os.path.realpath(folder), os.path.realpath(corners), options.format, chosen)
     with Journal(out, order) as journal:
         files.remove_parts(out)
         files.remove_parts(corners)
-        _work(journal, order, names, _runner(options))
-        outcomes = [journal.done[name] for name in names]
+        _work(journal, order, found, _runner(options))
+        outcomes = [journal.done[name] for name in found]
         files.place(os.path.join(out, INVOICE), invoice(outcomes))
         journal.end()
     _summary(options, outcomes)
@@ -58,17 +60,25 @@ def run(options: argparse.Namespace) -> int:
 
 def uploads(folder: str) -> list[str]:
     """The names of a folder's files, in the order of their bytes."""
-    return sorted((entry.name for entry in os.scandir(folder) if not entry.is_dir()), key=os.fsencode)
+    return sorted((entry.name for entry in os.scandir(folder) if not _is_folder(entry)), key=os.fsencode)
 
 
 def invoice(outcomes: list[Outcome]) -> bytes:
-    """The lines of an invoice. A name's control characters are escaped, so that each upload has one line."""
+    """The lines of an invoice. Names are written so that each upload has one line and no cell is a formula."""
     output = io.StringIO()
     writer = csv.writer(output, lineterminator="\n")
     writer.writerow(COLUMNS)
     for outcome in outcomes:
-        writer.writerow([files.line(outcome.name), *(getattr(outcome, column) for column in COLUMNS[1:])])
-    return output.getvalue().encode("utf-8", "surrogateescape")
+        writer.writerow([names.cell(outcome.name), *(getattr(outcome, column) for column in COLUMNS[1:])])
+    return output.getvalue().encode("utf-8")
+
+
+def _is_folder(entry: "os.DirEntry[str]") -> bool:
+    """Whether an entry is a folder, or a link to one. What cannot be looked at is an upload, and has its line."""
+    try:
+        return entry.is_dir()
+    except OSError:
+        return False
 
 
 def _runner(options: argparse.Namespace) -> Runner:
@@ -78,10 +88,10 @@ def _runner(options: argparse.Namespace) -> Runner:
     return alone if options.jobs == 1 else processes(options.jobs)
 
 
-def _work(journal: Journal, order: Order, names: list[str], runner: Runner) -> None:
+def _work(journal: Journal, order: Order, found: list[str], runner: Runner) -> None:
     """Does what is not yet done of the uploads."""
-    left = [name for name in names if name not in journal.done]
-    bar = Bar(len(names), len(names) - len(left))
+    left = [name for name in found if name not in journal.done]
+    bar = Bar(len(found), len(found) - len(left))
     try:
         for outcome in runner(order, left):
             journal.add(outcome)
@@ -109,12 +119,14 @@ def _tipped(options: argparse.Namespace, outcomes: list[Outcome]) -> None:
 
 
 def _others(options: argparse.Namespace, order: Order, outcomes: list[Outcome]) -> None:
-    """Says what is there and not of this batch: subfolders of the uploads, and corner files of an earlier batch, which are kept."""
-    own = {corner_file(order, outcome.name) for outcome in outcomes if outcome.corners is not None}
-    other = sum(entry.path not in own for entry in os.scandir(order.corners))
+    """Says what is there and not of this batch: subfolders of the uploads, and corner files of an earlier batch, which
+    are kept."""
+    own = {BY_DIGEST, *(outcome.file for outcome in outcomes)}
+    other = sum(entry.name not in own for entry in os.scandir(order.corners))
     if other:
         files.tell(f"{other} files are not of this batch", os.path.join(options.out, CORNERS))
-    below = sum(entry.is_dir() and not os.path.samefile(entry.path, options.out) for entry in os.scandir(options.folder))
+    below = sum(_is_folder(entry) and not os.path.samefile(entry.path, options.out)
+                for entry in os.scandir(options.folder))
     if below:
         files.tell(f"{below} subfolders not looked into", options.folder)
 

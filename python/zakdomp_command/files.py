@@ -4,7 +4,7 @@ import os
 import sys
 import tempfile
 
-ESCAPED = {place: f"\\x{place:02x}" for place in (*range(32), 127)} | {ord("\\"): "\\\\"}
+from zakdomp_command.names import line
 
 
 def read(name: str) -> bytes:
@@ -40,14 +40,15 @@ def tell(words: str, name: str | None) -> None:
 
 def apart(given: str, *made: str | None) -> None:
     """Sees that no file that is made takes the place of the one that is read, or of another that is made."""
-    names = [name for name in made if name and (os.path.isfile(name) or not os.path.exists(name))] + [given] * (given != "-")
+    names = [name for name in made if name and (os.path.isfile(name) or not os.path.exists(name))]
+    names += [given] * (given != "-")
     if len({os.path.realpath(name) for name in names}) < len(names):
         raise ValueError("two of the files that are named are one: it would be written over")
 
 
 def place(name: str, content: bytes) -> None:
-    """Makes a file, or puts it in the place of an older one: whoever looks finds the older bytes or all of the new ones. What is no file, a pipe or a
-    device, is written to, and stays what it is; so does a link to a file."""
+    """Makes a file, or puts it in the place of an older one: whoever looks finds the older bytes or all of the new
+    ones. What is no file, a pipe or a device, is written to, and stays what it is; so does a link to a file."""
     try:
         if os.path.exists(name) and not os.path.isfile(name):
             with open(name, "wb") as other:
@@ -70,11 +71,6 @@ def _place(name: str, content: bytes) -> None:
     except BaseException:
         os.unlink(part)
         raise
-
-
-def line(name: str) -> str:
-    """A name without control characters and with its backslashes doubled, so that it takes one line and is no other name's."""
-    return name.translate(ESCAPED)
 
 
 def remove_parts(folder: str) -> None:

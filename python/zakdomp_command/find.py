@@ -2,7 +2,8 @@
 import argparse
 from typing import Any
 
-from zakdomp_command import choices, files, formats, parameters
+import zakdomp
+from zakdomp_command import choices, files, formats, looks, parameters
 from zakdomp_command.marks import drawing
 from zakdomp_command.png import png
 from zakdomp_command.svg import svg
@@ -18,7 +19,8 @@ choice alone has a corner, white where it has not."""
 def add(commands: Any) -> None:
     parser = commands.add_parser("find", help="the corners of a photograph", epilog=EXAMPLE, description=DESCRIPTION)
     parser.add_argument("photo", metavar="PHOTO", help="a binary PGM file (P5) with a maxval of 255; - is standard input")
-    parser.add_argument("--format", choices=formats.SUFFIXES, default="listing", help="of the list; listing is that of the program corners")
+    parser.add_argument("--format", choices=formats.SUFFIXES, default="listing",
+                        help="of the list; listing is that of the program corners")
     parser.add_argument("--exact", action="store_true", help="lists and draws the corners of the exact choice")
     parser.add_argument("--svg", metavar="FILE", help="draws the corners over the photograph, as SVG")
     parser.add_argument("--png", metavar="FILE", help="the same as PNG")
@@ -29,7 +31,10 @@ def add(commands: Any) -> None:
 def run(options: argparse.Namespace) -> int:
     files.apart(options.photo, options.svg, options.png)
     upload, chosen = files.read(options.photo), parameters.of(options)
-    found = choices.find(upload, chosen, options.exact)
+    try:
+        found = choices.find(upload, chosen, options.exact)
+    except zakdomp.Refusal as refusal:
+        raise looks.Worded(refusal.number, upload) from refusal
     _draw(options, found, chosen)
     files.say(choices.written(options.format, found, chosen))
     for sentence in choices.sentences(found.comparison):

@@ -23,7 +23,7 @@ class CornerFile(NamedTuple):
 def shortest(value: float) -> float:
     """The number with the fewest decimal digits that is the same float of single precision."""
     texts = (f"{value:.{digits}g}" for digits in range(6, 10))
-    return next((float(text) for text in texts if _single(float(text)) == value), value)
+    return next((float(text) for text in texts if single(float(text)) == value), value)
 
 
 def written(kind: str, corners: list[zakdomp.Corner], beside: dict[str, Any]) -> str:
@@ -62,7 +62,8 @@ def words(corner: zakdomp.Corner) -> str:
     return ", ".join(f"{name} {value}" for name, value in plain(corner).items())
 
 
-def _single(value: float) -> float:
+def single(value: float) -> float:
+    """A number as single precision holds it. Raises OverflowError where it is too large."""
     return float(struct.unpack("<f", struct.pack("<f", value))[0])
 
 
@@ -85,7 +86,7 @@ def _corner(values: list[Any]) -> zakdomp.Corner:
     """A corner of the values of its fields, as numbers of the library's types."""
     if len(values) != len(FIELDS):
         raise ValueError(f"a corner has {len(FIELDS)} fields, not {len(values)}")
-    numbers: Any = (_whole(value) if whole else _single(float(value)) for value, whole in zip(values, WHOLE))
+    numbers: Any = (_whole(value) if whole else single(float(value)) for value, whole in zip(values, WHOLE))
     return zakdomp.Corner(*numbers)
 
 
@@ -97,7 +98,8 @@ def _whole(value: Any) -> int:
 
 
 def _read_listing(text: str) -> list[zakdomp.Corner]:
-    """The bits of a line's floats, and behind them its whole numbers; the 256ths before them say nothing that the bits do not."""
+    """The bits of a line's floats, and behind them its whole numbers; the 256ths before them say nothing that the bits
+    do not."""
     first, *lines = text.splitlines()
     if first != f"corners {len(lines)}":
         raise ValueError(f"the listing says '{first}' and has {len(lines)} lines")
@@ -107,7 +109,8 @@ def _read_listing(text: str) -> list[zakdomp.Corner]:
 def _listed(words: list[str]) -> zakdomp.Corner:
     if len(words) != len(FIELDS):
         raise ValueError(f"a corner has {len(FIELDS)} fields, not {len(words)}")
-    return _corner([word if whole else struct.unpack(">f", bytes.fromhex(word))[0] for word, whole in zip(words, WHOLE)])
+    values = (word if whole else struct.unpack(">f", bytes.fromhex(word))[0] for word, whole in zip(words, WHOLE))
+    return _corner([*values])
 
 
 def _read_csv(text: str) -> list[zakdomp.Corner]:

@@ -33,8 +33,11 @@ class Journal:
         """Notes that an upload is done. One that could not be read is tried again by the next run."""
         self.done[outcome.name] = outcome
         if outcome.size or outcome.time:
-            self._file.write(_line(list(outcome)))
-            self._file.flush()
+            try:
+                self._file.write(_line(list(outcome)))
+                self._file.flush()
+            except OSError as problem:
+                raise OSError(problem.errno, problem.strerror, self._path) from problem
 
     def end(self) -> None:
         """Removes the journal of a whole batch."""

@@ -4,11 +4,12 @@ import os
 import sys
 
 import zakdomp
-from zakdomp_command import batch, files, find, merge, retained, stream, strike
+from zakdomp_command import batch, files, find, looks, merge, retained, stream, strike
 
 REFUSED, FAILED, INTERRUPTED = 1, 2, 130
 SUBCOMMANDS = (find, batch, stream, retained, merge, strike)
-STATUS = "Exit status: 0 done, 1 refused (number and words on standard error), 2 usage, a file that cannot be read or written, or no scheduler."
+STATUS = """Exit status: 0 done, 1 refused (number and words on standard error), 2 usage, a file that cannot be read or
+written, or no scheduler."""
 
 
 def main(arguments: list[str] | None = None) -> int:
@@ -18,7 +19,7 @@ def main(arguments: list[str] | None = None) -> int:
         status: int = options.run(options)
         return status
     except zakdomp.Refusal as refusal:
-        return _said(options, f"refused {refusal.number}: {words(refusal.number)}", REFUSED)
+        return _said(options, f"refused {refusal.number}: {_words(refusal)}", REFUSED)
     except KeyboardInterrupt:
         return _said(options, "stopped", INTERRUPTED)
     except BrokenPipeError:
@@ -30,13 +31,16 @@ def main(arguments: list[str] | None = None) -> int:
         return _said(options, str(problem), FAILED)
 
 
-def words(number: int) -> str:
-    """What a refusal's number says."""
-    return str(zakdomp.REFUSALS.get(number, "refused"))
+def _words(refusal: zakdomp.Refusal) -> str:
+    """What a refusal says: the words of its upload, or of its number."""
+    if isinstance(refusal, looks.Worded):
+        return refusal.words
+    return str(zakdomp.REFUSALS.get(refusal.number, "refused"))
 
 
 def _parser() -> argparse.ArgumentParser:
-    parser = argparse.ArgumentParser(prog="zakdomp", description="The corners of chessboards in photographs, by a proved library.", epilog=STATUS)
+    parser = argparse.ArgumentParser(prog="zakdomp", epilog=STATUS,
+                                     description="The corners of chessboards in photographs, by a proved library.")
     parser.add_argument("--version", action="version", version=f"zakdomp {zakdomp.__version__}")
     commands = parser.add_subparsers(metavar="COMMAND", required=True)
     for subcommand in SUBCOMMANDS:

@@ -7,14 +7,16 @@ from typing import Any
 
 import zakdomp
 from zakdomp_command import files, formats
+from zakdomp_command.parameters import single
 
 EXAMPLE = "example: zakdomp merge board.corners --radius 1,3,10"
+DESCRIPTION = """Prints the corners that a merge would leave; the file stays as it is. Several radii give their lists one
+after the other: a line 'radius R' before each listing, a first column in CSV, a list in JSON."""
 
 
 def add(commands: Any) -> None:
     parser = commands.add_parser("merge", help="what merging would leave of a corner file", epilog=EXAMPLE,
-                                 description="Prints the corners that a merge would leave; the file stays as it is. Several radii give their lists one after "
-                                 "the other: a line 'radius R' before each listing, a first column in CSV, a list in JSON.")
+                                 description=DESCRIPTION)
     parser.add_argument("file", metavar="FILE", help="a corner file in any format; - is standard input")
     parser.add_argument("--radius", metavar="R1,R2,..", required=True, type=_radii, help="1/64 to 4096; 0 merges none")
     parser.add_argument("--naive", action="store_true", help="compares each corner with those kept, without cells")
@@ -39,7 +41,8 @@ def _several(kind: str, lists: list[tuple[float, list[zakdomp.Corner]]]) -> str:
     if kind == "listing":
         return "".join(f"radius {radius:g}\n{zakdomp.listing(corners)}" for radius, corners in lists)
     if kind == "json":
-        return json.dumps([{"radius": radius, "corners": [formats.plain(corner) for corner in corners]} for radius, corners in lists], indent=1) + "\n"
+        said = [{"radius": radius, "corners": [formats.plain(corner) for corner in corners]} for radius, corners in lists]
+        return json.dumps(said, indent=1) + "\n"
     output = io.StringIO()
     writer = csv.writer(output, lineterminator="\n")
     writer.writerow(("radius", *formats.FIELDS))
@@ -50,6 +53,6 @@ def _several(kind: str, lists: list[tuple[float, list[zakdomp.Corner]]]) -> str:
 
 def _radii(text: str) -> list[float]:
     try:
-        return [float(word) for word in text.split(",")]
-    except ValueError as problem:
-        raise argparse.ArgumentTypeError(f"'{text}' is no number, and no numbers with commas between them") from problem
+        return [single(word) for word in text.split(",")]
+    except argparse.ArgumentTypeError as problem:
+        raise argparse.ArgumentTypeError(f"'{text}' is no number, and no numbers with commas between them: {problem}")

@@ -1,6 +1,7 @@
 """`zakdomp retained`: whether an item is held (request 13)."""
 import argparse
 import datetime
+import re
 import time
 from typing import Any
 
@@ -10,16 +11,21 @@ from zakdomp_command import files
 EXAMPLE = "example: zakdomp retained photograph 2026-08-18 --at 2026-11-16T00:00:00"
 KINDS = {"file": 1, "photograph": 2, "token": 3}
 WORDS = {"N": "not yet", "H": "held", "G": "gone"}
+DESCRIPTION = """Prints N not yet, H held or G gone. A corner file is held always, a photograph for 90 days from the day
+of its receipt, a token for 604,800 seconds. A time is a date, 2026-11-15 or 2026-11-15T18:30:00, in UTC where it does
+not say, or seconds since 1970, @1794787200."""
+DATE = re.compile(r"[0-9]{4}-[0-9]{2}-[0-9]{2}([T ][0-9]{2}:[0-9]{2}(:[0-9]{2}(\.[0-9]{1,6})?)?(Z|[+-][0-9]{2}:[0-9]{2})?)?")
+SECONDS = re.compile(r"@[0-9]{1,20}")
 
 
 def add(commands: Any) -> None:
     parser = commands.add_parser("retained", help="whether an item is held, or may be deleted", epilog=EXAMPLE,
-                                 description="Prints N not yet, H held or G gone. A corner file is held always, a photograph for 90 days from the day of its "
-                                 "receipt, a token for 604,800 seconds. Times are seconds since 1970 or ISO dates, in UTC where they do not say.")
+                                 description=DESCRIPTION)
     parser.add_argument("kind", metavar="KIND", nargs="?", choices=[*KINDS], help="file (a corner file), photograph or token")
     parser.add_argument("start", metavar="START", nargs="?", type=_seconds, help="when it was received, or issued")
     parser.add_argument("--at", metavar="TIME", type=_seconds, help="the time asked about (default: now)")
-    parser.add_argument("--stream", metavar="FILE", help="prints instead what the program retained does for a stream of items; - is standard input")
+    parser.add_argument("--stream", metavar="FILE",
+                        help="prints instead what the program retained does for a stream of items; - is standard input")
     parser.set_defaults(run=run)
 
 
@@ -44,13 +50,19 @@ def _stream(name: str) -> int:
 
 
 def _seconds(text: str) -> int:
-    """A time as whole seconds since 1970."""
+    """A time as whole seconds since 1970. What can be read in two ways, as digits alone can, is none: an answer may
+    delete a photograph."""
+    if SECONDS.fullmatch(text):
+        return int(text[1:])
     if text.isdecimal():
-        return int(text)
+        raise argparse.ArgumentTypeError(f"'{text}' can be seconds or a date: write @{text} or a date as 2026-11-15")
     try:
+        if not DATE.fullmatch(text):
+            raise ValueError
         moment = datetime.datetime.fromisoformat(text)
     except ValueError as problem:
-        raise argparse.ArgumentTypeError(f"'{text}' is no whole number of seconds and no ISO date") from problem
+        raise argparse.ArgumentTypeError(f"'{text}' is no date as 2026-11-15 or 2026-11-15T18:30:00, and no seconds as "
+                                         "@1794787200") from problem
     aware = moment if moment.tzinfo else moment.replace(tzinfo=datetime.timezone.utc)
     seconds = int(aware.timestamp() // 1)
     if seconds < 0:

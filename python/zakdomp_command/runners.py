@@ -1,4 +1,5 @@
-"""Ways to work through the uploads of a batch: one after the other, or by processes of this machine. Each yields outcomes as they come."""
+"""Ways to work through the uploads of a batch: one after the other, or by processes of this machine. Each yields
+outcomes as they come."""
 import multiprocessing
 import os
 import signal
@@ -10,7 +11,7 @@ from concurrent.futures.process import BrokenProcessPool
 from functools import partial
 from itertools import islice
 
-from zakdomp_command.uploads import Order, Outcome, work
+from zakdomp_command.uploads import Order, Outcome, unread, work
 
 AHEAD = 3
 GROUP = 4
@@ -30,7 +31,8 @@ def processes(jobs: int) -> Runner:
 
 
 def _surviving(jobs: int, order: Order, names: list[str]) -> Iterator[Outcome]:
-    """Where a process dies, the uploads that are not done are given to new ones; not for ever, if none of them is done any more."""
+    """Where a process dies, the uploads that are not done are given to new ones. When that has happened some times and
+    none of them was done, those that were under way get a process each, and one whose process dies has its line."""
     left = dict.fromkeys(names)
     deaths = 0
     while left:
@@ -39,20 +41,33 @@ def _surviving(jobs: int, order: Order, names: list[str]) -> Iterator[Outcome]:
                 del left[outcome.name]
                 deaths = 0
                 yield outcome
-        except BrokenProcessPool as problem:
+        except BrokenProcessPool:
             deaths += 1
             if deaths == DEATHS:
-                raise OSError(0, f"the process died {DEATHS} times on one of: {', '.join(list(left)[:AHEAD * GROUP * jobs])}") from problem
+                for name in list(left)[:AHEAD * GROUP * jobs]:
+                    del left[name]
+                    yield _single(order, name)
+                deaths = 0
+
+
+def _single(order: Order, name: str) -> Outcome:
+    """An upload in a process of its own."""
+    try:
+        return next(_pool(1, order, [name]))
+    except BrokenProcessPool:
+        return unread(name, OSError(0, f"the process that worked on it died {DEATHS + 1} times"))
 
 
 def _pool(jobs: int, order: Order, names: list[str]) -> Iterator[Outcome]:
-    """Some groups of uploads are under way for each process, so that none of them waits. There are no more processes than uploads."""
+    """Some groups of uploads are under way for each process, so that none of them waits. There are no more processes
+    than uploads."""
     jobs = min(jobs, len(names))
     context = multiprocessing.get_context("fork")
     executor = ProcessPoolExecutor(jobs, context, _begin, (os.getpid(),))
     waiting = _groups(names, jobs)
     try:
-        running: set[Future[list[Outcome]]] = {executor.submit(_work, order, group) for group in islice(waiting, AHEAD * jobs)}
+        first = islice(waiting, AHEAD * jobs)
+        running: set[Future[list[Outcome]]] = {executor.submit(_work, order, group) for group in first}
         while running:
             ended, running = wait(running, return_when=FIRST_COMPLETED)
             running |= {executor.submit(_work, order, group) for group in islice(waiting, len(ended))}
@@ -63,7 +78,8 @@ def _pool(jobs: int, order: Order, names: list[str]) -> Iterator[Outcome]:
 
 
 def _groups(names: list[str], jobs: int) -> Iterator[list[str]]:
-    """The uploads in groups: small photographs take no longer than to hand them over one by one. Few uploads are handed over so."""
+    """The uploads in groups: small photographs take no longer than to hand them over one by one. Few uploads are handed
+    over so."""
     size = max(1, min(GROUP, len(names) // (16 * jobs)))
     return (names[start:start + size] for start in range(0, len(names), size))
 
