@@ -223,7 +223,7 @@ class Resuming(Batch):
         self.batch("--jobs", 1, out="whole")
 
     def halted(self):
-        """A run that stops at its last upload, when all others are in the journal."""
+        """A run that stops at its last upload, when all others are in the ledger."""
         real = uploads.read
 
         def stops(order, name):
@@ -235,25 +235,15 @@ class Resuming(Batch):
             self.assertEqual(self.run_command("batch", self.path("in"), "--out", self.path("out"), "--jobs", 1)[0], 130)
 
     def read(self):
-        """The uploads that the next run reads; it ends with the bytes of a run that was not stopped."""
-        with mock.patch.object(uploads, "read", wraps=uploads.read) as reading:
+        """The uploads that the next run computes; it ends with the bytes of a run that was not stopped."""
+        with mock.patch.object(uploads, "find", wraps=uploads.find) as finding:
             self.batch("--jobs", 1)
         self.assertEqual(tree(self.path("out")), tree(self.path("whole")))
-        return [call.args[1] for call in reading.call_args_list]
+        return [call.args[1] for call in finding.call_args_list]
 
     def test_a_stopped_run_goes_on(self):
         self.halted()
         self.assertEqual(self.read(), ["other.pgm"])
-
-    def test_a_journal_of_before_the_exact_choice_begins_anew(self):
-        """Its lines say nothing of the exact choice, and its head has the version alone."""
-        self.halted()
-        head, *lines = self.content("out/unfinished.journal").splitlines()
-        older = [json.dumps({**json.loads(head), "version": zakdomp.__version__})]
-        older += [json.dumps(json.loads(line)[:7] + json.loads(line)[11:]) for line in lines]
-        self.assertEqual(len(json.loads(older[-1])), 13)
-        self.put("out/unfinished.journal", "".join(line + "\n" for line in older).encode())
-        self.assertEqual(len(self.read()), 5)
 
     def test_a_killed_run_goes_on(self):
         """By a signal that leaves it no time, with uploads held that lie behind."""
@@ -268,11 +258,11 @@ class Resuming(Batch):
 class Workers(unittest.TestCase):
     def test_a_worker_of_before_the_exact_choice(self):
         """Each side compares what an outcome says, so that no column is empty for want of an answer."""
-        order = uploads.Order("", "", "listing", zakdomp.Params()._asdict())
+        order, upload = uploads.Order("", "listing", zakdomp.Params()._asdict()), uploads.Upload(OTHER, len(OTHER), 2)
         for version in (zakdomp.__version__, uploads.VERSION.replace(" exact_corners", "")):
             with self.assertRaisesRegex(ValueError, "a worker has zakdomp "):
-                cluster._find(version, order, "a", OTHER, 1, 2)
-        outcome = cluster._find(uploads.VERSION, order, "a", OTHER, 1, 2)
+                cluster._find(version, order, "a", upload)
+        outcome = cluster._find(uploads.VERSION, order, "a", upload)
         self.assertEqual((outcome.corners, outcome.exact_corners, outcome.same_list), (8, 8, "no"))
 
 

@@ -5,6 +5,7 @@ import os
 import signal
 import subprocess
 import sys
+import time
 import unittest
 from concurrent.futures import CancelledError
 from unittest import mock
@@ -37,8 +38,7 @@ class Tasks(Batch):
     """How a task ends, by stand-ins for the client and the task."""
 
     def ended(self, problem=None, status="running", gathered=None):
-        os.makedirs(self.path("out/corners"), exist_ok=True)
-        order = uploads.Order(self.path("in"), self.path("out/corners"), "listing", zakdomp.Params()._asdict())
+        order = uploads.Order(self.path("in"), "listing", zakdomp.Params()._asdict())
         client = mock.Mock(status=status, gather=mock.Mock(side_effect=[gathered]))
         return cluster._ended(client, Killed, order, mock.Mock(zakdomp_name="000.pgm", exception=lambda: problem))
 
@@ -46,7 +46,8 @@ class Tasks(Batch):
         self.fill(1)
         for outcome in (self.ended(Killed()), self.ended(gathered=Killed())):
             self.assertEqual((outcome.name, outcome.width, outcome.words), ("000.pgm", 100, ""))
-            self.assertEqual(os.listdir(self.path("out/corners")), ["000.pgm.corners"])
+            self.assertTrue(outcome.text.startswith("corners "))
+            self.assertEqual(os.listdir(self.folder), ["in"], "what is done here is written by the batch alone")
         os.unlink(self.path("in/000.pgm"))
         self.assertEqual(self.ended(Killed()).words, "cannot be read: No such file or directory")
 
@@ -152,7 +153,7 @@ class Cluster(Batch):
         self.waited(lambda: self.corners() >= 5)
         end()
         self.ends(run, 2, f"zakdomp: {self.path('in')}: the scheduler is gone: start the batch again to go on\n")
-        self.assertEqual(sorted(os.listdir(self.path("out"))), ["corners", "unfinished.journal"])
+        self.assertEqual(sorted(os.listdir(self.path("out"))), ["corners", "ledger.sqlite"])
         left = {name: digest for name, digest in tree(self.path("out")).items() if name.startswith("corners/")}
         self.assertLessEqual(left.items(), due.items())
         self.assertTrue(5 <= len(left) < 30)
@@ -180,6 +181,18 @@ class Cluster(Batch):
         self.begin(workers=1)
         self.ends(self.begun(last="y"))
         self.assertEqual(tree(self.path("out")), due)
+
+    def test_a_cluster_without_workers(self):
+        """It says so within seconds, and leaves no line: nothing is known of any upload."""
+        self.begin(workers=0)
+        self.fill(2)
+        begun = time.monotonic()
+        run = self.started("--scheduler", self.address, stderr=subprocess.PIPE)
+        said = run.communicate(timeout=LIMIT)[1].decode()
+        self.assertEqual((said, run.returncode), (f"zakdomp: {self.path('in')}: the scheduler at {self.address} has no "
+                                                  "workers: start some, and then the batch again\n", 2))
+        self.assertLess(time.monotonic() - begun, 60)
+        self.assertFalse(os.path.exists(self.path("out/invoice.csv")))
 
     def test_what_is_no_scheduler(self):
         run = self.started("--scheduler", "here", stderr=subprocess.PIPE)

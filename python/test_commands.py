@@ -1,12 +1,10 @@
-"""`zakdomp stream`, `retained`, `merge` and `strike`: python3 -m unittest test_commands"""
+"""`zakdomp stream`, `retained` and `merge`: python3 -m unittest test_commands"""
 import csv
 import io
 import json
 import math
-import os
 import time
 import unittest
-from typing import NamedTuple
 from unittest import mock
 
 import zakdomp
@@ -63,7 +61,7 @@ class Retained(Command):
         self.fails(2, "KIND and START", "retained")
         self.fails(2, "KIND and START", "retained", "file")
         self.fails(2, "KIND and START", "retained", "file", "@3", "--stream", "-")
-        for arguments, words in ((("photo", "@3"), "invalid choice: 'photo'"), (("file", "now"), "'now' is no date as "),
+        for arguments, words in ((("photo", "@3"), "'photo' is no kind: file, photograph, token are"), (("file", "now"), "'now' is no date as "),
                                  (("file", "1969-12-31"), "'1969-12-31' is before 1970"), (("file", -1), "")):
             status, _, said = self.run_command("retained", *arguments)
             self.assertEqual((status, words in said), (2, True), said)
@@ -83,33 +81,6 @@ def kept(corners, radius):
         if all(math.hypot(corner.x - other.x, corner.y - other.y) > radius for other in left):
             left.append(corner)
     return left
-
-
-class Shown(NamedTuple):
-    corner: zakdomp.Corner
-    change: int
-
-
-class Edited:
-    """A stand-in for zakdomp.EditedList, by the words of request 10."""
-
-    def __init__(self, corners, change=0):
-        self.corners, self.change = list(corners), change
-
-    def __len__(self):
-        return len(self.corners)
-
-    def show(self, place):
-        if not 0 <= place < len(self):
-            raise zakdomp.Refusal(17)
-        return Shown(self.corners[place], self.change)
-
-    def strike(self, place, change):
-        if change != self.change:
-            raise zakdomp.Refusal(16)
-        self.show(place)
-        del self.corners[place]
-        self.change += 1
 
 
 class Merging(Command):
@@ -155,69 +126,9 @@ class LibraryMerging(Merging):
     merged, merge_naive = (staticmethod(getattr(zakdomp, name, kept)) for name in ("merged", "merge_naive"))
 
 
-class Striking(Command):
-    """The command around an edited list; the library's own in `LibraryStriking`."""
-    edited = Edited
-
-    def setUp(self):
-        super().setUp()
-        patches = (mock.patch.object(zakdomp, "EditedList", self.edited, create=True),
-                   mock.patch.dict(zakdomp.REFUSALS, {16: "the change number differs from the list's", 17: "the place is beyond the list"}))
-        for patch in patches:
-            patch.start()
-            self.addCleanup(patch.stop)
-        self.corners = zakdomp.find_corners_pgm(noise(120, 9))
-        self.beside = {"ties": 4}
-
-    def left(self, kind):
-        return formats.read(self.content("a" + formats.SUFFIXES[kind]))
-
-    def test_shown_and_struck(self):
-        for kind, suffix in formats.SUFFIXES.items():
-            file = self.put("a" + suffix, formats.written(kind, self.corners, self.beside).encode())
-            shown = self.done("strike", file, 2).decode()
-            self.assertIn(f"corner 2: x {formats.shortest(self.corners[2].x):g}, ", shown)
-            self.assertIn("change 0: ", shown)
-            self.assertEqual(self.left(kind).corners, self.corners)
-            self.assertIn("struck corner 2: ", self.done("strike", file, 2, "--confirm", 0).decode())
-            self.assertEqual(self.left(kind), (kind, self.corners[:2] + self.corners[3:], self.beside if kind == "json" else {}))
-            self.fails(1, "refused 16: ", "strike", file, 2, "--confirm", 0)
-            self.assertIn("change 1: ", self.done("strike", file, 0).decode())
-            self.done("strike", file, 0, "--confirm", 1)
-            self.assertEqual(self.left(kind).corners, [self.corners[1], *self.corners[3:]])
-            self.assertEqual(self.content("a" + suffix + ".change"), b"2\n")
-
-    def test_refusals_leave_the_file(self):
-        file = self.put("a.corners", zakdomp.listing(self.corners).encode())
-        self.fails(1, "refused 17: ", "strike", file, len(self.corners))
-        self.fails(1, "refused 17: ", "strike", file, len(self.corners), "--confirm", 0)
-        self.fails(1, "refused 16: ", "strike", file, 0, "--confirm", 1)
-        self.assertEqual(os.listdir(self.folder), ["a.corners"])
-        self.assertEqual(self.left("listing").corners, self.corners)
-
-    def test_a_strike_that_is_killed_between_its_files_strikes_nothing(self):
-        file = self.put("a.corners", zakdomp.listing(self.corners).encode())
-        self.put("a.corners.change", b"1\n")
-        self.fails(1, "refused 16: ", "strike", file, 0, "--confirm", 0)
-        self.assertEqual(self.left("listing").corners, self.corners)
-
-    def test_usage(self):
-        self.fails(2, "No such file", "strike", self.path("none"), 0)
-        self.fails(2, "no corner file", "strike", self.put("x", b"x"), 0)
-        self.fails(2, "not standard input", "strike", "-", 0, "--confirm", 0, given=b"corners 0\n")
-        self.put("a.change", b"many\n")
-        self.fails(2, "a.change: no change number", "strike", self.put("a", zakdomp.listing(self.corners).encode()), 0)
-        self.assertEqual(self.run_command("strike", self.path("x"))[0], 2)
-
-
-@unittest.skipUnless(hasattr(zakdomp, "EditedList"), "this library has no EditedList")
-class LibraryStriking(Striking):
-    edited = getattr(zakdomp, "EditedList", Edited)
-
-
 class Help(Command):
     def test_each_command_has_an_example(self):
-        for name in ("find", "batch", "stream", "retained", "merge", "strike"):
+        for name in ("find", "batch", "invoice", "stream", "retained", "merge", "strike"):
             status, text, _ = self.run_command(name, "--help")
             self.assertEqual(status, 0)
             self.assertIn(f"example: zakdomp {name} ", text.decode())
@@ -226,11 +137,10 @@ class Help(Command):
 
     def test_what_the_library_has_not(self):
         file = self.put("a", b"corners 0\n")
-        for name, arguments in (("merged", ("merge", file, "--radius", 3)), ("EditedList", ("strike", file, 0))):
-            with mock.patch.object(zakdomp, name, None, create=True):
-                delattr(zakdomp, name)
-                self.fails(2, "this version of the library", *arguments)
-                setattr(zakdomp, name, None)
+        with mock.patch.object(zakdomp, "merged", None, create=True):
+            del zakdomp.merged
+            self.fails(2, "this version of the library", "merge", file, "--radius", 3)
+            zakdomp.merged = None
 
 
 if __name__ == "__main__":

@@ -23,7 +23,7 @@ class Hostile(Batch):
         os.symlink("/dev/zero", self.path("in/zero"))
         os.symlink("x" * 4000, self.path("in/long"))
         for jobs in (1, 2):
-            said = self.batch("--jobs", jobs, "--threshold", jobs)
+            said = self.batch("--jobs", jobs)
             self.assertTrue(said.startswith(b"8 uploads: 3 found, 0 refused, 5 not read"), said)
         self.assertEqual({name: words for name, words in self.words().items() if words}, {
             **dict.fromkeys(("loop", "one", "two"), "cannot be read: Too many levels of symbolic links"),
@@ -60,10 +60,10 @@ class Hostile(Batch):
 
     def test_the_largest_photograph_is_read_whole(self):
         self.assertGreaterEqual(uploads.LONGEST, 4096 * 4096 + (1 << 20))
-        order = uploads.Order(self.path("in"), "", "listing", {})
+        order = uploads.Order(self.path("in"), "listing", {})
         upload = b"P5 4096 4096 255\n" + bytes(4096 * 4096)
         self.put("in/a", upload)
-        self.assertEqual(uploads.read(order, "a")[0], upload)
+        self.assertEqual(uploads.read(order, "a").content, upload)
 
     def test_not_enough_memory_for_one(self):
         self.fill(3)

@@ -1,26 +1,30 @@
-"""`zakdomp batch`: a folder of uploads, each to its corner file and its line of the invoice."""
+"""`zakdomp batch`: a folder of uploads, each to its corner file, its place in the ledger and its line of the invoice."""
 import argparse
-import csv
 import errno
-import io
+import hashlib
 import os
+import re
+import time
+from collections.abc import Iterator
 from typing import Any
 
-from zakdomp_command import files, formats, names, parameters
-from zakdomp_command.journal import Journal
+import zakdomp
+from zakdomp_command import corner_files, files, formats, invoice, parameters, uploads
+from zakdomp_command.ledger import Ledger, Line, Run, held
 from zakdomp_command.progress import Bar
 from zakdomp_command.runners import Runner, alone, processes
-from zakdomp_command.uploads import BY_DIGEST, Order, Outcome
+from zakdomp_command.uploads import Order, Outcome
 
 EXAMPLE = "example: zakdomp batch uploads --out november --threshold 100 --jobs 2"
 DESCRIPTION = """Writes DIR/corners with a corner file for each photograph of a folder, and DIR/invoice.csv with a line
-for each upload, whatever it is: name, sides, corners and ties, or the number and words of its refusal; then how many
-corners the exact choice has, whether both have the same list, and the corners that stand in one list only. Files appear
-whole or not at all; a run that was killed goes on where it stopped when it is started again. Subfolders are not looked
+for each upload, whatever it is: name, sides, corners and ties, or the number and words of its refusal; how many corners
+the exact choice has, whether both have the same list, and the corners that stand in one list only; what was struck; and
+digests, parameters and version. DIR/ledger.sqlite keeps all of it for good: a batch that was killed goes on where it
+stopped, and the same upload under the same parameters is not computed again. Other parameters, another format or version
+are another run, with folder and invoice of its own, DIR/corners-2 and DIR/invoice-2.csv. Subfolders are not looked
 into."""
-INVOICE, CORNERS = "invoice.csv", "corners"
-COLUMNS = ("name", "width", "height", "corners", "ties", "number", "words", "exact_corners", "same_list",
-           "computed_only", "exact_only")
+PAUSE = 0.2
+FEW = 16
 
 
 def add(commands: Any) -> None:
@@ -28,7 +32,7 @@ def add(commands: Any) -> None:
                                  description=DESCRIPTION)
     parser.add_argument("folder", metavar="FOLDER", help="where the uploads are; each file in it is one")
     parser.add_argument("--out", metavar="DIR", required=True, type=_named,
-                        help="where corner files and invoice are put")
+                        help="where ledger, corner files and invoice are put")
     parser.add_argument("--jobs", type=_jobs, default=len(os.sched_getaffinity(0)), metavar="N",
                         help="so many processes (default: one a core)")
     parser.add_argument("--scheduler", metavar="ADDRESS", help="works on the Dask cluster of this scheduler instead")
@@ -39,38 +43,26 @@ def add(commands: Any) -> None:
 
 def run(options: argparse.Namespace) -> int:
     folder, out, chosen = options.folder, options.out, parameters.tried(parameters.of(options))
-    found = uploads(folder)
-    corners = os.path.join(out, CORNERS)
-    if any(os.path.exists(place) and os.path.samefile(folder, place) for place in (out, corners)):
-        raise OSError(errno.EINVAL, "the uploads' own folder cannot take the corner files", out)
-    os.makedirs(corners, exist_ok=True)
-    order = Order(os.path.realpath(folder), os.path.realpath(corners), options.format, chosen)
-    with Journal(out, order) as journal:
+    found = listed(folder)
+    _apart(folder, out)
+    os.makedirs(out, exist_ok=True)
+    ledger, order = Ledger(out), Order(os.path.realpath(folder), options.format, chosen)
+    with held(out):
         files.remove_parts(out)
-        files.remove_parts(corners)
-        _work(journal, order, found, _runner(options))
-        outcomes = [journal.done[name] for name in found]
-        files.place(os.path.join(out, INVOICE), invoice(outcomes))
-        journal.end()
-    _summary(options, outcomes)
-    _tipped(options, outcomes)
-    _others(options, order, outcomes)
+        asked = ledger.begin(zakdomp.__version__, chosen, options.format)
+        _work(ledger, asked, order, found, _runner(options))
+        ledger.end(asked)
+        place = invoice.export(ledger, asked)
+    lines = ledger.lines(asked)
+    _summary(place, _own(lines, found))
+    _tipped(place, lines)
+    _others(options, ledger, asked, lines)
     return 0
 
 
-def uploads(folder: str) -> list[str]:
+def listed(folder: str) -> list[str]:
     """The names of a folder's files, in the order of their bytes."""
     return sorted((entry.name for entry in os.scandir(folder) if not _is_folder(entry)), key=os.fsencode)
-
-
-def invoice(outcomes: list[Outcome]) -> bytes:
-    """The lines of an invoice. Names are written so that each upload has one line and no cell is a formula."""
-    output = io.StringIO()
-    writer = csv.writer(output, lineterminator="\n")
-    writer.writerow(COLUMNS)
-    for outcome in outcomes:
-        writer.writerow([names.cell(outcome.name), *(getattr(outcome, column) for column in COLUMNS[1:])])
-    return output.getvalue().encode("utf-8")
 
 
 def _is_folder(entry: "os.DirEntry[str]") -> bool:
@@ -81,6 +73,13 @@ def _is_folder(entry: "os.DirEntry[str]") -> bool:
         return False
 
 
+def _apart(folder: str, out: str) -> None:
+    """Sees that what is written is no upload of the next batch."""
+    given, made = os.path.realpath(folder), os.path.realpath(out)
+    if given == made or os.path.dirname(given) == made and re.fullmatch(r"corners(-[0-9]+)?", os.path.basename(given)):
+        raise OSError(errno.EINVAL, "the uploads' own folder cannot take the corner files", out)
+
+
 def _runner(options: argparse.Namespace) -> Runner:
     if options.scheduler is not None:
         from zakdomp_command.cluster import cluster
@@ -88,43 +87,85 @@ def _runner(options: argparse.Namespace) -> Runner:
     return alone if options.jobs == 1 else processes(options.jobs)
 
 
-def _work(journal: Journal, order: Order, found: list[str], runner: Runner) -> None:
-    """Does what is not yet done of the uploads."""
-    left = [name for name in found if name not in journal.done]
-    bar = Bar(len(found), len(found) - len(left))
+def _work(ledger: Ledger, asked: Run, order: Order, found: list[str], runner: Runner) -> None:
+    """Takes what the run has already of the uploads, and does what is left. Each corner file is on the disk before the
+    ledger names it; a few outcomes at a time are noted."""
+    corners = os.path.join(ledger.folder, asked.corners)
+    os.makedirs(corners, exist_ok=True)
+    files.remove_parts(corners)
+    before = [line.outcome for line in ledger.lines(asked) if line.outcome.settled]
+    owners = {outcome.file: outcome.sha256 for outcome in before}
+    known = {outcome.name: outcome for outcome in _known(corners, order, found, before)}
+    left = [name for name in found if name not in known]
+    done: list[Outcome] = []
+    bar, last = Bar(len(found), len(known)), time.monotonic()
     try:
+        done += [corner_files.settle(corners, order.kind, outcome, owners) for outcome in known.values()]
         for outcome in runner(order, left):
-            journal.add(outcome)
+            done.append(corner_files.settle(corners, order.kind, outcome, owners))
             bar.step()
+            if len(done) >= FEW or time.monotonic() - last > PAUSE:
+                last = time.monotonic()
+                ledger.add(asked, done)
+                done = []
     finally:
         bar.end()
+        ledger.add(asked, done)
 
 
-def _summary(options: argparse.Namespace, outcomes: list[Outcome]) -> None:
-    found = sum(outcome.corners is not None for outcome in outcomes)
-    refused = sum(outcome.number is not None for outcome in outcomes)
-    unread = len(outcomes) - found - refused
-    files.say(f"{len(outcomes)} uploads: {found} found, {refused} refused, {unread} not read; ".encode("ascii")
-              + os.fsencode(os.path.join(options.out, INVOICE)) + b"\n")
+def _known(corners: str, order: Order, found: list[str], before: list[Outcome]) -> Iterator[Outcome]:
+    """The outcomes of uploads that the run has; of those that it has under another name, with the text of the corner
+    file. An upload is known by its bytes, so that each that may be is read."""
+    had = {(outcome.size, outcome.sha256): outcome for outcome in before}
+    own = {(outcome.name, outcome.size, outcome.sha256): outcome for outcome in before}
+    sizes = {size for size, _ in had}
+    for name in found:
+        try:
+            if os.stat(os.path.join(order.folder, name)).st_size not in sizes:
+                continue
+            upload = uploads.read(order, name)
+        except OSError:
+            continue
+        key = (upload.size, hashlib.sha256(upload.content).hexdigest())
+        for same in (own.get((name, *key)), had.get(key)):
+            text = corner_files.text(corners, same) if same else None
+            if same and (text is not None or same.number is not None):
+                yield same._replace(put=upload.put) if same.name == name else same._replace(
+                    name=name, put=upload.put, text=text, file="", file_sha256="")
+                break
 
 
-def _tipped(options: argparse.Namespace, outcomes: list[Outcome]) -> None:
+def _own(lines: list[Line], found: list[str]) -> list[Line]:
+    """The newest line of each upload of this batch."""
+    newest = {line.outcome.name: line for line in sorted(lines, key=lambda line: (line.at, line.upload))}
+    return [newest[name] for name in found]
+
+
+def _summary(place: str, lines: list[Line]) -> None:
+    files.say(f"{invoice.counted(lines)}; ".encode("ascii") + os.fsencode(place) + b"\n")
+
+
+def _tipped(place: str, lines: list[Line]) -> None:
     """Says of how many photographs the two choices have not the same list, or one of them none."""
     words = {"no": "photographs have another list by the exact choice",
              "unknown": "photographs are refused by the exact choice"}
     for answer, said in words.items():
-        count = sum(outcome.same_list == answer for outcome in outcomes)
+        count = sum(line.outcome.same_list == answer for line in lines)
         if count:
-            files.tell(f"{count} {said}", os.path.join(options.out, INVOICE))
+            files.tell(f"{count} {said}", place)
 
 
-def _others(options: argparse.Namespace, order: Order, outcomes: list[Outcome]) -> None:
-    """Says what is there and not of this batch: subfolders of the uploads, and corner files of an earlier batch, which
-    are kept."""
-    own = {BY_DIGEST, *(outcome.file for outcome in outcomes)}
-    other = sum(entry.name not in own for entry in os.scandir(order.corners))
+def _others(options: argparse.Namespace, ledger: Ledger, asked: Run, lines: list[Line]) -> None:
+    """Says what is there and has no line, subfolders of the uploads and files among the corner files; and which corner
+    files are no longer as they were, of uploads that are not there to find them again."""
+    corners = os.path.join(ledger.folder, asked.corners)
+    own = {corner_files.BY_DIGEST, *(line.outcome.file for line in lines)}
+    other = sum(entry.name not in own for entry in os.scandir(corners))
     if other:
-        files.tell(f"{other} files are not of this batch", os.path.join(options.out, CORNERS))
+        files.tell(f"{other} files are not of this run", corners)
+    lost = sum(bool(line.outcome.file) and corner_files.text(corners, line.outcome) is None for line in lines)
+    if lost:
+        files.tell(f"{lost} corner files were changed or deleted, and their uploads are not here", corners)
     below = sum(_is_folder(entry) and not os.path.samefile(entry.path, options.out)
                 for entry in os.scandir(options.folder))
     if below:

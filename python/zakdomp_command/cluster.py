@@ -1,6 +1,8 @@
-"""The uploads of a batch on a Dask cluster. This process reads them and places the corner files; the workers, which need this package and no
-files, find. What a worker that dies had in hand the scheduler gives to another; without its scheduler a batch ends, and the next run goes on."""
+"""The uploads of a batch on a Dask cluster. This process reads them; the workers, which need this package and no files,
+find. What a worker that dies had in hand the scheduler gives to another; without its scheduler a batch ends, and the next
+run goes on."""
 import logging
+import time
 import warnings
 from collections.abc import Iterator
 from concurrent.futures import CancelledError
@@ -10,9 +12,10 @@ from itertools import islice
 from typing import Any
 
 from zakdomp_command.runners import AHEAD, Runner
-from zakdomp_command.uploads import VERSION, Order, Outcome, find, read, settle, unread, work
+from zakdomp_command.uploads import VERSION, Order, Outcome, Upload, find, read, unread, work
 
 PATIENCE = 30
+WORKERS = 5.0
 GONE = "the scheduler is gone: start the batch again to go on"
 
 
@@ -21,7 +24,8 @@ def cluster(address: str) -> Runner:
     try:
         import distributed
     except ImportError as problem:
-        raise ValueError("--scheduler wants the Python package distributed (python3-distributed of Debian)") from problem
+        words = "--scheduler wants the Python package distributed (python3-distributed of Debian)"
+        raise ValueError(words) from problem
     logging.disable()  # a lost connection is told in one line, by `_asking`
     return partial(_run, distributed, address)
 
@@ -31,6 +35,7 @@ def _run(distributed: Any, address: str, order: Order, names: list[str]) -> Iter
     waiting = iter(names)
     warnings.filterwarnings("ignore", "(?s).*[Ll]arge (object|graph)")
     with _client(distributed, address) as client:
+        _manned(client, address)
         running = distributed.as_completed(loop=client.loop)
         while True:
             for name in islice(waiting, max(_places(client) - running.count(), 0)):
@@ -52,9 +57,19 @@ def _client(distributed: Any, address: str) -> Any:
         raise OSError(0, f"no scheduler at {address}: {problem}") from problem
 
 
+def _manned(client: Any, address: str) -> None:
+    """Sees that the cluster has a worker, which may just have been started: without one a batch would wait for ever."""
+    end = time.monotonic() + WORKERS
+    while not _threads(client):
+        if time.monotonic() > end:
+            raise OSError(0, f"the scheduler at {address} has no workers: start some, and then the batch again")
+        time.sleep(0.1)
+
+
 @contextmanager
 def _asking(client: Any) -> Iterator[None]:
-    """For what is asked of the cluster: a client that lost its scheduler seeks it again, but what was under way there is lost."""
+    """For what is asked of the cluster: a client that lost its scheduler seeks it again, but what was under way there is
+    lost."""
     try:
         if client.status != "running":
             raise OSError(client.status)
@@ -63,27 +78,30 @@ def _asking(client: Any) -> Iterator[None]:
         raise OSError(0, GONE) from problem
 
 
+def _threads(client: Any) -> int:
+    with _asking(client):
+        return sum(client.nthreads().values())
+
+
 def _places(client: Any) -> int:
     """How many uploads may be under way."""
-    with _asking(client):
-        threads: int = sum(client.nthreads().values())
-    return AHEAD * max(threads, 1)
+    return AHEAD * max(_threads(client), 1)
 
 
 def _begun(client: Any, order: Order, name: str) -> Any:
     """The task of an upload, or its outcome where it cannot be read."""
     try:
-        upload, size, time = read(order, name)
+        upload = read(order, name)
     except OSError as problem:
         return unread(name, problem)
     with _asking(client):
-        task = client.submit(_find, VERSION, order, name, upload, size, time, pure=False)
+        task = client.submit(_find, VERSION, order, name, upload, pure=False)
     task.zakdomp_name = name
     return task
 
 
 def _ended(client: Any, killed: type[Exception], order: Order, task: Any) -> Outcome:
-    """The outcome of a task, with its corner file in place. Where the worker that had it died, it is waited for again; an upload on which worker after
+    """The outcome of a task. Where the worker that had it died, it is waited for again; an upload on which worker after
     worker died is done here."""
     outcome: Outcome | None = None
     with _asking(client):
@@ -96,11 +114,11 @@ def _ended(client: Any, killed: type[Exception], order: Order, task: Any) -> Out
         return work(order, task.zakdomp_name)
     if outcome is None:
         raise OSError(0, f"a worker failed: {type(problem).__name__}: {problem}")
-    return settle(order, outcome)
+    return outcome
 
 
-def _find(version: str, order: Order, name: str, upload: bytes, size: int, time: int) -> Outcome:
+def _find(version: str, order: Order, name: str, upload: Upload) -> Outcome:
     """What a worker does; its library is to be that of the batch."""
     if VERSION != version:
         raise ValueError(f"a worker has zakdomp {VERSION}, and not {version}")
-    return find(order, name, upload)._replace(size=size, time=time)
+    return find(order, name, upload)

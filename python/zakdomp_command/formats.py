@@ -34,9 +34,13 @@ def written(kind: str, corners: list[zakdomp.Corner], beside: dict[str, Any]) ->
 
 
 def about(width: int, height: int, ties: int, parameters: dict[str, Any]) -> dict[str, Any]:
-    """What a JSON file says beside the corners; JSON has no number for NaN and the infinities, so they are words."""
-    said = {name: value if math.isfinite(value) else str(value) for name, value in parameters.items()}
-    return {"width": width, "height": height, "ties": ties, "parameters": said}
+    """What a JSON file says beside the corners."""
+    return {"width": width, "height": height, "ties": ties, "parameters": said(parameters)}
+
+
+def said(parameters: dict[str, Any]) -> dict[str, Any]:
+    """Parameters for JSON, which has no number for NaN and the infinities, so they are words."""
+    return {name: value if math.isfinite(value) else str(value) for name, value in parameters.items()}
 
 
 def read(content: bytes) -> CornerFile:
@@ -121,8 +125,8 @@ def _read_csv(text: str) -> list[zakdomp.Corner]:
 
 
 def _read_json(text: str) -> CornerFile:
-    said = json.loads(text)
-    items = said.pop("corners", None)
+    beside = json.loads(text)
+    items = beside.pop("corners", None)
     if not isinstance(items, list):
         raise ValueError("the JSON has no list 'corners'")
-    return CornerFile("json", [_corner([item[name] for name in FIELDS]) for item in items], said)
+    return CornerFile("json", [_corner([item[name] for name in FIELDS]) for item in items], beside)

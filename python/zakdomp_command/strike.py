@@ -1,80 +1,105 @@
-"""`zakdomp strike`: a corner of a corner file, shown and then struck (request 10). The change number of a file that was struck from stands beside it,
-in FILE.change."""
+"""`zakdomp strike`: a corner of a list of the ledger, shown and then struck (request 10). The corner file stays as it is;
+what was struck stands in the ledger, with its place and change number, and on the invoice."""
 import argparse
 import errno
-import fcntl
+import hashlib
 import os
 import shlex
-from collections.abc import Iterator
-from contextlib import contextmanager
-from typing import Any
+from typing import Any, NamedTuple
 
 import zakdomp
-from zakdomp_command import files, formats
+from zakdomp_command import files, formats, invoice
+from zakdomp_command.ledger import NAME, Ledger, Line, Run, Strike, now
 
-EXAMPLE = "example: zakdomp strike board.corners 7, and then, if that is the one: zakdomp strike board.corners 7 --confirm 0"
+FILE = "november/corners/board.pgm.corners"
+EXAMPLE = f"example: zakdomp strike {FILE} 7, and then, if that is the one: zakdomp strike {FILE} 7 --confirm 0"
+DESCRIPTION = """Shows the corner at a place of a list that a batch found, and the list's change number. With that number
+it strikes the corner; each strike raises the number, so that no other corner than the one shown is struck. Without a
+place it prints the corners that are left. The corner file itself stays as it is; the invoice has both counts."""
+
+
+class Kept(NamedTuple):
+    """A list of the ledger: whose it is, its corner file, and the list as it stands after what was struck from it."""
+    ledger: Ledger
+    run: Run
+    line: Line
+    given: formats.CornerFile
+    edited: zakdomp.EditedList
 
 
 def add(commands: Any) -> None:
-    parser = commands.add_parser("strike", help="shows a corner of a corner file, and strikes it", epilog=EXAMPLE,
-                                 description="Shows the corner at a place, and the list's change number. With that number it strikes the corner; each strike "
-                                 "raises the number, so that no other corner than the one shown is struck.")
-    parser.add_argument("file", metavar="FILE", help="a corner file in any format")
-    parser.add_argument("place", metavar="PLACE", type=int, help="the corner's place in the list, from 0")
-    parser.add_argument("--confirm", metavar="CHANGE", type=int, help="strikes the corner, if this is still the change number")
+    parser = commands.add_parser("strike", help="shows a corner of a list, and strikes it", epilog=EXAMPLE,
+                                 description=DESCRIPTION)
+    parser.add_argument("file", metavar="FILE", help="a corner file that a batch made, where it made it")
+    parser.add_argument("place", metavar="PLACE", type=int, nargs="?", help="the corner's place in the list, from 0")
+    parser.add_argument("--confirm", metavar="CHANGE", type=int,
+                        help="strikes the corner, if this is still the change number")
     parser.set_defaults(run=run)
 
 
 def run(options: argparse.Namespace) -> int:
-    if not hasattr(zakdomp, "EditedList"):
-        raise ValueError("this version of the library cannot strike corners")
-    if options.file == "-":
-        raise ValueError("strike wants a file, and not standard input")
-    with _alone(os.path.dirname(options.file) or "."):
-        given = formats.read(files.read(options.file))
-        edited = zakdomp.EditedList(given.corners, _change(options.file))
-        if options.confirm is None:
-            _show(options.file, options.place, edited.show(options.place))
-        else:
-            _strike(options, given, edited)
+    kept = _kept(options.file)
+    if options.place is None:
+        if options.confirm is not None:
+            raise ValueError("--confirm wants the place of a corner")
+        files.say(formats.written(kept.given.kind, kept.edited.corners, kept.given.beside))
+    elif options.confirm is None:
+        _show(options.file, options.place, kept.edited.show(options.place))
+    else:
+        _strike(options, kept)
     return 0
 
 
-def _show(name: str, place: int, shown: "zakdomp.Shown") -> None:
+def _show(name: str, place: int, shown: zakdomp.Shown) -> None:
     files.say(f"corner {place}: {_said(shown.corner)}\n"
               f"change {shown.change}: zakdomp strike {shlex.quote(name)} {place} --confirm {shown.change} strikes it\n")
 
 
-def _strike(options: argparse.Namespace, given: formats.CornerFile, edited: "zakdomp.EditedList") -> None:
-    """Strikes a corner. The change number is written first: a run that is killed between the two leaves all corners, and a confirming that was
-    under way is then refused."""
+def _strike(options: argparse.Namespace, kept: Kept) -> None:
+    """Strikes a corner, in the ledger and then on the invoice, if the run has one."""
+    edited = kept.edited
+    before = edited.corners
     edited.strike(options.place, options.confirm)
-    files.place(options.file + ".change", f"{edited.change}\n".encode("ascii"))
-    files.place(options.file, formats.written(given.kind, edited.corners, given.beside).encode("ascii"))
-    files.say(f"struck corner {options.place}: {_said(given.corners[options.place])}; change {edited.change}, {len(edited)} corners left\n")
+    corner = before[options.place]
+    kept.ledger.strike(kept.run, kept.line, Strike(options.confirm, options.place, corner, now()))
+    if kept.ledger.run(kept.run.run).whole:
+        invoice.export(kept.ledger, kept.run)
+    files.say(f"struck corner {options.place}: {_said(corner)}; change {edited.change}, {len(edited)} corners left\n")
 
 
 def _said(corner: zakdomp.Corner) -> str:
-    return ", ".join(f"{name} {value:g}" if isinstance(value, float) else f"{name} {value}" for name, value in formats.plain(corner).items())
+    return ", ".join(f"{name} {value:g}" if isinstance(value, float) else f"{name} {value}"
+                     for name, value in formats.plain(corner).items())
 
 
-def _change(name: str) -> int:
-    """The change number of a corner file: 0 where nothing was struck from it."""
-    try:
-        text = files.read(name + ".change").strip()
-    except FileNotFoundError:
-        return 0
-    if not text.isdigit():
-        raise OSError(errno.EINVAL, "no change number", name + ".change")
-    return int(text)
+def _kept(name: str) -> Kept:
+    """The list whose corner file is named, if a ledger has it, and the file is as it was made."""
+    content = files.read(os.path.realpath(name) if name != "-" else name)
+    given, digest = formats.read(content), hashlib.sha256(content).hexdigest()
+    ledger, inside = _ledger(name)
+    for run in ledger.runs():
+        for line in ledger.lines(run):
+            if line.outcome.file and os.path.join(run.corners, line.outcome.file) == inside:
+                if line.outcome.file_sha256 != digest:
+                    raise OSError(errno.EINVAL, "it was changed since the batch made it: the ledger has another", name)
+                return Kept(ledger, run, line, given, _edited(ledger, run, line, given.corners))
+    raise OSError(errno.ENOENT, f"{ledger.path} has no such corner file", name)
 
 
-@contextmanager
-def _alone(folder: str) -> Iterator[None]:
-    """One strike at a time in a folder."""
-    handle = os.open(folder, os.O_RDONLY)
-    try:
-        fcntl.flock(handle, fcntl.LOCK_EX)
-        yield
-    finally:
-        os.close(handle)
+def _edited(ledger: Ledger, run: Run, line: Line, corners: list[zakdomp.Corner]) -> zakdomp.EditedList:
+    """A list with all that was struck from it struck again."""
+    edited = zakdomp.EditedList(corners)
+    for strike in ledger.strikes(run).get(line.upload, []):
+        edited.strike(strike.place, strike.change)
+    return edited
+
+
+def _ledger(name: str) -> tuple[Ledger, str]:
+    """The ledger above a corner file, and the file's name from there."""
+    path = os.path.realpath(name)
+    folder = os.path.dirname(path)
+    for _ in range(3):
+        if os.path.exists(os.path.join(folder, NAME)):
+            return Ledger(folder), os.path.relpath(path, folder)
+        folder = os.path.dirname(folder)
+    raise OSError(errno.ENOENT, "it is no corner file of a batch: there is no ledger above it", name)

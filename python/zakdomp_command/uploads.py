@@ -1,5 +1,5 @@
-"""One upload of a batch: from its bytes to its corner file and its line of the invoice. It runs in any process, on any
-machine of a cluster."""
+"""One upload of a batch: from its bytes to what is said of it. This runs in any process, on any machine of a cluster, and
+writes nothing."""
 import errno
 import hashlib
 import os
@@ -7,28 +7,24 @@ import stat
 from typing import Any, NamedTuple
 
 import zakdomp
-from zakdomp_command import choices, files, formats, looks
+from zakdomp_command import choices, looks
 
 # no more is read of an upload: the pixels of the largest photograph, and a header with comments of a megabyte
 LONGEST = zakdomp.LARGEST_SIDE ** 2 + (1 << 20)
-# where the corner file of an upload is put whose name no file can have
-BY_DIGEST = "by-digest"
 
 
 class Order(NamedTuple):
-    """What a batch asks of each upload: where it lies, where its corner file is put and in which format, and the
-    finder's parameters."""
+    """What a batch asks of each upload: where it lies, the format of its corner file, and the finder's parameters."""
     folder: str
-    corners: str
     kind: str
     parameters: dict[str, Any]
 
 
 class Outcome(NamedTuple):
     """What became of an upload: its sides, corners and ties, and how the exact choice compares, in the invoice's words;
-    or the number and words of its refusal; or words alone, where it could not be read. `text` is the corner file, and
-    `digest` that of the text once it is placed in `file`; `size` and `time` are those of the upload when it was read,
-    and `sha256` is the digest of what was read."""
+    or the number and words of its refusal; or words alone, where it could not be read. `text` is the corner file until
+    it is placed in `file`, and `file_sha256` its digest then. `size` is that of the upload, `sha256` the digest of what
+    was read of it, and `put` the second in which it was put where it lies."""
     name: str
     width: int | None = None
     height: int | None = None
@@ -40,20 +36,32 @@ class Outcome(NamedTuple):
     same_list: str = ""
     computed_only: str = ""
     exact_only: str = ""
-    text: str | None = None
-    digest: str | None = None
     size: int = 0
-    time: int = 0
     sha256: str = ""
+    put: int = 0
     file: str = ""
+    file_sha256: str = ""
+    text: str | None = None
+
+    @property
+    def settled(self) -> bool:
+        """Whether the library answered; else the next batch tries again."""
+        return self.corners is not None or self.number is not None
 
 
-# a worker, and the journal of a killed run, is to be of this version and to say as much of each upload
+class Upload(NamedTuple):
+    """The bytes of an upload, as many as a photograph can have, its size, and when it was put where it lies."""
+    content: bytes
+    size: int
+    put: int
+
+
+# a worker is to be of this version and to say as much of each upload
 VERSION = f"{zakdomp.__version__} ({' '.join(Outcome._fields)})"
 
 
-def read(order: Order, name: str) -> tuple[bytes, int, int]:
-    """The bytes of an upload, as many as a photograph can have, its size and the time of its last change."""
+def read(order: Order, name: str) -> Upload:
+    """Reads an upload. One that changes meanwhile is still being written."""
     handle = os.open(os.path.join(order.folder, name), os.O_RDONLY | os.O_NONBLOCK)
     with open(handle, "rb") as file:
         before = os.fstat(handle)
@@ -64,72 +72,37 @@ def read(order: Order, name: str) -> tuple[bytes, int, int]:
         changed = (before.st_size, before.st_mtime_ns) != (after.st_size, after.st_mtime_ns)
         if changed or len(content) != min(after.st_size, LONGEST):
             raise OSError(errno.EBUSY, "it changed while it was read: start the batch again when it is whole")
-        return content, after.st_size, after.st_mtime_ns
+        return Upload(content, after.st_size, int(after.st_ctime))
 
 
-def unread(name: str, problem: Exception) -> Outcome:
+def unread(name: str, problem: OSError) -> Outcome:
     """The outcome of an upload about which the machine, and not the library, says that there is none."""
-    words = problem.strerror if isinstance(problem, OSError) else None
-    return Outcome(name, words=f"cannot be read: {words or str(problem) or type(problem).__name__}")
+    return Outcome(name, words=f"cannot be read: {problem.strerror}")
 
 
-def find(order: Order, name: str, upload: bytes) -> Outcome:
+def find(order: Order, name: str, upload: Upload) -> Outcome:
     """What the library finds in an upload, with the text of its corner file."""
-    return _found(order, name, upload)._replace(sha256=hashlib.sha256(upload).hexdigest())
+    digest = hashlib.sha256(upload.content).hexdigest()
+    return _found(order, name, upload.content)._replace(size=upload.size, put=upload.put, sha256=digest)
 
 
-def _found(order: Order, name: str, upload: bytes) -> Outcome:
+def work(order: Order, name: str) -> Outcome:
+    """Reads an upload, and finds its corners."""
     try:
-        found = choices.find(upload, order.parameters)
+        upload = read(order, name)
+    except OSError as problem:
+        return unread(name, problem)
+    return find(order, name, upload)
+
+
+def _found(order: Order, name: str, content: bytes) -> Outcome:
+    try:
+        found = choices.find(content, order.parameters)
     except zakdomp.Refusal as refusal:
-        return Outcome(name, number=refusal.number, words=looks.words(refusal.number, upload))
+        return Outcome(name, number=refusal.number, words=looks.words(refusal.number, content))
     except MemoryError:
         return Outcome(name, words="not enough memory for it: start the batch again with fewer --jobs")
     text = choices.written(order.kind, found, order.parameters)
     said: dict[str, Any] = choices.cells(found.comparison)
     photo, frame = found.photo, found.frame
     return Outcome(name, photo.width, photo.height, len(frame.corners), frame.ties, **said, text=text)
-
-
-def settle(order: Order, outcome: Outcome) -> Outcome:
-    """Puts the corner file of an outcome in its place; what is then left of the text is its digest."""
-    if outcome.text is None:
-        return outcome
-    content = outcome.text.encode("ascii")
-    place = _placed(order, outcome, content)
-    return outcome._replace(text=None, digest=hashlib.sha256(content).hexdigest(), file=place)
-
-
-def _placed(order: Order, outcome: Outcome, content: bytes) -> str:
-    """Where a corner file is put: under its upload's name, or its digest's where the machine has no file so named."""
-    own = outcome.name + formats.SUFFIXES[order.kind]
-    try:
-        files.place(os.path.join(order.corners, own), content)
-        return own
-    except OSError:
-        os.makedirs(os.path.join(order.corners, BY_DIGEST), exist_ok=True)
-        other = os.path.join(BY_DIGEST, outcome.sha256 + formats.SUFFIXES[order.kind])
-        files.place(os.path.join(order.corners, other), content)
-        return other
-
-
-def work(order: Order, name: str) -> Outcome:
-    """Reads an upload, finds its corners and places its corner file."""
-    try:
-        upload, size, time = read(order, name)
-    except OSError as problem:
-        return unread(name, problem)
-    return settle(order, find(order, name, upload)._replace(size=size, time=time))
-
-
-def stands(order: Order, outcome: Outcome) -> bool:
-    """Whether an outcome of a run that was killed still holds: the upload is as it was then, and its corner file is
-    there."""
-    try:
-        state = os.stat(os.path.join(order.folder, outcome.name))
-        if (state.st_size, state.st_mtime_ns) != (outcome.size, outcome.time):
-            return False
-        content = files.read(os.path.join(order.corners, outcome.file)) if outcome.digest else b""
-        return outcome.digest in (None, hashlib.sha256(content).hexdigest())
-    except OSError:
-        return False
