@@ -195,7 +195,7 @@ class Invoices(Batch):
         only = [corner for corner in exact.corners if corner not in computed.corners]
         self.assertGreater(len(only), 1)
         said = self.compared()['a, "b"\\x0a.pgm'][-1].split("; ")
-        self.assertEqual([formats._corner(each.split(" ")) for each in said], only)
+        self.assertEqual(choices.corners_of("; ".join(said)), only)
 
     def test_the_exact_choice_refused(self):
         self.fill_with(FOLDER)

@@ -128,7 +128,7 @@ class LibraryMerging(Merging):
 
 class Help(Command):
     def test_each_command_has_an_example(self):
-        for name in ("find", "batch", "invoice", "stream", "retained", "merge", "strike"):
+        for name in ("find", "batch", "invoice", "report", "stream", "retained", "merge", "strike"):
             status, text, _ = self.run_command(name, "--help")
             self.assertEqual(status, 0)
             self.assertIn(f"example: zakdomp {name} ", text.decode())

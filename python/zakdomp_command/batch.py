@@ -1,4 +1,5 @@
-"""`zakdomp batch`: a folder of uploads, each to its corner file, its place in the ledger and its line of the invoice."""
+"""`zakdomp batch`: a folder of uploads, each to its corner file, its place in the ledger and its line of the
+invoice."""
 import argparse
 import errno
 import hashlib
@@ -17,12 +18,12 @@ from zakdomp_command.uploads import Order, Outcome
 
 EXAMPLE = "example: zakdomp batch uploads --out november --threshold 100 --jobs 2"
 DESCRIPTION = """Writes DIR/corners with a corner file for each photograph of a folder, and DIR/invoice.csv with a line
-for each upload, whatever it is: name, sides, corners and ties, or the number and words of its refusal; how many corners
-the exact choice has, whether both have the same list, and the corners that stand in one list only; what was struck; and
-digests, parameters and version. DIR/ledger.sqlite keeps all of it for good: a batch that was killed goes on where it
-stopped, and the same upload under the same parameters is not computed again. Other parameters, another format or version
-are another run, with folder and invoice of its own, DIR/corners-2 and DIR/invoice-2.csv. Subfolders are not looked
-into."""
+for each upload, whatever it is: name, sides, corners and ties, or the number and words of its refusal; how many
+corners the exact choice has, whether both have the same list, and the corners that stand in one list only; what was
+struck; and digests, parameters and version. DIR/ledger.sqlite keeps all of it for good: a batch that was killed goes
+on where it stopped, and the same upload under the same parameters is not computed again. Other parameters, another
+format or version are another run, with folder and invoice of its own, DIR/corners-2 and DIR/invoice-2.csv. Subfolders
+are not looked into."""
 PAUSE = 0.2
 FEW = 16
 
@@ -106,11 +107,11 @@ def _work(ledger: Ledger, asked: Run, order: Order, found: list[str], runner: Ru
             bar.step()
             if len(done) >= FEW or time.monotonic() - last > PAUSE:
                 last = time.monotonic()
-                ledger.add(asked, done)
+                ledger.add(asked, order.folder, done)
                 done = []
     finally:
         bar.end()
-        ledger.add(asked, done)
+        ledger.add(asked, order.folder, done)
 
 
 def _known(corners: str, order: Order, found: list[str], before: list[Outcome]) -> Iterator[Outcome]:

@@ -84,6 +84,11 @@ def cells(comparison: Comparison) -> dict[str, int | str]:
     }
 
 
+def corners_of(cell: str) -> list[zakdomp.Corner]:
+    """The corners of a cell of the invoice."""
+    return [formats.corner_of(corner.split(" ")) for corner in cell.split("; ") if corner]
+
+
 def _search(exact: bool, upload: bytes, parameters: dict[str, Any]) -> zakdomp.Frame:
     return zakdomp.find_exact_pgm(upload, **parameters) if exact else zakdomp.find_pgm(upload, **parameters)
 

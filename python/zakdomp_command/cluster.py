@@ -1,6 +1,6 @@
-"""The uploads of a batch on a Dask cluster. This process reads them; the workers, which need this package and no files,
-find. What a worker that dies had in hand the scheduler gives to another; without its scheduler a batch ends, and the next
-run goes on."""
+"""The uploads of a batch on a Dask cluster. This process reads them; the workers, which need this package and no
+files, find. What a worker that dies had in hand the scheduler gives to another; without its scheduler a batch ends,
+and the next run goes on."""
 import logging
 import time
 import warnings
@@ -68,8 +68,8 @@ def _manned(client: Any, address: str) -> None:
 
 @contextmanager
 def _asking(client: Any) -> Iterator[None]:
-    """For what is asked of the cluster: a client that lost its scheduler seeks it again, but what was under way there is
-    lost."""
+    """For what is asked of the cluster: a client that lost its scheduler seeks it again, but what was under way there
+    is lost."""
     try:
         if client.status != "running":
             raise OSError(client.status)

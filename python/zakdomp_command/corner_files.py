@@ -11,8 +11,9 @@ BY_DIGEST = "by-digest"
 
 
 def settle(folder: str, kind: str, outcome: Outcome, owners: dict[str, str]) -> Outcome:
-    """Puts the corner file of an outcome in its place, under its upload's name if it can have it: `owners` are the files
-    of the run and the digests of their uploads, of which it becomes one. What is then left of the text is its digest."""
+    """Puts the corner file of an outcome in its place, under its upload's name if it can have it: `owners` are the
+    files of the run and the digests of their uploads, of which it becomes one. What is then left of the text is its
+    digest."""
     if outcome.text is None:
         return outcome
     content, suffix = outcome.text.encode("ascii"), formats.SUFFIXES[kind]

@@ -18,7 +18,8 @@ choice alone has a corner, white where it has not."""
 
 def add(commands: Any) -> None:
     parser = commands.add_parser("find", help="the corners of a photograph", epilog=EXAMPLE, description=DESCRIPTION)
-    parser.add_argument("photo", metavar="PHOTO", help="a binary PGM file (P5) with a maxval of 255; - is standard input")
+    parser.add_argument("photo", metavar="PHOTO",
+                        help="a binary PGM file (P5) with a maxval of 255; - is standard input")
     parser.add_argument("--format", choices=formats.SUFFIXES, default="listing",
                         help="of the list; listing is that of the program corners")
     parser.add_argument("--exact", action="store_true", help="lists and draws the corners of the exact choice")

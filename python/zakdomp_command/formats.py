@@ -86,7 +86,7 @@ def _json(corners: list[zakdomp.Corner], beside: dict[str, Any]) -> str:
     return head[:-2] + "".join(f"{',' if place else ''}\n{line}" for place, line in enumerate(lines)) + "\n]}\n"
 
 
-def _corner(values: list[Any]) -> zakdomp.Corner:
+def corner_of(values: list[Any]) -> zakdomp.Corner:
     """A corner of the values of its fields, as numbers of the library's types."""
     if len(values) != len(FIELDS):
         raise ValueError(f"a corner has {len(FIELDS)} fields, not {len(values)}")
@@ -114,14 +114,14 @@ def _listed(words: list[str]) -> zakdomp.Corner:
     if len(words) != len(FIELDS):
         raise ValueError(f"a corner has {len(FIELDS)} fields, not {len(words)}")
     values = (word if whole else struct.unpack(">f", bytes.fromhex(word))[0] for word, whole in zip(words, WHOLE))
-    return _corner([*values])
+    return corner_of([*values])
 
 
 def _read_csv(text: str) -> list[zakdomp.Corner]:
     rows = csv.reader(io.StringIO(text))
     if tuple(next(rows, ())) != FIELDS:
         raise ValueError(f"no listing, no JSON, and no CSV that begins with '{','.join(FIELDS)}'")
-    return [_corner(row) for row in rows]
+    return [corner_of(row) for row in rows]
 
 
 def _read_json(text: str) -> CornerFile:
@@ -129,4 +129,4 @@ def _read_json(text: str) -> CornerFile:
     items = beside.pop("corners", None)
     if not isinstance(items, list):
         raise ValueError("the JSON has no list 'corners'")
-    return CornerFile("json", [_corner([item[name] for name in FIELDS]) for item in items], beside)
+    return CornerFile("json", [corner_of([item[name] for name in FIELDS]) for item in items], beside)

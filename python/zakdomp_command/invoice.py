@@ -11,8 +11,8 @@ from zakdomp_command import files, names
 from zakdomp_command.ledger import Ledger, Line, Run
 
 EXAMPLE = "example: zakdomp invoice november --run 1"
-DESCRIPTION = """Writes the invoice of a run of DIR's ledger again: DIR/invoice.csv of run 1, DIR/invoice-2.csv of run 2.
-The same ledger gives the same bytes. Each set of parameters, format and version is a run."""
+DESCRIPTION = """Writes the invoice of a run of DIR's ledger again: DIR/invoice.csv of run 1, DIR/invoice-2.csv of run
+2. The same ledger gives the same bytes. Each set of parameters, format and version is a run."""
 COLUMNS = ("name", "width", "height", "corners", "ties", "number", "words", "exact_corners", "same_list",
            "computed_only", "exact_only", "struck", "corners_left", "size", "sha256", "corner_file",
            "corner_file_sha256", "date", "run", "version", "parameters")

@@ -1,6 +1,7 @@
-"""The ledger of an output folder, one SQLite database: which uploads were seen, what was asked of them in which run, what
-became of each, and which corners were struck. A connection lives as long as one reading or one transaction, so that any
-number of readers find it whole, strikes come between the uploads of a batch, and no process is begun with one in hand."""
+"""The ledger of an output folder, one SQLite database: which uploads were seen, what was asked of them in which run,
+what became of each, and which corners were struck. A connection lives as long as one reading or one transaction, so
+that any number of readers find it whole, strikes come between the uploads of a batch, and no process is begun with one
+in hand."""
 import errno
 import fcntl
 import json
@@ -25,7 +26,7 @@ TABLES = """
 CREATE TABLE runs (run INTEGER PRIMARY KEY, version TEXT NOT NULL, parameters TEXT NOT NULL, format TEXT NOT NULL,
     began INTEGER NOT NULL, whole INTEGER NOT NULL, UNIQUE (version, parameters, format));
 CREATE TABLE uploads (upload INTEGER PRIMARY KEY, name BLOB NOT NULL, size INTEGER NOT NULL, sha256 TEXT NOT NULL,
-    seen INTEGER NOT NULL, UNIQUE (name, size, sha256));
+    seen INTEGER NOT NULL, folder BLOB NOT NULL, UNIQUE (name, size, sha256));
 CREATE TABLE outcomes (run INTEGER NOT NULL REFERENCES runs, upload INTEGER NOT NULL REFERENCES uploads,
     at INTEGER NOT NULL, width INTEGER, height INTEGER, corners INTEGER, ties INTEGER, number INTEGER,
     words TEXT NOT NULL, exact_corners, same_list TEXT NOT NULL, computed_only TEXT NOT NULL, exact_only TEXT NOT NULL,
@@ -36,8 +37,12 @@ CREATE TABLE strikes (run INTEGER NOT NULL, upload INTEGER NOT NULL, change INTE
 """
 SAID = ("width", "height", "corners", "ties", "number", "words", "exact_corners", "same_list", "computed_only",
         "exact_only", "file_sha256")
-LINES = f"""SELECT upload, name, size, sha256, seen, at, file, {', '.join(SAID)} FROM outcomes NATURAL JOIN uploads
-    WHERE run = ? ORDER BY name, upload"""
+LINES = f"""SELECT upload, name, size, sha256, seen, folder, at, file, {', '.join(SAID)}
+    FROM outcomes NATURAL JOIN uploads WHERE run = ? ORDER BY name, upload"""
+NOTE = f"""INSERT INTO outcomes (run, upload, at, file, {', '.join(SAID)})
+    VALUES (?, ?, ?, ?{', ?' * len(SAID)})
+    ON CONFLICT (run, upload) DO UPDATE SET file = excluded.file WHERE file_sha256 = excluded.file_sha256"""
+UNREAD = "DELETE FROM outcomes WHERE run = ? AND upload IN (SELECT upload FROM uploads WHERE name = ? AND sha256 = '')"
 STRIKES = """SELECT upload, change, place, at, x, y, strength, neighbours FROM strikes WHERE run = ?
     ORDER BY upload, change"""
 
@@ -61,11 +66,17 @@ class Run(NamedTuple):
     def invoice(self) -> str:
         return "invoice.csv" if self.run == 1 else f"invoice-{self.run}.csv"
 
+    @property
+    def report(self) -> str:
+        return "report.html" if self.run == 1 else f"report-{self.run}.html"
+
 
 class Line(NamedTuple):
-    """An upload of a run and what became of it. Its digest is empty where it could not be read."""
+    """An upload of a run, when it was seen and where last, and what became of it. Its digest is empty where it could
+    not be read."""
     upload: int
     seen: int
+    folder: str
     at: int
     outcome: Outcome
 
@@ -89,8 +100,8 @@ class Ledger:
         """The run of a version, parameters and a format, which is not whole until `end`."""
         asked = (version, json.dumps(formats.said(parameters)), kind)
         with self._transaction(new=True) as ledger:
-            ledger.execute("INSERT OR IGNORE INTO runs (version, parameters, format, began, whole) VALUES (?, ?, ?, ?, 0)",
-                           (*asked, now()))
+            ledger.execute("INSERT OR IGNORE INTO runs (version, parameters, format, began, whole) "
+                           "VALUES (?, ?, ?, ?, 0)", (*asked, now()))
             ledger.execute("UPDATE runs SET whole = 0 WHERE (version, parameters, format) = (?, ?, ?)", asked)
             row = ledger.execute("SELECT * FROM runs WHERE (version, parameters, format) = (?, ?, ?)", asked).fetchone()
             return Run(*row)
@@ -100,20 +111,16 @@ class Ledger:
         with self._transaction() as ledger:
             ledger.execute("UPDATE runs SET whole = 1 WHERE run = ?", (run.run,))
 
-    def add(self, run: Run, outcomes: list[Outcome]) -> None:
-        """Notes outcomes, in one transaction. What is there is never changed, but that a corner file that was lost may
-        be found elsewhere; and a line of an upload that could not be read is no more when it was."""
+    def add(self, run: Run, folder: str, outcomes: list[Outcome]) -> None:
+        """Notes outcomes of uploads of a folder, in one transaction. What is there is never changed, but that a corner
+        file that was lost may be found elsewhere; and a line of an upload that could not be read is no more when it
+        was."""
         with self._transaction() as ledger:
             for outcome in outcomes:
-                upload = _upload(ledger, outcome)
+                upload = _upload(ledger, folder, outcome)
                 values = (run.run, upload, now(), os.fsencode(outcome.file), *(getattr(outcome, name) for name in SAID))
-                if outcome.settled:
-                    ledger.execute("DELETE FROM outcomes WHERE run = ? AND upload IN (SELECT upload FROM uploads WHERE "
-                                   "name = ? AND sha256 = '')", (run.run, os.fsencode(outcome.name)))
-                ledger.execute(f"INSERT INTO outcomes (run, upload, at, file, {', '.join(SAID)}) "
-                               f"VALUES ({', '.join('?' * len(values))}) ON CONFLICT (run, upload) DO UPDATE SET "
-                               "file = excluded.file, words = excluded.words, file_sha256 = excluded.file_sha256 "
-                               "WHERE file_sha256 = excluded.file_sha256", values)
+                ledger.execute(UNREAD, (run.run, os.fsencode(outcome.name)))
+                ledger.execute(NOTE, values)
 
     def runs(self) -> list[Run]:
         with self._reading() as ledger:
@@ -187,7 +194,8 @@ class Ledger:
             connection.execute("PRAGMA foreign_keys = ON")
             form = connection.execute("PRAGMA user_version").fetchone()[0]
             if form not in ((FORM, 0) if mode == "rwc" else (FORM,)):
-                raise OSError(errno.EINVAL, f"no ledger of this version of zakdomp (form {form}, not {FORM})", self.path)
+                words = f"no ledger of this version of zakdomp (form {form}, not {FORM})"
+                raise OSError(errno.EINVAL, words, self.path)
         except BaseException:
             connection.close()
             raise
@@ -223,18 +231,19 @@ def now() -> int:
     return int(time.time())
 
 
-def _upload(ledger: sqlite3.Connection, outcome: Outcome) -> int:
-    """The number of an upload, which is noted if it is new. One that was put there again since it was seen is seen anew:
-    it is held from that day on."""
+def _upload(ledger: sqlite3.Connection, folder: str, outcome: Outcome) -> int:
+    """The number of an upload, which is noted if it is new. One that was put there again since it was seen is seen
+    anew: it is held from that day on."""
     asked = (os.fsencode(outcome.name), *((outcome.size, outcome.sha256) if outcome.settled else (0, "")))
-    ledger.execute("INSERT OR IGNORE INTO uploads (name, size, sha256, seen) VALUES (?, ?, ?, ?)", (*asked, now()))
+    ledger.execute("INSERT INTO uploads (name, size, sha256, seen, folder) VALUES (?, ?, ?, ?, ?) ON CONFLICT (name, "
+                   "size, sha256) DO UPDATE SET folder = excluded.folder", (*asked, now(), os.fsencode(folder)))
     ledger.execute("UPDATE uploads SET seen = ? WHERE (name, size, sha256) = (?, ?, ?) AND seen < ?",
                    (now(), *asked, outcome.put))
-    number: int = ledger.execute("SELECT upload FROM uploads WHERE (name, size, sha256) = (?, ?, ?)", asked).fetchone()[0]
-    return number
+    row = ledger.execute("SELECT upload FROM uploads WHERE (name, size, sha256) = (?, ?, ?)", asked).fetchone()
+    return int(row[0])
 
 
 def _line(row: tuple[Any, ...]) -> Line:
-    upload, name, size, sha256, seen, at, file, *said = row
+    upload, name, size, sha256, seen, folder, at, file, *said = row
     outcome = Outcome(os.fsdecode(name), size=size, sha256=sha256, file=os.fsdecode(file), **dict(zip(SAID, said)))
-    return Line(upload, seen, at, outcome)
+    return Line(upload, seen, os.fsdecode(folder), at, outcome)

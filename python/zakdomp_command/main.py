@@ -4,10 +4,10 @@ import os
 import sys
 
 import zakdomp
-from zakdomp_command import batch, files, find, invoice, looks, merge, retained, stream, strike
+from zakdomp_command import batch, files, find, invoice, looks, merge, report, retained, stream, strike
 
 REFUSED, FAILED, INTERRUPTED = 1, 2, 130
-SUBCOMMANDS = (find, batch, invoice, stream, retained, merge, strike)
+SUBCOMMANDS = (find, batch, invoice, report, strike, retained, merge, stream)
 STATUS = """Exit status: 0 done, 1 refused (number and words on standard error), 2 usage, a file that cannot be read or
 written, or no scheduler."""
 

@@ -1,6 +1,7 @@
-"""What is drawn of corners over a photograph: a circle about each, large and yellow where it is strong, small and blue where it is weak, and a
-square instead where its peak ties with a cell beside it. A corner that only one of the two choices of peaks has is a
-large diamond, green where the exact choice has it and white where the computed one does."""
+"""What is drawn of corners over a photograph: a circle about each, large and yellow where it is strong, small and blue
+where it is weak, and a square instead where its peak ties with a cell beside it. A corner that only one of the two
+choices of peaks has is a large diamond, green where the exact choice has it and white where the computed one does. One
+that was struck is a cross."""
 import math
 from typing import Any, NamedTuple
 
@@ -17,7 +18,7 @@ Cell = tuple[int, int]
 
 class Mark(NamedTuple):
     """A place in pixels, the mark's radius, its step of colour from 0, weak, whether a cell ties with the corner's
-    peak, and which choice alone has the corner, if only one has."""
+    peak, which choice alone has the corner, if only one has, and whether it was struck."""
     x: float
     y: float
     radius: float
@@ -25,10 +26,11 @@ class Mark(NamedTuple):
     tied: bool
     corner: zakdomp.Corner
     alone: str = ""
+    struck: bool = False
 
     @property
     def shape(self) -> str:
-        return "diamond" if self.alone else "square" if self.tied else "circle"
+        return "cross" if self.struck else "diamond" if self.alone else "square" if self.tied else "circle"
 
 
 class Drawing(NamedTuple):
@@ -46,14 +48,34 @@ def drawing(found: Found, parameters: dict[str, Any]) -> Drawing:
     photo, comparison = found.photo, found.comparison
     corners = found.frame.corners + (comparison.computed_only if found.exact else comparison.exact_only)
     alone = dict.fromkeys(comparison.computed_only, "computed") | dict.fromkeys(comparison.exact_only, "exact")
+    pixels = bytes(photo.pixels)
+    return marked(photo, corners, alone, [_tied(pixels, photo, corner, parameters) for corner in corners])
+
+
+def marked(photo: zakdomp.Photograph, corners: list[zakdomp.Corner], alone: dict[zakdomp.Corner, str],
+           tied: list[bool]) -> Drawing:
+    """The marks of corners, of which some may stand in one list alone or be tied."""
     enlarged = max(1, -(-480 // max(photo.width, photo.height)))
     largest = _largest(photo, corners)
     top = max((corner.strength for corner in corners), default=1.0)
-    pixels = bytes(photo.pixels)
-    tied = [_tied(pixels, photo, corner, parameters) for corner in corners]
     marks = [_diamond(photo, corner, ties, alone[corner]) if corner in alone else _mark(corner, top, largest, ties)
              for corner, ties in zip(corners, tied)]
     return Drawing(photo, enlarged, sorted(marks, key=lambda mark: (mark.alone, mark.corner.strength)), largest / 4)
+
+
+def smaller(drawing: Drawing, side: int) -> Drawing:
+    """A drawing with no more than so many pixels a side: each so-and-so-many-th of the photograph's, in row order."""
+    photo = drawing.photo
+    step = -(-max(photo.width, photo.height) // side)
+    first = step // 2
+    rows = [bytes(photo.pixels[row * photo.width + first:(row + 1) * photo.width:step])
+            for row in range(first, photo.height, step)]
+    if step == 1 or not rows or not rows[0]:
+        return drawing
+    less = zakdomp.Photograph(0, len(rows[0]), len(rows), memoryview(b"".join(rows)))
+    marks = [mark._replace(x=(mark.x - first) / step, y=(mark.y - first) / step, radius=mark.radius / step)
+             for mark in drawing.marks]
+    return Drawing(less, 1, marks, drawing.line / step)
 
 
 def colour(step: int) -> tuple[int, int, int]:
@@ -110,11 +132,12 @@ def _tied(pixels: bytes, photo: zakdomp.Photograph, corner: zakdomp.Corner, para
     """Whether another cell of the window of a corner's peak has the peak's response."""
     reach = 1 + parameters["centroid_radius"] + max(parameters["window"], parameters["centroid_radius"])
     x0, y0 = max(round(corner.x) - reach, 0), max(round(corner.y) - reach, 0)
-    box = zakdomp.response(pixels, photo.width, photo.height, ring=parameters["ring"], x0=x0, y0=y0, x1=round(corner.x) + reach + 1,
-                           y1=round(corner.y) + reach + 1)
+    box = zakdomp.response(pixels, photo.width, photo.height, ring=parameters["ring"], x0=x0, y0=y0,
+                           x1=round(corner.x) + reach + 1, y1=round(corner.y) + reach + 1)
     cells = {(x0 + place % box.width, y0 + place // box.width): cell for place, cell in enumerate(box.cells)}
     level = [cell for cell, value in cells.items() if value == corner.strength]
-    tops = [cell for cell in level if not any(value > corner.strength for other, value in cells.items() if _near(cell, other, parameters["window"]))]
+    above = [cell for cell, value in cells.items() if value > corner.strength]
+    tops = [cell for cell in level if not any(_near(cell, other, parameters["window"]) for other in above)]
     peak = min(tops, key=lambda cell: _distance(cells, cell, corner, parameters["centroid_radius"]), default=None)
     return peak is not None and any(cell != peak and _near(cell, peak, parameters["window"]) for cell in level)
 

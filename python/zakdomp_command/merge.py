@@ -10,8 +10,8 @@ from zakdomp_command import files, formats
 from zakdomp_command.parameters import single
 
 EXAMPLE = "example: zakdomp merge board.corners --radius 1,3,10"
-DESCRIPTION = """Prints the corners that a merge would leave; the file stays as it is. Several radii give their lists one
-after the other: a line 'radius R' before each listing, a first column in CSV, a list in JSON."""
+DESCRIPTION = """Prints the corners that a merge would leave; the file stays as it is. Several radii give their lists
+one after the other: a line 'radius R' before each listing, a first column in CSV, a list in JSON."""
 
 
 def add(commands: Any) -> None:
@@ -41,7 +41,8 @@ def _several(kind: str, lists: list[tuple[float, list[zakdomp.Corner]]]) -> str:
     if kind == "listing":
         return "".join(f"radius {radius:g}\n{zakdomp.listing(corners)}" for radius, corners in lists)
     if kind == "json":
-        said = [{"radius": radius, "corners": [formats.plain(corner) for corner in corners]} for radius, corners in lists]
+        said = [{"radius": radius, "corners": [formats.plain(corner) for corner in corners]}
+                for radius, corners in lists]
         return json.dumps(said, indent=1) + "\n"
     output = io.StringIO()
     writer = csv.writer(output, lineterminator="\n")

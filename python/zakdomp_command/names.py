@@ -1,7 +1,7 @@
 """Names of files as text that harms no reader: one line, no control or direction characters, no formula of a
 spreadsheet, always valid UTF-8; and the same name back from it. A backslash is written \\\\. Each byte of what is not
-shown as it is, \\x and two digits: what is no UTF-8 or not printable, and at the ends of a cell also a space, and at its
-beginning what makes it a formula."""
+shown as it is, \\x and two digits: what is no UTF-8 or not printable, and at the ends of a cell also a space, and at
+its beginning what makes it a formula."""
 import os
 import re
 

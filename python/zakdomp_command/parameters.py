@@ -40,7 +40,8 @@ def tried(parameters: dict[str, Any]) -> dict[str, Any]:
     try:
         zakdomp.find_pgm(DOT, **parameters)
     except zakdomp.Refusal as refusal:
-        raise ValueError(f"the parameters are refused {refusal.number}: {zakdomp.REFUSALS[refusal.number]}") from refusal
+        words = zakdomp.REFUSALS.get(refusal.number, "refused")
+        raise ValueError(f"the parameters are refused {refusal.number}: {words}") from refusal
     return parameters
 
 

@@ -12,12 +12,12 @@ from zakdomp_command.ledger import Ledger
 EXAMPLE = "example: zakdomp retained photograph 2026-08-18 --at 2026-11-16T00:00:00"
 KINDS = {"file": 1, "photograph": 2, "token": 3}
 WORDS = {"N": "not yet", "H": "held", "G": "gone"}
-DESCRIPTION = """Prints N not yet, H held or G gone. A corner file is held always, a photograph for 90 days from the day
-of its receipt, a token for 604,800 seconds. A time is a date, 2026-11-15 or 2026-11-15T18:30:00, in UTC where it does
-not say, or seconds since 1970, @1794787200. With the folder of a ledger instead, the one argument, it prints the names of
-the uploads that are gone by that rule, from the day on which a batch saw them first; it deletes nothing."""
-DATE = re.compile(r"[0-9]{4}-[0-9]{2}-[0-9]{2}([T ][0-9]{2}:[0-9]{2}(:[0-9]{2}(\.[0-9]{1,6})?)?(Z|[+-][0-9]{2}:[0-9]{2})?)?")
-SECONDS = re.compile(r"@[0-9]{1,20}")
+DESCRIPTION = """Prints N not yet, H held or G gone. A corner file is held always, a photograph for 90 days from the
+day of its receipt, a token for 604,800 seconds. A time is a date, 2026-11-15 or 2026-11-15T18:30:00, in UTC where it
+does not say, or seconds since 1970, @1794787200. With the folder of a ledger instead, the one argument, it prints the
+names of the uploads that are gone by that rule, from the day on which a batch saw them first; it deletes nothing."""
+DATE = re.compile(r"\d{4}-\d\d-\d\d([T ]\d\d:\d\d(:\d\d(\.\d{1,6})?)?(Z|[+-]\d\d:\d\d)?)?", re.ASCII)
+SECONDS = re.compile(r"@\d{1,20}", re.ASCII)
 
 
 def add(commands: Any) -> None:
@@ -49,7 +49,8 @@ def run(options: argparse.Namespace) -> int:
 
 
 def deletable(ledger: Ledger, at: int) -> list[str]:
-    """The names of which every upload is gone at a time: of two with one name the older does not take the newer along."""
+    """The names of which every upload is gone at a time: of two with one name the older does not take the newer
+    along."""
     states: dict[str, set[str]] = {}
     for name, seen in ledger.uploads():
         states.setdefault(name, set()).add(zakdomp.holding(KINDS["photograph"], seen, at))

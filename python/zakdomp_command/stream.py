@@ -7,12 +7,14 @@ import zakdomp
 from zakdomp_command import files, parameters
 
 EXAMPLE = "example: zakdomp stream board.pgm --threshold 100 | corners"
+DESCRIPTION = "Writes the frame stream of a photograph of at most 96 by 96 pixels and of the parameters."
 
 
 def add(commands: Any) -> None:
-    parser = commands.add_parser("stream", help="the frame stream of a photograph, which the program corners reads", epilog=EXAMPLE,
-                                 description="Writes the frame stream of a photograph of at most 96 by 96 pixels and of the parameters.")
-    parser.add_argument("photo", metavar="PHOTO", help="a binary PGM file (P5) with a maxval of 255; - is standard input")
+    parser = commands.add_parser("stream", help="the frame stream of a photograph, which the program corners reads",
+                                 epilog=EXAMPLE, description=DESCRIPTION)
+    parser.add_argument("photo", metavar="PHOTO",
+                        help="a binary PGM file (P5) with a maxval of 255; - is standard input")
     parser.add_argument("--out", metavar="FILE", help="where it is put, and not on standard output")
     parameters.add(parser)
     parser.set_defaults(run=run)

@@ -1,5 +1,5 @@
-"""`zakdomp strike`: a corner of a list of the ledger, shown and then struck (request 10). The corner file stays as it is;
-what was struck stands in the ledger, with its place and change number, and on the invoice."""
+"""`zakdomp strike`: a corner of a list of the ledger, shown and then struck (request 10). The corner file stays as it
+is; what was struck stands in the ledger, with its place and change number, and on the invoice."""
 import argparse
 import errno
 import hashlib
@@ -13,9 +13,10 @@ from zakdomp_command.ledger import NAME, Ledger, Line, Run, Strike, now
 
 FILE = "november/corners/board.pgm.corners"
 EXAMPLE = f"example: zakdomp strike {FILE} 7, and then, if that is the one: zakdomp strike {FILE} 7 --confirm 0"
-DESCRIPTION = """Shows the corner at a place of a list that a batch found, and the list's change number. With that number
-it strikes the corner; each strike raises the number, so that no other corner than the one shown is struck. Without a
-place it prints the corners that are left. The corner file itself stays as it is; the invoice has both counts."""
+DESCRIPTION = """Shows the corner at a place of a list that a batch found, and the list's change number. With that
+number it strikes the corner; each strike raises the number, so that no other corner than the one shown is struck.
+Without a place it prints the corners that are left. The corner file itself stays as it is; the invoice has both
+counts."""
 
 
 class Kept(NamedTuple):
@@ -51,8 +52,8 @@ def run(options: argparse.Namespace) -> int:
 
 
 def _show(name: str, place: int, shown: zakdomp.Shown) -> None:
-    files.say(f"corner {place}: {_said(shown.corner)}\n"
-              f"change {shown.change}: zakdomp strike {shlex.quote(name)} {place} --confirm {shown.change} strikes it\n")
+    command = f"zakdomp strike {shlex.quote(name)} {place} --confirm {shown.change}"
+    files.say(f"corner {place}: {_said(shown.corner)}\nchange {shown.change}: {command} strikes it\n")
 
 
 def _strike(options: argparse.Namespace, kept: Kept) -> None:

@@ -1,5 +1,5 @@
-"""One upload of a batch: from its bytes to what is said of it. This runs in any process, on any machine of a cluster, and
-writes nothing."""
+"""One upload of a batch: from its bytes to what is said of it. This runs in any process, on any machine of a cluster,
+and writes nothing."""
 import errno
 import hashlib
 import os
