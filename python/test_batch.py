@@ -186,8 +186,16 @@ class Invoices(Batch):
     def test_where_nothing_can_be_put(self):
         self.fill(1)
         self.fails(2, "file: File exists", "batch", self.path("in"), "--out", self.put("file", b""))
+        os.makedirs(self.path("out"))
+        self.put("out/invoice.csv", b"of an older batch\n")
+        self.fails(2, "invoice.csv: this invoice is of no ledger: move it away", "batch", self.path("in"), "--out", self.path("out"))
+        self.assertEqual(os.listdir(self.path("out")), ["invoice.csv"])
+        os.unlink(self.path("out/invoice.csv"))
+        self.batch("--jobs", 1)
+        os.unlink(self.path("out/invoice.csv"))
         os.makedirs(self.path("out/invoice.csv"))
         self.fails(2, "invoice.csv: Is a directory", "batch", self.path("in"), "--out", self.path("out"))
+        self.fails(2, "own folder", "batch", self.path("out/corners"), "--out", self.path("out"))
         with mock.patch("os.makedirs", side_effect=PermissionError(13, "Permission denied", "locked")):
             self.fails(2, "zakdomp: locked: Permission denied", "batch", self.path("in"), "--out", self.path("locked"))
 

@@ -58,6 +58,13 @@ class Hostile(Batch):
         self.assertIn(zakdomp.REFUSALS[12], words["comment.pgm"])
         self.assertEqual(self.content("out/corners/noise.pgm.corners"), self.content("out/corners/same.pgm.corners"))
 
+    def test_a_terabyte_for_find_and_stream(self):
+        self.put("a.pgm", noise(60, 3))
+        due = [self.done(name, self.path("a.pgm")) for name in ("find", "stream")]
+        os.truncate(self.path("a.pgm"), 1 << 40)
+        self.assertEqual([self.done(name, self.path("a.pgm")) for name in ("find", "stream")], due)
+        self.fails(1, "nothing but zeros", "find", "/dev/zero")
+
     def test_the_largest_photograph_is_read_whole(self):
         self.assertGreaterEqual(uploads.LONGEST, 4096 * 4096 + (1 << 20))
         order = uploads.Order(self.path("in"), "listing", {})
@@ -115,7 +122,8 @@ class Parameters(Batch):
         self.fill(2)
         for options, words in ((("--ring", 7), "the parameters are refused 3: the ring is not 5 or 10"),
                                (("--merge-radius", 4097), "the parameters are refused 5: "),
-                               (("--levels", 1 << 32), "levels is not within"), (("--search-radius", 256), "refused 3")):
+                               (("--levels", 1 << 32), "levels is not within"),
+                               (("--search-radius", 256), "refused 3")):
             self.fails(2, words, "batch", self.path("in"), "--out", self.path("out"), *options)
         self.assertFalse(os.path.exists(self.path("out")))
 

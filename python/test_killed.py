@@ -1,6 +1,6 @@
 """Random folders of hostile uploads, killed at random instants and started again: python3 -m unittest test_killed
 
-`python3 test_killed.py 1000` does so many rounds, and says the seed of one that fails."""
+`python3 test_killed.py 1000 5000` does so many rounds, from a seed on, and says the seed of one that fails."""
 import csv
 import hashlib
 import io
@@ -21,10 +21,10 @@ from test_names import HOSTILE
 from zakdomp_command import formats, names
 
 ROUNDS = 6
-# the batch kills itself before so many writes: of files, and of all that is said to the ledger
+# the batch kills itself before so many writes, of files and of all that is said to the ledger, which hears so few at a time
 KILLED = """import os, signal, sqlite3, sys
-from zakdomp_command import main
-left, kill = int(sys.argv[1]), os.kill
+from zakdomp_command import batch, main
+left, kill, batch.FEW = int(sys.argv[1]), os.kill, int(sys.argv[2])
 
 def counted(real):
     def call(*given, **named):
@@ -41,7 +41,7 @@ class Counted(sqlite3.Connection):
 connect = sqlite3.connect
 sqlite3.connect = lambda *given, **named: connect(*given, factory=Counted, **named)
 os.fsync, os.replace, os.unlink = counted(os.fsync), counted(os.replace), counted(os.unlink)
-sys.exit(main.main(sys.argv[2:]))
+sys.exit(main.main(sys.argv[3:]))
 """
 
 
@@ -49,15 +49,16 @@ def upload(chosen):
     """The bytes of an upload."""
     photo = noise(chosen.randint(1, 60), chosen.randint(0, 9), chosen.choice((range(256), (0, 1), (7,))))
     return chosen.choice((
-        photo, photo, photo, board(), photo[:-1], photo + b"more", b"", b"\xff\xd8\xffx", b"P2 1 1 255 7", b"P5 5000 1 255\n",
-        b"P5 1 1 65535\nab", b"P5 #" + bytes(9999), b"P5 0 9 255\n", chosen.randbytes(chosen.randint(1, 99))))
+        photo, photo, photo, board(), photo[:-1], photo + b"more", b"", b"\xff\xd8\xffx", b"P2 1 1 255 7",
+        b"P5 5000 1 255\n", b"P5 1 1 65535\nab", b"P5 #" + bytes(9999), b"P5 0 9 255\n", chosen.randbytes(chosen.randint(1, 99))))
 
 
 def fill(folder, chosen):
     """Puts uploads of all kinds into a folder, some with the bytes of others."""
     contents = [upload(chosen) for _ in range(chosen.randint(1, 9))]
-    for number, name in enumerate(chosen.sample(HOSTILE + ("n" * 255, "a.pgm", "A.pgm"), chosen.randint(0, 9))):
-        path = os.path.join(folder, name.replace("/", "") + chosen.choice(("", str(number)))[:255 - len(os.fsencode(name))])
+    for number, name in enumerate(chosen.sample(HOSTILE + ("n" * 255, "a.pgm", "A.pgm"), chosen.randint(0, 25))):
+        behind = chosen.choice(("", str(number)))[:255 - len(os.fsencode(name))]
+        path = os.path.join(folder, name + behind)
         kind = chosen.randrange(12)
         if kind == 0:
             os.symlink(chosen.choice(("loop", name, "/dev/zero", "/none/x", ".")), path)
@@ -76,12 +77,13 @@ def begun(chosen, command):
     """Runs a batch that is killed at some instant, by the clock or at one of its writes, if it does not end before."""
     environment = {**os.environ, "PYTHONPATH": HERE}
     if chosen.random() < 0.7:
-        run = [sys.executable, "-B", "-c", KILLED, str(chosen.randint(1, 150)), *command]
+        after = chosen.randint(1, 60 + 12 * len(os.listdir(command[1])))
+        run = [sys.executable, "-B", "-c", KILLED, str(after), str(chosen.randint(1, 4)), *command]
         subprocess.run(run, env=environment, stdout=subprocess.DEVNULL, stderr=subprocess.DEVNULL, check=False)
         return
     with subprocess.Popen([sys.executable, "-B", "-m", "zakdomp_command", *command], env=environment,
                           stdout=subprocess.DEVNULL, stderr=subprocess.DEVNULL) as run:
-        time.sleep(0.1 + 0.4 * chosen.random())
+        time.sleep(0.1 + 0.3 * chosen.random())
         run.send_signal(signal.SIGKILL)
 
 
@@ -105,7 +107,8 @@ class Killed(unittest.TestCase):
                 given = file.read(1 << 20)
             self.assertEqual(content.decode(), zakdomp.listing(zakdomp.find_corners_pgm(given, threshold=options)))
             self.assertEqual(line["corner_file_sha256"], hashlib.sha256(content).hexdigest())
-            self.assertEqual((line["sha256"], int(line["corners"])), (self.digest(folder, line), len(formats.read(content).corners)))
+            self.assertEqual(line["sha256"], self.digest(folder, line))
+            self.assertEqual(int(line["corners"]), len(formats.read(content).corners))
 
     def digest(self, folder, line):
         with open(os.path.join(folder, names.name_of(line["name"])), "rb") as file:
@@ -137,17 +140,17 @@ class Killed(unittest.TestCase):
                 self.round(seed)
 
 
-def main(rounds):
-    """Rounds by hand, with seeds that the suite does not use."""
+def main(rounds, first):
+    """Rounds by hand."""
     case = Killed()
-    for seed in range(1_000, 1_000 + rounds):
+    for seed in range(first, first + rounds):
         try:
             case.round(seed)
         except BaseException:
             print(f"seed {seed}", flush=True)
             raise
-    print(f"{rounds} rounds")
+    print(f"{rounds} rounds from seed {first}")
 
 
 if __name__ == "__main__":
-    main(int(sys.argv[1])) if sys.argv[1:] else unittest.main()
+    main(*map(int, sys.argv[1:])) if sys.argv[1:] else unittest.main()

@@ -47,11 +47,13 @@ class Runs(Kept):
         os.symlink("none", self.path("in/dangling"))
         before = int(time.time())
         self.batch("--threshold", 30, "--jobs", 1)
-        self.assertEqual(self.rows("SELECT run, version, format, whole FROM runs"), [(1, zakdomp.__version__, "listing", 1)])
-        (found, seen), = self.rows("SELECT name, seen FROM uploads WHERE sha256 = '%s'" % hashlib.sha256(board()).hexdigest())
+        said = self.rows("SELECT run, version, format, whole FROM runs")
+        self.assertEqual(said, [(1, zakdomp.__version__, "listing", 1)])
+        digest = hashlib.sha256(board()).hexdigest()
+        (found, seen), = self.rows(f"SELECT name, seen FROM uploads WHERE sha256 = '{digest}'")
         self.assertEqual((found, before <= seen <= time.time()), (b"board.pgm", True))
-        self.assertEqual(self.rows("SELECT count(*), count(number), sum(sha256 = '') FROM outcomes NATURAL JOIN uploads"),
-                         [(3, 1, 1)])
+        counts = "SELECT count(*), count(number), sum(sha256 = '') FROM outcomes NATURAL JOIN uploads"
+        self.assertEqual(self.rows(counts), [(3, 1, 1)])
         self.held_together()
 
     def test_the_invoice_says_what_was_counted(self):
@@ -88,7 +90,8 @@ class Runs(Kept):
         self.assertLessEqual(first.items(), both.items(), "what the first run left is as it was")
         self.assertEqual(len(both), 12)
         self.held_together()
-        self.assertEqual(self.done("invoice", self.path("out"), "--run", 1).decode(), self.path("out/invoice.csv") + "\n")
+        said = self.done("invoice", self.path("out"), "--run", 1).decode()
+        self.assertEqual(said, self.path("out/invoice.csv") + "\n")
         self.assertEqual(tree(self.path("out")), both)
         self.batch("--jobs", 1, "--threshold", 500)
         self.assertEqual(tree(self.path("out")), both)
@@ -147,16 +150,17 @@ class Runs(Kept):
         self.batch("--jobs", 1)
         self.fails(2, "has no run 7: it has runs 1", "invoice", self.path("out"), "--run", 7)
         self.put("out/ledger.sqlite", b"this is no database, and longer than a header of one" * 20)
-        self.fails(2, "ledger.sqlite: the ledger cannot be read or written", "invoice", self.path("out"))
-        self.fails(2, "ledger.sqlite: the ledger cannot be read or written", "batch", self.path("in"), "--out", self.path("out"))
+        for arguments in (("invoice", self.path("out")), ("batch", self.path("in"), "--out", self.path("out"))):
+            self.fails(2, "ledger.sqlite: the ledger cannot be read or written", *arguments)
         self.put("out/ledger.sqlite", b"")
         self.fails(2, "ledger.sqlite: no ledger of this version", "invoice", self.path("out"))
 
     def test_a_ledger_that_cannot_be_written_names_its_file(self):
         self.fill(1)
         self.batch("--jobs", 1)
-        with mock.patch.object(Ledger, "add", side_effect=OSError(28, "No space left on device", self.path("out/ledger.sqlite"))):
-            self.fails(2, "ledger.sqlite: No space left on device", "batch", self.path("in"), "--out", self.path("out"), "--jobs", 1)
+        with mock.patch.object(ledger, "NOTE", "INSERT INTO nothing VALUES (1)"):
+            self.fails(2, f"zakdomp: {self.path('out/ledger.sqlite')}: the ledger cannot be read or written", "batch",
+                       self.path("in"), "--out", self.path("out"), "--jobs", 1)
 
 
 class Together(Kept):
@@ -165,12 +169,14 @@ class Together(Kept):
         self.fill(24, 60)
         options = (("--threshold", "0"), ("--threshold", "900"), ("--threshold", "0"))
         with mock.patch.dict(os.environ, {"PYTHONPATH": HERE}):
-            command = [sys.executable, "-B", "-m", "zakdomp_command", "batch", self.path("in"), "--out", self.path("out"), "--jobs", "1"]
-            runs = [subprocess.Popen([*command, *each], stdout=subprocess.DEVNULL, stderr=subprocess.PIPE) for each in options]
+            command = [sys.executable, "-B", "-m", "zakdomp_command", "batch", self.path("in"), "--jobs", "1"]
+            runs = [subprocess.Popen([*command, "--out", self.path("out"), *each], stdout=subprocess.DEVNULL,
+                                     stderr=subprocess.PIPE) for each in options]
         ended = [(run.communicate()[1], run.returncode) for run in runs]
         self.assertEqual(ended, 3 * [(b"", 0)])
         self.held_together()
-        self.assertEqual([len(self.content(f"out/{name}").splitlines()) for name in ("invoice.csv", "invoice-2.csv")], [26, 26])
+        for name in ("invoice.csv", "invoice-2.csv"):
+            self.assertEqual(len(self.content(f"out/{name}").splitlines()), 26)
 
     def test_a_reader_while_a_batch_writes(self):
         self.fill(3)
@@ -191,7 +197,8 @@ class Striking(Kept):
         self.corners = formats.read(self.content(self.file)).corners
 
     def counts(self):
-        return {line["name"]: (int(line["corners"]), int(line["struck"]), int(line["corners_left"])) for line in self.lines()}
+        columns = ("corners", "struck", "corners_left")
+        return {line["name"]: tuple(int(line[column]) for column in columns) for line in self.lines()}
 
     def left(self):
         return formats.read(self.done("strike", self.file)).corners
@@ -279,7 +286,8 @@ class Retained(Kept):
         at = f"@{20_200 * DAY}"
         self.assertEqual(self.done("retained", self.path("out"), "--at", at), b"a\\x0ab.pgm\nold.pgm\ntwice.pgm\n")
         self.assertEqual(len(os.listdir(self.path("in"))), 3, "nothing is deleted")
-        self.assertEqual(self.done("retained", self.path("out")), self.done("retained", self.path("out"), "--at", f"@{int(time.time())}"))
+        now = self.done("retained", self.path("out"), "--at", f"@{int(time.time())}")
+        self.assertEqual(self.done("retained", self.path("out")), now)
         self.fails(2, "there is no ledger", "retained", self.path("in"))
 
     def test_what_is_put_there_again_is_held_from_then(self):

@@ -7,8 +7,9 @@ import zakdomp
 from test_command import Command, board
 from zakdomp_command import looks, names
 
-HOSTILE = ("=1+1", "+1", "-1", "@SUM(A1)", "\t=1", "\r=1", "\n", " =1", "＝1", "a\u0085b", "a\u2028b", "a\u2029b", "a\u202eb",
-           "\ufeffa", "a\u200bb", "\\x3d", "\\", "\\\\x41", " ", "  ", " a ", "a,b", 'a"b', "a;b", "<script>", "ünï", "写真",
+HOSTILE = ("=1+1", "+1", "-1", "@SUM(A1)", "\t=1", "\r=1", "\n", " =1", "＝1", "a\u0085b", "a\u2028b", "a\u2029b",
+           "a\u202eb", "\ufeffa", "a\u200bb", "\\x3d", "\\", "\\\\x41", " ", "  ", " a ", "a,b", 'a"b', "a;b",
+           "<script>", "ünï", "写真",
            os.fsdecode(b"latin-\xe9"), os.fsdecode(b"\xff\xfe="), os.fsdecode(b"\xed\xa0\x80"), "\x7f", "\x1b[2J")
 
 
@@ -33,15 +34,15 @@ class Names(unittest.TestCase):
 
     def test_any_bytes(self):
         chosen = random.Random(7)
-        pieces = [bytes([byte]) for byte in range(1, 256) if byte != 47] + 40 * [b"\\", b"x41", b"=", b" ", "ü".encode()]
+        pieces = [bytes([byte]) for byte in range(1, 256) if byte != 47]
+        pieces += 40 * [b"\\", b"x41", b"=", b" ", "ü".encode()]
         for _ in range(3000):
             self.whole(os.fsdecode(b"".join(chosen.choices(pieces, k=chosen.randint(1, 9)))))
 
     def test_what_is_no_cell(self):
-        for text in ("\\x41", "a\nb", "\\\\x4", "\\x4", "\\q"):
-            if text != "\\\\x4":
-                with self.assertRaises(ValueError):
-                    names.name_of(text)
+        for text in ("\\x41", "a\nb", "\\x4", "\\q"):
+            with self.assertRaises(ValueError):
+                names.name_of(text)
         self.assertEqual(names.name_of("\\\\x4"), "\\x4")
 
 
@@ -51,8 +52,8 @@ class Words(Command):
         for upload, words in (
                 (b"", "it is empty"), (b"\xff\xd8\xff\xe0abc", "it looks like a JPEG; convert PHOTO "),
                 (b"\x89PNG\r\n\x1a\n", "a PNG; convert "), (b"P2\n1 1\n255\n7\n", "a plain PGM (P2); convert "),
-                (b"P6 1 1 255\nabc", "a colour PPM (P6); convert "), (b"II*\0", "a TIFF"), (b"RIFFabcdWEBPVP8 ", "a WebP"),
-                (b"\0\0\0\x18ftypheic", "a HEIC"), (photo[:-1], "it is cut short: its header says 160 x 120"),
+                (b"P6 1 1 255\nabc", "a colour PPM (P6); convert "), (b"II*\0", "a TIFF"),
+                (b"RIFFabcdWEBPVP8 ", "a WebP"), (b"\0\0\0\x18ftypheic", "a HEIC"), (photo[:-1], "it is cut short: its header says 160 x 120"),
                 (b"P5 2 2 65535\nabc", "says 2 x 2 of 16 bits"), (b"P5 2", "no width, height and maxval follow"),
                 (b"PK\x03\x04", "a ZIP archive"), (b"<html>", "HTML"), (b"hello", "no photograph at all"),
                 (b"\0\0\0", "nothing but zeros"), (b"P5 #a\n2 #b\r 2 255 a", "says 2 x 2,")):

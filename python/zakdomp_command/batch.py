@@ -11,7 +11,7 @@ from typing import Any
 
 import zakdomp
 from zakdomp_command import corner_files, files, formats, invoice, parameters, uploads
-from zakdomp_command.ledger import Ledger, Line, Run, held
+from zakdomp_command.ledger import FIRST, Ledger, Line, Run, held
 from zakdomp_command.progress import Bar
 from zakdomp_command.runners import Runner, alone, processes
 from zakdomp_command.uploads import Order, Outcome
@@ -75,10 +75,14 @@ def _is_folder(entry: "os.DirEntry[str]") -> bool:
 
 
 def _apart(folder: str, out: str) -> None:
-    """Sees that what is written is no upload of the next batch."""
+    """Sees that what is written is no upload of the next batch, and replaces no invoice of before the ledger."""
     given, made = os.path.realpath(folder), os.path.realpath(out)
-    if given == made or os.path.dirname(given) == made and re.fullmatch(r"corners(-[0-9]+)?", os.path.basename(given)):
+    inside = os.path.relpath(given, made).split(os.sep)[0]
+    if re.fullmatch(r"\.|corners(-[0-9]+)?", inside):
         raise OSError(errno.EINVAL, "the uploads' own folder cannot take the corner files", out)
+    older = os.path.join(out, FIRST)
+    if os.path.lexists(older) and not os.path.exists(Ledger(out).path):
+        raise OSError(errno.EEXIST, "this invoice is of no ledger: move it away, or give another --out", older)
 
 
 def _runner(options: argparse.Namespace) -> Runner:

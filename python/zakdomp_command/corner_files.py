@@ -22,6 +22,7 @@ def settle(folder: str, kind: str, outcome: Outcome, owners: dict[str, str]) -> 
     file = own if free and _named(os.path.join(folder, own), content) else other
     if file == other:
         os.makedirs(os.path.join(folder, BY_DIGEST), exist_ok=True)
+        files.settled(folder)
         if not _placed(os.path.join(folder, other), content):
             raise OSError(errno.EEXIST, "this is not the corner file that was put here: move it away",
                           os.path.join(folder, other))

@@ -7,14 +7,14 @@ import tempfile
 from zakdomp_command.names import line
 
 
-def read(name: str) -> bytes:
-    """The bytes of a file; `-` is standard input."""
+def read(name: str, most: int = -1) -> bytes:
+    """The bytes of a file, or so many of them; `-` is standard input."""
     if name == "-":
         if sys.stdin is None:
             raise OSError(errno.EBADF, os.strerror(errno.EBADF), "standard input")
-        return sys.stdin.buffer.read()
+        return sys.stdin.buffer.read(most)
     with open(name, "rb") as file:
-        return file.read()
+        return file.read(most)
 
 
 def say(content: str | bytes) -> None:
@@ -71,6 +71,19 @@ def _place(name: str, content: bytes) -> None:
     except BaseException:
         os.unlink(part)
         raise
+    settled(os.path.dirname(name))
+
+
+def settled(folder: str) -> None:
+    """Waits until the names of a folder are on the disk, where its file system can be asked."""
+    handle = os.open(folder, os.O_RDONLY)
+    try:
+        os.fsync(handle)
+    except OSError as problem:
+        if problem.errno != errno.EINVAL:
+            raise
+    finally:
+        os.close(handle)
 
 
 def remove_parts(folder: str) -> None:

@@ -3,7 +3,7 @@ import argparse
 from typing import Any
 
 import zakdomp
-from zakdomp_command import choices, files, formats, looks, parameters
+from zakdomp_command import choices, files, formats, looks, parameters, uploads
 from zakdomp_command.marks import drawing
 from zakdomp_command.png import png
 from zakdomp_command.svg import svg
@@ -31,7 +31,7 @@ def add(commands: Any) -> None:
 
 def run(options: argparse.Namespace) -> int:
     files.apart(options.photo, options.svg, options.png)
-    upload, chosen = files.read(options.photo), parameters.of(options)
+    upload, chosen = files.read(options.photo, uploads.LONGEST), parameters.of(options)
     try:
         found = choices.find(upload, chosen, options.exact)
     except zakdomp.Refusal as refusal:

@@ -21,9 +21,14 @@ COLUMNS = ("name", "width", "height", "corners", "ties", "number", "words", "exa
 def add(commands: Any) -> None:
     parser = commands.add_parser("invoice", help="the invoice of a run, once more", epilog=EXAMPLE,
                                  description=DESCRIPTION)
+    add_run(parser)
+    parser.set_defaults(run=run)
+
+
+def add_run(parser: argparse.ArgumentParser) -> None:
+    """Gives a parser what names a run of a ledger."""
     parser.add_argument("folder", metavar="DIR", help="where a batch has its ledger")
     parser.add_argument("--run", metavar="N", dest="number", type=int, help="which run (default: the last)")
-    parser.set_defaults(run=run)
 
 
 def run(options: argparse.Namespace) -> int:

@@ -18,6 +18,7 @@ from zakdomp_command import formats
 from zakdomp_command.uploads import Outcome
 
 NAME = "ledger.sqlite"
+FIRST = "invoice.csv"
 FORM = 1
 PATIENCE = 5.0
 BUSY = 60.0
@@ -64,7 +65,7 @@ class Run(NamedTuple):
 
     @property
     def invoice(self) -> str:
-        return "invoice.csv" if self.run == 1 else f"invoice-{self.run}.csv"
+        return FIRST if self.run == 1 else f"invoice-{self.run}.csv"
 
     @property
     def report(self) -> str:

@@ -70,8 +70,7 @@ class Entry(NamedTuple):
 def add(commands: Any) -> None:
     parser = commands.add_parser("report", help="a page with the pictures of a run", epilog=EXAMPLE,
                                  description=DESCRIPTION)
-    parser.add_argument("folder", metavar="DIR", help="where a batch has its ledger")
-    parser.add_argument("--run", metavar="N", dest="number", type=int, help="which run (default: the last)")
+    invoice.add_run(parser)
     parser.set_defaults(run=run)
 
 

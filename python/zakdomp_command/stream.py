@@ -4,7 +4,7 @@ import sys
 from typing import Any
 
 import zakdomp
-from zakdomp_command import files, parameters
+from zakdomp_command import files, parameters, uploads
 
 EXAMPLE = "example: zakdomp stream board.pgm --threshold 100 | corners"
 DESCRIPTION = "Writes the frame stream of a photograph of at most 96 by 96 pixels and of the parameters."
@@ -24,7 +24,7 @@ def run(options: argparse.Namespace) -> int:
     if not options.out and sys.stdout and sys.stdout.isatty():
         raise ValueError("a stream is no text for a terminal: give --out FILE, or a pipe")
     files.apart(options.photo, options.out)
-    photo = zakdomp.read_pgm(files.read(options.photo))
+    photo = zakdomp.read_pgm(files.read(options.photo, uploads.LONGEST))
     stream = zakdomp.write_stream(photo.pixels, photo.width, photo.height, **parameters.of(options))
     if options.out:
         files.place(options.out, stream)
