@@ -11,9 +11,8 @@ import tempfile
 import unittest
 
 import zakdomp
-from test_command import board
+from common import TOP, board
 
-TOP = os.path.dirname(os.path.dirname(os.path.abspath(zakdomp.__file__)))
 MADE = os.path.join(TOP, "target")
 LIBRARY = os.path.abspath(os.environ.get("ZAKDOMP_LIBRARY") or os.path.join(MADE, "bindings", "libzakdomp.so"))
 HAS_MADE = all(os.path.exists(os.path.join(MADE, name)) for name in ("bin/corners", "zakdomp/libzakdomp.a"))

@@ -5,9 +5,9 @@ import os
 import unittest
 import warnings
 
-from test_command import HERE
+from common import TOP
 
-BENCH = os.path.join(HERE, "..", "bench", "photographs")
+BENCH = os.path.join(TOP, "bench", "photographs")
 PHOTOGRAPH = "/usr/share/doc/opencv-doc/examples/data/left01.jpg"
 
 

@@ -8,8 +8,8 @@ import sys
 import unittest
 
 import zakdomp
+from common import TOP
 
-ROOT = os.path.join(os.path.dirname(os.path.abspath(__file__)), "..")
 NAMES = ("ring", "threshold_bits", "window", "least_neighbours", "centroid_radius", "merge_bits", "levels", "minimum_side", "search_radius")
 PARAMETERS = struct.Struct("<BIBBBIBHB")
 PLAIN = dict(zip(NAMES, (5, 0, 0, 0, 0, 0x40400000, 1, 1, 0)))
@@ -61,7 +61,7 @@ def read(stream):
 
 def bodies(name):
     """The bodies of the records of a file of the sample (oracle/SAMPLE.md)."""
-    with open(os.path.join(ROOT, "crates", "replay", "data", name), "rb") as file:
+    with open(os.path.join(TOP, "crates", "replay", "data", name), "rb") as file:
         data = file.read()
     at = 0
     while data[at]:
@@ -185,7 +185,7 @@ class Writing(unittest.TestCase):
         self.assertGreater(count, 2_000)
 
     def test_the_examples(self):
-        examples = os.path.join(ROOT, "examples")
+        examples = os.path.join(TOP, "examples")
         for name in ("board", "whole"):
             with open(os.path.join(examples, name + ".stream"), "rb") as file:
                 stream = file.read()

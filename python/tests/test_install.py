@@ -11,10 +11,9 @@ import zipfile
 
 import wheel_backend
 import zakdomp
-from test_command import HERE, board
+from common import HERE, TOP, board
 from zakdomp_command.main import _parser
 
-TOP = os.path.dirname(HERE)
 C = """#include <stdio.h>
 #include <zakdomp.h>
 int main(void) { uint8_t letter; return zakdomp_holding(2, 0, 0, &letter) || printf("%c %s\\n", letter, ZAKDOMP_VERSION) < 0; }
