@@ -16,23 +16,15 @@ import zlib
 from unittest import mock
 
 import zakdomp
+from common import HERE, board, pgm
 from test_zakdomp import SIDE, whole_case
 from zakdomp_command import choices, files, formats, marks, png
 from zakdomp_command.main import main
 
-HERE = os.path.dirname(os.path.abspath(__file__))
 EXAMPLES = os.path.join(HERE, "..", "examples")
 PLAIN = "--window 0 --least-neighbours 0 --centroid-radius 0 --search-radius 0".split()
 COMPARED = re.compile(r"zakdomp: .*: (computed (only: .*|\d+ corners, exact choice .*)|exact choice only: .*|"
                       r"\d+ photographs have another list by the exact choice)\n")
-
-
-def pgm(pixels, width, height):
-    return b"P5\n%d %d\n255\n" % (width, height) + bytes(pixels)
-
-
-def board(width=160, height=120, square=20):
-    return pgm((20 if (x // square + y // square) % 2 else 220 for y in range(height) for x in range(width)), width, height)
 
 
 def noise(side, seed, values=range(256)):
