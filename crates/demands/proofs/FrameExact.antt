@@ -2,7 +2,7 @@
 use Prim.Native.Nat.{ℕ}
 use mathlib.Core.Path.{_≡_, sym, ap, _∙_, subst}
 use mathlib.Core.Logic.{_↔_}
-use mathlib.Core.List.{[], _∷_, map}
+use mathlib.Core.List.{List, [], _∷_, map}
 use lib.ListN.{length}
 use lib.Ieee.{nan}
 use Rattle.lists.specs.Places.{All}
@@ -12,6 +12,7 @@ use Rattle.float32.specs.Float32.{lift}
 use Rattle.float32.specs.Value.{IsWhole}
 use Rattle.response.specs.Patch.{View, mapWidth, mapHeight, cells}
 use Rattle.response.specs.Exact.{fifthsIn}
+use Rattle.accuracy.specs.Accurate.{Bytes}
 use Rattle.accuracy.proofs.Cells.{map-accurate}
 use Rattle.agreement.proofs.Lists.{peaks-alike}
 use Rattle.detect.specs.declared.Search.{Search}
@@ -28,13 +29,12 @@ use Rattle.frame_pass.proofs.Refusals.{admitted, admitted-sound}
 use Rattle.frame_pass.proofs.Maps.{map-clear, looked-fine, none-dropped}
 use Rattle.frame_pass.proofs.Same.{pass-same}
 use Rattle.frame_pass.proofs.Inside.{corners-inside, boxes-answered}
-use Rattle.frame.specs.Frame.{tooMany, refusalOf}
+use Rattle.frame.specs.Frame.{Buffers, tooMany, refusalOf}
 use Rattle.frame.proofs.Callers.{finished-tells}
 use Rattle.demands.specs.PeakCall.{searchIn}
 use Rattle.demands.specs.PeaksAlike.{programList, position, nameOf}
 use Rattle.demands.specs.FrameExact.{CallBy, FrameCall, mapsIn, Alike, WithoutTie, FrameExact, AlikeByName, MapsSearched, MapsAlike}
-use Rattle.demands.specs.FrameExact.{FrameWithoutTies, FourNever}
-use Rattle.demands.specs.FrameExact.{PeaksKept}
+use Rattle.demands.specs.FrameExact.{FrameWithoutTies, FourNever, PeaksKept}
 use Rattle.lists.proofs.Refusals.{lowest-before}
 use Rattle.demands.proofs.Added.{named}
 
@@ -53,15 +53,19 @@ alike-by-name p v c same =
 
 -- ---- the maps of a frame
 
--- a frame that finished was not refused before its pass
-pub sound : {choose : FrameParams → Choice} (c : CallBy choose) → SoundFrame (c .parameters) (c .img) (c .w) (c .h)
+-- a frame that is not refused is sound
+pub sound-frame : (choose : Choice) (p : FrameParams) (img : List ℕ) (w h : ℕ) (b : Buffers) → refusalOf choose p img w h b ≡ 0 → Bytes img
+    → SoundFrame p img w h
 unfolding refusalOf
+sound-frame choose p img w h b e bytes =
+    let cells = length (b .map) in
+    let places = length (b .levels) in
+    let none = lowest-before (conditions p (length img) w h cells places) ((tooMany (framePass p img w h choose) b, 10) ∷ []) e in
+    admitted-sound p img w h cells places (admitted p (length img) w h cells places none) bytes
+
+pub sound : {choose : FrameParams → Choice} (c : CallBy choose) → SoundFrame (c .parameters) (c .img) (c .w) (c .h)
 sound {choose} c =
-    let cells = length (c .before .map) in
-    let places = length (c .before .levels) in
-    let none = lowest-before (conditions (c .parameters) (length (c .img)) (c .w) (c .h) cells places)
-    ((tooMany (framePass (c .parameters) (c .img) (c .w) (c .h) (choose (c .parameters))) (c .before), 10) ∷ []) (sym (c .promise .number)) in
-    admitted-sound (c .parameters) (c .img) (c .w) (c .h) cells places (admitted (c .parameters) (length (c .img)) (c .w) (c .h) cells places none) (c .bytes)
+    sound-frame (choose (c .parameters)) (c .parameters) (c .img) (c .w) (c .h) (c .before) (sym (c .promise .number)) (c .bytes)
 
 pub fine-maps : (c : FrameCall) → All (Fine (c .parameters)) (mapsIn c)
 fine-maps c = looked-fine (c .parameters) (c .img) (c .w) (c .h) (exactChoice (c .parameters)) (sound c)

@@ -17,6 +17,7 @@ pub mod Total
 pub mod Program
 pub mod BitForBit
 pub mod AsPublished
+pub mod Coordinates
 pub mod Units
 pub mod RingPass
 pub mod Tolerance

@@ -6,6 +6,7 @@ use mathlib.Core.Logic.{_⊎_}
 use mathlib.Core.List.{List, [], _∷_, _++_}
 use lib.ListN.{length, take}
 use Rattle.lists.specs.Places.{All}
+use Rattle.corner_list.specs.declared.Corner.{Corner}
 use Rattle.patch_corners.specs.declared.FrameParams.{FrameParams}
 use Rattle.patch_corners.specs.OneMap.{Choice, computedChoice, exactChoice}
 use Rattle.frame_pass.specs.Pass.{framePass, lookedAt}
@@ -39,9 +40,12 @@ pub record Reads (input : List ℕ) : Type 0 where
 abbrev pub ProgramDecided : Type 0
 ProgramDecided = (input : List ℕ) → Reads input
 
--- the listing of the corners that a pass by a choice of peaks finds in a frame
+-- the corners that a pass by a choice of peaks finds in a frame, and their listing
+abbrev pub cornersBy : (FrameParams → Choice) → Header → List ℕ → List Corner
+cornersBy choose h pixels = framePass (paramsOf h) pixels (h .width) (h .height) (choose (paramsOf h)) .corners
+
 abbrev pub textBy : (FrameParams → Choice) → Header → List ℕ → List ℕ
-textBy choose h pixels = cornersText (framePass (paramsOf h) pixels (h .width) (h .height) (choose (paramsOf h)) .corners)
+textBy choose h pixels = cornersText (cornersBy choose h pixels)
 
 -- the input is a frame stream, and its frame is not refused: the program prints the frame's corners
 pub record PrintsCorners (input : List ℕ) : Type 0 where
