@@ -3,7 +3,7 @@
 -- Every call of a public function ends, and asks nothing of its caller; its promise has the answer and every buffer afterwards by equations.
 -- Here stand the promises of the functions that refuse, word for word, and the numbers that each can give: 0, which the definitions use for
 -- "none", is no refusal's. A request's new number counts with the eleven: 12 and 13 of request 1, 14 of request 8, 15 of request 9, 16, 17 and
--- 18 of request 10, 19 of request 11, 20 of request 13. Which condition has which number, lowest first, is in the tables that the promises name. No
+-- 18 of request 10, 19 of request 11, 20 of request 13. Which condition has which number, and in which order, is in the tables that the promises name. No
 -- other public function refuses, and each of these promises one equation over its arguments:
 --   numbers         lesser, greater, minus
 --   image_size      is_large, refusal (the number alone)
