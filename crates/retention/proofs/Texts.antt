@@ -39,7 +39,7 @@ module _ (number : ℕ) (small : number ≤ 20) (before : List ℕ) (n : ℕ) (a
   text-is : take n after ≡ refusedText number
   text-is = ap (take n) (w .holds) ∙ front-take (refusedText number) before n (w .ends)
 
-  module _ (out : List ℕ) (at : ℕ) (room : at + 11 ≤ length out) where
+  module _ (out : List ℕ) (at : ℕ) (ample : at + 11 ≤ length out) where
     part-long : length (midOf at (at + n - at) out) ≡ n
     part-long = let k : at + n - at ≡ n = omega arith in rw k (length-take-le n (drop at out) (omega (arith, length-drop at out, text-short)))
 
@@ -138,7 +138,7 @@ module _ (s : List ℕ) where
               | no end ↦ lines-end (65536 - k) k (omega arith)
             ]
 
-    module _ (some : at < min (length s) 589832) (room : length before ≡ longest) where
+    module _ (some : at < min (length s) 589832) (ample : length before ≡ longest) where
       abbrev left : ℕ
       left = 65536 - suc k
 
@@ -148,8 +148,8 @@ module _ (s : List ℕ) where
       here : placeOf k < length s
       here = omega (arith, l .place)
 
-      pub listed-room : end + 11 ≤ length out
-      listed-room = omega (arith, listed-end, l .place, wrote-length (l .wrote), room)
+      pub listed-ample : end + 11 ≤ length out
+      listed-ample = omega (arith, listed-end, l .place, wrote-length (l .wrote), ample)
 
       pub listed-refused : (fault end′ : ℕ) (out′ : List ℕ) → fault ≡ recordFault s at → (fault ≡ 0 → ⊥)
           → Wrote (refusedText fault) end out end′ out′ → Wrote (linesFrom s 65536 0) 0 before end′ out′

@@ -7,7 +7,7 @@ use lib.ListN.{length}
 use borrow.Author.Needs.{needs}
 use Rattle.listing.proofs.Appending.{wrote-length}
 use Rattle.retention.proofs.Records.{fault-small}
-use Rattle.retention.proofs.Texts.{Listed, listed-none, listed-all, listed-room, listed-refused, listed-next}
+use Rattle.retention.proofs.Texts.{Listed, listed-none, listed-all, listed-ample, listed-refused, listed-next}
 use Rattle.retention.proofs.list.list_records.Statement.{statement}
 use Rattle.retention.proofs.list.list_records.Tie as tie
 use Landmarks.*
@@ -31,11 +31,11 @@ record-fault-requires c κs = search needs
 some : (c : tie.In-loop Inv-loop μ-loop) → c .before .loop .at < min (length (start-from-in-loop c .args .input .now)) 589832
 some c = rw (c .before .before .lesser .ensures) at (c .loop-test .taken)
 
-room : (c : tie.In-loop Inv-loop μ-loop) → c .before .loop .end + 11 ≤ length (c .before .loop .out)
-room c = listed-room _ _ _ _ _ (c .before .loop .inv) (some c) (start-from-in-loop c .pre .2)
+ample : (c : tie.In-loop Inv-loop μ-loop) → c .before .loop .end + 11 ≤ length (c .before .loop .out)
+ample c = listed-ample _ _ _ _ _ (c .before .loop .inv) (some c) (start-from-in-loop c .pre .2)
 
 put-refusal-requires : tie.Need-put-refusal-requires Inv-loop μ-loop
-put-refusal-requires c κs = (rw (c .before .before .record-fault .ensures) (fault-small _ _), room (loop-test-from-put-refusal-requires c))
+put-refusal-requires c κs = (rw (c .before .before .record-fault .ensures) (fault-small _ _), ample (loop-test-from-put-refusal-requires c))
 
 same-length : tie.Need-same-length Inv-loop μ-loop
 same-length c = wrote-length (c .before .before .put-refusal .ensures) ∙ wrote-length (loop-from-same-length c .loop .inv .wrote)
@@ -52,7 +52,7 @@ letter-at-requires c κs =
     (sym (c .before .before .record-fault .ensures) ∙ c .before .if1 .left, pre .0, pre .1)
 
 put-letter-requires : tie.Need-put-letter-requires Inv-loop μ-loop
-put-letter-requires c κs = omega (arith, room (loop-test-from-put-letter-requires c))
+put-letter-requires c κs = omega (arith, ample (loop-test-from-put-letter-requires c))
 
 add-at : tie.Need-add-at Inv-loop μ-loop
 add-at c = omega (arith, some (loop-test-from-add-at c))
