@@ -194,6 +194,14 @@ class Cluster(Batch):
         self.assertLess(time.monotonic() - begun, 60)
         self.assertFalse(os.path.exists(self.path("out/invoice.csv")))
 
+    def test_a_cluster_that_lost_its_workers(self):
+        """A stand-in for its client: the wait ends with a line, and not never."""
+        threads = iter([{"a": 1}, {}, {}, {}])
+        client = mock.Mock(status="running", nthreads=lambda: next(threads, {}))
+        with mock.patch.object(cluster, "OFTEN", 0.01), self.assertRaisesRegex(OSError, "at x has no workers: start some"):
+            cluster._manned(client, "x", lambda: False, 0.2)
+        cluster._manned(client, "x", lambda: True, 0)
+
     def test_what_is_no_scheduler(self):
         run = self.started("--scheduler", "here", stderr=subprocess.PIPE)
         self.assertRegex(run.communicate(timeout=LIMIT)[1].decode(), r"^zakdomp: [^\n]*: no scheduler at here: [^\n]+\n$")

@@ -145,6 +145,15 @@ class Runs(Kept):
         self.batch("--jobs", 1)
         self.assertEqual([(line["name"], line["words"]) for line in self.lines()], [("000.pgm", ""), ("late.pgm", "")])
 
+    def test_what_a_killed_batch_left_behind(self):
+        self.put("in/" + "n" * 255, board())
+        self.batch("--jobs", 1)
+        due = tree(self.path("out"))
+        for place in ("out", "out/corners", "out/corners/by-digest"):
+            self.put(place + "/.zakdomp-x.part", b"half")
+        self.batch("--jobs", 1)
+        self.assertEqual(tree(self.path("out")), due)
+
     def test_usage(self):
         self.fails(2, "there is no ledger", "invoice", self.path("in"))
         self.batch("--jobs", 1)
@@ -165,15 +174,19 @@ class Runs(Kept):
 
 class Together(Kept):
     def test_three_batches_in_one_folder(self):
-        """They take turns, of the same run or of others: no line names a count that its corner file does not have."""
+        """They take turns, of the same run or of others, or say that another is at work: no line names a count that its
+        corner file does not have."""
         self.fill(24, 60)
         options = (("--threshold", "0"), ("--threshold", "900"), ("--threshold", "0"))
         with mock.patch.dict(os.environ, {"PYTHONPATH": HERE}):
             command = [sys.executable, "-B", "-m", "zakdomp_command", "batch", self.path("in"), "--jobs", "1"]
             runs = [subprocess.Popen([*command, "--out", self.path("out"), *each], stdout=subprocess.DEVNULL,
                                      stderr=subprocess.PIPE) for each in options]
-        ended = [(run.communicate()[1], run.returncode) for run in runs]
-        self.assertEqual(ended, 3 * [(b"", 0)])
+        for said, status in [(run.communicate()[1], run.returncode) for run in runs]:
+            self.assertTrue((status, said) == (0, b"") or b"another batch is at work" in said, said)
+        self.held_together()
+        for each in options:
+            self.batch("--jobs", 1, *each)
         self.held_together()
         for name in ("invoice.csv", "invoice-2.csv"):
             self.assertEqual(len(self.content(f"out/{name}").splitlines()), 26)

@@ -96,8 +96,7 @@ def _work(ledger: Ledger, asked: Run, order: Order, found: list[str], runner: Ru
     """Takes what the run has already of the uploads, and does what is left. Each corner file is on the disk before the
     ledger names it; a few outcomes at a time are noted."""
     corners = os.path.join(ledger.folder, asked.corners)
-    os.makedirs(corners, exist_ok=True)
-    files.remove_parts(corners)
+    corner_files.begin(corners)
     before = [line.outcome for line in ledger.lines(asked) if line.outcome.settled]
     owners = {outcome.file: outcome.sha256 for outcome in before}
     known = {outcome.name: outcome for outcome in _known(corners, order, found, before)}
@@ -171,8 +170,8 @@ def _others(options: argparse.Namespace, ledger: Ledger, asked: Run, lines: list
     lost = sum(bool(line.outcome.file) and corner_files.text(corners, line.outcome) is None for line in lines)
     if lost:
         files.tell(f"{lost} corner files were changed or deleted, and their uploads are not here", corners)
-    below = sum(_is_folder(entry) and not os.path.samefile(entry.path, options.out)
-                for entry in os.scandir(options.folder))
+    made = os.path.realpath(options.out)
+    below = sum(_is_folder(entry) and os.path.realpath(entry.path) != made for entry in os.scandir(options.folder))
     if below:
         files.tell(f"{below} subfolders not looked into", options.folder)
 

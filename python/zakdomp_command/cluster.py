@@ -4,7 +4,7 @@ and the next run goes on."""
 import logging
 import time
 import warnings
-from collections.abc import Iterator
+from collections.abc import Callable, Iterator
 from concurrent.futures import CancelledError
 from contextlib import contextmanager
 from functools import partial
@@ -15,7 +15,9 @@ from zakdomp_command.runners import AHEAD, Runner
 from zakdomp_command.uploads import VERSION, Order, Outcome, Upload, find, read, unread, work
 
 PATIENCE = 30
-WORKERS = 5.0
+# a cluster has so long to have a worker, when a batch begins and when it lost all, and is asked so often
+WORKERS, LOST, OFTEN = 5.0, 60.0, 1.0
+PAUSE = 0.005
 GONE = "the scheduler is gone: start the batch again to go on"
 
 
@@ -35,7 +37,7 @@ def _run(distributed: Any, address: str, order: Order, names: list[str]) -> Iter
     waiting = iter(names)
     warnings.filterwarnings("ignore", "(?s).*[Ll]arge (object|graph)")
     with _client(distributed, address) as client:
-        _manned(client, address)
+        _manned(client, address, lambda: not names or _threads(client) > 0, WORKERS)
         running = distributed.as_completed(loop=client.loop)
         while True:
             for name in islice(waiting, max(_places(client) - running.count(), 0)):
@@ -46,6 +48,7 @@ def _run(distributed: Any, address: str, order: Order, names: list[str]) -> Iter
                     running.add(task)
             if not running.count():
                 return
+            _manned(client, address, running.has_ready, LOST)
             yield _ended(client, distributed.KilledWorker, order, next(running))
 
 
@@ -57,13 +60,16 @@ def _client(distributed: Any, address: str) -> Any:
         raise OSError(0, f"no scheduler at {address}: {problem}") from problem
 
 
-def _manned(client: Any, address: str) -> None:
-    """Sees that the cluster has a worker, which may just have been started: without one a batch would wait for ever."""
-    end = time.monotonic() + WORKERS
-    while not _threads(client):
-        if time.monotonic() > end:
+def _manned(client: Any, address: str, ready: Callable[[], bool], patience: float) -> None:
+    """Waits until it is ready. A cluster that has no worker for so long, where a batch would wait for ever, is told."""
+    asked = manned = time.monotonic()
+    while not ready():
+        time.sleep(PAUSE)
+        if time.monotonic() - asked > OFTEN:
+            asked = time.monotonic()
+            manned = asked if _threads(client) else manned
+        if time.monotonic() - manned > patience:
             raise OSError(0, f"the scheduler at {address} has no workers: start some, and then the batch again")
-        time.sleep(0.1)
 
 
 @contextmanager

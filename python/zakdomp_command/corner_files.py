@@ -10,6 +10,14 @@ from zakdomp_command.uploads import Outcome
 BY_DIGEST = "by-digest"
 
 
+def begin(folder: str) -> None:
+    """Makes the folder of a run, or removes from it what a killed batch left behind of files that were not yet whole."""
+    os.makedirs(folder, exist_ok=True)
+    for place in (folder, os.path.join(folder, BY_DIGEST)):
+        if os.path.isdir(place):
+            files.remove_parts(place)
+
+
 def settle(folder: str, kind: str, outcome: Outcome, owners: dict[str, str]) -> Outcome:
     """Puts the corner file of an outcome in its place, under its upload's name if it can have it: `owners` are the
     files of the run and the digests of their uploads, of which it becomes one. What is then left of the text is its
