@@ -9,7 +9,7 @@
  * Whoever begins takes zakdomp_find or zakdomp_find_pgm at the end of this header, which allocate the buffers:
  * include/README.md has a program of ten lines. They are C over the library's functions, and are tested, not proved.
  *
- * Each function but zakdomp_level_bytes, zakdomp_corners and zakdomp_holdings returns 0, or the number of a refusal: the lowest that applies,
+ * Each function of the library but zakdomp_level_bytes, zakdomp_corners and zakdomp_holdings returns 0, or the number of a refusal: the lowest that applies,
  * unless the function says another order.
  * A refusal leaves every buffer and every place for a result as it was; the one exception is ZAKDOMP_LIST_SHORT from the four functions of the
  * library whose names begin with zakdomp_find. What lies in a buffer behind a result stays as it was; these four alone clear map and list buffers behind it.
@@ -21,6 +21,9 @@
 
 #include <stddef.h>
 #include <stdint.h>
+#ifndef ZAKDOMP_BARE /* define it where there is no malloc: the helpers at the end are then left out */
+#include <stdlib.h>
+#endif
 
 /* The version of this header and of the library, as semantic versioning counts; CHANGELOG.md says what each brought. */
 #define ZAKDOMP_VERSION "0.1.0"
@@ -277,9 +280,7 @@ uint8_t zakdomp_holding(uint8_t kind, uint64_t start, uint64_t time, uint8_t *le
 #define ZAKDOMP_HOLDINGS 131081
 size_t zakdomp_holdings(const uint8_t *input, size_t input_length, uint8_t *output);
 
-#ifndef ZAKDOMP_BARE /* define it where there is no malloc: the helpers are then left out */
-#include <stdlib.h>
-
+#ifndef ZAKDOMP_BARE
 /* What is looked for: the parameters of zakdomp_find_corners, by their names there, and by which choice. */
 typedef struct zakdomp_params {
     uint32_t ring;
@@ -302,7 +303,7 @@ typedef struct zakdomp_lists {
     size_t room_bytes;
 } zakdomp_lists;
 
-#define ZAKDOMP_NO_MEMORY 255 /* the helpers alone: there is no memory for the buffers */
+#define ZAKDOMP_NO_MEMORY 255
 
 /* The defaults, which are those of Rust and Python too: ring 5, threshold 0, window 2, least 2, centroid 2, radius 3,
  * one level, the computed choice. For a photograph the threshold is to be set. */
@@ -340,7 +341,7 @@ static inline float *zakdomp_make_room(zakdomp_lists *found, size_t cells, size_
  * call with the same struct, or zakdomp_free. Where it is refused, count and ties are 0.
  *   img     w * h pixels, in row order
  *   params  those of zakdomp_params_default, changed or not
- * Refusals: 1, 3, 5, ZAKDOMP_NO_MEMORY. */
+ * Refusals: 1, 3, 5, and ZAKDOMP_NO_MEMORY, which is 255, where there is no memory for the buffers. */
 static inline uint8_t zakdomp_find(const uint8_t *img, size_t w, size_t h, const zakdomp_params *params,
                                    zakdomp_lists *found) {
     const int fits = w <= 4096 && h <= 4096; /* else it is refused as 1, before a buffer is looked at */

@@ -3,9 +3,9 @@
     corners = zakdomp_numpy.find_corners(image, threshold=30)
     corners["x"], corners["strength"].max()
 
-`image` is anything that numpy makes a two-dimensional array of bytes from, rows first, in any layout. The parameters are
-the fields of `zakdomp.Params`, and what the library refuses is raised as `zakdomp.Refusal`. What this module gives goes
-into the functions of `zakdomp`: corners as a list, maps as cells."""
+`image` is anything that numpy makes a two-dimensional array of bytes from, rows first, in any layout. The parameters
+are the fields of `zakdomp.Params`, and what the library refuses is raised as `zakdomp.Refusal`. What this module gives
+goes into the functions of `zakdomp`: corners as a list, maps as cells."""
 from collections.abc import Callable
 from typing import Any, NamedTuple
 

@@ -126,8 +126,8 @@ class FirstLines(Newcomer):
 
 @unittest.skipUnless(shutil.which("bash"), "no bash on this machine")
 class OnePhotograph(Newcomer):
-    def run_on(self, *words):
-        run = self.ran(os.path.join(TOP, "run"), *words, ZAKDOMP_LIBRARY=LIBRARY)
+    def run_on(self, *words, library=LIBRARY):
+        run = self.ran(os.path.join(TOP, "run"), *words, ZAKDOMP_LIBRARY=library)
         return run.returncode, run.stdout.decode(), run.stderr.decode()
 
     def put(self, name, content):
@@ -178,6 +178,13 @@ class OnePhotograph(Newcomer):
         self.assertEqual(self.names(), [])
         self.assertEqual(self.content("text.pgm"), b"kept")
         self.assertEqual(self.run_on("--help")[0], 0)
+
+    def test_no_library_where_it_is_named(self):
+        self.put("a.pgm", board())
+        status, said, told = self.run_on("a.pgm", library="/nowhere/lib.so")
+        self.assertEqual((status, said), (2, ""))
+        self.assertRegex(told, r"^run: no library \(/nowhere/lib\.so: .*\n$")
+        self.assertEqual(os.listdir(self.folder), ["a.pgm"])
 
 
 if __name__ == "__main__":
