@@ -1,6 +1,7 @@
 /* Zakdomp: the corners of a chessboard in a grey image. Link libzakdomp.a, which `tools/library` writes.
  *
- * Every function is proved to end and to do what is said here, for every value of its numbers. What C has to see to:
+ * Every function of the library is proved to end, and to answer and leave what is said here, for every value of its numbers. Times and the stack that
+ * a call takes are tested, not proved. What C has to see to:
  *   - a slice is a pointer and a length, in elements; the pointer is to that many elements, and is not NULL even where the length is 0;
  *   - no two buffers and no places for results overlap, and an image, a map or a list that is read overlaps none of them;
  *   - enough stack is free: 192 KB for images of at most 96 by 96 pixels and for zakdomp_corners, 768 KB for any call.
@@ -12,7 +13,11 @@
  * Each function of the library but zakdomp_level_bytes, zakdomp_corners and zakdomp_holdings returns 0, or the number of a refusal: the lowest that applies,
  * unless the function says another order.
  * A refusal leaves every buffer and every place for a result as it was; the one exception is ZAKDOMP_LIST_SHORT from the four functions of the
- * library whose names begin with zakdomp_find. What lies in a buffer behind a result stays as it was; these four alone clear map and list buffers behind it.
+ * library whose names begin with zakdomp_find. What lies in a buffer behind a result stays as it was, but that these four clear map and list buffers
+ * behind it, and zakdomp_strike_corner the one place that it frees.
+ *
+ * An image of w by h pixels is w * h bytes, row after row from the top, with nothing between rows: the pixel of column x and row y, both from 0, is at
+ * y * w + x. A map has its responses so. Coordinates count in pixels, and (0, 0) is the middle of the first one.
  *
  * Corners are held in four slices: columns, rows, strengths, and neighbours, which are the cells above 0 in the window of the peak that became the
  * corner, the peak not counted. The shortest of the four says how many places there are. */
@@ -65,7 +70,7 @@ enum {
  *   level_count  1: the image itself; more: seeds are found on the last of so many half-size levels, and looked for about their place
  *                in the image; 0: no corners
  *   minimum      no level has a side below it
- *   search       0..255: how far about a seed, in pixels of its level
+ *   search       0..255: how far about a seed is searched, in pixels of its level, but never less than ring + window + centroid + 2 in the image
  * Buffers:
  *   map             at least w * h floats; all 0 at the end
  *   levels          at least zakdomp_level_bytes(w, h, level_count, minimum) bytes; the levels stand first in it, and what is behind them stays
@@ -187,7 +192,7 @@ uint8_t zakdomp_has_peaks(const float *map, size_t map_length, size_t w, size_t 
 /* The centre of mass of the positive cells of a map within `radius` columns and rows of a seed.
  *   x, y  the seed, and then the centre of mass; the seed stays where the cells do not all lie in the map or none is positive
  *   mass  the sum of the cells; 0 where the seed stays
- * In a map that zakdomp_response made, and with a radius of at most 2, x and y are within 1/32 of those by exact responses.
+ * In a map that zakdomp_response made, with a radius of at most 2 and where mass is above 0, x and y are within 1/32 of those by exact responses.
  * Refusals: 1, 2, 3, 4. */
 uint8_t zakdomp_centroid(const float *map, size_t map_length, size_t w, size_t h, uint32_t radius, float *x, float *y, float *mass);
 
@@ -217,7 +222,7 @@ uint8_t zakdomp_show_corner(const float *xs, size_t xs_length, const float *ys, 
  *   count   the number of corners; one less afterwards
  *   change  the list's change number; one more afterwards
  *   shown   the change number that was shown
- * Refusals: 10, 16 where a corner was struck in between, 17, 18. */
+ * Refusals, in this order: 10; 16 where `shown` is not the list's change number, as after another strike; 17; 18. */
 uint8_t zakdomp_strike_corner(float *xs, size_t xs_length, float *ys, size_t ys_length, float *strengths, size_t strengths_length,
                               uint32_t *neighbours, size_t neighbours_length, size_t *count, uint32_t *change, size_t place, uint32_t shown);
 
@@ -232,16 +237,16 @@ uint8_t zakdomp_merge_apart(const float *xs, size_t xs_length, const float *ys, 
                             float *mx, size_t mx_length, float *my, size_t my_length, float *ms, size_t ms_length, uint32_t *mn,
                             size_t mn_length, size_t *kept);
 
-/* The same by distance alone, without cells: each corner in turn looks among all that are kept for the first at most `radius` away. It leaves what
- * zakdomp_merge leaves where the coordinates are multiples of 1/64 and the radius is a power of two from 1/64 to 4096. Elsewhere the two may
- * differ: of (0.99999994, 0), (2, 0), (0, 100) at radius 1 it leaves two, and zakdomp_merge all three. Its time grows with `count` times `kept`;
- * the frame merges by cells.
+/* Merges the first `count` corners of a buffer in place, as zakdomp_merge, but by distance alone, without cells: each corner in turn looks among all
+ * that are kept for the first at most `radius` away. It leaves what zakdomp_merge leaves where the coordinates are multiples of 1/64 and the radius is
+ * a power of two from 1/64 to 4096. Elsewhere the two may differ: of (0.99999994, 0), (2, 0), (0, 100) at radius 1 it leaves two, and zakdomp_merge
+ * all three. Its time grows with `count` times `kept`; the frame merges by cells.
  *   kept  the number of corners that are left
  * Refusals: 4, 5, 10. */
 uint8_t zakdomp_merge_naive(float *xs, size_t xs_length, float *ys, size_t ys_length, float *strengths, size_t strengths_length,
                             uint32_t *neighbours, size_t neighbours_length, size_t count, float radius, size_t *kept);
 
-/* How many bytes the level buffer of an image of w by h pixels needs. */
+/* How many bytes the level buffer of an image of w by h pixels needs; for sides so large that no size_t holds that number, the largest size_t. */
 size_t zakdomp_level_bytes(size_t w, size_t h, uint32_t level_count, size_t minimum);
 
 /* The half-size levels of an image, one behind the other, first in `levels`.

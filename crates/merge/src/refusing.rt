@@ -79,7 +79,7 @@ pub fn refusal(
 }
 
 // The number of the refusal of merging the first `count` corners of a buffer into a separate one of so many places, 0 for none.
-pub fn refusal_apart(
+pub(crate) fn refusal_apart(
     xs: &[f32],
     ys: &[f32],
     strengths: &[f32],
