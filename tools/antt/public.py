@@ -1,14 +1,17 @@
 """public: sees that the lists of public functions are complete. Each function that src/ marks `pub` stands in docs/RULES.md: those
 for C in 13.3, those that refuse in 2.4 and every other in 1.8. Each that 2.4 names is public and has a field of `Total`
 (crates/demands/specs/Total.antt), but those that hand out pixels, whose number is that of the function beside them; and each field of
-`Total` is named by 2.4. Exit status: 0 if so."""
+`Total` is named by 2.4. The table of calls (crates/demands/specs/Occurring.antt) has a row for each, with the numbers of 2.4. Exit status: 0
+if so."""
 import glob
 import re
 import sys
 
 RULES = 'docs/RULES.md'
 TOTAL = 'crates/demands/specs/Total.antt'
+OCCURRING = 'crates/demands/specs/Occurring.antt'
 PUBLIC = re.compile(r'^ *pub (extern "C" )?fn (\w+)', re.MULTILINE)
+SAID = re.compile(r'^ *(?:(?:∷ )?row .* )?\(((?:\d+ ∷ )+)\[\]\)$')
 PARTS = {'1.8': ('**1.8 ', '## 2 '), '2.4': ('**2.4 ', '**2.5 '), '13.3': ('**13.3**', '**13.4**')}
 
 
@@ -26,6 +29,24 @@ def named(rules, part):
     return {name for names in first for name in names}, {name for names in beside for name in names}
 
 
+def numbers(rules):
+    """The numbers of each function by 2.4."""
+    begin, end = PARTS['2.4']
+    rows = [line.split('|') for line in rules[rules.index(begin):rules.index(end)].splitlines() if line.startswith('| `')]
+    return {name: sorted(map(int, re.findall(r'\d+', row[2]))) for row in rows for name in re.findall(r'`(\w+)`', row[1])}
+
+
+def occurring(table, fields):
+    """The numbers of each row of the table of calls, with the functions that the comment above it names."""
+    names = []
+    for line in table[table.index('-- ---- the table'):].splitlines():
+        said = SAID.match(line)
+        if line.lstrip().startswith('--'):
+            names = [name for name in re.findall(r'\w+', line) if name in fields]
+        elif said:
+            yield names, sorted(map(int, re.findall(r'\d+', said[1])))
+
+
 def main():
     rules = read(RULES)
     functions, for_c = set(), set()
@@ -40,6 +61,9 @@ def main():
     wrong += [f'{name} is named by 2.4, and not public' for name in refusing - functions]
     wrong += [f'{name} is named by 2.4, and no field of Total' for name in refusing - beside - fields]
     wrong += [f'{name} is a field of Total, and 2.4 does not name it' for name in fields - refusing]
+    rows, by_rules = list(occurring(read(OCCURRING), fields)), numbers(rules)
+    wrong += [f'{name} has no row of Occurring' for name in fields - {name for names, _ in rows for name in names}]
+    wrong += [f'{name} has other numbers in Occurring than 2.4 says' for names, said in rows for name in names if said != by_rules.get(name)]
     for line in sorted(wrong):
         print(f'public: {line}')
     return bool(wrong)

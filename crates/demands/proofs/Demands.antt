@@ -1,6 +1,7 @@
 -- The proof of each statement. Assumes nothing.
 use Rattle.demands.specs.Demands.{Demands}
 use Rattle.demands.proofs.Total.{total}
+use Rattle.demands.proofs.Occurring.{numbers-occur}
 use Rattle.demands.proofs.Program.{program-total, program-reads, program-decided, program-streams, program-exact}
 use Rattle.demands.proofs.BitForBit.{bit-for-bit}
 use Rattle.demands.proofs.AsPublished.{as-published}
@@ -29,6 +30,7 @@ use Rattle.demands.proofs.Tolerance.{centre-tolerance, frame-tolerance}
 pub demands : Demands
 demands = record {
   total = total;
+  numbers-occur = numbers-occur;
   four-never = four-never;
   peaks-kept = peaks-kept;
   program-total = program-total;

@@ -14,6 +14,7 @@ pub mod Ties
 pub mod Neighbours
 pub mod Faults
 pub mod Total
+pub mod Occurring
 pub mod Program
 pub mod BitForBit
 pub mod AsPublished

@@ -1,6 +1,7 @@
 -- The demands on the finder as one theorem, a field for each statement. The function `met` promises it, so the check wants a proof of each.
 -- The quotations are the demands' words, and the request's under its heading; the lines that follow say in which file each statement stands.
 use Rattle.demands.specs.Total.{Total}
+use Rattle.demands.specs.Occurring.{NumbersOccur}
 use Rattle.demands.specs.Program.{ProgramTotal, ProgramReads, ProgramDecided, ProgramStreams, ProgramExact}
 use Rattle.demands.specs.BitForBit.{BitForBit}
 use Rattle.demands.specs.AsPublished.{AsPublished}
@@ -30,6 +31,8 @@ pub record Demands : Type 0 where
   -- ---- 1. Total
   -- "comes back as a finished corner list or as one of eleven numbered refusals": the numbers that each function can give
   pub total : Total
+  -- and each of them is given: a call for each function and number
+  pub numbers-occur : NumbersOccur
   -- number 4 is none of a frame's
   pub four-never : FourNever
   -- and its number 10 is of peaks: the centroid drops none of them

@@ -14,6 +14,7 @@ pub mod Neighbours
 pub mod AsPublished
 pub mod Numbers
 pub mod Total
+pub mod Occurring
 pub mod Program
 pub mod BitForBit
 pub mod Units
