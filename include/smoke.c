@@ -500,11 +500,11 @@ static void helpers(const uint8_t *img) {
     expect(zakdomp_find(large, LARGE, LARGE, &params, &found) == ZAKDOMP_DONE, "on three levels");
     params.level_count = 1;
     expect(zakdomp_find(large, LARGE, LARGE, &params, &found) == ZAKDOMP_DONE && found.count == many, "and on one again");
-    const size_t bytes = found.room_bytes;
-    expect(zakdomp_make_room(&found, 1, 1, 1, 1) == found.room && found.room_bytes == bytes, "room that is there is kept");
+    const size_t bytes = found.memory_bytes;
+    expect(zakdomp_make_buffers(&found, 1, 1, 1, 1) == found.memory && found.memory_bytes == bytes, "memory that is there is kept");
     zakdomp_free(&found);
-    expect(found.room == NULL && found.count == 0, "freed");
-    expect(zakdomp_make_room(&found, SIZE_MAX / 16, 0, 0, 0) == NULL && found.room_bytes == 0, "no memory");
+    expect(found.memory == NULL && found.count == 0, "freed");
+    expect(zakdomp_make_buffers(&found, SIZE_MAX / 16, 0, 0, 0) == NULL && found.memory_bytes == 0, "no memory");
     zakdomp_free(&found);
 }
 

@@ -1,8 +1,9 @@
 /* Zakdomp: the corners of a chessboard in a grey image. Link libzakdomp.a, which `tools/library` writes.
  *
- * Every function of the library is proved to end, and to answer and leave what is said here, for every value of its numbers. Times and the stack that
- * a call takes are tested, not proved. What C has to see to:
- *   - a slice is a pointer and a length, in elements; the pointer is to that many elements, and is not NULL even where the length is 0;
+ * Every function of the library is proved to end, and to answer and leave what is said here, for every value of its
+ * numbers. Times and the stack that a call takes are tested, not proved. What the caller must ensure:
+ *   - a slice is a pointer and a length, in elements; the pointer is to that many elements, and is not NULL even where
+ *     the length is 0; a place for a result is a pointer to one element;
  *   - no two buffers and no places for results overlap, and an image, a map or a list that is read overlaps none of them;
  *   - enough stack is free: 192 KB for images of at most 96 by 96 pixels and for zakdomp_corners, 768 KB for any call.
  * Nothing is kept between calls, so calls may run at the same time on other buffers. No function of the library allocates.
@@ -17,7 +18,9 @@
  * behind it, and zakdomp_strike_corner the one place that it frees.
  *
  * An image of w by h pixels is w * h bytes, row after row from the top, with nothing between rows: the pixel of column x and row y, both from 0, is at
- * y * w + x. A map has its responses so. Coordinates count in pixels, and (0, 0) is the middle of the first one.
+ * y * w + x. A map has a response for each pixel of its image or box, in the same order. The window of a cell, of radius
+ * r, is the cells at most r columns and r rows away, without the cell itself, as far as the map goes. Coordinates count
+ * in pixels, and (0, 0) is the middle of the first one.
  *
  * Corners are held in four slices: columns, rows, strengths, and neighbours, which are the cells above 0 in the window of the peak that became the
  * corner, the peak not counted. The shortest of the four says how many places there are. */
@@ -47,7 +50,7 @@ enum {
     ZAKDOMP_KIND = 6,         /* there is no such kind of item */
     ZAKDOMP_MAP_SHORT = 8,    /* the map buffer is too short */
     ZAKDOMP_LEVELS_SHORT = 9, /* the level buffer is too short */
-    ZAKDOMP_LIST_SHORT = 10,  /* the corners do not fit their buffer */
+    ZAKDOMP_LIST_SHORT = 10,  /* the corners do not fit their buffer, or a count is above the buffer's places */
     ZAKDOMP_PGM = 12,         /* the header of a photograph is not of the form P5, or fewer bytes than pixels are behind it */
     ZAKDOMP_MAXVAL = 13,      /* the maxval of a photograph is not 255 */
     ZAKDOMP_OUTSIDE = 14,     /* the place is outside the image */
@@ -59,26 +62,30 @@ enum {
     ZAKDOMP_LATE = 20         /* a start or a time is above 2^40 */
 };
 
-/* The corners of an image of w by h pixels. Those of each map are found in row order: with one level in that of the image, with more in that of
- * each seed's box, one seed after the other. Merging keeps the order of the places.
+/* The corners of an image of w by h pixels. Levels are built: the image, and from each level the next of half its sides.
+ * With one level the corners are those of the image's map. With more, seeds are found on the last level, and the corners
+ * are those of the map of a box in the image about each seed's place, one seed after the other; a seed too near the edge
+ * has no box. The corners of a map are in row order, and merging keeps the order of the places.
  *   ring         5 or 10: the ring's radius
  *   threshold    no peak has a response at or below it; NaN and negative numbers count as 0
- *   window       0..16: no cell this near has a larger response than a peak
- *   least        so many cells of the window have a response above 0
- *   centroid     0..16: a peak moves to the centre of mass of the cells this near
+ *   window       0..16: the radius of a peak's window, in which no cell has a larger response than the peak
+ *   least        at least so many cells of the window have a response above 0
+ *   centroid     0..16: a peak moves to its centre of mass, as zakdomp_centroid has it with this radius
  *   radius       1/64..4096: corners are merged as zakdomp_merge does; 0, negative or not finite: all are kept
- *   level_count  1: the image itself; more: seeds are found on the last of so many half-size levels, and looked for about their place
- *                in the image; 0: no corners
- *   minimum      no level has a side below it
- *   search       0..255: how far about a seed is searched, in pixels of its level, but never less than ring + window + centroid + 2 in the image
+ *   level_count  at most so many levels are built, the image included; 0: none, and so no corners
+ *   minimum      no level above the image has a side of 0, or below this; where the image has a side below it there are
+ *                no levels, and so no corners
+ *   search       0..255: how far about a seed is searched, in pixels of its level, but never less than
+ *                ring + window + centroid + 2 in the image
  * Buffers:
  *   map             at least w * h floats; all 0 at the end
- *   levels          at least zakdomp_level_bytes(w, h, level_count, minimum) bytes; the levels stand first in it, and what is behind them stays
- *   sx, sy, ss, sn  a place for each seed; the seeds stand first, and 0 behind them
+ *   levels          at least zakdomp_level_bytes(w, h, level_count, minimum) bytes; the levels above the image stand
+ *                   first in it, and what is behind them stays
+ *   sx, sy, ss, sn  a place for each seed; the seeds stand first, in the last level's columns and rows, and 0 behind them
  *   cx, cy, cs, cn  a place for each corner before merging; the corners stand first, and 0 behind them
  *   count           the number of corners
- *   ties            how often a cell of a peak's window has the peak's response, over all peaks found before merging; seeds do not count, and a
- *                   peak that is found about two seeds counts twice
+ *   ties            how often a cell of a peak's window has the peak's response, over all peaks found before merging;
+ *                   seeds do not count, and a peak that is found about two seeds counts twice
  * Refusals: 1, 2, 3, 5, 8, 9, 10. After 10 all buffers are 0 in their whole length, and count and ties are as they were. */
 uint8_t zakdomp_find_corners(const uint8_t *img, size_t img_length, size_t w, size_t h, uint32_t ring, float threshold, uint32_t window,
                              uint32_t least, uint32_t centroid, float radius, uint32_t level_count, size_t minimum, uint32_t search,
@@ -105,9 +112,10 @@ uint8_t zakdomp_find_exact_corners(const uint8_t *img, size_t img_length, size_t
  *   at             where they begin in the upload: width * height bytes, in row order
  *   width, height  the sides, 0 included
  * The upload begins with P5. Behind it stand width, height and maxval in decimal, whitespace before each, and one whitespace character before
- * the pixels. Whitespace is space, TAB, LF, VT, FF and CR. Before the pixels a comment, from # through the next CR or LF, is ignored wherever
- * it stands, and is no whitespace. What follows the pixels is not looked at.
- * Refusals: 1 where both sides can be read, whatever follows; 12; 13. */
+ * the pixels. Whitespace is space, TAB, LF, VT, FF and CR. Behind P5 and before that one character a comment, from #
+ * through the next CR or LF, is ignored wherever it stands, and is no whitespace. What follows the pixels is not looked
+ * at.
+ * Refusals, in this order: 1, where both sides can be read, whatever follows them; 12; 13. */
 uint8_t zakdomp_pgm(const uint8_t *upload, size_t upload_length, size_t *at, size_t *width, size_t *height);
 
 /* The corners of an uploaded photograph: what zakdomp_find_corners leaves for its pixels and sides. Whoever makes the buffers takes the sides from
@@ -129,7 +137,8 @@ uint8_t zakdomp_find_exact_corners_pgm(const uint8_t *upload, size_t upload_leng
                                        size_t sn_length, float *cx, size_t cx_length, float *cy, size_t cy_length, float *cs,
                                        size_t cs_length, uint32_t *cn, size_t cn_length, size_t *count, uint64_t *ties);
 
-/* The responses of the cells in the columns x0 up to, not including, x1 of the rows y0 up to y1. The box is clipped to the image.
+/* The responses of the cells in the columns x0 up to, not including, x1 of the rows y0 up to, not including, y1. The box
+ * is clipped to the image. Within a ring radius of the image's edge a response is 0.
  *   map            at least as many floats as the clipped box has cells; they stand first in it, in row order
  *   width, height  the sides of the clipped box, both 0 where it is empty
  * Refusals: 1, 2, 3, 8. */
@@ -158,12 +167,12 @@ uint8_t zakdomp_response_limits(const uint8_t *low, size_t low_length, const uin
                                 uint32_t ring, int32_t *lows, size_t lows_length, int32_t *highs, size_t highs_length);
 
 /* Whether the place of column x and row y is a sure peak: with the maps that zakdomp_response_limits made by that ring it is then a peak, by exact
- * values, of every image between the two.
+ * values and at that threshold, of every image between the two.
  *   lows, highs  exactly w * h numbers each; of longer buffers the first w * h are handed over, with w * h as the length
  *   threshold    a whole response
  *   window, least, centroid  as in zakdomp_find_corners
  *   sure         1 for yes, 0 for no. Yes: the place is not within ring + window + centroid of the map's edge, its low number exceeds five
- *                times the threshold and is at least the high number of every other cell of its window, and at least `least` of those have a
+ *                times the threshold and is at least the high number of every cell of its window, and at least `least` of those have a
  *                low number above 0. Any two maps are judged so, whoever made them.
  * Refusals: 1, 2 (the length of either map), 3, 14. */
 uint8_t zakdomp_sure_peak(const int32_t *lows, size_t lows_length, const int32_t *highs, size_t highs_length, size_t w, size_t h,
@@ -172,9 +181,9 @@ uint8_t zakdomp_sure_peak(const int32_t *lows, size_t lows_length, const int32_t
 
 /* The peaks of a map of w by h responses, put behind the first `held` corners of a buffer, in row order. The parameters are those of
  * zakdomp_find_corners; no peak lies within ring + window + centroid of the map's edge. A NaN cell is not at or below any threshold and is
- * beaten by none, so it is a peak where it has enough positive neighbours.
+ * beaten by none, so inside that border it is a peak where it has enough positive neighbours.
  *   added  the number of peaks
- *   ties   how often a cell of a peak's window, other than the peak, has the peak's value; NaN equals nothing
+ *   ties   how often a cell of a peak's window has the peak's value; NaN equals nothing
  * Refusals: 1, 2, 3, 10. */
 uint8_t zakdomp_peaks(const float *map, size_t map_length, size_t w, size_t h, uint32_t ring, float threshold, uint32_t window,
                       uint32_t least, uint32_t centroid, float *xs, size_t xs_length, float *ys, size_t ys_length, float *strengths,
@@ -189,9 +198,12 @@ uint8_t zakdomp_peaks(const float *map, size_t map_length, size_t w, size_t h, u
 uint8_t zakdomp_has_peaks(const float *map, size_t map_length, size_t w, size_t h, uint32_t ring, float threshold, uint32_t window,
                           uint32_t least, uint32_t centroid, size_t wanted, uint8_t *enough, size_t *rows);
 
-/* The centre of mass of the positive cells of a map within `radius` columns and rows of a seed.
- *   x, y  the seed, and then the centre of mass; the seed stays where the cells do not all lie in the map or none is positive
- *   mass  the sum of the cells; 0 where the seed stays
+/* The centre of mass of the positive cells of a map within `radius` columns and rows of a seed's cell, which counts too.
+ * It is the cell nearest to the seed; a half is rounded away from 0.
+ *   radius  0..16
+ *   x, y    the seed, and then the centre of mass; the seed stays where the cells do not all lie in the map or none is
+ *           positive
+ *   mass    the sum of the positive cells; 0 where the seed stays
  * In a map that zakdomp_response made, with a radius of at most 2 and where mass is above 0, x and y are within 1/32 of those by exact responses.
  * Refusals: 1, 2, 3, 4. */
 uint8_t zakdomp_centroid(const float *map, size_t map_length, size_t w, size_t h, uint32_t radius, float *x, float *y, float *mass);
@@ -199,9 +211,9 @@ uint8_t zakdomp_centroid(const float *map, size_t map_length, size_t w, size_t h
 /* Merges the first `count` corners of a buffer in place. Each corner in turn looks among those kept, in its own cell of a grid of `radius` and
  * the eight about it, for the first at most `radius` away. It takes that one's place, with its own neighbours, if it is strictly stronger, and is
  * dropped if not; where there is none it is kept behind the others. So two that are kept may still be near each other: (0, 0; 1), (5, 0; 2),
- * (2.5, 0; 3) at radius 3 leaves (2.5, 0; 3) and (5, 0; 2).
+ * (2.5, 0; 3) at radius 3 leaves (2.5, 0; 3) and (5, 0; 2). A radius that is 0, negative or not finite keeps all.
  *   kept  the number of corners that are left
- * Refusals: 4, 5, 10. */
+ * Refusals: 4 of the counted corners that the buffer has, 5, 10; 10 alone where the radius keeps all. */
 uint8_t zakdomp_merge(float *xs, size_t xs_length, float *ys, size_t ys_length, float *strengths, size_t strengths_length,
                       uint32_t *neighbours, size_t neighbours_length, size_t count, float radius, size_t *kept);
 
@@ -231,7 +243,7 @@ uint8_t zakdomp_strike_corner(float *xs, size_t xs_length, float *ys, size_t ys_
  * fit the separate buffer is refused as 10, however few corners would be left.
  *   mx, my, ms, mn  the separate buffer, with a place for each of the `count` corners; the list stands first in it, and what is behind it stays
  *   kept            the number of corners that are left
- * Refusals: 4, 5, 10. 4 is of the counted corners that their own buffer has. */
+ * Refusals: 4, 5, 10, as those of zakdomp_merge. 4 is of the counted corners that their own buffer has. */
 uint8_t zakdomp_merge_apart(const float *xs, size_t xs_length, const float *ys, size_t ys_length, const float *strengths,
                             size_t strengths_length, const uint32_t *neighbours, size_t neighbours_length, size_t count, float radius,
                             float *mx, size_t mx_length, float *my, size_t my_length, float *ms, size_t ms_length, uint32_t *mn,
@@ -242,14 +254,16 @@ uint8_t zakdomp_merge_apart(const float *xs, size_t xs_length, const float *ys, 
  * a power of two from 1/64 to 4096. Elsewhere the two may differ: of (0.99999994, 0), (2, 0), (0, 100) at radius 1 it leaves two, and zakdomp_merge
  * all three. Its time grows with `count` times `kept`; the frame merges by cells.
  *   kept  the number of corners that are left
- * Refusals: 4, 5, 10. */
+ * Refusals: 4, 5, 10, as those of zakdomp_merge. */
 uint8_t zakdomp_merge_naive(float *xs, size_t xs_length, float *ys, size_t ys_length, float *strengths, size_t strengths_length,
                             uint32_t *neighbours, size_t neighbours_length, size_t count, float radius, size_t *kept);
 
 /* How many bytes the level buffer of an image of w by h pixels needs; for sides so large that no size_t holds that number, the largest size_t. */
 size_t zakdomp_level_bytes(size_t w, size_t h, uint32_t level_count, size_t minimum);
 
-/* The half-size levels of an image, one behind the other, first in `levels`.
+/* The levels above an image, one behind the other, first in `levels`. Each has half the sides of the one before, without
+ * an odd last column or row; a pixel is the mean of four, and a half is rounded up. level_count and minimum are those of
+ * zakdomp_find_corners.
  *   built  the number of levels, the image included
  * Refusals: 1, 2, 9. */
 uint8_t zakdomp_levels(const uint8_t *img, size_t img_length, size_t w, size_t h, uint32_t level_count, size_t minimum, uint8_t *levels,
@@ -281,7 +295,7 @@ uint8_t zakdomp_holding(uint8_t kind, uint64_t start, uint64_t time, uint8_t *le
 /* What the program `retained` prints for a stream of items, first in `output`, which has ZAKDOMP_HOLDINGS bytes. The stream is eight bytes of
  * time and then at most 65536 records, each a byte of kind and eight bytes of the start, little-endian; bytes behind those are not read. The
  * text has the letter of each item on a line of its own. A faulty record, or a faulty time, ends it by the line `refused N`, with 6 for an
- * unknown kind, 7 for bytes that are missing and 20. Returns the length of the text. */
+ * unknown kind, 7 for bytes that are missing and 20 for a time or a start above 2^40. Returns the length of the text. */
 #define ZAKDOMP_HOLDINGS 131081
 size_t zakdomp_holdings(const uint8_t *input, size_t input_length, uint8_t *output);
 
@@ -295,7 +309,7 @@ typedef struct zakdomp_params {
     uint32_t level_count;
     size_t minimum;
     uint32_t search;
-    int exact; /* 0: zakdomp_find_corners; 1: zakdomp_find_exact_corners */
+    int exact; /* 0: zakdomp_find_corners; else zakdomp_find_exact_corners */
 } zakdomp_params;
 
 /* The corners that were found, `count` in each list. It begins as {0}, and keeps its memory for its next call. */
@@ -304,14 +318,14 @@ typedef struct zakdomp_lists {
     uint32_t *neighbours;
     size_t count;
     uint64_t ties;
-    void *room; /* every buffer of a call; the lists point into it */
-    size_t room_bytes;
+    void *memory; /* every buffer of a call; the lists point into it */
+    size_t memory_bytes;
 } zakdomp_lists;
 
 #define ZAKDOMP_NO_MEMORY 255
 
 /* The defaults, which are those of Rust and Python too: ring 5, threshold 0, window 2, least 2, centroid 2, radius 3,
- * one level, the computed choice. For a photograph the threshold is to be set. */
+ * one level, minimum 1, search 3, the computed choice. For a photograph the threshold is to be set. */
 static inline zakdomp_params zakdomp_params_default(void) {
     const zakdomp_params params = {5, 0, 2, 2, 2, 3, 1, 1, 3, 0};
     return params;
@@ -320,26 +334,26 @@ static inline zakdomp_params zakdomp_params_default(void) {
 /* Frees the memory of the lists, which are then empty and can be used again. */
 static inline void zakdomp_free(zakdomp_lists *found) {
     const zakdomp_lists empty = {NULL, NULL, NULL, NULL, 0, 0, NULL, 0};
-    free(found->room);
+    free(found->memory);
     *found = empty;
 }
 
-/* Makes room for a map, seeds, corners and levels, in this order, as zakdomp_find wants it, and sets the lists to the
- * corners' places. Returns the map, or NULL where there is no memory. */
-static inline float *zakdomp_make_room(zakdomp_lists *found, size_t cells, size_t seeds, size_t places,
-                                       size_t level_bytes) {
+/* Makes the buffers of zakdomp_find, a map, seeds, corners and levels, in this order, and sets the lists to the corners'
+ * places. Returns the map, or NULL where there is no memory. */
+static inline float *zakdomp_make_buffers(zakdomp_lists *found, size_t cells, size_t seeds, size_t places,
+                                          size_t level_bytes) {
     const size_t needed = (cells + 4 * seeds + 4 * places + 1) * sizeof(float) + level_bytes;
-    if (found->room_bytes < needed) {
+    if (found->memory_bytes < needed) {
         zakdomp_free(found);
-        found->room = calloc(needed, 1);
-        if (found->room == NULL) return NULL;
-        found->room_bytes = needed;
+        found->memory = calloc(needed, 1);
+        if (found->memory == NULL) return NULL;
+        found->memory_bytes = needed;
     }
-    found->x = (float *)found->room + cells + 4 * seeds;
+    found->x = (float *)found->memory + cells + 4 * seeds;
     found->y = found->x + places;
     found->strength = found->y + places;
     found->neighbours = (uint32_t *)(void *)(found->strength + places);
-    return (float *)found->room;
+    return (float *)found->memory;
 }
 
 /* The corners of an image of w by h pixels, in lists that are made as long as they have to be. They stay until the next
@@ -364,7 +378,7 @@ static inline uint8_t zakdomp_find(const uint8_t *img, size_t w, size_t h, const
         found->neighbours, places, &found->count, &found->ties
     do {
         const size_t seeds = params->level_count > 1 ? places : 0;
-        float *const map = zakdomp_make_room(found, cells, seeds, places, level_bytes);
+        float *const map = zakdomp_make_buffers(found, cells, seeds, places, level_bytes);
         if (map == NULL) return ZAKDOMP_NO_MEMORY;
         float *const sx = map + cells;
         refused = params->exact ? zakdomp_find_exact_corners(ZAKDOMP_ARGUMENTS)
