@@ -262,7 +262,7 @@ uint8_t zakdomp_merge_naive(float *xs, size_t xs_length, float *ys, size_t ys_le
 size_t zakdomp_level_bytes(size_t w, size_t h, uint32_t level_count, size_t minimum);
 
 /* The levels above an image, one behind the other, first in `levels`. Each has half the sides of the one before, without
- * an odd last column or row; a pixel is the mean of four, and a half is rounded up. level_count and minimum are those of
+ * an odd last column or row; a pixel is the mean of four, rounded, a half up. level_count and minimum are those of
  * zakdomp_find_corners.
  *   built  the number of levels, the image included
  * Refusals: 1, 2, 9. */
