@@ -38,17 +38,17 @@ pub struct Params {
     pub threshold: f32,
     /// No cell this near, 0 to 16, has a larger response than a peak.
     pub window: u32,
-    /// So many cells of the window have a response above 0.
+    /// At least so many cells of the window, the peak not counted, have a response above 0.
     pub least_neighbours: u32,
-    /// A peak moves to the centre of mass of the cells this near, 0 to 16.
+    /// A peak moves to the centre of mass of the positive cells this near, 0 to 16.
     pub centroid_radius: u32,
     /// 1/64 to 4096: corners are merged as `zakdomp_merge` of include/zakdomp.h does; 0, negative or not finite: all are kept.
     pub merge_radius: f32,
-    /// On how many half-size levels seeds are looked for; 1: the image itself.
+    /// At most so many levels are built, the image included; with more than one, seeds are found on the last. 0: no corners.
     pub levels: u32,
-    /// No level has a side below it.
+    /// No level has a side below it; an image that has one has no corners.
     pub minimum_side: usize,
-    /// How far about a seed, 0 to 255, in pixels of its level.
+    /// How far about a seed, 0 to 255, in pixels of its level; in the image never less than ring + window + centroid radius + 2.
     pub search_radius: u32,
 }
 
