@@ -155,7 +155,7 @@ class Invoices(Batch):
         os.symlink(self.path("none"), self.path("in/dangling"))
         os.mkdir(self.path("in/sub"))
         status, output, said = self.run_command("batch", self.path("in"), "--out", self.path("in/sub/out"), "--jobs", 1)
-        self.assertEqual((status, said), (0, f"zakdomp: {self.path('in')}: 1 subfolders not looked into\n"))
+        self.assertEqual((status, said), (0, f"zakdomp: {self.path('in')}: 1 subfolder not looked into\n"))
         words = {line["name"]: line["words"] for line in self.lines("in/sub/out")}
         self.assertEqual(words, {"000.pgm": "", "pipe": "cannot be read: not a regular file", "dangling": "cannot be read: No such file or directory"})
 
@@ -164,7 +164,7 @@ class Invoices(Batch):
         os.makedirs(self.path("out/corners"))
         self.put("out/corners/other.corners", b"corners 0\n")
         status, _, said = self.run_command("batch", self.path("in"), "--out", self.path("out"), "--jobs", 1)
-        self.assertEqual((status, said), (0, f"zakdomp: {self.path('out/corners')}: 1 files are not of this run\n"))
+        self.assertEqual((status, said), (0, f"zakdomp: {self.path('out/corners')}: 1 file not of this run\n"))
         self.assertEqual(len(os.listdir(self.path("out/corners"))), 4)
 
     def test_an_empty_folder(self):
@@ -270,6 +270,22 @@ class Resuming(Batch):
                                real(order, name, upload)):
             self.batch("--jobs", 1, *options)
         return names
+
+    def test_a_full_disk_puts_no_file_elsewhere(self):
+        """Not even where it has a place again a moment later: each file stands under its upload's name."""
+        self.fill(2)
+        real, asked = corner_files.files.place, []
+
+        def full_once(name, content):
+            asked.append(name)
+            if len(asked) == 1:
+                raise OSError(28, "No space left on device", name)
+            real(name, content)
+
+        with mock.patch.object(corner_files.files, "place", full_once):
+            self.fails(2, "000.pgm.corners: No space left", "batch", self.path("in"), "--out", self.path("out"), "--jobs", 1)
+        self.batch("--jobs", 1)
+        self.assertEqual(sorted(os.listdir(self.path("out/corners"))), ["000.pgm.corners", "001.pgm.corners"])
 
     def test_only_what_is_left_is_done(self):
         self.fill(7)

@@ -18,7 +18,7 @@ TIPPED = pgm(tipped(), WIDE, WIDE)  # with BARE it has a corner by the exact cho
 OTHER = noise(48, 114, (0, 1))  # each choice has a corner that the other one lacks
 ORDER = noise(48, 4, (0, 1))  # the same corners in another order: one merges with a peak that only the exact choice has
 FOLDER = {"board.pgm": board(), "order.pgm": ORDER, "other.pgm": OTHER, "x.jpg": b"no photograph"}
-REMARK = "2 photographs have another list by the exact choice\n"
+REMARK = "2 photographs with another list by the exact choice\n"
 SPACE = "{http://www.w3.org/2000/svg}"
 
 
@@ -67,7 +67,7 @@ class Comparing(unittest.TestCase):
         self.assertEqual(choices.compared(frame, refusal), (1, words, None, [], []))
         self.assertEqual(choices.compared(refusal, frame), (words, 1, None, [], []))
         said = choices.sentences(choices.compared(refusal, frame))
-        self.assertEqual(said, [f"computed {words}, exact choice 1 corners: not compared"])
+        self.assertEqual(said, [f"computed {words}, exact choice 1 corner: not compared"])
 
 
 class Finding(Command):
@@ -84,7 +84,7 @@ class Finding(Command):
     def test_what_is_said(self):
         self.assertEqual(self.said(board()), ["computed 35 corners, exact choice 35 corners: the same list"])
         self.assertEqual(self.said(TIPPED, *BARE),
-                         ["computed 0 corners, exact choice 1 corners: not the same list",
+                         ["computed 0 corners, exact choice 1 corner: not the same list",
                           "exact choice only: x 6.0, y 6.0, strength 5.5999985, neighbours 4"])
         self.assertEqual(self.said(OTHER),
                          ["computed 8 corners, exact choice 8 corners: not the same list",
@@ -201,7 +201,7 @@ class Invoices(Batch):
         self.fill_with(FOLDER)
         with short_of_places():
             status, _, said = self.run_command("batch", self.path("in"), "--out", self.path("out"), "--jobs", 1)
-        remark = "3 photographs are refused by the exact choice"
+        remark = "3 photographs refused by the exact choice"
         self.assertEqual((status, said), (0, f"zakdomp: {self.path('out/invoice.csv')}: {remark}\n"))
         words = "refused 10 (there are more corners than places for them)"
         self.assertEqual(self.compared()["other.pgm"], ("8", words, "unknown", "", ""))

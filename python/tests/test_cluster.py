@@ -125,7 +125,7 @@ class Cluster(Batch):
         run = self.begun(last="y")
         self.waited(lambda: self.corners() >= 1)
         self.workers[0].kill()
-        remark = "1 photographs have another list by the exact choice"
+        remark = "1 photograph with another list by the exact choice"
         self.ends(run, said=f"zakdomp: {self.path('out/invoice.csv')}: {remark}\n")
         self.assertEqual(tree(self.path("out")), self.due())
         self.assertEqual(sum(line["same_list"] == "no" for line in self.lines()), 1)

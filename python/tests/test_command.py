@@ -23,8 +23,8 @@ from zakdomp_command.main import main
 
 EXAMPLES = os.path.join(HERE, "..", "examples")
 PLAIN = "--window 0 --least-neighbours 0 --centroid-radius 0 --search-radius 0".split()
-COMPARED = re.compile(r"zakdomp: .*: (computed (only: .*|\d+ corners, exact choice .*)|exact choice only: .*|"
-                      r"\d+ photographs have another list by the exact choice)\n")
+COMPARED = re.compile(r"zakdomp: .*: (computed (only: .*|\d+ corners?, exact choice .*)|exact choice only: .*|"
+                      r"\d+ photographs? with another list by the exact choice|\d+ lines? more, of earlier batches: .*)\n")
 
 
 def noise(side, seed, values=range(256)):
@@ -37,7 +37,8 @@ def example(name):
 
 
 def beside(said):
-    """What is said on standard error beside how the two choices compare, which test_choices.py looks at."""
+    """What is said on standard error beside how the two choices compare, which test_choices.py looks at, and beside the
+    lines of earlier batches, at which test_ledger.py looks."""
     return COMPARED.sub("", said)
 
 
@@ -100,7 +101,7 @@ class Finding(Command):
         environment = {**os.environ, "PYTHONPATH": HERE}
         ran = subprocess.run([sys.executable, "-B", "-m", "zakdomp_command", "find", "-", *PLAIN], input=upload, capture_output=True, env=environment)
         self.assertEqual((ran.returncode, ran.stdout), (0, example("whole.txt")))
-        self.assertEqual(ran.stderr, b"zakdomp: -: computed 1 corners, exact choice 1 corners: the same list\n")
+        self.assertEqual(ran.stderr, b"zakdomp: -: computed 1 corner, exact choice 1 corner: the same list\n")
 
     def test_the_defaults_are_the_library_s(self):
         upload = noise(64, 1)

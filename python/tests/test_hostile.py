@@ -72,6 +72,31 @@ class Hostile(Batch):
         self.put("in/a", upload)
         self.assertEqual(uploads.read(order, "a").content, upload)
 
+    def test_what_cannot_be_read_at_the_moment(self):
+        """Files of the system may have nothing to say when they are asked, as /proc/kmsg, and memory may be short."""
+        self.fill(3)
+        real = uploads._content
+        answers = {"000.pgm": mock.Mock(read=lambda most: None), "001.pgm": mock.Mock(read=mock.Mock(side_effect=MemoryError))}
+
+        def content(file):
+            return real(answers.get(os.path.basename(os.readlink(f"/proc/self/fd/{file.fileno()}")), file))
+
+        with mock.patch.object(uploads, "_content", content):
+            self.batch("--jobs", 1)
+        self.assertEqual([*self.words().values()], ["cannot be read: Resource temporarily unavailable",
+                                                    "cannot be read: Cannot allocate memory", ""])
+
+    def test_no_device_is_opened(self):
+        """That alone can start something."""
+        self.fill(1)
+        os.symlink("/dev/null", self.path("in/device"))
+        real, opened = os.open, []
+        with mock.patch("os.open", lambda path, *more, **named: opened.append(path) or real(path, *more, **named)):
+            self.batch("--jobs", 1)
+        self.assertEqual(self.words()["device"], "cannot be read: not a regular file")
+        self.assertIn(self.path("in/000.pgm"), map(os.path.realpath, opened))
+        self.assertNotIn(self.path("in/device"), opened)
+
     def test_not_enough_memory_for_one(self):
         self.fill(3)
         real = zakdomp.find_pgm

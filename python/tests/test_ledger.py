@@ -12,7 +12,7 @@ from unittest import mock
 
 import zakdomp
 from test_batch import Batch, tree
-from test_command import HERE, board, noise
+from test_command import HERE, beside, board, noise
 from zakdomp_command import formats, ledger, uploads
 from zakdomp_command.ledger import Ledger
 from zakdomp_command.names import name_of
@@ -124,7 +124,7 @@ class Runs(Kept):
         self.put("in/000.pgm", board())
         self.put("out/corners/001.pgm.corners", b"corners 0\n")
         status, _, said = self.run_command("batch", self.path("in"), "--out", self.path("out"), "--jobs", 1)
-        self.assertEqual((status, said), (0, f"zakdomp: {self.path('out/corners')}: 1 files are not of this run\n"))
+        self.assertEqual((status, beside(said)), (0, f"zakdomp: {self.path('out/corners')}: 1 file not of this run\n"))
         self.assertEqual(self.content("out/corners/000.pgm.corners"), before)
         self.assertEqual(self.content("out/corners/001.pgm.corners"), b"corners 0\n")
         lines = [(line["name"], line["corner_file"]) for line in self.lines()]
@@ -134,8 +134,21 @@ class Runs(Kept):
         self.held_together()
         os.unlink(self.path("out/corners/000.pgm.corners"))
         status, _, said = self.run_command("batch", self.path("in"), "--out", self.path("out"), "--jobs", 1)
-        self.assertIn("1 corner files were changed or deleted, and their uploads are not here", said)
+        self.assertIn("1 corner file changed or deleted, without an upload to find it again", said)
         self.assertEqual(os.listdir(self.path("out/corners")).count("000.pgm.corners"), 0, "it is another upload's")
+
+    def test_the_summary_is_of_this_batch(self):
+        """Of an upload that comes back as it was before, and with a clock that goes back; and lines of earlier batches are
+        told, for the invoice's total has them too."""
+        junk = b"no photograph"
+        for clock, content, found in ((100, board(), 1), (200, junk, 0), (300, board(), 1), (50, noise(60, 1), 1)):
+            self.put("in/a.pgm", content)
+            with mock.patch.object(ledger, "now", lambda: clock):
+                status, said, told = self.run_command("batch", self.path("in"), "--out", self.path("out"), "--jobs", 1)
+            self.assertEqual((status, said.split(b";")[0]), (0, b"1 upload: %d found, %d refused, 0 not read" % (found, 1 - found)))
+        words = "2 lines more, of earlier batches: the total has all of them"
+        self.assertEqual(told, f"zakdomp: {self.path('out/invoice.csv')}: {words}\n")
+        self.assertEqual(len(self.lines()), 3)
 
     def test_what_could_not_be_read_is_tried_again(self):
         self.fill(1)
@@ -157,12 +170,16 @@ class Runs(Kept):
     def test_usage(self):
         self.fails(2, "there is no ledger", "invoice", self.path("in"))
         self.batch("--jobs", 1)
-        self.fails(2, "has no run 7: it has runs 1", "invoice", self.path("out"), "--run", 7)
+        for number in (7, 0, -1):
+            self.fails(2, f"has no run {number}: it has runs 1", "invoice", self.path("out"), f"--run={number}")
         self.put("out/ledger.sqlite", b"this is no database, and longer than a header of one" * 20)
         for arguments in (("invoice", self.path("out")), ("batch", self.path("in"), "--out", self.path("out"))):
             self.fails(2, "ledger.sqlite: the ledger cannot be read or written", *arguments)
         self.put("out/ledger.sqlite", b"")
         self.fails(2, "ledger.sqlite: no ledger of this version", "invoice", self.path("out"))
+        due = self.content("out/invoice.csv")
+        self.fails(2, "invoice.csv: this invoice is of no ledger", "batch", self.path("in"), "--out", self.path("out"))
+        self.assertEqual(self.content("out/invoice.csv"), due)
 
     def test_a_ledger_that_cannot_be_written_names_its_file(self):
         self.fill(1)
@@ -312,6 +329,16 @@ class Retained(Kept):
         self.assertEqual(self.done("retained", self.path("out")), b"a.pgm\n")
         self.batch("--jobs", 1)
         self.assertEqual(self.done("retained", self.path("out")), b"")
+
+
+    def test_a_clock_that_was_wrong(self):
+        """No upload was received before it was put there: a batch in 1971 makes none gone today."""
+        self.put("in/a.pgm", board())
+        with mock.patch.object(ledger, "now", lambda: 365 * DAY):
+            self.batch("--jobs", 1)
+        self.assertEqual(self.done("retained", self.path("out")), b"")
+        at = f"@{int(time.time()) + 91 * DAY}"
+        self.assertEqual(self.done("retained", self.path("out"), "--at", at), b"a.pgm\n")
 
 
 uploads_upload = uploads.Upload

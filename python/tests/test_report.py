@@ -111,6 +111,24 @@ class Reports(Reported):
         place = less.photo.pixels.tobytes().index(255)
         self.assertEqual((less.marks[0].x, less.marks[0].y), (place % 667, place // 667))
 
+    def test_a_corner_file_that_is_gone(self):
+        for name in ("a.pgm", "b.pgm"):
+            self.put("in/" + name, board())
+        self.batch("--jobs", 1)
+        os.unlink(self.path("out/corners/a.pgm.corners"))
+        text = self.report()
+        self.assertEqual((text.count("<circle "), text.count("The corner file is no longer as the batch made it")), (70, 1))
+
+    def test_crosses_are_seen_among_hundreds(self):
+        """They are as large as diamonds, and over all other marks."""
+        photo = zakdomp.read_pgm(board())
+        corners = [zakdomp.Corner(float(x), 9.0, 5.0, 3) for x in range(40)]
+        plain = marks.marked(photo, corners, {}, [False] * 40)
+        drawn = marks.crossed(plain, {corners[7]})
+        self.assertEqual([(mark.shape, mark.corner) for mark in drawn.marks[-1:]], [("cross", corners[7])])
+        self.assertEqual([mark.shape for mark in drawn.marks[:-1]], 39 * ["circle"])
+        self.assertGreater(drawn.marks[-1].radius, plain.marks[0].radius)
+
     def test_runs(self):
         self.fill(2)
         self.fails(2, "there is no ledger", "report", self.path("in"))

@@ -12,6 +12,7 @@ from typing import Any
 import zakdomp
 from zakdomp_command import corner_files, files, formats, invoice, parameters, uploads
 from zakdomp_command.ledger import FIRST, Ledger, Line, Run, held
+from zakdomp_command.names import several
 from zakdomp_command.progress import Bar
 from zakdomp_command.runners import Runner, alone, processes
 from zakdomp_command.uploads import Order, Outcome
@@ -51,11 +52,12 @@ def run(options: argparse.Namespace) -> int:
     with held(out):
         files.remove_parts(out)
         asked = ledger.begin(zakdomp.__version__, chosen, options.format)
-        _work(ledger, asked, order, found, _runner(options))
+        outcomes = _work(ledger, asked, order, found, _runner(options))
         ledger.end(asked)
         place = invoice.export(ledger, asked)
     lines = ledger.lines(asked)
-    _summary(place, _own(lines, found))
+    files.say(f"{invoice.counted(outcomes)}; ".encode("ascii") + os.fsencode(place) + b"\n")
+    _earlier(place, len(lines) - len(outcomes))
     _tipped(place, lines)
     _others(options, ledger, asked, lines)
     return 0
@@ -75,13 +77,14 @@ def _is_folder(entry: "os.DirEntry[str]") -> bool:
 
 
 def _apart(folder: str, out: str) -> None:
-    """Sees that what is written is no upload of the next batch, and replaces no invoice of before the ledger."""
+    """Checks that what is written is no upload of the next batch, and replaces no invoice without a ledger that has
+    it."""
     given, made = os.path.realpath(folder), os.path.realpath(out)
     inside = os.path.relpath(given, made).split(os.sep)[0]
     if re.fullmatch(r"\.|corners(-[0-9]+)?", inside):
         raise OSError(errno.EINVAL, "the uploads' own folder cannot take the corner files", out)
-    older = os.path.join(out, FIRST)
-    if os.path.lexists(older) and not os.path.exists(Ledger(out).path):
+    older, path = os.path.join(out, FIRST), Ledger(out).path
+    if os.path.lexists(older) and not (os.path.exists(path) and os.path.getsize(path)):
         raise OSError(errno.EEXIST, "this invoice is of no ledger: move it away, or give another --out", older)
 
 
@@ -92,9 +95,9 @@ def _runner(options: argparse.Namespace) -> Runner:
     return alone if options.jobs == 1 else processes(options.jobs)
 
 
-def _work(ledger: Ledger, asked: Run, order: Order, found: list[str], runner: Runner) -> None:
-    """Takes what the run has already of the uploads, and does what is left. Each corner file is on the disk before the
-    ledger names it; a few outcomes at a time are noted."""
+def _work(ledger: Ledger, asked: Run, order: Order, found: list[str], runner: Runner) -> list[Outcome]:
+    """Takes what the run has already of the uploads, and does what is left; answers with all outcomes. Each corner file
+    is on the disk before the ledger names it; a few outcomes at a time are noted."""
     corners = os.path.join(ledger.folder, asked.corners)
     corner_files.begin(corners)
     before = [line.outcome for line in ledger.lines(asked) if line.outcome.settled]
@@ -102,19 +105,21 @@ def _work(ledger: Ledger, asked: Run, order: Order, found: list[str], runner: Ru
     known = {outcome.name: outcome for outcome in _known(corners, order, found, before)}
     left = [name for name in found if name not in known]
     done: list[Outcome] = []
+    noted = 0
     bar, last = Bar(len(found), len(known)), time.monotonic()
     try:
         done += [corner_files.settle(corners, order.kind, outcome, owners) for outcome in known.values()]
         for outcome in runner(order, left):
             done.append(corner_files.settle(corners, order.kind, outcome, owners))
             bar.step()
-            if len(done) >= FEW or time.monotonic() - last > PAUSE:
+            if len(done) - noted >= FEW or time.monotonic() - last > PAUSE:
                 last = time.monotonic()
-                ledger.add(asked, order.folder, done)
-                done = []
+                ledger.add(asked, order.folder, done[noted:])
+                noted = len(done)
     finally:
         bar.end()
-        ledger.add(asked, order.folder, done)
+        ledger.add(asked, order.folder, done[noted:])
+    return done
 
 
 def _known(corners: str, order: Order, found: list[str], before: list[Outcome]) -> Iterator[Outcome]:
@@ -139,24 +144,19 @@ def _known(corners: str, order: Order, found: list[str], before: list[Outcome]) 
                 break
 
 
-def _own(lines: list[Line], found: list[str]) -> list[Line]:
-    """The newest line of each upload of this batch."""
-    newest = {line.outcome.name: line for line in sorted(lines, key=lambda line: (line.at, line.upload))}
-    return [newest[name] for name in found]
-
-
-def _summary(place: str, lines: list[Line]) -> None:
-    files.say(f"{invoice.counted(lines)}; ".encode("ascii") + os.fsencode(place) + b"\n")
+def _earlier(place: str, count: int) -> None:
+    """Says how many lines of the invoice are of uploads that earlier batches saw and this one did not."""
+    if count:
+        files.tell(f"{several(count, 'line')} more, of earlier batches: the total has all of them", place)
 
 
 def _tipped(place: str, lines: list[Line]) -> None:
     """Says of how many photographs the two choices have not the same list, or one of them none."""
-    words = {"no": "photographs have another list by the exact choice",
-             "unknown": "photographs are refused by the exact choice"}
+    words = {"no": "with another list by the exact choice", "unknown": "refused by the exact choice"}
     for answer, said in words.items():
         count = sum(line.outcome.same_list == answer for line in lines)
         if count:
-            files.tell(f"{count} {said}", place)
+            files.tell(f"{several(count, 'photograph')} {said}", place)
 
 
 def _others(options: argparse.Namespace, ledger: Ledger, asked: Run, lines: list[Line]) -> None:
@@ -166,14 +166,14 @@ def _others(options: argparse.Namespace, ledger: Ledger, asked: Run, lines: list
     own = {corner_files.BY_DIGEST, *(line.outcome.file for line in lines)}
     other = sum(entry.name not in own for entry in os.scandir(corners))
     if other:
-        files.tell(f"{other} files are not of this run", corners)
+        files.tell(f"{several(other, 'file')} not of this run", corners)
     lost = sum(bool(line.outcome.file) and corner_files.text(corners, line.outcome) is None for line in lines)
     if lost:
-        files.tell(f"{lost} corner files were changed or deleted, and their uploads are not here", corners)
+        files.tell(f"{several(lost, 'corner file')} changed or deleted, without an upload to find it again", corners)
     made = os.path.realpath(options.out)
     below = sum(_is_folder(entry) and os.path.realpath(entry.path) != made for entry in os.scandir(options.folder))
     if below:
-        files.tell(f"{below} subfolders not looked into", options.folder)
+        files.tell(f"{several(below, 'subfolder')} not looked into", options.folder)
 
 
 def _named(text: str) -> str:

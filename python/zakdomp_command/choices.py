@@ -6,6 +6,7 @@ from typing import Any, NamedTuple
 
 import zakdomp
 from zakdomp_command import formats
+from zakdomp_command.names import several
 
 Answer = zakdomp.Frame | zakdomp.Refusal
 
@@ -114,7 +115,7 @@ def _count(answer: Answer) -> int | str:
 
 
 def _said(count: int | str) -> str:
-    return count if isinstance(count, str) else f"{count} corners"
+    return count if isinstance(count, str) else several(count, "corner")
 
 
 def _verdict(comparison: Comparison) -> str:

@@ -8,10 +8,12 @@ from zakdomp_command.uploads import Outcome
 
 # for uploads whose own name has no file, or one with other bytes
 BY_DIGEST = "by-digest"
+# what a disk says of any name: then no other is tried
+DISK = {errno.ENOSPC, errno.EDQUOT, errno.EROFS, errno.EIO, errno.ENOMEM, errno.EMFILE, errno.ENFILE}
 
 
 def begin(folder: str) -> None:
-    """Makes the folder of a run, or removes from it what a killed batch left behind of files that were not yet whole."""
+    """Makes the folder of a run, or removes from it what a killed batch left behind: files that were not yet whole."""
     os.makedirs(folder, exist_ok=True)
     for place in (folder, os.path.join(folder, BY_DIGEST)):
         if os.path.isdir(place):
@@ -53,7 +55,9 @@ def _named(path: str, content: bytes) -> bool:
     """Whether a file has these bytes under its upload's name, which the machine may not take."""
     try:
         return _placed(path, content)
-    except OSError:
+    except OSError as problem:
+        if problem.errno in DISK:
+            raise
         return False
 
 

@@ -9,6 +9,7 @@ from typing import Any
 
 from zakdomp_command import files, names
 from zakdomp_command.ledger import Ledger, Line, Run
+from zakdomp_command.uploads import Outcome
 
 EXAMPLE = "example: zakdomp invoice november --run 1"
 DESCRIPTION = """Writes the invoice of a run of DIR's ledger again: DIR/invoice.csv of run 1, DIR/invoice-2.csv of run
@@ -75,11 +76,12 @@ def day(at: int) -> str:
     return datetime.datetime.fromtimestamp(at, datetime.timezone.utc).date().isoformat()
 
 
-def counted(lines: list[Line]) -> str:
+def counted(outcomes: list[Outcome]) -> str:
     """How many uploads were found, refused and not read."""
-    found = sum(line.outcome.corners is not None for line in lines)
-    refused = sum(line.outcome.number is not None for line in lines)
-    return f"{len(lines)} uploads: {found} found, {refused} refused, {len(lines) - found - refused} not read"
+    found = sum(outcome.corners is not None for outcome in outcomes)
+    refused = sum(outcome.number is not None for outcome in outcomes)
+    unread = len(outcomes) - found - refused
+    return f"{names.several(len(outcomes), 'upload')}: {found} found, {refused} refused, {unread} not read"
 
 
 def _cells(wanted: Run, line: Line, struck: int) -> dict[str, Any]:
@@ -93,5 +95,5 @@ def _cells(wanted: Run, line: Line, struck: int) -> dict[str, Any]:
 
 def _total(lines: list[Line], struck: int) -> dict[str, Any]:
     corners = sum(line.outcome.corners or 0 for line in lines)
-    return {"name": "", "corners": corners, "words": f"total of {counted(lines)}", "struck": struck,
-            "corners_left": corners - struck}
+    words = f"total of {counted([line.outcome for line in lines])}"
+    return {"name": "", "corners": corners, "words": words, "struck": struck, "corners_left": corners - struck}

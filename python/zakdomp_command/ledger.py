@@ -131,8 +131,8 @@ class Ledger:
         """The run of a number, or the last."""
         runs = {run.run: run for run in self.runs()}
         if not runs or number is not None and number not in runs:
-            has = f"runs {', '.join(map(str, runs))}" if runs else "no run"
-            raise ValueError(f"{NAME} has no run {number or 1}: it has {has}")
+            has = f"{number}: it has runs {', '.join(map(str, runs))}" if runs else "yet"
+            raise ValueError(f"{NAME} has no run {has}")
         return runs[max(runs) if number is None else number]
 
     def lines(self, run: Run) -> list[Line]:
@@ -234,12 +234,13 @@ def now() -> int:
 
 def _upload(ledger: sqlite3.Connection, folder: str, outcome: Outcome) -> int:
     """The number of an upload, which is noted if it is new. One that was put there again since it was seen is seen
-    anew: it is held from that day on."""
+    anew: it is held from that day on. None is seen before it was put there, whatever this machine's clock says."""
     asked = (os.fsencode(outcome.name), *((outcome.size, outcome.sha256) if outcome.settled else (0, "")))
+    seen = max(now(), outcome.put)
     ledger.execute("INSERT INTO uploads (name, size, sha256, seen, folder) VALUES (?, ?, ?, ?, ?) ON CONFLICT (name, "
-                   "size, sha256) DO UPDATE SET folder = excluded.folder", (*asked, now(), os.fsencode(folder)))
+                   "size, sha256) DO UPDATE SET folder = excluded.folder", (*asked, seen, os.fsencode(folder)))
     ledger.execute("UPDATE uploads SET seen = ? WHERE (name, size, sha256) = (?, ?, ?) AND seen < ?",
-                   (now(), *asked, outcome.put))
+                   (seen, *asked, outcome.put))
     row = ledger.execute("SELECT upload FROM uploads WHERE (name, size, sha256) = (?, ?, ?)", asked).fetchone()
     return int(row[0])
 

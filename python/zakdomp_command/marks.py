@@ -63,6 +63,14 @@ def marked(photo: zakdomp.Photograph, corners: list[zakdomp.Corner], alone: dict
     return Drawing(photo, enlarged, sorted(marks, key=lambda mark: (mark.alone, mark.corner.strength)), largest / 4)
 
 
+def crossed(drawing: Drawing, struck: set[zakdomp.Corner]) -> Drawing:
+    """A drawing with a cross on each corner that was struck, as large as a diamond and over the other marks."""
+    others = [mark for mark in drawing.marks if mark.corner not in struck]
+    radius = _lone(drawing.photo)
+    crosses = [mark._replace(struck=True, radius=radius) for mark in drawing.marks if mark.corner in struck]
+    return drawing._replace(marks=others + crosses)
+
+
 def smaller(drawing: Drawing, side: int) -> Drawing:
     """A drawing with no more than so many pixels a side: each so-and-so-many-th of the photograph's, in row order."""
     photo = drawing.photo
@@ -94,9 +102,12 @@ def _mark(corner: zakdomp.Corner, top: float, largest: float, tied: bool) -> Mar
 
 
 def _diamond(photo: zakdomp.Photograph, corner: zakdomp.Corner, tied: bool, alone: str) -> Mark:
-    """Large however dense the corners are: such a corner is to be seen among hundreds."""
-    radius, step = 1.5 * max(_part(photo), SMALLEST), STEPS + list(ALONE).index(alone)
-    return Mark(corner.x, corner.y, radius, step, tied, corner, alone)
+    return Mark(corner.x, corner.y, _lone(photo), STEPS + list(ALONE).index(alone), tied, corner, alone)
+
+
+def _lone(photo: zakdomp.Photograph) -> float:
+    """The radius of a mark that is to be seen among hundreds: large however dense the corners are."""
+    return 1.5 * max(_part(photo), SMALLEST)
 
 
 def _part(photo: zakdomp.Photograph) -> float:

@@ -39,7 +39,7 @@ def run(options: argparse.Namespace) -> int:
 def _several(kind: str, lists: list[tuple[float, list[zakdomp.Corner]]]) -> str:
     """The lists of several radii as one text."""
     if kind == "listing":
-        return "".join(f"radius {radius:g}\n{zakdomp.listing(corners)}" for radius, corners in lists)
+        return "".join(f"radius {radius:.9g}\n{zakdomp.listing(corners)}" for radius, corners in lists)
     if kind == "json":
         said = [{"radius": radius, "corners": [formats.plain(corner) for corner in corners]}
                 for radius, corners in lists]
@@ -48,7 +48,7 @@ def _several(kind: str, lists: list[tuple[float, list[zakdomp.Corner]]]) -> str:
     writer = csv.writer(output, lineterminator="\n")
     writer.writerow(("radius", *formats.FIELDS))
     for radius, corners in lists:
-        writer.writerows((f"{radius:g}", *formats.plain(corner).values()) for corner in corners)
+        writer.writerows((f"{radius:.9g}", *formats.plain(corner).values()) for corner in corners)
     return output.getvalue()
 
 

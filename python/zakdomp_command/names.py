@@ -14,6 +14,11 @@ def line(text: str) -> str:
     return "".join(_shown(character) for character in text)
 
 
+def several(count: int, noun: str) -> str:
+    """So many of something, in words."""
+    return f"{count} {noun}{'' if count == 1 else 's'}"
+
+
 def cell(name: str) -> str:
     """A name as a cell of a table."""
     inner = name.strip(" ")

@@ -10,7 +10,7 @@ from typing import Any, NamedTuple
 import zakdomp
 from zakdomp_command import choices, corner_files, files, formats, invoice, names, uploads
 from zakdomp_command.ledger import Ledger, Line, Run, Strike
-from zakdomp_command.marks import Drawing, marked, smaller
+from zakdomp_command.marks import Drawing, crossed, marked, smaller
 from zakdomp_command.svg import titled
 
 EXAMPLE = "example: zakdomp report november"
@@ -32,7 +32,8 @@ th, td { text-align: left; vertical-align: top; padding: .3rem .5rem; border-bot
 .count { text-align: right; overflow-wrap: normal } tfoot td { font-weight: bold; border-bottom: 3px double #1a1a1a }
 article { border-top: 2px solid #1a1a1a; margin-top: 1.5rem; padding-top: .75rem; break-inside: avoid }
 figure { margin: .75rem 0 0 } figure svg { display: block; max-width: 100%; height: auto }
-td:first-child { min-width: 10rem } .none, .differs { border-left: 4px solid #b00020; padding-left: .6rem }
+td:first-child { min-width: 10rem } .wide { width: 45% }
+.none, .differs { border-left: 4px solid #b00020; padding-left: .6rem }
 .differs { border-color: #b36b00 }
 @media (max-width: 40rem) { body { padding: .6rem } .wide { display: none } th, td { padding: .3rem .25rem } }
 @media print { body { max-width: none; font-size: 11pt } figure svg { max-height: 16cm }
@@ -102,7 +103,7 @@ def page(ledger: Ledger, wanted: Run) -> Iterator[str]:
 def _heading(wanted: Run, lines: list[Line]) -> Iterator[str]:
     days = sorted({invoice.day(line.at) for line in lines} or {invoice.day(wanted.began)})
     counted = days[0] if len(days) == 1 else f"{days[0]} to {days[-1]}"
-    yield f"<h1>Invoice</h1>\n<p>{escape(invoice.counted(lines))}.</p>\n"
+    yield f"<h1>Invoice</h1>\n<p>{escape(invoice.counted([line.outcome for line in lines]))}.</p>\n"
     yield f'<p class="small">Run {wanted.run}, counted {counted} (UTC), by zakdomp {escape(wanted.version)}: '
     yield f"{escape(invoice.parameters(wanted))}.</p>\n"
 
@@ -130,7 +131,8 @@ def _piece(number: int, entry: Entry, wanted: Run) -> Iterator[str]:
         yield f'<p class="none">No profile: {_refusal(entry)}</p>\n'
     else:
         struck = f", {len(entry.strikes)} struck, {entry.left} left" if entry.strikes else ""
-        yield f"<p>{outcome.width} x {outcome.height} pixels: {outcome.corners} corners{struck}. {_choice(entry)}</p>\n"
+        yield f"<p>{outcome.width} x {outcome.height} pixels: "
+        yield f"{names.several(outcome.corners, 'corner')}{struck}. {_choice(entry)}</p>\n"
         for strike in entry.strikes:
             yield f"<p>Struck on {invoice.day(strike.at)}: {escape(formats.words(strike.corner))}.</p>\n"
         yield from _differences(entry)
@@ -153,9 +155,11 @@ def _figure(entry: Entry) -> Iterator[str]:
     photo = _photograph(entry.line)
     if not len(photo.pixels):
         return
-    title = f"{len(entry.corners)} corners, {len(entry.strikes)} of them struck"
+    title = f"{names.several(len(entry.corners), 'corner')}, {len(entry.strikes)} of them struck"
     yield "<figure>\n" + titled(smaller(_drawing(entry, photo), SIDE), title).decode("ascii")
     caption = [] if photo.at else ["The photograph is no longer where the batch saw it, or is another."]
+    if len(entry.corners) != entry.line.outcome.corners:
+        caption.append("The corner file is no longer as the batch made it: its corners are not drawn.")
     if len(entry.corners) > MOST:
         caption.append(f"The {MOST} strongest of {len(entry.corners)} corners are drawn.")
     yield f'<figcaption class="small">{" ".join(caption)}</figcaption>\n</figure>\n'
@@ -182,8 +186,7 @@ def _drawing(entry: Entry, photo: zakdomp.Photograph) -> Drawing:
     strongest = sorted(entry.corners, key=lambda corner: (corner not in struck, -corner.strength))[:MOST]
     corners = list(dict.fromkeys(strongest + computed + exact))
     alone = dict.fromkeys(computed, "computed") | dict.fromkeys(exact, "exact")
-    drawing = marked(photo, corners, alone, [False] * len(corners))
-    return drawing._replace(marks=[mark._replace(struck=mark.corner in struck) for mark in drawing.marks])
+    return crossed(marked(photo, corners, alone, [False] * len(corners)), struck)
 
 
 def _name(entry: Entry) -> str:
@@ -204,8 +207,9 @@ def _choice(entry: Entry) -> str:
     """How the exact choice compares, in words."""
     outcome = entry.line.outcome
     words = {"yes": "the same list", "no": "another list"}.get(outcome.same_list, "not compared")
-    count = f"{outcome.exact_corners} corners" if isinstance(outcome.exact_corners, int) else str(outcome.exact_corners)
-    return escape(f"By the exact choice {count}: {words}.")
+    count = outcome.exact_corners
+    said = names.several(count, "corner") if isinstance(count, int) else str(count)
+    return escape(f"By the exact choice {said}: {words}.")
 
 
 def _shown(count: int | None) -> str:

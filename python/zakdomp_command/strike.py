@@ -10,6 +10,7 @@ from typing import Any, NamedTuple
 import zakdomp
 from zakdomp_command import files, formats, invoice
 from zakdomp_command.ledger import NAME, Ledger, Line, Run, Strike, now
+from zakdomp_command.names import several
 
 FILE = "november/corners/board.pgm.corners"
 EXAMPLE = f"example: zakdomp strike {FILE} 7, and then, if that is the one: zakdomp strike {FILE} 7 --confirm 0"
@@ -65,7 +66,8 @@ def _strike(options: argparse.Namespace, kept: Kept) -> None:
     kept.ledger.strike(kept.run, kept.line, Strike(options.confirm, options.place, corner, now()))
     if kept.ledger.run(kept.run.run).whole:
         invoice.export(kept.ledger, kept.run)
-    files.say(f"struck corner {options.place}: {_said(corner)}; change {edited.change}, {len(edited)} corners left\n")
+    left = f"change {edited.change}, {several(len(edited), 'corner')} left"
+    files.say(f"struck corner {options.place}: {_said(corner)}; {left}\n")
 
 
 def _said(corner: zakdomp.Corner) -> str:

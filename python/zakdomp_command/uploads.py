@@ -4,7 +4,7 @@ import errno
 import hashlib
 import os
 import stat
-from typing import Any, NamedTuple
+from typing import Any, BinaryIO, NamedTuple
 
 import zakdomp
 from zakdomp_command import choices, looks
@@ -61,18 +61,36 @@ VERSION = f"{zakdomp.__version__} ({' '.join(Outcome._fields)})"
 
 
 def read(order: Order, name: str) -> Upload:
-    """Reads an upload. One that changes meanwhile is still being written."""
-    handle = os.open(os.path.join(order.folder, name), os.O_RDONLY | os.O_NONBLOCK)
+    """Reads an upload. One that changes meanwhile is still being written. A device is not even opened: that alone can
+    start something."""
+    path = os.path.join(order.folder, name)
+    _regular(os.stat(path))
+    handle = os.open(path, os.O_RDONLY | os.O_NONBLOCK | os.O_NOCTTY)
     with open(handle, "rb") as file:
         before = os.fstat(handle)
-        if not stat.S_ISREG(before.st_mode):
-            raise OSError(errno.EINVAL, "not a regular file")
-        content = file.read(LONGEST)
+        _regular(before)
+        content = _content(file)
         after = os.fstat(handle)
         changed = (before.st_size, before.st_mtime_ns) != (after.st_size, after.st_mtime_ns)
         if changed or len(content) != min(after.st_size, LONGEST):
             raise OSError(errno.EBUSY, "it changed while it was read: start the batch again when it is whole")
         return Upload(content, after.st_size, int(after.st_ctime))
+
+
+def _regular(state: os.stat_result) -> None:
+    if not stat.S_ISREG(state.st_mode):
+        raise OSError(errno.EINVAL, "not a regular file")
+
+
+def _content(file: BinaryIO) -> bytes:
+    """As many bytes of a file as a photograph can have. Some files of the system have none at the moment."""
+    try:
+        content: bytes | None = file.read(LONGEST)
+    except MemoryError as problem:
+        raise OSError(errno.ENOMEM, os.strerror(errno.ENOMEM)) from problem
+    if content is None:
+        raise OSError(errno.EAGAIN, os.strerror(errno.EAGAIN))
+    return content
 
 
 def unread(name: str, problem: OSError) -> Outcome:
