@@ -47,6 +47,11 @@ def tree(folder):
     return found
 
 
+def by_digest(name, content):
+    """Where the corner file of an upload is that has none under its own name, without what it ends in."""
+    return f"by-digest/{hashlib.sha256(content).hexdigest()}-{hashlib.sha256(os.fsencode(name)).hexdigest()[:16]}"
+
+
 class Batch(Command):
     variables: dict[str, str] = {}
 
@@ -146,8 +151,7 @@ class Invoices(Batch):
         self.assertEqual(set(lines), set(names))
         self.assertEqual(lines["n" * 250]["words"], "")
         self.assertEqual(len(os.listdir(self.path("out/corners"))), len(names))
-        due = hashlib.sha256(board()).hexdigest()
-        self.assertEqual(os.listdir(self.path("out/corners/by-digest")), [due + ".corners"])
+        self.assertEqual(os.listdir(self.path("out/corners/by-digest")), [os.path.basename(by_digest("n" * 250, board())) + ".corners"])
 
     def test_what_cannot_be_read_has_a_line(self):
         self.fill(1)

@@ -1,11 +1,10 @@
 """Uploads of all kinds: none of them ends a batch. python3 -m unittest test_hostile"""
-import hashlib
 import os
 import unittest
 from unittest import mock
 
 import zakdomp
-from test_batch import Batch
+from test_batch import Batch, by_digest
 from test_command import board, noise
 from zakdomp_command import uploads
 
@@ -137,8 +136,7 @@ class Hostile(Batch):
         self.put("in/" + "m" * 255, b"no photograph")
         self.batch("--jobs", 1)
         self.assertEqual(self.words()["n" * 255], "")
-        digest = hashlib.sha256(board()).hexdigest()
-        self.assertEqual(self.content(f"out/corners/by-digest/{digest}.corners"),
+        self.assertEqual(self.content(f"out/corners/{by_digest('n' * 255, board())}.corners"),
                          zakdomp.listing(zakdomp.find_corners_pgm(board())).encode())
 
 

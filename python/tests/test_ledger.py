@@ -11,7 +11,7 @@ import unittest
 from unittest import mock
 
 import zakdomp
-from test_batch import Batch, tree
+from test_batch import Batch, by_digest, tree
 from test_command import HERE, beside, board, noise
 from zakdomp_command import formats, ledger, uploads
 from zakdomp_command.ledger import Ledger
@@ -128,8 +128,8 @@ class Runs(Kept):
         self.assertEqual(self.content("out/corners/000.pgm.corners"), before)
         self.assertEqual(self.content("out/corners/001.pgm.corners"), b"corners 0\n")
         lines = [(line["name"], line["corner_file"]) for line in self.lines()]
-        changed = f"corners/by-digest/{hashlib.sha256(board()).hexdigest()}.corners"
-        restored = f"corners/by-digest/{hashlib.sha256(noise(100, 1)).hexdigest()}.corners"
+        changed, restored = (f"corners/{by_digest(name, content)}.corners"
+                             for name, content in (("000.pgm", board()), ("001.pgm", noise(100, 1))))
         self.assertEqual(lines, [("000.pgm", "corners/000.pgm.corners"), ("000.pgm", changed), ("001.pgm", restored)])
         self.held_together()
         os.unlink(self.path("out/corners/000.pgm.corners"))
@@ -271,6 +271,16 @@ class Striking(Kept):
         with mock.patch.object(Ledger, "strikes", late):
             self.fails(1, "refused 16: ", "strike", self.file, 1, "--confirm", 0)
         self.assertEqual(self.left(), self.corners[:1] + self.corners[2:])
+
+    def test_two_long_names_with_the_same_bytes(self):
+        """Each has a list of its own."""
+        long = ["m" * 255, "n" * 255]
+        for name in long:
+            self.put("in/" + name, noise(120, 9))
+        self.batch("--jobs", 1)
+        self.done("strike", self.path(f"out/corners/{by_digest(long[1], noise(120, 9))}.corners"), 2, "--confirm", 0)
+        count = len(self.corners)
+        self.assertEqual([self.counts()[name] for name in long], [(count, 0, count), (count, 1, count - 1)])
 
     def test_refusals_strike_nothing(self):
         count = len(self.corners)

@@ -27,7 +27,7 @@ def settle(folder: str, kind: str, outcome: Outcome, owners: dict[str, str]) -> 
     if outcome.text is None:
         return outcome
     content, suffix = outcome.text.encode("ascii"), formats.SUFFIXES[kind]
-    own, other = outcome.name + suffix, os.path.join(BY_DIGEST, outcome.sha256 + suffix)
+    own, other = outcome.name + suffix, by_digest(outcome.name, outcome.sha256) + suffix
     free = owners.get(own, outcome.sha256) == outcome.sha256
     file = own if free and _named(os.path.join(folder, own), content) else other
     if file == other:
@@ -38,6 +38,12 @@ def settle(folder: str, kind: str, outcome: Outcome, owners: dict[str, str]) -> 
                           os.path.join(folder, other))
     owners[file] = outcome.sha256
     return outcome._replace(text=None, file=file, file_sha256=hashlib.sha256(content).hexdigest())
+
+
+def by_digest(name: str, sha256: str) -> str:
+    """Where the corner file of an upload is whose own name has none. It is no other's, so that each list is struck alone:
+    uploads with the same bytes have it under the digests of their names."""
+    return os.path.join(BY_DIGEST, f"{sha256}-{hashlib.sha256(os.fsencode(name)).hexdigest()[:16]}")
 
 
 def text(folder: str, outcome: Outcome) -> str | None:
