@@ -39,7 +39,7 @@ module _ (m : List Float) (w h r : ℕ) (p : Place) where
   nan-tested e = let n = none (window w h r p) in ap tested e ∙ rw (n .0, n .1)
 
 pub nan-top : NanTop
-nan-top = nan-tested
+nan-top m s p t is e = is ∙ nan-tested m (s .w) (s .h) (s .window) p e
 
 -- ---- peak finding and frames
 pub peak-ties : PeakTies

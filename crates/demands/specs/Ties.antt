@@ -9,9 +9,11 @@ use Rattle.float32.specs.Float32.{lift}
 use Rattle.float32.specs.Value.{IsWhole}
 use Rattle.response.specs.Patch.{View, mapWidth, mapHeight}
 use Rattle.response.specs.Exact.{fifthsIn}
+use Rattle.detect.specs.declared.Search.{Search}
+use Rattle.detect.specs.declared.WindowTest.{WindowTest}
 use Rattle.detect.specs.declared.WindowTest.the-variants.{Top}
-use Rattle.detect.specs.Peaks.{window, windowTest, valueAt, largerIn, equalIn}
-use Rattle.detect.specs.Detect.{tiesIn}
+use Rattle.detect.specs.Peaks.{window, valueAt}
+use Rattle.detect.specs.Detect.{tiesIn, WindowTested}
 use Rattle.patch_corners.specs.declared.FrameParams.{FrameParams}
 use Rattle.patch_corners.specs.OneMap.{exactChoice}
 use Rattle.frame_pass.specs.Pass.{framePass}
@@ -19,9 +21,9 @@ use Rattle.demands.specs.PeakCall.{PeakCall, searchIn}
 use Rattle.demands.specs.FrameExact.{FrameCall, mapsIn, Alike}
 use Rattle.frame.specs.Frame.{passOf}
 
--- "A NaN centre is top with 0 ties"
+-- "A NaN centre is top with 0 ties": what the code's window test, `window_test` of detect, answers of one, by its promise
 abbrev pub NanTop : Type 0
-NanTop = (m : List Float) (w h r : ℕ) (p : Place) → valueAt m w p ≡ nan → windowTest (largerIn m w) (equalIn m w) w h r p ≡ Top 0
+NanTop = (m : List Float) (s : Search) (p : Place) (t : WindowTest) → WindowTested m s p t → valueAt m (s .w) p ≡ nan → t ≡ Top 0
 
 -- the sum over the peaks of the map
 abbrev pub PeakTies : Type 0

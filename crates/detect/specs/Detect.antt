@@ -65,6 +65,10 @@ startsIn m s = map (startAt m s) (peaksIn m s)
 abbrev pub testAt : List Float → Search → Place → WindowTest
 testAt m s = windowTest (largerIn m (s .w)) (equalIn m (s .w)) (s .w) (s .h) (s .window)
 
+-- the promise of `window_test`, of the cell at p
+abbrev pub WindowTested : List Float → Search → Place → WindowTest → Type 0
+WindowTested m s p t = t ≡ testAt m s p
+
 abbrev pub tiesAt : List Float → Search → Place → ℕ
 tiesAt m s p = tiesOf (testAt m s p)
 

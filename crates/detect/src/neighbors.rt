@@ -8,7 +8,7 @@ ghost use Rattle.lists.specs.Places.{any, count};
 ghost use Rattle.float32.specs.Float32.{zero};
 ghost use Rattle.detect.specs.Peaks.{valueAt, slack, largerBy, equalIn, positiveIn, beaten, equals, positives, tiesOf};
 ghost use Rattle.detect.specs.Internal.{Inside};
-ghost use Rattle.detect.specs.Detect.{testAt};
+ghost use Rattle.detect.specs.Detect.{testAt, WindowTested};
 ghost use Rattle.detect.specs.Internal.{place, Searchable};
 use crate::Search;
 use crate::WindowTest;
@@ -151,7 +151,7 @@ pub(crate) fn window_test(map: &[f32], s: Search, x: usize, y: usize, v: f32) ->
     requires { ⌜ Searchable (now map) s ⌝ }
     requires { ⌜ Inside (s .w) (s .h) (s .border) (place x y) ⌝ }
     requires { ⌜ v ≡ valueAt (now map) (s .w) (place x y) ⌝ }
-    ensures { λ t. ⌜ t ≡ testAt (now (map .entry)) s (place x y) ⌝ }
+    ensures { λ t. ⌜ WindowTested (now (map .entry)) s (place x y) t ⌝ }
 {
     if is_local_max(map, s, x, y, v, false) {
         return WindowTest::Top(count_equal_neighbors(map, s, x, y, v));

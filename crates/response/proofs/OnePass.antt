@@ -10,7 +10,7 @@ use mathlib.Core.List.{List, [], _∷_}
 use borrow.Author.Tests.{lt-ltb, le-ltb}
 use lib.ListN.{getD, set}
 use Rattle.float32.specs.Value.{dist, total}
-use Rattle.response.specs.declared.cell.Held.{Held}
+use Rattle.response.specs.declared.Held.{Held}
 use Rattle.response.specs.Response.{srOf, ringSumOf}
 use Rattle.response.specs.OnePass.{noPairs, withPair, passedAfter}
 use Rattle.response.specs.Internal.{Small, RingSumsOf}
@@ -83,8 +83,8 @@ pub passed-next : (s : List ℕ) (k : ℕ) (h r : Held) → h ≡ passedAfter s 
 unfolding passedAfter
 passed-next s k h r e f = rw (add-one k) (f ∙ ap (withPair k (getD s k 0) (getD s (k + 8) 0)) e)
 
-pub passed-end : (s : List ℕ) (k : ℕ) (h : Held) → h ≡ passedAfter s k → k ≡ 8 → h ≡ passedAfter s 8
-passed-end s k h e l = e ∙ ap (passedAfter s) l
+pub passed-end : (s : List ℕ) (k n : ℕ) (h : Held) → h ≡ passedAfter s k → k ≡ n → h ≡ passedAfter s n
+passed-end s k n h e l = e ∙ ap (passedAfter s) l
 
 -- ---- after each pair
 pub passed-dr : (s : List ℕ) (n : ℕ) → passedAfter s n .dr ≡ total (λ k. dist (getD s k 0) (getD s (k + 8) 0)) n

@@ -11,7 +11,7 @@ use Rattle.lists.proofs.Places.{in-map}
 use Rattle.ring.specs.Ring.{Ring, dx, dy, IsRing}
 use Rattle.ring.proofs.Places.{dx-le, dy-le, radius-pos}
 use Rattle.response.specs.Response.{samples, crossOf, responseOf, response}
-use Rattle.response.specs.declared.cell.Held.{Held}
+use Rattle.response.specs.declared.Held.{Held}
 use Rattle.response.specs.OnePass.{passedAfter}
 use Rattle.response.specs.Internal.{offsetAt, Framed, Inner, RingSumsOf, CellSumsOf}
 use Rattle.response.proofs.OnePass.{passed-all}

@@ -9,7 +9,7 @@ use Rattle.lists.specs.Tab.{tab}
 use Rattle.lists.specs.Refusals.{lowest, isLarge, isMisfit}
 use Rattle.lists.specs.Internal.{Sized}
 use Rattle.ring.specs.Ring.{Ring, dx, dy, isRing, IsRing}
-use Rattle.response.specs.declared.cell.Held.{Held}
+use Rattle.response.specs.declared.Held.{Held}
 use Rattle.response.specs.Response.{inside, samples, srOf, drOf, ringSumOf, crossOf}
 
 -- how far place k of a ring lies, in an image w wide, behind the corner of the ring's square

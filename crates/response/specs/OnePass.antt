@@ -1,11 +1,12 @@
 -- SR, DR and the ring sum in one pass over the eight pairs of opposite samples, s(k) and s(k + 8) (RULES 22).
-use Prim.Native.Nat.{ℕ, zero, suc, _+_, _-_}
+use Prim.Native.Nat.{ℕ, zero, suc, _+_, _-_, min}
+use mathlib.Core.Path.{_≡_}
 use mathlib.Core.Bool.{cond}
 use mathlib.Core.List.{List}
 use lib.Dec.{ltb}
 use lib.ListN.{getD, set, replicate}
 use Rattle.float32.specs.Value.{dist}
-use Rattle.response.specs.declared.cell.Held.{Held}
+use Rattle.response.specs.declared.Held.{Held}
 
 -- what is held before the first pair: nothing is added up, and no pair's sum is kept
 abbrev pub noPairs : Held
@@ -26,3 +27,7 @@ unfoldable pub passedAfter : List ℕ → ℕ → Held
 unfolding withPair
 passedAfter s zero = noPairs
 passedAfter s (suc n) = withPair n (getD s n 0) (getD s (n + 8) 0) (passedAfter s n)
+
+-- the promise of `ring_sums`, of sixteen samples and a number of pairs: what is held after so many, and after all eight where n is above 8
+abbrev pub RingPassed : List ℕ → ℕ → Held → Type 0
+RingPassed s n r = r ≡ passedAfter s (min n 8)

@@ -6,8 +6,10 @@ ghost use Rattle.float32.specs.Value.{dist};
 ghost use Rattle.lists.specs.Tab.{tab};
 ghost use Rattle.ring.specs.Ring.{ringOf};
 ghost use Rattle.response.specs.Response.{responseOf};
-ghost use Rattle.response.specs.OnePass.{withPair, passedAfter};
+ghost use Rattle.response.specs.OnePass.{withPair, RingPassed};
 ghost use Rattle.response.specs.Internal.{Framed, Inner, Small, CellSumsOf};
+use crate::Held;
+use numbers::lesser;
 
 // |a - b|.
 fn gap(a: u16, b: u16) -> u16
@@ -37,14 +39,6 @@ fn across(a: u8, b: u8) -> u16
     wide(byte_gap(a, b))
 }
 
-// What is held of the pairs of opposite samples passed: SR, DR and the sum so far, and the sums of the first four pairs.
-struct Held {
-    sr: u16,
-    dr: u16,
-    sum: u16,
-    first: [u16; 4],
-}
-
 // With pair k more, whose samples are a and b: from the fifth on its sum is set against that of the pair a quarter turn back.
 fn with_pair(h: Held, k: usize, a: u8, b: u8) -> Held
     requires { ⌜ (k < 8) × Small k h ⌝ }
@@ -71,10 +65,11 @@ fn with_pair(h: Held, k: usize, a: u8, b: u8) -> Held
     }
 }
 
-// SR, DR and the sum of sixteen samples, in one pass over the pairs.
-fn ring_sums(s: [u8; 16]) -> Held
-    ensures { λ r. ⌜ r ≡ passedAfter s 8 ⌝ }
+// SR, DR and the sum of sixteen samples after the first n pairs, in one pass over them: after all eight where n is 8 or more.
+fn ring_sums(s: [u8; 16], n: usize) -> Held
+    ensures { λ r. ⌜ RingPassed s n r ⌝ }
 {
+    let last = lesser(n, 8);
     let mut h = Held {
         sr: 0,
         dr: 0,
@@ -82,7 +77,7 @@ fn ring_sums(s: [u8; 16]) -> Held
         first: [0u16; 4],
     };
     let mut k = 0usize;
-    while k < 8 {
+    while k < last {
         h = with_pair(h, k, s[k], s[k + 8]);
         k += 1;
     }
@@ -141,7 +136,7 @@ pub(crate) fn cell_sums(
     requires { ⌜ Inner w h radius x y ⌝ }
     ensures { λ r. ⌜ CellSumsOf (now (img .entry)) w (ringOf radius) x y (r .sr) (r .dr) (r .sum) (r .cross) ⌝ }
 {
-    let ring = ring_sums(gather(img, (y - radius) * w + (x - radius), off));
+    let ring = ring_sums(gather(img, (y - radius) * w + (x - radius), off), 8);
     CellSums {
         sr: ring.sr,
         dr: ring.dr,

@@ -10,6 +10,15 @@ ghost use Rattle.response.specs.Internal.{refusalFor};
 use numbers::lesser;
 use numbers::minus;
 
+// What is held of the pairs of opposite samples passed: SR, DR and the sum so far, and the sums of the first four pairs. It is public because a
+// promise speaks of it.
+pub struct Held {
+    pub sr: u16,
+    pub dr: u16,
+    pub sum: u16,
+    pub first: [u16; 4],
+}
+
 // How many of the columns, or rows, a up to b lie among n.
 fn side(n: usize, a: usize, b: usize) -> usize
     ensures { λ r. ⌜ r ≡ sideOf n a b ⌝ }

@@ -1,5 +1,5 @@
 -- `response::cell::ring_sums` meets its contract: the loop holds what is held of the pairs passed. Assumes nothing.
-use Prim.Native.Nat.{_-_, _≤_}
+use Prim.Native.Nat.{_-_, _≤_, min}
 use native.Mathlib.Omega.{arith}
 use mathlib.Core.Path.{_≡_, refl}
 use borrow.Author.Needs.{needs}
@@ -10,13 +10,16 @@ use Rattle.response.proofs.cell.ring_sums.Statement.{statement}
 use Rattle.response.proofs.cell.ring_sums.Tie as tie
 
 abbrev Inv-loop : tie.InvT-loop
-Inv-loop s h₀ k₀ h k = (k ≤ 8) × (h ≡ passedAfter s k) × Small k h
+Inv-loop n s last h₀ k₀ h k = (k ≤ last) × (last ≡ min n 8) × (h ≡ passedAfter s k) × Small k h
 
 abbrev μ-loop : tie.MeasureT-loop
-μ-loop s h₀ k₀ h k = 8 - k
+μ-loop n s last h₀ k₀ h k = last - k
+
+lesser-requires : tie.Need-lesser-requires Inv-loop μ-loop
+lesser-requires c κs = search needs
 
 loop-holds : tie.Need-loop-holds Inv-loop μ-loop
-loop-holds c = (search needs, passed-none _, small-none)
+loop-holds c = (search needs, search needs, passed-none _, small-none)
 
 array-read-with-pair : tie.Need-array-read-with-pair Inv-loop μ-loop
 array-read-with-pair c = search needs
@@ -39,10 +42,10 @@ loop-less c = search needs
 loop-again : tie.Need-loop-again Inv-loop μ-loop
 loop-again c =
     let at = c .before .before in
-    (search needs, passed-next _ (at .loop .k) _ _ (at .loop .inv .1) (c .with-pair .ensures .0), c .with-pair .ensures .1)
+    (search needs, search needs, passed-next _ (at .loop .k) _ _ (at .loop .inv .2) (c .with-pair .ensures .0), c .with-pair .ensures .1)
 
 returns : tie.Need-returns Inv-loop μ-loop
-returns c = passed-end _ _ _ (c .before .loop .inv .1) (search needs)
+returns c = passed-end _ _ _ _ (c .before .loop .inv .2) (search needs)
 
 pub ring-sums-spec : {M : Type 1} → statement M
 ring-sums-spec =
@@ -50,6 +53,7 @@ ring-sums-spec =
     (tie.spec
     Inv-loop
     μ-loop
+    lesser-requires
     loop-holds
     array-read-with-pair
     add-with-pair
