@@ -7,10 +7,10 @@ from walk import Context, Value, Walk
 
 
 class Callee(NamedTuple):
-    """A function that is called: the slices of the caller that it is lent, the values behind them, its answer, and what it says of all."""
+    """A function that is called: the slices of the caller that it borrows, the values behind them, its answer, and what it says of all."""
     crate: str
     name: str
-    lent: tuple
+    borrowed: tuple
     plain: tuple
     answer: Kind
     says: Callable  # of the lists before, the values, the lists after and the answer
@@ -32,7 +32,7 @@ class Callee(NamedTuple):
     @property
     def lasts(self):
         """The type of what is left after of the parameters."""
-        return product([f'List {slice.kind.values}' if slice.mutable else 'Unit {0}' for slice in self.lent] + ['Unit {0}' for _ in self.plain])
+        return product([f'List {slice.kind.values}' if slice.mutable else 'Unit {0}' for slice in self.borrowed] + ['Unit {0}' for _ in self.plain])
 
 
 # ---- what a proof says of the functions that are called
@@ -73,12 +73,12 @@ def cited(callees):
 
 def handed(callee):
     """What its triple binds outside, what it is handed, and that this gives what it asks."""
-    numbers, values = [slice.number for slice in callee.lent], range(len(callee.plain))
+    numbers, values = [slice.number for slice in callee.borrowed], range(len(callee.plain))
     lifetimes, names, lists = ([f'{letter}{number}' for number in numbers] for letter in 'νδl')
     terms, machines = ([f'{letter}{number}' for number in values] for letter in 'vu')
-    lent = [f'({spaced(lifetimes)} : ℕ) ({spaced(names)} : GName)'] if callee.lent else []
-    lent += [f'({contents} : List {slice.kind.values})' for slice, contents in zip(callee.lent, lists)]
-    binders = spaced(lent + [f'({term} : {kind.values})' for term, kind in zip(terms, callee.plain)] + [f'({spaced(machines)} : Val)'])
+    borrowed = [f'({spaced(lifetimes)} : ℕ) ({spaced(names)} : GName)'] if callee.borrowed else []
+    borrowed += [f'({contents} : List {slice.kind.values})' for slice, contents in zip(callee.borrowed, lists)]
+    binders = spaced(borrowed + [f'({term} : {kind.values})' for term, kind in zip(terms, callee.plain)] + [f'({spaced(machines)} : Val)'])
     given = spaced(lifetimes + names + lists + terms + machines)
     bound = rows([rows([
         nest(f'{lifetime} ∷ []' for lifetime in lifetimes),
@@ -88,7 +88,7 @@ def handed(callee):
         nest([f's{number} ∷ []' for number in numbers] + [f'{machine} ∷ []' for machine in machines]),
     ], 4), 'tt'], 2)
     parts = [f'‵ (flft ({lifetime} ∷ []) fullShare)' for lifetime in lifetimes]
-    parts += [f'‵ ({slice.owned(at, f"({lifetimes[at]} ∷ [])", names[at], lists[at])})' for at, slice in enumerate(callee.lent)]
+    parts += [f'‵ ({slice.owned(at, f"({lifetimes[at]} ∷ [])", names[at], lists[at])})' for at, slice in enumerate(callee.borrowed)]
     related = [f'Is {kind.row} {term} ({machine} ∷ [])' for kind, term, machine in zip(callee.plain, terms, machines)]
     asked = related + ([callee.asks(lists, terms)] if callee.asks else [])
     proofs = spaced([f'p{number}' for number in values] + (['asked'] if callee.asks else []))
@@ -114,11 +114,11 @@ def handing(callee):
     context = Context(['handed'])
     if callee.asks:
         context.step('says ! asked')
-    tokens, lent = ([f'{name}{slice.number}' for slice in callee.lent] for name in ('token', 'slice'))
-    for part in (tokens + lent)[:-1]:
+    tokens, borrowed = ([f'{name}{slice.number}' for slice in callee.borrowed] for name in ('token', 'slice'))
+    for part in (tokens + borrowed)[:-1]:
         context.split('handed', part, 'handed')
-    if lent:
-        context.rename('handed', lent[-1])
+    if borrowed:
+        context.rename('handed', borrowed[-1])
     else:
         context.make(['handed'], [], 'drop !')
     context.gather(tokens, 'tokens')
@@ -126,7 +126,7 @@ def handing(callee):
     for number, kind in reversed(list(enumerate(callee.plain))):
         context.make([], ['value'], f'owned ! {kind.row} (Is {kind.row}) ({kind.makes}) v{number} _ p{number}')
         context.fjoin('value', 'owned', 'owned')
-    for slice in reversed(lent):
+    for slice in reversed(borrowed):
         context.fjoin(slice, 'owned', 'owned')
     if callee.asks:
         context.frame('tokens')
@@ -140,7 +140,7 @@ def handing(callee):
 # ---- the steps of a call
 
 class Call(NamedTuple):
-    """One call: its number in the walk, the contents of what is lent, and the values."""
+    """One call: its number in the walk, the contents of what is borrowed, and the values."""
     callee: Callee
     number: int
     lists: list
@@ -155,8 +155,8 @@ class Call(NamedTuple):
     @property
     def given(self):
         """What the lemmas on the callee are applied to."""
-        lent = self.callee.lent
-        return spaced([self.lifetime(slice) for slice in lent] + [self.name(slice) for slice in lent] + self.lists
+        borrowed = self.callee.borrowed
+        return spaced([self.lifetime(slice) for slice in borrowed] + [self.name(slice) for slice in borrowed] + self.lists
                       + [atom(value.term) for value in self.values] + [atom(value.machine) for value in self.values])
 
     @property
@@ -165,29 +165,29 @@ class Call(NamedTuple):
 
     @property
     def lifetimes(self):
-        return nest(f'{self.lifetime(slice)} ∷ []' for slice in self.callee.lent)
+        return nest(f'{self.lifetime(slice)} ∷ []' for slice in self.callee.borrowed)
 
     @property
     def arguments(self):
-        lent = [f'ref{slice.number} {self.name(slice)} {contents}' for slice, contents in zip(self.callee.lent, self.lists)]
-        return nest(lent + [value.term for value in self.values])
+        borrowed = [f'ref{slice.number} {self.name(slice)} {contents}' for slice, contents in zip(self.callee.borrowed, self.lists)]
+        return nest(borrowed + [value.term for value in self.values])
 
     @property
     def tokens(self):
-        tokens = ''.join(f'‵ (flft ({self.lifetime(slice)} ∷ []) fullShare) ⊛ ' for slice in self.callee.lent)
+        tokens = ''.join(f'‵ (flft ({self.lifetime(slice)} ∷ []) fullShare) ⊛ ' for slice in self.callee.borrowed)
         return f'({tokens}‵ ftrue)' if tokens else '‵ ftrue'
 
     def after(self, slice, lasts=None):
-        """The contents of a slice that was lent, of what is left after."""
-        return f'({lasts or f"zs{self.number}"}{" .1" * self.callee.lent.index(slice)} .0)'
+        """The contents of a slice that was borrowed, of what is left after."""
+        return f'({lasts or f"zs{self.number}"}{" .1" * self.callee.borrowed.index(slice)} .0)'
 
     def said(self, lasts=None):
         """What the callee says, of what is left after."""
-        after = [self.after(slice, lasts) for slice in self.callee.lent]
+        after = [self.after(slice, lasts) for slice in self.callee.borrowed]
         return self.callee.says(self.lists, [atom(value.term) for value in self.values], after, f'r{self.number}')
 
-    def borrowed(self, slice, at):
-        """A slice that is lent, as the laws of lending again have it."""
+    def loan(self, slice, at):
+        """A slice that is borrowed, as the laws of borrowing again have it."""
         number = slice.number
         held = f'{slice.kind.row} κ{number} q{number} γ{number} b{number} o{number}'
         return f'{held} ({self.lifetime(slice)} ∷ []) 𝓤 H A W (named {number}) (named {at})'
@@ -197,7 +197,7 @@ class Call(NamedTuple):
         """The variables that the call binds for what follows, with their types."""
         number, row = self.number, self.callee.answer.row
         lengths = {f'g{number}{slice.number}': f'length {self.after(slice)} ≡ length {contents}'
-                   for slice, contents in zip(self.callee.lent, self.lists) if slice.mutable}
+                   for slice, contents in zip(self.callee.borrowed, self.lists) if slice.mutable}
         return {f'w{number}': 'Val', f'r{number}': self.callee.answer.values, f'zs{number}': self.callee.lasts, f'e{number}': self.said(), **lengths,
                 f'is{number}': f'Is {row} r{number} (w{number} ∷ [])'}
 
@@ -223,40 +223,40 @@ class Caller(Walk):
         self.call(target, callee, f'known{" .1" * place} .0', operands.split(', '))
 
     def call(self, target, callee, known, operands):
-        """The slices that are lent go to the callee for lifetimes of the call, and come back as it says."""
-        values = [self.values[operand] for operand in operands[len(callee.lent):]]
-        call = Call(callee, len(self.calls) + 1, [self.lists[slice.number] for slice in callee.lent], values)
+        """The slices that are borrowed go to the callee for lifetimes of the call, and come back as it says."""
+        values = [self.values[operand] for operand in operands[len(callee.borrowed):]]
+        call = Call(callee, len(self.calls) + 1, [self.lists[slice.number] for slice in callee.borrowed], values)
         self.calls.append(call)
-        for at, slice in enumerate(callee.lent):
-            self.lend(call, at, slice)
+        for at, slice in enumerate(callee.borrowed):
+            self.borrow(call, at, slice)
         self.hand_over(call, known, operands)
         self.hear(call)
         self.land(call, target)
-        for slice in callee.lent:
+        for slice in callee.borrowed:
             self.split('tokens', call.lifetime(slice), 'tokens')
             self.step('lft-end ! tt')
         self.rename('tokens', f'tokens{call.number}')
-        for slice in callee.lent:
+        for slice in callee.borrowed:
             self.take_back(call, slice)
 
-    def lend(self, call, at, slice):
+    def borrow(self, call, at, slice):
         number, lifetime, contents = slice.number, call.lifetime(slice), self.lists[slice.number]
-        kept = f'Lent{number} {lifetime} δ {contents}' if slice.mutable else f'Shared{number} {lifetime} {contents}'
+        kept = f'Borrowed{number} {lifetime} δ {contents}' if slice.mutable else f'Shared{number} {lifetime} {contents}'
         loan = f'(λ (δ : GName). ‵ ({slice.owned(at, f"({lifetime} ∷ [])", "δ", contents)}) ⊛ ‵ ({kept}))'
-        rule = f'{"lends" if slice.mutable else "shares"}-again {call.borrowed(slice, at)} {contents} (length L{number}) {self.lengths[number]}'
+        rule = f'{"borrows" if slice.mutable else "shares"}-again {call.loan(slice, at)} {contents} (length L{number}) {self.lengths[number]}'
         self.make([], [lifetime], f'lft-new ! tt (λ {lifetime}.')
         self.make([f'slice{number}', f'lft{number}'], [f'loan{number}'], f'use2 W (later (some {loan})) ({rule})')
         self.step('await ! tt')
         self.step(f'pick ! (λ {call.name(slice)}.')
-        self.split(f'loan{number}', f'lent{number}', f'kept{number}')
+        self.split(f'loan{number}', f'borrowed{number}', f'kept{number}')
 
     def hand_over(self, call, known, operands):
-        """What is lent as the callee asks for it, and the call itself."""
+        """What is borrowed as the callee asks for it, and the call itself."""
         callee = call.callee
-        lent = [call.lifetime(slice) for slice in callee.lent] + [f'lent{slice.number}' for slice in callee.lent]
-        if lent:
-            self.rename(lent[-1], 'handed')
-            for fact in reversed(lent[:-1]):
+        borrowed = [call.lifetime(slice) for slice in callee.borrowed] + [f'borrowed{slice.number}' for slice in callee.borrowed]
+        if borrowed:
+            self.rename(borrowed[-1], 'handed')
+            for fact in reversed(borrowed[:-1]):
                 self.join(fact, 'handed', 'handed')
         else:
             self.make([], ['handed'], 'nothing !')
@@ -266,7 +266,7 @@ class Caller(Walk):
         self.step(f'calls-at ! (fmOf 𝓤 H (W .laws) 𝓣) ({callee.contract}) ({known}) {call.ghost} {rule} (λ w{call.number}.')
 
     def hear(self, call):
-        """What the callee leaves: the tokens, its answer, the last contents of what was lent, and what it says of them."""
+        """What the callee leaves: the tokens, its answer, the last contents of what was borrowed, and what it says of them."""
         callee, number, alias = call.callee, call.number, call.callee.alias
         ensured = f'ensured 𝓤 H A {alias}.ended ({alias}.clauses 𝓤 H A mem run) {call.lifetimes} {call.arguments} tt r'
         left = f'({call.tokens} ⊛ ‵ ({callee.answer.row} .own r (w{number} ∷ []))) ⊛ raw ({ensured})'
@@ -279,7 +279,7 @@ class Caller(Walk):
         self.step(f'pick ! (λ zs{number}.')
         self.split('ended', 'lasts', 'fact')
         self.make(['fact'], [], f'heard ! ({call.said()}) (λ e{number}.')
-        for slice in callee.lent:
+        for slice in callee.borrowed:
             if slice.mutable:
                 self.fsplit('lasts', 'last', 'lasts')
                 self.fsplit('last', f'final{slice.number}', 'long')
@@ -300,14 +300,14 @@ class Caller(Walk):
 
     def take_back(self, call, slice):
         number, contents, length = slice.number, self.lists[slice.number], self.lengths[slice.number]
-        held, again = [call.lifetime(slice), f'kept{number}'], f'{call.borrowed(slice, number)} {contents} (length L{number}) {length}'
+        held, again = [call.lifetime(slice), f'kept{number}'], f'{call.loan(slice, number)} {contents} (length L{number}) {length}'
         if slice.mutable:
             held.append(f'final{number}')
             self.lists[number], longer = call.after(slice), f'g{call.number}{number}'
             self.lengths[number] = longer if length == 'refl' else f'({longer} ∙ {length})'
-            rule = f'comes-back {again} {call.name(slice)} {self.lists[number]} room{number} {longer}'
+            rule = f'comes-back {again} {call.name(slice)} {self.lists[number]} fits{number} {longer}'
         else:
-            rule = f'comes-unchanged {again} room{number}'
+            rule = f'comes-unchanged {again} fits{number}'
         owned = self.slices[number].owned(number, f'κ{number}', f'γ{number}', self.lists[number])
         self.make(held, [f'back{number}'], f'use{len(held)} W (later (‵ ({owned}) ⊛ ‵ (flft κ{number} q{number}))) ({rule})')
         self.step('await ! tt')

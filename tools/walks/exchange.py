@@ -122,7 +122,7 @@ def exits():
     for s in reversed(SLICES):
         n, row = s.number, s.kind.row
         context.fjoin(f'obs{n}', f'bor{n}', f'slice{n}')
-        long = f'(ap (λ (m : ℕ). sliceVal (b{n}, o{n}) m ∷ []) (sym (long{n} i)), subst (Room {row}) (sym (long{n} i)) room{n})'
+        long = f'(ap (λ (m : ℕ). sliceVal (b{n}, o{n}) m ∷ []) (sym (long{n} i)), subst (Room {row}) (sym (long{n} i)) fits{n})'
         context.make([], ['at'], f'pureI ! (at-slice {row} (ref{n} γ{n} (A{n} i)) (s{n} ∷ [])) (tt, (tt, tt)) {long}')
         context.fjoin('at', f'slice{n}', f'slice{n}')
         context.fjoin(f'slice{n}', 'owned', 'owned')

@@ -83,7 +83,7 @@ def exits():
     context.make([], ['count'], f'owned ! usize (Is usize) ({WORD.makes}) count _ (refl, count-fits)')
     context.fjoin('count', 'owned', 'owned')
     context.fjoin('res0', 'shr0', 'slice0')
-    context.make([], ['at'], 'pureI ! (at-slice T.the-row (ref0 γ0 L0) (s0 ∷ [])) (tt, (tt, tt)) (refl, room0)')
+    context.make([], ['at'], 'pureI ! (at-slice T.the-row (ref0 γ0 L0) (s0 ∷ [])) (tt, (tt, tt)) (refl, fits0)')
     context.fjoin('at', 'slice0', 'slice0')
     context.fjoin('slice0', 'owned', 'owned')
     context.frame('owned')

@@ -66,7 +66,7 @@ def elements(subject):
   in{s.number} i less = subst (λ (m : ℕ). i .0 < m) (sym (long{s.number} i)) (within{s.number} i less)
 
   off{s.number} : (i : Upto) → T (ltb (i .0) n) → i .0 * {s.kind.size} < 2 ^ 64
-  off{s.number} i less = offset-{s.kind.size} (i .0) (length L{s.number}) (within{s.number} i less) (room{s.number} .1)
+  off{s.number} i less = offset-{s.kind.size} (i .0) (length L{s.number}) (within{s.number} i less) (fits{s.number} .1)
 
 ''' for s in subject.slices)
     fields = ''.join(f'''  c-fits{k} : (i : Upto) → Known-c i → {field.kind.fits.format(f"({field.get} (old-c i))")}

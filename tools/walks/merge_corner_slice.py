@@ -51,7 +51,7 @@ CALLEES = (
 )
 SUBJECT = Subject(
     'merge_corner_slice',
-    '''-- `merge_slice::merge_corner_slice` meets its contract: a walk of its code, by hand, in parts that end behind a call. At each call the slices are lent
+    '''-- `merge_slice::merge_corner_slice` meets its contract: a walk of its code, by hand, in parts that end behind a call. At each call the slices are borrowed
 -- again, for lifetimes made for the call, and come back at the lists that the callee left (proofs/Again.antt). Of the callees it knows their contracts
 -- alone; what these say together is proofs/Slice.antt's `slice-merged`. Slice 0 is that of the corners, the others are the scratch. Assumes nothing.
 ''',
@@ -64,13 +64,13 @@ Exchanges n cs b cs′ b′ = (cs′ ≡ front (cornersOf b n) cs) × (b′ ≡ 
 '''
 
 
-def lending():
-    """What is kept of a slice that is lent."""
-    lent = ''.join(f'''  abbrev Lent{s.number} : ℕ → GName → List {s.kind.values} → Fml
-  Lent{s.number} ν δ l = LentAgain {s.kind.row} κ{s.number} q{s.number} γ{s.number} b{s.number} o{s.number} (ν ∷ []) δ l
+def borrowing():
+    """What is kept of a slice that is borrowed."""
+    borrowed = ''.join(f'''  abbrev Borrowed{s.number} : ℕ → GName → List {s.kind.values} → Fml
+  Borrowed{s.number} ν δ l = BorrowedAgain {s.kind.row} κ{s.number} q{s.number} γ{s.number} b{s.number} o{s.number} (ν ∷ []) δ l
 
 ''' for s in SLICES)
-    return f'''{lent}  abbrev Shared0 : ℕ → List Corner → Fml
+    return f'''{borrowed}  abbrev Shared0 : ℕ → List Corner → Fml
   Shared0 ν l = SharedAgain T.the-row κ0 q0 γ0 b0 o0 (ν ∷ []) l
 
 '''
@@ -215,5 +215,5 @@ def walk():
 
 
 def proof():
-    return file(SUBJECT, EXCHANGES, parameters(SUBJECT), lending(), fitting(), '  -- ---- what the callees are handed\n',
+    return file(SUBJECT, EXCHANGES, parameters(SUBJECT), borrowing(), fitting(), '  -- ---- what the callees are handed\n',
                 *map(handed, CALLEES), exits(), walk())

@@ -86,7 +86,7 @@ Rattle.merge_slice.specs.MergeSlice.{MergesSlice}
 Rattle.merge_slice.proofs.Turns.{nowhere, cornersUpto, corners-long, corners-turn, fieldsUpto, fields-long, fields-turn, outsideUpto, outside-turn}
 Rattle.merge_slice.proofs.Turns.{take-counted}
 Rattle.merge_slice.proofs.Slice.{slice-merged}
-Rattle.merge_slice.proofs.Again.{LentAgain, lends-again, comes-back, SharedAgain, shares-again, comes-unchanged}
+Rattle.merge_slice.proofs.Again.{BorrowedAgain, borrows-again, comes-back, SharedAgain, shares-again, comes-unchanged}
 '''
 
 GIVEN = '{M : Type 1} (𝓤 : URA M) (H : Heap 𝓤) (A : Atoms 𝓤) (W : Given 𝓤 H A) (mem : Memory → SProp 𝓤) (run : Routine → Fun 𝓤)'
@@ -175,7 +175,7 @@ def parameters(subject):
     lines = [spaced(names)]
     for s in subject.slices:
         n, kind = s.number, s.kind
-        lines.append(f'(b{n} o{n} : ℕ) (γ{n} : GName) (L{n} : List {kind.values}) (room{n} : Room {kind.row} (length L{n}))')
+        lines.append(f'(b{n} o{n} : ℕ) (γ{n} : GName) (L{n} : List {kind.values}) (fits{n} : Room {kind.row} (length L{n}))')
     values = [f'({plain.name} : {plain.kind.values}) ({plain.name}-fits : {plain.kind.fits.format(plain.name)})' for plain in subject.plain]
     lines.append(spaced(values + [f'({name} : {fact})' for name, fact in subject.asks]))
     machines = subject.each(lambda s: f's{s.number}', lambda p: p.kind.machine.format(p.name))

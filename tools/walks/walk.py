@@ -103,7 +103,7 @@ class Value:
 
 def borrow(slice):
     """A slice, as a pointer and a count."""
-    count = Value(WORD, f'length L{slice.number}', f'room{slice.number} .0')
+    count = Value(WORD, f'length L{slice.number}', f'fits{slice.number} .0')
     return Value(POINTER, parts=(Value(POINTER, slice=slice), count), slice=slice)
 
 

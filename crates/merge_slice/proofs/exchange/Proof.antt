@@ -134,11 +134,11 @@ offset-16 i n l h = omega arith
 
 module _ {M : Type 1} (𝓤 : URA M) (H : Heap 𝓤) (A : Atoms 𝓤) (W : Given 𝓤 H A) (mem : Memory → SProp 𝓤) (run : Routine → Fun 𝓤)
     (κ0 κ1 κ2 κ3 κ4 : Lft) (q0 q1 q2 q3 q4 : Share)
-    (b0 o0 : ℕ) (γ0 : GName) (L0 : List Corner) (room0 : Room T.the-row (length L0))
-    (b1 o1 : ℕ) (γ1 : GName) (L1 : List Float) (room1 : Room f32 (length L1))
-    (b2 o2 : ℕ) (γ2 : GName) (L2 : List Float) (room2 : Room f32 (length L2))
-    (b3 o3 : ℕ) (γ3 : GName) (L3 : List Float) (room3 : Room f32 (length L3))
-    (b4 o4 : ℕ) (γ4 : GName) (L4 : List ℕ) (room4 : Room u32 (length L4))
+    (b0 o0 : ℕ) (γ0 : GName) (L0 : List Corner) (fits0 : Room T.the-row (length L0))
+    (b1 o1 : ℕ) (γ1 : GName) (L1 : List Float) (fits1 : Room f32 (length L1))
+    (b2 o2 : ℕ) (γ2 : GName) (L2 : List Float) (fits2 : Room f32 (length L2))
+    (b3 o3 : ℕ) (γ3 : GName) (L3 : List Float) (fits3 : Room f32 (length L3))
+    (b4 o4 : ℕ) (γ4 : GName) (L4 : List ℕ) (fits4 : Room u32 (length L4))
     (n : ℕ) (n-fits : n < 2 ^ 64) (n0 : n ≤ length L0) (nb : n ≤ placesOf (slices L1 L2 L3 L4)) where
   abbrev ref0 : GName → List Corner → RefT (List Corner)
   ref0 δ l = record { ptr = (b0, o0); name = δ; now = l }
@@ -276,15 +276,15 @@ module _ {M : Type 1} (𝓤 : URA M) (H : Heap 𝓤) (A : Atoms 𝓤) (W : Given
       move ! (3 ∷ 0 ∷ []) $ join ! $ frame ! $ nothing ! $ owned ! usize (Is usize) (uint-makes 𝓤 H A W w64) n _ (refl, n-fits) $ fjoin ! $
       move ! (9 ∷ 10 ∷ []) $ fjoin ! $
       pureI ! (at-slice u32 (ref4 γ4 (A4 i)) (s4 ∷ [])) (tt, (tt, tt))
-      (ap (λ (m : ℕ). sliceVal (b4, o4) m ∷ []) (sym (long4 i)), subst (Room u32) (sym (long4 i)) room4) $ fjoin ! $ fjoin ! $ move ! (7 ∷ 8 ∷ []) $ fjoin ! $
+      (ap (λ (m : ℕ). sliceVal (b4, o4) m ∷ []) (sym (long4 i)), subst (Room u32) (sym (long4 i)) fits4) $ fjoin ! $ fjoin ! $ move ! (7 ∷ 8 ∷ []) $ fjoin ! $
       pureI ! (at-slice f32 (ref3 γ3 (A3 i)) (s3 ∷ [])) (tt, (tt, tt))
-      (ap (λ (m : ℕ). sliceVal (b3, o3) m ∷ []) (sym (long3 i)), subst (Room f32) (sym (long3 i)) room3) $ fjoin ! $ fjoin ! $ move ! (5 ∷ 6 ∷ []) $ fjoin ! $
+      (ap (λ (m : ℕ). sliceVal (b3, o3) m ∷ []) (sym (long3 i)), subst (Room f32) (sym (long3 i)) fits3) $ fjoin ! $ fjoin ! $ move ! (5 ∷ 6 ∷ []) $ fjoin ! $
       pureI ! (at-slice f32 (ref2 γ2 (A2 i)) (s2 ∷ [])) (tt, (tt, tt))
-      (ap (λ (m : ℕ). sliceVal (b2, o2) m ∷ []) (sym (long2 i)), subst (Room f32) (sym (long2 i)) room2) $ fjoin ! $ fjoin ! $ move ! (3 ∷ 4 ∷ []) $ fjoin ! $
+      (ap (λ (m : ℕ). sliceVal (b2, o2) m ∷ []) (sym (long2 i)), subst (Room f32) (sym (long2 i)) fits2) $ fjoin ! $ fjoin ! $ move ! (3 ∷ 4 ∷ []) $ fjoin ! $
       pureI ! (at-slice f32 (ref1 γ1 (A1 i)) (s1 ∷ [])) (tt, (tt, tt))
-      (ap (λ (m : ℕ). sliceVal (b1, o1) m ∷ []) (sym (long1 i)), subst (Room f32) (sym (long1 i)) room1) $ fjoin ! $ fjoin ! $ move ! (1 ∷ 2 ∷ []) $ fjoin ! $
+      (ap (λ (m : ℕ). sliceVal (b1, o1) m ∷ []) (sym (long1 i)), subst (Room f32) (sym (long1 i)) fits1) $ fjoin ! $ fjoin ! $ move ! (1 ∷ 2 ∷ []) $ fjoin ! $
       pureI ! (at-slice T.the-row (ref0 γ0 (A0 i)) (s0 ∷ [])) (tt, (tt, tt))
-      (ap (λ (m : ℕ). sliceVal (b0, o0) m ∷ []) (sym (long0 i)), subst (Room T.the-row) (sym (long0 i)) room0) $ fjoin ! $ fjoin ! $ frame ! $
+      (ap (λ (m : ℕ). sliceVal (b0, o0) m ∷ []) (sym (long0 i)), subst (Room T.the-row) (sym (long0 i)) fits0) $ fjoin ! $ fjoin ! $ frame ! $
       feqI ! (List Val) (vunit ∷ []) (vunit ∷ []) refl $ done !
 
   within0 : (i : Upto) → T (ltb (i .0) n) → i .0 < length L0
@@ -294,7 +294,7 @@ module _ {M : Type 1} (𝓤 : URA M) (H : Heap 𝓤) (A : Atoms 𝓤) (W : Given
   in0 i less = subst (λ (m : ℕ). i .0 < m) (sym (long0 i)) (within0 i less)
 
   off0 : (i : Upto) → T (ltb (i .0) n) → i .0 * 16 < 2 ^ 64
-  off0 i less = offset-16 (i .0) (length L0) (within0 i less) (room0 .1)
+  off0 i less = offset-16 (i .0) (length L0) (within0 i less) (fits0 .1)
 
   within1 : (i : Upto) → T (ltb (i .0) n) → i .0 < length L1
   within1 i less = lt-of-lt-of-le (ltb→lt (i .0) n less) n1
@@ -303,7 +303,7 @@ module _ {M : Type 1} (𝓤 : URA M) (H : Heap 𝓤) (A : Atoms 𝓤) (W : Given
   in1 i less = subst (λ (m : ℕ). i .0 < m) (sym (long1 i)) (within1 i less)
 
   off1 : (i : Upto) → T (ltb (i .0) n) → i .0 * 4 < 2 ^ 64
-  off1 i less = offset-4 (i .0) (length L1) (within1 i less) (room1 .1)
+  off1 i less = offset-4 (i .0) (length L1) (within1 i less) (fits1 .1)
 
   within2 : (i : Upto) → T (ltb (i .0) n) → i .0 < length L2
   within2 i less = lt-of-lt-of-le (ltb→lt (i .0) n less) n2
@@ -312,7 +312,7 @@ module _ {M : Type 1} (𝓤 : URA M) (H : Heap 𝓤) (A : Atoms 𝓤) (W : Given
   in2 i less = subst (λ (m : ℕ). i .0 < m) (sym (long2 i)) (within2 i less)
 
   off2 : (i : Upto) → T (ltb (i .0) n) → i .0 * 4 < 2 ^ 64
-  off2 i less = offset-4 (i .0) (length L2) (within2 i less) (room2 .1)
+  off2 i less = offset-4 (i .0) (length L2) (within2 i less) (fits2 .1)
 
   within3 : (i : Upto) → T (ltb (i .0) n) → i .0 < length L3
   within3 i less = lt-of-lt-of-le (ltb→lt (i .0) n less) n3
@@ -321,7 +321,7 @@ module _ {M : Type 1} (𝓤 : URA M) (H : Heap 𝓤) (A : Atoms 𝓤) (W : Given
   in3 i less = subst (λ (m : ℕ). i .0 < m) (sym (long3 i)) (within3 i less)
 
   off3 : (i : Upto) → T (ltb (i .0) n) → i .0 * 4 < 2 ^ 64
-  off3 i less = offset-4 (i .0) (length L3) (within3 i less) (room3 .1)
+  off3 i less = offset-4 (i .0) (length L3) (within3 i less) (fits3 .1)
 
   within4 : (i : Upto) → T (ltb (i .0) n) → i .0 < length L4
   within4 i less = lt-of-lt-of-le (ltb→lt (i .0) n less) n4
@@ -330,7 +330,7 @@ module _ {M : Type 1} (𝓤 : URA M) (H : Heap 𝓤) (A : Atoms 𝓤) (W : Given
   in4 i less = subst (λ (m : ℕ). i .0 < m) (sym (long4 i)) (within4 i less)
 
   off4 : (i : Upto) → T (ltb (i .0) n) → i .0 * 4 < 2 ^ 64
-  off4 i less = offset-4 (i .0) (length L4) (within4 i less) (room4 .1)
+  off4 i less = offset-4 (i .0) (length L4) (within4 i less) (fits4 .1)
 
   -- the corner at the counter, whose fields are a machine's
   abbrev old-c : Upto → Corner
@@ -589,9 +589,9 @@ module _ {M : Type 1} (𝓤 : URA M) (H : Heap 𝓤) (A : Atoms 𝓤) (W : Given
         alloc1 ! (λ l6. alloc1 ! (λ l7. alloc1 ! (λ l8. alloc1 ! (λ l9. alloc1 ! (λ l10. alloc1 ! (λ l11. alloc1 ! (λ l12. alloc1 ! (λ l13. alloc1 ! (λ l14.
         alloc1 ! (λ l15. alloc1 ! (λ l16. alloc1 ! (λ l17. alloc1 ! (λ l18. alloc1 ! (λ l19. alloc1 ! (λ l20. alloc1 ! (λ l21. alloc1 ! (λ l22. alloc1 ! (λ l23.
         alloc1 ! (λ l24. alloc1 ! (λ l25. alloc1 ! (λ l26. alloc1 ! (λ l27. alloc1 ! (λ l28. alloc1 ! (λ l29. alloc0 ! $ params1 ! $
-        pass1 ! (init ! 56 refl (tt, (tt, (record { fits = room0 .0 }, tt)))) $ pass1 ! (init ! 54 refl (tt, (tt, (record { fits = room1 .0 }, tt)))) $
-        pass1 ! (init ! 52 refl (tt, (tt, (record { fits = room2 .0 }, tt)))) $ pass1 ! (init ! 50 refl (tt, (tt, (record { fits = room3 .0 }, tt)))) $
-        pass1 ! (init ! 48 refl (tt, (tt, (record { fits = room4 .0 }, tt)))) $ pass1 ! (init ! 46 refl (tt, record { fits = n-fits })) $ pass0 ! $
+        pass1 ! (init ! 56 refl (tt, (tt, (record { fits = fits0 .0 }, tt)))) $ pass1 ! (init ! 54 refl (tt, (tt, (record { fits = fits1 .0 }, tt)))) $
+        pass1 ! (init ! 52 refl (tt, (tt, (record { fits = fits2 .0 }, tt)))) $ pass1 ! (init ! 50 refl (tt, (tt, (record { fits = fits3 .0 }, tt)))) $
+        pass1 ! (init ! 48 refl (tt, (tt, (record { fits = fits4 .0 }, tt)))) $ pass1 ! (init ! 46 refl (tt, record { fits = n-fits })) $ pass0 ! $
         move ! (61 ∷ []) $ fsplit ! $ move ! (1 ∷ []) $ fsplit ! $ move ! (1 ∷ []) $ fsplit ! $ move ! (1 ∷ []) $ fsplit ! $ move ! (1 ∷ []) $ fsplit ! $
         move ! (66 ∷ []) $ split ! $ move ! (1 ∷ []) $ split ! $ move ! (1 ∷ []) $ split ! $ move ! (1 ∷ []) $ split ! $ move ! (1 ∷ []) $ split ! $
         -- _7 = 0

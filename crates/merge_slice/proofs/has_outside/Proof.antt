@@ -127,7 +127,7 @@ offset-16 i n l h = omega arith
 
 module _ {M : Type 1} (𝓤 : URA M) (H : Heap 𝓤) (A : Atoms 𝓤) (W : Given 𝓤 H A) (mem : Memory → SProp 𝓤) (run : Routine → Fun 𝓤)
     (κ0 : Lft) (q0 : Share)
-    (b0 o0 : ℕ) (γ0 : GName) (L0 : List Corner) (room0 : Room T.the-row (length L0))
+    (b0 o0 : ℕ) (γ0 : GName) (L0 : List Corner) (fits0 : Room T.the-row (length L0))
     (count : ℕ) (count-fits : count < 2 ^ 64) where
   abbrev ref0 : GName → List Corner → RefT (List Corner)
   ref0 δ l = record { ptr = (b0, o0); name = δ; now = l }
@@ -193,7 +193,7 @@ module _ {M : Type 1} (𝓤 : URA M) (H : Heap 𝓤) (A : Atoms 𝓤) (W : Given
   in0 i less = subst (λ (m : ℕ). i .0 < m) (sym (long0 i)) (within0 i less)
 
   off0 : (i : Upto) → T (ltb (i .0) n) → i .0 * 16 < 2 ^ 64
-  off0 i less = offset-16 (i .0) (length L0) (within0 i less) (room0 .1)
+  off0 i less = offset-16 (i .0) (length L0) (within0 i less) (fits0 .1)
 
   -- the corner at the counter, whose fields are a machine's
   abbrev old-c : Upto → Corner
@@ -227,7 +227,7 @@ module _ {M : Type 1} (𝓤 : URA M) (H : Heap 𝓤) (A : Atoms 𝓤) (W : Given
       (vbool (outsideUpto L0 (i .0))) (outsideUpto L0 (i .0)) (tt, (tt, tt)) (tt, (tt, tt))) $
       says ! (ap (outsideUpto L0) e ∙ ap (any isOutside) (take-counted count L0)) $
       nothing ! $ move ! (1 ∷ 0 ∷ []) $ join ! $ frame ! $ nothing ! $ owned ! usize (Is usize) (uint-makes 𝓤 H A W w64) count _ (refl, count-fits) $ fjoin ! $
-      move ! (1 ∷ 2 ∷ []) $ fjoin ! $ pureI ! (at-slice T.the-row (ref0 γ0 L0) (s0 ∷ [])) (tt, (tt, tt)) (refl, room0) $ fjoin ! $ fjoin ! $ frame ! $
+      move ! (1 ∷ 2 ∷ []) $ fjoin ! $ pureI ! (at-slice T.the-row (ref0 γ0 L0) (s0 ∷ [])) (tt, (tt, tt)) (refl, fits0) $ fjoin ! $ fjoin ! $ frame ! $
       feqI ! (List Val) (vbool (outsideUpto L0 (i .0)) ∷ []) (vbool (outsideUpto L0 (i .0)) ∷ []) refl $ done !
 
   -- ---- what the callees are handed
@@ -362,7 +362,7 @@ module _ {M : Type 1} (𝓤 : URA M) (H : Heap 𝓤) (A : Atoms 𝓤) (W : Given
         ‵ (owns (ShrSlice (named 0) κ0 T.the-row ∷ usize ∷ []) args vals) ∷ []) ∵
         enter ! (𝓣 .C) (𝓣 .Λ) code.function machs _ $ alloc1 ! (λ l0. alloc1 ! (λ l1. alloc1 ! (λ l2. alloc1 ! (λ l3. alloc1 ! (λ l4. alloc1 ! (λ l5.
         alloc1 ! (λ l6. alloc1 ! (λ l7. alloc1 ! (λ l8. alloc1 ! (λ l9. alloc1 ! (λ l10. alloc0 ! $ params1 ! $
-        pass1 ! (init ! 18 refl (tt, (tt, (record { fits = room0 .0 }, tt)))) $ pass1 ! (init ! 16 refl (tt, record { fits = count-fits })) $ pass0 ! $
+        pass1 ! (init ! 18 refl (tt, (tt, (record { fits = fits0 .0 }, tt)))) $ pass1 ! (init ! 16 refl (tt, record { fits = count-fits })) $ pass0 ! $
         move ! (23 ∷ []) $ fsplit ! $ move ! (24 ∷ []) $ split ! $
         -- _3 = false
         assigns ! (of-opd ! (false-lit !)) (from ! (stop !)) (init ! 18 refl (tt, tt)) $
@@ -370,11 +370,11 @@ module _ {M : Type 1} (𝓤 : URA M) (H : Heap 𝓤) (A : Atoms 𝓤) (W : Given
         assigns ! (of-opd ! (lit ! tt)) (from ! (stop !)) (init ! 16 refl (tt, record { fits = lit< tt })) $
         -- _6 = _1.1
         assigns ! (of-opd ! (load ! (from ! (fld ! refl (stop !))) (look-in ! 22 (sub ! 1 refl (whole !))))) (from ! (stop !))
-        (init ! 12 refl (tt, record { fits = room0 .0 })) $
+        (init ! 12 refl (tt, record { fits = fits0 .0 })) $
         -- _5 = lesser(_2, _6)
         nothing ! $
         use1 W (raw (Lesser 𝓤 H A mem run .pre (to-lesser count (length L0) (vint w64 count) (vint w64 (length L0)))))
-        (goes-lesser count (length L0) (vint w64 count) (vint w64 (length L0)) (refl, count-fits) (refl, room0 .0)) $
+        (goes-lesser count (length L0) (vint w64 count) (vint w64 (length L0)) (refl, count-fits) (refl, fits0 .0)) $
         calls-at ! (fmOf 𝓤 H (W .laws) 𝓣) (Lesser 𝓤 H A mem run) (known .0) (to-lesser count (length L0) (vint w64 count) (vint w64 (length L0)))
         (and-then ! (load ! (from ! (stop !)) (look ! 21 refl)) (and-then ! (load ! (from ! (stop !)) (look ! 13 refl)) (no-more !))) (λ w1.
         use1 W (later (some (λ (r : ℕ). (‵ ftrue ⊛ ‵ (usize .own r (w1 ∷ []))) ⊛ raw

@@ -1,5 +1,5 @@
 -- Written by tools/walks/merge_corner_slice.py, and not edited by hand.
--- `merge_slice::merge_corner_slice` meets its contract: a walk of its code, by hand, in parts that end behind a call. At each call the slices are lent
+-- `merge_slice::merge_corner_slice` meets its contract: a walk of its code, by hand, in parts that end behind a call. At each call the slices are borrowed
 -- again, for lifetimes made for the call, and come back at the lists that the callee left (proofs/Again.antt). Of the callees it knows their contracts
 -- alone; what these say together is proofs/Slice.antt's `slice-merged`. Slice 0 is that of the corners, the others are the scratch. Assumes nothing.
 use mathlib.Core.Path.{_≡_, refl, ap, _∙_}
@@ -64,7 +64,7 @@ use Rattle.merge.proofs.Merged as S
 use Rattle.merge.proofs.Merged.Laws as S′
 use Rattle.merge_slice.specs.MergeSlice.{MergesSlice}
 use Rattle.merge_slice.proofs.Slice.{slice-merged}
-use Rattle.merge_slice.proofs.Again.{LentAgain, lends-again, comes-back, SharedAgain, shares-again, comes-unchanged}
+use Rattle.merge_slice.proofs.Again.{BorrowedAgain, borrows-again, comes-back, SharedAgain, shares-again, comes-unchanged}
 use Rattle.merge_slice.proofs.has_outside as has-outside
 use Rattle.merge_slice.proofs.has_outside.Symbol as has-outside-def
 use Rattle.merge_slice.proofs.has_outside.Symbol.{name as #merge-slice·has-outside}
@@ -180,11 +180,11 @@ Exchanges n cs b cs′ b′ = (cs′ ≡ front (cornersOf b n) cs) × (b′ ≡ 
 
 module _ {M : Type 1} (𝓤 : URA M) (H : Heap 𝓤) (A : Atoms 𝓤) (W : Given 𝓤 H A) (mem : Memory → SProp 𝓤) (run : Routine → Fun 𝓤)
     (κ0 κ1 κ2 κ3 κ4 : Lft) (q0 q1 q2 q3 q4 : Share)
-    (b0 o0 : ℕ) (γ0 : GName) (L0 : List Corner) (room0 : Room T.the-row (length L0))
-    (b1 o1 : ℕ) (γ1 : GName) (L1 : List Float) (room1 : Room f32 (length L1))
-    (b2 o2 : ℕ) (γ2 : GName) (L2 : List Float) (room2 : Room f32 (length L2))
-    (b3 o3 : ℕ) (γ3 : GName) (L3 : List Float) (room3 : Room f32 (length L3))
-    (b4 o4 : ℕ) (γ4 : GName) (L4 : List ℕ) (room4 : Room u32 (length L4))
+    (b0 o0 : ℕ) (γ0 : GName) (L0 : List Corner) (fits0 : Room T.the-row (length L0))
+    (b1 o1 : ℕ) (γ1 : GName) (L1 : List Float) (fits1 : Room f32 (length L1))
+    (b2 o2 : ℕ) (γ2 : GName) (L2 : List Float) (fits2 : Room f32 (length L2))
+    (b3 o3 : ℕ) (γ3 : GName) (L3 : List Float) (fits3 : Room f32 (length L3))
+    (b4 o4 : ℕ) (γ4 : GName) (L4 : List ℕ) (fits4 : Room u32 (length L4))
     (count : ℕ) (count-fits : count < 2 ^ 64) (radius : Float) (radius-fits : Ieee.fits binary32 radius ≡ true) where
   abbrev ref0 : GName → List Corner → RefT (List Corner)
   ref0 δ l = record { ptr = (b0, o0); name = δ; now = l }
@@ -234,20 +234,20 @@ module _ {M : Type 1} (𝓤 : URA M) (H : Heap 𝓤) (A : Atoms 𝓤) (W : Given
   abbrev Post : Val → SProp 𝓤
   Post = walkOf 𝓤 H A f.ended stayed (f.clauses 𝓤 H A mem run) .post (((κ0, (κ1, (κ2, (κ3, (κ4, tt))))), (q0, (q1, (q2, (q3, (q4, tt))))), tt, args, vals), tt)
 
-  abbrev Lent0 : ℕ → GName → List Corner → Fml
-  Lent0 ν δ l = LentAgain T.the-row κ0 q0 γ0 b0 o0 (ν ∷ []) δ l
+  abbrev Borrowed0 : ℕ → GName → List Corner → Fml
+  Borrowed0 ν δ l = BorrowedAgain T.the-row κ0 q0 γ0 b0 o0 (ν ∷ []) δ l
 
-  abbrev Lent1 : ℕ → GName → List Float → Fml
-  Lent1 ν δ l = LentAgain f32 κ1 q1 γ1 b1 o1 (ν ∷ []) δ l
+  abbrev Borrowed1 : ℕ → GName → List Float → Fml
+  Borrowed1 ν δ l = BorrowedAgain f32 κ1 q1 γ1 b1 o1 (ν ∷ []) δ l
 
-  abbrev Lent2 : ℕ → GName → List Float → Fml
-  Lent2 ν δ l = LentAgain f32 κ2 q2 γ2 b2 o2 (ν ∷ []) δ l
+  abbrev Borrowed2 : ℕ → GName → List Float → Fml
+  Borrowed2 ν δ l = BorrowedAgain f32 κ2 q2 γ2 b2 o2 (ν ∷ []) δ l
 
-  abbrev Lent3 : ℕ → GName → List Float → Fml
-  Lent3 ν δ l = LentAgain f32 κ3 q3 γ3 b3 o3 (ν ∷ []) δ l
+  abbrev Borrowed3 : ℕ → GName → List Float → Fml
+  Borrowed3 ν δ l = BorrowedAgain f32 κ3 q3 γ3 b3 o3 (ν ∷ []) δ l
 
-  abbrev Lent4 : ℕ → GName → List ℕ → Fml
-  Lent4 ν δ l = LentAgain u32 κ4 q4 γ4 b4 o4 (ν ∷ []) δ l
+  abbrev Borrowed4 : ℕ → GName → List ℕ → Fml
+  Borrowed4 ν δ l = BorrowedAgain u32 κ4 q4 γ4 b4 o4 (ν ∷ []) δ l
 
   abbrev Shared0 : ℕ → List Corner → Fml
   Shared0 ν l = SharedAgain T.the-row κ0 q0 γ0 b0 o0 (ν ∷ []) l
@@ -542,50 +542,50 @@ module _ {M : Type 1} (𝓤 : URA M) (H : Heap 𝓤) (A : Atoms 𝓤) (W : Given
         -- _38 = struct _37 _1.1
         assigns ! (agg ! (and-then ! (load ! (from ! (stop !)) (look ! 28 refl))
         (and-then ! (load ! (from ! (fld ! refl (stop !))) (look-in ! 100 (sub ! 1 refl (whole !)))) (no-more !)))) (from ! (stop !))
-        (init ! 26 refl (tt, (tt, (record { fits = room0 .0 }, tt)))) $
+        (init ! 26 refl (tt, (tt, (record { fits = fits0 .0 }, tt)))) $
         -- _39 = &*_2.0
         assigns ! (addr ! (from ! (fld ! refl (hop ! (look-in ! 98 (sub ! 0 refl (whole !))) (stop !))))) (from ! (stop !)) (init ! 24 refl (tt, tt)) $
         -- _40 = struct _39 _2.1
         assigns ! (agg ! (and-then ! (load ! (from ! (stop !)) (look ! 24 refl))
         (and-then ! (load ! (from ! (fld ! refl (stop !))) (look-in ! 98 (sub ! 1 refl (whole !)))) (no-more !)))) (from ! (stop !))
-        (init ! 22 refl (tt, (tt, (record { fits = room1 .0 }, tt)))) $
+        (init ! 22 refl (tt, (tt, (record { fits = fits1 .0 }, tt)))) $
         -- _41 = &*_3.0
         assigns ! (addr ! (from ! (fld ! refl (hop ! (look-in ! 96 (sub ! 0 refl (whole !))) (stop !))))) (from ! (stop !)) (init ! 20 refl (tt, tt)) $
         -- _42 = struct _41 _3.1
         assigns ! (agg ! (and-then ! (load ! (from ! (stop !)) (look ! 20 refl))
         (and-then ! (load ! (from ! (fld ! refl (stop !))) (look-in ! 96 (sub ! 1 refl (whole !)))) (no-more !)))) (from ! (stop !))
-        (init ! 18 refl (tt, (tt, (record { fits = room2 .0 }, tt)))) $
+        (init ! 18 refl (tt, (tt, (record { fits = fits2 .0 }, tt)))) $
         -- _43 = &*_4.0
         assigns ! (addr ! (from ! (fld ! refl (hop ! (look-in ! 94 (sub ! 0 refl (whole !))) (stop !))))) (from ! (stop !)) (init ! 16 refl (tt, tt)) $
         -- _44 = struct _43 _4.1
         assigns ! (agg ! (and-then ! (load ! (from ! (stop !)) (look ! 16 refl))
         (and-then ! (load ! (from ! (fld ! refl (stop !))) (look-in ! 94 (sub ! 1 refl (whole !)))) (no-more !)))) (from ! (stop !))
-        (init ! 14 refl (tt, (tt, (record { fits = room3 .0 }, tt)))) $
+        (init ! 14 refl (tt, (tt, (record { fits = fits3 .0 }, tt)))) $
         -- _45 = &*_5.0
         assigns ! (addr ! (from ! (fld ! refl (hop ! (look-in ! 92 (sub ! 0 refl (whole !))) (stop !))))) (from ! (stop !)) (init ! 12 refl (tt, tt)) $
         -- _46 = struct _45 _5.1
         assigns ! (agg ! (and-then ! (load ! (from ! (stop !)) (look ! 12 refl))
         (and-then ! (load ! (from ! (fld ! refl (stop !))) (look-in ! 92 (sub ! 1 refl (whole !)))) (no-more !)))) (from ! (stop !))
-        (init ! 10 refl (tt, (tt, (record { fits = room4 .0 }, tt)))) $
+        (init ! 10 refl (tt, (tt, (record { fits = fits4 .0 }, tt)))) $
         -- _18 = exchange(_38, _40, _42, _44, _46, _9)
         lft-new ! tt (λ ν50. move ! (6 ∷ 1 ∷ []) $
-        use2 W (later (some (λ (δ : GName). ‵ (MutSlice (named 0) (ν50 ∷ []) T.the-row .own (ref0 δ (zs3 .0)) (s0 ∷ [])) ⊛ ‵ (Lent0 ν50 δ (zs3 .0)))))
-        (lends-again T.the-row κ0 q0 γ0 b0 o0 (ν50 ∷ []) 𝓤 H A W (named 0) (named 0) (zs3 .0) (length L0) g30) $ await ! tt $ pick ! (λ δ50. split ! $
+        use2 W (later (some (λ (δ : GName). ‵ (MutSlice (named 0) (ν50 ∷ []) T.the-row .own (ref0 δ (zs3 .0)) (s0 ∷ [])) ⊛ ‵ (Borrowed0 ν50 δ (zs3 .0)))))
+        (borrows-again T.the-row κ0 q0 γ0 b0 o0 (ν50 ∷ []) 𝓤 H A W (named 0) (named 0) (zs3 .0) (length L0) g30) $ await ! tt $ pick ! (λ δ50. split ! $
         lft-new ! tt (λ ν51. move ! (8 ∷ 4 ∷ []) $
-        use2 W (later (some (λ (δ : GName). ‵ (MutSlice (named 1) (ν51 ∷ []) f32 .own (ref1 δ (zs4 .0)) (s1 ∷ [])) ⊛ ‵ (Lent1 ν51 δ (zs4 .0)))))
-        (lends-again f32 κ1 q1 γ1 b1 o1 (ν51 ∷ []) 𝓤 H A W (named 1) (named 1) (zs4 .0) (length L1) (g41 ∙ g31)) $ await ! tt $ pick ! (λ δ51. split ! $
+        use2 W (later (some (λ (δ : GName). ‵ (MutSlice (named 1) (ν51 ∷ []) f32 .own (ref1 δ (zs4 .0)) (s1 ∷ [])) ⊛ ‵ (Borrowed1 ν51 δ (zs4 .0)))))
+        (borrows-again f32 κ1 q1 γ1 b1 o1 (ν51 ∷ []) 𝓤 H A W (named 1) (named 1) (zs4 .0) (length L1) (g41 ∙ g31)) $ await ! tt $ pick ! (λ δ51. split ! $
         lft-new ! tt (λ ν52. move ! (10 ∷ 7 ∷ []) $
-        use2 W (later (some (λ (δ : GName). ‵ (MutSlice (named 2) (ν52 ∷ []) f32 .own (ref2 δ (zs4 .1 .0)) (s2 ∷ [])) ⊛ ‵ (Lent2 ν52 δ (zs4 .1 .0)))))
-        (lends-again f32 κ2 q2 γ2 b2 o2 (ν52 ∷ []) 𝓤 H A W (named 2) (named 2) (zs4 .1 .0) (length L2) (g42 ∙ g32)) $ await ! tt $ pick ! (λ δ52. split ! $
+        use2 W (later (some (λ (δ : GName). ‵ (MutSlice (named 2) (ν52 ∷ []) f32 .own (ref2 δ (zs4 .1 .0)) (s2 ∷ [])) ⊛ ‵ (Borrowed2 ν52 δ (zs4 .1 .0)))))
+        (borrows-again f32 κ2 q2 γ2 b2 o2 (ν52 ∷ []) 𝓤 H A W (named 2) (named 2) (zs4 .1 .0) (length L2) (g42 ∙ g32)) $ await ! tt $ pick ! (λ δ52. split ! $
         lft-new ! tt (λ ν53. move ! (12 ∷ 10 ∷ []) $
-        use2 W (later (some (λ (δ : GName). ‵ (MutSlice (named 3) (ν53 ∷ []) f32 .own (ref3 δ (zs4 .1 .1 .0)) (s3 ∷ [])) ⊛ ‵ (Lent3 ν53 δ (zs4 .1 .1 .0)))))
-        (lends-again f32 κ3 q3 γ3 b3 o3 (ν53 ∷ []) 𝓤 H A W (named 3) (named 3) (zs4 .1 .1 .0) (length L3) (g43 ∙ g33)) $ await ! tt $ pick ! (λ δ53. split ! $
+        use2 W (later (some (λ (δ : GName). ‵ (MutSlice (named 3) (ν53 ∷ []) f32 .own (ref3 δ (zs4 .1 .1 .0)) (s3 ∷ [])) ⊛ ‵ (Borrowed3 ν53 δ (zs4 .1 .1 .0)))))
+        (borrows-again f32 κ3 q3 γ3 b3 o3 (ν53 ∷ []) 𝓤 H A W (named 3) (named 3) (zs4 .1 .1 .0) (length L3) (g43 ∙ g33)) $ await ! tt $ pick ! (λ δ53. split ! $
         lft-new ! tt (λ ν54. move ! (14 ∷ 13 ∷ []) $
         use2 W (later (some (λ (δ : GName). ‵ (MutSlice (named 4) (ν54 ∷ []) u32 .own (ref4 δ (zs4 .1 .1 .1 .0)) (s4 ∷ [])) ⊛ ‵
-        (Lent4 ν54 δ (zs4 .1 .1 .1 .0))))) (lends-again u32 κ4 q4 γ4 b4 o4 (ν54 ∷ []) 𝓤 H A W (named 4) (named 4) (zs4 .1 .1 .1 .0) (length L4) (g44 ∙ g34)) $
-        await ! tt $ pick ! (λ δ54. split ! $ move ! (3 ∷ 0 ∷ []) $ join ! $ move ! (5 ∷ 0 ∷ []) $ join ! $ move ! (7 ∷ 0 ∷ []) $ join ! $ move ! (9 ∷ 0 ∷ []) $
-        join ! $ move ! (2 ∷ 0 ∷ []) $ join ! $ move ! (3 ∷ 0 ∷ []) $ join ! $ move ! (4 ∷ 0 ∷ []) $ join ! $ move ! (5 ∷ 0 ∷ []) $ join ! $
-        move ! (6 ∷ 0 ∷ []) $ join ! $
+        (Borrowed4 ν54 δ (zs4 .1 .1 .1 .0))))) (borrows-again u32 κ4 q4 γ4 b4 o4 (ν54 ∷ []) 𝓤 H A W (named 4) (named 4) (zs4 .1 .1 .1 .0) (length L4)
+        (g44 ∙ g34)) $ await ! tt $ pick ! (λ δ54. split ! $ move ! (3 ∷ 0 ∷ []) $ join ! $ move ! (5 ∷ 0 ∷ []) $ join ! $ move ! (7 ∷ 0 ∷ []) $ join ! $
+        move ! (9 ∷ 0 ∷ []) $ join ! $ move ! (2 ∷ 0 ∷ []) $ join ! $ move ! (3 ∷ 0 ∷ []) $ join ! $ move ! (4 ∷ 0 ∷ []) $ join ! $ move ! (5 ∷ 0 ∷ []) $
+        join ! $ move ! (6 ∷ 0 ∷ []) $ join ! $
         use1 W (raw (Exchange 𝓤 H A mem run .pre (to-exchange ν50 ν51 ν52 ν53 ν54 δ50 δ51 δ52 δ53 δ54 (zs3 .0) (zs4 .0) (zs4 .1 .0) (zs4 .1 .1 .0)
         (zs4 .1 .1 .1 .0) r2 (vint w64 r2)))) (goes-exchange ν50 ν51 ν52 ν53 ν54 δ50 δ51 δ52 δ53 δ54 (zs3 .0) (zs4 .0) (zs4 .1 .0) (zs4 .1 .1 .0)
         (zs4 .1 .1 .1 .0) r2 (vint w64 r2) (refl, is2 .1) (fit-all r2 e2 (zs3 .0) (zs4 .0) (zs4 .1 .0) (zs4 .1 .1 .0) (zs4 .1 .1 .1 .0) g30 (g41 ∙ g31)
@@ -616,19 +616,19 @@ module _ {M : Type 1} (𝓤 : URA M) (H : Heap 𝓤) (A : Atoms 𝓤) (W : Given
         split ! $ lft-end ! tt $ move ! (1 ∷ []) $ split ! $ lft-end ! tt $ move ! (1 ∷ []) $ split ! $ lft-end ! tt $ move ! (1 ∷ []) $ split ! $
         lft-end ! tt $ move ! (5 ∷ 17 ∷ 12 ∷ []) $
         use3 W (later (‵ (MutSlice (named 0) κ0 T.the-row .own (ref0 γ0 (zs5 .0)) (s0 ∷ [])) ⊛ ‵ (flft κ0 q0)))
-        (comes-back T.the-row κ0 q0 γ0 b0 o0 (ν50 ∷ []) 𝓤 H A W (named 0) (named 0) (zs3 .0) (length L0) g30 δ50 (zs5 .0) room0 g50) $ await ! tt $ split ! $
+        (comes-back T.the-row κ0 q0 γ0 b0 o0 (ν50 ∷ []) 𝓤 H A W (named 0) (named 0) (zs3 .0) (length L0) g30 δ50 (zs5 .0) fits0 g50) $ await ! tt $ split ! $
         move ! (6 ∷ 16 ∷ 12 ∷ []) $
         use3 W (later (‵ (MutSlice (named 1) κ1 f32 .own (ref1 γ1 (zs5 .1 .0)) (s1 ∷ [])) ⊛ ‵ (flft κ1 q1)))
-        (comes-back f32 κ1 q1 γ1 b1 o1 (ν51 ∷ []) 𝓤 H A W (named 1) (named 1) (zs4 .0) (length L1) (g41 ∙ g31) δ51 (zs5 .1 .0) room1 g51) $ await ! tt $
+        (comes-back f32 κ1 q1 γ1 b1 o1 (ν51 ∷ []) 𝓤 H A W (named 1) (named 1) (zs4 .0) (length L1) (g41 ∙ g31) δ51 (zs5 .1 .0) fits1 g51) $ await ! tt $
         split ! $ move ! (7 ∷ 15 ∷ 12 ∷ []) $
         use3 W (later (‵ (MutSlice (named 2) κ2 f32 .own (ref2 γ2 (zs5 .1 .1 .0)) (s2 ∷ [])) ⊛ ‵ (flft κ2 q2)))
-        (comes-back f32 κ2 q2 γ2 b2 o2 (ν52 ∷ []) 𝓤 H A W (named 2) (named 2) (zs4 .1 .0) (length L2) (g42 ∙ g32) δ52 (zs5 .1 .1 .0) room2 g52) $ await ! tt $
+        (comes-back f32 κ2 q2 γ2 b2 o2 (ν52 ∷ []) 𝓤 H A W (named 2) (named 2) (zs4 .1 .0) (length L2) (g42 ∙ g32) δ52 (zs5 .1 .1 .0) fits2 g52) $ await ! tt $
         split ! $ move ! (8 ∷ 14 ∷ 12 ∷ []) $
         use3 W (later (‵ (MutSlice (named 3) κ3 f32 .own (ref3 γ3 (zs5 .1 .1 .1 .0)) (s3 ∷ [])) ⊛ ‵ (flft κ3 q3)))
-        (comes-back f32 κ3 q3 γ3 b3 o3 (ν53 ∷ []) 𝓤 H A W (named 3) (named 3) (zs4 .1 .1 .0) (length L3) (g43 ∙ g33) δ53 (zs5 .1 .1 .1 .0) room3 g53) $
+        (comes-back f32 κ3 q3 γ3 b3 o3 (ν53 ∷ []) 𝓤 H A W (named 3) (named 3) (zs4 .1 .1 .0) (length L3) (g43 ∙ g33) δ53 (zs5 .1 .1 .1 .0) fits3 g53) $
         await ! tt $ split ! $ move ! (8 ∷ 13 ∷ 11 ∷ []) $
         use3 W (later (‵ (MutSlice (named 4) κ4 u32 .own (ref4 γ4 (zs5 .1 .1 .1 .1 .0)) (s4 ∷ [])) ⊛ ‵ (flft κ4 q4)))
-        (comes-back u32 κ4 q4 γ4 b4 o4 (ν54 ∷ []) 𝓤 H A W (named 4) (named 4) (zs4 .1 .1 .1 .0) (length L4) (g44 ∙ g34) δ54 (zs5 .1 .1 .1 .1 .0) room4 g54) $
+        (comes-back u32 κ4 q4 γ4 b4 o4 (ν54 ∷ []) 𝓤 H A W (named 4) (named 4) (zs4 .1 .1 .1 .0) (length L4) (g44 ∙ g34) δ54 (zs5 .1 .1 .1 .1 .0) fits4 g54) $
         await ! tt $ split ! $ forget ! 87 refl $ forget ! 69 refl $ forget ! 31 refl $ forget ! 29 refl $ forget ! 27 refl $ forget ! 25 refl $
         forget ! 23 refl $ forget ! 21 refl $ forget ! 19 refl $ forget ! 17 refl $ forget ! 15 refl $ forget ! 13 refl $
         keep ! (9 ∷ 7 ∷ 5 ∷ 3 ∷ 1 ∷ 8 ∷ 6 ∷ 4 ∷ 2 ∷ 0 ∷ 13 ∷ 14 ∷ 15 ∷ 16 ∷ 17 ∷ 18 ∷ 19 ∷ 20 ∷ 21 ∷ 22 ∷ 23 ∷ 24 ∷ 25 ∷ 26 ∷ 27 ∷ 28 ∷ 29 ∷ 30 ∷ 31 ∷ 32 ∷ 33 ∷
@@ -651,40 +651,40 @@ module _ {M : Type 1} (𝓤 : URA M) (H : Heap 𝓤) (A : Atoms 𝓤) (W : Given
         -- _30 = struct _29 _2.1
         assigns ! (agg ! (and-then ! (load ! (from ! (stop !)) (look ! 44 refl))
         (and-then ! (load ! (from ! (fld ! refl (stop !))) (look-in ! 98 (sub ! 1 refl (whole !)))) (no-more !)))) (from ! (stop !))
-        (init ! 42 refl (tt, (tt, (record { fits = room1 .0 }, tt)))) $
+        (init ! 42 refl (tt, (tt, (record { fits = fits1 .0 }, tt)))) $
         -- _31 = &*_3.0
         assigns ! (addr ! (from ! (fld ! refl (hop ! (look-in ! 96 (sub ! 0 refl (whole !))) (stop !))))) (from ! (stop !)) (init ! 40 refl (tt, tt)) $
         -- _32 = struct _31 _3.1
         assigns ! (agg ! (and-then ! (load ! (from ! (stop !)) (look ! 40 refl))
         (and-then ! (load ! (from ! (fld ! refl (stop !))) (look-in ! 96 (sub ! 1 refl (whole !)))) (no-more !)))) (from ! (stop !))
-        (init ! 38 refl (tt, (tt, (record { fits = room2 .0 }, tt)))) $
+        (init ! 38 refl (tt, (tt, (record { fits = fits2 .0 }, tt)))) $
         -- _33 = &*_4.0
         assigns ! (addr ! (from ! (fld ! refl (hop ! (look-in ! 94 (sub ! 0 refl (whole !))) (stop !))))) (from ! (stop !)) (init ! 36 refl (tt, tt)) $
         -- _34 = struct _33 _4.1
         assigns ! (agg ! (and-then ! (load ! (from ! (stop !)) (look ! 36 refl))
         (and-then ! (load ! (from ! (fld ! refl (stop !))) (look-in ! 94 (sub ! 1 refl (whole !)))) (no-more !)))) (from ! (stop !))
-        (init ! 34 refl (tt, (tt, (record { fits = room3 .0 }, tt)))) $
+        (init ! 34 refl (tt, (tt, (record { fits = fits3 .0 }, tt)))) $
         -- _35 = &*_5.0
         assigns ! (addr ! (from ! (fld ! refl (hop ! (look-in ! 92 (sub ! 0 refl (whole !))) (stop !))))) (from ! (stop !)) (init ! 32 refl (tt, tt)) $
         -- _36 = struct _35 _5.1
         assigns ! (agg ! (and-then ! (load ! (from ! (stop !)) (look ! 32 refl))
         (and-then ! (load ! (from ! (fld ! refl (stop !))) (look-in ! 92 (sub ! 1 refl (whole !)))) (no-more !)))) (from ! (stop !))
-        (init ! 30 refl (tt, (tt, (record { fits = room4 .0 }, tt)))) $
+        (init ! 30 refl (tt, (tt, (record { fits = fits4 .0 }, tt)))) $
         -- _10 = merge_within(_30, _32, _34, _36, _9, _6, _7)
         lft-new ! tt (λ ν41. move ! (7 ∷ 2 ∷ []) $
-        use2 W (later (some (λ (δ : GName). ‵ (MutSlice (named 0) (ν41 ∷ []) f32 .own (ref1 δ (zs3 .1 .0)) (s1 ∷ [])) ⊛ ‵ (Lent1 ν41 δ (zs3 .1 .0)))))
-        (lends-again f32 κ1 q1 γ1 b1 o1 (ν41 ∷ []) 𝓤 H A W (named 1) (named 0) (zs3 .1 .0) (length L1) g31) $ await ! tt $ pick ! (λ δ41. split ! $
+        use2 W (later (some (λ (δ : GName). ‵ (MutSlice (named 0) (ν41 ∷ []) f32 .own (ref1 δ (zs3 .1 .0)) (s1 ∷ [])) ⊛ ‵ (Borrowed1 ν41 δ (zs3 .1 .0)))))
+        (borrows-again f32 κ1 q1 γ1 b1 o1 (ν41 ∷ []) 𝓤 H A W (named 1) (named 0) (zs3 .1 .0) (length L1) g31) $ await ! tt $ pick ! (λ δ41. split ! $
         lft-new ! tt (λ ν42. move ! (9 ∷ 5 ∷ []) $
-        use2 W (later (some (λ (δ : GName). ‵ (MutSlice (named 1) (ν42 ∷ []) f32 .own (ref2 δ (zs3 .1 .1 .0)) (s2 ∷ [])) ⊛ ‵ (Lent2 ν42 δ (zs3 .1 .1 .0)))))
-        (lends-again f32 κ2 q2 γ2 b2 o2 (ν42 ∷ []) 𝓤 H A W (named 2) (named 1) (zs3 .1 .1 .0) (length L2) g32) $ await ! tt $ pick ! (λ δ42. split ! $
+        use2 W (later (some (λ (δ : GName). ‵ (MutSlice (named 1) (ν42 ∷ []) f32 .own (ref2 δ (zs3 .1 .1 .0)) (s2 ∷ [])) ⊛ ‵ (Borrowed2 ν42 δ (zs3 .1 .1 .0)))))
+        (borrows-again f32 κ2 q2 γ2 b2 o2 (ν42 ∷ []) 𝓤 H A W (named 2) (named 1) (zs3 .1 .1 .0) (length L2) g32) $ await ! tt $ pick ! (λ δ42. split ! $
         lft-new ! tt (λ ν43. move ! (11 ∷ 8 ∷ []) $
         use2 W (later (some (λ (δ : GName). ‵ (MutSlice (named 2) (ν43 ∷ []) f32 .own (ref3 δ (zs3 .1 .1 .1 .0)) (s3 ∷ [])) ⊛ ‵
-        (Lent3 ν43 δ (zs3 .1 .1 .1 .0))))) (lends-again f32 κ3 q3 γ3 b3 o3 (ν43 ∷ []) 𝓤 H A W (named 3) (named 2) (zs3 .1 .1 .1 .0) (length L3) g33) $
+        (Borrowed3 ν43 δ (zs3 .1 .1 .1 .0))))) (borrows-again f32 κ3 q3 γ3 b3 o3 (ν43 ∷ []) 𝓤 H A W (named 3) (named 2) (zs3 .1 .1 .1 .0) (length L3) g33) $
         await ! tt $ pick ! (λ δ43. split ! $ lft-new ! tt (λ ν44. move ! (13 ∷ 11 ∷ []) $
         use2 W (later (some (λ (δ : GName). ‵ (MutSlice (named 3) (ν44 ∷ []) u32 .own (ref4 δ (zs3 .1 .1 .1 .1 .0)) (s4 ∷ [])) ⊛ ‵
-        (Lent4 ν44 δ (zs3 .1 .1 .1 .1 .0))))) (lends-again u32 κ4 q4 γ4 b4 o4 (ν44 ∷ []) 𝓤 H A W (named 4) (named 3) (zs3 .1 .1 .1 .1 .0) (length L4) g34) $
-        await ! tt $ pick ! (λ δ44. split ! $ move ! (3 ∷ 0 ∷ []) $ join ! $ move ! (5 ∷ 0 ∷ []) $ join ! $ move ! (7 ∷ 0 ∷ []) $ join ! $ move ! (2 ∷ 0 ∷ []) $
-        join ! $ move ! (3 ∷ 0 ∷ []) $ join ! $ move ! (4 ∷ 0 ∷ []) $ join ! $ move ! (5 ∷ 0 ∷ []) $ join ! $
+        (Borrowed4 ν44 δ (zs3 .1 .1 .1 .1 .0))))) (borrows-again u32 κ4 q4 γ4 b4 o4 (ν44 ∷ []) 𝓤 H A W (named 4) (named 3) (zs3 .1 .1 .1 .1 .0) (length L4)
+        g34) $ await ! tt $ pick ! (λ δ44. split ! $ move ! (3 ∷ 0 ∷ []) $ join ! $ move ! (5 ∷ 0 ∷ []) $ join ! $ move ! (7 ∷ 0 ∷ []) $ join ! $
+        move ! (2 ∷ 0 ∷ []) $ join ! $ move ! (3 ∷ 0 ∷ []) $ join ! $ move ! (4 ∷ 0 ∷ []) $ join ! $ move ! (5 ∷ 0 ∷ []) $ join ! $
         use1 W (raw (Merge-within 𝓤 H A mem run .pre (to-merge-within ν41 ν42 ν43 ν44 δ41 δ42 δ43 δ44 (zs3 .1 .0) (zs3 .1 .1 .0) (zs3 .1 .1 .1 .0)
         (zs3 .1 .1 .1 .1 .0) r2 count radius (vint w64 r2) (vint w64 count) (vfloat binary32 radius))))
         (goes-merge-within ν41 ν42 ν43 ν44 δ41 δ42 δ43 δ44 (zs3 .1 .0) (zs3 .1 .1 .0) (zs3 .1 .1 .1 .0) (zs3 .1 .1 .1 .1 .0) r2 count radius (vint w64 r2)
@@ -717,16 +717,16 @@ module _ {M : Type 1} (𝓤 : URA M) (H : Heap 𝓤) (A : Atoms 𝓤) (W : Given
         move ! (1 ∷ []) $ split ! $ lft-end ! tt $ move ! (1 ∷ []) $ split ! $ lft-end ! tt $ move ! (1 ∷ []) $ split ! $ lft-end ! tt $
         move ! (4 ∷ 14 ∷ 10 ∷ []) $
         use3 W (later (‵ (MutSlice (named 1) κ1 f32 .own (ref1 γ1 (zs4 .0)) (s1 ∷ [])) ⊛ ‵ (flft κ1 q1)))
-        (comes-back f32 κ1 q1 γ1 b1 o1 (ν41 ∷ []) 𝓤 H A W (named 1) (named 1) (zs3 .1 .0) (length L1) g31 δ41 (zs4 .0) room1 g41) $ await ! tt $ split ! $
+        (comes-back f32 κ1 q1 γ1 b1 o1 (ν41 ∷ []) 𝓤 H A W (named 1) (named 1) (zs3 .1 .0) (length L1) g31 δ41 (zs4 .0) fits1 g41) $ await ! tt $ split ! $
         move ! (5 ∷ 13 ∷ 10 ∷ []) $
         use3 W (later (‵ (MutSlice (named 2) κ2 f32 .own (ref2 γ2 (zs4 .1 .0)) (s2 ∷ [])) ⊛ ‵ (flft κ2 q2)))
-        (comes-back f32 κ2 q2 γ2 b2 o2 (ν42 ∷ []) 𝓤 H A W (named 2) (named 2) (zs3 .1 .1 .0) (length L2) g32 δ42 (zs4 .1 .0) room2 g42) $ await ! tt $ split ! $
+        (comes-back f32 κ2 q2 γ2 b2 o2 (ν42 ∷ []) 𝓤 H A W (named 2) (named 2) (zs3 .1 .1 .0) (length L2) g32 δ42 (zs4 .1 .0) fits2 g42) $ await ! tt $ split ! $
         move ! (6 ∷ 12 ∷ 10 ∷ []) $
         use3 W (later (‵ (MutSlice (named 3) κ3 f32 .own (ref3 γ3 (zs4 .1 .1 .0)) (s3 ∷ [])) ⊛ ‵ (flft κ3 q3)))
-        (comes-back f32 κ3 q3 γ3 b3 o3 (ν43 ∷ []) 𝓤 H A W (named 3) (named 3) (zs3 .1 .1 .1 .0) (length L3) g33 δ43 (zs4 .1 .1 .0) room3 g43) $ await ! tt $
+        (comes-back f32 κ3 q3 γ3 b3 o3 (ν43 ∷ []) 𝓤 H A W (named 3) (named 3) (zs3 .1 .1 .1 .0) (length L3) g33 δ43 (zs4 .1 .1 .0) fits3 g43) $ await ! tt $
         split ! $ move ! (6 ∷ 11 ∷ 9 ∷ []) $
         use3 W (later (‵ (MutSlice (named 4) κ4 u32 .own (ref4 γ4 (zs4 .1 .1 .1 .0)) (s4 ∷ [])) ⊛ ‵ (flft κ4 q4)))
-        (comes-back u32 κ4 q4 γ4 b4 o4 (ν44 ∷ []) 𝓤 H A W (named 4) (named 4) (zs3 .1 .1 .1 .1 .0) (length L4) g34 δ44 (zs4 .1 .1 .1 .0) room4 g44) $
+        (comes-back u32 κ4 q4 γ4 b4 o4 (ν44 ∷ []) 𝓤 H A W (named 4) (named 4) (zs3 .1 .1 .1 .1 .0) (length L4) g34 δ44 (zs4 .1 .1 .1 .0) fits4 g44) $
         await ! tt $ split ! $ forget ! 47 refl $ forget ! 45 refl $ forget ! 43 refl $ forget ! 41 refl $ forget ! 39 refl $ forget ! 37 refl $
         forget ! 35 refl $ forget ! 33 refl $
         keep ! (11 ∷ 7 ∷ 5 ∷ 3 ∷ 1 ∷ 12 ∷ 6 ∷ 4 ∷ 2 ∷ 0 ∷ 13 ∷ 14 ∷ 15 ∷ 16 ∷ 17 ∷ 18 ∷ 19 ∷ 20 ∷ 21 ∷ 22 ∷ 23 ∷ 24 ∷ 25 ∷ 26 ∷ 27 ∷ 28 ∷ 29 ∷ 30 ∷ 31 ∷ 32 ∷ 33
@@ -745,47 +745,47 @@ module _ {M : Type 1} (𝓤 : URA M) (H : Heap 𝓤) (A : Atoms 𝓤) (W : Given
         -- _20 = struct _19 _1.1
         assigns ! (agg ! (and-then ! (load ! (from ! (stop !)) (look ! 64 refl))
         (and-then ! (load ! (from ! (fld ! refl (stop !))) (look-in ! 100 (sub ! 1 refl (whole !)))) (no-more !)))) (from ! (stop !))
-        (init ! 62 refl (tt, (tt, (record { fits = room0 .0 }, tt)))) $
+        (init ! 62 refl (tt, (tt, (record { fits = fits0 .0 }, tt)))) $
         -- _21 = &*_2.0
         assigns ! (addr ! (from ! (fld ! refl (hop ! (look-in ! 98 (sub ! 0 refl (whole !))) (stop !))))) (from ! (stop !)) (init ! 60 refl (tt, tt)) $
         -- _22 = struct _21 _2.1
         assigns ! (agg ! (and-then ! (load ! (from ! (stop !)) (look ! 60 refl))
         (and-then ! (load ! (from ! (fld ! refl (stop !))) (look-in ! 98 (sub ! 1 refl (whole !)))) (no-more !)))) (from ! (stop !))
-        (init ! 58 refl (tt, (tt, (record { fits = room1 .0 }, tt)))) $
+        (init ! 58 refl (tt, (tt, (record { fits = fits1 .0 }, tt)))) $
         -- _23 = &*_3.0
         assigns ! (addr ! (from ! (fld ! refl (hop ! (look-in ! 96 (sub ! 0 refl (whole !))) (stop !))))) (from ! (stop !)) (init ! 56 refl (tt, tt)) $
         -- _24 = struct _23 _3.1
         assigns ! (agg ! (and-then ! (load ! (from ! (stop !)) (look ! 56 refl))
         (and-then ! (load ! (from ! (fld ! refl (stop !))) (look-in ! 96 (sub ! 1 refl (whole !)))) (no-more !)))) (from ! (stop !))
-        (init ! 54 refl (tt, (tt, (record { fits = room2 .0 }, tt)))) $
+        (init ! 54 refl (tt, (tt, (record { fits = fits2 .0 }, tt)))) $
         -- _25 = &*_4.0
         assigns ! (addr ! (from ! (fld ! refl (hop ! (look-in ! 94 (sub ! 0 refl (whole !))) (stop !))))) (from ! (stop !)) (init ! 52 refl (tt, tt)) $
         -- _26 = struct _25 _4.1
         assigns ! (agg ! (and-then ! (load ! (from ! (stop !)) (look ! 52 refl))
         (and-then ! (load ! (from ! (fld ! refl (stop !))) (look-in ! 94 (sub ! 1 refl (whole !)))) (no-more !)))) (from ! (stop !))
-        (init ! 50 refl (tt, (tt, (record { fits = room3 .0 }, tt)))) $
+        (init ! 50 refl (tt, (tt, (record { fits = fits3 .0 }, tt)))) $
         -- _27 = &*_5.0
         assigns ! (addr ! (from ! (fld ! refl (hop ! (look-in ! 92 (sub ! 0 refl (whole !))) (stop !))))) (from ! (stop !)) (init ! 48 refl (tt, tt)) $
         -- _28 = struct _27 _5.1
         assigns ! (agg ! (and-then ! (load ! (from ! (stop !)) (look ! 48 refl))
         (and-then ! (load ! (from ! (fld ! refl (stop !))) (look-in ! 92 (sub ! 1 refl (whole !)))) (no-more !)))) (from ! (stop !))
-        (init ! 46 refl (tt, (tt, (record { fits = room4 .0 }, tt)))) $
+        (init ! 46 refl (tt, (tt, (record { fits = fits4 .0 }, tt)))) $
         -- _18 = exchange(_20, _22, _24, _26, _28, _9)
         lft-new ! tt (λ ν30. move ! (6 ∷ 1 ∷ []) $
-        use2 W (later (some (λ (δ : GName). ‵ (MutSlice (named 0) (ν30 ∷ []) T.the-row .own (ref0 δ L0) (s0 ∷ [])) ⊛ ‵ (Lent0 ν30 δ L0))))
-        (lends-again T.the-row κ0 q0 γ0 b0 o0 (ν30 ∷ []) 𝓤 H A W (named 0) (named 0) L0 (length L0) refl) $ await ! tt $ pick ! (λ δ30. split ! $
+        use2 W (later (some (λ (δ : GName). ‵ (MutSlice (named 0) (ν30 ∷ []) T.the-row .own (ref0 δ L0) (s0 ∷ [])) ⊛ ‵ (Borrowed0 ν30 δ L0))))
+        (borrows-again T.the-row κ0 q0 γ0 b0 o0 (ν30 ∷ []) 𝓤 H A W (named 0) (named 0) L0 (length L0) refl) $ await ! tt $ pick ! (λ δ30. split ! $
         lft-new ! tt (λ ν31. move ! (8 ∷ 4 ∷ []) $
-        use2 W (later (some (λ (δ : GName). ‵ (MutSlice (named 1) (ν31 ∷ []) f32 .own (ref1 δ L1) (s1 ∷ [])) ⊛ ‵ (Lent1 ν31 δ L1))))
-        (lends-again f32 κ1 q1 γ1 b1 o1 (ν31 ∷ []) 𝓤 H A W (named 1) (named 1) L1 (length L1) refl) $ await ! tt $ pick ! (λ δ31. split ! $ lft-new ! tt (λ ν32.
-        move ! (10 ∷ 7 ∷ []) $
-        use2 W (later (some (λ (δ : GName). ‵ (MutSlice (named 2) (ν32 ∷ []) f32 .own (ref2 δ L2) (s2 ∷ [])) ⊛ ‵ (Lent2 ν32 δ L2))))
-        (lends-again f32 κ2 q2 γ2 b2 o2 (ν32 ∷ []) 𝓤 H A W (named 2) (named 2) L2 (length L2) refl) $ await ! tt $ pick ! (λ δ32. split ! $ lft-new ! tt (λ ν33.
-        move ! (12 ∷ 10 ∷ []) $
-        use2 W (later (some (λ (δ : GName). ‵ (MutSlice (named 3) (ν33 ∷ []) f32 .own (ref3 δ L3) (s3 ∷ [])) ⊛ ‵ (Lent3 ν33 δ L3))))
-        (lends-again f32 κ3 q3 γ3 b3 o3 (ν33 ∷ []) 𝓤 H A W (named 3) (named 3) L3 (length L3) refl) $ await ! tt $ pick ! (λ δ33. split ! $ lft-new ! tt (λ ν34.
-        move ! (14 ∷ 13 ∷ []) $
-        use2 W (later (some (λ (δ : GName). ‵ (MutSlice (named 4) (ν34 ∷ []) u32 .own (ref4 δ L4) (s4 ∷ [])) ⊛ ‵ (Lent4 ν34 δ L4))))
-        (lends-again u32 κ4 q4 γ4 b4 o4 (ν34 ∷ []) 𝓤 H A W (named 4) (named 4) L4 (length L4) refl) $ await ! tt $ pick ! (λ δ34. split ! $
+        use2 W (later (some (λ (δ : GName). ‵ (MutSlice (named 1) (ν31 ∷ []) f32 .own (ref1 δ L1) (s1 ∷ [])) ⊛ ‵ (Borrowed1 ν31 δ L1))))
+        (borrows-again f32 κ1 q1 γ1 b1 o1 (ν31 ∷ []) 𝓤 H A W (named 1) (named 1) L1 (length L1) refl) $ await ! tt $ pick ! (λ δ31. split ! $
+        lft-new ! tt (λ ν32. move ! (10 ∷ 7 ∷ []) $
+        use2 W (later (some (λ (δ : GName). ‵ (MutSlice (named 2) (ν32 ∷ []) f32 .own (ref2 δ L2) (s2 ∷ [])) ⊛ ‵ (Borrowed2 ν32 δ L2))))
+        (borrows-again f32 κ2 q2 γ2 b2 o2 (ν32 ∷ []) 𝓤 H A W (named 2) (named 2) L2 (length L2) refl) $ await ! tt $ pick ! (λ δ32. split ! $
+        lft-new ! tt (λ ν33. move ! (12 ∷ 10 ∷ []) $
+        use2 W (later (some (λ (δ : GName). ‵ (MutSlice (named 3) (ν33 ∷ []) f32 .own (ref3 δ L3) (s3 ∷ [])) ⊛ ‵ (Borrowed3 ν33 δ L3))))
+        (borrows-again f32 κ3 q3 γ3 b3 o3 (ν33 ∷ []) 𝓤 H A W (named 3) (named 3) L3 (length L3) refl) $ await ! tt $ pick ! (λ δ33. split ! $
+        lft-new ! tt (λ ν34. move ! (14 ∷ 13 ∷ []) $
+        use2 W (later (some (λ (δ : GName). ‵ (MutSlice (named 4) (ν34 ∷ []) u32 .own (ref4 δ L4) (s4 ∷ [])) ⊛ ‵ (Borrowed4 ν34 δ L4))))
+        (borrows-again u32 κ4 q4 γ4 b4 o4 (ν34 ∷ []) 𝓤 H A W (named 4) (named 4) L4 (length L4) refl) $ await ! tt $ pick ! (λ δ34. split ! $
         move ! (3 ∷ 0 ∷ []) $ join ! $ move ! (5 ∷ 0 ∷ []) $ join ! $ move ! (7 ∷ 0 ∷ []) $ join ! $ move ! (9 ∷ 0 ∷ []) $ join ! $ move ! (2 ∷ 0 ∷ []) $
         join ! $ move ! (3 ∷ 0 ∷ []) $ join ! $ move ! (4 ∷ 0 ∷ []) $ join ! $ move ! (5 ∷ 0 ∷ []) $ join ! $ move ! (6 ∷ 0 ∷ []) $ join ! $
         use1 W (raw (Exchange 𝓤 H A mem run .pre (to-exchange ν30 ν31 ν32 ν33 ν34 δ30 δ31 δ32 δ33 δ34 L0 L1 L2 L3 L4 r2 (vint w64 r2))))
@@ -816,19 +816,19 @@ module _ {M : Type 1} (𝓤 : URA M) (H : Heap 𝓤) (A : Atoms 𝓤) (W : Given
         split ! $ lft-end ! tt $ move ! (1 ∷ []) $ split ! $ lft-end ! tt $ move ! (1 ∷ []) $ split ! $ lft-end ! tt $ move ! (1 ∷ []) $ split ! $
         lft-end ! tt $ move ! (5 ∷ 17 ∷ 12 ∷ []) $
         use3 W (later (‵ (MutSlice (named 0) κ0 T.the-row .own (ref0 γ0 (zs3 .0)) (s0 ∷ [])) ⊛ ‵ (flft κ0 q0)))
-        (comes-back T.the-row κ0 q0 γ0 b0 o0 (ν30 ∷ []) 𝓤 H A W (named 0) (named 0) L0 (length L0) refl δ30 (zs3 .0) room0 g30) $ await ! tt $ split ! $
+        (comes-back T.the-row κ0 q0 γ0 b0 o0 (ν30 ∷ []) 𝓤 H A W (named 0) (named 0) L0 (length L0) refl δ30 (zs3 .0) fits0 g30) $ await ! tt $ split ! $
         move ! (6 ∷ 16 ∷ 12 ∷ []) $
         use3 W (later (‵ (MutSlice (named 1) κ1 f32 .own (ref1 γ1 (zs3 .1 .0)) (s1 ∷ [])) ⊛ ‵ (flft κ1 q1)))
-        (comes-back f32 κ1 q1 γ1 b1 o1 (ν31 ∷ []) 𝓤 H A W (named 1) (named 1) L1 (length L1) refl δ31 (zs3 .1 .0) room1 g31) $ await ! tt $ split ! $
+        (comes-back f32 κ1 q1 γ1 b1 o1 (ν31 ∷ []) 𝓤 H A W (named 1) (named 1) L1 (length L1) refl δ31 (zs3 .1 .0) fits1 g31) $ await ! tt $ split ! $
         move ! (7 ∷ 15 ∷ 12 ∷ []) $
         use3 W (later (‵ (MutSlice (named 2) κ2 f32 .own (ref2 γ2 (zs3 .1 .1 .0)) (s2 ∷ [])) ⊛ ‵ (flft κ2 q2)))
-        (comes-back f32 κ2 q2 γ2 b2 o2 (ν32 ∷ []) 𝓤 H A W (named 2) (named 2) L2 (length L2) refl δ32 (zs3 .1 .1 .0) room2 g32) $ await ! tt $ split ! $
+        (comes-back f32 κ2 q2 γ2 b2 o2 (ν32 ∷ []) 𝓤 H A W (named 2) (named 2) L2 (length L2) refl δ32 (zs3 .1 .1 .0) fits2 g32) $ await ! tt $ split ! $
         move ! (8 ∷ 14 ∷ 12 ∷ []) $
         use3 W (later (‵ (MutSlice (named 3) κ3 f32 .own (ref3 γ3 (zs3 .1 .1 .1 .0)) (s3 ∷ [])) ⊛ ‵ (flft κ3 q3)))
-        (comes-back f32 κ3 q3 γ3 b3 o3 (ν33 ∷ []) 𝓤 H A W (named 3) (named 3) L3 (length L3) refl δ33 (zs3 .1 .1 .1 .0) room3 g33) $ await ! tt $ split ! $
+        (comes-back f32 κ3 q3 γ3 b3 o3 (ν33 ∷ []) 𝓤 H A W (named 3) (named 3) L3 (length L3) refl δ33 (zs3 .1 .1 .1 .0) fits3 g33) $ await ! tt $ split ! $
         move ! (8 ∷ 13 ∷ 11 ∷ []) $
         use3 W (later (‵ (MutSlice (named 4) κ4 u32 .own (ref4 γ4 (zs3 .1 .1 .1 .1 .0)) (s4 ∷ [])) ⊛ ‵ (flft κ4 q4)))
-        (comes-back u32 κ4 q4 γ4 b4 o4 (ν34 ∷ []) 𝓤 H A W (named 4) (named 4) L4 (length L4) refl δ34 (zs3 .1 .1 .1 .1 .0) room4 g34) $ await ! tt $ split ! $
+        (comes-back u32 κ4 q4 γ4 b4 o4 (ν34 ∷ []) 𝓤 H A W (named 4) (named 4) L4 (length L4) refl δ34 (zs3 .1 .1 .1 .1 .0) fits4 g34) $ await ! tt $ split ! $
         forget ! 69 refl $ forget ! 67 refl $ forget ! 65 refl $ forget ! 63 refl $ forget ! 61 refl $ forget ! 59 refl $ forget ! 57 refl $ forget ! 55 refl $
         forget ! 53 refl $ forget ! 51 refl $ forget ! 49 refl $
         keep ! (9 ∷ 7 ∷ 5 ∷ 3 ∷ 1 ∷ 8 ∷ 6 ∷ 4 ∷ 2 ∷ 0 ∷ 13 ∷ 14 ∷ 15 ∷ 16 ∷ 17 ∷ 18 ∷ 19 ∷ 20 ∷ 21 ∷ 22 ∷ 23 ∷ 24 ∷ 25 ∷ 26 ∷ 27 ∷ 28 ∷ 29 ∷ 30 ∷ 31 ∷ 32 ∷ 33 ∷
@@ -842,26 +842,26 @@ module _ {M : Type 1} (𝓤 : URA M) (H : Heap 𝓤) (A : Atoms 𝓤) (W : Given
     from-4 r1 e1 =
         -- _13 = _1.1
         assigns ! (of-opd ! (load ! (from ! (fld ! refl (stop !))) (look-in ! 100 (sub ! 1 refl (whole !))))) (from ! (stop !))
-        (init ! 76 refl (tt, record { fits = room0 .0 })) $
+        (init ! 76 refl (tt, record { fits = fits0 .0 })) $
         -- _14 = _2.1
         assigns ! (of-opd ! (load ! (from ! (fld ! refl (stop !))) (look-in ! 98 (sub ! 1 refl (whole !))))) (from ! (stop !))
-        (init ! 74 refl (tt, record { fits = room1 .0 })) $
+        (init ! 74 refl (tt, record { fits = fits1 .0 })) $
         -- _15 = _3.1
         assigns ! (of-opd ! (load ! (from ! (fld ! refl (stop !))) (look-in ! 96 (sub ! 1 refl (whole !))))) (from ! (stop !))
-        (init ! 72 refl (tt, record { fits = room2 .0 })) $
+        (init ! 72 refl (tt, record { fits = fits2 .0 })) $
         -- _16 = _4.1
         assigns ! (of-opd ! (load ! (from ! (fld ! refl (stop !))) (look-in ! 94 (sub ! 1 refl (whole !))))) (from ! (stop !))
-        (init ! 70 refl (tt, record { fits = room3 .0 })) $
+        (init ! 70 refl (tt, record { fits = fits3 .0 })) $
         -- _17 = _5.1
         assigns ! (of-opd ! (load ! (from ! (fld ! refl (stop !))) (look-in ! 92 (sub ! 1 refl (whole !))))) (from ! (stop !))
-        (init ! 68 refl (tt, record { fits = room4 .0 })) $
+        (init ! 68 refl (tt, record { fits = fits4 .0 })) $
         -- _9 = shared_places(_6, _13, _14, _15, _16, _17)
         nothing ! $
         use1 W (raw (Shared-places 𝓤 H A mem run .pre (to-shared-places count (length L0) (length L1) (length L2) (length L3) (length L4) (vint w64 count)
         (vint w64 (length L0)) (vint w64 (length L1)) (vint w64 (length L2)) (vint w64 (length L3)) (vint w64 (length L4)))))
         (goes-shared-places count (length L0) (length L1) (length L2) (length L3) (length L4) (vint w64 count) (vint w64 (length L0)) (vint w64 (length L1))
-        (vint w64 (length L2)) (vint w64 (length L3)) (vint w64 (length L4)) (refl, count-fits) (refl, room0 .0) (refl, room1 .0) (refl, room2 .0)
-        (refl, room3 .0) (refl, room4 .0)) $
+        (vint w64 (length L2)) (vint w64 (length L3)) (vint w64 (length L4)) (refl, count-fits) (refl, fits0 .0) (refl, fits1 .0) (refl, fits2 .0)
+        (refl, fits3 .0) (refl, fits4 .0)) $
         calls-at ! (fmOf 𝓤 H (W .laws) 𝓣) (Shared-places 𝓤 H A mem run) (known .1 .0)
         (to-shared-places count (length L0) (length L1) (length L2) (length L3) (length L4) (vint w64 count) (vint w64 (length L0)) (vint w64 (length L1))
         (vint w64 (length L2)) (vint w64 (length L3)) (vint w64 (length L4)))
@@ -899,9 +899,9 @@ module _ {M : Type 1} (𝓤 : URA M) (H : Heap 𝓤) (A : Atoms 𝓤) (W : Given
         alloc1 ! (λ l24. alloc1 ! (λ l25. alloc1 ! (λ l26. alloc1 ! (λ l27. alloc1 ! (λ l28. alloc1 ! (λ l29. alloc1 ! (λ l30. alloc1 ! (λ l31. alloc1 ! (λ l32.
         alloc1 ! (λ l33. alloc1 ! (λ l34. alloc1 ! (λ l35. alloc1 ! (λ l36. alloc1 ! (λ l37. alloc1 ! (λ l38. alloc1 ! (λ l39. alloc1 ! (λ l40. alloc1 ! (λ l41.
         alloc1 ! (λ l42. alloc1 ! (λ l43. alloc1 ! (λ l44. alloc1 ! (λ l45. alloc1 ! (λ l46. alloc0 ! $ params1 ! $
-        pass1 ! (init ! 90 refl (tt, (tt, (record { fits = room0 .0 }, tt)))) $ pass1 ! (init ! 88 refl (tt, (tt, (record { fits = room1 .0 }, tt)))) $
-        pass1 ! (init ! 86 refl (tt, (tt, (record { fits = room2 .0 }, tt)))) $ pass1 ! (init ! 84 refl (tt, (tt, (record { fits = room3 .0 }, tt)))) $
-        pass1 ! (init ! 82 refl (tt, (tt, (record { fits = room4 .0 }, tt)))) $ pass1 ! (init ! 80 refl (tt, record { fits = count-fits })) $
+        pass1 ! (init ! 90 refl (tt, (tt, (record { fits = fits0 .0 }, tt)))) $ pass1 ! (init ! 88 refl (tt, (tt, (record { fits = fits1 .0 }, tt)))) $
+        pass1 ! (init ! 86 refl (tt, (tt, (record { fits = fits2 .0 }, tt)))) $ pass1 ! (init ! 84 refl (tt, (tt, (record { fits = fits3 .0 }, tt)))) $
+        pass1 ! (init ! 82 refl (tt, (tt, (record { fits = fits4 .0 }, tt)))) $ pass1 ! (init ! 80 refl (tt, record { fits = count-fits })) $
         pass1 ! (init ! 78 refl (tt, passes _ radius-fits)) $ pass0 ! $ move ! (95 ∷ []) $ fsplit ! $ move ! (1 ∷ []) $ fsplit ! $ move ! (1 ∷ []) $ fsplit ! $
         move ! (1 ∷ []) $ fsplit ! $ move ! (1 ∷ []) $ fsplit ! $ move ! (100 ∷ []) $ split ! $ move ! (1 ∷ []) $ split ! $ move ! (1 ∷ []) $ split ! $
         move ! (1 ∷ []) $ split ! $ move ! (1 ∷ []) $ split ! $
@@ -910,7 +910,7 @@ module _ {M : Type 1} (𝓤 : URA M) (H : Heap 𝓤) (A : Atoms 𝓤) (W : Given
         -- _12 = struct _11 _1.1
         assigns ! (agg ! (and-then ! (load ! (from ! (stop !)) (look ! 82 refl))
         (and-then ! (load ! (from ! (fld ! refl (stop !))) (look-in ! 102 (sub ! 1 refl (whole !)))) (no-more !)))) (from ! (stop !))
-        (init ! 80 refl (tt, (tt, (record { fits = room0 .0 }, tt)))) $
+        (init ! 80 refl (tt, (tt, (record { fits = fits0 .0 }, tt)))) $
         -- _8 = has_outside(_12, _6)
         lft-new ! tt (λ ν10. move ! (12 ∷ 6 ∷ []) $
         use2 W (later (some (λ (δ : GName). ‵ (ShrSlice (named 0) (ν10 ∷ []) T.the-row .own (ref0 δ L0) (s0 ∷ [])) ⊛ ‵ (Shared0 ν10 L0))))
@@ -929,7 +929,7 @@ module _ {M : Type 1} (𝓤 : URA M) (H : Heap 𝓤) (A : Atoms 𝓤) (W : Given
         peeks ! bool (Is bool) (shows 𝓤 H A bool) r1 (w1 ∷ []) (λ is1. land ! (from ! (stop !)) (init ! 90 refl (bool-lawful 𝓤 H A W .typed r1 _ is1 .0)) $
         rewrite ! 90 (λ (u : Val). ‵ (fat fullShare tyBool l8 0 u)) (ap only is1) refl $ move ! (1 ∷ []) $ split ! $ lft-end ! tt $ move ! (0 ∷ 4 ∷ []) $
         use2 W (later (‵ (MutSlice (named 0) κ0 T.the-row .own (ref0 γ0 L0) (s0 ∷ [])) ⊛ ‵ (flft κ0 q0)))
-        (comes-unchanged T.the-row κ0 q0 γ0 b0 o0 (ν10 ∷ []) 𝓤 H A W (named 0) (named 0) L0 (length L0) refl room0) $ await ! tt $ split ! $ forget ! 85 refl $
+        (comes-unchanged T.the-row κ0 q0 γ0 b0 o0 (ν10 ∷ []) 𝓤 H A W (named 0) (named 0) L0 (length L0) refl fits0) $ await ! tt $ split ! $ forget ! 85 refl $
         forget ! 83 refl $
         keep ! (1 ∷ 9 ∷ 8 ∷ 7 ∷ 5 ∷ 0 ∷ 14 ∷ 13 ∷ 12 ∷ 10 ∷ 15 ∷ 16 ∷ 17 ∷ 18 ∷ 19 ∷ 20 ∷ 21 ∷ 22 ∷ 23 ∷ 24 ∷ 25 ∷ 26 ∷ 27 ∷ 28 ∷ 29 ∷ 30 ∷ 31 ∷ 32 ∷ 33 ∷ 34 ∷
         35 ∷ 36 ∷ 37 ∷ 38 ∷ 39 ∷ 40 ∷ 41 ∷ 42 ∷ 43 ∷ 44 ∷ 45 ∷ 46 ∷ 47 ∷ 48 ∷ 49 ∷ 50 ∷ 51 ∷ 52 ∷ 53 ∷ 54 ∷ 55 ∷ 56 ∷ 57 ∷ 58 ∷ 59 ∷ 60 ∷ 61 ∷ 62 ∷ 63 ∷ 64 ∷ 65
