@@ -26,6 +26,9 @@ use Rattle.demands.proofs.OnePrice.{exact-frame, one-price, nothing-tip
 use Rattle.demands.proofs.Ties.{nan-top, peak-ties, frame-ties, maps-alike-without-equals}
 use Rattle.demands.proofs.Neighbours.{neighbours-kept, counts-exact}
 use Rattle.demands.proofs.Tolerance.{centre-tolerance, frame-tolerance}
+use Rattle.demands.proofs.WrongValues.{wrong-values}
+use Rattle.demands.proofs.WrongRefusals.{wrong-refusals}
+use Rattle.demands.proofs.WrongStatements.{wrong-statements}
 
 pub demands : Demands
 demands = record {
@@ -89,4 +92,7 @@ demands = record {
   retained-reads = retained-reads;
   centre-tolerance = centre-tolerance;
   frame-tolerance = frame-tolerance;
+  wrong-values = wrong-values;
+  wrong-refusals = wrong-refusals;
+  wrong-statements = wrong-statements;
 }

@@ -26,6 +26,9 @@ use Rattle.demands.specs.Ties.{NanTop, PeakTies, FrameTies, MapsAlikeWit
 use Rattle.demands.specs.Neighbours.{NeighboursKept, CountsExact}
 use Rattle.demands.specs.Tolerance.{CentreTolerance, FrameTolerance}
 use Rattle.demands.specs.Photographs.{PhotographIsFrame, PlainHeaderRead, BehindUnread, UploadsRead}
+use Rattle.demands.specs.WrongValues.{WrongValues}
+use Rattle.demands.specs.WrongRefusals.{WrongRefusals}
+use Rattle.demands.specs.WrongStatements.{WrongStatements}
 
 pub record Demands : Type 0 where
   -- ---- 1. Total
@@ -166,3 +169,10 @@ pub record Demands : Type 0 where
   pub centre-tolerance : CentreTolerance
   -- "It covers seeds and patch corners alike"
   pub frame-tolerance : FrameTolerance
+  -- ---- Wrong roads: what the words of the demands and the requests could be taken for, and are not
+  -- definitions with another value, on the smallest input that shows it
+  pub wrong-values : WrongValues
+  -- tables of conditions with another number
+  pub wrong-refusals : WrongRefusals
+  -- statements that an example disproves
+  pub wrong-statements : WrongStatements

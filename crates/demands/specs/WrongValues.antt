@@ -1,0 +1,437 @@
+-- Wrong roads that lead to a wrong value (RULES 15.3).
+use Prim.Native.Nat.{ℕ, suc, _+_, _-_, _*_, _/_, _%_, _^_, min}
+use mathlib.Core.Bool.{Bool, true, false, cond, not, _&&_}
+use mathlib.Core.List.{List, [], _∷_, _++_, map}
+use lib.Dec.{eqb, ltb, leb}
+use lib.ListN.{length, getD, set, drop, replicate}
+use lib.IntN.{ℤ, pos, negsuc, natAbs}
+use lib.Signed.{ltZ}
+use lib.Ieee.{Float, nan, fin, binary32, add, sub, mul, div, lt, le, ofBits, toBits, toUnsigned}
+use Rattle.lists.specs.Places.{Place, block, any, keep, count, sumOf}
+use Rattle.float32.specs.Float32.{zero, lift, roundHalfAway, nearestWhole, floatOf}
+use Rattle.float32.specs.Value.{dist, total, minusPart}
+use Rattle.ring.specs.Ring.{ring5, ringOf}
+use Rattle.response.specs.Response.{srOf, drOf, ringSumOf}
+use Rattle.response.specs.OnePass.{passedAfter}
+use Rattle.response.specs.Exact.{fifthsAt}
+use Rattle.pyramid.specs.Pyramid.{boxOf}
+use Rattle.corner_list.specs.declared.Corner.{Corner}
+use Rattle.corner_list.specs.CornerList.{Slices, slices, placesOf, cornersOf, frontCorners, without, withoutCorner}
+use Rattle.detect.specs.declared.Search.{Search}
+use Rattle.detect.specs.Peaks.{
+  CellTests,
+  same,
+  square,
+  window,
+  beaten,
+  equals,
+  positives,
+  isPeak,
+  peakPlaces,
+  valueAt,
+  largerIn,
+  equalIn,
+  positiveIn,
+  computed,
+}
+use Rattle.detect.specs.Detect.{searchOf}
+use Rattle.detect.specs.Enough.{rowsTo, rowsFor, enoughOf, valuesOf as answers}
+use Rattle.center_of_mass.specs.CenterOfMass.{refined, valuesOf}
+use Rattle.multiscale.specs.declared.RoiContext.{RoiContext}
+use Rattle.multiscale.specs.Multiscale.{roiRadius}
+use Rattle.merge.specs.Grid.{cellOf}
+use Rattle.merge.specs.Merge.{stronger, merged, resultOf}
+use Rattle.merge_naive.specs.MergeNaive.{naiveOf}
+use Rattle.merge_naive.specs.Case.{one, three}
+use Rattle.pgm.specs.Header.{Character, inComment, trailing, isSpace, fieldOf, maxvalField, widthOf}
+use Rattle.pgm.specs.Pgm.{pixelsIn}
+use Rattle.listing.specs.Text.{unitsBy, unitsOf}
+use Rattle.retouch.specs.Retouch.{isAt, samplePlaces, touched}
+use Rattle.response_limits.specs.Limits.{Range, leastDist, lowAt}
+use Rattle.sure_peak.specs.SurePeak.{fifthsIn, byLimits, isSure}
+use Rattle.stream.specs.declared.Header.{Header}
+use Rattle.stream.specs.Stream.{header, u32}
+use Rattle.stream.specs.RoundTrip.{frameBytes}
+use Rattle.retention.specs.declared.Holding.{Holding}
+use Rattle.retention.specs.declared.Holding.the-variants.{NotYet, Held, Gone}
+use Rattle.retention.specs.Retention.{dayOf, stateOf, letterOf}
+use Rattle.tolerance.specs.Tolerance.{summedCells, exactMass}
+use Rattle.demands.specs.Texts.{bytesOf}
+use Rattle.demands.specs.Cases.{wholeCase}
+use Rattle.demands.specs.Roads.{Road, road, Wrong, told, place, corner, holding}
+
+-- ---- floats: 1/2, and a float from 0 to 2^22 with a half gone to the even number, as its sum with 2^23 is rounded
+abbrev half : Float
+half = fin false 1 (negsuc 0)
+
+abbrev large : Float
+large = fin false 1 (pos 23)
+
+abbrev toEven : Float → Float
+toEven x = sub binary32 (add binary32 x large) large
+
+-- ---- the rules before the requests
+
+-- "above the threshold" (RULES 4.3): a NaN is not
+abbrev aboveOnly : List Float → ℕ → Float → CellTests
+aboveOnly m w t = record { above = λ p. lt t (valueAt m w p); larger = largerIn m w; positive = positiveIn m w }
+
+-- how many peaks a map of 11 by 11, all one value, has by a reading: the centre, or none
+abbrev peaksOf : CellTests → ℕ
+peaksOf v = length (peakPlaces v 11 11 5 0 0)
+
+abbrev all : Float → List Float
+all v = replicate 121 v
+
+-- the column of the centre of mass, with radius 0, about a seed in two cells of 1 in a row
+abbrev centred : Float → ℕ
+centred x = nearestWhole (getD (valuesOf (refined 0 x zero true (one ∷ one ∷ []) 2 1)) 0 nan)
+
+-- a search radius of 20 pixels of level 1
+abbrev context : RoiContext
+context = record { width = 200; height = 200; ring = 5; window = 2; «centroid_radius» = 2; «search_radius» = 20; level = 1 }
+
+-- the kept corners with c, which replaces the last that it joins
+abbrev settleLast : (Corner → Corner → Bool) → List Corner → Corner → List Corner
+settleLast j [] c = c ∷ []
+settleLast j (o ∷ kept) c = cond (j c o && not (any (j c) kept)) (stronger c o ∷ kept) (o ∷ settleLast j kept c)
+
+-- corners in the columns 0 and 2, and a stronger one between them, which joins both
+abbrev joinsAll : Corner → Corner → Bool
+joinsAll c o = true
+
+abbrev pair : List Corner
+pair = corner 0 0 1 0 ∷ corner 2 0 1 0 ∷ []
+
+abbrev middle : Corner
+middle = corner 1 0 2 0
+
+abbrev firstColumn : List Corner → ℕ
+firstColumn [] = 0
+firstColumn (c ∷ cs) = nearestWhole (c .x)
+
+abbrev base : List Road
+base =
+    -- "merging by distance alone" (RULES 8.3), one of the four wrong roads
+    road (length (resultOf one three)) 3 (length (naiveOf one three)) 2
+    -- "'above the threshold' for 'not at or below it'" (RULES 4.3), another: a NaN
+    ∷ road (peaksOf (computed (all nan) 11 zero)) 1 (peaksOf (aboveOnly (all nan) 11 zero)) 0
+    -- "rounding seeds half to even" (RULES 5.1), the third: 1/2. The fourth is a wrong statement
+    ∷ road (centred half) 1 (centred (toEven half)) 0
+    -- "Threshold: NaN and negatives become 0": a cell of 0, and -1 as it is (RULES 4.1)
+    ∷ road (peaksOf (computed (all zero) 11 (lift (fin true 1 (pos 0))))) 0 (peaksOf (computed (all zero) 11 (fin true 1 (pos 0)))) 1
+    -- "A centre is beaten only by a strictly larger cell": by an equal one (RULES 4.3)
+    ∷ road (told (beaten (largerIn (one ∷ one ∷ []) 2) 2 1 1 (place 0 0))) 0
+    (told (beaten (λ q p. le (valueAt (one ∷ one ∷ []) 2 p) (valueAt (one ∷ one ∷ []) 2 q)) 2 1 1 (place 0 0))) 1
+    -- "every other number selects radius 5": the second ring (RULES 3.1)
+    ∷ road (ringOf 7 .radius) 5 (cond (eqb 7 5) 5 10) 10
+    -- "(sum of four + 2) div 4": cut off (RULES 6.1)
+    ∷ road (boxOf 0 0 1 1) 1 ((0 + 0 + 1 + 1) / 4) 0
+    -- the search radius, which is in pixels of the seed's level, taken for pixels of the base (RULES 7.2)
+    ∷ road (roiRadius context) 40 (context .«search_radius») 20
+    -- "(coordinate − least ..) × (1/radius), in f32": divided by the radius, here 41 (RULES 8.2)
+    ∷ road (cellOf zero (div binary32 one (floatOf 41)) (floatOf 41)) 0 (toUnsigned 64 (div binary32 (sub binary32 (floatOf 41) zero) (floatOf 41))) 1
+    -- "for the lowest place": the last one is replaced (RULES 8.4)
+    ∷ road (firstColumn (merged joinsAll pair (middle ∷ []))) 1 (firstColumn (settleLast joinsAll pair middle)) 0
+    -- "if strictly stronger": if as strong (RULES 8.4); the neighbours tell which is left
+    ∷ road (stronger (corner 2 1 3 2) (corner 1 1 3 7) .neighbours) 7
+    (cond (le (corner 1 1 3 7 .strength) (corner 2 1 3 2 .strength)) (corner 2 1 3 2) (corner 1 1 3 7) .neighbours) 2
+    ∷ []
+
+-- ---- request 1, PGM photographs
+
+-- a comment taken for whitespace (RULES 20.3)
+abbrev spaced : Bool → ℕ → List ℕ → List Character
+spaced inside from [] = []
+spaced inside from (c ∷ cs) =
+    let more = spaced (inComment inside c) (suc from) cs in
+    cond inside more (record { code = cond (eqb c 35) 32 c; place = from } ∷ more)
+
+abbrev firstCode : List Character → ℕ
+firstCode [] = 0
+firstCode (c ∷ cs) = c .code
+
+abbrev commented : List ℕ
+commented = bytesOf "P5 1#\n2 1 255\n"
+
+abbrev twoEnds : List ℕ
+twoEnds = bytesOf "P5 1 1 255\r\nA"
+
+abbrev photographs : List Road
+photographs =
+    -- "comments": a comment is whitespace, though the digits about it are one number (RULES 20.3)
+    road (widthOf commented) 12 (fieldOf (spaced false 2 (drop 2 commented)) .number) 1
+    -- "the P5 form": all whitespace behind the maxval is passed over, though an LF behind the CR is a pixel (RULES 20.2)
+    ∷ road (getD (pixelsIn twoEnds) 0 0) 10 (firstCode (trailing isSpace (maxvalField twoEnds .rest))) 65
+    ∷ []
+
+-- ---- request 2, "nearest, half away from zero" (RULES 21.1): 3/4 and 1/2 of a 256th, and the largest float below 1/2
+abbrev threeQuarters : Float
+threeQuarters = fin false 3 (negsuc 9)
+
+abbrev tie : Float
+tie = fin false 1 (negsuc 8)
+
+abbrev belowTie : Float
+belowTie = fin false 16777215 (negsuc 32)
+
+abbrev unitsIn : Float → Float
+unitsIn x = mul binary32 x (fin false 1 (pos 8))
+
+abbrev columns : List Road
+columns =
+    -- cut off
+    road (unitsOf threeQuarters) 1 (toUnsigned 64 (unitsIn threeQuarters)) 0
+    -- half to even
+    ∷ road (unitsOf tie) 1 (unitsBy (unitsIn tie) (roundHalfAway (toEven (unitsIn tie)))) 0
+    -- a half added, and cut off: the sum is rounded
+    ∷ road (unitsOf belowTie) 0 (toUnsigned 64 (add binary32 (unitsIn belowTie) half)) 1
+    ∷ []
+
+-- ---- request 3, ring sums in one pass (RULES 22.2): sixteen samples that are 0 but at one place, or at the places 0 and 8
+abbrev single : ℕ → List ℕ
+single k = set (replicate 16 0) k 1
+
+abbrev ringSums : List Road
+ringSums =
+    -- "at the end all three are the paper's": SR before the last pair
+    road (srOf (single 7)) 1 (passedAfter (single 7) 7 .sr) 0
+    -- "the eight opposite pairs": twice the samples of one side
+    ∷ road (ringSumOf (single 8)) 1 (total (λ k. getD (single 8) k 0 + getD (single 8) k 0) 8) 0
+    -- pairs a quarter turn apart
+    ∷ road (drOf (set (single 0) 8 1)) 0 (total (λ k. dist (getD (set (single 0) 8 1) k 0) (getD (set (single 0) 8 1) (k + 4) 0)) 8) 2
+    ∷ []
+
+-- ---- request 4, ties (RULES 23.1): a map of one cell; of a NaN and a 0; of two NaN; and of two rows, 0 and 1 above 1 and 0
+abbrev cell : List Float
+cell = zero ∷ []
+
+abbrev nanFirst : List Float
+nanFirst = nan ∷ zero ∷ []
+
+abbrev nans : List Float
+nans = nan ∷ nan ∷ []
+
+abbrev diagonal : List Float
+diagonal = zero ∷ one ∷ one ∷ zero ∷ []
+
+abbrev ties : List Road
+ties =
+    -- "the number of equal cells in the clipped window": the centre too
+    road (equals (equalIn cell 1) 1 1 0 (place 0 0)) 0 (count (λ q. equalIn cell 1 q (place 0 0)) (square 1 1 0 (place 0 0))) 1
+    -- in a window that is not clipped, and runs on in the next row
+    ∷ road (equals (equalIn diagonal 2) 2 2 1 (place 1 0)) 1
+    (count (λ q. equalIn diagonal 2 q (place 1 0)) (keep (λ q. not (same q (place 1 0))) (block 0 3 0 2))) 2
+    -- "A NaN centre is top": beaten by what is not at most as large
+    ∷ road (told (beaten (largerIn nanFirst 2) 2 1 1 (place 0 0))) 0
+    (told (beaten (λ q p. not (le (valueAt nanFirst 2 q) (valueAt nanFirst 2 p))) 2 1 1 (place 0 0))) 1
+    -- "with 0 ties": equal by their bits
+    ∷ road (equals (equalIn nans 2) 2 1 1 (place 0 0)) 0
+    (equals (λ q p. eqb (toBits binary32 (valueAt nans 2 q)) (toBits binary32 (valueAt nans 2 p))) 2 1 1 (place 0 0)) 1
+    ∷ []
+
+-- ---- request 5, neighbours (RULES 24)
+
+-- a corner that replaces another keeps the other's neighbours
+abbrev keeping : Corner → Corner → Corner
+keeping c o = cond (lt (o .strength) (c .strength)) (record { x = c .x; y = c .y; strength = c .strength; neighbours = o .neighbours }) o
+
+abbrev oneAndZero : List Float
+oneAndZero = one ∷ zero ∷ []
+
+-- slices of 2, 2, 2 and 1 places
+abbrev uneven : Slices
+uneven = slices (replicate 2 zero) (replicate 2 zero) (replicate 2 zero) (replicate 1 0)
+
+abbrev neighbours : List Road
+neighbours =
+    -- "a merge that replaces a corner takes the newcomer's count" (RULES 24.2)
+    road (stronger (corner 2 1 4 2) (corner 1 1 3 7) .neighbours) 2 (keeping (corner 2 1 4 2) (corner 1 1 3 7) .neighbours) 7
+    -- "the positive-neighbour count": a 0 too (RULES 24.1)
+    ∷ road (positives (positiveIn oneAndZero 2) 2 1 1 (place 0 0)) 0 (count (λ q. le zero (valueAt oneAndZero 2 q)) (window 2 1 1 (place 0 0))) 1
+    -- the peak itself too
+    ∷ road (positives (positiveIn oneAndZero 2) 2 1 1 (place 0 0)) 0 (count (positiveIn oneAndZero 2) (square 2 1 1 (place 0 0))) 1
+    -- "the shortest of the four counting": of the three of floats (RULES 24.3)
+    ∷ road (placesOf uneven) 1 (min (length (uneven .xs)) (min (length (uneven .ys)) (length (uneven .strengths)))) 2
+    ∷ []
+
+-- ---- request 6, merging apart (RULES 25.3): two corners that join, with radius 3, into two places that are all 7
+abbrev joining : List Corner
+joining = corner 1 1 3 0 ∷ corner 2 1 4 0 ∷ []
+
+abbrev sevens : Slices
+sevens = holding (corner 7 7 7 7 ∷ corner 7 7 7 7 ∷ [])
+
+abbrev secondX : Slices → ℕ
+secondX b = nearestWhole (getD (b .xs) 1 nan)
+
+abbrev apart : List Road
+apart =
+    -- "Give the list a merge would leave": a copy that is merged in place, with what that leaves behind its list
+    road (secondX (frontCorners (resultOf (floatOf 3) joining) sevens)) 7
+    (secondX (frontCorners (resultOf (floatOf 3) joining) (frontCorners joining sevens))) 2
+    ∷ []
+
+-- ---- request 7, enough corners (RULES 26): a map of 11 by 13 with border 5, and peaks in the rows 5 to 7
+abbrev tall : Search
+tall = searchOf 11 13 5 zero 0 0 0
+
+abbrev peaks : List Place
+peaks = place 5 5 ∷ place 5 6 ∷ place 5 7 ∷ []
+
+abbrev enough : List Road
+enough =
+    -- "at least N": more than N (RULES 26.1)
+    road (getD (answers (enoughOf tall 3 peaks)) 0 0) 1 (told (ltb 3 (length peaks))) 0
+    -- "counted from the first row inside the border": from the map's first (RULES 26.2)
+    ∷ road (rowsFor tall 1 peaks) 1 (place 5 5 .y + 1) 6
+    -- "all rows inside it when there are fewer": all of the map
+    ∷ road (rowsFor tall 4 peaks) 3 (tall .h) 13
+    -- "0 where N is 0": up to the first peak
+    ∷ road (rowsFor tall 0 peaks) 0 (rowsTo tall peaks) 1
+    ∷ []
+
+-- ---- request 8, retouched pixels (RULES 27.2): an image of 10 by 11, in which the ring about (5, 5) does not lie
+abbrev retouching : List Road
+retouching =
+    -- "only cells not within a ring radius of the edge": all whose samples contain the pixel
+    road (told (touched 10 11 ring5 (place 5 5) (place 5 5))) 0 (told (any (isAt ring5 (place 5 5) (place 5 5)) (samplePlaces ring5))) 1
+    ∷ []
+
+-- ---- request 9, pixels known between limits (RULES 28)
+abbrev ranging : ℕ → ℕ → Range
+ranging low high = record { low = low; high = high }
+
+-- 11 by 11 pixels that are 0, but the centre, which is 0 or 1
+abbrev dark : List ℕ
+dark = replicate 121 0
+
+abbrev lit : List ℕ
+lit = set dark 60 1
+
+-- maps of 13 by 13 with a number in every cell and one in the centre
+abbrev about : ℕ → ℕ → List ℤ
+about others centre = set (replicate 169 (pos others)) 84 (pos centre)
+
+-- whether the centre is a sure peak, with window 1, at a threshold, with so many neighbours; and by another reading
+abbrev sure : List ℤ → List ℤ → ℕ → ℕ → ℕ
+sure lows highs threshold least = told (isSure lows highs 13 13 5 threshold 1 least 0 (place 6 6))
+
+abbrev sureBy : ℕ → CellTests → ℕ
+sureBy least v = told (isPeak v 13 13 1 least (place 6 6))
+
+-- the right reading, and those with another test of the threshold, of larger cells and of neighbours
+module _ (lows highs : List ℤ) (threshold : ℕ) where
+  abbrev right : CellTests
+  right = byLimits (fifthsIn lows 13) (fifthsIn highs 13) threshold
+
+  abbrev aboveBy : (Place → Bool) → CellTests
+  aboveBy above = record { above = above; larger = right .larger; positive = right .positive }
+
+  abbrev largerBy : (Place → Place → Bool) → CellTests
+  largerBy larger = record { above = right .above; larger = larger; positive = right .positive }
+
+  abbrev positiveBy : (Place → Bool) → CellTests
+  positiveBy positive = record { above = right .above; larger = right .larger; positive = positive }
+
+abbrev most : ℕ
+most = 2 ^ 31 - 1
+
+abbrev between : List Road
+between =
+    -- "the least 0 where its inside can have either sign": the lesser of its ends (RULES 28.2)
+    road (leastDist (ranging 0 2) (ranging 1 1)) 0 (min (dist 0 1) (dist 2 1)) 1
+    -- "each absolute value at its least or greatest": as the low image has it (RULES 28.3); of -16 and 0
+    ∷ road (minusPart (lowAt dark lit 11 11 ring5 5 5)) 16 (minusPart (fifthsAt dark 11 11 ring5 5 5)) 0
+    -- "whose low exceeds five times that threshold": is at least that (RULES 28.6)
+    ∷ road (sure (about 0 10) (about 0 10) 2 0) 0
+    (sureBy 0 (aboveBy (about 0 10) (about 0 10) 2 (λ p. not (ltZ (fifthsIn (about 0 10) 13 p) (pos (5 * 2)))))) 1
+    -- with the product cut to 32 bits
+    ∷ road (sure (about 0 most) (about 0 most) (2 ^ 30) 0) 0
+    (sureBy 0 (aboveBy (about 0 most) (about 0 most) (2 ^ 30) (λ p. ltZ (pos (5 * 2 ^ 30 % 2 ^ 32)) (fifthsIn (about 0 most) 13 p)))) 1
+    -- "is at least every window cell's high": is above it
+    ∷ road (sure (about 10 10) (about 10 10) 1 0) 1
+    (sureBy 0 (largerBy (about 10 10) (about 10 10) 1 (λ q p. not (ltZ (fifthsIn (about 10 10) 13 q) (fifthsIn (about 10 10) 13 p))))) 0
+    -- "enough neighbours of low above 0": of high
+    ∷ road (sure (about 0 10) (about 5 10) 1 1) 0 (sureBy 1 (positiveBy (about 0 10) (about 5 10) 1 (λ q. ltZ (pos 0) (fifthsIn (about 5 10) 13 q)))) 1
+    ∷ []
+
+-- ---- request 10, a corner struck (RULES 29.3): the only corner of a list, at column 7
+abbrev only : Slices
+only = holding (corner 7 0 0 0 ∷ [])
+
+abbrev firstX : Slices → ℕ
+firstX b = nearestWhole (getD (b .xs) 0 nan)
+
+abbrev strikes : List Road
+strikes =
+    -- "the freed last place becoming zero": it stays as it was
+    road (firstX (withoutCorner 0 1 only)) 0 (firstX (frontCorners (without 0 (cornersOf only 1)) only)) 7
+    ∷ []
+
+-- ---- request 11, the frame stream written (RULES 30.1): a threshold of these bits
+abbrev frameOf : ℕ → Header
+frameOf threshold = header 0 0 5 threshold 0 0 0 0 0 0 0
+
+abbrev writing : List Road
+writing =
+    -- "float bits included": the bits of the float that they are
+    road (u32 (frameBytes (frameOf 0x7f80_0001) []) 7) 0x7f80_0001
+    (u32 (frameBytes (frameOf (toBits binary32 (ofBits binary32 0x7f80_0001))) []) 7) 0x7fc0_0000
+    -- "the one stream for them": of one pixel, without zeros behind it
+    ∷ road (length (frameBytes (frameOf 0) (1 ∷ []))) 56 (length (frameBytes (frameOf 0) []) + 2) 25
+    ∷ []
+
+-- ---- request 12, merge without cells (RULES 31.4): (82/64, 0), (123/64, 0) and (0, 0)
+abbrev sixtyFourths : ℕ → Float
+sixtyFourths n = mul binary32 (floatOf n) (fin false 1 (negsuc 5))
+
+abbrev inLine : List Corner
+inLine = map (λ (n : ℕ). record { x = sixtyFourths n; y = zero; strength = one; neighbours = 0 }) (82 ∷ 123 ∷ 0 ∷ [])
+
+abbrev withoutCells : List Road
+withoutCells =
+    -- "the radius is a power of two": 41/64. That finer coordinates are too fine is the first row of all
+    road (length (resultOf (sixtyFourths 41) inLine)) 3 (length (naiveOf (sixtyFourths 41) inLine)) 2
+    ∷ []
+
+-- ---- request 13, what may be deleted (RULES 32.2): the letters N, H and G are 78, 72 and 71
+abbrev heldIf : Bool → Holding
+heldIf stays = cond stays Held Gone
+
+abbrev deleted : List Road
+deleted =
+    -- "gone on d+90": held on it
+    road (letterOf (stateOf 2 0 (90 * 86400))) 71 (letterOf (heldIf (leb (dayOf (90 * 86400)) (dayOf 0 + 90)))) 72
+    -- "days d to d+89": 90 days of seconds, here from the last second of day 0 on
+    ∷ road (letterOf (stateOf 2 86399 (90 * 86400))) 71 (letterOf (heldIf (ltb (90 * 86400) (86399 + 90 * 86400)))) 72
+    -- "up to but excluding t + 604,800": it included
+    ∷ road (letterOf (stateOf 3 0 604800)) 71 (letterOf (heldIf (leb 604800 (0 + 604800)))) 72
+    -- "Before the second of receipt .. a photograph's own day included": before the day
+    ∷ road (letterOf (stateOf 2 1 0)) 78 (letterOf (cond (ltb (dayOf 0) (dayOf 1)) NotYet Held)) 72
+    ∷ []
+
+-- ---- request 14, how far the centre may be off (RULES 33.1): the whole case's centre, with radius 0, and a cell of -16 fifths
+abbrev wholeFifths : Place → ℤ
+wholeFifths p = fifthsAt wholeCase 11 11 ring5 (p .x) (p .y)
+
+abbrev sixteenBelow : Place → ℤ
+sixteenBelow p = negsuc 15
+
+abbrev centres : List Road
+centres =
+    -- "centre included": left out
+    road (exactMass wholeFifths (summedCells 0 (floatOf 5) (floatOf 5))) 10160
+    (exactMass wholeFifths (keep (λ q. not (same q (place 5 5))) (summedCells 0 (floatOf 5) (floatOf 5)))) 0
+    -- "the exact fifths above 0": those below 0 by their size
+    ∷ road (exactMass sixteenBelow (place 0 0 ∷ [])) 0 (sumOf (λ p. natAbs (sixteenBelow p)) (place 0 0 ∷ [])) 16
+    ∷ []
+
+-- ---- the table
+unfoldable pub wrongValues : List Road
+wrongValues =
+    base ++ photographs ++ columns ++ ringSums ++ ties ++ neighbours ++ apart ++ enough ++ retouching ++ between ++ strikes ++ writing ++ withoutCells
+    ++ deleted ++ centres
+
+abbrev pub WrongValues : Type 0
+WrongValues = Wrong wrongValues
