@@ -1,5 +1,5 @@
 -- Wrong statements (RULES 15.3): what could be said in place of a statement of `Demands`, and is false by its smallest example. Definitions that would
--- be wrong are those of WrongRoads.antt.
+-- be wrong are those of WrongValues.antt and WrongRefusals.antt.
 use Prim.Native.Nat.{ℕ, _+_, _*_, _≤_}
 use mathlib.Core.Path.{_≡_}
 use mathlib.Core.Bool.{true}
