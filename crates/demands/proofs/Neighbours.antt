@@ -19,7 +19,7 @@ use Rattle.center_of_mass.specs.declared.Outcome.the-variants.{Accepted, Reject
 use Rattle.center_of_mass.specs.CenterOfMass.{refined}
 use Rattle.merge.proofs.Result.{result-all}
 use Rattle.patch_corners.specs.declared.FrameParams.{FrameParams}
-use Rattle.patch_corners.specs.OneMap.{landed, moved, searchOn, computedChoice, localized, cornersIn}
+use Rattle.patch_corners.specs.OneMap.{centreOrNone, moved, searchOn, computedChoice, localized, cornersIn}
 use Rattle.patch_corners.proofs.Fine.{Fine}
 use Rattle.frame_pass.specs.Pass.{levelsIn, levelView, seedPatch, cornersOn, cornersAbout, seedsOf, foundOf, framePass, mapsOf, lookedAt}
 use Rattle.frame_pass.proofs.Maps.{looked-fine}
@@ -35,7 +35,7 @@ in-whole whole ahead (a ∷ rest) e = (
   in-whole whole (ahead ++ (a ∷ [])) rest (e ∙ sym (append-assoc ahead (a ∷ []) rest)),
 )
 
-all-in : {A : Type 0} (l : List A) → All (λ a. IsIn a l) l
+pub all-in : {A : Type 0} (l : List A) → All (λ a. IsIn a l) l
 all-in l = in-whole l [] l refl
 
 module _ (p : FrameParams) (maps : List View) where
@@ -51,12 +51,12 @@ module _ (p : FrameParams) (maps : List View) where
     enough = o .enough;
   }
 
-  landed-of : (o : Outcome) (c : Corner) → OfPeak p maps c → All (OfPeak p maps) (landed o c)
-  landed-of (Accepted x y mass) c h = (elsewhere c x y h, tt)
-  landed-of (Rejected x y) c h = tt
-  landed-of (OutOfBounds x y) c h = tt
-  landed-of (IllConditioned x y) c h = tt
-  landed-of (Refused n) c h = tt
+  kept-of : (o : Outcome) (c : Corner) → OfPeak p maps c → All (OfPeak p maps) (centreOrNone o c)
+  kept-of (Accepted x y mass) c h = (elsewhere c x y h, tt)
+  kept-of (Rejected x y) c h = tt
+  kept-of (OutOfBounds x y) c h = tt
+  kept-of (IllConditioned x y) c h = tt
+  kept-of (Refused n) c h = tt
 
   -- ---- the corners of a map
   module _ (v : View) (searched : IsIn v maps) where
@@ -81,7 +81,7 @@ module _ (p : FrameParams) (maps : List View) where
     }
 
     localized-of : (c : Corner) → OfPeak p maps c → All (OfPeak p maps) (localized p v c)
-    localized-of c = landed-of (refined (p .«centroid_radius») (c .x) (c .y) true (cells v) (mapWidth v) (mapHeight v)) c
+    localized-of c = kept-of (refined (p .«centroid_radius») (c .x) (c .y) true (cells v) (mapWidth v) (mapHeight v)) c
 
     corners-of : All (OfPeak p maps) (cornersIn p (computedChoice p) v)
     unfolding cornersIn

@@ -21,7 +21,6 @@ use Rattle.merge.specs.Apart.{refusalApart}
 use Rattle.merge_slice.specs.MergeSlice.{refusalFor}
 use Rattle.corner_strike.specs.Showing as showing
 use Rattle.corner_strike.specs.Striking as striking
-use Rattle.patch_corners.specs.PatchCorners.{conditionsOf}
 use Rattle.frame_pass.specs.Refusals.{parametersFit}
 use Rattle.frame.specs.Frame as frame
 use Rattle.pgm.specs.Header.{bare, fieldOf}
@@ -40,6 +39,6 @@ pub numbers-occur : NumbersOccur
 unfolding occurring sub mul div ofBits counted range row rowsFrom block count total ringOf responseAt fifthsAt response.cells response.refusalOf
     levelCount cellsAbove buildRefusalOf levelRefusalOf levelPixels square window beaten positives isPeak peakPlaces fifthsAbove detect.conditions
     detect.refusalOf seedFits refined multiscale.refusalOf isOff isSized merge.refusalOf refusalApart refusalFor showing.refusalOf striking.refusalOf
-    conditionsOf parametersFit frame.refusalOf bare fieldOf pixelsIn photograph.refusalOf readFrame frameBytes writer.refusalOf retouch.refusalOf
+    parametersFit frame.refusalOf bare fieldOf pixelsIn photograph.refusalOf readFrame frameBytes writer.refusalOf retouch.refusalOf
     limits.refusalOf sure.refusalOf retention.refusalOf
 numbers-occur = refl

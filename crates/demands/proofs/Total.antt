@@ -59,7 +59,6 @@ use Rattle.corner_strike.specs.Striking as striking
 use Rattle.corner_strike.specs.Editions.{Edition}
 use Rattle.patch_corners.specs.declared.FrameParams.{FrameParams}
 use Rattle.patch_corners.specs.OneMap.{Choice, choiceOf, computedChoice, exactChoice}
-use Rattle.patch_corners.specs.PatchCorners.{conditionsOf, BoxAdded}
 use Rattle.frame_pass.specs.Refusals.{parametersFit, conditions}
 use Rattle.frame_pass.specs.Pass.{framePass}
 use Rattle.frame.specs.declared.FrameAnswer.{FrameAnswer}
@@ -164,11 +163,6 @@ enough-refuses conds m s wanted r f =
     none : (b : Bool) (rows k : ℕ) → enough.answerOf b rows ≡ answered.Refused k → ⊥
     none true rows k q = let e = ap (λ (a : Enough). length (enough.valuesOf a)) q in omega arith
     none false rows k q = let e = ap (λ (a : Enough). length (enough.valuesOf a)) q in omega arith
-
-corners-of : (p : FrameParams) (v : response.View) (cs : List Corner) (ties held : ℕ) (d d′ : List Float) (b b′ : Slices) (r : Peaks)
-    → BoxAdded p v cs ties held d b r d′ b′ → Refuses peaks.Refused (1 ∷ 2 ∷ 3 ∷ 8 ∷ 10 ∷ []) r
-unfolding conditionsOf detect.conditions
-corners-of p v cs ties held d d′ b b′ r f = peaks-refuse (conditionsOf p v (length d)) cs ties held b r (f .answer)
 
 refine-refuses : (radius : ℕ) (x y : Float) (hasMap : Bool) (m : List Float) (w h : ℕ) (r : Outcome) → Refined radius x y hasMap m w h r
     → Refuses outcome.Refused (1 ∷ 2 ∷ 3 ∷ 4 ∷ []) r
@@ -346,8 +340,7 @@ total = record {
   «find_peaks» = λ exact. search-refuses (detect.searchBy exact);
   «has_peaks» = λ m w h ring t window least radius wanted r f. unfold detect.conditions in
       (enough-refuses (detect.conditions (length m) w h ring window radius) m _ wanted r f);
-  «add_patch_corners» = λ p exact img w h x0 y0 x1 y1 held d d′ b b′ r f. corners-of p (viewOf img w h (p .ring) x0 y0 x1 y1) _ _ held d d′ b b′ r f;
-  «add_box_corners» = λ p exact img w h x0 y0 x1 y1 held d d′ b b′ r f. corners-of p (viewOf img w h (p .ring) x0 y0 x1 y1) _ _ held d d′ b b′ r f;
+  «add_map_corners» = λ p exact m w h held b b′ r f. peaks-of (length m) w h (p .ring) (p .window) (p .«centroid_radius») _ _ held b b′ r f;
   refine = refine-refuses;
   «compute_roi» = roi-refuses;
   «merge_corners_simple» = λ radius count b b′ r f. merge-refuses radius (placesOf b) count b _ r (f .answer);

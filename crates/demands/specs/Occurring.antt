@@ -26,9 +26,8 @@ use Rattle.corner_strike.specs.Editions.{Edition, edition}
 use Rattle.corner_strike.specs.Showing as showing
 use Rattle.corner_strike.specs.Striking as striking
 use Rattle.patch_corners.specs.declared.FrameParams.{FrameParams}
-use Rattle.patch_corners.specs.OneMap.{Choice, choiceOf, computedChoice, exactChoice, cornersIn}
-use Rattle.patch_corners.specs.PatchCorners.{refusalOn}
-use Rattle.patch_corners.specs.BoxCorners.{boxCorners}
+use Rattle.patch_corners.specs.OneMap.{Choice, choiceOf, computedChoice, exactChoice}
+use Rattle.patch_corners.specs.MapCorners.{centresIn}
 use Rattle.frame.specs.Frame.{Buffers, buffers, params}
 use Rattle.frame.specs.Frame as frame
 use Rattle.pgm.specs.Pgm as pgm
@@ -114,18 +113,11 @@ peaks search m w h ring held =
 abbrev enough : List Float → ℕ → ℕ → ℕ → ℕ
 enough m w h ring = lowest (detect.conditions (length m) w h ring 0 0)
 
--- RULES 9.7: a whole image as one box, and buffers without a place
-abbrev patchCorners : Bool → List ℕ → ℕ → ℕ → ℕ → ℕ → ℕ
-patchCorners exact img w h ring held =
+-- RULES 9.7: with the parameters of a frame, and a buffer without a place
+abbrev mapCorners : Bool → List Float → ℕ → ℕ → ℕ → ℕ → ℕ
+mapCorners exact m w h ring held =
     let p = parameters ring zero 1 in
-    let v = viewOf img w h (p .ring) 0 0 w h in
-    refusalOn p v (cornersIn p (choiceOf p exact) v) held [] noPlace
-
-abbrev patchBox : Bool → List ℕ → ℕ → ℕ → ℕ → ℕ → ℕ
-patchBox exact img w h ring held =
-    let p = parameters ring zero 1 in
-    let v = viewOf img w h (p .ring) 0 0 w h in
-    refusalOn p v (boxCorners p exact v) held [] noPlace
+    detect.refusalOf (detect.conditions (length m) w h (p .ring) (p .window) (p .«centroid_radius»)) (placesOf noPlace) held (length (centresIn p exact m w h))
 
 -- RULES 5.4: with a map
 abbrev refine : ℕ → Float → List Float → ℕ → ℕ → ℕ
@@ -186,12 +178,8 @@ surely lows highs w h ring = sure.refusalOf (length lows) (length highs) w h rin
 -- ---- several functions with one list (RULES 2.4)
 
 -- 1, 2, 3, 10: a map without a cell, and one corner that is held in a buffer without a place
-abbrev peakNumbers : (ℕ → ℕ → ℕ → Float → ℕ → ℕ → ℕ → Search) → List ℕ
-peakNumbers search = peaks search [] 4097 0 5 0 ∷ peaks search [] 1 1 5 0 ∷ peaks search [] 0 0 0 0 ∷ peaks search [] 0 0 5 1 ∷ []
-
--- 1, 2, 3, 8, 10, likewise
-abbrev cornerNumbers : (List ℕ → ℕ → ℕ → ℕ → ℕ → ℕ) → List ℕ
-cornerNumbers call = call [] 4097 0 5 0 ∷ call [] 1 1 5 0 ∷ call [] 0 0 0 0 ∷ call (0 ∷ []) 1 1 5 0 ∷ call [] 0 0 5 1 ∷ []
+abbrev peakNumbers : (List Float → ℕ → ℕ → ℕ → ℕ → ℕ) → List ℕ
+peakNumbers call = call [] 4097 0 5 0 ∷ call [] 1 1 5 0 ∷ call [] 0 0 0 0 ∷ call [] 0 0 5 1 ∷ []
 
 -- 4, 5, 10: a corner with a NaN; a radius of 8,192; a count of one, and no place
 abbrev mergeNumbers : (Float → ℕ → Slices → ℕ) → List ℕ
@@ -232,18 +220,15 @@ occurring =
     -- level_at
     ∷ row (level 0 0 4097 0 0 ∷ level 0 0 1 1 0 ∷ level 0 0 0 0 2 ∷ level 4 0 2 2 0 ∷ []) (1 ∷ 2 ∷ 3 ∷ 9 ∷ [])
     -- detect_peaks_from_response_with_refine_radius
-    ∷ row (peakNumbers detect.searchOf) (1 ∷ 2 ∷ 3 ∷ 10 ∷ [])
+    ∷ row (peakNumbers (peaks detect.searchOf)) (1 ∷ 2 ∷ 3 ∷ 10 ∷ [])
     -- find_peaks, by computed and by exact values
-    ∷ row (peakNumbers (detect.searchBy false)) (1 ∷ 2 ∷ 3 ∷ 10 ∷ [])
-    ∷ row (peakNumbers (detect.searchBy true)) (1 ∷ 2 ∷ 3 ∷ 10 ∷ [])
+    ∷ row (peakNumbers (peaks (detect.searchBy false))) (1 ∷ 2 ∷ 3 ∷ 10 ∷ [])
+    ∷ row (peakNumbers (peaks (detect.searchBy true))) (1 ∷ 2 ∷ 3 ∷ 10 ∷ [])
     -- has_peaks
     ∷ row (enough [] 4097 0 5 ∷ enough [] 1 1 5 ∷ enough [] 0 0 0 ∷ []) (1 ∷ 2 ∷ 3 ∷ [])
-    -- add_patch_corners, by computed and by exact values
-    ∷ row (cornerNumbers (patchCorners false)) (1 ∷ 2 ∷ 3 ∷ 8 ∷ 10 ∷ [])
-    ∷ row (cornerNumbers (patchCorners true)) (1 ∷ 2 ∷ 3 ∷ 8 ∷ 10 ∷ [])
-    -- add_box_corners, likewise
-    ∷ row (cornerNumbers (patchBox false)) (1 ∷ 2 ∷ 3 ∷ 8 ∷ 10 ∷ [])
-    ∷ row (cornerNumbers (patchBox true)) (1 ∷ 2 ∷ 3 ∷ 8 ∷ 10 ∷ [])
+    -- add_map_corners, by computed and by exact values
+    ∷ row (peakNumbers (mapCorners false)) (1 ∷ 2 ∷ 3 ∷ 10 ∷ [])
+    ∷ row (peakNumbers (mapCorners true)) (1 ∷ 2 ∷ 3 ∷ 10 ∷ [])
     -- refine
     ∷ row (refine 0 zero [] 4097 0 ∷ refine 0 zero [] 1 1 ∷ refine 17 zero [] 0 0 ∷ refine 0 nan [] 0 0 ∷ []) (1 ∷ 2 ∷ 3 ∷ 4 ∷ [])
     -- compute_roi

@@ -17,7 +17,7 @@
 --   merge_radius    is_off, is_sized, is_outside
 --   merge           position_of, position_at, grid_of, column_of, row_of, is_near, is_joined (of its module `grid`), refusal (of `refusing`; the
 --                   number alone)
---   patch_corners   clear, clear_bytes, clear_list (of its module `clearing`)
+--   clearing        clear, clear_bytes, clear_list
 --   frame_pass      refusal (the number before the pass)
 --   stream          wanted
 --   listing         write_refusal (one for its answer, one for its buffer)
@@ -71,8 +71,7 @@ use Rattle.corner_strike.specs.declared.striking.Strike.the-variants as strikin
 use Rattle.corner_strike.specs.Striking.{Strikes}
 use Rattle.patch_corners.specs.declared.FrameParams.{FrameParams}
 use Rattle.patch_corners.specs.OneMap.{Choice, choiceOf, computedChoice, exactChoice}
-use Rattle.patch_corners.specs.PatchCorners.{AddedCorners}
-use Rattle.patch_corners.specs.BoxCorners.{AddedBox}
+use Rattle.patch_corners.specs.MapCorners.{CornersAdded}
 use Rattle.frame.specs.declared.FrameAnswer.{FrameAnswer}
 use Rattle.frame.specs.declared.FrameAnswer.the-variants as frame
 use Rattle.frame.specs.Frame.{Buffers, FrameFound}
@@ -139,12 +138,9 @@ pub record Total : Type 0 where
   pub «has_peaks» : (m : List Float) (w h ring : ℕ) (threshold : Float) (window least radius wanted : ℕ) (r : Enough)
       → HasPeaks m w h ring threshold window least radius wanted r
       → Refuses enough.Refused (1 ∷ 2 ∷ 3 ∷ []) r
-  pub «add_patch_corners» : (p : FrameParams) (exact : Bool) (img : List ℕ) (w h x0 y0 x1 y1 held : ℕ) (d d′ : List Float) (b b′ : Slices) (r : Peaks)
-      → AddedCorners p exact (viewOf img w h (p .ring) x0 y0 x1 y1) held d b r d′ b′
-      → Refuses peaks.Refused (1 ∷ 2 ∷ 3 ∷ 8 ∷ 10 ∷ []) r
-  pub «add_box_corners» : (p : FrameParams) (exact : Bool) (img : List ℕ) (w h x0 y0 x1 y1 held : ℕ) (d d′ : List Float) (b b′ : Slices) (r : Peaks)
-      → AddedBox p exact (viewOf img w h (p .ring) x0 y0 x1 y1) held d b r d′ b′
-      → Refuses peaks.Refused (1 ∷ 2 ∷ 3 ∷ 8 ∷ 10 ∷ []) r
+  pub «add_map_corners» : (p : FrameParams) (exact : Bool) (m : List Float) (w h held : ℕ) (b b′ : Slices) (r : Peaks)
+      → CornersAdded p exact m w h held b r b′
+      → Refuses peaks.Refused (1 ∷ 2 ∷ 3 ∷ 10 ∷ []) r
   pub refine : (radius : ℕ) (x y : Float) (hasMap : Bool) (m : List Float) (w h : ℕ) (r : Outcome) → Refined radius x y hasMap m w h r
       → Refuses outcome.Refused (1 ∷ 2 ∷ 3 ∷ 4 ∷ []) r
   pub «compute_roi» : (c : RoiContext) (s : Corner) (r : RoiAnswer) → Boxed c s r

@@ -1,38 +1,26 @@
--- Lists of corners added to a buffer: those of a box, and one behind the other. Assumes nothing.
+-- Lists of corners added to a buffer: each replaced by a function of it, and one behind the other. Assumes nothing.
 use Prim.Native.Nat.{ℕ, _+_, _-_, _*_, _<_, _≤_}
-use native.Mathlib.Nat.{le-trans}
 use native.Mathlib.Omega.{arith}
 use native.Mathlib.Numerals.{add-one}
 use mathlib.Core.Path.{_≡_, refl, sym, ap, _∙_}
-use mathlib.Core.Bool.{true}
 use mathlib.Core.List.{List, [], _∷_, _++_, map, map-append, append-nil}
 use lib.ListN.{length, length-append, length-map}
-use lib.Ieee.{Float}
 use Rattle.lists.specs.Tab.{tab}
 use Rattle.lists.specs.Places.{flatMap, sumOf}
 use Rattle.lists.specs.Buffer.{placed}
 use Rattle.lists.proofs.Tab.{tab-add}
-use Rattle.lists.proofs.Tests.{and-parts}
 use Rattle.lists.proofs.Buffer.{placed-none, placed-more}
 use Rattle.lists.proofs.Members.{flatMap-append}
-use Rattle.ring.specs.Ring.{ringOf, isRing}
-use Rattle.response.specs.Patch.{View}
-use Rattle.response.proofs.Outcome.{area-in}
 use Rattle.corner_list.specs.declared.Corner.{Corner}
-use Rattle.corner_list.specs.CornerList.{Slices, xOf, yOf, strengthOf, neighboursOf, placesOf, placedCorners}
-use Rattle.corner_list.proofs.Corners.{slices-alike}
+use Rattle.corner_list.specs.CornerList.{Slices, xOf, yOf, strengthOf, neighboursOf, placesOf, cornersOf, placedCorners}
+use Rattle.corner_list.proofs.Corners.{slices-alike, same-places}
 use Rattle.detect.specs.declared.Peaks.{Peaks}
 use Rattle.detect.specs.declared.Peaks.the-variants.{Added, Refused}
-use Rattle.detect.proofs.Answers.{Clear}
-use Rattle.patch_corners.specs.declared.FrameParams.{FrameParams}
-use Rattle.patch_corners.specs.PatchCorners.{conditionsOf, BoxAdded}
-use Rattle.patch_corners.proofs.Changing.{placed-places}
+use Rattle.patch_corners.specs.Internal.{Changed}
+use Rattle.patch_corners.proofs.Changing.{placed-places, changed-fits, changed-placed}
 use Rattle.patch_corners.proofs.Centring.{both}
-use Rattle.patch_corners.proofs.Adding.{added-fits, added-short}
-use Rattle.patch_corners.proofs.Patches.{patch-clear}
-use Rattle.frame_pass.specs.Refusals.{parametersFit}
-use Rattle.frame_pass.proofs.Maps.{ranges}
-use Rattle.frame.specs.Internal.{Ready, Adds}
+use Rattle.frame.specs.Internal.{Adds, addedOf}
+use Rattle.frame.proofs.Padded.{SameLengths}
 
 module _ (cs : List Corner) (ties held : ℕ) (b : Slices) where
   -- corners that fit
@@ -60,37 +48,21 @@ module _ (cs : List Corner) (ties held : ℕ) (b : Slices) where
       → Adds ds u held b answer b′
   adds-to ds u answer b′ e t a = rw (← e, ← t) a
 
--- ---- the corners of a box of an image
-abbrev pub boxIn : FrameParams → List ℕ → ℕ → ℕ → ℕ → ℕ → ℕ → ℕ → View
-boxIn p img w h x0 y0 x1 y1 = record { img = img; w = w; h = h; ring = ringOf (p .ring); x0 = x0; y0 = y0; x1 = x1; y1 = y1 }
+-- ---- each replaced by a function of it: where they were refused, none is
+module _ (f : Corner → Corner) (cs : List Corner) (ties held : ℕ) (b : Slices) where
+  pub change-fits : (answer : Peaks) (b′ : Slices) → Adds cs ties held b answer b′ → held ≤ placesOf b → SameLengths b b′ → (m : ℕ) → m ≡ addedOf answer
+      → held + m ≤ placesOf b′
+  change-fits (Added n t) b′ a l same m e = let k = a .added n t refl in omega (arith, changed-fits f cs held b b′ n (k .0) (k .1) (k .2))
+  change-fits (Refused x) b′ a l same m e = omega (arith, same-places b′ b (same .xs) (same .ys) (same .strengths) (same .neighbours))
 
--- the ring of parameters in their ranges
-ring-is : (p : FrameParams) → parametersFit p ≡ true → isRing (p .ring) ≡ true
-unfolding parametersFit
-ring-is p e = and-parts (isRing (p .ring)) _ e .0
-
--- added as a box's list cs is
-module _ (p : FrameParams) (img : List ℕ) (w h x0 y0 x1 y1 : ℕ) (d : List Float) (ready : Ready p img w h (length d)) (cs : List Corner) (ties held : ℕ)
-    (b : Slices) (answer : Peaks) (d′ : List Float) (b′ : Slices) (added : BoxAdded p (boxIn p img w h x0 y0 x1 y1) cs ties held d b answer d′ b′) where
-  unrefused : Clear (conditionsOf p (boxIn p img w h x0 y0 x1 y1) (length d))
-  unrefused =
-      let r = ranges p (ready .sound .fit) in
-      patch-clear p (boxIn p img w h x0 y0 x1 y1) (length d)
-      (record {
-        wide = ready .sound .narrow;
-        high = ready .sound .low;
-        whole = ready .sound .sized;
-        ring-is = ring-is p (ready .sound .fit);
-        in-window = r .window;
-        in-radius = r .«centroid_radius»;
-      })
-      (le-trans (area-in (boxIn p img w h x0 y0 x1 y1)) (ready .enough))
-
-  pub box-adds : Adds cs ties held b answer b′
-  box-adds = record {
-    added = λ n u q. let t = added-fits p (boxIn p img w h x0 y0 x1 y1) cs ties held d b answer d′ b′ added n u q in (t .count, t .fits, t .buffer, t .tied);
-    refused = λ k q. added-short p (boxIn p img w h x0 y0 x1 y1) cs ties held d b answer d′ b′ added unrefused k q;
-  }
+  pub adds-changed : (answer : Peaks) (b′ : Slices) → Adds cs ties held b answer b′ → (m : ℕ) → m ≡ addedOf answer → (b″ : Slices) → Changed f held m b′ b″
+      → Adds (map f cs) ties held b answer b″
+  adds-changed (Added n t) b′ a m e b″ c =
+      let k = a .added n t refl in
+      adds (map f cs) ties held b n t b″ (k .0 ∙ sym (length-map cs f)) (k .1)
+      (changed-placed f cs held b b′ n (k .0) (k .1) (k .2) b″ (rw e at c)) (k .3)
+  adds-changed (Refused x) b′ a m e b″ c =
+      adds-not (map f cs) ties held b (Refused x) x b″ refl (omega (arith, a .refused x refl, length-map cs f))
 
 -- ---- one list behind another: cs stand first in b, which was b₀
 module _ (cs : List Corner) (ties held t : ℕ) (b₀ b : Slices) (a : Adds cs ties 0 b₀ (Added held t) b) where
@@ -174,6 +146,12 @@ module _ {A : Type 0} (f : A → List Corner) (X : A → ℕ) (g : ℕ → A) (i
   turn-full k z n l =
       adds-full (flatMap f (tab i g)) (sumOf X (tab i g)) held t b₀ b a (f s) (X s) answer b′ d k z (flatMap f (tab n g)) (sumOf X (tab n g))
       (omega (arith, flat-within f g i n l, ap (λ (r : A). length (f r)) e))
+
+-- the lists of all seeds that stand in a buffer
+pub turns-all : (seeds : Slices) (f : Corner → List Corner) (X : Corner → ℕ) (b : Slices) (answer : Peaks) (b′ : Slices) (i n : ℕ) → i ≡ n
+    → Adds (flatMap f (cornersOf seeds i)) (sumOf X (cornersOf seeds i)) 0 b answer b′
+    → Adds (flatMap f (cornersOf seeds n)) (sumOf X (cornersOf seeds n)) 0 b answer b′
+turns-all seeds f X b answer b′ i n e a = rw e at a
 
 -- ties of at most 2^24 lists, each with few, as a u64
 pub sum-fits : (t s l n : ℕ) → t ≡ s → s ≤ 18270388224 * l → (i : ℕ) → l ≡ i + 1 → i < n → n ≤ 16777216 → t ≤ 18446744073709551615

@@ -1,5 +1,5 @@
 -- The corners of a seed's box, those of the box's map, moved by its corner, and their peaks' ties. Assumes nothing.
-use Prim.Native.Nat.{ℕ, _≤_}
+use Prim.Native.Nat.{ℕ, _<_, _≤_}
 use native.Mathlib.Omega.{arith}
 use native.Mathlib.Nat.{add-zero}
 use mathlib.Core.Path.{_≡_, refl, sym, ap, _∙_}
@@ -8,8 +8,6 @@ use mathlib.Core.List.{List, [], _∷_, map, append-nil}
 use types.Run.{OneOf}
 use denote.Enum.Declared.{tagOf}
 use Rattle.lists.specs.Places.{flatMap, sumOf}
-use Rattle.response.specs.Patch.{left, top}
-use Rattle.response.proofs.Map.{box-left, box-top}
 use Rattle.corner_list.specs.declared.Corner.{Corner}
 use Rattle.corner_list.specs.CornerList.{Slices, placesOf}
 use Rattle.detect.specs.declared.Peaks.{Peaks}
@@ -23,7 +21,8 @@ use Rattle.patch_corners.specs.declared.FrameParams.{FrameParams}
 use Rattle.patch_corners.specs.OneMap.{Choice, moved, cornersIn, tiesOn}
 use Rattle.frame_pass.specs.Pass.{contextAt, patchOf, cornersOn, cornersAbout, tiesAbout}
 use Rattle.frame.specs.Internal.{Adds}
-use Rattle.frame.proofs.Adding.{adds-none, adds-to, boxIn}
+use Rattle.frame.proofs.Adding.{adds-none, adds-to}
+use Rattle.frame.proofs.Patches.{boxIn}
 
 module _ (choose : Choice) (p : FrameParams) (img : List ℕ) (w h : ℕ) (k : ℕ) (s : Corner) (a : RoiAnswer) (boxed : Boxed (contextAt p img w h k) s a) where
   -- ---- no box
@@ -42,25 +41,19 @@ module _ (choose : Choice) (p : FrameParams) (img : List ℕ) (w h : ℕ) (k : �
       (ap (λ (r : RoiAnswer). sumOf (tiesOn p choose) (patchOf p img w h r)) (sym (boxed .answer))
       ∙ ap (sumOf (tiesOn p choose)) (no-patch a o)) l
 
-  -- ---- a box: it lies in the image, so that its corner is that of the clipped box
+  -- ---- a box
   module _ (x0 y0 x1 y1 : ℕ) (q : a ≡ roi.Bounds x0 y0 x1 y1) where
-    abbrev boxed-corners : List Corner
-    boxed-corners = let v = boxIn p img w h x0 y0 x1 y1 in map (moved (left v) (top v)) (cornersIn p choose v)
+    -- its corner lies in the image
+    pub about-corner : (x0 < w) × (y0 < h)
+    about-corner = let i = box-inside (contextAt p img w h k) s x0 y0 x1 y1 (sym (boxed .answer) ∙ q) in (omega (arith, i .0, i .1), omega (arith, i .2, i .3))
 
-    about : boxed-corners ≡ cornersAbout p img w h choose k s
-    about =
-        let v = boxIn p img w h x0 y0 x1 y1 in
-        let i = box-inside (contextAt p img w h k) s x0 y0 x1 y1 (sym (boxed .answer) ∙ q) in
-        rw (box-left v (i .0) (i .2) (i .1) (i .3), box-top v (i .0) (i .2) (i .1) (i .3))
-        (sym (append-nil (map (moved x0 y0) (cornersIn p choose v))))
-        ∙ ap (λ (r : RoiAnswer). flatMap (cornersOn p img w h choose) (patchOf p img w h r)) (sym q ∙ boxed .answer)
-
-    tied : tiesOn p choose (boxIn p img w h x0 y0 x1 y1) ≡ tiesAbout p img w h choose k s
-    tied =
-        sym (add-zero (tiesOn p choose (boxIn p img w h x0 y0 x1 y1)))
-        ∙ ap (λ (r : RoiAnswer). sumOf (tiesOn p choose) (patchOf p img w h r)) (sym q ∙ boxed .answer)
-
+    -- the corners of its map, moved by its corner, are the seed's
     pub about-added : (held : ℕ) (b : Slices) (answer : Peaks) (b′ : Slices)
-        → Adds boxed-corners (tiesOn p choose (boxIn p img w h x0 y0 x1 y1)) held b answer b′
+        → Adds (map (moved x0 y0) (cornersIn p choose (boxIn p img w h x0 y0 x1 y1))) (tiesOn p choose (boxIn p img w h x0 y0 x1 y1)) held b answer b′
         → Adds (cornersAbout p img w h choose k s) (tiesAbout p img w h choose k s) held b answer b′
-    about-added held b answer b′ d = adds-to _ _ held b _ _ answer b′ about tied d
+    about-added held b answer b′ d =
+        let v = boxIn p img w h x0 y0 x1 y1 in
+        adds-to _ _ held b _ _ answer b′
+        (sym (append-nil (map (moved x0 y0) (cornersIn p choose v)))
+        ∙ ap (λ (r : RoiAnswer). flatMap (cornersOn p img w h choose) (patchOf p img w h r)) (sym q ∙ boxed .answer))
+        (sym (add-zero (tiesOn p choose v)) ∙ ap (λ (r : RoiAnswer). sumOf (tiesOn p choose) (patchOf p img w h r)) (sym q ∙ boxed .answer)) d

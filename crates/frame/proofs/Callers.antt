@@ -24,16 +24,15 @@ use Rattle.patch_corners.specs.OneMap.{Choice}
 use Rattle.frame_pass.specs.Pass.{framePass, levelsIn, foundOf}
 use Rattle.frame_pass.specs.Refusals.{conditions}
 use Rattle.frame.specs.declared.FrameAnswer.the-variants.{Corners, Refused}
-use Rattle.frame.specs.Frame.{Buffers, tooMany, refusalOf, paddedCorners, finished, FrameFound, wiped}
+use Rattle.frame.specs.Frame.{Buffers, tooMany, refusalOf, paddedCorners, finished, FrameFound, wiped, leftBy}
 use Rattle.lists.specs.Refusals.{unless}
 use Rattle.frame.proofs.Numbers.{number-before, number-in-pass}
-use Rattle.patch_corners.specs.Clearing.{leftBy}
 
 -- corners that stand first in a buffer are read back
 own-front : {A : Type 0} (vs r : List A) → vs ++ r ≡ front vs (vs ++ r)
 own-front {A} vs r = ap (λ (l : List A). vs ++ l) (sym (drop-at vs r (length vs) refl))
 
-corners-padded : (cs : List Corner) (b : Slices) (n : ℕ) → n ≡ length cs → cornersOf (paddedCorners cs b) n ≡ cs
+pub corners-padded : (cs : List Corner) (b : Slices) (n : ℕ) → n ≡ length cs → cornersOf (paddedCorners cs b) n ≡ cs
 corners-padded cs b n e =
     ap (λ (s : Slices). cornersOf s n)
     (slices-alike (own-front (map xOf cs) _) (own-front (map yOf cs) _) (own-front (map strengthOf cs) _) (own-front (map neighboursOf cs) _))

@@ -29,14 +29,14 @@ use Rattle.merge.proofs.Judged.{judged-none-off, judged-none-on}
 use Rattle.merge.proofs.Result.{result-length, merges-done}
 use Rattle.patch_corners.specs.declared.FrameParams.{FrameParams}
 use Rattle.patch_corners.specs.OneMap.{Choice}
-use Rattle.patch_corners.specs.Clearing.{clearedFrom, leftBy}
+use Rattle.clearing.specs.Clearing.{clearedFrom}
 use Rattle.frame_pass.specs.Pass.{Pass, framePass, levelsIn, seedsOf, foundOf, tiesFound}
 use Rattle.frame_pass.specs.Refusals.{conditions}
 use Rattle.frame_pass.proofs.Refusals.{Admitted, not-ten}
 use Rattle.frame.specs.declared.FrameAnswer.{FrameAnswer}
 use Rattle.frame.specs.declared.FrameAnswer.the-variants.{Corners, Refused}
 use Rattle.frame.specs.declared.search.Lists.{Lists}
-use Rattle.frame.specs.Frame.{Buffers, buffers, tooMany, refusalOf, paddedCorners, padded, finished, wiped}
+use Rattle.frame.specs.Frame.{Buffers, buffers, tooMany, refusalOf, paddedCorners, padded, finished, wiped, leftBy}
 use Rattle.frame.specs.Frame.{numberOf, valuesOf, FrameFound, wiped}
 use Rattle.frame.specs.Internal.{Searched, keptOf, Merging}
 use Rattle.frame.proofs.Numbers.{number-before, number-ten, number-none}

@@ -7,7 +7,6 @@ use mathlib.Core.Bool.{Bool, true, false, _||_, false≢true}
 use mathlib.Core.List.{List, [], map}
 use lib.ListN.{length}
 use lib.Dec.{ltb}
-use lib.Ieee.{Float}
 use borrow.Author.Tests.{lt-ltb}
 use Rattle.lists.specs.Places.{flatMap, sumOf}
 use Rattle.lists.proofs.Buffer.{placed-first}
@@ -24,13 +23,13 @@ use Rattle.detect.specs.declared.Peaks.{Peaks}
 use Rattle.detect.specs.declared.Peaks.the-variants.{Added, Refused}
 use Rattle.patch_corners.specs.declared.FrameParams.{FrameParams}
 use Rattle.patch_corners.specs.OneMap.{Choice, choiceOf, cornersIn, tiesOn}
-use Rattle.patch_corners.specs.PatchCorners.{BoxAdded}
 use Rattle.frame_pass.specs.Pass.{cornersAbout, tiesAbout, levelView, seedsOf, foundOf, tiesFound}
 use Rattle.frame_pass.proofs.Maps.{sound-level}
 use Rattle.frame_pass.proofs.Ties.{level-few}
 use Rattle.frame.specs.declared.search.Lists.{Lists}
-use Rattle.frame.specs.Internal.{Ready, BuiltLevels, Adds, addedOf, noLists, listsOf, Searched}
-use Rattle.frame.proofs.Adding.{adds-to, boxIn, box-adds}
+use Rattle.frame.specs.Internal.{Ready, BuiltLevels, Adds, SeedsAdded, foundBy, tiesBy, addedOf, noLists, listsOf, Searched}
+use Rattle.frame.proofs.Adding.{adds-to, adds-none}
+use Rattle.frame.proofs.Patches.{boxIn}
 
 -- corners added from a buffer's first place on stand first in it
 first-corners : (cs : List Corner) (b : Slices) → placedCorners 0 cs b ≡ frontCorners cs b
@@ -43,37 +42,93 @@ pub ready-kept : (p : FrameParams) (img : List ℕ) (w h places places′ : ℕ)
 ready-kept p img w h places places′ r e = rw e r
 
 -- ---- the last of n levels, which is level k
-module _ (p : FrameParams) (img : List ℕ) (w h n : ℕ) (levels : List ℕ) (built : BuiltLevels p img w h n levels) (some : 1 < n) (k : ℕ) (is : k ≡ n - 1) where
-  pub last-few : k ≤ 12
-  last-few = omega (arith, some, is, levels-few img w h (p .levels) (p .«minimum_side») (built .before) levels n (built .complete))
+last-is : (p : FrameParams) (img : List ℕ) (w h : ℕ) (choose : Choice) (n : ℕ) → 2 ≤ n → (k : ℕ) → k ≡ n - 1
+    → cornersIn p choose (levelView p img w h k) ≡ seedsOf p img w h choose n
+unfolding seedsOf
+last-is p img w h choose zero z k e = absurd (let no : ⊥ = omega arith in no)
+last-is p img w h choose (suc zero) z k e = absurd (let no : ⊥ = omega arith in no)
+last-is p img w h choose (suc (suc j)) z k e = let same : k ≡ suc j = omega arith in rw same
 
-  module _ (d : List Float) (ready : Ready p img w h (length d)) (last : List ℕ) (l : last ≡ levelIn img levels w h (p .levels) (p .«minimum_side») k)
-      (lw lh : ℕ) (wide : lw ≡ levelSide w k) (high : lh ≡ levelSide h k) (b : Slices) (answer : Peaks) (d′ : List Float) (b′ : Slices)
-      (choose : Choice)
-      (patched : BoxAdded p (boxIn p last lw lh 0 0 lw lh) (cornersIn p choose (boxIn p last lw lh 0 0 lw lh)) (tiesOn p choose (boxIn p last lw lh 0 0 lw lh))
-      0 d b answer d′ b′) where
-    -- its corners, as of one box
-    pub last-adds : Adds (cornersIn p choose (levelView p img w h k)) (tiesOn p choose (levelView p img w h k)) 0 b answer b′
-    last-adds =
-        let pixels = l ∙ level-found img w h (p .levels) (p .«minimum_side») (built .before) levels n (built .complete) k (omega (arith, some, is)) in
+module _ (p : FrameParams) (img : List ℕ) (w h n : ℕ) (levels : List ℕ) (built : BuiltLevels p img w h n levels) where
+  pub levels-most : n ≤ 13
+  levels-most = levels-few img w h (p .levels) (p .«minimum_side») (built .before) levels n (built .complete)
+
+  module _ (some : 2 ≤ n) (k : ℕ) (is : k ≡ n - 1) (places : ℕ) (ready : Ready p img w h places) (last : List ℕ)
+      (l : last ≡ levelIn img levels w h (p .levels) (p .«minimum_side») k)
+      (lw lh : ℕ) (wide : lw ≡ levelSide w k) (high : lh ≡ levelSide h k) where
+    pixels : last ≡ levelPixels img w h k
+    pixels = l ∙ level-found img w h (p .levels) (p .«minimum_side») (built .before) levels n (built .complete) k (omega (arith, some, is))
+
+    -- it is searched like the image
+    pub last-ready : Ready p last lw lh places
+    last-ready =
         let area : levelSide w k * levelSide h k ≤ w * h = mul-le-mul (side-le w k) (side-le h k) in
-        let fine : Ready p last lw lh (length d) =
-        rw (pixels, wide, high) (record { sound = sound-level p img w h (ready .sound) k; enough = omega (arith, area, ready .enough) }) in
-        adds-to _ _ 0 b _ _ answer b′ (rw (pixels, wide, high)) (rw (pixels, wide, high))
-        (box-adds p last lw lh 0 0 lw lh d fine (cornersIn p choose (boxIn p last lw lh 0 0 lw lh)) _ 0 b answer d′ b′ patched)
+        rw (pixels, wide, high) (record { sound = sound-level p img w h (ready .sound) k; enough = omega (arith, area, ready .enough) })
 
--- so few corners were added to a buffer as one level of a sound image has
+    -- and its corners, as of one box, are the seeds
+    pub last-seeds : (choose : Choice) (b : Slices) (answer : Peaks) (b′ : Slices)
+        → Adds (cornersIn p choose (boxIn p last lw lh 0 0 lw lh)) (tiesOn p choose (boxIn p last lw lh 0 0 lw lh)) 0 b answer b′
+        → SeedsAdded p img w h choose n b answer b′
+    last-seeds choose b answer b′ a =
+        let ties = tiesOn p choose (boxIn p last lw lh 0 0 lw lh) in
+        record { ties = ties; adds = adds-to _ ties 0 b _ ties answer b′ (rw (pixels, wide, high) (last-is p img w h choose n some k is)) refl a }
+
+-- fewer levels have none
+pub no-seeds : (p : FrameParams) (img : List ℕ) (w h : ℕ) (choose : Choice) (n : ℕ) → n < 2 → (b : Slices) → SeedsAdded p img w h choose n b (Added 0 0) b
+unfolding seedsOf
+no-seeds p img w h choose n l b = record { ties = 0; adds = adds-none (seedsOf p img w h choose n) 0 0 b (of n l) refl (omega arith) }
+  where
+    of : (n : ℕ) → n < 2 → seedsOf p img w h choose n ≡ []
+    of zero z = refl
+    of (suc zero) z = refl
+    of (suc (suc j)) z = absurd (let no : ⊥ = omega arith in no)
+
+-- so few seeds were added as one level of a sound image has
 pub seeds-few : (p : FrameParams) (exact : Bool) (img : List ℕ) (w h places : ℕ) → Ready p img w h places
-    → (k u held : ℕ) (b : Slices) (answer : Peaks) (b′ : Slices)
-    → Adds (cornersIn p (choiceOf p exact) (levelView p img w h k)) u held b answer b′ → addedOf answer ≤ 16777216
-seeds-few p exact img w h places ready k u held b (Added n t) b′ a = omega (arith, a .added n t refl .0, level-few p exact img w h (ready .sound) k)
-seeds-few p exact img w h places ready k u held b (Refused x) b′ a = omega arith
+    → (n : ℕ) (b : Slices) (answer : Peaks) (b′ : Slices) → SeedsAdded p img w h (choiceOf p exact) n b answer b′ → addedOf answer ≤ 16777216
+unfolding seedsOf
+seeds-few p exact img w h places ready n b (Added m t) b′ a = omega (arith, a .adds .added m t refl .0, few n)
+  where
+    few : (n : ℕ) → length (seedsOf p img w h (choiceOf p exact) n) ≤ 16777216
+    few zero = omega arith
+    few (suc zero) = omega arith
+    few (suc (suc k)) = level-few p exact img w h (ready .sound) (suc k)
+seeds-few p exact img w h places ready n b (Refused x) b′ a = omega arith
 
--- neither none nor one
-pub several : (n : ℕ) → (n ≡ 0 → ⊥) → (n ≡ 1 → ⊥) → 1 < n
-several zero a b = absurd (a refl)
-several (suc zero) a b = absurd (b refl)
-several (suc (suc n)) a b = omega arith
+-- ---- what is found, by the number of levels
+module _ (choose : Choice) (p : FrameParams) (img : List ℕ) (w h : ℕ) where
+  -- one level: the corners of its map
+  pub found-whole : (n : ℕ) → n ≡ 1 → (seeds : List Corner) (c : Slices) (answer : Peaks) (c′ : Slices)
+      → Adds (cornersIn p choose (boxIn p img w h 0 0 w h)) (tiesOn p choose (boxIn p img w h 0 0 w h)) 0 c answer c′
+      → Adds (foundBy p img w h choose n seeds) (tiesBy p img w h choose n seeds) 0 c answer c′
+  found-whole n e seeds c answer c′ a = rw e (adds-to _ _ 0 c _ _ answer c′ base tied a)
+    where
+      tied : tiesOn p choose (boxIn p img w h 0 0 w h) ≡ tiesOn p choose (levelView p img w h 0)
+      tied = unfold levelPixels in (rw (div-one w, div-one h))
+
+      base : cornersIn p choose (boxIn p img w h 0 0 w h) ≡ cornersIn p choose (levelView p img w h 0)
+      base = unfold levelPixels in (rw (div-one w, div-one h))
+
+  -- any other number: those of the boxes of the seeds, which are of level k
+  pub found-boxes : (n : ℕ) → (n ≡ 1 → ⊥) → (k : ℕ) → k ≡ n - 1 → (seeds : List Corner) (c : Slices) (answer : Peaks) (c′ : Slices)
+      → Adds (flatMap (cornersAbout p img w h choose k) seeds) (sumOf (tiesAbout p img w h choose k) seeds) 0 c answer c′
+      → Adds (foundBy p img w h choose n seeds) (tiesBy p img w h choose n seeds) 0 c answer c′
+  found-boxes zero z k e seeds c answer c′ a = let same : k ≡ 0 = omega arith in rw same at a
+  found-boxes (suc zero) z k e seeds c answer c′ a = absurd (z refl)
+  found-boxes (suc (suc j)) z k e seeds c answer c′ a = let same : k ≡ suc j = omega arith in rw same at a
+
+  -- with the seeds of the pass they are what it finds
+  found-is : (n : ℕ) → foundBy p img w h choose n (seedsOf p img w h choose n) ≡ foundOf p img w h choose n
+  unfolding seedsOf foundOf
+  found-is zero = refl
+  found-is (suc zero) = refl
+  found-is (suc (suc k)) = refl
+
+  ties-are : (n : ℕ) → tiesBy p img w h choose n (seedsOf p img w h choose n) ≡ tiesFound p img w h choose n
+  unfolding seedsOf tiesFound
+  ties-are zero = refl
+  ties-are (suc zero) = refl
+  ties-are (suc (suc k)) = refl
 
 -- ---- the two lists
 module _ (seeds found : List Corner) (ties : ℕ) (s c s′ c′ : Slices) where
@@ -90,91 +145,26 @@ module _ (seeds found : List Corner) (ties : ℕ) (s c s′ c′ : Slices) where
   listed m u p q r (Refused k) a =
       lists-short (rw (lt-ltb (placesOf c) (length found) (omega (arith, a .refused k refl))) (or-right (ltb (placesOf s) (length seeds))))
 
-module _ (choose : Choice) (p : FrameParams) (img : List ℕ) (w h n : ℕ) (s c : Slices) where
-  abbrev Result : Lists → Slices → Slices → Type 0
-  Result = Searched (seedsOf p img w h choose n) (foundOf p img w h choose n) (tiesFound p img w h choose n) s c
+-- from the answers of adding the seeds and what was found with those that stand in their buffer
+module _ (choose : Choice) (p : FrameParams) (img : List ℕ) (w h n : ℕ) (s c s′ c′ : Slices) (answer′ : Peaks) where
+  abbrev Result : Lists → Type 0
+  Result r = Searched (seedsOf p img w h choose n) (foundOf p img w h choose n) (tiesFound p img w h choose n) s c r s′ c′
 
-  -- no level
-  pub search-none : n ≡ 0 → (r : Lists) → r ≡ listsOf (Added 0 0) (Added 0 0) → Result r s c
-  unfolding seedsOf foundOf tiesFound
-  search-none e r is = rw (is, e) (record { both = λ z. (refl, omega arith, refl, refl, omega arith, refl, refl); short = λ z. absurd (false≢true (sym z)) })
+  abbrev Found : ℕ → Type 0
+  Found m = Adds (foundBy p img w h choose n (cornersOf s′ m)) (tiesBy p img w h choose n (cornersOf s′ m)) 0 c answer′ c′
 
-  -- one level: its corners
-  pub search-one : n ≡ 1 → (c′ : Slices) (answer : Peaks)
-      → Adds (cornersIn p choose (boxIn p img w h 0 0 w h)) (tiesOn p choose (boxIn p img w h 0 0 w h)) 0 c answer c′
-      → (r : Lists) → r ≡ listsOf (Added 0 0) answer → Result r s c′
-  unfolding seedsOf foundOf tiesFound
-  search-one e c′ answer a r is =
-      rw (is, e) (listed [] _ _ s c s c′ 0 0 refl (omega arith) refl answer (adds-to _ _ 0 c _ _ answer c′ base tied a))
-    where
-      tied : tiesOn p choose (boxIn p img w h 0 0 w h) ≡ tiesOn p choose (levelView p img w h 0)
-      tied = unfold levelPixels in (rw (div-one w, div-one h))
+  of-both : (answer : Peaks) → SeedsAdded p img w h choose n s answer s′ → Found (addedOf answer) → Result (listsOf answer answer′)
+  of-both (Added m v) a b =
+      let t = a .adds .added m v refl in
+      let seeds = seedsOf p img w h choose n in
+      let first = t .2 ∙ first-corners seeds s in
+      let read : cornersOf s′ m ≡ seeds = ap (λ (z : Slices). cornersOf z m) first ∙ corners-front seeds s m (t .0) in
+      listed seeds _ _ s c s′ c′ m v (t .0) (omega (arith, t .1)) first answer′
+      (adds-to _ _ 0 c _ _ answer′ c′ (ap (foundBy p img w h choose n) read ∙ found-is choose p img w h n)
+      (ap (tiesBy p img w h choose n) read ∙ ties-are choose p img w h n) b)
+  of-both (Refused x) a b =
+      lists-short _ _ _ s c s′ c′ (rw (lt-ltb (placesOf s) (length (seedsOf p img w h choose n)) (omega (arith, a .adds .refused x refl))))
 
-      base : cornersIn p choose (boxIn p img w h 0 0 w h) ≡ cornersIn p choose (levelView p img w h 0)
-      base = unfold levelPixels in (rw (div-one w, div-one h))
-
-  -- more: the corners of the last, which is level k, are seeds
-  module _ (some : 1 < n) (k : ℕ) (is : k ≡ n - 1) where
-    counted : n ≡ suc k
-    counted = omega arith
-
-    more : k ≡ 0 → ⊥
-    more z = omega arith
-
-    abbrev lastCorners : List Corner
-    lastCorners = cornersIn p choose (levelView p img w h k)
-
-    seeds-last : seedsOf p img w h choose n ≡ lastCorners
-    seeds-last = ap (seedsOf p img w h choose) counted ∙ of k more
-      where
-        of : (j : ℕ) → (j ≡ 0 → ⊥) → seedsOf p img w h choose (suc j) ≡ cornersIn p choose (levelView p img w h j)
-        of zero z = absurd (z refl)
-        of (suc j) z = unfold seedsOf in refl
-
-    -- and those of their boxes are found
-    found-boxes : foundOf p img w h choose n ≡ flatMap (cornersAbout p img w h choose k) (seedsOf p img w h choose n)
-    found-boxes =
-        ap (foundOf p img w h choose) counted ∙ of k more
-        ∙ ap (λ (m : ℕ). flatMap (cornersAbout p img w h choose k) (seedsOf p img w h choose m)) (sym counted)
-      where
-        of : (j : ℕ) → (j ≡ 0 → ⊥) → foundOf p img w h choose (suc j)
-            ≡ flatMap (cornersAbout p img w h choose j) (seedsOf p img w h choose (suc j))
-        of zero z = absurd (z refl)
-        of (suc j) z = unfold foundOf in refl
-
-    -- and so are their peaks' ties
-    ties-boxes : tiesFound p img w h choose n ≡ sumOf (tiesAbout p img w h choose k) (seedsOf p img w h choose n)
-    ties-boxes =
-        ap (tiesFound p img w h choose) counted ∙ of k more
-        ∙ ap (λ (m : ℕ). sumOf (tiesAbout p img w h choose k) (seedsOf p img w h choose m)) (sym counted)
-      where
-        of : (j : ℕ) → (j ≡ 0 → ⊥) → tiesFound p img w h choose (suc j)
-            ≡ sumOf (tiesAbout p img w h choose j) (seedsOf p img w h choose (suc j))
-        of zero z = absurd (z refl)
-        of (suc j) z = unfold tiesFound in refl
-
-    module _ (s′ : Slices) (c′ : Slices) (answer′ : Peaks) where
-      abbrev boxes : ℕ → List Corner
-      boxes m = flatMap (cornersAbout p img w h choose k) (cornersOf s′ m)
-
-      abbrev tied : ℕ → ℕ
-      tied m = sumOf (tiesAbout p img w h choose k) (cornersOf s′ m)
-
-      many : (r : Peaks) (u : ℕ) → Adds lastCorners u 0 s r s′ → Adds (boxes (addedOf r)) (tied (addedOf r)) 0 c answer′ c′ → Result (listsOf r answer′) s′ c′
-      many (Added m v) u a b =
-          let t = a .added m v refl in
-          let first = t .2 ∙ first-corners lastCorners s in
-          let read : cornersOf s′ m ≡ lastCorners = ap (λ (z : Slices). cornersOf z m) first ∙ corners-front lastCorners s m (t .0) in
-          let all : boxes m ≡ foundOf p img w h choose n =
-          ap (flatMap (cornersAbout p img w h choose k)) (read ∙ sym seeds-last) ∙ sym found-boxes in
-          let sums : tied m ≡ tiesFound p img w h choose n =
-          ap (sumOf (tiesAbout p img w h choose k)) (read ∙ sym seeds-last) ∙ sym ties-boxes in
-          listed _ _ _ s c s′ c′ m v (t .0 ∙ ap length (sym seeds-last)) (omega (arith, t .1))
-          (first ∙ ap (λ (l : List Corner). frontCorners l s) (sym seeds-last)) answer′ (adds-to _ _ 0 c _ _ answer′ c′ all sums b)
-      many (Refused x) u a b =
-          lists-short _ _ _ s c s′ c′ (rw (lt-ltb (placesOf s) (length (seedsOf p img w h choose n))
-          (omega (arith, a .refused x refl, ap length seeds-last))))
-
-      pub search-many : (answer : Peaks) (u : ℕ) → Adds lastCorners u 0 s answer s′ → (m : ℕ) → m ≡ addedOf answer → Adds (boxes m) (tied m) 0 c answer′ c′
-          → (r : Lists) → r ≡ listsOf answer answer′ → Result r s′ c′
-      search-many answer u a m q b r e = rw e (many answer u a (adds-to _ _ 0 c _ _ answer′ c′ (ap boxes q) (ap tied q) b))
+  pub searched : (answer : Peaks) → SeedsAdded p img w h choose n s answer s′ → (m : ℕ) → m ≡ addedOf answer → Found m
+      → (r : Lists) → r ≡ listsOf answer answer′ → Result r
+  searched answer a m q b r e = rw e (of-both answer a (rw q at b))

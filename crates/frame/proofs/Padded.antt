@@ -11,7 +11,7 @@ use Rattle.corner_list.specs.declared.Corner.{Corner}
 use Rattle.corner_list.specs.CornerList.{Slices, xOf, yOf, strengthOf, neighboursOf, placesOf, frontCorners}
 use Rattle.corner_list.proofs.Corners.{slices-alike}
 use Rattle.frame.specs.Frame.{padded, paddedCorners}
-use Rattle.patch_corners.specs.Clearing.{clearedFrom}
+use Rattle.clearing.specs.Clearing.{clearedFrom}
 
 -- two buffers with slices of the same lengths
 pub record SameLengths (b b′ : Slices) : Type 0 where

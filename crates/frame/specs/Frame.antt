@@ -1,10 +1,10 @@
 -- A frame: the refusals, the answer, and every buffer after it, by equations with the pass.
-use Prim.Native.Nat.{ℕ, zero, _-_}
+use Prim.Native.Nat.{ℕ, zero, suc, _-_}
 use mathlib.Core.Path.{_≡_}
-use mathlib.Core.Bool.{Bool, _||_}
+use mathlib.Core.Bool.{Bool, _||_, cond}
 use mathlib.Core.List.{List, [], _∷_, _++_, map}
 use lib.ListN.{length, replicate}
-use lib.Dec.{ltb}
+use lib.Dec.{ltb, eqb}
 use lib.Ieee.{Float}
 use Rattle.lists.specs.Buffer.{front}
 use Rattle.lists.specs.Refusals.{lowest, valuesUnless, unless}
@@ -14,7 +14,6 @@ use Rattle.corner_list.specs.CornerList.{Slices, slices, xOf, yOf, strengthOf, 
 use Rattle.corner_list.specs.declared.Corner.{Corner}
 use Rattle.patch_corners.specs.declared.FrameParams.{FrameParams}
 use Rattle.patch_corners.specs.OneMap.{Choice, computedChoice}
-use Rattle.patch_corners.specs.Clearing.{leftBy}
 use Rattle.frame_pass.specs.Refusals.{conditions}
 use Rattle.frame_pass.specs.Pass.{Pass, framePass, levelsIn}
 use Rattle.frame.specs.declared.FrameAnswer.{FrameAnswer}
@@ -81,7 +80,13 @@ finished levels q b =
 abbrev pub wiped : Buffers → Buffers
 wiped b = buffers (padded float32.zero [] (b .map)) (replicate (length (b .levels)) 0) (paddedCorners [] (b .seeds)) (paddedCorners [] (b .corners))
 
--- by the number: any other refusal changes nothing
+-- a buffer by the call's number (RULES 9.6): as the call leaves it where there is none; cleared by 10, a list that does not fit; and by any other
+-- refusal as it was
+abbrev pub leftBy : {A : Type 0} → ℕ → A → A → A → A
+leftBy zero done cleared before = done
+leftBy (suc k) done cleared before = cond (eqb (suc k) 10) cleared before
+
+-- so all of them
 abbrev pub buffersAfter : Choice → FrameParams → List ℕ → ℕ → ℕ → Buffers → Buffers
 buffersAfter choose p img w h b =
     leftBy (refusalOf choose p img w h b) (finished (above img w h (levelsIn p img w h)) (framePass p img w h choose) b) (wiped b) b

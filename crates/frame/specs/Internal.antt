@@ -1,5 +1,5 @@
 -- The contracts of private functions: no public promise rests on them.
-use Prim.Native.Nat.{ℕ, _+_, _*_, _<_, _≤_}
+use Prim.Native.Nat.{ℕ, zero, suc, _+_, _*_, _<_, _≤_}
 use mathlib.Core.Path.{_≡_}
 use mathlib.Core.Bool.{true, false, _||_}
 use mathlib.Core.List.{List}
@@ -12,7 +12,10 @@ use Rattle.corner_list.specs.declared.Corner.{Corner}
 use Rattle.detect.specs.declared.Peaks.{Peaks}
 use Rattle.detect.specs.declared.Peaks.the-variants.{Added, Refused}
 use Rattle.patch_corners.specs.declared.FrameParams.{FrameParams}
-use Rattle.patch_corners.specs.Clearing.{clearedFrom}
+use Rattle.patch_corners.specs.OneMap.{Choice, cornersIn, tiesOn}
+use Rattle.clearing.specs.Clearing.{clearedFrom}
+use Rattle.lists.specs.Places.{flatMap, sumOf}
+use Rattle.frame_pass.specs.Pass.{levelView, cornersAbout, tiesAbout, seedsOf}
 use Rattle.frame_pass.specs.Theorems.{SoundFrame}
 use Rattle.merge.specs.declared.Merged.{Merged}
 use Rattle.merge.specs.declared.Merged.the-variants.{Kept}
@@ -37,6 +40,23 @@ pub record BuiltLevels (p : FrameParams) (img : List ℕ) (w h n : ℕ) (levels 
 pub record Adds (cs : List Corner) (ties held : ℕ) (b : Slices) (answer : Peaks) (b′ : Slices) : Type 0 where
   pub added : (n t : ℕ) → answer ≡ Added n t → (n ≡ length cs) × (held + n ≤ placesOf b) × (b′ ≡ placedCorners held cs b) × (t ≡ ties)
   pub refused : (k : ℕ) → answer ≡ Refused k → placesOf b < held + length cs
+
+-- the seeds of n levels first in a buffer; their ties are of no use
+pub record SeedsAdded (p : FrameParams) (img : List ℕ) (w h : ℕ) (choose : Choice) (n : ℕ) (b : Slices) (answer : Peaks) (b′ : Slices) : Type 0 where
+  pub ties : ℕ
+  pub adds : Adds (seedsOf p img w h choose n) ties 0 b answer b′
+
+-- the corners before merging and their peaks' ties, by the number of levels and the seeds: `foundOf` and `tiesFound` at the seeds of the pass
+module _ (p : FrameParams) (img : List ℕ) (w h : ℕ) (choose : Choice) where
+  abbrev pub foundBy : ℕ → List Corner → List Corner
+  foundBy zero seeds = flatMap (cornersAbout p img w h choose 0) seeds
+  foundBy (suc zero) seeds = cornersIn p choose (levelView p img w h 0)
+  foundBy (suc (suc k)) seeds = flatMap (cornersAbout p img w h choose (suc k)) seeds
+
+  abbrev pub tiesBy : ℕ → List Corner → ℕ
+  tiesBy zero seeds = sumOf (tiesAbout p img w h choose 0) seeds
+  tiesBy (suc zero) seeds = tiesOn p choose (levelView p img w h 0)
+  tiesBy (suc (suc k)) seeds = sumOf (tiesAbout p img w h choose (suc k)) seeds
 
 -- how many corners were added
 abbrev pub addedOf : Peaks → ℕ

@@ -8,7 +8,6 @@ ghost use Rattle.frame.specs.declared.FrameAnswer.the-variants.{Corners,
 ghost use Rattle.frame.specs.Internal.{keptOf, Merging};
 use crate::FrameAnswer;
 use merge::Merged;
-use patch_corners::clearing;
 
 // How many corners merging left, none where it was refused.
 fn kept(m: Merged) -> usize

@@ -1,7 +1,9 @@
 // The frame pass: from an image and its parameters to the list of its corners, over borrowed buffers.
 pub mod answers; // number_of, count_of, ties_of: an answer taken apart
+mod box_corners; // the corners of one box
 mod closing;
 mod search;
+mod shifting; // corners moved by a box's corner
 
 ghost use lib.ListN.{length};
 ghost use Rattle.pyramid_levels.specs.Refusals.{ask};
@@ -11,7 +13,6 @@ ghost use Rattle.corner_list.specs.CornerList.{slices};
 ghost use Rattle.patch_corners.specs.OneMap.{choiceOf, computedChoice, exactChoice};
 ghost use Rattle.frame.specs.Frame.{buffers, FrameFound};
 use patch_corners::FrameParams;
-use patch_corners::clearing;
 use pyramid::Pyramid;
 
 // How many corners stand in the corner buffer and how many ties the peaks found before merging have, or the number of the refusal.
@@ -61,24 +62,27 @@ pub fn find_corners_by(
         return FrameAnswer::Refused(number);
     }
     let n = build(img, w, h, p, levels);
-    let found = search::search(
+    let f = search::add_seeds(img, w, h, p, exact, n, levels, map, sx, sy, ss, sn);
+    let m = search::added(f);
+    let g = search::add_found(
         img,
         w,
         h,
         p,
         exact,
         n,
-        levels,
-        map,
         sx,
         sy,
         ss,
         sn,
+        m,
+        map,
         cx,
         cy,
         cs,
         cn,
     );
+    let found = search::lists_of(f, g);
     clearing::clear(map, 0);
     closing::clear_levels(levels, found.fit);
     clearing::clear_list(sx, sy, ss, sn, found.seeds);

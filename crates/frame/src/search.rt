@@ -1,14 +1,15 @@
-// The search of the levels: the corners of the last one, and those in the boxes of its seeds.
-ghost use Prim.Native.Nat.{_<_, _≤_};
+// The search of the levels: the seeds, which are the corners of the last one, and the corners in their boxes.
+ghost use Prim.Native.Nat.{_≤_};
 ghost use mathlib.Core.Path.{_≡_};
 ghost use mathlib.Core.List.{[]};
 ghost use lib.ListN.{length};
-ghost use Rattle.lists.specs.Places.{flatMap, sumOf};
 ghost use Rattle.corner_list.specs.CornerList.{slices, placesOf, cornersOf};
 ghost use Rattle.multiscale.specs.Promise.{Boxed};
 ghost use Rattle.patch_corners.specs.OneMap.{choiceOf};
-ghost use Rattle.frame_pass.specs.Pass.{contextAt, cornersAbout, tiesAbout, seedsOf, foundOf, tiesFound};
-ghost use Rattle.frame.specs.Internal.{Ready, BuiltLevels, Adds, addedOf, listsOf, Searched};
+ghost use Rattle.frame_pass.specs.Pass.{contextAt, cornersAbout, tiesAbout};
+ghost use Rattle.frame.specs.Internal.{Ready, BuiltLevels, Adds, SeedsAdded, foundBy, tiesBy, addedOf, listsOf};
+use crate::box_corners;
+use crate::shifting;
 use corner_list::Corner;
 use detect::Peaks;
 use multiscale::RoiAnswer;
@@ -33,7 +34,7 @@ fn box_of(w: usize, h: usize, p: FrameParams, k: usize, seed: Corner) -> RoiAnsw
 }
 
 // How many corners were added, none where that was refused.
-fn added(f: Peaks) -> usize
+pub(crate) fn added(f: Peaks) -> usize
     ensures { λ n. ⌜ n ≡ addedOf f ⌝ }
 {
     let Peaks::Added(n, _) = f else {
@@ -42,7 +43,7 @@ fn added(f: Peaks) -> usize
     n
 }
 
-// Adds the corners of the box of a seed of level k behind the first `held` of a buffer.
+// Adds the corners of the box of a seed of level k behind the first `held` of a buffer, moved by the box's corner.
 fn add_patch(
     img: &[u8],
     w: usize,
@@ -67,7 +68,7 @@ fn add_patch(
     let RoiAnswer::Bounds(x0, y0, x1, y1) = b else {
         return Peaks::Added(0, 0);
     };
-    patch_corners::add_box_corners(
+    let f = box_corners::add_patch_corners(
         img,
         w,
         h,
@@ -83,22 +84,25 @@ fn add_patch(
         strengths,
         neighbours,
         held,
-    )
+    );
+    shifting::shift_all(x0, y0, xs, ys, strengths, neighbours, held, added(f));
+    f
 }
 
-// Puts the corners of the boxes of the first n seeds, which are of level k, first in a buffer, and sums the ties of their peaks.
-fn add_patches(
+// Puts the corners before merging first in a buffer: with one level those of the whole image, with more those of the boxes of the first m seeds, and
+// sums the ties of their peaks.
+pub(crate) fn add_found(
     img: &[u8],
     w: usize,
     h: usize,
     p: FrameParams,
     exact: bool,
-    k: usize,
+    n: usize,
     sx: &[f32],
     sy: &[f32],
     ss: &[f32],
     sn: &[u32],
-    n: usize,
+    m: usize,
     map: &mut [f32],
     cx: &mut [f32],
     cy: &mut [f32],
@@ -106,25 +110,75 @@ fn add_patches(
     cn: &mut [u32],
 ) -> Peaks
     requires { ⌜ Ready p (now img) w h (length (now map)) ⌝ }
-    requires { ⌜ (k ≤ 12) × (n ≤ 16777216) ⌝ }
-    ensures { λ r. ⌜ Adds (flatMap (cornersAbout p (now (img .entry)) w h (choiceOf p exact) k) (cornersOf (slices (now (sx .entry)) (now (sy .entry)) (now (ss .entry)) (now (sn .entry))) n))
-        (sumOf (tiesAbout p (now (img .entry)) w h (choiceOf p exact) k) (cornersOf (slices (now (sx .entry)) (now (sy .entry)) (now (ss .entry)) (now (sn .entry))) n))
+    requires { ⌜ (n ≤ 13) × (m ≤ 16777216) ⌝ }
+    ensures { λ r. ⌜ Adds (foundBy p (now (img .entry)) w h (choiceOf p exact) n (cornersOf (slices (now (sx .entry)) (now (sy .entry)) (now (ss .entry)) (now (sn .entry))) m))
+        (tiesBy p (now (img .entry)) w h (choiceOf p exact) n (cornersOf (slices (now (sx .entry)) (now (sy .entry)) (now (ss .entry)) (now (sn .entry))) m))
         0 (slices (now (cx .entry)) (now (cy .entry)) (now (cs .entry)) (now (cn .entry))) r (slices (now (cx .exit)) (now (cy .exit)) (now (cs .exit)) (now (cn .exit))) ⌝ }
 {
+    if n == 1 {
+        return box_corners::add_patch_corners(
+            img,
+            w,
+            h,
+            p,
+            exact,
+            0,
+            0,
+            w,
+            h,
+            map,
+            cx,
+            cy,
+            cs,
+            cn,
+            0,
+        );
+    }
+    let k = numbers::minus(n, 1);
     let mut held = 0usize;
     let mut ties = 0u64;
     let mut i = 0usize;
-    while i < n {
+    while i < m {
         let seed = corner_list::corner_at(sx, sy, ss, sn, i);
         let f = add_patch(img, w, h, p, exact, k, seed, map, cx, cy, cs, cn, held);
-        let Peaks::Added(m, t) = f else {
+        let Peaks::Added(more, t) = f else {
             return f;
         };
-        held += m;
+        held += more;
         ties += t;
         i += 1;
     }
     Peaks::Added(held, ties)
+}
+
+// Puts the seeds of n levels that were built first in a buffer: with more than one level, the corners of the last.
+pub(crate) fn add_seeds<'a>(
+    img: &'a [u8],
+    w: usize,
+    h: usize,
+    p: FrameParams,
+    exact: bool,
+    n: usize,
+    levels: &'a [u8],
+    map: &mut [f32],
+    sx: &mut [f32],
+    sy: &mut [f32],
+    ss: &mut [f32],
+    sn: &mut [u32],
+) -> Peaks
+    requires { ⌜ Ready p (now img) w h (length (now map)) ⌝ }
+    requires { ⌜ BuiltLevels p (now img) w h n (now levels) ⌝ }
+    ensures { λ r. ⌜ SeedsAdded p (now (img .entry)) w h (choiceOf p exact) n (slices (now (sx .entry)) (now (sy .entry)) (now (ss .entry)) (now (sn .entry)))
+        r (slices (now (sx .exit)) (now (sy .exit)) (now (ss .exit)) (now (sn .exit))) ⌝ }
+{
+    if n < 2 {
+        return Peaks::Added(0, 0);
+    }
+    let k = n - 1;
+    let last = pyramid::level(img, levels, w, h, p.levels, p.minimum_side, k);
+    let lw = w >> k;
+    let lh = h >> k;
+    box_corners::add_patch_corners(last, lw, lh, p, exact, 0, 0, lw, lh, map, sx, sy, ss, sn, 0)
 }
 
 // Whether both lists fit their buffers, how many seeds and corners stand first in them, and the ties of the corners' peaks; none where a list does
@@ -137,7 +191,7 @@ pub(crate) struct Lists {
 }
 
 // The two lists, by the answers of adding the seeds and the corners.
-fn lists_of(f: Peaks, g: Peaks) -> Lists
+pub(crate) fn lists_of(f: Peaks, g: Peaks) -> Lists
     ensures { λ r. ⌜ r ≡ listsOf f g ⌝ }
 {
     let none = Lists {
@@ -158,140 +212,4 @@ fn lists_of(f: Peaks, g: Peaks) -> Lists
         corners,
         ties,
     }
-}
-
-// Puts the seeds of more than one level, and the corners of their boxes, first in their buffers.
-fn search_boxes<'a>(
-    img: &'a [u8],
-    w: usize,
-    h: usize,
-    p: FrameParams,
-    exact: bool,
-    n: usize,
-    levels: &'a [u8],
-    map: &mut [f32],
-    sx: &mut [f32],
-    sy: &mut [f32],
-    ss: &mut [f32],
-    sn: &mut [u32],
-    cx: &mut [f32],
-    cy: &mut [f32],
-    cs: &mut [f32],
-    cn: &mut [u32],
-) -> Lists
-    requires { ⌜ Ready p (now img) w h (length (now map)) ⌝ }
-    requires { ⌜ BuiltLevels p (now img) w h n (now levels) ⌝ }
-    requires { ⌜ 1 < n ⌝ }
-    ensures { λ r. ⌜ Searched (seedsOf p (now (img .entry)) w h (choiceOf p exact) n) (foundOf p (now (img .entry)) w h (choiceOf p exact) n)
-        (tiesFound p (now (img .entry)) w h (choiceOf p exact) n) (slices (now (sx .entry)) (now (sy .entry)) (now (ss .entry)) (now (sn .entry))) (slices (now (cx .entry)) (now (cy .entry)) (now (cs .entry)) (now (cn .entry))) r
-        (slices (now (sx .exit)) (now (sy .exit)) (now (ss .exit)) (now (sn .exit))) (slices (now (cx .exit)) (now (cy .exit)) (now (cs .exit)) (now (cn .exit))) ⌝ }
-{
-    let k = n - 1;
-    let last = pyramid::level(img, levels, w, h, p.levels, p.minimum_side, k);
-    let lw = w >> k;
-    let lh = h >> k;
-    let f = patch_corners::add_patch_corners(
-        last,
-        lw,
-        lh,
-        p,
-        exact,
-        0,
-        0,
-        lw,
-        lh,
-        map,
-        sx,
-        sy,
-        ss,
-        sn,
-        0,
-    );
-    let g = add_patches(
-        img,
-        w,
-        h,
-        p,
-        exact,
-        k,
-        sx,
-        sy,
-        ss,
-        sn,
-        added(f),
-        map,
-        cx,
-        cy,
-        cs,
-        cn,
-    );
-    lists_of(f, g)
-}
-
-// Puts the seeds and the corners before merging, of n levels that were built, first in their buffers.
-pub(crate) fn search<'a>(
-    img: &'a [u8],
-    w: usize,
-    h: usize,
-    p: FrameParams,
-    exact: bool,
-    n: usize,
-    levels: &'a [u8],
-    map: &mut [f32],
-    sx: &mut [f32],
-    sy: &mut [f32],
-    ss: &mut [f32],
-    sn: &mut [u32],
-    cx: &mut [f32],
-    cy: &mut [f32],
-    cs: &mut [f32],
-    cn: &mut [u32],
-) -> Lists
-    requires { ⌜ Ready p (now img) w h (length (now map)) ⌝ }
-    requires { ⌜ BuiltLevels p (now img) w h n (now levels) ⌝ }
-    ensures { λ r. ⌜ Searched (seedsOf p (now (img .entry)) w h (choiceOf p exact) n) (foundOf p (now (img .entry)) w h (choiceOf p exact) n)
-        (tiesFound p (now (img .entry)) w h (choiceOf p exact) n) (slices (now (sx .entry)) (now (sy .entry)) (now (ss .entry)) (now (sn .entry))) (slices (now (cx .entry)) (now (cy .entry)) (now (cs .entry)) (now (cn .entry))) r
-        (slices (now (sx .exit)) (now (sy .exit)) (now (ss .exit)) (now (sn .exit))) (slices (now (cx .exit)) (now (cy .exit)) (now (cs .exit)) (now (cn .exit))) ⌝ }
-{
-    if n == 0 {
-        return lists_of(Peaks::Added(0, 0), Peaks::Added(0, 0));
-    }
-    if n == 1 {
-        let f = patch_corners::add_patch_corners(
-            img,
-            w,
-            h,
-            p,
-            exact,
-            0,
-            0,
-            w,
-            h,
-            map,
-            cx,
-            cy,
-            cs,
-            cn,
-            0,
-        );
-        return lists_of(Peaks::Added(0, 0), f);
-    }
-    search_boxes(
-        img,
-        w,
-        h,
-        p,
-        exact,
-        n,
-        levels,
-        map,
-        sx,
-        sy,
-        ss,
-        sn,
-        cx,
-        cy,
-        cs,
-        cn,
-    )
 }

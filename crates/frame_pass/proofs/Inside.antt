@@ -28,7 +28,7 @@ use Rattle.multiscale.specs.Multiscale.{roiOf}
 use Rattle.multiscale.specs.Internal as multiscale
 use Rattle.multiscale.proofs.Box.{box-inside, not-refused}
 use Rattle.patch_corners.specs.declared.FrameParams.{FrameParams}
-use Rattle.patch_corners.specs.OneMap.{Choice, searchOn, landed, moved, localized, cornersIn}
+use Rattle.patch_corners.specs.OneMap.{Choice, searchOn, centreOrNone, moved, localized, cornersIn}
 use Rattle.patch_corners.proofs.Fine.{Fine, map-usual}
 use Rattle.frame_pass.specs.Pass.{levelsIn, levelView, contextAt, patchOf, seedPatch, cornersOn, cornersAbout, seedsOf, foundOf, framePass}
 use Rattle.frame_pass.specs.Theorems.{SoundFrame, CornersInside, BoxesAnswered}
@@ -44,18 +44,19 @@ module _ (p : FrameParams) (v : View) (choose : Choice) where
       (f : (x y cx cy mass strength : Float) (neighbours : ℕ)
       → refined (p .«centroid_radius») x y true (cells v) (mapWidth v) (mapHeight v) ≡ Accepted cx cy mass
       → P (record { x = cx; y = cy; strength = strength; neighbours = neighbours })) where
-    landed-all : (c : Corner) (o : Outcome) → refined (p .«centroid_radius») (c .x) (c .y) true (cells v) (mapWidth v) (mapHeight v) ≡ o → All P (landed o c)
-    landed-all c (Accepted x y mass) e = (f (c .x) (c .y) x y mass (c .strength) (c .neighbours) e, tt)
-    landed-all c (Rejected x y) e = tt
-    landed-all c (OutOfBounds x y) e = tt
-    landed-all c (IllConditioned x y) e = tt
-    landed-all c (Refused n) e = tt
+    kept-all : (c : Corner) (o : Outcome) → refined (p .«centroid_radius») (c .x) (c .y) true (cells v) (mapWidth v) (mapHeight v) ≡ o
+        → All P (centreOrNone o c)
+    kept-all c (Accepted x y mass) e = (f (c .x) (c .y) x y mass (c .strength) (c .neighbours) e, tt)
+    kept-all c (Rejected x y) e = tt
+    kept-all c (OutOfBounds x y) e = tt
+    kept-all c (IllConditioned x y) e = tt
+    kept-all c (Refused n) e = tt
 
     pub corners-all : All P (cornersIn p choose v)
     unfolding cornersIn
     corners-all =
         all-flat P (localized p v) (map (startAt (cells v) (searchOn p v)) (choose v))
-        (all-of (λ c. All P (localized p v c)) (λ c. landed-all c _ refl) (map (startAt (cells v) (searchOn p v)) (choose v)))
+        (all-of (λ c. All P (localized p v c)) (λ c. kept-all c _ refl) (map (startAt (cells v) (searchOn p v)) (choose v)))
 
   module _ (f : Fine p v) where
     pub map-inside : All (λ c. isInside c ≡ true) (cornersIn p choose v)

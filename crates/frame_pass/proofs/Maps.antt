@@ -20,6 +20,7 @@ use Rattle.pyramid.proofs.Levels.{level-bytes}
 use Rattle.response.specs.Patch.{View, mapWidth, mapHeight, cells}
 use Rattle.response.proofs.Outcome.{cols-le, rows-le}
 use Rattle.response.proofs.Map.{cells-length}
+use Rattle.corner_list.specs.declared.Corner.{Corner}
 use Rattle.detect.specs.Detect.{conditions}
 use Rattle.detect.proofs.Answers.{Clear, sound-clear}
 use Rattle.multiscale.specs.declared.RoiAnswer.{RoiAnswer}
@@ -97,6 +98,9 @@ module _ (p : FrameParams) (img : List ℕ) (w h : ℕ) (s : SoundFrame p img w 
   patch-fine roi.NoRoi = tt
   patch-fine (roi.Refused n) = tt
 
+  pub seed-fine : (k : ℕ) (c : Corner) → All (Fine p) (seedPatch p img w h k c)
+  seed-fine k c = patch-fine (roiOf (contextAt p img w h k) c)
+
   maps-fine : (choose : Choice) (n : ℕ) → All (Fine p) (mapsOf p img w h choose n)
   unfolding mapsOf
   maps-fine choose zero = tt
@@ -104,8 +108,7 @@ module _ (p : FrameParams) (img : List ℕ) (w h : ℕ) (s : SoundFrame p img w 
   maps-fine choose (suc (suc k)) = (
     fine-level p img w h s (suc k),
     all-flat (Fine p) (seedPatch p img w h (suc k)) (seedsOf p img w h choose (suc (suc k)))
-        (all-of (λ c. All (Fine p) (seedPatch p img w h (suc k) c)) (λ c. patch-fine (roiOf (contextAt p img w h (suc k)) c))
-        (seedsOf p img w h choose (suc (suc k)))),
+        (all-of (λ c. All (Fine p) (seedPatch p img w h (suc k) c)) (seed-fine (suc k)) (seedsOf p img w h choose (suc (suc k)))),
   )
 
 pub looked-fine : (p : FrameParams) (img : List ℕ) (w h : ℕ) (choose : Choice) → SoundFrame p img w h → All (Fine p) (lookedAt p img w h choose)

@@ -20,7 +20,7 @@ use Rattle.detect.proofs.Choice.{peaks-at-most}
 use Rattle.detect.proofs.Ties.{ties-few}
 use Rattle.patch_corners.specs.declared.FrameParams.{FrameParams}
 use Rattle.patch_corners.specs.OneMap.{choiceOf, searchOn, cornersIn, tiesOn}
-use Rattle.patch_corners.specs.Internal.{searchWith}
+use Rattle.patch_corners.specs.MapCorners.{searchWith}
 use Rattle.patch_corners.proofs.Choices.{chosen, one-of-two}
 use Rattle.patch_corners.proofs.Fine.{Fine}
 use Rattle.patch_corners.proofs.Accepting.{corners-count}

@@ -33,7 +33,7 @@ use Rattle.detect.proofs.Choice.{peak-above, peak-positive, peaks-are}
 use Rattle.center_of_mass.proofs.Peak.{peak-accepted}
 use Rattle.patch_corners.specs.declared.FrameParams.{FrameParams}
 use Rattle.patch_corners.specs.OneMap.{Choice, searchOn, computedChoice, exactChoice, IsChoice, localized, cornersIn}
-use Rattle.patch_corners.specs.Internal.{centred}
+use Rattle.patch_corners.specs.MapCorners.{centred}
 use Rattle.patch_corners.proofs.Fine.{Fine, map-usual}
 
 -- what is finite is no NaN

@@ -6,7 +6,6 @@ use mathlib.Core.Bool.{Bool}
 use mathlib.Core.List.{List, map}
 use lib.ListN.{length, length-map}
 use Rattle.lists.specs.Refusals.{lowest, unless, resultOr}
-use Rattle.lists.proofs.Refusals.{lowest-past}
 use Rattle.corner_list.specs.declared.Corner.{Corner}
 use Rattle.corner_list.specs.CornerList.{Slices, placesOf, placedCorners}
 use Rattle.detect.specs.declared.Peaks.{Peaks}
@@ -59,13 +58,3 @@ module _ (f : Corner → Corner) (conds : List (Bool × ℕ)) (cs : List Corner)
             → resultOr 0 (placedCorners held (map f cs) b) b ≡ resultOr r (placedCorners held (map f cs) b) b
         of zero z = refl
         of (suc j) z = both (sym z)
-
--- the same list under other conditions, where none of either holds
-pub found-to : (conds conds′ : List (Bool × ℕ)) → Clear conds → Clear conds′ → (cs cs′ : List Corner) → cs ≡ cs′ → (ties ties′ : ℕ) → ties ≡ ties′
-    → (held : ℕ) (b : Slices) (answer : Peaks) (b′ : Slices) → PeaksAdded conds cs ties held b answer b′ → PeaksAdded conds′ cs′ ties′ held b answer b′
-found-to conds conds′ c c′ cs cs′ e ties ties′ t held b answer b′ found =
-    rw (← e, ← t)
-    (found-by conds′ cs ties held b (refusalOf conds (placesOf b) held (length cs)) same answer b′ (found .answer) (found .buffer))
-  where
-    same : refusalOf conds′ (placesOf b) held (length cs) ≡ refusalOf conds (placesOf b) held (length cs)
-    same = unfold refusalOf in (lowest-past conds′ _ (c′ .numbered) (c′ .none) ∙ sym (lowest-past conds _ (c .numbered) (c .none)))

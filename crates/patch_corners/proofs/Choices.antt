@@ -8,7 +8,7 @@ use Rattle.detect.specs.Detect.{peaksIn}
 use Rattle.agreement.proofs.Exactly.{found-exactly}
 use Rattle.patch_corners.specs.declared.FrameParams.{FrameParams}
 use Rattle.patch_corners.specs.OneMap.{IsChoice, choiceOf}
-use Rattle.patch_corners.specs.Internal.{searchWith}
+use Rattle.patch_corners.specs.MapCorners.{searchWith}
 
 pub chosen : (p : FrameParams) (v : View) → Bytes (v .img) → (exact : Bool)
     → peaksIn (cells v) (searchWith p exact (mapWidth v) (mapHeight v)) ≡ choiceOf p exact v

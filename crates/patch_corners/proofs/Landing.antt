@@ -9,9 +9,9 @@ use Rattle.corner_list.specs.declared.Corner.{Corner}
 use Rattle.center_of_mass.proofs.Outcome.{the-type as outcome-type}
 use Rattle.center_of_mass.specs.declared.Outcome.{Outcome}
 use Rattle.center_of_mass.specs.declared.Outcome.the-variants.{Accepted, Rejected, OutOfBounds, IllConditioned, Refused}
-use Rattle.patch_corners.specs.Internal.{landing}
+use Rattle.patch_corners.specs.MapCorners.{centreOrSeed}
 
-pub not-accepted : (o : Outcome) (c : Corner) → OneOf (1 ∷ 2 ∷ 3 ∷ 4 ∷ []) (tagOf outcome-type o) → c ≡ landing o c
+pub not-accepted : (o : Outcome) (c : Corner) → OneOf (1 ∷ 2 ∷ 3 ∷ 4 ∷ []) (tagOf outcome-type o) → c ≡ centreOrSeed o c
 not-accepted (Accepted x y m) c (inl h) = absurd (omega arith)
 not-accepted (Accepted x y m) c (inr (inl h)) = absurd (omega arith)
 not-accepted (Accepted x y m) c (inr (inr (inl h))) = absurd (omega arith)

@@ -1,10 +1,7 @@
-pub mod Wiping
 pub mod Fine
 pub mod Accepting
 pub mod Changing
 pub mod Landing
 pub mod Centring
-pub mod Adding
-pub mod Patches
-pub mod Moving
 pub mod Choices
+pub mod Made

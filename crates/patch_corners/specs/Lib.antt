@@ -1,5 +1,3 @@
 pub mod OneMap
-pub mod Clearing
-pub mod PatchCorners
-pub mod BoxCorners
+pub mod MapCorners
 pub mod Internal

@@ -4,7 +4,7 @@ use mathlib.Core.Path.{_≡_}
 use mathlib.Core.Bool.{Bool, true, false}
 use mathlib.Core.Logic.{_⊎_}
 use mathlib.Core.List.{List, [], _∷_, map}
-use lib.Ieee.{binary32, add}
+use lib.Ieee.{Float, binary32, add}
 use Rattle.lists.specs.Places.{Place, flatMap, sumOf}
 use Rattle.float32.specs.Float32.{floatOf}
 use Rattle.response.specs.Patch.{View, mapWidth, mapHeight, cells}
@@ -22,18 +22,21 @@ use Rattle.patch_corners.specs.declared.FrameParams.{FrameParams}
 abbrev pub Choice : Type 0
 Choice = View → List Place
 
--- an accepted corner goes to its centre of mass, and its strength and its neighbours stay; any other is dropped
-abbrev pub landed : Outcome → Corner → List Corner
-landed (Accepted x y mass) c = record { x = x; y = y; strength = c .strength; neighbours = c .neighbours } ∷ []
-landed (Rejected x y) c = []
-landed (OutOfBounds x y) c = []
-landed (IllConditioned x y) c = []
-landed (Refused n) c = []
+-- a corner at another place: its strength and its neighbours stay
+abbrev pub atPlace : Float → Float → Corner → Corner
+atPlace x y c = record { x = x; y = y; strength = c .strength; neighbours = c .neighbours }
+
+-- a corner by the outcome about it, as the Rust has it: an accepted one goes to its centre of mass, any other is dropped
+abbrev pub centreOrNone : Outcome → Corner → List Corner
+centreOrNone (Accepted x y mass) c = atPlace x y c ∷ []
+centreOrNone (Rejected x y) c = []
+centreOrNone (OutOfBounds x y) c = []
+centreOrNone (IllConditioned x y) c = []
+centreOrNone (Refused n) c = []
 
 -- a corner moved by a box's corner (RULES 9.3)
 abbrev pub moved : ℕ → ℕ → Corner → Corner
-moved x0 y0 c =
-    record { x = add binary32 (c .x) (floatOf x0); y = add binary32 (c .y) (floatOf y0); strength = c .strength; neighbours = c .neighbours }
+moved x0 y0 c = atPlace (add binary32 (c .x) (floatOf x0)) (add binary32 (c .y) (floatOf y0)) c
 
 -- ---- one map, with the parameters p
 module _ (p : FrameParams) where
@@ -64,7 +67,7 @@ module _ (p : FrameParams) where
 
   -- a peak's corner at the centre of mass
   abbrev pub localized : View → Corner → List Corner
-  localized v c = landed (refined (p .«centroid_radius») (c .x) (c .y) true (cells v) (mapWidth v) (mapHeight v)) c
+  localized v c = centreOrNone (refined (p .«centroid_radius») (c .x) (c .y) true (cells v) (mapWidth v) (mapHeight v)) c
 
   -- the corners of a map (RULES 9.2), by its own columns and rows
   unfoldable pub cornersIn : Choice → View → List Corner

@@ -2,12 +2,13 @@
 ghost use mathlib.Core.Path.{_≡_};
 ghost use Prim.Native.Nat.{_+_, _≤_};
 ghost use Rattle.corner_list.specs.CornerList.{slices, placesOf};
-ghost use Rattle.patch_corners.specs.Internal.{centred, Changed};
+ghost use Rattle.patch_corners.specs.MapCorners.{centred};
+ghost use Rattle.patch_corners.specs.Internal.{Changed};
 use center_of_mass::CenterOfMassRefiner;
 use center_of_mass::Outcome;
 use corner_list::Corner;
 
-// A corner at its centre of mass.
+// A corner at its centre of mass, or where it stands.
 fn centre(c: Corner, radius: u32, map: &[f32], w: usize, h: usize) -> Corner
     ensures { λ r. ⌜ r ≡ centred radius (now (map .entry)) w h c ⌝ }
 {

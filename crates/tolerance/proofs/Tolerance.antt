@@ -26,7 +26,7 @@ use Rattle.center_of_mass.specs.CenterOfMass.{noSums, cellsAbout, windowSums, r
 use Rattle.center_of_mass.proofs.Weights.{Usual, unitsAt, sx-is, sy-is}
 use Rattle.center_of_mass.proofs.Range.{Inside, window-few, window-weighs, Weighing, weighing}
 use Rattle.patch_corners.specs.declared.FrameParams.{FrameParams}
-use Rattle.patch_corners.specs.OneMap.{Choice, searchOn, landed, localized}
+use Rattle.patch_corners.specs.OneMap.{Choice, searchOn, centreOrNone, localized}
 use Rattle.patch_corners.proofs.Fine.{Fine, map-usual}
 use Rattle.frame_pass.specs.Pass.{lookedAt}
 use Rattle.frame_pass.specs.Theorems.{SoundFrame}
@@ -88,17 +88,17 @@ centre-tolerance v bytes r x y hasMap cx cy mass R e =
 
 -- ---- the corners of a map
 module _ (p : FrameParams) (v : View) (bytes : Bytes (v .img)) (R : p .«centroid_radius» ≤ 2) where
-  close-landed : (s : Corner) (o : Outcome) → refined (p .«centroid_radius») (s .x) (s .y) true (cells v) (mapWidth v) (mapHeight v) ≡ o
-      → All (CloseCorner p v s) (landed o s)
-  close-landed s (Accepted cx cy mass) e = (centre-tolerance v bytes (p .«centroid_radius») (s .x) (s .y) true cx cy mass R e, tt)
-  close-landed s (Rejected x y) e = tt
-  close-landed s (OutOfBounds x y) e = tt
-  close-landed s (IllConditioned x y) e = tt
-  close-landed s (Refused n) e = tt
+  close-kept : (s : Corner) (o : Outcome) → refined (p .«centroid_radius») (s .x) (s .y) true (cells v) (mapWidth v) (mapHeight v) ≡ o
+      → All (CloseCorner p v s) (centreOrNone o s)
+  close-kept s (Accepted cx cy mass) e = (centre-tolerance v bytes (p .«centroid_radius») (s .x) (s .y) true cx cy mass R e, tt)
+  close-kept s (Rejected x y) e = tt
+  close-kept s (OutOfBounds x y) e = tt
+  close-kept s (IllConditioned x y) e = tt
+  close-kept s (Refused n) e = tt
 
-  close-corners : (choose : Choice) → CloseCorners p choose v
+  pub close-corners : (choose : Choice) → CloseCorners p choose v
   close-corners choose =
-      all-of (λ s. All (CloseCorner p v s) (localized p v s)) (λ s. close-landed s _ refl) (map (startAt (cells v) (searchOn p v)) (choose v))
+      all-of (λ s. All (CloseCorner p v s) (localized p v s)) (λ s. close-kept s _ refl) (map (startAt (cells v) (searchOn p v)) (choose v))
 
 -- ---- each map that a frame looks at, by any choice of peaks
 pub frame-tolerance : (p : FrameParams) (img : List ℕ) (w h : ℕ) (choose : Choice) → SoundFrame p img w h → p .«centroid_radius» ≤ 2

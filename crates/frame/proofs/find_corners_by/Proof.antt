@@ -7,6 +7,8 @@ use lib.ListN.{length}
 use Rattle.patch_corners.specs.OneMap.{choiceOf}
 use Rattle.frame_pass.proofs.Inside.{corners-inside}
 use Rattle.frame_pass.proofs.Refusals.{admitted, admitted-sound}
+use Rattle.frame.specs.Internal.{Ready}
+use Rattle.frame.proofs.Levels.{ready-kept, levels-most, seeds-few, searched}
 use Rattle.frame.proofs.Entry.{found-refused, merge-free, entry-closed}
 use Rattle.frame.proofs.find_corners_by.Statement.{statement}
 use Rattle.frame.proofs.find_corners_by.Tie as tie
@@ -24,14 +26,41 @@ build-requires c κs =
     let none = sym (refusal-from-build-requires c .refusal .ensures) ∙ c .before .if1 .left in
     admitted (a .p) (length (a .img .now)) (a .w) (a .h) (length (a .map .now)) (length (a .levels .now)) none .accepted
 
-search-requires : tie.Need-search-requires
-search-requires c κs =
-    let a = start-from-search-requires c .args in
-    let none = sym (refusal-from-search-requires c .refusal .ensures) ∙ if1-from-search-requires c .if1 .left in
+add-seeds-requires : tie.Need-add-seeds-requires
+add-seeds-requires c κs =
+    let a = start-from-add-seeds-requires c .args in
+    let none = sym (refusal-from-add-seeds-requires c .refusal .ensures) ∙ if1-from-add-seeds-requires c .if1 .left in
     let taken = admitted (a .p) (length (a .img .now)) (a .w) (a .h) (length (a .map .now)) (length (a .levels .now)) none in
     let sound = admitted-sound (a .p) (a .img .now) (a .w) (a .h) _ _ taken
-    (λ i. shared-slice-known-from-search-requires c .shared-slice-known .given i .fits) in
-    (record { sound = sound; enough = taken .enough }, record { before = _; complete = build-from-search-requires c .build .ensures })
+    (λ i. shared-slice-known-from-add-seeds-requires c .shared-slice-known .given i .fits) in
+    (record { sound = sound; enough = taken .enough }, record { before = _; complete = build-from-add-seeds-requires c .build .ensures })
+
+added-requires : tie.Need-added-requires
+added-requires c κs = search needs
+
+add-found-requires : tie.Need-add-found-requires
+add-found-requires c κs =
+    let a = start-from-add-found-requires c .args in
+    let none = sym (refusal-from-add-found-requires c .refusal .ensures) ∙ if1-from-add-found-requires c .if1 .left in
+    let taken = admitted (a .p) (length (a .img .now)) (a .w) (a .h) (length (a .map .now)) (length (a .levels .now)) none in
+    let sound = admitted-sound (a .p) (a .img .now) (a .w) (a .h) _ _ taken
+    (λ i. shared-slice-known-from-add-found-requires c .shared-slice-known .given i .fits) in
+    let seeds = add-seeds-from-add-found-requires c .add-seeds in
+    let ready : Ready (a .p) (a .img .now) (a .w) (a .h) (length (a .map .now)) = record { sound = sound; enough = taken .enough } in
+    let kept = seeds .kept .1 .1 .1 .1 .1 .1 .1 in (
+      ready-kept _ _ _ _ _ _ ready (search kept),
+      (
+        levels-most (a .p) (a .img .now) (a .w) (a .h) _ _ (record { before = _; complete = build-from-add-found-requires c .build .ensures }),
+        omega (
+          arith,
+          seeds-few (a .p) (a .exact) (a .img .now) (a .w) (a .h) _ ready _ _ _ _ (seeds .ensures),
+          added-from-add-found-requires c .added .ensures,
+        ),
+      ),
+    )
+
+lists-of-requires : tie.Need-lists-of-requires
+lists-of-requires c κs = search needs
 
 clear-requires : tie.Need-clear-requires
 clear-requires c κs = search needs
@@ -49,59 +78,70 @@ finish-corners-requires c κs =
     let taken = admitted (a .p) (length (a .img .now)) (a .w) (a .h) (length (a .map .now)) (length (a .levels .now)) none in
     let sound = admitted-sound (a .p) (a .img .now) (a .w) (a .h) _ _ taken
     (λ i. shared-slice-known-from-finish-corners-requires c .shared-slice-known .given i .fits) in
-    let found = search-from-finish-corners-requires c .search in
-    let kept = found .kept .1 .1 .1 .1 .1 .1 .1 in
+    let seeds = add-seeds-from-finish-corners-requires c .add-seeds in
+    let corners = add-found-from-finish-corners-requires c .add-found in
+    let seeds-kept = seeds .kept .1 .1 .1 .1 .1 .1 .1 in
+    let corners-kept = corners .kept .1 .1 .1 .1 .1 .1 .1 .1 .1 .1 .1 in
+    let found = searched (choiceOf (a .p) (a .exact)) (a .p) (a .img .now) (a .w) (a .h) _ _ _ _ _ _ _ (seeds .ensures) _
+    (added-from-finish-corners-requires c .added .ensures)
+    (corners .ensures) _ (lists-of-from-finish-corners-requires c .lists-of .ensures) in
     merge-free (choiceOf (a .p) (a .exact)) (a .p) (a .img .now) (a .w) (a .h) (a .map .now) (a .levels .now) _ _ _
-    (build-from-finish-corners-requires c .build .ensures .counted) _ _ _ (found .ensures)
-    (record { xs = search kept; ys = search kept; strengths = search kept; neighbours = search kept })
-    (record { xs = search kept; ys = search kept; strengths = search kept; neighbours = search kept })
+    (build-from-finish-corners-requires c .build .ensures .counted) _ _ _ found
+    (record { xs = search seeds-kept; ys = search seeds-kept; strengths = search seeds-kept; neighbours = search seeds-kept })
+    (record { xs = search corners-kept; ys = search corners-kept; strengths = search corners-kept; neighbours = search corners-kept })
     taken (corners-inside (a .p) (a .img .now) (a .w) (a .h) (choiceOf (a .p) (a .exact)) sound .1)
 
 answer-of-requires : tie.Need-answer-of-requires
 answer-of-requires c κs = search needs
 
 same-length : tie.Need-same-length
-same-length c = omega (arith, clear-from-same-length c .clear .kept, search-from-same-length c .search .kept)
+same-length c =
+    omega (arith, clear-from-same-length c .clear .kept, add-found-from-same-length c .add-found .kept, add-seeds-from-same-length c .add-seeds .kept)
 
 same-length-2 : tie.Need-same-length-2
 same-length-2 c = omega (arith, clear-levels-from-same-length-2 c .clear-levels .kept, build-from-same-length-2 c .build .kept)
 
 same-length-3 : tie.Need-same-length-3
-same-length-3 c = omega (arith, clear-list-from-same-length-3 c .clear-list .kept, search-from-same-length-3 c .search .kept)
+same-length-3 c = omega (arith, clear-list-from-same-length-3 c .clear-list .kept, add-seeds-from-same-length-3 c .add-seeds .kept)
 
 same-length-4 : tie.Need-same-length-4
-same-length-4 c = omega (arith, clear-list-from-same-length-4 c .clear-list .kept, search-from-same-length-4 c .search .kept)
+same-length-4 c = omega (arith, clear-list-from-same-length-4 c .clear-list .kept, add-seeds-from-same-length-4 c .add-seeds .kept)
 
 same-length-5 : tie.Need-same-length-5
-same-length-5 c = omega (arith, clear-list-from-same-length-5 c .clear-list .kept, search-from-same-length-5 c .search .kept)
+same-length-5 c = omega (arith, clear-list-from-same-length-5 c .clear-list .kept, add-seeds-from-same-length-5 c .add-seeds .kept)
 
 same-length-6 : tie.Need-same-length-6
-same-length-6 c = omega (arith, clear-list-from-same-length-6 c .clear-list .kept, search-from-same-length-6 c .search .kept)
+same-length-6 c = omega (arith, clear-list-from-same-length-6 c .clear-list .kept, add-seeds-from-same-length-6 c .add-seeds .kept)
 
 same-length-7 : tie.Need-same-length-7
-same-length-7 c = omega (arith, finish-corners-from-same-length-7 c .finish-corners .kept, search-from-same-length-7 c .search .kept)
+same-length-7 c = omega (arith, finish-corners-from-same-length-7 c .finish-corners .kept, add-found-from-same-length-7 c .add-found .kept)
 
 same-length-8 : tie.Need-same-length-8
-same-length-8 c = omega (arith, finish-corners-from-same-length-8 c .finish-corners .kept, search-from-same-length-8 c .search .kept)
+same-length-8 c = omega (arith, finish-corners-from-same-length-8 c .finish-corners .kept, add-found-from-same-length-8 c .add-found .kept)
 
 same-length-9 : tie.Need-same-length-9
-same-length-9 c = search needs
+same-length-9 c = omega (arith, finish-corners-from-same-length-9 c .finish-corners .kept, add-found-from-same-length-9 c .add-found .kept)
 
 same-length-10 : tie.Need-same-length-10
-same-length-10 c = search needs
+same-length-10 c = omega (arith, finish-corners-from-same-length-10 c .finish-corners .kept, add-found-from-same-length-10 c .add-found .kept)
 
 returns-2 : tie.Need-returns-2
 returns-2 c =
     let a = start-from-returns-2 c .args in
     let none = sym (refusal-from-returns-2 c .refusal .ensures) ∙ if1-from-returns-2 c .if1 .left in
     let built = build-from-returns-2 c .build .ensures in
-    let found = search-from-returns-2 c .search in
-    let kept = found .kept .1 .1 .1 .1 .1 .1 .1 in
-    let searched = found .last .1 .1 .1 .1 .1 .1 .1 .0 in
-    entry-closed (choiceOf (a .p) (a .exact)) (a .p) (a .img .now) (a .w) (a .h) (a .map .now) (a .levels .now) _ _ _ (built .counted) _ _ _ (found .ensures)
-    (record { xs = search kept; ys = search kept; strengths = search kept; neighbours = search kept })
-    (record { xs = search kept; ys = search kept; strengths = search kept; neighbours = search kept })
-    none searched (search kept) _ (built .fills) (built .long) _ (clear-from-returns-2 c .clear .ensures)
+    let seeds = add-seeds-from-returns-2 c .add-seeds in
+    let corners = add-found-from-returns-2 c .add-found in
+    let seeds-kept = seeds .kept .1 .1 .1 .1 .1 .1 .1 in
+    let corners-kept = corners .kept .1 .1 .1 .1 .1 .1 .1 .1 .1 .1 .1 in
+    let found = searched (choiceOf (a .p) (a .exact)) (a .p) (a .img .now) (a .w) (a .h) _ _ _ _ _ _ _ (seeds .ensures) _
+    (added-from-returns-2 c .added .ensures)
+    (corners .ensures) _ (lists-of-from-returns-2 c .lists-of .ensures) in
+    let searched-map = corners .last .1 .1 .1 .1 .1 .1 .1 .1 .1 .1 .1 .0 in
+    entry-closed (choiceOf (a .p) (a .exact)) (a .p) (a .img .now) (a .w) (a .h) (a .map .now) (a .levels .now) _ _ _ (built .counted) _ _ _ found
+    (record { xs = search seeds-kept; ys = search seeds-kept; strengths = search seeds-kept; neighbours = search seeds-kept })
+    (record { xs = search corners-kept; ys = search corners-kept; strengths = search corners-kept; neighbours = search corners-kept })
+    none searched-map (omega (arith, corners .kept, seeds .kept)) _ (built .fills) (built .long) _ (clear-from-returns-2 c .clear .ensures)
     _ (clear-levels-from-returns-2 c .clear-levels .ensures) _ (clear-list-from-returns-2 c .clear-list .ensures)
     _ _ (finish-corners-from-returns-2 c .finish-corners .ensures) _ (c .answer-of .ensures)
 
@@ -112,7 +152,10 @@ find-corners-by-spec =
     refusal-requires
     returns
     build-requires
-    search-requires
+    add-seeds-requires
+    added-requires
+    add-found-requires
+    lists-of-requires
     clear-requires
     clear-levels-requires
     clear-list-requires

@@ -9,32 +9,66 @@ abbrev pub start-from-build-requires : tie.After-build-arg → tie.Start
 start-from-build-requires c =
     refusal-from-build-requires c .before .before .before .before .before .before .before .before .before .before .before .before
 
-abbrev pub build-from-search-requires : tie.After-search-arg10 → tie.After-build
-build-from-search-requires c = c .before .before .before .before .before .before .before .before .before .before .before .before
+abbrev pub build-from-add-seeds-requires : tie.After-add-seeds-arg6 → tie.After-build
+build-from-add-seeds-requires c = c .before .before .before .before .before .before .before .before
 
-abbrev pub if1-from-search-requires : tie.After-search-arg10 → tie.Else1
-if1-from-search-requires c = build-from-search-requires c .before .before
+abbrev pub if1-from-add-seeds-requires : tie.After-add-seeds-arg6 → tie.Else1
+if1-from-add-seeds-requires c = build-from-add-seeds-requires c .before .before
 
-abbrev pub refusal-from-search-requires : tie.After-search-arg10 → tie.After-refusal
-refusal-from-search-requires c = if1-from-search-requires c .before
+abbrev pub refusal-from-add-seeds-requires : tie.After-add-seeds-arg6 → tie.After-refusal
+refusal-from-add-seeds-requires c = if1-from-add-seeds-requires c .before
 
-abbrev pub shared-slice-known-from-search-requires : tie.After-search-arg10 → tie.After-shared-slice-known
-shared-slice-known-from-search-requires c =
-    refusal-from-search-requires c .before .before .before .before .before .before .before .before .before .before .before
+abbrev pub shared-slice-known-from-add-seeds-requires : tie.After-add-seeds-arg6 → tie.After-shared-slice-known
+shared-slice-known-from-add-seeds-requires c =
+    refusal-from-add-seeds-requires c .before .before .before .before .before .before .before .before .before .before .before
 
-abbrev pub start-from-search-requires : tie.After-search-arg10 → tie.Start
-start-from-search-requires c = shared-slice-known-from-search-requires c .before
+abbrev pub start-from-add-seeds-requires : tie.After-add-seeds-arg6 → tie.Start
+start-from-add-seeds-requires c = shared-slice-known-from-add-seeds-requires c .before
 
-abbrev pub search-from-finish-corners-requires : tie.After-finish-corners-arg4 → tie.After-search
-search-from-finish-corners-requires c =
+abbrev pub added-from-add-found-requires : tie.After-add-found-arg9 → tie.After-added
+added-from-add-found-requires c = c .before .before .before .before .before .before .before .before .before
+
+abbrev pub add-seeds-from-add-found-requires : tie.After-add-found-arg9 → tie.After-add-seeds
+add-seeds-from-add-found-requires c =
+    added-from-add-found-requires c .before .before .before .before .before .before .before .before .before .before .before
+
+abbrev pub build-from-add-found-requires : tie.After-add-found-arg9 → tie.After-build
+build-from-add-found-requires c =
+    add-seeds-from-add-found-requires c .before .before .before .before .before .before .before .before .before
+
+abbrev pub if1-from-add-found-requires : tie.After-add-found-arg9 → tie.Else1
+if1-from-add-found-requires c = build-from-add-found-requires c .before .before
+
+abbrev pub refusal-from-add-found-requires : tie.After-add-found-arg9 → tie.After-refusal
+refusal-from-add-found-requires c = if1-from-add-found-requires c .before
+
+abbrev pub shared-slice-known-from-add-found-requires : tie.After-add-found-arg9 → tie.After-shared-slice-known
+shared-slice-known-from-add-found-requires c =
+    refusal-from-add-found-requires c .before .before .before .before .before .before .before .before .before .before .before
+
+abbrev pub start-from-add-found-requires : tie.After-add-found-arg9 → tie.Start
+start-from-add-found-requires c = shared-slice-known-from-add-found-requires c .before
+
+abbrev pub lists-of-from-finish-corners-requires : tie.After-finish-corners-arg4 → tie.After-lists-of
+lists-of-from-finish-corners-requires c =
     c .before .before .before .before .before .before .before .before .before .before .before .before .before .before .before .before
-    .before .before .before .before .before .before .before .before .before .before .before .before .before .before .before .before .before
-    .before .before .before .before .before .before .before .before .before .before
+    .before .before .before .before .before .before .before .before .before
+
+abbrev pub add-found-from-finish-corners-requires : tie.After-finish-corners-arg4 → tie.After-add-found
+add-found-from-finish-corners-requires c =
+    lists-of-from-finish-corners-requires c .before .before .before .before .before .before .before .before .before .before .before
+
+abbrev pub added-from-finish-corners-requires : tie.After-finish-corners-arg4 → tie.After-added
+added-from-finish-corners-requires c =
+    add-found-from-finish-corners-requires c .before .before .before .before .before .before .before .before .before .before
+
+abbrev pub add-seeds-from-finish-corners-requires : tie.After-finish-corners-arg4 → tie.After-add-seeds
+add-seeds-from-finish-corners-requires c =
+    added-from-finish-corners-requires c .before .before .before .before .before .before .before .before .before .before .before
 
 abbrev pub build-from-finish-corners-requires : tie.After-finish-corners-arg4 → tie.After-build
 build-from-finish-corners-requires c =
-    search-from-finish-corners-requires c .before .before .before .before .before .before .before .before .before .before .before .before
-    .before
+    add-seeds-from-finish-corners-requires c .before .before .before .before .before .before .before .before .before
 
 abbrev pub if1-from-finish-corners-requires : tie.After-finish-corners-arg4 → tie.Else1
 if1-from-finish-corners-requires c = build-from-finish-corners-requires c .before .before
@@ -54,10 +88,14 @@ clear-from-same-length c =
     c .before .before .before .before .before .before .before .before .before .before .before .before .before .before .before .before
     .before .before .before .before .before .before .before .before .before .before .before .before .before .before .before .before .before
 
-abbrev pub search-from-same-length : tie.After-answer-of → tie.After-search
-search-from-same-length c =
-    clear-from-same-length c .before .before .before .before .before .before .before .before .before .before .before .before .before .before
-    .before .before .before .before .before .before
+abbrev pub add-found-from-same-length : tie.After-answer-of → tie.After-add-found
+add-found-from-same-length c =
+    clear-from-same-length c .before .before .before .before .before .before .before .before .before .before .before .before .before
+
+abbrev pub add-seeds-from-same-length : tie.After-answer-of → tie.After-add-seeds
+add-seeds-from-same-length c =
+    add-found-from-same-length c .before .before .before .before .before .before .before .before .before .before .before .before .before
+    .before .before .before .before .before .before .before .before
 
 abbrev pub clear-levels-from-same-length-2 : tie.After-answer-of → tie.After-clear-levels
 clear-levels-from-same-length-2 c =
@@ -68,69 +106,88 @@ abbrev pub build-from-same-length-2 : tie.After-answer-of → tie.After-build
 build-from-same-length-2 c =
     clear-levels-from-same-length-2 c .before .before .before .before .before .before .before .before .before .before .before .before
     .before .before .before .before .before .before .before .before .before .before .before .before .before .before .before .before .before
-    .before .before .before .before .before .before .before .before
+    .before .before .before .before .before .before .before .before .before .before .before .before .before .before .before .before .before
+    .before
 
 abbrev pub clear-list-from-same-length-3 : tie.After-answer-of → tie.After-clear-list
 clear-list-from-same-length-3 c =
     c .before .before .before .before .before .before .before .before .before .before .before .before .before .before .before .before
     .before .before .before .before .before .before
 
-abbrev pub search-from-same-length-3 : tie.After-answer-of → tie.After-search
-search-from-same-length-3 c =
+abbrev pub add-seeds-from-same-length-3 : tie.After-answer-of → tie.After-add-seeds
+add-seeds-from-same-length-3 c =
     clear-list-from-same-length-3 c .before .before .before .before .before .before .before .before .before .before .before .before .before
     .before .before .before .before .before .before .before .before .before .before .before .before .before .before .before .before .before
-    .before
+    .before .before .before .before .before .before .before .before .before .before .before .before .before .before .before
 
 abbrev pub clear-list-from-same-length-4 : tie.After-answer-of → tie.After-clear-list
 clear-list-from-same-length-4 c =
     c .before .before .before .before .before .before .before .before .before .before .before .before .before .before .before .before
     .before .before .before .before .before .before
 
-abbrev pub search-from-same-length-4 : tie.After-answer-of → tie.After-search
-search-from-same-length-4 c =
+abbrev pub add-seeds-from-same-length-4 : tie.After-answer-of → tie.After-add-seeds
+add-seeds-from-same-length-4 c =
     clear-list-from-same-length-4 c .before .before .before .before .before .before .before .before .before .before .before .before .before
     .before .before .before .before .before .before .before .before .before .before .before .before .before .before .before .before .before
-    .before
+    .before .before .before .before .before .before .before .before .before .before .before .before .before .before .before
 
 abbrev pub clear-list-from-same-length-5 : tie.After-answer-of → tie.After-clear-list
 clear-list-from-same-length-5 c =
     c .before .before .before .before .before .before .before .before .before .before .before .before .before .before .before .before
     .before .before .before .before .before .before
 
-abbrev pub search-from-same-length-5 : tie.After-answer-of → tie.After-search
-search-from-same-length-5 c =
+abbrev pub add-seeds-from-same-length-5 : tie.After-answer-of → tie.After-add-seeds
+add-seeds-from-same-length-5 c =
     clear-list-from-same-length-5 c .before .before .before .before .before .before .before .before .before .before .before .before .before
     .before .before .before .before .before .before .before .before .before .before .before .before .before .before .before .before .before
-    .before
+    .before .before .before .before .before .before .before .before .before .before .before .before .before .before .before
 
 abbrev pub clear-list-from-same-length-6 : tie.After-answer-of → tie.After-clear-list
 clear-list-from-same-length-6 c =
     c .before .before .before .before .before .before .before .before .before .before .before .before .before .before .before .before
     .before .before .before .before .before .before
 
-abbrev pub search-from-same-length-6 : tie.After-answer-of → tie.After-search
-search-from-same-length-6 c =
+abbrev pub add-seeds-from-same-length-6 : tie.After-answer-of → tie.After-add-seeds
+add-seeds-from-same-length-6 c =
     clear-list-from-same-length-6 c .before .before .before .before .before .before .before .before .before .before .before .before .before
     .before .before .before .before .before .before .before .before .before .before .before .before .before .before .before .before .before
-    .before
+    .before .before .before .before .before .before .before .before .before .before .before .before .before .before .before
 
 abbrev pub finish-corners-from-same-length-7 : tie.After-answer-of → tie.After-finish-corners
 finish-corners-from-same-length-7 c = c .before .before .before .before .before .before .before .before .before
 
-abbrev pub search-from-same-length-7 : tie.After-answer-of → tie.After-search
-search-from-same-length-7 c =
+abbrev pub add-found-from-same-length-7 : tie.After-answer-of → tie.After-add-found
+add-found-from-same-length-7 c =
     finish-corners-from-same-length-7 c .before .before .before .before .before .before .before .before .before .before .before .before
     .before .before .before .before .before .before .before .before .before .before .before .before .before .before .before .before .before
-    .before .before .before .before .before .before .before .before .before .before .before .before .before .before .before
+    .before .before .before .before .before .before .before .before
 
 abbrev pub finish-corners-from-same-length-8 : tie.After-answer-of → tie.After-finish-corners
 finish-corners-from-same-length-8 c = c .before .before .before .before .before .before .before .before .before
 
-abbrev pub search-from-same-length-8 : tie.After-answer-of → tie.After-search
-search-from-same-length-8 c =
+abbrev pub add-found-from-same-length-8 : tie.After-answer-of → tie.After-add-found
+add-found-from-same-length-8 c =
     finish-corners-from-same-length-8 c .before .before .before .before .before .before .before .before .before .before .before .before
     .before .before .before .before .before .before .before .before .before .before .before .before .before .before .before .before .before
-    .before .before .before .before .before .before .before .before .before .before .before .before .before .before .before
+    .before .before .before .before .before .before .before .before
+
+abbrev pub finish-corners-from-same-length-9 : tie.After-answer-of → tie.After-finish-corners
+finish-corners-from-same-length-9 c = c .before .before .before .before .before .before .before .before .before
+
+abbrev pub add-found-from-same-length-9 : tie.After-answer-of → tie.After-add-found
+add-found-from-same-length-9 c =
+    finish-corners-from-same-length-9 c .before .before .before .before .before .before .before .before .before .before .before .before
+    .before .before .before .before .before .before .before .before .before .before .before .before .before .before .before .before .before
+    .before .before .before .before .before .before .before .before
+
+abbrev pub finish-corners-from-same-length-10 : tie.After-answer-of → tie.After-finish-corners
+finish-corners-from-same-length-10 c = c .before .before .before .before .before .before .before .before .before
+
+abbrev pub add-found-from-same-length-10 : tie.After-answer-of → tie.After-add-found
+add-found-from-same-length-10 c =
+    finish-corners-from-same-length-10 c .before .before .before .before .before .before .before .before .before .before .before .before
+    .before .before .before .before .before .before .before .before .before .before .before .before .before .before .before .before .before
+    .before .before .before .before .before .before .before .before
 
 abbrev pub finish-corners-from-returns-2 : tie.After-answer-of → tie.After-finish-corners
 finish-corners-from-returns-2 c = c .before .before .before .before .before .before .before .before .before
@@ -145,14 +202,21 @@ clear-levels-from-returns-2 c = clear-list-from-returns-2 c .before .before .bef
 abbrev pub clear-from-returns-2 : tie.After-answer-of → tie.After-clear
 clear-from-returns-2 c = clear-levels-from-returns-2 c .before .before .before .before
 
-abbrev pub search-from-returns-2 : tie.After-answer-of → tie.After-search
-search-from-returns-2 c =
-    clear-from-returns-2 c .before .before .before .before .before .before .before .before .before .before .before .before .before .before
-    .before .before .before .before .before .before
+abbrev pub lists-of-from-returns-2 : tie.After-answer-of → tie.After-lists-of
+lists-of-from-returns-2 c = clear-from-returns-2 c .before .before
+
+abbrev pub add-found-from-returns-2 : tie.After-answer-of → tie.After-add-found
+add-found-from-returns-2 c =
+    lists-of-from-returns-2 c .before .before .before .before .before .before .before .before .before .before .before
+
+abbrev pub added-from-returns-2 : tie.After-answer-of → tie.After-added
+added-from-returns-2 c = add-found-from-returns-2 c .before .before .before .before .before .before .before .before .before .before
+
+abbrev pub add-seeds-from-returns-2 : tie.After-answer-of → tie.After-add-seeds
+add-seeds-from-returns-2 c = added-from-returns-2 c .before .before .before .before .before .before .before .before .before .before .before
 
 abbrev pub build-from-returns-2 : tie.After-answer-of → tie.After-build
-build-from-returns-2 c =
-    search-from-returns-2 c .before .before .before .before .before .before .before .before .before .before .before .before .before
+build-from-returns-2 c = add-seeds-from-returns-2 c .before .before .before .before .before .before .before .before .before
 
 abbrev pub if1-from-returns-2 : tie.After-answer-of → tie.Else1
 if1-from-returns-2 c = build-from-returns-2 c .before .before

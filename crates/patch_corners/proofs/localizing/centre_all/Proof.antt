@@ -4,7 +4,7 @@ use borrow.Author.Needs.{needs}
 use Prim.Native.Nat.{_-_}
 use native.Mathlib.Omega.{arith}
 use Rattle.corner_list.specs.CornerList.{slices}
-use Rattle.patch_corners.specs.Internal.{centred}
+use Rattle.patch_corners.specs.MapCorners.{centred}
 use Rattle.patch_corners.proofs.Changing.{Changing, changing-none, changing-put, changing-all}
 use Rattle.patch_corners.proofs.Changing.{changing-xs, changing-ys, changing-strengths, changing-neighbours}
 use Rattle.patch_corners.proofs.localizing.centre_all.Statement.{statement}
