@@ -1,6 +1,7 @@
 """Names on an invoice, and words for what is no photograph: python3 -m unittest test_names"""
 import os
 import random
+import time
 import unittest
 
 import zakdomp
@@ -62,12 +63,24 @@ class Words(Command):
             self.assertEqual(refused.exception.number, 12)
             said = looks.words(12, upload)
             self.assertTrue(said.startswith("the photograph is no whole binary PGM: ") and words in said, said)
-            self.fails(1, words, "find", "-", given=upload)
+            for command in ("find", "stream"):
+                self.fails(1, words, command, "-", given=upload)
+
+    def test_long_comments(self):
+        """The words name the sides behind them, and take no longer for comments without an end."""
+        for comment, words in ((b"#" + bytes(99_999) + b"\n", "says 2 x 2,"), (9_999 * b"#a\r", "says 2 x 2,"), (400_000 * b"a#\n", "no width"),
+                               ((1 << 21) * b"#", "no width, height and maxval follow in its first megabyte"),
+                               ((1 << 21) * b" ", "no width, height and maxval follow in its first megabyte")):
+            began = time.monotonic()
+            self.assertIn(words, looks.words(12, b"P5 " + comment + b"2 2 255 a"))
+            self.assertLess(time.monotonic() - began, 20)
 
     def test_other_refusals(self):
         self.fails(1, "its maxval is 65535, 16 bits a pixel; convert PHOTO ", "find", "-", given=b"P5 1 1 65535\nab")
         self.fails(1, "its maxval is 15; convert PHOTO ", "find", "-", given=b"P5 1 1 15\na")
         self.fails(1, "-resize 4096x4096 ", "find", "-", given=b"P5 4097 1 255\n")
+        status, _, said = self.run_command("stream", "-", given=b"P5 4097 1 255\n")
+        self.assertEqual((status, "-resize" in said), (1, False), said)
         self.assertEqual(looks.words(10, b""), zakdomp.REFUSALS[10])
 
 

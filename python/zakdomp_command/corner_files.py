@@ -41,8 +41,8 @@ def settle(folder: str, kind: str, outcome: Outcome, owners: dict[str, str]) -> 
 
 
 def by_digest(name: str, sha256: str) -> str:
-    """Where the corner file of an upload is whose own name has none. It is no other's, so that each list is struck alone:
-    uploads with the same bytes have it under the digests of their names."""
+    """Where the corner file of an upload is whose own name has none. It is no other's, so that each list is struck
+    alone: uploads with the same bytes have it under the digests of their names."""
     return os.path.join(BY_DIGEST, f"{sha256}-{hashlib.sha256(os.fsencode(name)).hexdigest()[:16]}")
 
 

@@ -14,9 +14,10 @@ BEGINNINGS = (
 )
 FOREIGN = ((rb"PK\x03\x04", "a ZIP archive"), (rb"\x1f\x8b", "a file compressed by gzip"),
            (rb"....ftyp", "a film"), (rb"(?i)\s*<(!doctype|html|\?xml|svg)", "a page or a drawing in HTML or XML"))
-COMMENT = re.compile(rb"#[^\r\n]*[\r\n]")
+LINE_END = re.compile(rb"[\r\n]")
 HEADER = re.compile(rb"P5\s+(\d+)\s+(\d+)\s+(\d+)\s")
-HEAD = 4096
+# no longer header is looked for, comments and all
+HEAD = 1 << 20
 
 
 class Worded(zakdomp.Refusal):
@@ -46,7 +47,8 @@ def _no_photograph(upload: bytes) -> str:
         return "it looks like no photograph at all" if upload.strip(b"\0") else "it is nothing but zeros"
     said = _header(upload)
     if not said:
-        return "it begins with P5, and no width, height and maxval follow"
+        where = " in its first megabyte" if len(upload) > HEAD else ""
+        return f"it begins with P5, and no width, height and maxval follow{where}"
     bits = " of 16 bits" if said[2] > 255 else ""
     return f"it is cut short: its header says {said[0]} x {said[1]}{bits}, and fewer pixels follow; send it again"
 
@@ -65,8 +67,18 @@ def _large(upload: bytes) -> str:
 
 def _header(upload: bytes) -> tuple[int, int, int] | None:
     """Width, height and maxval, if the beginning of an upload has them."""
-    found = HEADER.match(COMMENT.sub(b"", upload[:HEAD]))
+    found = HEADER.match(_bare(upload[:HEAD]))
     if not found or any(len(number) > 20 for number in found.groups()):
         return None
     width, height, maxval = map(int, found.groups())
     return width, height, maxval
+
+
+def _bare(head: bytes) -> bytes:
+    """The beginning of an upload without comments, each of which is looked through once."""
+    kept, at = [], 0
+    while (mark := head.find(b"#", at)) >= 0:
+        kept.append(head[at:mark])
+        end = LINE_END.search(head, mark)
+        at = end.end() if end else len(head)
+    return b"".join([*kept, head[at:]])

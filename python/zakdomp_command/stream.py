@@ -4,7 +4,7 @@ import sys
 from typing import Any
 
 import zakdomp
-from zakdomp_command import files, parameters, uploads
+from zakdomp_command import files, looks, parameters, uploads
 
 EXAMPLE = "example: zakdomp stream board.pgm --threshold 100 | corners"
 DESCRIPTION = "Writes the frame stream of a photograph of at most 96 by 96 pixels and of the parameters."
@@ -24,10 +24,21 @@ def run(options: argparse.Namespace) -> int:
     if not options.out and sys.stdout and sys.stdout.isatty():
         raise ValueError("a stream is no text for a terminal: give --out FILE, or a pipe")
     files.apart(options.photo, options.out)
-    photo = zakdomp.read_pgm(files.read(options.photo, uploads.LONGEST))
+    photo = _photograph(files.read(options.photo, uploads.LONGEST))
     stream = zakdomp.write_stream(photo.pixels, photo.width, photo.height, **parameters.of(options))
     if options.out:
         files.place(options.out, stream)
     else:
         files.say(stream)
     return 0
+
+
+def _photograph(upload: bytes) -> zakdomp.Photograph:
+    """An upload as a photograph. What is none is told with words for it; of one that is too large the number's words
+    are enough."""
+    try:
+        return zakdomp.read_pgm(upload)
+    except zakdomp.Refusal as refusal:
+        if refusal.number == 1:
+            raise
+        raise looks.Worded(refusal.number, upload) from refusal

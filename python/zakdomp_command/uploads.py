@@ -10,7 +10,7 @@ import zakdomp
 from zakdomp_command import choices, looks
 
 # no more is read of an upload: the pixels of the largest photograph, and a header with comments of a megabyte
-LONGEST = zakdomp.LARGEST_SIDE ** 2 + (1 << 20)
+LONGEST = zakdomp.LARGEST_SIDE ** 2 + looks.HEAD
 
 
 class Order(NamedTuple):
