@@ -1,6 +1,6 @@
 """Random folders of hostile uploads, killed at random instants and started again: python3 -m unittest test_killed
 
-`python3 test_killed.py 1000 5000` does so many rounds, from a seed on, and says the seed of one that fails."""
+`python3 test_killed.py 1000 5000` does so many rounds, from a seed on, says how far it is, and the seed of one that fails."""
 import csv
 import hashlib
 import io
@@ -149,6 +149,8 @@ def main(rounds, first):
         except BaseException:
             print(f"seed {seed}", flush=True)
             raise
+        if (seed - first) % 50 == 49:
+            print(f"{seed - first + 1} rounds", flush=True)
     print(f"{rounds} rounds from seed {first}")
 
 

@@ -312,7 +312,7 @@ class Retained(Kept):
     def test_uploads_that_may_be_deleted(self):
         start = 20_000 * DAY + 5
         with mock.patch.object(ledger, "now", lambda: start):
-            for name in ("a\nb.pgm", "old.pgm", "twice.pgm"):
+            for name in ("a\nb.pgm", "old.pgm", "twice.pgm", "=1 "):
                 os.utime(self.put("in/" + name, noise(40, len(name))))
             with mock.patch.object(uploads, "Upload", lambda content, size, put: uploads_upload(content, size, 0)):
                 self.batch("--jobs", 1)
@@ -322,10 +322,11 @@ class Retained(Kept):
         at = f"@{start + 89 * DAY}"
         self.assertEqual(self.done("retained", self.path("out"), "--at", at), b"")
         at = f"@{20_090 * DAY}"
-        self.assertEqual(self.done("retained", self.path("out"), "--at", at), b"a\\x0ab.pgm\nold.pgm\n")
+        self.assertEqual(self.done("retained", self.path("out"), "--at", at), b"\\x3d1\\x20\na\\x0ab.pgm\nold.pgm\n")
         at = f"@{20_200 * DAY}"
-        self.assertEqual(self.done("retained", self.path("out"), "--at", at), b"a\\x0ab.pgm\nold.pgm\ntwice.pgm\n")
-        self.assertEqual(len(os.listdir(self.path("in"))), 3, "nothing is deleted")
+        due = b"\\x3d1\\x20\na\\x0ab.pgm\nold.pgm\ntwice.pgm\n"
+        self.assertEqual(self.done("retained", self.path("out"), "--at", at), due)
+        self.assertEqual(len(os.listdir(self.path("in"))), 4, "nothing is deleted")
         now = self.done("retained", self.path("out"), "--at", f"@{int(time.time())}")
         self.assertEqual(self.done("retained", self.path("out")), now)
         self.fails(2, "there is no ledger", "retained", self.path("in"))

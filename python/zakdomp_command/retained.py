@@ -37,7 +37,7 @@ def run(options: argparse.Namespace) -> int:
         return _stream(options.stream)
     at = int(time.time()) if options.at is None else options.at
     if options.stream is None and options.start is None and options.kind is not None and options.kind not in KINDS:
-        files.say("".join(f"{names.line(name)}\n" for name in deletable(Ledger(options.kind), at)))
+        files.say("".join(f"{names.cell(name)}\n" for name in deletable(Ledger(options.kind), at)))
         return 0
     if options.stream is not None or options.start is None:
         raise ValueError("retained wants KIND and START, or the folder of a ledger, or else --stream FILE alone")
