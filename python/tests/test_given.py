@@ -312,15 +312,23 @@ class Buffers(unittest.TestCase):
         self.assertEqual(found, [25 * [each] for each in due])
 
     def test_a_signal_in_between(self):
-        """A handler that finds corners itself runs between the library's answer and the reading of its buffers."""
+        """A handler that finds corners itself runs between the library's answer and the reading of its buffers. The next
+        signal comes when it has ended: on a machine at work handlers would else stand on handlers without an end."""
         image, other = random.Random(5).randbytes(300 * 300), random.Random(6).randbytes(300 * 300)
-        due, calls = zakdomp.find(image, 300, 300), []
-        before = signal.signal(signal.SIGALRM, lambda *_: calls.append(zakdomp.find(other, 300, 300)))
-        self.addCleanup(signal.signal, signal.SIGALRM, before)
-        signal.setitimer(signal.ITIMER_REAL, 0.001, 0.001)
+        due, calls, under_way = zakdomp.find(image, 300, 300), [], threading.Event()
+
+        def handler(*_):
+            calls.append(zakdomp.find(other, 300, 300))
+            if under_way.is_set():
+                signal.setitimer(signal.ITIMER_REAL, 0.001)
+
+        self.addCleanup(signal.signal, signal.SIGALRM, signal.signal(signal.SIGALRM, handler))
+        under_way.set()
+        signal.setitimer(signal.ITIMER_REAL, 0.001)
         try:
             found = [zakdomp.find(image, 300, 300) for _ in range(100)]
         finally:
+            under_way.clear()
             signal.setitimer(signal.ITIMER_REAL, 0)
         self.assertGreater(len(calls), 0)
         self.assertEqual(found, 100 * [due])
