@@ -348,7 +348,7 @@ class _List:
         return list(map(Corner._make, zip(*(values[:count] for values in self._slices))))
 
 
-class _Room:
+class _Buffers:
     """The buffers of the frame pass: each is made anew only where an image asks for more than any before it."""
 
     def __init__(self) -> None:
@@ -372,23 +372,23 @@ class _Room:
 
 
 class _Kept(threading.local):
-    """The rooms of a thread that no call is using."""
+    """The buffers of a thread that no call is using."""
 
     def __init__(self) -> None:
-        self.rooms: list[_Room] = []
+        self.sets: list[_Buffers] = []
 
 
 _kept = _Kept()
 
 
 @contextlib.contextmanager
-def _room() -> Iterator[_Room]:
-    """A room that is no other call's: a signal's handler may call while its own thread is reading what it found."""
-    room = _kept.rooms.pop() if _kept.rooms else _Room()
+def _buffers() -> Iterator[_Buffers]:
+    """Buffers that are no other call's: a signal's handler may call while its own thread is reading what it found."""
+    buffers = _kept.sets.pop() if _kept.sets else _Buffers()
     try:
-        yield room
+        yield buffers
     finally:
-        _kept.rooms[:] = [room]
+        _kept.sets[:] = [buffers]
 
 
 # ---- the corners of images and photographs
@@ -442,16 +442,16 @@ def _search(function: Callable[..., int], asked: _Asked) -> Frame:
     step = params.window + 1
     places = min((width // step + 1) * (height // step + 1), most)
     count, ties = ctypes.c_size_t(0), ctypes.c_uint64(0)
-    with _room() as room:
+    with _buffers() as buffers:
         while True:
-            words = room.words(width * height, level_bytes, places if params.levels > 1 else 0, places)
+            words = buffers.words(width * height, level_bytes, places if params.levels > 1 else 0, places)
             number = function(*asked.words, *params, *words, ctypes.byref(count), ctypes.byref(ties))
             if number != LIST_SHORT or places == most:
                 break
             places = min(4 * places, most)
         if number:
             raise Refusal(number)
-        return Frame(room.corners.corners(count.value), ties.value)
+        return Frame(buffers.corners.corners(count.value), ties.value)
 
 
 def _called_as(shape: Callable[P, _Asked]) -> Callable[[Callable[..., R]], Callable[P, R]]:

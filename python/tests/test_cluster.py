@@ -27,7 +27,7 @@ assert eval(sys.argv[2])
 class Missing(Batch):
     def test_without_the_package(self):
         with mock.patch.dict(sys.modules, {"distributed": None}):
-            self.fails(2, "wants the Python package distributed", "batch", self.path("in"), "--out", self.path("out"), "--scheduler", "tcp://127.0.0.1:1")
+            self.fails(2, "needs the Python package distributed", "batch", self.path("in"), "--out", self.path("out"), "--scheduler", "tcp://127.0.0.1:1")
 
 
 class Killed(Exception):

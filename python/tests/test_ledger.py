@@ -303,7 +303,7 @@ class Striking(Kept):
         self.fails(2, "there is no ledger above it", "strike", self.put("y", b"corners 0\n"), 0)
         self.fails(2, "has no such corner file", "strike", self.put("out/y", b"corners 0\n"), 0)
         self.fails(2, "there is no ledger above it", "strike", "-", 0, given=b"corners 0\n")
-        self.fails(2, "wants the place", "strike", self.file, "--confirm", 0)
+        self.fails(2, "needs the place", "strike", self.file, "--confirm", 0)
         self.put("out/corners/a.pgm.corners", b"corners 0\n")
         self.fails(2, "it was changed since the batch made it", "strike", self.file, 0)
 

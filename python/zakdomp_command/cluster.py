@@ -26,7 +26,7 @@ def cluster(address: str) -> Runner:
     try:
         import distributed
     except ImportError as problem:
-        words = "--scheduler wants the Python package distributed (python3-distributed of Debian)"
+        words = "--scheduler needs the Python package distributed (python3-distributed of Debian)"
         raise ValueError(words) from problem
     logging.disable()  # a lost connection is told in one line, by `_asking`
     return partial(_run, distributed, address)

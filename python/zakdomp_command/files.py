@@ -39,7 +39,7 @@ def tell(words: str, name: str | None) -> None:
 
 
 def apart(given: str, *made: str | None) -> None:
-    """Sees that no file that is made takes the place of the one that is read, or of another that is made."""
+    """Checks that no file that is made takes the place of the one that is read, or of another that is made."""
     names = [name for name in made if name and (os.path.isfile(name) or not os.path.exists(name))]
     names += [given] * (given != "-")
     if len({os.path.realpath(name) for name in names}) < len(names):

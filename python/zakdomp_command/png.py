@@ -21,7 +21,7 @@ class Canvas(NamedTuple):
 
 
 def png(drawing: Drawing) -> bytes:
-    """The photograph in greys, with its marks. Two greys less are there where diamonds want their colours."""
+    """The photograph in greys, with its marks. Two greys less are there where diamonds need their colours."""
     canvas = _photograph(drawing)
     for mark in drawing.marks:
         _draw(canvas, mark, drawing)

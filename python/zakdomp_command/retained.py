@@ -40,7 +40,7 @@ def run(options: argparse.Namespace) -> int:
         files.say("".join(f"{names.cell(name)}\n" for name in deletable(Ledger(options.kind), at)))
         return 0
     if options.stream is not None or options.start is None:
-        raise ValueError("retained wants KIND and START, or the folder of a ledger, or else --stream FILE alone")
+        raise ValueError("retained needs KIND and START, or the folder of a ledger, or else --stream FILE alone")
     if options.kind not in KINDS:
         raise ValueError(f"'{options.kind}' is no kind: {', '.join(KINDS)} are")
     letter = zakdomp.holding(KINDS[options.kind], options.start, at)

@@ -43,7 +43,7 @@ def run(options: argparse.Namespace) -> int:
     kept = _kept(options.file)
     if options.place is None:
         if options.confirm is not None:
-            raise ValueError("--confirm wants the place of a corner")
+            raise ValueError("--confirm needs the place of a corner")
         files.say(formats.written(kept.given.kind, kept.edited.corners, kept.given.beside))
     elif options.confirm is None:
         _show(options.file, options.place, kept.edited.show(options.place))
