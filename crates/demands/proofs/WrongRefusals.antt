@@ -22,8 +22,7 @@ use Rattle.demands.specs.WrongRefusals.{wrongRefusals, WrongRefusals}
 use Rattle.demands.proofs.Roads.{differ}
 
 pub wrong-refusals : WrongRefusals
-unfolding wrongRefusals lt le add sub mul div ofInt ofBits toUnsigned tab isInside seedFits center.refusalOf isOff isSized merge.refusalOf
-    gridOf near neighbours resultOf
-    refusalApart bodyLength rangeOutside readFrame pixelBytes frameBytes bare fieldOf pgm.conditions pgm.refusalOf limits.refusalOf striking.refusalOf
-    writer.conditions writer.refusalOf retention.refusalOf
+unfolding wrongRefusals lt le add sub mul div ofInt ofBits toUnsigned tab isInside seedFits center.refusalOf isOff isSized merge.refusalOf gridOf near
+    neighbours resultOf refusalApart bodyLength rangeOutside readFrame pixelBytes frameBytes bare fieldOf pgm.conditions pgm.refusalOf
+    limits.refusalOf striking.refusalOf writer.conditions writer.refusalOf retention.refusalOf
 wrong-refusals = record { ours = refl; wrong = refl; differ = differ wrongRefusals refl }

@@ -6,11 +6,12 @@ use Rattle.lists.specs.Tab.{tab}
 use Rattle.float32.specs.Float32.{abs, lift, nearestWhole, roundHalfAway}
 use Rattle.float32.specs.Value.{total}
 use Rattle.ring.specs.Ring.{ring5, ringOf}
-use Rattle.response.specs.Response.{samples}
+use Rattle.response.specs.Response.{samples, responseOf}
 use Rattle.response.specs.OnePass.{withPair, passedAfter}
 use Rattle.response.specs.Exact.{fifthsAt}
 use Rattle.corner_list.specs.CornerList.{withoutCorner}
 use Rattle.detect.specs.Peaks.{square, window, beaten, equals, positives, isPeak, peakPlaces}
+use Rattle.detect.specs.Exact.{fifthsAbove}
 use Rattle.detect.specs.Enough.{rowsInside, enoughOf}
 use Rattle.center_of_mass.specs.CenterOfMass.{withCells, seedFits, refusalOf, centreOn, outcomeOf, refined}
 use Rattle.multiscale.specs.Multiscale.{roiRadius}
@@ -23,14 +24,15 @@ use Rattle.pgm.specs.Pgm as pgm
 use Rattle.listing.specs.Text.{unitsOf}
 use Rattle.response_limits.specs.Limits.{lowAt}
 use Rattle.sure_peak.specs.SurePeak.{isSure}
+use Rattle.corner_strike.specs.Striking as striking
 use Rattle.stream.specs.RoundTrip.{pixelBytes, frameBytes}
 use Rattle.retention.specs.Retention.{stays, stateOf}
 use Rattle.demands.specs.WrongValues.{wrongValues, WrongValues}
 use Rattle.demands.proofs.Roads.{differ}
 
 pub wrong-values : WrongValues
-unfolding wrongValues lt le add sub mul div ofInt ofBits toBits toUnsigned counted range row rowsFrom block count tab abs lift nearestWhole roundHalfAway
-    total ring5 ringOf samples withPair passedAfter fifthsAt withoutCorner square window beaten equals positives isPeak peakPlaces rowsInside enoughOf withCells
-    seedFits refusalOf centreOn outcomeOf refined roiRadius isOff gridOf near neighbours resultOf naiveOf bare fieldOf pgm.conditions pgm.refusalOf
-    pgm.pixelsIn unitsOf lowAt isSure pixelBytes frameBytes stays stateOf
+unfolding wrongValues lt le add sub mul div ofInt ofBits toBits toUnsigned counted range row rowsFrom block count tab abs lift nearestWhole
+    roundHalfAway total ring5 ringOf samples responseOf withPair passedAfter fifthsAt withoutCorner square window beaten equals positives isPeak
+    peakPlaces fifthsAbove rowsInside enoughOf withCells seedFits refusalOf centreOn outcomeOf refined roiRadius isOff gridOf near neighbours resultOf
+    naiveOf bare fieldOf pgm.conditions pgm.refusalOf pgm.pixelsIn unitsOf lowAt isSure striking.refusalOf pixelBytes frameBytes stays stateOf
 wrong-values = record { ours = refl; wrong = refl; differ = differ wrongValues refl }

@@ -92,6 +92,8 @@ apart =
     -- "10 also where the original list doesn't fit": where the merged list does not
     road (refusalApart three 1 2 joining) 10
     (lowest (merge.conditions three (cornersOf joining 2) (ltb 1 (length (resultOf three (cornersOf joining 2)))))) 0
+    -- that of the merge in place, however short the separate buffer
+    ∷ road (refusalApart three 1 2 joining) 10 (merge.refusalOf three 2 2 joining) 0
     -- "in its order": 4 of as many corners as the separate buffer has places
     ∷ road (refusalApart three 1 2 withOutside) 4 (lowest (merge.conditions three (cornersOf withOutside 1) true)) 10
     ∷ []

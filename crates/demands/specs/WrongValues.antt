@@ -8,15 +8,16 @@ use lib.IntN.{ℤ, pos, negsuc, natAbs}
 use lib.Signed.{ltZ}
 use lib.Ieee.{Float, nan, fin, binary32, add, sub, mul, div, lt, le, ofBits, toBits, toUnsigned}
 use Rattle.lists.specs.Places.{Place, block, any, keep, count, sumOf}
+use Rattle.lists.specs.Refusals.{resultOr}
 use Rattle.float32.specs.Float32.{zero, lift, roundHalfAway, nearestWhole, floatOf}
 use Rattle.float32.specs.Value.{dist, total, minusPart}
 use Rattle.ring.specs.Ring.{ring5, ringOf}
-use Rattle.response.specs.Response.{srOf, drOf, ringSumOf}
+use Rattle.response.specs.Response.{srOf, drOf, ringSumOf, responseOf}
 use Rattle.response.specs.OnePass.{passedAfter}
 use Rattle.response.specs.Exact.{fifthsAt}
 use Rattle.pyramid.specs.Pyramid.{boxOf}
 use Rattle.corner_list.specs.declared.Corner.{Corner}
-use Rattle.corner_list.specs.CornerList.{Slices, slices, placesOf, cornersOf, frontCorners, without, withoutCorner}
+use Rattle.corner_list.specs.CornerList.{Slices, slices, placesOf, cornerAt, cornersOf, frontCorners, without, withoutCorner}
 use Rattle.detect.specs.declared.Search.{Search}
 use Rattle.detect.specs.Peaks.{
   CellTests,
@@ -34,6 +35,7 @@ use Rattle.detect.specs.Peaks.{
   positiveIn,
   computed,
 }
+use Rattle.detect.specs.Exact.{exact}
 use Rattle.detect.specs.Detect.{searchOf}
 use Rattle.detect.specs.Enough.{rowsTo, rowsFor, enoughOf, valuesOf as answers}
 use Rattle.center_of_mass.specs.CenterOfMass.{refined, valuesOf}
@@ -43,12 +45,14 @@ use Rattle.merge.specs.Grid.{cellOf}
 use Rattle.merge.specs.Merge.{stronger, merged, resultOf}
 use Rattle.merge_naive.specs.MergeNaive.{naiveOf}
 use Rattle.merge_naive.specs.Case.{one, three}
-use Rattle.pgm.specs.Header.{Character, inComment, trailing, isSpace, fieldOf, maxvalField, widthOf}
+use Rattle.pgm.specs.Header.{Character, inComment, trailing, isSpace, fieldOf, maxvalField, widthOf, heightOf}
 use Rattle.pgm.specs.Pgm.{pixelsIn}
 use Rattle.listing.specs.Text.{unitsBy, unitsOf}
 use Rattle.retouch.specs.Retouch.{isAt, samplePlaces, touched}
 use Rattle.response_limits.specs.Limits.{Range, leastDist, lowAt}
 use Rattle.sure_peak.specs.SurePeak.{fifthsIn, byLimits, isSure}
+use Rattle.corner_strike.specs.Editions.{Edition, edition, raised}
+use Rattle.corner_strike.specs.Striking as striking
 use Rattle.stream.specs.declared.Header.{Header}
 use Rattle.stream.specs.Stream.{header, u32}
 use Rattle.stream.specs.RoundTrip.{frameBytes}
@@ -110,6 +114,14 @@ abbrev firstColumn : List Corner → ℕ
 firstColumn [] = 0
 firstColumn (c ∷ cs) = nearestWhole (c .x)
 
+-- two corners that join, with radius 3
+abbrev joining : List Corner
+joining = corner 1 1 3 0 ∷ corner 2 1 4 0 ∷ []
+
+-- two cells in a row of 24 fifths both, the first float the larger (RULES 14)
+abbrev level : List Float
+level = responseOf 8 0 1600 501 ∷ responseOf 8 0 32 11 ∷ []
+
 abbrev base : List Road
 base =
     -- "merging by distance alone" (RULES 8.3), one of the four wrong roads
@@ -118,11 +130,16 @@ base =
     ∷ road (peaksOf (computed (all nan) 11 zero)) 1 (peaksOf (aboveOnly (all nan) 11 zero)) 0
     -- "rounding seeds half to even" (RULES 5.1), the third: 1/2. The fourth is a wrong statement
     ∷ road (centred half) 1 (centred (toEven half)) 0
+    -- "chosen by exact values": by floats, of which one is larger (RULES 10.1)
+    ∷ road (length (peakPlaces (exact (λ p. pos 24) zero) 2 1 0 1 0)) 2 (length (peakPlaces (computed level 2 zero) 2 1 0 1 0)) 1
     -- "Threshold: NaN and negatives become 0": a cell of 0, and -1 as it is (RULES 4.1)
     ∷ road (peaksOf (computed (all zero) 11 (lift (fin true 1 (pos 0))))) 0 (peaksOf (computed (all zero) 11 (fin true 1 (pos 0)))) 1
     -- "A centre is beaten only by a strictly larger cell": by an equal one (RULES 4.3)
     ∷ road (told (beaten (largerIn (one ∷ one ∷ []) 2) 2 1 1 (place 0 0))) 0
     (told (beaten (λ q p. le (valueAt (one ∷ one ∷ []) 2 p) (valueAt (one ∷ one ∷ []) 2 q)) 2 1 1 (place 0 0))) 1
+    -- "has enough neighbours": more than the least number (RULES 4.3)
+    ∷ road (told (isPeak (computed (large ∷ one ∷ []) 2 zero) 2 1 1 1 (place 0 0))) 1
+    (told (ltb 1 (positives (positiveIn (large ∷ one ∷ []) 2) 2 1 1 (place 0 0)))) 0
     -- "every other number selects radius 5": the second ring (RULES 3.1)
     ∷ road (ringOf 7 .radius) 5 (cond (eqb 7 5) 5 10) 10
     -- "(sum of four + 2) div 4": cut off (RULES 6.1)
@@ -136,6 +153,8 @@ base =
     -- "if strictly stronger": if as strong (RULES 8.4); the neighbours tell which is left
     ∷ road (stronger (corner 2 1 3 2) (corner 1 1 3 7) .neighbours) 7
     (cond (le (corner 1 1 3 7 .strength) (corner 2 1 3 2 .strength)) (corner 2 1 3 2) (corner 1 1 3 7) .neighbours) 2
+    -- "then merge": the list before it (RULES 9.4)
+    ∷ road (length (resultOf (floatOf 3) joining)) 1 (length joining) 2
     ∷ []
 
 -- ---- request 1, PGM photographs
@@ -157,12 +176,17 @@ commented = bytesOf "P5 1#\n2 1 255\n"
 abbrev twoEnds : List ℕ
 twoEnds = bytesOf "P5 1 1 255\r\nA"
 
+abbrev column : List ℕ
+column = bytesOf "P5 1 2 255\nAB"
+
 abbrev photographs : List Road
 photographs =
     -- "comments": a comment is whitespace, though the digits about it are one number (RULES 20.3)
     road (widthOf commented) 12 (fieldOf (spaced false 2 (drop 2 commented)) .number) 1
     -- "the P5 form": all whitespace behind the maxval is passed over, though an LF behind the CR is a pixel (RULES 20.2)
     ∷ road (getD (pixelsIn twoEnds) 0 0) 10 (firstCode (trailing isSpace (maxvalField twoEnds .rest))) 65
+    -- "width, height": the other way round
+    ∷ road (widthOf column) 1 (heightOf column) 2
     ∷ []
 
 -- ---- request 2, "nearest, half away from zero" (RULES 21.1): 3/4 and 1/2 of a 256th, and the largest float below 1/2
@@ -228,6 +252,8 @@ ties =
     -- "with 0 ties": equal by their bits
     ∷ road (equals (equalIn nans 2) 2 1 1 (place 0 0)) 0
     (equals (λ q p. eqb (toBits binary32 (valueAt nans 2 q)) (toBits binary32 (valueAt nans 2 p))) 2 1 1 (place 0 0)) 1
+    -- "defined from the computed maps": by exact values
+    ∷ road (equals (equalIn level 2) 2 1 1 (place 0 0)) 0 (equals (λ q p. true) 2 1 1 (place 0 0)) 1
     ∷ []
 
 -- ---- request 5, neighbours (RULES 24)
@@ -255,10 +281,7 @@ neighbours =
     ∷ road (placesOf uneven) 1 (min (length (uneven .xs)) (min (length (uneven .ys)) (length (uneven .strengths)))) 2
     ∷ []
 
--- ---- request 6, merging apart (RULES 25.3): two corners that join, with radius 3, into two places that are all 7
-abbrev joining : List Corner
-joining = corner 1 1 3 0 ∷ corner 2 1 4 0 ∷ []
-
+-- ---- request 6, merging apart (RULES 25.3): those two corners, into two places that are all 7
 abbrev sevens : Slices
 sevens = holding (corner 7 7 7 7 ∷ corner 7 7 7 7 ∷ [])
 
@@ -356,9 +379,12 @@ between =
     ∷ road (sure (about 0 10) (about 5 10) 1 1) 0 (sureBy 1 (positiveBy (about 0 10) (about 5 10) 1 (λ q. ltZ (pos 0) (fifthsIn (about 5 10) 13 q)))) 1
     ∷ []
 
--- ---- request 10, a corner struck (RULES 29.3): the only corner of a list, at column 7
+-- ---- request 10, a corner struck (RULES 29.3): the only corner of a list, at column 7; and a list of two, with 1 and 2 neighbours
 abbrev only : Slices
 only = holding (corner 7 0 0 0 ∷ [])
+
+abbrev both : Slices
+both = holding (corner 0 0 0 1 ∷ corner 0 0 0 2 ∷ [])
 
 abbrev firstX : Slices → ℕ
 firstX b = nearestWhole (getD (b .xs) 0 nan)
@@ -367,6 +393,12 @@ abbrev strikes : List Road
 strikes =
     -- "the freed last place becoming zero": it stays as it was
     road (firstX (withoutCorner 0 1 only)) 0 (firstX (frontCorners (without 0 (cornersOf only 1)) only)) 7
+    -- "later ones moving up": in the slices of floats alone
+    ∷ road (getD (withoutCorner 0 2 both .neighbours) 0 0) 2 (getD (both .neighbours) 0 0) 1
+    -- "the very corner shown for that place and number": for that place, where a strike came between (RULES 29.5)
+    ∷ road (cornerAt (withoutCorner 0 2 both) 0 .neighbours) 2 (cornerAt both 0 .neighbours) 1
+    -- "raised by each strike and by nothing else": by a call that is refused (RULES 29.1)
+    ∷ road (resultOr (striking.refusalOf 0 (edition 0 0) 0 0) (raised (edition 0 0)) (edition 0 0) .change) 0 (raised (edition 0 0) .change) 1
     ∷ []
 
 -- ---- request 11, the frame stream written (RULES 30.1): a threshold of these bits
