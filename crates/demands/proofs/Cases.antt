@@ -10,7 +10,7 @@ use Rattle.response.specs.Response.{samples, responseOf}
 use Rattle.response.specs.Exact.{fifthsAt}
 use Rattle.float32.specs.Value.{total}
 use Rattle.merge_radius.specs.MergeRadius.{isOff}
-use Rattle.merge.specs.Grid.{gridOf, near, neighbours}
+use Rattle.merge_grid.specs.Grid.{gridOf, near, neighbours}
 use Rattle.merge.specs.Merge.{resultOf}
 use Rattle.merge_naive.specs.MergeNaive.{naiveOf}
 use Rattle.demands.specs.Cases.{cases, CasesHold}

@@ -16,7 +16,7 @@ use Rattle.detect.specs.Detect as detect
 use Rattle.center_of_mass.specs.CenterOfMass.{seedFits, refined}
 use Rattle.multiscale.specs.Multiscale as multiscale
 use Rattle.merge_radius.specs.MergeRadius.{isOff, isSized}
-use Rattle.merge.specs.Refusals as merge
+use Rattle.merge_refusal.specs.Refusals as merge
 use Rattle.merge.specs.Apart.{refusalApart}
 use Rattle.merge_slice.specs.MergeSlice.{refusalFor}
 use Rattle.corner_strike.specs.Showing as showing

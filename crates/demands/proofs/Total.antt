@@ -44,7 +44,7 @@ use Rattle.multiscale.specs.Multiscale as multiscale
 use Rattle.multiscale.specs.Promise.{Boxed}
 use Rattle.multiscale.proofs.Box as box
 use Rattle.merge_radius.specs.MergeRadius.{isOff, radiusOutside}
-use Rattle.merge.specs.Refusals.{isOutside}
+use Rattle.merge_refusal.specs.Refusals.{isOutside}
 use Rattle.merge.specs.declared.Merged.{Merged}
 use Rattle.merge.specs.declared.Merged.the-variants as merged
 use Rattle.merge.specs.Merge as merge

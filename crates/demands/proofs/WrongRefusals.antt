@@ -6,8 +6,8 @@ use Rattle.corner_list.specs.CornerList.{isInside}
 use Rattle.center_of_mass.specs.CenterOfMass.{seedFits}
 use Rattle.center_of_mass.specs.CenterOfMass as center
 use Rattle.merge_radius.specs.MergeRadius.{isOff, isSized}
-use Rattle.merge.specs.Refusals as merge
-use Rattle.merge.specs.Grid.{gridOf, near, neighbours}
+use Rattle.merge_refusal.specs.Refusals as merge
+use Rattle.merge_grid.specs.Grid.{gridOf, near, neighbours}
 use Rattle.merge.specs.Merge.{resultOf}
 use Rattle.merge.specs.Apart.{refusalApart}
 use Rattle.stream.specs.Stream.{bodyLength, rangeOutside, readFrame}

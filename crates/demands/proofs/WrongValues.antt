@@ -16,7 +16,7 @@ use Rattle.detect.specs.Enough.{rowsInside, enoughOf}
 use Rattle.center_of_mass.specs.CenterOfMass.{withCells, seedFits, refusalOf, centreOn, outcomeOf, refined}
 use Rattle.multiscale.specs.Multiscale.{roiRadius}
 use Rattle.merge_radius.specs.MergeRadius.{isOff}
-use Rattle.merge.specs.Grid.{gridOf, near, neighbours}
+use Rattle.merge_grid.specs.Grid.{gridOf, near, neighbours}
 use Rattle.merge.specs.Merge.{resultOf}
 use Rattle.merge_naive.specs.MergeNaive.{naiveOf}
 use Rattle.pgm.specs.Header.{bare, fieldOf}

@@ -19,7 +19,7 @@ use Rattle.detect.specs.Detect as detect
 use Rattle.detect.specs.declared.Search.{Search}
 use Rattle.center_of_mass.specs.CenterOfMass as center
 use Rattle.multiscale.specs.Multiscale as multiscale
-use Rattle.merge.specs.Refusals as merge
+use Rattle.merge_refusal.specs.Refusals as merge
 use Rattle.merge.specs.Apart.{refusalApart}
 use Rattle.merge_slice.specs.MergeSlice.{refusalFor}
 use Rattle.corner_strike.specs.Editions.{Edition, edition}

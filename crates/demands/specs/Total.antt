@@ -15,8 +15,9 @@
 --   pyramid         level (nothing where `level_at` refuses)
 --   pgm             pgm_pixels (nothing where `read_pgm` refuses)
 --   merge_radius    is_off, is_sized, is_outside
---   merge           position_of, position_at, grid_of, column_of, row_of, is_near, is_joined (of its module `grid`), refusal (of `refusing`; the
---                   number alone)
+--   merge_refusal   refusal (the number alone)
+--   merge_grid      position_of, position_at, grid_of, column_of, row_of, is_near, is_joined
+--   merge_settle    settle_list (one for how many are kept, one for the buffer)
 --   clearing        clear, clear_bytes, clear_list
 --   frame_pass      refusal (the number before the pass)
 --   stream          wanted

@@ -11,7 +11,7 @@ use Rattle.float32.specs.Float32.{zero, floatOf}
 use Rattle.ring.specs.Ring.{isRing}
 use Rattle.corner_list.specs.CornerList.{Slices, cornersOf}
 use Rattle.center_of_mass.specs.CenterOfMass as center
-use Rattle.merge.specs.Refusals as merge
+use Rattle.merge_refusal.specs.Refusals as merge
 use Rattle.merge.specs.Merge.{resultOf}
 use Rattle.merge.specs.Apart.{refusalApart}
 use Rattle.stream.specs.declared.Header.{Header}

@@ -41,8 +41,9 @@ use Rattle.detect.specs.Enough.{rowsTo, rowsFor, enoughOf, valuesOf as answers}
 use Rattle.center_of_mass.specs.CenterOfMass.{refined, valuesOf}
 use Rattle.multiscale.specs.declared.RoiContext.{RoiContext}
 use Rattle.multiscale.specs.Multiscale.{roiRadius}
-use Rattle.merge.specs.Grid.{cellOf}
-use Rattle.merge.specs.Merge.{stronger, merged, resultOf}
+use Rattle.merge_grid.specs.Grid.{cellOf}
+use Rattle.merge_settle.specs.Settle.{stronger, merged}
+use Rattle.merge.specs.Merge.{resultOf}
 use Rattle.merge_naive.specs.MergeNaive.{naiveOf}
 use Rattle.merge_naive.specs.Case.{one, three}
 use Rattle.pgm.specs.Header.{Character, inComment, trailing, isSpace, fieldOf, maxvalField, widthOf, heightOf}

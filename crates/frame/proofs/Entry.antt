@@ -25,7 +25,7 @@ use Rattle.corner_list.specs.declared.Corner.{Corner}
 use Rattle.corner_list.proofs.Corners.{corners-front, same-places}
 use Rattle.merge.specs.declared.Merged.{Merged}
 use Rattle.merge.specs.Merge as merge
-use Rattle.merge.proofs.Judged.{judged-none-off, judged-none-on}
+use Rattle.merge_refusal.proofs.Judged.{judged-none-off, judged-none-on}
 use Rattle.merge.proofs.Result.{result-length, merges-done}
 use Rattle.patch_corners.specs.declared.FrameParams.{FrameParams}
 use Rattle.patch_corners.specs.OneMap.{Choice}

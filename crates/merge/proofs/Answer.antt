@@ -2,7 +2,7 @@
 use Prim.Native.Nat.{ℕ, zero, suc, _≤_, min}
 use native.Mathlib.Omega.{arith}
 use mathlib.Core.Path.{_≡_, refl, sym, ap, _∙_, subst}
-use mathlib.Core.Bool.{true, false}
+use mathlib.Core.Bool.{Bool, true, false}
 use mathlib.Core.List.{List, [], _∷_}
 use lib.ListN.{length}
 use lib.Ieee.{Float}
@@ -10,13 +10,13 @@ use Rattle.lists.specs.Refusals.{valuesUnless, unless, resultOr}
 use Rattle.corner_list.specs.declared.Corner.{Corner}
 use Rattle.corner_list.specs.CornerList.{Slices, slices, placesOf, cornersOf, frontCorners}
 use Rattle.corner_list.proofs.Corners.{corners-length, corners-same}
-use Rattle.merge.specs.declared.grid.Grid.{Grid}
+use Rattle.merge_grid.specs.declared.Grid.{Grid}
 use Rattle.merge.specs.declared.Merged.{Merged}
 use Rattle.merge.specs.declared.Merged.the-variants.{Kept, Refused}
 use Rattle.merge_radius.specs.MergeRadius.{isOff}
-use Rattle.merge.specs.Grid.{gridOf, joins}
-use Rattle.merge.specs.Merge.{merged, resultOf, valuesOf, Leaves, Merges}
-use Rattle.merge.specs.Internal.{Left}
+use Rattle.merge_grid.specs.Grid.{gridOf, joins}
+use Rattle.merge_settle.specs.Settle.{merged, given, Left, Settles}
+use Rattle.merge.specs.Merge.{resultOf, valuesOf, Leaves, Merges}
 
 -- ---- what is left of a list: all of it, as it came, or what merging leaves
 -- the list is of the first n corners of b, and stands first in d
@@ -34,6 +34,13 @@ module _ (radius : Float) (b : Slices) (n : ℕ) (d : Slices) (k : ℕ) (d′ : 
     where
       same : merged (joins g) [] (cornersOf b n) ≡ resultOf radius (cornersOf b n)
       same = unfold resultOf in (rw (e, is (b .strengths) (b .neighbours)))
+
+-- a list that the buffer has places for is settled whole
+pub left-settled : (g : Grid) (apart : Bool) (own : Slices) (n : ℕ) (b : Slices) (k : ℕ) (b′ : Slices) → n ≤ placesOf b → Settles g apart own n b k b′
+    → Left (merged (joins g) [] (cornersOf (given apart own b) n)) b k b′
+left-settled g apart own n b k b′ h l =
+    let all : min n (placesOf b) ≡ n = omega arith in
+    subst (λ (m : ℕ). Left (merged (joins g) [] (cornersOf (given apart own b) m)) b k b′) all l
 
 -- all of it, where it stands, and in another buffer
 pub left-all : (b : Slices) (n : ℕ) → n ≤ placesOf b → Left (cornersOf b n) b n b

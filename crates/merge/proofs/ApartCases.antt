@@ -8,7 +8,7 @@ use lib.Ieee.{Float, nan, fin, lt, le, add, sub, mul, div, toUnsigned}
 use Rattle.lists.specs.Tab.{tab}
 use Rattle.corner_list.specs.CornerList.{Slices, slices, isInside, placesOf, cornersOf, frontCorners}
 use Rattle.merge_radius.specs.MergeRadius.{isOff, isSized}
-use Rattle.merge.specs.Grid.{gridOf, near, neighbours}
+use Rattle.merge_grid.specs.Grid.{gridOf, near, neighbours}
 use Rattle.merge.specs.Merge.{resultOf}
 use Rattle.merge.specs.Apart.{refusalApart}
 

@@ -9,8 +9,9 @@ use lib.Ieee.{Float, fin, lt, le, add, sub, mul, div, toUnsigned}
 use Rattle.float32.specs.Float32.{zero}
 use Rattle.corner_list.specs.declared.Corner.{Corner}
 use Rattle.merge_radius.specs.MergeRadius.{isOff}
-use Rattle.merge.specs.Grid.{positionOf, squared, gridOf, near, neighbours}
-use Rattle.merge.specs.Merge.{merged, resultOf}
+use Rattle.merge_grid.specs.Grid.{positionOf, squared, gridOf, near, neighbours}
+use Rattle.merge_settle.specs.Settle.{merged}
+use Rattle.merge.specs.Merge.{resultOf}
 
 module _ (s t u : Float) (k m n : ℕ) where
   abbrev first : Corner

@@ -1,12 +1,3 @@
-pub mod Judged
-pub mod Joined
-pub mod Cells
-pub mod First
-pub mod Slots
-pub mod Indexing
-pub mod Nearby
-pub mod Settle
-pub mod Stepping
 pub mod Answer
 pub mod Copying
 pub mod Separate

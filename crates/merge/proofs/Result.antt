@@ -12,10 +12,11 @@ use Rattle.corner_list.specs.CornerList.{Slices, cornersOf, frontCorners}
 use Rattle.merge.specs.declared.Merged.{Merged}
 use Rattle.merge.specs.declared.Merged.the-variants.{Kept, Refused}
 use Rattle.merge_radius.specs.MergeRadius.{isOff}
-use Rattle.merge.specs.Refusals.{refusalOf}
-use Rattle.merge.specs.Grid.{gridOf, joins}
-use Rattle.merge.specs.Merge.{stronger, settle, merged, resultOf, Leaves, Merges}
-use Rattle.merge.proofs.Settle.{settle-one}
+use Rattle.merge_refusal.specs.Refusals.{refusalOf}
+use Rattle.merge_grid.specs.Grid.{gridOf, joins}
+use Rattle.merge_settle.specs.Settle.{stronger, settle, merged}
+use Rattle.merge.specs.Merge.{resultOf, Leaves, Merges}
+use Rattle.merge_settle.proofs.Settle.{settle-one}
 use Rattle.lists.specs.Refusals.{unless, resultOr}
 
 -- ---- no corner is added

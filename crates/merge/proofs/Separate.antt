@@ -16,7 +16,7 @@ use Rattle.corner_list.proofs.Corners.{corners-front, corners-behind}
 use Rattle.merge_radius.specs.MergeRadius.{isOff, radiusOutside}
 use Rattle.merge.specs.declared.Merged.{Merged}
 use Rattle.merge.specs.declared.Merged.the-variants.{Kept, Refused}
-use Rattle.merge.specs.Refusals.{isOutside, refusalOf}
+use Rattle.merge_refusal.specs.Refusals.{isOutside, refusalOf}
 use Rattle.merge.specs.Merge.{resultOf, numberOf, Merges}
 use Rattle.merge.specs.Apart.{refusalApart, MergedApart}
 

@@ -7,7 +7,7 @@ use Rattle.lists.specs.Refusals.{lowest}
 use Rattle.corner_list.specs.CornerList.{Slices, placesOf, cornersOf}
 use Rattle.merge.specs.Merge.{resultOf, Leaves}
 use Rattle.merge.specs.declared.Merged.{Merged}
-use Rattle.merge.specs.Refusals.{conditions}
+use Rattle.merge_refusal.specs.Refusals.{conditions}
 
 -- the number (RULES 2.2), 0 for none, of merging the first `count` corners of a buffer b into a separate buffer of so many places: 4 of the counted
 -- corners that b has, however short the separate buffer; 10 where either has fewer places than the stated count, however many corners would be left

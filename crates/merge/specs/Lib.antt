@@ -1,5 +1,2 @@
-pub mod Internal
-pub mod Refusals
-pub mod Grid
 pub mod Merge
 pub mod Apart

@@ -1,35 +1,21 @@
--- Merging corners (merge.rs): each corner joins the first of the kept ones that is near and in a neighbouring cell of the grid, and replaces it
--- if it is strictly stronger; where there is none it is kept.
+-- Merging corners (RULES 8; merge.rs): the corners are settled one after the other, by the grid of the list.
 use Prim.Native.Nat.{ℕ}
 use mathlib.Core.Path.{_≡_}
-use mathlib.Core.Bool.{Bool, cond}
+use mathlib.Core.Bool.{cond}
 use mathlib.Core.List.{List, [], _∷_}
 use lib.ListN.{length}
-use lib.Ieee.{Float, lt}
+use lib.Ieee.{Float}
 use Rattle.lists.specs.Refusals.{valuesUnless, unless, resultOr}
 use Rattle.corner_list.specs.declared.Corner.{Corner}
 use Rattle.corner_list.specs.CornerList.{Slices, cornersOf, frontCorners}
 use Rattle.merge_radius.specs.MergeRadius.{isOff}
-unfoldable pub use Rattle.merge.specs.Refusals.{refusalOf}
-use Rattle.merge.specs.Grid.{joins, gridOf}
+unfoldable pub use Rattle.merge_refusal.specs.Refusals.{refusalOf}
+use Rattle.merge_settle.specs.Settle.{merged}
+use Rattle.merge_grid.specs.Grid.{joins, gridOf}
 use Rattle.merge.specs.declared.Merged.{Merged}
 use Rattle.merge.specs.declared.Merged.the-variants.{Kept, Refused}
 
 -- ---- the list that is left
-
--- c if it is strictly stronger than o, else o; either comes with its own neighbours
-abbrev pub stronger : Corner → Corner → Corner
-stronger c o = cond (lt (o .strength) (c .strength)) c o
-
--- the kept corners with c: it replaces the first that it joins, in its place, or is dropped; where it joins none it comes last
-abbrev pub settle : (Corner → Corner → Bool) → List Corner → Corner → List Corner
-settle j [] c = c ∷ []
-settle j (o ∷ kept) c = cond (j c o) (stronger c o ∷ kept) (o ∷ settle j kept c)
-
--- the kept corners with each of a list, in its order
-abbrev pub merged : (Corner → Corner → Bool) → List Corner → List Corner → List Corner
-merged j kept [] = kept
-merged j kept (c ∷ cs) = merged j (settle j kept c) cs
 
 -- what is left of a list of corners; an off radius leaves it as it came
 unfoldable pub resultOf : Float → List Corner → List Corner

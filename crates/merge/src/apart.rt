@@ -3,9 +3,9 @@
 ghost use mathlib.Core.Path.{_≡_};
 ghost use Prim.Native.Nat.{_≤_};
 ghost use Rattle.corner_list.specs.CornerList.{slices, cornersOf, placesOf, frontCorners};
+ghost use Rattle.merge_settle.specs.Settle.{Left};
 ghost use Rattle.merge.specs.Merge.{resultOf};
-ghost use Rattle.merge.specs.Apart.{MergedApart};
-ghost use Rattle.merge.specs.Internal.{Left};
+ghost use Rattle.merge.specs.Apart.{refusalApart, MergedApart};
 use crate::Merged;
 
 // Copies the first n corners of a buffer into another.
@@ -53,22 +53,27 @@ fn merge_into(
         copy_list(xs, ys, strengths, neighbours, n, mx, my, ms, mn);
         return n;
     }
-    let g = crate::grid::grid_of(xs, ys, n, radius);
-    let s = crate::settling::merge_up_to(
-        xs,
-        ys,
-        strengths,
-        neighbours,
-        true,
-        mx,
-        my,
-        ms,
-        mn,
-        g,
-        n,
-        n,
-    );
-    s.kept
+    let g = merge_grid::grid_of(xs, ys, n, radius);
+    merge_settle::settle_list(xs, ys, strengths, neighbours, true, mx, my, ms, mn, g, n)
+}
+
+// The number of the refusal of merging the first `count` corners of a buffer into a separate one of so many places, 0 for none.
+fn refusal_apart(
+    xs: &[f32],
+    ys: &[f32],
+    strengths: &[f32],
+    neighbours: &[u32],
+    places: usize,
+    count: usize,
+    radius: f32,
+) -> u8
+    ensures { λ r. ⌜ r ≡ refusalApart radius places count (slices (now (xs .entry)) (now (ys .entry)) (now (strengths .entry)) (now (neighbours .entry))) ⌝ }
+{
+    let number = merge_refusal::refusal(xs, ys, strengths, neighbours, xs.len(), count, radius);
+    if number != 0 {
+        return number;
+    }
+    if places < count { 10 } else { 0 }
 }
 
 // Leaves in a separate buffer what merging the first `count` corners of a buffer in place would leave there.
@@ -89,15 +94,7 @@ pub fn merge_apart(
         (slices (now (mx .exit)) (now (my .exit)) (now (ms .exit)) (now (mn .exit))) ⌝ }
 {
     let places = corner_list::places(mx.len(), my.len(), ms.len(), mn.len());
-    let number = crate::refusing::refusal_apart(
-        xs,
-        ys,
-        strengths,
-        neighbours,
-        places,
-        count,
-        radius,
-    );
+    let number = refusal_apart(xs, ys, strengths, neighbours, places, count, radius);
     if number != 0 {
         return Merged::Refused(number);
     }

@@ -3,20 +3,51 @@
 // its own neighbours, if it is strictly stronger, and is dropped if not; where there is none it is kept behind the others. So two corners nearer
 // than the radius may both stay, and the strongest of several need not: the grid decides who is looked at, and the list's order who is joined.
 pub mod apart; // merge_apart: the list that merging would leave, in a separate buffer
-pub mod grid; // where a corner is, and which corners join
-mod index;
-pub mod refusing; // refusal: the number of a call
-mod search;
-mod settling;
 
-ghost use Prim.Native.Nat.{min};
-ghost use Rattle.corner_list.specs.CornerList.{slices, placesOf};
-ghost use Rattle.merge.specs.Merge.{Merges};
+ghost use Prim.Native.Nat.{_≤_, min};
+ghost use Rattle.corner_list.specs.CornerList.{slices, cornersOf, placesOf};
+ghost use Rattle.merge_settle.specs.Settle.{Left};
+ghost use Rattle.merge.specs.Merge.{resultOf, Merges};
 
 // The answer of merging: how many corners are left, or the number of the refusal.
 pub enum Merged {
     Kept(usize),
     Refused(u8),
+}
+
+// Merges the first n corners of a buffer in place, and returns how many are left. It refuses nothing.
+fn merge_list(
+    xs: &mut [f32],
+    ys: &mut [f32],
+    strengths: &mut [f32],
+    neighbours: &mut [u32],
+    n: usize,
+    radius: f32,
+) -> usize
+    requires { ⌜ n ≤ placesOf (slices (now xs) (now ys) (now strengths) (now neighbours)) ⌝ }
+    ensures { λ k. ⌜ Left (resultOf radius (cornersOf (slices (now (xs .entry)) (now (ys .entry)) (now (strengths .entry)) (now (neighbours .entry))) n))
+        (slices (now (xs .entry)) (now (ys .entry)) (now (strengths .entry)) (now (neighbours .entry))) k
+        (slices (now (xs .exit)) (now (ys .exit)) (now (strengths .exit)) (now (neighbours .exit))) ⌝ }
+{
+    if merge_radius::is_off(radius) {
+        return n;
+    }
+    let g = merge_grid::grid_of(xs, ys, n, radius);
+    let none: [f32; 0] = [0.0; 0];
+    let no_counts: [u32; 0] = [0; 0];
+    merge_settle::settle_list(
+        &none,
+        &none,
+        &none,
+        &no_counts,
+        false,
+        xs,
+        ys,
+        strengths,
+        neighbours,
+        g,
+        n,
+    )
 }
 
 // Merges the first `count` corners of a buffer of at most `places` places.
@@ -33,11 +64,11 @@ pub fn merge_within(
         (slices (now (xs .entry)) (now (ys .entry)) (now (strengths .entry)) (now (neighbours .entry))) r
         (slices (now (xs .exit)) (now (ys .exit)) (now (strengths .exit)) (now (neighbours .exit))) ⌝ }
 {
-    let number = crate::refusing::refusal(xs, ys, strengths, neighbours, places, count, radius);
+    let number = merge_refusal::refusal(xs, ys, strengths, neighbours, places, count, radius);
     if number != 0 {
         return Merged::Refused(number);
     }
-    Merged::Kept(settling::merge_list(xs, ys, strengths, neighbours, count, radius))
+    Merged::Kept(merge_list(xs, ys, strengths, neighbours, count, radius))
 }
 
 // Merges the first `count` corners of a buffer in place, as the Rust's `merge_corners_simple`.

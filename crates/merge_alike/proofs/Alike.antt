@@ -14,9 +14,9 @@ use Rattle.corner_list.specs.CornerList.{Slices, placesOf, cornersOf, frontCorn
 use Rattle.merge_radius.specs.MergeRadius.{isOff}
 use Rattle.merge.specs.declared.Merged.{Merged}
 use Rattle.merge.specs.declared.Merged.the-variants.{Kept, Refused}
-use Rattle.merge.specs.Refusals.{refusalOf}
+use Rattle.merge_refusal.specs.Refusals.{refusalOf}
 use Rattle.merge.specs.Merge.{resultOf, numberOf, Leaves, Merges}
-use Rattle.merge.proofs.Judged.{judged-fits, judged-allowed}
+use Rattle.merge_refusal.proofs.Judged.{judged-fits, judged-allowed}
 use Rattle.merge_naive.specs.MergeNaive.{naiveOf, MergesNaive}
 use Rattle.merge_alike.specs.Alike.{IsPower, OnMultiples}
 use Rattle.merge_alike.proofs.Multiples.{placed}

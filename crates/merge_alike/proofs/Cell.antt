@@ -17,7 +17,7 @@ use Rattle.float32.proofs.Values.{Sized, sized, plus-of-above, mul-frac}
 use Rattle.float32.proofs.Approx.{sub-exact, round-exact-at, frac-exact}
 use Rattle.float32.proofs.Bounds.{div-round}
 use Rattle.float32.proofs.Truncation.{cut-value}
-use Rattle.merge.specs.Grid.{cellOf, adjacent}
+use Rattle.merge_grid.specs.Grid.{cellOf, adjacent}
 use Rattle.merge_alike.specs.Alike.{IsPower}
 use Rattle.merge_alike.proofs.Multiples.{Sixtyfourths}
 use Rattle.merge_alike.proofs.Distance.{apart}

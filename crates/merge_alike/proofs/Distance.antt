@@ -18,8 +18,8 @@ use Rattle.float32.proofs.Values.{Sized, sized, mul-round}
 use Rattle.float32.proofs.Units.{Units, Small, rounded, units-near, round-units, add-units}
 use Rattle.float32.proofs.Approx.{sub-exact}
 use Rattle.float32.proofs.Bounds.{value-le}
-use Rattle.merge.specs.declared.grid.Position.{Position}
-use Rattle.merge.specs.Grid.{squared, near}
+use Rattle.merge_grid.specs.declared.Position.{Position}
+use Rattle.merge_grid.specs.Grid.{squared, near}
 use Rattle.merge_alike.proofs.Multiples.{Sixtyfourths}
 
 -- ---- the square of a / 64, in units of 2 ^ -149: 1 / 4,096 is U of them

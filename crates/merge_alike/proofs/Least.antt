@@ -11,7 +11,7 @@ use lib.Ieee.{Float, nan, inf, fin, lt}
 use Rattle.lists.specs.Places.{All}
 use Rattle.float32.specs.Value.{IsValue}
 use Rattle.float32.proofs.Values.{lt-value}
-use Rattle.merge.specs.Grid.{leastFrom}
+use Rattle.merge_grid.specs.Grid.{leastFrom}
 use Rattle.merge_alike.proofs.Multiples.{Sixtyfourths, only-count}
 
 -- at most x, in 64ths, however these are counted

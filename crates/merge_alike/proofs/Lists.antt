@@ -13,9 +13,9 @@ use Rattle.lists.proofs.Members.{all-map, all-mapped, all-unmapped, all-both}
 use Rattle.float32.specs.Value.{IsValue}
 use Rattle.corner_list.specs.declared.Corner.{Corner}
 use Rattle.corner_list.specs.CornerList.{xOf, yOf}
-use Rattle.merge.specs.declared.grid.Grid.{Grid}
-use Rattle.merge.specs.Grid.{positionOf, squared, near, neighbours, joins, gridOf}
-use Rattle.merge.specs.Merge.{settle, merged}
+use Rattle.merge_grid.specs.declared.Grid.{Grid}
+use Rattle.merge_grid.specs.Grid.{positionOf, squared, near, neighbours, joins, gridOf}
+use Rattle.merge_settle.specs.Settle.{settle, merged}
 use Rattle.merge.proofs.Result.{settle-all}
 use Rattle.merge_naive.specs.MergeNaive.{nearBy}
 use Rattle.merge_alike.specs.Alike.{IsPower}

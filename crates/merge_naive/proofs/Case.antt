@@ -12,9 +12,9 @@ use Rattle.corner_list.proofs.Corners.{corners-front}
 use Rattle.merge_radius.specs.MergeRadius.{isOff, isSized}
 use Rattle.merge.specs.declared.Merged.{Merged}
 use Rattle.merge.specs.declared.Merged.the-variants.{Kept}
-use Rattle.merge.specs.Refusals.{refusalOf}
+use Rattle.merge_refusal.specs.Refusals.{refusalOf}
 use Rattle.merge.specs.Merge.{resultOf, Leaves, Merges}
-use Rattle.merge.proofs.Judged.{judged-none-on}
+use Rattle.merge_refusal.proofs.Judged.{judged-none-on}
 use Rattle.merge.proofs.Result.{leaves-done}
 use Rattle.merge.proofs.Cases.{all-stay, two-by-distance}
 use Rattle.merge_naive.specs.MergeNaive.{naiveOf, MergesNaive}

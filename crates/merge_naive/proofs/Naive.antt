@@ -12,10 +12,10 @@ use Rattle.corner_list.proofs.Corners.{corners-length, corners-same}
 use Rattle.merge_radius.specs.MergeRadius.{isOff}
 use Rattle.merge.specs.declared.Merged.{Merged}
 use Rattle.merge.specs.declared.Merged.the-variants.{Kept}
-use Rattle.merge.specs.Grid.{squared}
-use Rattle.merge.specs.Merge.{merged}
-use Rattle.merge.specs.Internal.{Left}
-use Rattle.merge.proofs.Judged.{judged-none-off}
+use Rattle.merge_grid.specs.Grid.{squared}
+use Rattle.merge_settle.specs.Settle.{merged}
+use Rattle.merge_settle.specs.Settle.{Left}
+use Rattle.merge_refusal.proofs.Judged.{judged-none-off}
 use Rattle.merge.proofs.Answer.{left-all}
 use Rattle.merge.proofs.Result.{leaves-done}
 use Rattle.merge_naive.specs.MergeNaive.{nearBy, naiveOf, MergesNaive}

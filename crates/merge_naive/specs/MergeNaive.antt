@@ -8,9 +8,10 @@ use Rattle.corner_list.specs.declared.Corner.{Corner}
 use Rattle.corner_list.specs.CornerList.{Slices, placesOf, cornersOf}
 use Rattle.merge_radius.specs.MergeRadius.{isOff}
 use Rattle.merge.specs.declared.Merged.{Merged}
-use Rattle.merge.specs.Refusals.{refusalOf}
-use Rattle.merge.specs.Grid.{positionOf, squared, near}
-use Rattle.merge.specs.Merge.{merged, Leaves}
+use Rattle.merge_refusal.specs.Refusals.{refusalOf}
+use Rattle.merge_grid.specs.Grid.{positionOf, squared, near}
+use Rattle.merge_settle.specs.Settle.{merged}
+use Rattle.merge.specs.Merge.{Leaves}
 
 -- two corners that join: their squared distance is at most the radius squared, which is given, in f32 (RULES 31.1)
 abbrev pub nearBy : Float → Corner → Corner → Bool

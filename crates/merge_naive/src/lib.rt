@@ -5,12 +5,13 @@
 ghost use mathlib.Core.Path.{_≡_};
 ghost use Prim.Native.Nat.{_<_, _≤_};
 ghost use Rattle.corner_list.specs.CornerList.{slices, placesOf, cornersOf};
-ghost use Rattle.merge.specs.Grid.{positionAt, near};
-ghost use Rattle.merge.specs.Internal.{IsFirst, Takes, Settled, Left};
+ghost use Rattle.merge_grid.specs.Grid.{positionAt, near};
+ghost use Rattle.merge_settle.specs.Settle.{Left};
+ghost use Rattle.merge_settle.specs.Internal.{IsFirst, Takes, Settled};
 ghost use Rattle.merge_naive.specs.MergeNaive.{nearBy, naiveOf, MergesNaive};
 use corner_list::Corner;
 use merge::Merged;
-use merge::grid::Position;
+use merge_grid::Position;
 
 // What stands for no place: no buffer has it.
 const NOWHERE: usize = 18446744073709551615;
@@ -20,7 +21,7 @@ fn first_near(xs: &[f32], ys: &[f32], square: f32, k: usize, p: Position) -> usi
     ensures { λ r. ⌜ IsFirst (λ i. near square p (positionAt (now (xs .entry)) (now (ys .entry)) i)) k r ⌝ }
 {
     for i in 0..k {
-        if merge::grid::is_near(square, p, merge::grid::position_at(xs, ys, i)) {
+        if merge_grid::is_near(square, p, merge_grid::position_at(xs, ys, i)) {
             return i;
         }
     }
@@ -41,7 +42,7 @@ fn place_for(
     requires { ⌜ k < placesOf (slices (now xs) (now ys) (now strengths) (now neighbours)) ⌝ }
     ensures { λ r. ⌜ Takes (nearBy square) k c (slices (now (xs .entry)) (now (ys .entry)) (now (strengths .entry)) (now (neighbours .entry))) r ⌝ }
 {
-    let i = first_near(xs, ys, square, k, merge::grid::position_of(c));
+    let i = first_near(xs, ys, square, k, merge_grid::position_of(c));
     if k <= i {
         return k;
     }
@@ -109,7 +110,7 @@ pub fn merge_corners_naive(
     ensures { λ r. ⌜ MergesNaive radius count (slices (now (xs .entry)) (now (ys .entry)) (now (strengths .entry)) (now (neighbours .entry))) r
         (slices (now (xs .exit)) (now (ys .exit)) (now (strengths .exit)) (now (neighbours .exit))) ⌝ }
 {
-    let number = merge::refusing::refusal(xs, ys, strengths, neighbours, xs.len(), count, radius);
+    let number = merge_refusal::refusal(xs, ys, strengths, neighbours, xs.len(), count, radius);
     if number != 0 {
         return Merged::Refused(number);
     }

@@ -14,7 +14,7 @@ use Rattle.corner_list.specs.CornerList.{Slices, slices, xOf, yOf, strengthOf, 
 use Rattle.corner_list.proofs.Corners.{slices-alike, corners-length, corners-at}
 use Rattle.merge.specs.declared.Merged.{Merged}
 use Rattle.merge.specs.Merge.{resultOf, refusalOf, Merges}
-use Rattle.merge.proofs.Judged.{judged-fits}
+use Rattle.merge_refusal.proofs.Judged.{judged-fits}
 use Rattle.merge_slice.specs.MergeSlice.{refusalFor, MergesSlice}
 use Rattle.merge_slice.proofs.Turns.{nowhere, take-counted}
 use Rattle.merge.specs.declared.Merged.the-variants.{Kept, Refused}

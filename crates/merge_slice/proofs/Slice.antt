@@ -22,8 +22,8 @@ use Rattle.corner_list.specs.CornerList.{Slices, xOf, yOf, strengthOf, neighbou
 use Rattle.corner_list.proofs.Corners.{slices-alike, same-places, corners-length, corners-front, corners-same, corners-again}
 use Rattle.corner_list.proofs.Corners.{front-xs, front-ys, front-strengths, front-neighbours}
 use Rattle.merge_radius.specs.MergeRadius.{isOff, radiusOutside}
-use Rattle.merge.specs.Refusals.{isOutside}
-use Rattle.merge.proofs.Judged.{judged-fits}
+use Rattle.merge_refusal.specs.Refusals.{isOutside}
+use Rattle.merge_refusal.proofs.Judged.{judged-fits}
 use Rattle.merge.specs.declared.Merged.{Merged}
 use Rattle.merge.specs.declared.Merged.the-variants.{Refused, Kept}
 use Rattle.merge.specs.Merge.{resultOf, refusalOf, numberOf, valuesOf, Merges}

@@ -16,7 +16,7 @@ use Rattle.lists.proofs.Places.{any-append}
 use Rattle.corner_list.specs.declared.Corner.{Corner}
 use Rattle.corner_list.specs.CornerList.{Slices, cornerAt, cornersOf, frontCorners}
 use Rattle.corner_list.proofs.Corners.{corners-length, corners-behind}
-use Rattle.merge.specs.Refusals.{isOutside}
+use Rattle.merge_refusal.specs.Refusals.{isOutside}
 
 -- what a place past the end of a slice of corners is taken for
 abbrev pub nowhere : Corner

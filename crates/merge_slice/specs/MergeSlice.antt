@@ -12,7 +12,7 @@ use Rattle.corner_list.specs.CornerList.{Slices, placesOf}
 use Rattle.merge.specs.declared.Merged.{Merged}
 use Rattle.merge.specs.Merge.{resultOf, numberOf, valuesOf}
 use Rattle.merge.specs.declared.Merged.the-variants.{Kept, Refused}
-use Rattle.merge.specs.Refusals.{conditions}
+use Rattle.merge_refusal.specs.Refusals.{conditions}
 
 -- how many corners there is a place for: in the slice of corners and in each of the scratch
 abbrev pub sharedPlaces : List Corner → Slices → ℕ

@@ -8,7 +8,7 @@ ghost use Rattle.lists.specs.Buffer.{front};
 ghost use Rattle.lists.specs.Places.{any};
 ghost use Rattle.corner_list.specs.CornerList.{slices, placesOf, cornersOf, frontCorners};
 ghost use Rattle.merge_radius.specs.MergeRadius.{isOff};
-ghost use Rattle.merge.specs.Refusals.{isOutside};
+ghost use Rattle.merge_refusal.specs.Refusals.{isOutside};
 ghost use Rattle.merge.specs.declared.Merged.the-variants.{Refused};
 ghost use Rattle.merge_slice.specs.MergeSlice.{MergesSlice};
 use corner_list::Corner;

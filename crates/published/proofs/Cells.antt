@@ -22,7 +22,7 @@ use Rattle.corner_list.specs.declared.Corner.{Corner}
 use Rattle.corner_list.specs.CornerList.{xOf, yOf, largestSide}
 use Rattle.corner_list.proofs.Inside.{inside-parts}
 use Rattle.merge_radius.specs.MergeRadius.{isSized}
-use Rattle.merge.specs.Grid.{cellOf, leastFrom, gridOf}
+use Rattle.merge_grid.specs.Grid.{cellOf, leastFrom, gridOf}
 use Rattle.published.specs.Rust.{wholeFloat, floorF, cutUsize}
 use Rattle.published.specs.PyramidRs.{one32}
 use Rattle.published.specs.MergeRs.{greatestFrom, gridRs, sideRs, cellRs, CellsAsPublished}

@@ -15,7 +15,7 @@ use Rattle.lists.proofs.Tests.{to-T-not}
 use Rattle.lists.proofs.Members.{all-both}
 use Rattle.float32.specs.Float32.{zero}
 use Rattle.float32.proofs.Values.{le-not-lt}
-use Rattle.merge.specs.Grid.{leastFrom}
+use Rattle.merge_grid.specs.Grid.{leastFrom}
 use Rattle.published.specs.MergeRs.{greatestFrom}
 use Rattle.published.proofs.Monotone.{Is, is-scaled, order, own-is}
 

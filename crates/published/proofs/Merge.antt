@@ -16,9 +16,10 @@ use Rattle.corner_list.specs.CornerList.{xOf, yOf, isInside, cornersOf}
 use Rattle.corner_list.proofs.Inside.{inside-parts}
 use Rattle.corner_list.proofs.Corners.{corners-length}
 use Rattle.merge_radius.specs.MergeRadius.{isOff, isSized}
-use Rattle.merge.specs.Grid.{joins, leastFrom, gridOf}
-use Rattle.merge.specs.Merge.{merged, resultOf}
-use Rattle.merge.proofs.Judged.{judged-allowed}
+use Rattle.merge_grid.specs.Grid.{joins, leastFrom, gridOf}
+use Rattle.merge_settle.specs.Settle.{merged}
+use Rattle.merge.specs.Merge.{resultOf}
+use Rattle.merge_refusal.proofs.Judged.{judged-allowed}
 use Rattle.published.specs.MergeRs.{greatestFrom, GridRs, gridRs, indexRs, noHit, mergeRs, MergeAsPublished}
 use Rattle.published.proofs.Extremes.{Plain, extremes}
 use Rattle.published.proofs.Cells.{coordinate, cells-as-published}

@@ -4,8 +4,8 @@ use mathlib.Core.Bool.{Bool, true, false, cond}
 use mathlib.Core.List.{List, [], _∷_, _++_}
 use lib.Ieee.{Float, lt}
 use Rattle.corner_list.specs.declared.Corner.{Corner}
-use Rattle.merge.specs.Grid.{positionOf, squared, near}
-use Rattle.merge.specs.Merge.{stronger, settle, merged}
+use Rattle.merge_grid.specs.Grid.{positionOf, squared, near}
+use Rattle.merge_settle.specs.Settle.{stronger, settle, merged}
 use Rattle.merge_naive.specs.MergeNaive.{nearBy}
 use Rattle.merge_naive.proofs.Naive.{naive-on}
 use Rattle.published.specs.MergeRs.{closeRs, ScannedRs, scanRs, naiveLoopRs, NaiveAsPublished}

@@ -12,8 +12,8 @@ use borrow.Author.Tests.{le-leb, leb-true}
 use Rattle.lists.specs.Places.{flatMap}
 use Rattle.lists.proofs.Tests.{and-parts}
 use Rattle.corner_list.specs.declared.Corner.{Corner}
-use Rattle.merge.specs.declared.grid.Grid.{Grid}
-use Rattle.merge.specs.Grid.{positionOf, columnOf, rowOf, adjacent, neighbours}
+use Rattle.merge_grid.specs.declared.Grid.{Grid}
+use Rattle.merge_grid.specs.Grid.{positionOf, columnOf, rowOf, adjacent, neighbours}
 use Rattle.published.specs.MergeRs.{GridRs, widthRs, heightRs, columnRs, rowRs, indexRs, outAt, aroundRs, scannedRs}
 use Rattle.published.proofs.Indices.{In, range-in, in-range}
 use Rattle.published.proofs.Grid.{Holds}

@@ -14,10 +14,10 @@ use borrow.Author.Tests.{eqb-true, eqb-false}
 use Rattle.lists.specs.Places.{All}
 use Rattle.lists.proofs.Tests.{and-parts}
 use Rattle.corner_list.specs.declared.Corner.{Corner}
-use Rattle.merge.specs.declared.grid.Grid.{Grid}
-use Rattle.merge.specs.Grid.{positionOf, near, neighbours, joins}
-use Rattle.merge.specs.Merge.{stronger, settle, merged}
-use Rattle.merge.proofs.Settle.{settle-none, settle-some, settle-one}
+use Rattle.merge_grid.specs.declared.Grid.{Grid}
+use Rattle.merge_grid.specs.Grid.{positionOf, near, neighbours, joins}
+use Rattle.merge_settle.specs.Settle.{stronger, settle, merged}
+use Rattle.merge_settle.proofs.Settle.{settle-none, settle-some, settle-one}
 use Rattle.published.specs.MergeRs.{GridRs, StateRs, widthRs, indexRs, columnRs, rowRs, nowhere, outAt}
 use Rattle.published.specs.MergeRs.{scannedRs, closeRs, bestRs, noHit, pushRs, movedRs, replaceRs, turnRs, loopRs}
 use Rattle.published.proofs.Indices.{In, Best, best-is}

@@ -13,8 +13,8 @@ use Rattle.float32.specs.Float32.{zero}
 use Rattle.corner_list.specs.declared.Corner.{Corner}
 use Rattle.corner_list.specs.CornerList.{Slices, xOf, yOf, isInside, cornersOf}
 use Rattle.merge_radius.specs.MergeRadius.{isOff, isSized}
-use Rattle.merge.specs.Refusals.{refusalOf}
-use Rattle.merge.specs.Grid.{leastFrom, positionOf, columnOf, rowOf, gridOf}
+use Rattle.merge_refusal.specs.Refusals.{refusalOf}
+use Rattle.merge_grid.specs.Grid.{leastFrom, positionOf, columnOf, rowOf, gridOf}
 use Rattle.merge.specs.Merge.{resultOf}
 use Rattle.merge_naive.specs.MergeNaive.{naiveOf}
 use Rattle.published.specs.Rust.{floorF, cutUsize}

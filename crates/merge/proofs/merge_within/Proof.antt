@@ -3,7 +3,7 @@ mod Landmarks
 use borrow.Author.Needs.{needs}
 use native.Mathlib.Omega.{arith}
 use mathlib.Core.Path.{sym, _∙_}
-use Rattle.merge.proofs.Judged.{judged-fits}
+use Rattle.merge_refusal.proofs.Judged.{judged-fits}
 use Rattle.merge.proofs.Answer.{leaves-refused, leaves-kept}
 use Rattle.merge.proofs.merge_within.Statement.{statement}
 use Rattle.merge.proofs.merge_within.Tie as tie

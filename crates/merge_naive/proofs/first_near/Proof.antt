@@ -5,7 +5,7 @@ use Prim.Native.Nat.{ℕ, _-_, _<_, _≤_}
 use native.Mathlib.Omega.{arith}
 use mathlib.Core.Path.{_≡_, sym, ap, _∙_}
 use mathlib.Core.Bool.{true, false≢true}
-use Rattle.merge.specs.Grid.{positionAt, near}
+use Rattle.merge_grid.specs.Grid.{positionAt, near}
 use Rattle.merge_naive.proofs.first_near.Statement.{statement}
 use Rattle.merge_naive.proofs.first_near.Tie as tie
 

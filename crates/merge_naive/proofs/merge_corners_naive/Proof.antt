@@ -4,8 +4,8 @@ use borrow.Author.Needs.{needs}
 use native.Mathlib.Omega.{arith}
 use mathlib.Core.Path.{_≡_, sym, _∙_}
 use Rattle.corner_list.specs.CornerList.{slices, placesOf}
-use Rattle.merge.specs.Refusals.{refusalOf}
-use Rattle.merge.proofs.Judged.{judged-held, judged-fits}
+use Rattle.merge_refusal.specs.Refusals.{refusalOf}
+use Rattle.merge_refusal.proofs.Judged.{judged-held, judged-fits}
 use Rattle.merge.proofs.Answer.{leaves-refused, leaves-kept}
 use Rattle.merge_naive.proofs.merge_corners_naive.Statement.{statement}
 use Rattle.merge_naive.proofs.merge_corners_naive.Tie as tie

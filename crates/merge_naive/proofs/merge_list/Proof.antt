@@ -6,8 +6,8 @@ use native.Mathlib.Omega.{arith}
 use mathlib.Core.Path.{sym, _∙_}
 use mathlib.Core.Bool.{false}
 use Rattle.corner_list.specs.CornerList.{slices}
-use Rattle.merge.specs.Internal.{start, step, Comes}
-use Rattle.merge.proofs.Stepping.{comes-none, comes-xs, comes-ys, comes-strengths, comes-neighbours, comes-fits, comes-turn, reaches-end, reaches-all}
+use Rattle.merge_settle.specs.Internal.{start, step, Comes}
+use Rattle.merge_settle.proofs.Stepping.{comes-none, comes-xs, comes-ys, comes-strengths, comes-neighbours, comes-fits, comes-turn, reaches-end, reaches-all}
 use Rattle.merge_naive.specs.MergeNaive.{nearBy}
 use Rattle.merge_naive.proofs.Naive.{left-off, left-on}
 use Rattle.merge_naive.proofs.merge_list.Statement.{statement}

@@ -4,10 +4,10 @@ use borrow.Author.Needs.{needs}
 use native.Mathlib.Omega.{arith}
 use mathlib.Core.Path.{subst}
 use Rattle.corner_list.specs.CornerList.{slices, cornerAt}
-use Rattle.merge.specs.declared.grid.Position.{Position}
-use Rattle.merge.specs.Grid.{positionAt, near}
-use Rattle.merge.specs.Internal.{IsFirst}
-use Rattle.merge.proofs.Settle.{takes-new, takes-stronger, takes-none}
+use Rattle.merge_grid.specs.declared.Position.{Position}
+use Rattle.merge_grid.specs.Grid.{positionAt, near}
+use Rattle.merge_settle.specs.Internal.{IsFirst}
+use Rattle.merge_settle.proofs.Settle.{takes-new, takes-stronger, takes-none}
 use Rattle.merge_naive.specs.MergeNaive.{nearBy}
 use Rattle.merge_naive.proofs.place_for.Statement.{statement}
 use Rattle.merge_naive.proofs.place_for.Tie as tie

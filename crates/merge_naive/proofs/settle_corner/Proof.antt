@@ -3,7 +3,7 @@ mod Landmarks
 use borrow.Author.Needs.{needs}
 use borrow.Author.Tests.{eq-eqb, ne-eqb}
 use native.Mathlib.Omega.{arith}
-use Rattle.merge.proofs.Settle.{settled-put}
+use Rattle.merge_settle.proofs.Settle.{settled-put}
 use Rattle.merge_naive.proofs.settle_corner.Statement.{statement}
 use Rattle.merge_naive.proofs.settle_corner.Tie as tie
 use Landmarks.*

@@ -63,7 +63,7 @@ use Rattle.corner_list.specs.declared.Corner.{Corner}
 use Rattle.corner_list.specs.CornerList.{xOf, yOf, strengthOf, neighboursOf}
 use Rattle.corner_list.proofs.Corner as T
 use Rattle.corner_list.proofs.Corner.Laws as T′
-use Rattle.merge.specs.Refusals.{isOutside}
+use Rattle.merge_refusal.specs.Refusals.{isOutside}
 use Rattle.merge_slice.proofs.Turns.{nowhere, outsideUpto, outside-turn}
 use Rattle.merge_slice.proofs.Turns.{take-counted}
 use Rattle.numbers.proofs.lesser as lesser

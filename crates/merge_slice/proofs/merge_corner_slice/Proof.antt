@@ -56,7 +56,7 @@ use Rattle.corner_list.specs.declared.Corner.{Corner}
 use Rattle.corner_list.specs.CornerList.{Slices, slices, placesOf, cornersOf, frontCorners}
 use Rattle.corner_list.proofs.Corner as T
 use Rattle.merge_radius.specs.MergeRadius.{isOff}
-use Rattle.merge.specs.Refusals.{isOutside}
+use Rattle.merge_refusal.specs.Refusals.{isOutside}
 use Rattle.merge.specs.declared.Merged.{Merged}
 use Rattle.merge.specs.declared.Merged.the-variants.{Refused}
 use Rattle.merge.specs.Merge.{Merges}

@@ -2,9 +2,9 @@
 mod Landmarks
 use borrow.Author.Needs.{needs}
 use mathlib.Core.Path.{sym, _∙_}
+use mathlib.Core.Bool.{true}
 use Rattle.corner_list.specs.CornerList.{Slices, slices}
-use Rattle.merge.proofs.Stepping.{reaches-all}
-use Rattle.merge.proofs.Answer.{left-off, left-on, left-copied}
+use Rattle.merge.proofs.Answer.{left-off, left-on, left-copied, left-settled}
 use Rattle.merge.proofs.apart.merge_into.Statement.{statement}
 use Rattle.merge.proofs.apart.merge_into.Tie as tie
 use Landmarks.*
@@ -41,8 +41,8 @@ returns c =
 grid-of-requires : tie.Need-grid-of-requires
 grid-of-requires c κs = search needs
 
-merge-up-to-requires : tie.Need-merge-up-to-requires
-merge-up-to-requires c κs = search needs
+settle-list-requires : tie.Need-settle-list-requires
+settle-list-requires c κs = search needs
 
 same-length-5 : tie.Need-same-length-5
 same-length-5 c = search needs
@@ -58,11 +58,12 @@ same-length-8 c = search needs
 
 returns-2 : tie.Need-returns-2
 returns-2 c =
-    let done = merge-up-to-from-returns-2 c in
+    let done = settle-list-from-returns-2 c in
     let made = grid-of-from-returns-2 c in
     let on = if1-from-returns-2 c in
-    left-on _ (list (start-from-returns-2 c)) _ _ _ _ _ (sym (on .before .is-off .ensures) ∙ on .if1 .left) (made .grid-of .ensures)
-    (reaches-all _ _ _ _ _ _ _ (done .merge-up-to .ensures))
+    let s = start-from-returns-2 c in
+    left-on _ (list s) _ _ _ _ _ (sym (on .before .is-off .ensures) ∙ on .if1 .left) (made .grid-of .ensures)
+    (left-settled (made .grid-of .result) true (list s) _ _ _ _ (s .pre) (done .settle-list .ensures))
 
 pub merge-into-spec : {M : Type 1} → statement M
 merge-into-spec =
@@ -76,7 +77,7 @@ merge-into-spec =
     same-length-4
     returns
     grid-of-requires
-    merge-up-to-requires
+    settle-list-requires
     same-length-5
     same-length-6
     same-length-7

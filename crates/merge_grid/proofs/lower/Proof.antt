@@ -1,0 +1,12 @@
+-- `merge_grid::lower` meets its contract. Assumes nothing.
+use Rattle.merge_grid.proofs.lower.Statement.{statement}
+use Rattle.merge_grid.proofs.lower.Tie as tie
+
+returns : tie.Need-returns
+returns c = rw (c .if1 .taken)
+
+returns-2 : tie.Need-returns-2
+returns-2 c = rw (c .if1 .left)
+
+pub lower-spec : {M : Type 1} → statement M
+lower-spec = tie.close (tie.spec returns returns-2)

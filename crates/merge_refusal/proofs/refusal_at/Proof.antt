@@ -1,0 +1,77 @@
+-- `merge_refusal::refusal_at` meets its contract: each return by the tests on the way. Assumes nothing.
+mod Landmarks
+use borrow.Author.Needs.{needs}
+use Prim.Native.Nat.{ℕ, min}
+use mathlib.Core.Path.{_≡_, sym, ap, _∙_}
+use Rattle.lists.specs.Places.{any}
+use Rattle.corner_list.specs.CornerList.{slices, cornersOf}
+use Rattle.merge_refusal.specs.Refusals.{isOutside}
+use Rattle.merge_refusal.proofs.Judged.{judged-off, judged-corner, judged-radius, judged-count}
+use Rattle.merge_refusal.proofs.refusal_at.Statement.{statement}
+use Rattle.merge_refusal.proofs.refusal_at.Tie as tie
+use Landmarks.*
+
+is-off-requires : tie.Need-is-off-requires
+is-off-requires c κs = search needs
+
+crowding-requires : tie.Need-crowding-requires
+crowding-requires c κs = search needs
+
+returns : tie.Need-returns
+returns c = c .crowding .ensures ∙ judged-off _ _ _ _ (sym (c .before .before .is-off .ensures) ∙ c .before .if1 .taken)
+
+lesser-requires : tie.Need-lesser-requires
+lesser-requires c κs = search needs
+
+has-outside-requires : tie.Need-has-outside-requires
+has-outside-requires c κs = search needs
+
+-- whether a corner is outside, of those that the buffer has
+tested : (c : tie.After-has-outside)
+    → let a = start-from-has-outside c .args in
+    any isOutside (cornersOf (slices (a .xs .now) (a .ys .now) (a .strengths .now) (a .neighbours .now)) (min (a .count) (a .places))) ≡ c .has-outside .result
+tested c =
+    let a = start-from-has-outside c .args in
+    ap (λ (n : ℕ). any isOutside (cornersOf (slices (a .xs .now) (a .ys .now) (a .strengths .now) (a .neighbours .now)) n)) (sym (c .before .lesser .ensures))
+    ∙ sym (c .has-outside .ensures)
+
+returns-2 : tie.Need-returns-2
+returns-2 c =
+    let on = c .before .before .before in
+    judged-corner _ _ _ _ (sym (on .before .is-off .ensures) ∙ on .if1 .left) (tested (c .before) ∙ c .if2 .taken)
+
+is-sized-requires : tie.Need-is-sized-requires
+is-sized-requires c κs = search needs
+
+crowding-requires-2 : tie.Need-crowding-requires-2
+crowding-requires-2 c κs = search needs
+
+returns-3 : tie.Need-returns-3
+returns-3 c =
+    let inside = c .before .before .before in
+    let on = inside .before .before .before in
+    c .crowding2 .ensures
+    ∙ judged-count _ _ _ _ (sym (on .before .is-off .ensures) ∙ on .if1 .left) (tested (inside .before) ∙ inside .if2 .left)
+    (sym (c .before .before .is-sized .ensures) ∙ c .before .if3 .taken)
+
+returns-4 : tie.Need-returns-4
+returns-4 c =
+    let inside = c .before .before in
+    let on = inside .before .before .before in
+    judged-radius _ _ _ _ (sym (on .before .is-off .ensures) ∙ on .if1 .left) (tested (inside .before) ∙ inside .if2 .left)
+    (sym (c .before .is-sized .ensures) ∙ c .if3 .left)
+
+pub refusal-at-spec : {M : Type 1} → statement M
+refusal-at-spec =
+    tie.close
+    (tie.spec
+    is-off-requires
+    crowding-requires
+    returns
+    lesser-requires
+    has-outside-requires
+    returns-2
+    is-sized-requires
+    crowding-requires-2
+    returns-3
+    returns-4)

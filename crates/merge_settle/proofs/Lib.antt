@@ -1,0 +1,6 @@
+pub mod First
+pub mod Slots
+pub mod Indexing
+pub mod Nearby
+pub mod Settle
+pub mod Stepping

@@ -1,0 +1,240 @@
+// The kept corners stand first in a buffer, xs to ns, and each corner of the list is settled among them. The list is in that buffer too, where it is
+// merged in place; where it is merged apart it is in a buffer of its own, lx to ln. The index of the kept corners is a table on the stack, whose size
+// goes by how many are kept: merging begins with a small table, and goes on with a larger one where they outgrow it.
+ghost use mathlib.Core.Path.{_≡_};
+ghost use Prim.Native.Nat.{_+_, _^_, _<_, _≤_};
+ghost use lib.ListN.{length};
+ghost use Rattle.corner_list.specs.CornerList.{slices, cornerAt, placesOf};
+ghost use Rattle.merge_grid.specs.Grid.{joins};
+ghost use Rattle.merge_settle.specs.Settle.{given};
+ghost use Rattle.merge_settle.specs.Internal.{Indexed, countWith, Settled, start, IsStep, Reaches};
+use corner_list::Corner;
+use merge_grid::Grid;
+
+// How far merging a list has come: so many of its corners are settled, and so many of these are kept.
+pub(crate) struct Step {
+    pub(crate) done: usize,
+    pub(crate) kept: usize,
+}
+
+// How many corners are kept when one takes a place among the first k, or right behind them, or none.
+fn count_with(k: usize, at: usize) -> usize
+    requires { ⌜ k + 1 < 2 ^ 64 ⌝ }
+    ensures { λ r. ⌜ r ≡ countWith k at ⌝ }
+{
+    if at == k { k + 1 } else { k }
+}
+
+// Settles c among the first k corners of a buffer, lists its place, and returns how many are kept then.
+fn settle_corner(
+    xs: &mut [f32],
+    ys: &mut [f32],
+    strengths: &mut [f32],
+    neighbours: &mut [u32],
+    table: &mut [u32],
+    g: Grid,
+    floor: usize,
+    k: usize,
+    c: Corner,
+) -> usize
+    requires { ⌜ k < placesOf (slices (now xs) (now ys) (now strengths) (now neighbours)) ⌝ }
+    requires { ⌜ Indexed g floor (now table) (now xs) (now ys) k ⌝ }
+    ensures { λ n. ⌜ Settled (joins g) k c (slices (now (xs .entry)) (now (ys .entry)) (now (strengths .entry)) (now (neighbours .entry)))
+        n (slices (now (xs .exit)) (now (ys .exit)) (now (strengths .exit)) (now (neighbours .exit))) ⌝ }
+    ensures { λ n. ⌜ Indexed g floor (now (table .exit)) (now (xs .exit)) (now (ys .exit)) n ⌝ }
+{
+    let at = crate::search::place_for(xs, ys, strengths, neighbours, table, g, floor, k, c);
+    corner_list::put_corner(xs, ys, strengths, neighbours, at, c);
+    crate::index::list_place(table, g, at, merge_grid::position_of(c));
+    count_with(k, at)
+}
+
+// The corner at a place of the list.
+fn given_at(
+    lx: &[f32],
+    ly: &[f32],
+    ls: &[f32],
+    ln: &[u32],
+    apart: bool,
+    xs: &[f32],
+    ys: &[f32],
+    ss: &[f32],
+    ns: &[u32],
+    at: usize,
+) -> Corner
+    ensures { λ r. ⌜ r ≡ cornerAt (given apart (slices (now (lx .entry)) (now (ly .entry)) (now (ls .entry)) (now (ln .entry)))
+        (slices (now (xs .entry)) (now (ys .entry)) (now (ss .entry)) (now (ns .entry)))) at ⌝ }
+{
+    if apart {
+        return corner_list::corner_at(lx, ly, ls, ln, at);
+    }
+    corner_list::corner_at(xs, ys, ss, ns, at)
+}
+
+// What `floor_at` is for the list.
+fn floor_of(
+    lx: &[f32],
+    ly: &[f32],
+    apart: bool,
+    xs: &[f32],
+    ys: &[f32],
+    g: Grid,
+    low: usize,
+    i: usize,
+    n: usize,
+) -> usize {
+    if apart {
+        return crate::index::floor_at(lx, ly, g, low, i, n);
+    }
+    crate::index::floor_at(xs, ys, g, low, i, n)
+}
+
+// Merges on from a step, with a table for the index: to the end of a list of n corners, or until `most` are kept.
+fn merge_with(
+    lx: &[f32],
+    ly: &[f32],
+    ls: &[f32],
+    ln: &[u32],
+    apart: bool,
+    xs: &mut [f32],
+    ys: &mut [f32],
+    ss: &mut [f32],
+    ns: &mut [u32],
+    table: &mut [u32],
+    g: Grid,
+    n: usize,
+    s: Step,
+    most: usize,
+) -> Step
+    requires { ⌜ n ≤ placesOf (slices (now xs) (now ys) (now ss) (now ns)) ⌝ }
+    requires { ⌜ 0 < length (now table) ⌝ }
+    requires { ⌜ IsStep n s ⌝ }
+    ensures { λ r. ⌜ Reaches (joins g) apart (slices (now (lx .entry)) (now (ly .entry)) (now (ls .entry)) (now (ln .entry))) most n
+        (slices (now (xs .entry)) (now (ys .entry)) (now (ss .entry)) (now (ns .entry))) s
+        (slices (now (xs .exit)) (now (ys .exit)) (now (ss .exit)) (now (ns .exit))) r ⌝ }
+{
+    let done = s.done;
+    let mut k = s.kept;
+    let mut floor = 0;
+    let mut low = 0;
+    crate::index::list_kept(xs, ys, table, g, floor, k);
+    for i in done..n {
+        if most <= k {
+            return Step { done: i, kept: k };
+        }
+        low = floor_of(lx, ly, apart, xs, ys, g, low, i, n);
+        floor = crate::index::refresh(xs, ys, table, g, floor, low, k, i);
+        let c = given_at(lx, ly, ls, ln, apart, xs, ys, ss, ns, i);
+        k = settle_corner(xs, ys, ss, ns, table, g, floor, k, c);
+    }
+    Step { done: n, kept: k }
+}
+
+// Merges with a table of 8 KB, until 512 corners are kept.
+fn merge_few(
+    lx: &[f32],
+    ly: &[f32],
+    ls: &[f32],
+    ln: &[u32],
+    apart: bool,
+    xs: &mut [f32],
+    ys: &mut [f32],
+    ss: &mut [f32],
+    ns: &mut [u32],
+    g: Grid,
+    n: usize,
+) -> Step
+    requires { ⌜ n ≤ placesOf (slices (now xs) (now ys) (now ss) (now ns)) ⌝ }
+    ensures { λ r. ⌜ Reaches (joins g) apart (slices (now (lx .entry)) (now (ly .entry)) (now (ls .entry)) (now (ln .entry))) 512 n
+        (slices (now (xs .entry)) (now (ys .entry)) (now (ss .entry)) (now (ns .entry))) start
+        (slices (now (xs .exit)) (now (ys .exit)) (now (ss .exit)) (now (ns .exit))) r ⌝ }
+{
+    let s = Step { done: 0, kept: 0 };
+    let mut t = [crate::index::EMPTY; 2048];
+    merge_with(lx, ly, ls, ln, apart, xs, ys, ss, ns, &mut t, g, n, s, 512)
+}
+
+// Merges on with a table of 128 KB, until 8,192 corners are kept.
+fn merge_more(
+    lx: &[f32],
+    ly: &[f32],
+    ls: &[f32],
+    ln: &[u32],
+    apart: bool,
+    xs: &mut [f32],
+    ys: &mut [f32],
+    ss: &mut [f32],
+    ns: &mut [u32],
+    g: Grid,
+    n: usize,
+    s: Step,
+) -> Step
+    requires { ⌜ n ≤ placesOf (slices (now xs) (now ys) (now ss) (now ns)) ⌝ }
+    requires { ⌜ IsStep n s ⌝ }
+    ensures { λ r. ⌜ Reaches (joins g) apart (slices (now (lx .entry)) (now (ly .entry)) (now (ls .entry)) (now (ln .entry))) 8192 n
+        (slices (now (xs .entry)) (now (ys .entry)) (now (ss .entry)) (now (ns .entry))) s
+        (slices (now (xs .exit)) (now (ys .exit)) (now (ss .exit)) (now (ns .exit))) r ⌝ }
+{
+    let mut t = [crate::index::EMPTY; 32768];
+    merge_with(lx, ly, ls, ln, apart, xs, ys, ss, ns, &mut t, g, n, s, 8192)
+}
+
+// Merges on with a table of 512 KB, to the end.
+fn merge_most(
+    lx: &[f32],
+    ly: &[f32],
+    ls: &[f32],
+    ln: &[u32],
+    apart: bool,
+    xs: &mut [f32],
+    ys: &mut [f32],
+    ss: &mut [f32],
+    ns: &mut [u32],
+    g: Grid,
+    n: usize,
+    s: Step,
+) -> Step
+    requires { ⌜ n ≤ placesOf (slices (now xs) (now ys) (now ss) (now ns)) ⌝ }
+    requires { ⌜ IsStep n s ⌝ }
+    ensures { λ r. ⌜ Reaches (joins g) apart (slices (now (lx .entry)) (now (ly .entry)) (now (ls .entry)) (now (ln .entry))) n n
+        (slices (now (xs .entry)) (now (ys .entry)) (now (ss .entry)) (now (ns .entry))) s
+        (slices (now (xs .exit)) (now (ys .exit)) (now (ss .exit)) (now (ns .exit))) r ⌝ }
+{
+    let mut t = [crate::index::EMPTY; 131072];
+    merge_with(lx, ly, ls, ln, apart, xs, ys, ss, ns, &mut t, g, n, s, n)
+}
+
+// Merges to the end of a list of n corners, or until `most` are kept: with smaller tables first, as far as they go. A compiler does not put
+// a function with a table into one that calls itself: so a table takes stack only while it is used.
+pub(crate) fn merge_up_to(
+    lx: &[f32],
+    ly: &[f32],
+    ls: &[f32],
+    ln: &[u32],
+    apart: bool,
+    xs: &mut [f32],
+    ys: &mut [f32],
+    ss: &mut [f32],
+    ns: &mut [u32],
+    g: Grid,
+    n: usize,
+    most: usize,
+) -> Step
+    requires { ⌜ n ≤ placesOf (slices (now xs) (now ys) (now ss) (now ns)) ⌝ }
+    requires { ⌜ most ≤ n ⌝ }
+    ensures { λ r. ⌜ Reaches (joins g) apart (slices (now (lx .entry)) (now (ly .entry)) (now (ls .entry)) (now (ln .entry))) most n
+        (slices (now (xs .entry)) (now (ys .entry)) (now (ss .entry)) (now (ns .entry))) start
+        (slices (now (xs .exit)) (now (ys .exit)) (now (ss .exit)) (now (ns .exit))) r ⌝ }
+{
+    if most < 512 {
+        return merge_few(lx, ly, ls, ln, apart, xs, ys, ss, ns, g, n);
+    }
+    let s = merge_up_to(lx, ly, ls, ln, apart, xs, ys, ss, ns, g, n, most / 16);
+    if n <= s.done {
+        return s;
+    }
+    if most < 8192 {
+        return merge_more(lx, ly, ls, ln, apart, xs, ys, ss, ns, g, n, s);
+    }
+    merge_most(lx, ly, ls, ln, apart, xs, ys, ss, ns, g, n, s)
+}
