@@ -62,7 +62,7 @@ fn list_frame(pixels: &[u8], header: Header, out: &mut [u8; LONGEST]) -> usize
     let mut cy = [0.0f32; 512];
     let mut cs = [0.0f32; 512];
     let mut cn = [0u32; 512];
-    let answer = frame::find_corners(
+    let answer = frame_choice::find_corners(
         pixels,
         header.width,
         header.height,

@@ -10,7 +10,7 @@ ghost use Rattle.pyramid_levels.specs.Refusals.{ask};
 ghost use Rattle.pyramid_levels.specs.Internal.{LevelsAccepted};
 ghost use Rattle.pyramid.specs.Internal.{LevelsComplete};
 ghost use Rattle.corner_list.specs.CornerList.{slices};
-ghost use Rattle.patch_corners.specs.OneMap.{choiceOf, computedChoice, exactChoice};
+ghost use Rattle.patch_corners.specs.OneMap.{choiceOf};
 ghost use Rattle.frame.specs.Frame.{buffers, FrameFound};
 use patch_corners::FrameParams;
 use pyramid::Pyramid;
@@ -88,86 +88,4 @@ pub fn find_corners_by(
     clearing::clear_list(sx, sy, ss, sn, found.seeds);
     let k = closing::finish_corners(cx, cy, cs, cn, found.corners, p.merge_radius);
     closing::answer_of(found.fit, k, found.ties)
-}
-
-// The corners by computed values, as the original finds them.
-pub fn find_corners(
-    img: &[u8],
-    w: usize,
-    h: usize,
-    p: FrameParams,
-    map: &mut [f32],
-    levels: &mut [u8],
-    sx: &mut [f32],
-    sy: &mut [f32],
-    ss: &mut [f32],
-    sn: &mut [u32],
-    cx: &mut [f32],
-    cy: &mut [f32],
-    cs: &mut [f32],
-    cn: &mut [u32],
-) -> FrameAnswer
-    ensures { λ r. ⌜ FrameFound (computedChoice p) p (now (img .entry)) w h
-        (buffers (now (map .entry)) (now (levels .entry)) (slices (now (sx .entry)) (now (sy .entry)) (now (ss .entry)) (now (sn .entry))) (slices (now (cx .entry)) (now (cy .entry)) (now (cs .entry)) (now (cn .entry))))
-        r
-        (buffers (now (map .exit)) (now (levels .exit)) (slices (now (sx .exit)) (now (sy .exit)) (now (ss .exit)) (now (sn .exit))) (slices (now (cx .exit)) (now (cy .exit)) (now (cs .exit)) (now (cn .exit)))) ⌝ }
-{
-    find_corners_by(
-        img,
-        w,
-        h,
-        p,
-        false,
-        map,
-        levels,
-        sx,
-        sy,
-        ss,
-        sn,
-        cx,
-        cy,
-        cs,
-        cn,
-    )
-}
-
-// The corners by the exact values of the paper's formula.
-pub fn find_exact_corners(
-    img: &[u8],
-    w: usize,
-    h: usize,
-    p: FrameParams,
-    map: &mut [f32],
-    levels: &mut [u8],
-    sx: &mut [f32],
-    sy: &mut [f32],
-    ss: &mut [f32],
-    sn: &mut [u32],
-    cx: &mut [f32],
-    cy: &mut [f32],
-    cs: &mut [f32],
-    cn: &mut [u32],
-) -> FrameAnswer
-    ensures { λ r. ⌜ FrameFound (exactChoice p) p (now (img .entry)) w h
-        (buffers (now (map .entry)) (now (levels .entry)) (slices (now (sx .entry)) (now (sy .entry)) (now (ss .entry)) (now (sn .entry))) (slices (now (cx .entry)) (now (cy .entry)) (now (cs .entry)) (now (cn .entry))))
-        r
-        (buffers (now (map .exit)) (now (levels .exit)) (slices (now (sx .exit)) (now (sy .exit)) (now (ss .exit)) (now (sn .exit))) (slices (now (cx .exit)) (now (cy .exit)) (now (cs .exit)) (now (cn .exit)))) ⌝ }
-{
-    find_corners_by(
-        img,
-        w,
-        h,
-        p,
-        true,
-        map,
-        levels,
-        sx,
-        sy,
-        ss,
-        sn,
-        cx,
-        cy,
-        cs,
-        cn,
-    )
 }

@@ -107,7 +107,7 @@ fn with_corners(
     let mut ys = floats(body, BAD);
     let mut strengths = floats(body, BAD);
     let mut neighbours = counts(body, BAD);
-    let answer = frame::find_corners(
+    let answer = frame_choice::find_corners(
         bytes_at(body, 44),
         count(body, 0),
         count(body, 1),
