@@ -14,6 +14,7 @@ use Rattle.stream.specs.Stream.{bodyLength, rangeOutside, readFrame}
 use Rattle.stream.specs.RoundTrip.{pixelBytes, frameBytes}
 use Rattle.pgm.specs.Header.{bare, fieldOf}
 use Rattle.pgm.specs.Pgm as pgm
+use Rattle.retouch.specs.Promise as retouch
 use Rattle.response_limits.specs.Promise as limits
 use Rattle.corner_strike.specs.Striking as striking
 use Rattle.frame_writer.specs.FrameWriter as writer
@@ -24,5 +25,5 @@ use Rattle.demands.proofs.Roads.{differ}
 pub wrong-refusals : WrongRefusals
 unfolding wrongRefusals lt le add sub mul div ofInt ofBits toUnsigned tab isInside seedFits center.refusalOf isOff isSized merge.refusalOf gridOf near
     neighbours resultOf refusalApart bodyLength rangeOutside readFrame pixelBytes frameBytes bare fieldOf pgm.conditions pgm.refusalOf
-    limits.refusalOf striking.refusalOf writer.conditions writer.refusalOf retention.refusalOf
+    limits.refusalOf striking.refusalOf writer.conditions writer.refusalOf retention.refusalOf retouch.refusalOf
 wrong-refusals = record { ours = refl; wrong = refl; differ = differ wrongRefusals refl }

@@ -1,5 +1,5 @@
 -- Request 6 (RULES 25): "List and count equal those the original's own merge would leave, refusal and all; in its order, 10 also where the original
--- list doesn't fit the separate room." That the original is untouched is no statement: `merge_apart` borrows it only to read it.
+-- list doesn't fit" the separate buffer. That the original is untouched is no statement: `merge_apart` borrows it only to read it.
 use Prim.Native.Nat.{ℕ, _<_, _≤_}
 use mathlib.Core.Path.{_≡_}
 use lib.Ieee.{Float}

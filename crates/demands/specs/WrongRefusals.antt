@@ -19,14 +19,15 @@ use Rattle.stream.specs.Stream.{header, bodyLength, readFrame}
 use Rattle.stream.specs.Answer as stream
 use Rattle.pgm.specs.Header.{hasHeader, widthOf, heightOf, maxvalOf, rasterAt}
 use Rattle.pgm.specs.Pgm as pgm
+use Rattle.retouch.specs.Promise as retouch
 use Rattle.response_limits.specs.Promise as limits
-use Rattle.corner_strike.specs.Editions.{edition, isBeyond}
+use Rattle.corner_strike.specs.Editions.{edition, isOther, isBeyond}
 use Rattle.corner_strike.specs.Striking as striking
 use Rattle.frame_writer.specs.FrameWriter as writer
 use Rattle.retention.specs.Retention.{known}
 use Rattle.retention.specs.Retention as retention
 use Rattle.demands.specs.Texts.{bytesOf}
-use Rattle.demands.specs.Roads.{Road, road, Wrong, corner, outside, holding}
+use Rattle.demands.specs.Roads.{Road, road, Wrong, place, corner, outside, holding}
 
 -- a condition that comes before a table's
 abbrev before : Bool × ℕ → List (Bool × ℕ) → ℕ
@@ -45,9 +46,9 @@ abbrev base : List Road
 base =
     -- "With an off radius .. the merge checks only 10": 4 too (RULES 2.4)
     road (merge.refusalOf nan 1 1 oneOutside) 0 (before (any merge.isOutside (cornersOf oneOutside 1), 4) (merge.conditions nan [] (ltb 1 1))) 4
-    -- "Where a stated count exceeds its room, 4 judges the corners that the room has": 10 before 4 (RULES 2.3)
+    -- "Lowest number first", also where a stated count exceeds the places: 10 before 4 (RULES 2.3)
     ∷ road (merge.refusalOf three 1 2 oneOutside) 4 (before (ltb 1 2, 10) (merge.conditions three (cornersOf oneOutside 1) true)) 10
-    -- "no map lent; 1 and 2 are then not judged": 1 too (RULES 2.4)
+    -- "1 and 2 are then not judged", without a map: 1 too (RULES 2.4)
     ∷ road (center.refusalOf 0 zero zero false 0 4097 0) 0 (center.refusalOf 0 zero zero true 0 4097 0) 1
     -- "11 before its body": a record out of its order, whose body is cut short (RULES 11.4)
     ∷ road (stream.numberOf (stream.answerOf (readFrame (2 ∷ [])))) 11 (lowest ((ltb 0 (bodyLength 2), 7) ∷ (not (eqb 2 1), 11) ∷ [])) 7
@@ -98,11 +99,20 @@ apart =
     ∷ road (refusalApart three 1 2 withOutside) 4 (lowest (merge.conditions three (cornersOf withOutside 1) true)) 10
     ∷ []
 
+-- ---- request 8, retouched pixels (RULES 2.3): an image without a pixel, and a ring of 0
+abbrev retouching : List Road
+retouching =
+    -- "14 place outside the image, after 3": before it
+    road (retouch.refusalOf 0 0 0 0 0 (place 0 0)) 3 (before (retouch.isOutside 0 0 (place 0 0), 14) (retouch.conditions 0 0 0 0 0 (place 0 0))) 14
+    ∷ []
+
 -- ---- request 9, pixels known between limits (RULES 28.5): one pixel, its low value above its high one, and a ring of 0
 abbrev between : List Road
 between =
     -- "15 .., after 2": in the order of the numbers
     road (limits.refusalOf (1 ∷ []) (0 ∷ []) 1 1 0 1 1) 15 (before (not (isRing 0), 3) (limits.conditions (1 ∷ []) (0 ∷ []) 1 1 0 1 1)) 3
+    -- "either too short: 8": the first alone
+    ∷ road (limits.refusalOf (0 ∷ []) (0 ∷ []) 1 1 5 1 0) 8 (lowest (take 6 (limits.conditions (0 ∷ []) (0 ∷ []) 1 1 5 1 0))) 0
     ∷ []
 
 -- ---- request 10, a corner struck (RULES 29.4): a list without a corner, and one of one corner
@@ -110,6 +120,8 @@ abbrev strikes : List Road
 strikes =
     -- "16 .., 17 .., 18 ..; checked in that order": 17 before 16
     road (striking.refusalOf 0 (edition 0 0) 0 1) 16 (before (isBeyond 0 0, 17) (striking.conditions 0 (edition 0 0) 0 1)) 17
+    -- "after 10": 16 before it; of a count of one in a buffer without a place
+    ∷ road (striking.refusalOf 0 (edition 1 0) 0 1) 10 (before (isOther (edition 1 0) 1, 16) (striking.conditions 0 (edition 1 0) 0 1)) 16
     -- "16 change number differs from the list's": lies before it
     ∷ road (striking.refusalOf 1 (edition 1 0) 0 1) 16 (before (ltb 1 0, 16) (drop 2 (striking.conditions 1 (edition 1 0) 0 1))) 0
     -- "Places count from 0": from 1
@@ -126,7 +138,10 @@ abbrev writing : List Road
 writing =
     -- "3 (also a value too wide for its field)": its low byte written
     road (writer.refusalOf (frameOf 256) [] 23) 3 (writer.refusalOf (frameOf (256 % 256)) [] 23) 0
-    -- "19 stream room too short": left out
+    -- "1 (sides above 96)": above 4,096
+    ∷ road (writer.refusalOf (header 97 0 5 0 0 0 0 0 0 0 0) [] 23) 1
+    (before (isLarge 97 0, 1) (drop 1 (writer.conditions (header 97 0 5 0 0 0 0 0 0 0 0) [] 23))) 0
+    -- "19 .. too short": left out
     ∷ road (writer.refusalOf (frameOf 0) [] 22) 19 (lowest (take 4 (writer.conditions (frameOf 0) [] 22))) 0
     ∷ []
 
@@ -141,7 +156,7 @@ deleted =
 
 -- ---- the table
 unfoldable pub wrongRefusals : List Road
-wrongRefusals = base ++ photographs ++ apart ++ between ++ strikes ++ writing ++ deleted
+wrongRefusals = base ++ photographs ++ apart ++ retouching ++ between ++ strikes ++ writing ++ deleted
 
 abbrev pub WrongRefusals : Type 0
 WrongRefusals = Wrong wrongRefusals

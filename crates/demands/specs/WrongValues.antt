@@ -1,6 +1,6 @@
 -- Wrong roads that lead to a wrong value (RULES 15.3).
 use Prim.Native.Nat.{ℕ, suc, _+_, _-_, _*_, _/_, _%_, _^_, min}
-use mathlib.Core.Bool.{Bool, true, false, cond, not, _&&_}
+use mathlib.Core.Bool.{Bool, true, false, cond, not, _&&_, _||_}
 use mathlib.Core.List.{List, [], _∷_, _++_, map}
 use lib.Dec.{eqb, ltb, leb}
 use lib.ListN.{length, getD, set, drop, replicate}
@@ -15,6 +15,7 @@ use Rattle.ring.specs.Ring.{ring5, ringOf}
 use Rattle.response.specs.Response.{srOf, drOf, ringSumOf, responseOf}
 use Rattle.response.specs.OnePass.{passedAfter}
 use Rattle.response.specs.Exact.{fifthsAt}
+use Rattle.response.specs.Patch.{whole, cells}
 use Rattle.pyramid.specs.Pyramid.{boxOf}
 use Rattle.corner_list.specs.declared.Corner.{Corner}
 use Rattle.corner_list.specs.CornerList.{Slices, slices, placesOf, cornerAt, cornersOf, frontCorners, without, withoutCorner}
@@ -36,7 +37,7 @@ use Rattle.detect.specs.Peaks.{
   computed,
 }
 use Rattle.detect.specs.Exact.{exact}
-use Rattle.detect.specs.Detect.{searchOf}
+use Rattle.detect.specs.Detect.{searchOf, peaksIn, tiesAt, tiesIn}
 use Rattle.detect.specs.Enough.{rowsTo, rowsFor, enoughOf, valuesOf as answers}
 use Rattle.center_of_mass.specs.CenterOfMass.{refined, valuesOf}
 use Rattle.multiscale.specs.declared.RoiContext.{RoiContext}
@@ -48,8 +49,8 @@ use Rattle.merge_naive.specs.MergeNaive.{naiveOf}
 use Rattle.merge_naive.specs.Case.{one, three}
 use Rattle.pgm.specs.Header.{Character, inComment, trailing, isSpace, fieldOf, maxvalField, widthOf, heightOf}
 use Rattle.pgm.specs.Pgm.{pixelsIn}
-use Rattle.listing.specs.Text.{unitsBy, unitsOf}
-use Rattle.retouch.specs.Retouch.{isAt, samplePlaces, touched}
+use Rattle.listing.specs.Text.{unitsBy, unitsOf, refusedText}
+use Rattle.retouch.specs.Retouch.{isAt, samplePlaces, touched, redone}
 use Rattle.response_limits.specs.Limits.{Range, leastDist, lowAt}
 use Rattle.sure_peak.specs.SurePeak.{fifthsIn, byLimits, isSure}
 use Rattle.corner_strike.specs.Editions.{Edition, edition, raised}
@@ -60,6 +61,7 @@ use Rattle.stream.specs.RoundTrip.{frameBytes}
 use Rattle.retention.specs.declared.Holding.{Holding}
 use Rattle.retention.specs.declared.Holding.the-variants.{NotYet, Held, Gone}
 use Rattle.retention.specs.Retention.{dayOf, stateOf, letterOf}
+use Rattle.retention.specs.Stream.{timeOf, outputOf}
 use Rattle.tolerance.specs.Tolerance.{summedCells, exactMass}
 use Rattle.demands.specs.Texts.{bytesOf}
 use Rattle.demands.specs.Cases.{wholeCase}
@@ -167,12 +169,22 @@ spaced inside from (c ∷ cs) =
     let more = spaced (inComment inside c) (suc from) cs in
     cond inside more (record { code = cond (eqb c 35) 32 c; place = from } ∷ more)
 
+-- a comment that ends at LF alone (RULES 20.3)
+abbrev toNewline : Bool → ℕ → List ℕ → List Character
+toNewline inside from [] = []
+toNewline inside from (c ∷ cs) =
+    let more = toNewline (cond inside (not (eqb c 10)) (eqb c 35)) (suc from) cs in
+    cond (inside || eqb c 35) more (record { code = c; place = from } ∷ more)
+
 abbrev firstCode : List Character → ℕ
 firstCode [] = 0
 firstCode (c ∷ cs) = c .code
 
 abbrev commented : List ℕ
 commented = bytesOf "P5 1#\n2 1 255\n"
+
+abbrev ended : List ℕ
+ended = bytesOf "P5 1#\r2 1 255\n"
 
 abbrev twoEnds : List ℕ
 twoEnds = bytesOf "P5 1 1 255\r\nA"
@@ -184,6 +196,8 @@ abbrev photographs : List Road
 photographs =
     -- "comments": a comment is whitespace, though the digits about it are one number (RULES 20.3)
     road (widthOf commented) 12 (fieldOf (spaced false 2 (drop 2 commented)) .number) 1
+    -- and ends at LF alone, not at CR too
+    ∷ road (widthOf ended) 12 (fieldOf (toNewline false 2 (drop 2 ended)) .number) 1
     -- "the P5 form": all whitespace behind the maxval is passed over, though an LF behind the CR is a pixel (RULES 20.2)
     ∷ road (getD (pixelsIn twoEnds) 0 0) 10 (firstCode (trailing isSpace (maxvalField twoEnds .rest))) 65
     -- "width, height": the other way round
@@ -240,6 +254,13 @@ nans = nan ∷ nan ∷ []
 abbrev diagonal : List Float
 diagonal = zero ∷ one ∷ one ∷ zero ∷ []
 
+-- three equal cells in a row, searched to the edge
+abbrev equalRow : List Float
+equalRow = replicate 3 one
+
+abbrev searchRow : Search
+searchRow = record { w = 3; h = 1; border = 0; window = 1; threshold = zero; «least_neighbours» = 0; exact = false }
+
 abbrev ties : List Road
 ties =
     -- "the number of equal cells in the clipped window": the centre too
@@ -253,6 +274,8 @@ ties =
     -- "with 0 ties": equal by their bits
     ∷ road (equals (equalIn nans 2) 2 1 1 (place 0 0)) 0
     (equals (λ q p. eqb (toBits binary32 (valueAt nans 2 q)) (toBits binary32 (valueAt nans 2 p))) 2 1 1 (place 0 0)) 1
+    -- "its sum over the peaks it adds": how many of them have a tie (RULES 23.2)
+    ∷ road (tiesIn equalRow searchRow) 4 (count (λ p. ltb 0 (tiesAt equalRow searchRow p)) (peaksIn equalRow searchRow)) 3
     -- "defined from the computed maps": by exact values
     ∷ road (equals (equalIn level 2) 2 1 1 (place 0 0)) 0 (equals (λ q p. true) 2 1 1 (place 0 0)) 1
     ∷ []
@@ -300,6 +323,9 @@ apart =
 abbrev tall : Search
 tall = searchOf 11 13 5 zero 0 0 0
 
+abbrev narrow : Search
+narrow = searchOf 10 13 5 zero 0 0 0
+
 abbrev peaks : List Place
 peaks = place 5 5 ∷ place 5 6 ∷ place 5 7 ∷ []
 
@@ -313,23 +339,30 @@ enough =
     ∷ road (rowsFor tall 4 peaks) 3 (tall .h) 13
     -- "0 where N is 0": up to the first peak
     ∷ road (rowsFor tall 0 peaks) 0 (rowsTo tall peaks) 1
+    -- "0 where .. a side is at most twice the border": the rows inside it, of a map of 10 by 13
+    ∷ road (rowsFor narrow 1 []) 0 (narrow .h - 2 * narrow .border) 3
     ∷ []
 
--- ---- request 8, retouched pixels (RULES 27.2): an image of 10 by 11, in which the ring about (5, 5) does not lie
+-- ---- request 8, retouched pixels (RULES 27): an image of 10 by 11, in which the ring about (5, 5) does not lie; and one of 11 by 11, whose map was 1
+abbrev dark : List ℕ
+dark = replicate 121 0
+
+abbrev firstCell : List Float → ℕ
+firstCell m = nearestWhole (getD m 0 nan)
+
 abbrev retouching : List Road
 retouching =
     -- "only cells not within a ring radius of the edge": all whose samples contain the pixel
     road (told (touched 10 11 ring5 (place 5 5) (place 5 5))) 0 (told (any (isAt ring5 (place 5 5) (place 5 5)) (samplePlaces ring5))) 1
+    -- "any other map gets those cells and no more": a fresh map (RULES 27.3)
+    ∷ road (firstCell (redone dark 11 11 ring5 (place 5 5) (all one))) 1 (firstCell (cells (whole dark 11 11 ring5))) 0
     ∷ []
 
 -- ---- request 9, pixels known between limits (RULES 28)
 abbrev ranging : ℕ → ℕ → Range
 ranging low high = record { low = low; high = high }
 
--- 11 by 11 pixels that are 0, but the centre, which is 0 or 1
-abbrev dark : List ℕ
-dark = replicate 121 0
-
+-- 11 by 11 pixels that are 0, but the centre, which is 1
 abbrev lit : List ℕ
 lit = set dark 60 1
 
@@ -442,6 +475,10 @@ deleted =
     ∷ road (letterOf (stateOf 3 0 604800)) 71 (letterOf (heldIf (leb 604800 (0 + 604800)))) 72
     -- "Before the second of receipt .. a photograph's own day included": before the day
     ∷ road (letterOf (stateOf 2 1 0)) 78 (letterOf (cond (ltb (dayOf 0) (dayOf 1)) NotYet Held)) 72
+    -- "in little-endian": the highest byte first (RULES 32.4)
+    ∷ road (timeOf (1 ∷ replicate 7 0)) 1 (256 ^ 7) 72057594037927936
+    -- "The stream may end after the time": it is cut short (RULES 32.4); how long the text is
+    ∷ road (length (outputOf (replicate 8 0))) 0 (length (refusedText 7)) 10
     ∷ []
 
 -- ---- request 14, how far the centre may be off (RULES 33.1): the whole case's centre, with radius 0, and a cell of -16 fifths
