@@ -5,6 +5,7 @@ import io
 import os
 import pty
 import re
+import shutil
 import signal
 import subprocess
 import sys
@@ -217,6 +218,21 @@ class Invoices(Batch):
             said = self.batch("--jobs", 1).decode()
         self.assertTrue(said.startswith("4 uploads: 3 found, 0 refused, 1 not read; "))
         self.assertEqual([line["words"] for line in self.lines()], ["", "", "cannot be read: No such file or directory", ""])
+
+    def test_a_folder_that_disappears(self):
+        """Its uploads were there when it was listed, and have their lines; the batch is done."""
+        self.fill(2)
+        os.mkdir(self.path("in/sub"))
+        real = uploads.read
+
+        def vanishing(order, name):
+            shutil.rmtree(self.path("in"), ignore_errors=True)
+            return real(order, name)
+
+        with mock.patch.object(uploads, "read", vanishing):
+            status, said, told = self.run_command("batch", self.path("in"), "--out", self.path("out"), "--jobs", 1)
+        self.assertEqual((status, said.split(b";")[0]), (0, b"2 uploads: 0 found, 0 refused, 2 not read"))
+        self.assertEqual(told, f"zakdomp: {self.path('in')}: 1 subfolder not looked into\n")
 
     def test_names_that_differ_in_little(self):
         for name in ("a.pgm", "a.PGM", "a", "a.pgm.corners", "A.pgm"):

@@ -45,7 +45,7 @@ def add(commands: Any) -> None:
 
 def run(options: argparse.Namespace) -> int:
     folder, out, chosen = options.folder, options.out, parameters.tried(parameters.of(options))
-    found = listed(folder)
+    found, below = listed(folder), _subfolders(folder, out)
     _apart(folder, out)
     os.makedirs(out, exist_ok=True)
     ledger, order = Ledger(out), Order(os.path.realpath(folder), options.format, chosen)
@@ -59,13 +59,21 @@ def run(options: argparse.Namespace) -> int:
     files.say(f"{invoice.counted(outcomes)}; ".encode("ascii") + os.fsencode(place) + b"\n")
     _earlier(place, len(lines) - len(outcomes))
     _tipped(place, lines)
-    _others(options, ledger, asked, lines)
+    _others(ledger, asked, lines)
+    if below:
+        files.tell(f"{several(below, 'subfolder')} not looked into", folder)
     return 0
 
 
 def listed(folder: str) -> list[str]:
     """The names of a folder's files, in the order of their bytes."""
     return sorted((entry.name for entry in os.scandir(folder) if not _is_folder(entry)), key=os.fsencode)
+
+
+def _subfolders(folder: str, out: str) -> int:
+    """How many folders a folder has, but for the one that is written."""
+    made = os.path.realpath(out)
+    return sum(_is_folder(entry) and os.path.realpath(entry.path) != made for entry in os.scandir(folder))
 
 
 def _is_folder(entry: "os.DirEntry[str]") -> bool:
@@ -159,9 +167,9 @@ def _tipped(place: str, lines: list[Line]) -> None:
             files.tell(f"{several(count, 'photograph')} {said}", place)
 
 
-def _others(options: argparse.Namespace, ledger: Ledger, asked: Run, lines: list[Line]) -> None:
-    """Says what is there and has no line, subfolders of the uploads and files among the corner files; and which corner
-    files are no longer as they were, of uploads that are not there to find them again."""
+def _others(ledger: Ledger, asked: Run, lines: list[Line]) -> None:
+    """Says how many files among the corner files have no line; and how many corner files are no longer as they were, of
+    uploads that are not there to find them again."""
     corners = os.path.join(ledger.folder, asked.corners)
     own = {corner_files.BY_DIGEST, *(line.outcome.file for line in lines)}
     other = sum(entry.name not in own for entry in os.scandir(corners))
@@ -170,10 +178,6 @@ def _others(options: argparse.Namespace, ledger: Ledger, asked: Run, lines: list
     lost = sum(bool(line.outcome.file) and corner_files.text(corners, line.outcome) is None for line in lines)
     if lost:
         files.tell(f"{several(lost, 'corner file')} changed or deleted, without an upload to find it again", corners)
-    made = os.path.realpath(options.out)
-    below = sum(_is_folder(entry) and os.path.realpath(entry.path) != made for entry in os.scandir(options.folder))
-    if below:
-        files.tell(f"{several(below, 'subfolder')} not looked into", options.folder)
 
 
 def _named(text: str) -> str:
