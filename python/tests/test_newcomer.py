@@ -138,6 +138,11 @@ class OnePhotograph(Newcomer):
         with open(self.path(name), "rb") as file:
             return file.read()
 
+    def state(self, name):
+        """What a file is and when it was written; to have been read changes none of it."""
+        state = os.lstat(self.path(name))
+        return state.st_mode, state.st_ino, state.st_size, state.st_mtime_ns
+
     def test_corners_and_a_picture(self):
         self.put("a b.PGM", board())
         status, said, told = self.run_on("a b.PGM")
@@ -157,11 +162,11 @@ class OnePhotograph(Newcomer):
                      lambda: os.symlink(self.path("nowhere"), self.path("a-corners.png")),
                      lambda: os.mkfifo(self.path("a-corners.png"))):
             make()
-            before = os.lstat(self.path("a-corners.png"))
+            before = self.state("a-corners.png")
             status, said, told = self.run_on("a.pgm")
             self.assertEqual((status, said), (2, ""))
             self.assertRegex(told, r"^run: 'a-corners.png' is there and was not written by ./run: .*\n$")
-            self.assertEqual(os.lstat(self.path("a-corners.png")), before)
+            self.assertEqual(self.state("a-corners.png"), before)
             os.unlink(self.path("a-corners.png"))
         self.assertEqual(self.content("other"), b"kept")
 
