@@ -139,26 +139,38 @@ class Reports(Reported):
         self.fails(2, "has no run 3: it has runs 1, 2", "report", self.path("out"), "--run", 3)
 
 
+# a page within a page, which measures it: the report itself has no script
+FRAME = b"""<!DOCTYPE html><body><iframe id="f" src="report.html" width="320" height="800"></iframe>
+<script>onload = () => document.body.append("wide " + f.contentDocument.documentElement.scrollWidth)</script>"""
+
+
 @unittest.skipUnless(shutil.which("chromium"), "no chromium on this machine")
 class Browser(Reported):
     """What Chromium shows of a page with hostile names: no script of theirs runs, and the page is no wider than a
     telephone."""
 
-    def chromium(self, *options):
+    def chromium(self, page, *options):
         command = ["chromium", "--headless", "--no-sandbox", "--disable-gpu", "--hide-scrollbars",
-                   f"--user-data-dir={self.path('profile')}", *options, "file://" + self.path("out/report.html")]
-        return subprocess.run(command, capture_output=True, timeout=120, check=True).stdout
+                   "--allow-file-access-from-files", f"--user-data-dir={self.path('profile')}", *options,
+                   "file://" + self.path("out/" + page)]
+        return subprocess.run(command, capture_output=True, timeout=120, check=True).stdout.decode("utf-8")
 
-    def test_it_is_shown(self):
-        for name, content in HOSTILE.items():
+    def setUp(self):
+        super().setUp()
+        for name, content in {**HOSTILE, "m" * 255: board()}.items():
             self.put("in/" + name, content)
         self.batch("--jobs", 1)
         self.report()
-        shown = Page(self.chromium("--dump-dom").decode("utf-8"))
+
+    def test_it_is_shown(self):
+        shown = Page(self.chromium("report.html", "--dump-dom"))
         self.assertEqual((shown.tags - TAGS, shown.attributes - ATTRIBUTES), (set(), set()))
-        self.chromium("--window-size=500,900", f"--screenshot={self.path('shot.png')}")
-        self.assertEqual(struct.unpack(">II", self.content("shot.png")[16:24]), (500, 900))
+        self.chromium("report.html", "--window-size=500,900", f"--screenshot={self.path('shot.png')}")
         self.assertGreater(len(zlib.compress(self.content("shot.png"))), 5_000, "it is not empty")
+
+    def test_it_is_no_wider_than_a_telephone(self):
+        self.put("out/frame.html", FRAME)
+        self.assertEqual(re.findall(r"wide (\d+)", self.chromium("frame.html", "--dump-dom")), ["320"])
 
 
 if __name__ == "__main__":

@@ -35,7 +35,8 @@ figure { margin: .75rem 0 0 } figure svg { display: block; max-width: 100%; heig
 td:first-child { min-width: 10rem } .wide { width: 45% }
 .none, .differs { border-left: 4px solid #b00020; padding-left: .6rem }
 .differs { border-color: #b36b00 }
-@media (max-width: 40rem) { body { padding: .6rem } .wide { display: none } th, td { padding: .3rem .25rem } }
+@media (max-width: 40rem) { body { padding: .6rem } .wide { display: none } th, td { padding: .3rem .25rem }
+  td:first-child { min-width: 6rem } }
 @media print { body { max-width: none; font-size: 11pt } figure svg { max-height: 16cm }
   a { color: inherit; text-decoration: none } thead { display: table-header-group } }
 """
