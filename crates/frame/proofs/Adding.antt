@@ -1,4 +1,4 @@
--- Lists of corners added to a buffer: each replaced by a function of it, and one behind the other. Assumes nothing.
+-- Lists of corners added to a buffer, one behind the other. Assumes nothing.
 use Prim.Native.Nat.{ℕ, _+_, _-_, _*_, _<_, _≤_}
 use native.Mathlib.Omega.{arith}
 use native.Mathlib.Numerals.{add-one}
@@ -13,14 +13,12 @@ use Rattle.lists.proofs.Buffer.{placed-none, placed-more}
 use Rattle.lists.proofs.Members.{flatMap-append}
 use Rattle.corner_list.specs.declared.Corner.{Corner}
 use Rattle.corner_list.specs.CornerList.{Slices, xOf, yOf, strengthOf, neighboursOf, placesOf, cornersOf, placedCorners}
-use Rattle.corner_list.proofs.Corners.{slices-alike, same-places}
+use Rattle.corner_list.proofs.Corners.{slices-alike}
 use Rattle.detect.specs.declared.Peaks.{Peaks}
 use Rattle.detect.specs.declared.Peaks.the-variants.{Added, Refused}
-use Rattle.patch_corners.specs.Internal.{Changed}
-use Rattle.patch_corners.proofs.Changing.{placed-places, changed-fits, changed-placed}
+use Rattle.patch_corners.proofs.Changing.{placed-places}
 use Rattle.patch_corners.proofs.Centring.{both}
-use Rattle.frame.specs.Internal.{Adds, addedOf}
-use Rattle.frame.proofs.Padded.{SameLengths}
+use Rattle.frame.specs.Internal.{Adds}
 
 module _ (cs : List Corner) (ties held : ℕ) (b : Slices) where
   -- corners that fit
@@ -47,22 +45,6 @@ module _ (cs : List Corner) (ties held : ℕ) (b : Slices) where
   pub adds-to : (ds : List Corner) (u : ℕ) (answer : Peaks) (b′ : Slices) → cs ≡ ds → ties ≡ u → Adds cs ties held b answer b′
       → Adds ds u held b answer b′
   adds-to ds u answer b′ e t a = rw (← e, ← t) a
-
--- ---- each replaced by a function of it: where they were refused, none is
-module _ (f : Corner → Corner) (cs : List Corner) (ties held : ℕ) (b : Slices) where
-  pub change-fits : (answer : Peaks) (b′ : Slices) → Adds cs ties held b answer b′ → held ≤ placesOf b → SameLengths b b′ → (m : ℕ) → m ≡ addedOf answer
-      → held + m ≤ placesOf b′
-  change-fits (Added n t) b′ a l same m e = let k = a .added n t refl in omega (arith, changed-fits f cs held b b′ n (k .0) (k .1) (k .2))
-  change-fits (Refused x) b′ a l same m e = omega (arith, same-places b′ b (same .xs) (same .ys) (same .strengths) (same .neighbours))
-
-  pub adds-changed : (answer : Peaks) (b′ : Slices) → Adds cs ties held b answer b′ → (m : ℕ) → m ≡ addedOf answer → (b″ : Slices) → Changed f held m b′ b″
-      → Adds (map f cs) ties held b answer b″
-  adds-changed (Added n t) b′ a m e b″ c =
-      let k = a .added n t refl in
-      adds (map f cs) ties held b n t b″ (k .0 ∙ sym (length-map cs f)) (k .1)
-      (changed-placed f cs held b b′ n (k .0) (k .1) (k .2) b″ (rw e at c)) (k .3)
-  adds-changed (Refused x) b′ a m e b″ c =
-      adds-not (map f cs) ties held b (Refused x) x b″ refl (omega (arith, a .refused x refl, length-map cs f))
 
 -- ---- one list behind another: cs stand first in b, which was b₀
 module _ (cs : List Corner) (ties held t : ℕ) (b₀ b : Slices) (a : Adds cs ties 0 b₀ (Added held t) b) where

@@ -1,5 +1,5 @@
 -- The corners of a seed's box, those of the box's map, moved by its corner, and their peaks' ties. Assumes nothing.
-use Prim.Native.Nat.{ℕ, _<_, _≤_}
+use Prim.Native.Nat.{ℕ, _≤_}
 use native.Mathlib.Omega.{arith}
 use native.Mathlib.Nat.{add-zero}
 use mathlib.Core.Path.{_≡_, refl, sym, ap, _∙_}
@@ -20,6 +20,7 @@ use Rattle.multiscale.proofs.Box.{box-inside}
 use Rattle.patch_corners.specs.declared.FrameParams.{FrameParams}
 use Rattle.patch_corners.specs.OneMap.{Choice, moved, cornersIn, tiesOn}
 use Rattle.frame_pass.specs.Pass.{contextAt, patchOf, cornersOn, cornersAbout, tiesAbout}
+use Rattle.frame_pass.specs.Theorems.{SoundFrame}
 use Rattle.frame.specs.Internal.{Adds}
 use Rattle.frame.proofs.Adding.{adds-none, adds-to}
 use Rattle.frame.proofs.Patches.{boxIn}
@@ -44,8 +45,10 @@ module _ (choose : Choice) (p : FrameParams) (img : List ℕ) (w h : ℕ) (k : �
   -- ---- a box
   module _ (x0 y0 x1 y1 : ℕ) (q : a ≡ roi.Bounds x0 y0 x1 y1) where
     -- its corner lies in the image
-    pub about-corner : (x0 < w) × (y0 < h)
-    about-corner = let i = box-inside (contextAt p img w h k) s x0 y0 x1 y1 (sym (boxed .answer) ∙ q) in (omega (arith, i .0, i .1), omega (arith, i .2, i .3))
+    pub about-corner : SoundFrame p img w h → (x0 ≤ 4096) × (y0 ≤ 4096)
+    about-corner sound =
+        let i = box-inside (contextAt p img w h k) s x0 y0 x1 y1 (sym (boxed .answer) ∙ q) in
+        (omega (arith, i .0, i .1, sound .narrow), omega (arith, i .2, i .3, sound .low))
 
     -- the corners of its map, moved by its corner, are the seed's
     pub about-added : (held : ℕ) (b : Slices) (answer : Peaks) (b′ : Slices)

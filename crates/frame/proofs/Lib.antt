@@ -1,6 +1,7 @@
 pub mod Numbers
 pub mod Padded
 pub mod Adding
+pub mod Moving
 pub mod Patches
 pub mod Boxes
 pub mod Levels

@@ -85,7 +85,9 @@ fn add_patch(
         neighbours,
         held,
     );
-    shifting::shift_all(x0, y0, xs, ys, strengths, neighbours, held, added(f));
+    let m = added(f);
+    shifting::shift(xs, held, m, x0 as f32);
+    shifting::shift(ys, held, m, y0 as f32);
     f
 }
 

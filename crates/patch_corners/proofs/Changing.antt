@@ -23,7 +23,7 @@ module _ {A : Type 0} (held : ℕ) (vs d : List A) (h : held ≤ length d) where
   begin-length : length (take held d ++ vs) ≡ held + length vs
   begin-length = length-append (take held d) vs ∙ ap (λ (k : ℕ). k + length vs) (length-take-le held d h)
 
-  placed-behind : (i : ℕ) (z : A) → held + length vs ≤ i → getD (placed held vs d) i z ≡ getD d i z
+  pub placed-behind : (i : ℕ) (z : A) → held + length vs ≤ i → getD (placed held vs d) i z ≡ getD d i z
   placed-behind i z l =
       let k = i - (held + length vs) in
       let e : i ≡ length (take held d ++ vs) + k = omega (arith, begin-length) in
@@ -33,7 +33,7 @@ module _ {A : Type 0} (held : ℕ) (vs d : List A) (h : held ≤ length d) where
       ∙ getD-drop (held + length vs) d k z
       ∙ ap (λ (j : ℕ). getD d j z) m
 
-  placed-again : (us : List A) → length us ≡ length vs → placed held us (placed held vs d) ≡ placed held us d
+  pub placed-again : (us : List A) → length us ≡ length vs → placed held us (placed held vs d) ≡ placed held us d
   placed-again us e =
       let rest = drop (held + length vs) d in
       ap₂ (λ (a b : List A). a ++ us ++ b)

@@ -1,21 +1,71 @@
--- `frame::shifting::shift` meets its contract: an `f32` holds every whole number up to 4,096. Assumes nothing.
-use borrow.Author.Needs.{needs}
+-- `frame::shifting::shift` meets its contract. Assumes nothing.
+mod Landmarks
+use Prim.Native.Nat.{_-_}
 use native.Mathlib.Omega.{arith}
-use lib.Dec.{le→leb}
-use lib.Ieee.{inFloat}
+use lib.Ieee.{binary32, add}
+use Rattle.frame.proofs.Moving.{Raising, raising-none, raising-set, raising-all}
 use Rattle.frame.proofs.shifting.shift.Statement.{statement}
 use Rattle.frame.proofs.shifting.shift.Tie as tie
+use Landmarks.*
 
-int-to-float-t4 : tie.Need-int-to-float-t4
-unfolding inFloat
-int-to-float-t4 c = omega (arith, le→leb)
+abbrev Inv-loop : tie.InvT-loop
+Inv-loop d₀ held n by i₀ d i = Raising (λ z. add binary32 z by) held n i d₀ d
 
-int-to-float-t6 : tie.Need-int-to-float-t6
-unfolding inFloat
-int-to-float-t6 c = omega (arith, le→leb)
+abbrev μ-loop : tie.MeasureT-loop
+μ-loop d₀ held n by i₀ d i = n - i
 
-returns : tie.Need-returns
-returns c = search needs
+loop-holds : tie.Need-loop-holds Inv-loop μ-loop
+loop-holds c = raising-none _ _ _ _
+
+add-d : tie.Need-add-d Inv-loop μ-loop
+add-d c = omega arith
+
+mul-d : tie.Need-mul-d Inv-loop μ-loop
+mul-d c = omega arith
+
+slice-read-d : tie.Need-slice-read-d Inv-loop μ-loop
+slice-read-d c = omega (arith, loop-from-slice-read-d c .loop .inv .long)
+
+add-d-2 : tie.Need-add-d-2 Inv-loop μ-loop
+add-d-2 c = omega arith
+
+mul-d-2 : tie.Need-mul-d-2 Inv-loop μ-loop
+mul-d-2 c = omega arith
+
+slice-write-d : tie.Need-slice-write-d Inv-loop μ-loop
+slice-write-d c = omega (arith, loop-from-slice-write-d c .loop .inv .long)
+
+add-i : tie.Need-add-i Inv-loop μ-loop
+add-i c = omega (arith, start-from-add-i c .good)
+
+loop-less : tie.Need-loop-less Inv-loop μ-loop
+loop-less c = omega arith
+
+loop-again : tie.Need-loop-again Inv-loop μ-loop
+loop-again c =
+    raising-set _ _ _ _ (start-from-loop-again c .pre) _ _ (loop-from-loop-again c .loop .inv) (loop-test-from-loop-again c .loop-test .taken)
+
+same-length : tie.Need-same-length Inv-loop μ-loop
+same-length c = c .before .loop .inv .long
+
+returns : tie.Need-returns Inv-loop μ-loop
+returns c = raising-all _ _ _ _ (start-from-returns c .pre) _ _ (c .before .loop .inv) (omega arith)
 
 pub shift-spec : {M : Type 1} → statement M
-shift-spec = tie.close (tie.spec int-to-float-t4 int-to-float-t6 returns)
+shift-spec =
+    tie.close
+    (tie.spec
+    Inv-loop
+    μ-loop
+    loop-holds
+    add-d
+    mul-d
+    slice-read-d
+    add-d-2
+    mul-d-2
+    slice-write-d
+    add-i
+    loop-less
+    loop-again
+    same-length
+    returns)
