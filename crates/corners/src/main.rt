@@ -1,69 +1,62 @@
 // The program `corners`: prints the listing of the frame stream that it reads from standard input, of which it reads no byte more than
 // decides the listing. A line on standard error says so where it cannot read or write.
+mod writing;
+
+use input::Input;
 use listing::LONGEST;
+use writing::Output;
 ghost use mathlib.Core.Path.{_≡_};
+ghost use mathlib.Core.Bool.{false};
 ghost use lib.ListN.{length};
-ghost use Rattle.finder.specs.Finder.{outputOf};
-ghost use Rattle.corners.specs.Read.{Read};
+ghost use Rattle.input.specs.Input.{isBelow0};
+ghost use Rattle.input.specs.Reading.{Read};
+ghost use Rattle.stream.specs.Wanted.{wanted};
 
 // No frame stream is longer.
 const LONGEST_STREAM: usize = 9527;
 
-// How reading ended.
-enum Input {
-    // So many bytes decide the listing.
-    Decided(usize),
-    // So many came, and then the input ended.
-    Ended(usize),
-    Failed,
-}
-
-// Reads as many bytes as are wanted, again and again.
+// Reads as many bytes as are wanted, again and again, until none is or none comes.
 fn read_stream(stream: &mut [u8]) -> Input
     requires { ⌜ length (now stream) ≡ 9527 ⌝ }
-    ensures { λ r. ⌜ Read r (now (stream .exit)) ⌝ }
+    ensures { λ r. ⌜ Read wanted r (now (stream .exit)) ⌝ }
 {
-    let mut n = 0;
+    let mut input = input::begin();
     loop {
+        let n = input::count(input);
         let more = stream::wanted(&stream[..n]);
         if more == 0 {
-            return Input::Decided(n);
+            return input;
         }
-        let end = n + more;
-        let got = libc::read(libc::STDIN_FILENO, &mut stream[n..end]);
-        if got < 0 {
-            return Input::Failed;
+        input = input::read_on(input, more, stream);
+        if input::count(input) == n {
+            return input;
         }
-        let count = io::count(got, &stream[n..end]);
-        if count == 0 {
-            return Input::Ended(n);
-        }
-        n += count;
     }
 }
 
-// Writes a text that is the listing of a stream.
-fn write_listing(text: &[u8], stream: &[u8])
-    requires { ⌜ now text ≡ outputOf (now stream) ⌝ }
+// Prints the listing of what was read.
+fn print_listing(stream: &[u8], input: Input) -> Output
+    requires { ⌜ Read wanted input (now stream) ⌝ }
+    requires { ⌜ isBelow0 (input .answer) ≡ false ⌝ }
 {
-    if !io::write_all(libc::STDOUT_FILENO, text) {
-        os::fail(b"corners: standard output");
-    }
+    let n = input::count(input);
+    let mut text = [0u8; LONGEST];
+    let end = finder::find(&stream[..n], &mut text);
+    writing::write_listing(&text[..end], stream, input)
 }
 
-// Prints the listing of a stream.
-fn print_listing(stream: &[u8]) {
-    let mut text = [0u8; LONGEST];
-    let end = finder::find(stream, &mut text);
-    write_listing(&text[..end], stream);
+// Answers what was read.
+fn answer(stream: &[u8], input: Input) -> Output
+    requires { ⌜ Read wanted input (now stream) ⌝ }
+{
+    if input::is_failed(input) {
+        return writing::report_input(input);
+    }
+    print_listing(stream, input)
 }
 
 fn main() {
     let mut stream = [0u8; LONGEST_STREAM];
     let input = read_stream(&mut stream);
-    match input {
-        Input::Decided(n) => print_listing(&stream[..n]),
-        Input::Ended(n) => print_listing(&stream[..n]),
-        Input::Failed => os::fail(b"corners: standard input"),
-    }
+    answer(&stream, input);
 }

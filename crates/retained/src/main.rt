@@ -1,72 +1,65 @@
 // The program `retained`: prints which items of the stream that it reads from standard input are held, of which it reads no byte more than
 // decides the letters. A line on standard error says so where it cannot read or write.
+mod writing;
+
+use input::Input;
 use retention::LONGEST;
+use writing::Output;
 ghost use mathlib.Core.Path.{_≡_};
+ghost use mathlib.Core.Bool.{false};
 ghost use lib.ListN.{length};
-ghost use Rattle.retention.specs.Stream.{outputOf};
-ghost use Rattle.retained.specs.Read.{Read};
+ghost use Rattle.input.specs.Input.{isBelow0};
+ghost use Rattle.input.specs.Reading.{Read};
+ghost use Rattle.retention.specs.Wanted.{wanted};
 
 // No more is read: the time and 65,536 records.
 const LONGEST_STREAM: usize = 589832;
 
-// How reading ended.
-enum Input {
-    // So many bytes decide the letters.
-    Decided(usize),
-    // So many came, and then the input ended.
-    Ended(usize),
-    Failed,
-}
-
-// Reads as many bytes as are wanted, again and again.
+// Reads as many bytes as are wanted, again and again, until none is or none comes.
 fn read_stream(stream: &mut [u8]) -> Input
     requires { ⌜ length (now stream) ≡ 589832 ⌝ }
-    ensures { λ r. ⌜ Read r (now (stream .exit)) ⌝ }
+    ensures { λ r. ⌜ Read wanted r (now (stream .exit)) ⌝ }
 {
-    let mut n = 0;
+    let mut input = input::begin();
     let mut passed = 0;
     loop {
+        let n = input::count(input);
         let standing = retention::wanted(&stream[..n], passed);
         passed = standing.passed;
         let more = standing.bytes;
         if more == 0 {
-            return Input::Decided(n);
+            return input;
         }
-        let end = n + more;
-        let got = libc::read(libc::STDIN_FILENO, &mut stream[n..end]);
-        if got < 0 {
-            return Input::Failed;
+        input = input::read_on(input, more, stream);
+        if input::count(input) == n {
+            return input;
         }
-        let count = io::count(got, &stream[n..end]);
-        if count == 0 {
-            return Input::Ended(n);
-        }
-        n += count;
     }
 }
 
-// Writes a text that is that of a stream.
-fn write_letters(text: &[u8], stream: &[u8])
-    requires { ⌜ now text ≡ outputOf (now stream) ⌝ }
+// Prints the letters of what was read.
+fn print_letters(stream: &[u8], input: Input) -> Output
+    requires { ⌜ Read wanted input (now stream) ⌝ }
+    requires { ⌜ isBelow0 (input .answer) ≡ false ⌝ }
 {
-    if !io::write_all(libc::STDOUT_FILENO, text) {
-        os::fail(b"retained: standard output");
-    }
+    let n = input::count(input);
+    let mut text = [0u8; LONGEST];
+    let end = retention::list_holdings(&stream[..n], &mut text);
+    writing::write_letters(&text[..end], stream, input)
 }
 
-// Prints the letters of a stream.
-fn print_letters(stream: &[u8]) {
-    let mut text = [0u8; LONGEST];
-    let end = retention::list_holdings(stream, &mut text);
-    write_letters(&text[..end], stream);
+// Answers what was read.
+fn answer(stream: &[u8], input: Input) -> Output
+    requires { ⌜ Read wanted input (now stream) ⌝ }
+{
+    if input::is_failed(input) {
+        return writing::report_input(input);
+    }
+    print_letters(stream, input)
 }
 
 fn main() {
     let mut stream = [0u8; LONGEST_STREAM];
     let input = read_stream(&mut stream);
-    match input {
-        Input::Decided(n) => print_letters(&stream[..n]),
-        Input::Ended(n) => print_letters(&stream[..n]),
-        Input::Failed => os::fail(b"retained: standard input"),
-    }
+    answer(&stream, input);
 }

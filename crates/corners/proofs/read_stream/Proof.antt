@@ -1,136 +1,149 @@
 -- `corners::read_stream` meets its contract. The invariant: the bytes that came lie in the buffer. The measure is what is left of it. Assumes the
 -- contract of `read`.
-mod Landmarks
-use Prim.Native.Nat.{ℕ, _+_, _-_, _≤_}
+use Prim.Native.Nat.{ℕ, _+_, _-_, _<_, _≤_}
 use native.Mathlib.Omega.{arith}
-use mathlib.Core.Path.{_≡_, sym, _∙_}
+use mathlib.Core.Path.{_≡_, sym, ap, _∙_, subst}
 use mathlib.Core.List.{List}
-use lib.ListN.{length, take, drop, length-take}
+use lib.ListN.{length, take}
 use lib.Seq.{length-take-le}
 use borrow.Author.Needs.{needs}
-use borrow.Rule.Slice.PartMut.{midOf, putMid, same-len-mid, take-put}
+use Rattle.input.specs.declared.Input.{Input}
+use Rattle.input.specs.Input.{ReadOn}
+use Rattle.input.specs.Reading.{Read}
+use Rattle.input.proofs.Turn.{Brought, decided, brought, most, more-came, none-came}
 use Rattle.stream.specs.Wanted.{wanted}
 use Rattle.stream.proofs.Decided.{frame-wants}
-use Rattle.corners.specs.declared.Input.the-variants.{Ended}
-use Rattle.corners.specs.Read.{Read}
 use Rattle.corners.proofs.read_stream.Statement.{statement}
 use Rattle.corners.proofs.read_stream.Tie as tie
-use Landmarks.*
 
--- ---- one turn, with n bytes in the buffer and `more` wanted
-module _ (s : List ℕ) (n more : ℕ) (long : (length s ≡ 9527) × (n ≤ 9527)) (wants : more ≡ wanted (take n s)) (some : more ≡ 0 → ⊥) where
-  fits : n + more ≤ 9527
-  fits = omega (arith, frame-wants (take n s) .total (omega arith), length-take-le n s (omega arith))
+record Came (s : List ℕ) (i : Input) : Type 0 where
+  long : length s ≡ 9527
+  few : i .count ≤ 9527
+  some : Brought (i .answer)
 
-  -- what a read leaves
-  module _ (ys : List ℕ) (kept : length ys ≡ length (midOf n (n + more - n) s)) where
-    abbrev after : List ℕ
-    after = putMid n (n + more - n) s ys
+-- ---- one turn, with so many bytes in the buffer and `more` wanted
+module _ (s : List ℕ) (i : Input) (came : Came s i) (n : ℕ) (counts : n ≡ i .count) (more : ℕ) (told : more ≡ wanted (take n s)) where
+  wants : more ≡ wanted (take (i .count) s)
+  wants = told ∙ ap (λ (m : ℕ). wanted (take m s)) counts
 
-    after-long : length after ≡ length s
-    after-long = same-len-mid n (n + more - n) s ys kept
+  all-came : more ≡ 0 → Read wanted i s
+  all-came z = decided wanted i s (omega (arith, came .long, came .few)) (came .some) (sym wants ∙ z)
 
-    none-came : Read (Ended n) after
-    none-came = (omega (arith, after-long), rw (take-put n (n + more - n) s ys (omega arith)) (omega arith))
+  module _ (some : more ≡ 0 → ⊥) where
+    fits : i .count + more ≤ length s
+    fits =
+        omega (
+          arith,
+          wants,
+          frame-wants (take (i .count) s) .total (omega (arith, wants)),
+          length-take-le (i .count) s (omega (arith, came .long, came .few)),
+          came .long,
+        )
 
-    goes-on : (count : ℕ) → count ≤ length (take (n + more - n) (drop n after)) → (length after ≡ 9527) × (n + count ≤ 9527)
-    goes-on count l = (after-long ∙ long .0, omega (arith, fits, length-take (n + more - n) (drop n after)))
+    -- what a read leaves
+    module _ (j : Input) (after : List ℕ) (read : ReadOn i more s j after) (m : ℕ) (recounts : m ≡ j .count) where
+      ended : m ≡ n → Read wanted j after
+      ended same = none-came i more s j after read fits wanted (omega arith) wants (sym recounts ∙ same ∙ counts)
+
+      module _ (grows : m ≡ n → ⊥) where
+        grown : j .count ≡ i .count → ⊥
+        grown e = grows (recounts ∙ e ∙ sym counts)
+
+        goes-on : Came after j
+        goes-on = record {
+          long = read .long ∙ came .long;
+          few = omega (arith, most i more s j after read fits, fits, came .long);
+          some = brought i more s j after read fits grown;
+        }
+
+        less : 9527 - j .count < 9527 - i .count
+        less = omega (arith, more-came i more s j after read fits grown, goes-on .few)
 
 abbrev Inv-loop : tie.InvT-loop
-Inv-loop stream₀ n₀ stream n = (length stream ≡ 9527) × (n ≤ 9527)
+Inv-loop stream₀ input₀ stream input = Came stream input
 
 abbrev μ-loop : tie.MeasureT-loop
-μ-loop stream₀ n₀ stream n = 9527 - n
+μ-loop stream₀ input₀ stream input = 9527 - input .count
 
 -- from one place of the code back to another
-abbrev at-more : tie.After-read Inv-loop μ-loop → tie.Else1 Inv-loop μ-loop
-at-more c = c .before .before
+abbrev at-loop : tie.After-wanted Inv-loop μ-loop → tie.At-loop Inv-loop μ-loop
+at-loop c = c .before .before .before
 
-abbrev at-read : tie.After-count Inv-loop μ-loop → tie.After-read Inv-loop μ-loop
-at-read c = read-from-count c
+abbrev start : tie.After-wanted Inv-loop μ-loop → tie.Start Inv-loop μ-loop
+start c = at-loop c .before .before .before
+
+abbrev at-else : tie.After-count2 Inv-loop μ-loop → tie.Else1 Inv-loop μ-loop
+at-else c = c .before .before .before .before .before
+
+abbrev at-wanted : tie.After-count2 Inv-loop μ-loop → tie.After-wanted Inv-loop μ-loop
+at-wanted c = at-else c .before
+
+-- what a call promises at such a place
+counted : (c : tie.After-wanted Inv-loop μ-loop) → c .before .before .count .result ≡ at-loop c .loop .input .count
+counted c = c .before .before .count .ensures
+
+goes :
+    (c : tie.After-count2 Inv-loop μ-loop)
+    → ReadOn
+    (at-loop (at-wanted c) .loop .input)
+    (at-wanted c .wanted .result)
+    (at-loop (at-wanted c) .loop .stream)
+    (c .before .before .before .read-on .result)
+    (c .before .before .before .read-on .last .1 .1 .0)
+goes c = c .before .before .before .read-on .ensures
+
+begin-requires : tie.Need-begin-requires Inv-loop μ-loop
+begin-requires c κs = search needs
 
 loop-holds : tie.Need-loop-holds Inv-loop μ-loop
-loop-holds c = search needs
+loop-holds c = subst (λ (i : Input). Came (c .before .before .args .stream .now) i) (sym (c .begin .ensures))
+    (record { long = c .before .before .pre; few = omega arith; some = tt })
+
+count-requires : tie.Need-count-requires Inv-loop μ-loop
+count-requires c κs = search needs
 
 slice-reshare-prefix-wanted : tie.Need-slice-reshare-prefix-wanted Inv-loop μ-loop
-slice-reshare-prefix-wanted c = search needs
+slice-reshare-prefix-wanted c = omega (arith, c .count .ensures, c .before .loop .inv .long, c .before .loop .inv .few)
 
 slice-aggregate-wanted : tie.Need-slice-aggregate-wanted Inv-loop μ-loop
-slice-aggregate-wanted c = sym (length-take-le _ _ (omega arith))
+slice-aggregate-wanted c = sym (length-take-le _ _ (slice-reshare-prefix-wanted (c .before)))
 
 wanted-requires : tie.Need-wanted-requires Inv-loop μ-loop
 wanted-requires c κs = search needs
 
 same-length : tie.Need-same-length Inv-loop μ-loop
-same-length c = search needs
+same-length c = at-loop (c .before) .loop .inv .long ∙ sym (start (c .before) .pre)
 
 returns : tie.Need-returns Inv-loop μ-loop
-returns c = search needs
+returns c = all-came _ _ (at-loop (c .before) .loop .inv) _ (counted (c .before)) _ (c .before .wanted .ensures) (c .if1 .taken)
 
-add-end : tie.Need-add-end Inv-loop μ-loop
-add-end c = omega (arith, fits _ _ _ (loop-from-add-end c .loop .inv) (c .before .wanted .ensures) (c .if1 .left))
+read-on-requires : tie.Need-read-on-requires Inv-loop μ-loop
+read-on-requires c κs = search needs
 
-sub-read : tie.Need-sub-read Inv-loop μ-loop
-sub-read c = search needs
-
-part-read-start : tie.Need-part-read-start Inv-loop μ-loop
-part-read-start c = search needs
-
-part-read-end : tie.Need-part-read-end Inv-loop μ-loop
-part-read-end c = omega (arith, fits _ _ _ (loop-from-part-read-end c .loop .inv) (c .before .wanted .ensures) (c .if1 .left))
-
-read-requires : tie.Need-read-requires Inv-loop μ-loop
-read-requires c κs = search needs
+count-requires-2 : tie.Need-count-requires-2 Inv-loop μ-loop
+count-requires-2 c κs = search needs
 
 same-length-2 : tie.Need-same-length-2 Inv-loop μ-loop
-same-length-2 c = search needs
+same-length-2 c = goes (c .before) .long ∙ at-loop (at-wanted (c .before)) .loop .inv .long ∙ sym (start (at-wanted (c .before)) .pre)
 
 returns-2 : tie.Need-returns-2 Inv-loop μ-loop
-returns-2 c = search needs
-
-sub-count : tie.Need-sub-count Inv-loop μ-loop
-sub-count c = search needs
-
-part-count-start : tie.Need-part-count-start Inv-loop μ-loop
-part-count-start c = search needs
-
-part-count-end : tie.Need-part-count-end Inv-loop μ-loop
-part-count-end c =
-    let read = read-from-part-count-end c in
-    let more = at-more read in
-    omega (
-      arith,
-      fits _ _ _ (more .before .before .before .loop .inv) (more .before .wanted .ensures) (more .if1 .left),
-      after-long _ _ _ (more .before .before .before .loop .inv) (more .before .wanted .ensures) (more .if1 .left) (read .read .last .1 .0)
-          (read .read .kept .1 .0),
-    )
-
-count-requires : tie.Need-count-requires Inv-loop μ-loop
-count-requires c κs = search needs
-
-same-length-3 : tie.Need-same-length-3 Inv-loop μ-loop
-same-length-3 c = search needs
-
-returns-3 : tie.Need-returns-3 Inv-loop μ-loop
-returns-3 c =
-    let read = at-read (c .before) in
-    let more = at-more read in
-    none-came _ _ _ (more .before .before .before .loop .inv) (more .before .wanted .ensures) (more .if1 .left) (read .read .last .1 .0)
-    (read .read .kept .1 .0)
+returns-2 c =
+    let w = at-wanted (c .before) in
+    ended _ _ (at-loop w .loop .inv) _ (counted w) _ (w .wanted .ensures) (at-else (c .before) .if1 .left) _ _ (goes (c .before)) _ (c .before .count2 .ensures)
+    (c .if2 .taken)
 
 -- the invariant after a turn
 again : tie.Need-loop-again Inv-loop μ-loop
 again c =
-    let read = at-read (c .before) in
-    let more = at-more read in
-    goes-on _ _ _ (more .before .before .before .loop .inv) (more .before .wanted .ensures) (more .if1 .left) (read .read .last .1 .0)
-    (read .read .kept .1 .0) _ (c .before .count .ensures .0 .0)
-
-add-n : tie.Need-add-n Inv-loop μ-loop
-add-n c = omega (arith, again c)
+    let w = at-wanted (c .before) in
+    goes-on _ _ (at-loop w .loop .inv) _ (counted w) _ (w .wanted .ensures) (at-else (c .before) .if1 .left) _ _ (goes (c .before)) _
+    (c .before .count2 .ensures) (c .if2 .left)
 
 loop-less : tie.Need-loop-less Inv-loop μ-loop
-loop-less c = omega (arith, again c)
+loop-less c =
+    let w = at-wanted (c .before) in
+    less _ _ (at-loop w .loop .inv) _ (counted w) _ (w .wanted .ensures) (at-else (c .before) .if1 .left) _ _ (goes (c .before)) _
+    (c .before .count2 .ensures) (c .if2 .left)
 
 loop-again : tie.Need-loop-again Inv-loop μ-loop
 loop-again c = again c
@@ -141,25 +154,17 @@ read-stream-spec =
     (tie.spec
     Inv-loop
     μ-loop
+    begin-requires
     loop-holds
+    count-requires
     slice-reshare-prefix-wanted
     slice-aggregate-wanted
     wanted-requires
     same-length
     returns
-    add-end
-    sub-read
-    part-read-start
-    part-read-end
-    read-requires
+    read-on-requires
+    count-requires-2
     same-length-2
     returns-2
-    sub-count
-    part-count-start
-    part-count-end
-    count-requires
-    same-length-3
-    returns-3
-    add-n
     loop-less
     loop-again)

@@ -1,101 +1,119 @@
 -- `retained::read_stream` meets its contract. The invariant: the bytes that came lie in the buffer, and the items that are passed have no fault. The
 -- measure is what is left of the buffer. Assumes the contract of `read`.
-mod Landmarks
-use Prim.Native.Nat.{ℕ, _+_, _-_, _≤_}
+use Prim.Native.Nat.{ℕ, _+_, _-_, _<_, _≤_}
 use native.Mathlib.Omega.{arith}
-use mathlib.Core.Path.{_≡_, sym, ap, _∙_}
+use mathlib.Core.Path.{_≡_, sym, ap, _∙_, subst}
 use mathlib.Core.List.{List, _++_}
-use lib.ListN.{length, take, drop, length-take}
+use lib.ListN.{length, take, drop}
 use lib.Seq.{length-take-le, take-add}
 use borrow.Author.Needs.{needs}
-use borrow.Rule.Slice.PartMut.{midOf, putMid, same-len-mid, take-put}
+use Rattle.input.specs.declared.Input.{Input}
+use Rattle.input.specs.Input.{ReadOn}
+use Rattle.input.specs.Reading.{Read}
+use Rattle.input.proofs.Turn.{Brought, decided, as-before, brought, most, more-came, none-came}
 use Rattle.retention.specs.declared.reading.Standing.{Standing}
 use Rattle.retention.specs.Wanted.{wanted, Stands}
 use Rattle.retention.proofs.Passing.{Before, before-none, before-append, stands-wanted, stands-before}
-use Rattle.retention.proofs.Decided.{most}
-use Rattle.retained.specs.declared.Input.the-variants.{Decided, Ended}
-use Rattle.retained.specs.Read.{Read}
+use Rattle.retention.proofs.Decided as decide
 use Rattle.retained.proofs.read_stream.Statement.{statement}
 use Rattle.retained.proofs.read_stream.Tie as tie
-use Landmarks.*
 
-record Came (s : List ℕ) (n passed : ℕ) : Type 0 where
+record Came (s : List ℕ) (i : Input) (passed : ℕ) : Type 0 where
   long : length s ≡ 589832
-  few : n ≤ 589832
-  before : Before (take n s) passed
+  few : i .count ≤ 589832
+  some : Brought (i .answer)
+  before : Before (take (i .count) s) passed
 
--- ---- one turn, with n bytes in the buffer and `more` wanted
-module _ (s : List ℕ) (n passed : ℕ) (came : Came s n passed) (r : Standing) (told : Stands (take n s) passed r) where
+-- ---- one turn, with so many bytes in the buffer and `more` wanted
+module _ (s : List ℕ) (i : Input) (passed : ℕ) (came : Came s i passed) (n : ℕ) (counts : n ≡ i .count) (r : Standing) (told : Stands (take n s) passed r) where
   abbrev more : ℕ
   more = r .bytes
 
-  wants : more ≡ wanted (take n s)
-  wants = stands-wanted (take n s) passed (came .before) r told
+  stands : Stands (take (i .count) s) passed r
+  stands = subst (λ (m : ℕ). Stands (take m s) passed r) counts told
 
-  all-came : more ≡ 0 → Read (Decided n) s
-  all-came z = (omega (arith, came .long, came .few), sym wants ∙ z)
+  wants : more ≡ wanted (take (i .count) s)
+  wants = stands-wanted (take (i .count) s) passed (came .before) r stands
+
+  all-came : more ≡ 0 → Read wanted i s
+  all-came z = decided wanted i s (omega (arith, came .long, came .few)) (came .some) (sym wants ∙ z)
 
   module _ (some : more ≡ 0 → ⊥) where
-    fits : n + more ≤ 589832
-    fits = omega (arith, wants, most (take n s) (omega (arith, wants)), length-take-le n s (omega (arith, came .long, came .few)))
+    fits : i .count + more ≤ length s
+    fits =
+        omega
+        (arith, wants, decide.most (take (i .count) s) (omega (arith, wants)), length-take-le (i .count) s (omega (arith, came .long, came .few)), came .long)
 
     -- what a read leaves
-    module _ (ys : List ℕ) (kept : length ys ≡ length (midOf n (n + more - n) s)) where
-      abbrev after : List ℕ
-      after = putMid n (n + more - n) s ys
+    module _ (j : Input) (after : List ℕ) (read : ReadOn i more s j after) (m : ℕ) (recounts : m ≡ j .count) where
+      ended : m ≡ n → Read wanted j after
+      ended same = none-came i more s j after read fits wanted (omega arith) wants (sym recounts ∙ same ∙ counts)
 
-      after-long : length after ≡ length s
-      after-long = same-len-mid n (n + more - n) s ys kept
+      module _ (grows : m ≡ n → ⊥) where
+        grown : j .count ≡ i .count → ⊥
+        grown e = grows (recounts ∙ e ∙ sym counts)
 
-      as-before : take n after ≡ take n s
-      as-before = take-put n (n + more - n) s ys (omega (arith, came .long, came .few))
+        goes-on : Came after j (r .passed)
+        goes-on = record {
+          long = read .long ∙ came .long;
+          few = omega (arith, most i more s j after read fits, fits, came .long);
+          some = brought i more s j after read fits grown;
+          before =
+              let longer : j .count ≡ i .count + (j .count - i .count) = omega (arith, more-came i more s j after read fits grown) in
+              rw (ap (λ (k : ℕ). take k after) longer ∙ take-add (i .count) (j .count - i .count) after
+              ∙ ap (λ (front : List ℕ). front ++ take (j .count - i .count) (drop (i .count) after)) (as-before i more s j after read fits))
+              (before-append (take (i .count) s) (take (j .count - i .count) (drop (i .count) after)) (r .passed)
+              (stands-before (take (i .count) s) passed (came .before) r stands));
+        }
 
-      none-came : Read (Ended n) after
-      none-came = (omega (arith, after-long, came .long, came .few), rw as-before (omega (arith, wants)))
-
-      goes-on : (count : ℕ) → count ≤ length (take (n + more - n) (drop n after)) → Came after (n + count) (r .passed)
-      goes-on count l = record {
-        long = after-long ∙ came .long;
-        few = omega (arith, fits, length-take (n + more - n) (drop n after));
-        before =
-            rw (take-add n count after ∙ ap (λ (front : List ℕ). front ++ take count (drop n after)) as-before)
-            (before-append (take n s) (take count (drop n after)) (r .passed) (stands-before (take n s) passed (came .before) r told));
-      }
+        less : 589832 - j .count < 589832 - i .count
+        less = omega (arith, more-came i more s j after read fits grown, goes-on .few)
 
 abbrev Inv-loop : tie.InvT-loop
-Inv-loop stream₀ n₀ passed₀ stream n passed = Came stream n passed
+Inv-loop stream₀ input₀ passed₀ stream input passed = Came stream input passed
 
 abbrev μ-loop : tie.MeasureT-loop
-μ-loop stream₀ n₀ passed₀ stream n passed = 589832 - n
+μ-loop stream₀ input₀ passed₀ stream input passed = 589832 - input .count
 
 -- from one place of the code back to another
-abbrev at-more : tie.After-read Inv-loop μ-loop → tie.Else1 Inv-loop μ-loop
-at-more c = c .before .before
+abbrev at-loop : tie.After-wanted Inv-loop μ-loop → tie.At-loop Inv-loop μ-loop
+at-loop c = c .before .before .before
 
-abbrev at-read : tie.After-count Inv-loop μ-loop → tie.After-read Inv-loop μ-loop
-at-read c = read-from-count c
+abbrev start : tie.After-wanted Inv-loop μ-loop → tie.Start Inv-loop μ-loop
+start c = at-loop c .before .before .before
 
-abbrev at-loop : tie.After-read Inv-loop μ-loop → tie.At-loop Inv-loop μ-loop
-at-loop c = at-more c .before .before .before
+abbrev at-else : tie.After-count2 Inv-loop μ-loop → tie.Else1 Inv-loop μ-loop
+at-else c = c .before .before .before .before .before
 
--- a read keeps the buffer's length
-abbrev part : tie.After-read Inv-loop μ-loop → ℕ
-part c = at-loop c .loop .n + at-more c .before .wanted .result .bytes - at-loop c .loop .n
+abbrev at-wanted : tie.After-count2 Inv-loop μ-loop → tie.After-wanted Inv-loop μ-loop
+at-wanted c = at-else c .before
 
-kept-long : (c : tie.After-read Inv-loop μ-loop)
-    → length (putMid (at-loop c .loop .n) (part c) (at-loop c .loop .stream) (c .read .last .1 .0)) ≡ length (at-loop c .before .before .args .stream .now)
-kept-long c =
-    let more = at-more c in
-    let at = at-loop c in
-    after-long _ _ _ (at .loop .inv) _ (more .before .wanted .ensures) (more .if1 .left) (c .read .last .1 .0) (c .read .kept .1 .0)
-    ∙ at .loop .inv .long
-    ∙ sym (at .before .before .pre)
+-- what a call promises at such a place
+counted : (c : tie.After-wanted Inv-loop μ-loop) → c .before .before .count .result ≡ at-loop c .loop .input .count
+counted c = c .before .before .count .ensures
+
+goes :
+    (c : tie.After-count2 Inv-loop μ-loop)
+    → ReadOn
+    (at-loop (at-wanted c) .loop .input)
+    (at-wanted c .wanted .result .bytes)
+    (at-loop (at-wanted c) .loop .stream)
+    (c .before .before .before .read-on .result)
+    (c .before .before .before .read-on .last .1 .1 .0)
+goes c = c .before .before .before .read-on .ensures
+
+begin-requires : tie.Need-begin-requires Inv-loop μ-loop
+begin-requires c κs = search needs
 
 loop-holds : tie.Need-loop-holds Inv-loop μ-loop
-loop-holds c = record { long = c .before .pre; few = omega arith; before = before-none (take 0 (c .before .args .stream .now)) }
+loop-holds c = subst (λ (i : Input). Came (c .before .before .args .stream .now) i 0) (sym (c .begin .ensures))
+    (record { long = c .before .before .pre; few = omega arith; some = tt; before = before-none (take 0 (c .before .before .args .stream .now)) })
+
+count-requires : tie.Need-count-requires Inv-loop μ-loop
+count-requires c κs = search needs
 
 slice-reshare-prefix-wanted : tie.Need-slice-reshare-prefix-wanted Inv-loop μ-loop
-slice-reshare-prefix-wanted c = omega (arith, c .loop .inv .long, c .loop .inv .few)
+slice-reshare-prefix-wanted c = omega (arith, c .count .ensures, c .before .loop .inv .long, c .before .loop .inv .few)
 
 slice-aggregate-wanted : tie.Need-slice-aggregate-wanted Inv-loop μ-loop
 slice-aggregate-wanted c = sym (length-take-le _ _ (slice-reshare-prefix-wanted (c .before)))
@@ -104,78 +122,39 @@ wanted-requires : tie.Need-wanted-requires Inv-loop μ-loop
 wanted-requires c κs = search needs
 
 same-length : tie.Need-same-length Inv-loop μ-loop
-same-length c = loop-from-same-length c .loop .inv .long ∙ sym (start-from-same-length c .pre)
+same-length c = at-loop (c .before) .loop .inv .long ∙ sym (start (c .before) .pre)
 
 returns : tie.Need-returns Inv-loop μ-loop
-returns c = all-came _ _ _ (loop-from-returns c .loop .inv) _ (c .before .wanted .ensures) (c .if1 .taken)
+returns c = all-came _ _ _ (at-loop (c .before) .loop .inv) _ (counted (c .before)) _ (c .before .wanted .ensures) (c .if1 .taken)
 
-add-end : tie.Need-add-end Inv-loop μ-loop
-add-end c = omega (arith, fits _ _ _ (loop-from-add-end c .loop .inv) _ (c .before .wanted .ensures) (c .if1 .left))
+read-on-requires : tie.Need-read-on-requires Inv-loop μ-loop
+read-on-requires c κs = search needs
 
-sub-read : tie.Need-sub-read Inv-loop μ-loop
-sub-read c = search needs
-
-part-read-start : tie.Need-part-read-start Inv-loop μ-loop
-part-read-start c = search needs
-
-part-read-end : tie.Need-part-read-end Inv-loop μ-loop
-part-read-end c =
-    let at = loop-from-part-read-end c .loop .inv in
-    omega (arith, fits _ _ _ at _ (c .before .wanted .ensures) (c .if1 .left), at .long)
-
-read-requires : tie.Need-read-requires Inv-loop μ-loop
-read-requires c κs = search needs
+count-requires-2 : tie.Need-count-requires-2 Inv-loop μ-loop
+count-requires-2 c κs = search needs
 
 same-length-2 : tie.Need-same-length-2 Inv-loop μ-loop
-same-length-2 c = kept-long (read-from-same-length-2 c)
+same-length-2 c = goes (c .before) .long ∙ at-loop (at-wanted (c .before)) .loop .inv .long ∙ sym (start (at-wanted (c .before)) .pre)
 
 returns-2 : tie.Need-returns-2 Inv-loop μ-loop
-returns-2 c = search needs
-
-sub-count : tie.Need-sub-count Inv-loop μ-loop
-sub-count c = search needs
-
-part-count-start : tie.Need-part-count-start Inv-loop μ-loop
-part-count-start c = search needs
-
-part-count-end : tie.Need-part-count-end Inv-loop μ-loop
-part-count-end c =
-    let read = read-from-part-count-end c in
-    let more = at-more read in
-    let at = more .before .before .before .loop .inv in
-    omega (
-      arith,
-      at .long,
-      fits _ _ _ at _ (more .before .wanted .ensures) (more .if1 .left),
-      after-long _ _ _ at _ (more .before .wanted .ensures) (more .if1 .left) (read .read .last .1 .0) (read .read .kept .1 .0),
-    )
-
-count-requires : tie.Need-count-requires Inv-loop μ-loop
-count-requires c κs = search needs
-
-same-length-3 : tie.Need-same-length-3 Inv-loop μ-loop
-same-length-3 c = kept-long (at-read (c .before))
-
-returns-3 : tie.Need-returns-3 Inv-loop μ-loop
-returns-3 c =
-    let read = at-read (c .before) in
-    let more = at-more read in
-    none-came _ _ _ (more .before .before .before .loop .inv) _ (more .before .wanted .ensures) (more .if1 .left) (read .read .last .1 .0)
-    (read .read .kept .1 .0)
+returns-2 c =
+    let w = at-wanted (c .before) in
+    ended _ _ _ (at-loop w .loop .inv) _ (counted w) _ (w .wanted .ensures) (at-else (c .before) .if1 .left) _ _ (goes (c .before)) _
+    (c .before .count2 .ensures)
+    (c .if2 .taken)
 
 -- the invariant after a turn
 again : tie.Need-loop-again Inv-loop μ-loop
 again c =
-    let read = at-read (c .before) in
-    let more = at-more read in
-    goes-on _ _ _ (more .before .before .before .loop .inv) _ (more .before .wanted .ensures) (more .if1 .left) (read .read .last .1 .0)
-    (read .read .kept .1 .0) _ (c .before .count .ensures .0 .0)
-
-add-n : tie.Need-add-n Inv-loop μ-loop
-add-n c = omega (arith, again c .few)
+    let w = at-wanted (c .before) in
+    goes-on _ _ _ (at-loop w .loop .inv) _ (counted w) _ (w .wanted .ensures) (at-else (c .before) .if1 .left) _ _ (goes (c .before)) _
+    (c .before .count2 .ensures) (c .if2 .left)
 
 loop-less : tie.Need-loop-less Inv-loop μ-loop
-loop-less c = omega (arith, again c .few, c .if3 .left)
+loop-less c =
+    let w = at-wanted (c .before) in
+    less _ _ _ (at-loop w .loop .inv) _ (counted w) _ (w .wanted .ensures) (at-else (c .before) .if1 .left) _ _ (goes (c .before)) _
+    (c .before .count2 .ensures) (c .if2 .left)
 
 loop-again : tie.Need-loop-again Inv-loop μ-loop
 loop-again c = again c
@@ -186,25 +165,17 @@ read-stream-spec =
     (tie.spec
     Inv-loop
     μ-loop
+    begin-requires
     loop-holds
+    count-requires
     slice-reshare-prefix-wanted
     slice-aggregate-wanted
     wanted-requires
     same-length
     returns
-    add-end
-    sub-read
-    part-read-start
-    part-read-end
-    read-requires
+    read-on-requires
+    count-requires-2
     same-length-2
     returns-2
-    sub-count
-    part-count-start
-    part-count-end
-    count-requires
-    same-length-3
-    returns-3
-    add-n
     loop-less
     loop-again)
