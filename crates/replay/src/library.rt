@@ -46,8 +46,8 @@ pub(crate) fn replay(body: &[u8]) -> bool {
     let next = with_seeds(
         body,
         past_length(body, places, PIXELS),
-        &mut map[0..n],
-        &mut levels[0..m],
+        &mut map[..n],
+        &mut levels[..m],
     );
     are_maps_due(body, next, n, m, &map, &levels)
 }
@@ -80,10 +80,10 @@ fn with_seeds(body: &[u8], lengths: usize, map: &mut [f32], levels: &mut [u8]) -
         past_lengths(body, lengths),
         map,
         levels,
-        &mut xs[0..nx],
-        &mut ys[0..ny],
-        &mut strengths[0..ns],
-        &mut neighbours[0..nn],
+        &mut xs[..nx],
+        &mut ys[..ny],
+        &mut strengths[..ns],
+        &mut neighbours[..nn],
     );
     due_seeds(body, next, lengths, &xs, &ys, &strengths, &neighbours)
 }
@@ -118,10 +118,10 @@ fn with_corners(
         sy,
         ss,
         sn,
-        &mut xs[0..nx],
-        &mut ys[0..ny],
-        &mut strengths[0..ns],
-        &mut neighbours[0..nn],
+        &mut xs[..nx],
+        &mut ys[..ny],
+        &mut strengths[..ns],
+        &mut neighbours[..nn],
     );
     let next = due_frame(body, past_lengths(body, lengths), answer);
     due_corners(body, next, lengths, &xs, &ys, &strengths, &neighbours)

@@ -13,8 +13,8 @@ use crate::fields::past_length;
 use crate::fields::words_at;
 ghost use Prim.Native.Nat.{_≤_};
 
-// The most places that a slice has.
-pub(crate) const LIST: usize = 120;
+// The most places that a slice has: as many as a listing has corners.
+pub(crate) const LIST: usize = 512;
 
 // ---- a slice, filled with the words that stand at a place of the body, and by the rule behind them; at BAD there are none
 
@@ -43,7 +43,7 @@ pub(crate) fn due_neighbours(body: &[u8], at: usize, given: usize, n: usize, d: 
 
 // The length of slice k.
 pub(crate) fn list_length(body: &[u8], lengths: usize, k: u8) -> usize
-    ensures { λ r. ⌜ r ≤ 120 ⌝ }
+    ensures { λ r. ⌜ r ≤ 512 ⌝ }
 {
     length_at(body, past(body, lengths, 4 * (k as usize)), LIST)
 }

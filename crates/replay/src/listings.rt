@@ -1,37 +1,20 @@
 // Kind 11: the listing of a corner list.
 use crate::buffers::due_front;
 use crate::buffers::fill_bytes;
-use crate::buffers::read_counts;
-use crate::buffers::read_floats;
 use crate::fields::and;
 use crate::fields::count_at;
 use crate::fields::past_words;
-use crate::fields::words_at;
+use crate::list_buffer::LIST;
+use crate::list_buffer::counts;
+use crate::list_buffer::floats;
 use listing::LONGEST;
 use listing::Listing;
 
-// The most corners.
-const CORNERS: usize = 512;
-
 pub(crate) fn replay(body: &[u8]) -> bool {
-    let ys = past_words(body, 0, CORNERS);
-    let strengths = past_words(body, ys, CORNERS);
-    let neighbours = past_words(body, strengths, CORNERS);
+    let ys = past_words(body, 0, LIST);
+    let strengths = past_words(body, ys, LIST);
+    let neighbours = past_words(body, strengths, LIST);
     is_due(body, ys, strengths, neighbours)
-}
-
-// The floats of a field, and by the rule behind them.
-fn floats(body: &[u8], at: usize) -> [f32; CORNERS] {
-    let mut d = [0.0f32; CORNERS];
-    read_floats(words_at(body, at), &mut d);
-    d
-}
-
-// The numbers likewise.
-fn counts(body: &[u8], at: usize) -> [u32; CORNERS] {
-    let mut d = [0u32; CORNERS];
-    read_counts(words_at(body, at), &mut d);
-    d
 }
 
 // Whether the text of the corners whose slices stand at these places is due.
@@ -50,7 +33,7 @@ fn is_due(body: &[u8], ys: usize, strengths: usize, neighbours: usize) -> bool {
         count_at(body, 0),
         &mut text,
     );
-    is_listing_due(body, past_words(body, neighbours, CORNERS), &text, answer)
+    is_listing_due(body, past_words(body, neighbours, LIST), &text, answer)
 }
 
 // Whether the text of an answer is due.

@@ -24,10 +24,10 @@ pub(crate) fn replay(body: &[u8]) -> bool {
     let mut strengths = floats(body, strength_at);
     let mut neighbours = counts(body, neighbours_at);
     let answer = merge::merge_corners_simple(
-        &mut xs[0..nx],
-        &mut ys[0..ny],
-        &mut strengths[0..ns],
-        &mut neighbours[0..nn],
+        &mut xs[..nx],
+        &mut ys[..ny],
+        &mut strengths[..ns],
+        &mut neighbours[..nn],
         count(body, 1),
         float(body, 0),
     );

@@ -47,10 +47,10 @@ fn with_list(body: &[u8], lengths: usize, map: &[f32]) -> bool {
         word(body, 4),
         word(body, 5),
         word(body, 6),
-        &mut xs[0..nx],
-        &mut ys[0..ny],
-        &mut strengths[0..ns],
-        &mut neighbours[0..nn],
+        &mut xs[..nx],
+        &mut ys[..ny],
+        &mut strengths[..ns],
+        &mut neighbours[..nn],
         count_at(body, held),
     );
     let next = due_peaks(body, past(body, held, 4), answer);
