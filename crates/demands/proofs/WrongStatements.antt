@@ -1,10 +1,10 @@
 -- Against each wrong statement its smallest example, by computation. Assumes nothing.
 use Prim.Native.Nat.{ℕ}
-use mathlib.Core.Path.{_≡_, refl, ap}
+use mathlib.Core.Path.{refl, ap}
 use mathlib.Core.Bool.{true, false≢true}
 use mathlib.Core.List.{List, [], _∷_, _++_}
 use lib.ListN.{length, getD, set, replicate}
-use lib.Ieee.{Float, nan, binary32, lt, le, add, sub, mul, div, ofInt, ofBits, toBits, toUnsigned}
+use lib.Ieee.{Float, nan, binary32, lt, le, add, sub, mul, div, ofInt, ofBits, toBits}
 use borrow.Author.Tests.{eqb-false, le-leb}
 use Rattle.lists.specs.Places.{Place, counted, range, row, rowsFrom, block, count}
 use Rattle.lists.specs.Tab.{tab, grid}

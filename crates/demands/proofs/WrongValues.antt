@@ -30,11 +30,12 @@ use Rattle.corner_strike.specs.Striking as striking
 use Rattle.stream.specs.RoundTrip.{pixelBytes, frameBytes}
 use Rattle.retention.specs.Retention.{stays, stateOf}
 use Rattle.retention.specs.Stream.{timeFault, linesFrom, outputOf}
+use Rattle.demands.specs.ToolRoads.{toolRoads}
 use Rattle.demands.specs.WrongValues.{wrongValues, WrongValues}
 use Rattle.demands.proofs.Roads.{differ}
 
 pub wrong-values : WrongValues
-unfolding wrongValues lt le add sub mul div ofInt ofBits toBits toUnsigned counted range row rowsFrom block count tab abs lift nearestWhole
+unfolding wrongValues toolRoads lt le add sub mul div ofInt ofBits toBits toUnsigned counted range row rowsFrom block count tab abs lift nearestWhole
     roundHalfAway total ring5 ringOf samples responseOf withPair passedAfter fifthsAt withoutCorner square window beaten equals positives isPeak
     peakPlaces fifthsAbove rowsInside enoughOf withCells seedFits refusalOf centreOn outcomeOf refined roiRadius isOff gridOf near neighbours resultOf
     naiveOf bare fieldOf pgm.conditions pgm.refusalOf pgm.pixelsIn unitsOf lowAt isSure striking.refusalOf pixelBytes frameBytes stays stateOf

@@ -29,6 +29,7 @@ pub mod MergeNaive
 pub mod Retouch
 pub mod Limits
 pub mod Roads
+pub mod ToolRoads
 pub mod WrongValues
 pub mod WrongRefusals
 pub mod WrongStatements

@@ -6,7 +6,7 @@ use mathlib.Core.Path.{_≡_}
 use mathlib.Core.Bool.{Bool, true, cond}
 use mathlib.Core.List.{List, [], map}
 use lib.IntN.{pos}
-use lib.Ieee.{Float, fin}
+use lib.Ieee.{fin}
 use Rattle.lists.specs.Places.{Place, All}
 use Rattle.float32.specs.Float32.{floatOf}
 use Rattle.corner_list.specs.declared.Corner.{Corner}
