@@ -1,7 +1,7 @@
-"""cover: checks that each public function of src/ has two wrong programs or more, and that no edit changes a definition alone. An edit of
-must-fail/ or more-edits/ is one of a function if a text that it replaces stands in that function, or in a private function or a constant of
-its crate that it uses, directly or not. A function that does nothing has none. With --all it names the edits of each function. Exit status: 0
-if so."""
+"""cover: checks that each public function of src/ has two wrong programs or more, and that no edit changes a
+definition alone. An edit of must-fail/ or more-edits/ is one of a function if a text that it replaces stands in that
+function, or in a private function or a constant of its crate that it uses, directly or not. A function that does
+nothing has none. With --all it names the edits of each function. Exit status: 0 if so."""
 import re
 import sys
 from pathlib import Path
