@@ -1,6 +1,6 @@
 -- Demand 2: "Response maps, peaks, centroids, pyramid levels, search boxes and merged corners are then, bit for bit, those of the scalar Rust on
 -- all that isn't refused". The definitions named here have the Rust's operations in its order; that they do is read, file beside file, and run
--- (README.md). Here stands that a call which is not refused leaves just these values where its result lies.
+-- (docs/THEOREM.md). Here stands that a call which is not refused leaves just these values where its result lies.
 use Prim.Native.Nat.{ℕ, _<_}
 use mathlib.Core.Path.{_≡_}
 use mathlib.Core.Bool.{Bool, cond}
