@@ -5,7 +5,7 @@ use listing::LONGEST;
 use listing::Listing;
 use merge::Merged;
 ghost use mathlib.Core.Path.{_≡_};
-ghost use mathlib.Core.Bool.{cond};
+ghost use mathlib.Core.Bool.{cond, false};
 ghost use Prim.Native.Nat.{_≤_};
 ghost use Rattle.corner_list.specs.CornerList.{slices, placesOf, cornersOf};
 ghost use Rattle.listing.specs.Text.{cornersText};
@@ -74,9 +74,18 @@ fn merge_case(
 fn write_listing(text: &[u8], cells: bool)
     requires { ⌜ now text ≡ cornersText (cond cells three two) ⌝ }
 {
-    if !io::write_all(libc::STDOUT_FILENO, text) {
-        os::fail(b"merge_case: standard output");
+    let written = io::write_all(libc::STDOUT_FILENO, text);
+    if written {
+        return;
     }
+    report(written);
+}
+
+// Reports that a text was not written.
+fn report(written: bool)
+    requires { ⌜ written ≡ false ⌝ }
+{
+    os::fail(b"merge_case: standard output");
 }
 
 // Prints the first `count` corners of a buffer, which are what is left.
