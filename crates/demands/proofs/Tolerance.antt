@@ -1,7 +1,8 @@
 -- From the theorems of tolerance: the map that a call left is that of its box; the lists that a frame left are those of its pass, by `finished-tells`, and
 -- merging leaves corners of the list, by `result-all`. Assumes nothing.
 use Prim.Native.Nat.{ℕ, zero, suc, _-_, _≤_}
-use mathlib.Core.Path.{refl, sym, ap}
+use native.Mathlib.Omega.{arith}
+use mathlib.Core.Path.{_≡_, refl, sym, ap}
 use mathlib.Core.List.{List, map}
 use lib.ListN.{length}
 use Rattle.lists.specs.Places.{All, flatMap}
@@ -57,7 +58,8 @@ module _ (p : FrameParams) (choose : Choice) (R : p .«centroid_radius» ≤ 2) 
     unfolding seedsOf
     close-seeds zero = tt
     close-seeds (suc zero) = tt
-    close-seeds (suc (suc k)) = close-in (levelView p img w h (suc k)) (fine-level p img w h s (suc k))
+    close-seeds (suc (suc k)) =
+        let last : suc (suc k) - 1 ≡ suc k = omega arith in rw last (close-in (levelView p img w h (suc k)) (fine-level p img w h s (suc k)))
 
     -- the corners of a map that is searched, as they stand in the buffer
     abbrev Searched : ℕ → View → Type 0
