@@ -19,7 +19,3 @@ row-below w y = omega (arith, add-mul y 1 w, one-mul w)
 -- an offset in rows and columns, added to a place
 pub place-add : (w x y a b : ℕ) → y * w + x + (b * w + a) ≡ (y + b) * w + (x + a)
 place-add w x y a b = omega (arith, add-mul y b w)
-
--- so many rows as a byte can tell
-pub rows-small : (n w : ℕ) → n ≤ 255 → w ≤ 4096 → n * w ≤ 1044480
-rows-small n w p q = mul-le-mul {n₂ = 255} {m₂ = 4096} p q

@@ -1,14 +1,11 @@
 -- Where a cell's ring lies in the image, what the response of a cell is there and elsewhere, and which cells of a row those are. Assumes nothing.
-use mathlib.Core.Path.{_≡_, sym, _∙_}
+use mathlib.Core.Path.{_≡_}
 use mathlib.Core.Bool.{false}
 use mathlib.Core.List.{List}
 use Prim.Native.Nat.{ℕ, _+_, _-_, _<_, _≤_, min, max}
-use native.Mathlib.Nat.{le-refl, add-assoc}
+use native.Mathlib.Nat.{le-refl}
 use native.Mathlib.Omega.{arith}
-use lib.Ieee.{Float}
 use borrow.Author.Tests.{lt-ltb, le-ltb, le-leb, lt-leb}
-use Rattle.lists.specs.Tab.{tab}
-use Rattle.lists.proofs.Tab.{tab-ext}
 use Rattle.lists.proofs.Tests.{and-none}
 use Rattle.float32.specs.Float32.{zero}
 use Rattle.ring.specs.Ring.{Ring}
@@ -74,13 +71,3 @@ module _ (w h : ℕ) (t : Ring) (radius x0 y n : ℕ) (e : t .radius ≡ radius)
         inner = λ i p q. record { left = omega arith; right = omega arith; above = above; below = below };
         outer-right = λ i p q. out-right w h t (x0 + i) y (rw e (omega arith));
       }
-
--- a run of cells inside the span, by column of the image and by place of the row
-module _ (w h : ℕ) (t : Ring) (radius x0 y n a b : ℕ) (s : Span w h t radius x0 y n a b) (i m : ℕ) (l : a ≤ i) (r : i + m ≤ b) where
-  pub inner-run : (p : ℕ) → p < m → Inner w h radius (x0 + i + p) y
-  inner-run p q = rw add-assoc (s .inner (i + p) (omega arith) (omega arith))
-
-  pub run-found : (img : List ℕ) (ys : List Float) → t .radius ≡ radius → ys ≡ tab m (λ p. response img w t (x0 + i + p) y)
-      → ys ≡ tab m (λ p. responseAt img w h t (x0 + (i + p)) y)
-  run-found img ys e q =
-      q ∙ tab-ext m _ _ (λ p l. sym (rw (← add-assoc x0 i p) (at-inside w h t (x0 + i + p) y img radius e (inner-run p l))))

@@ -4,3 +4,6 @@ pub mod Samples
 pub mod Inside
 pub mod Outcome
 pub mod Map
+pub mod Filling
+pub mod Tiles
+pub mod Edges

@@ -1,28 +1,40 @@
 -- The one pass over the pairs: what is held stays small, the DR and the sum after each pair are those of the pairs passed, and after the
 -- eighth all three sums are the paper's. Assumes nothing.
-use Prim.Native.Nat.{ℕ, zero, suc, _+_, _*_, _-_, _<_, _≤_}
+use Prim.Native.Nat.{ℕ, zero, suc, _+_, _*_, _-_, _<_, _≤_, max}
 use native.Mathlib.Nat.{add-zero}
 use native.Mathlib.Decide.{decLt}
 use native.Mathlib.Numerals.{add-one}
 use native.Mathlib.Omega.{arith}
 use mathlib.Core.Path.{_≡_, refl, sym, ap, _∙_, subst}
 use mathlib.Core.List.{List, [], _∷_}
-use borrow.Author.Tests.{lt-ltb, le-ltb}
+use mathlib.Core.Bool.{true, false}
+use borrow.Author.Tests.{lt-ltb, le-ltb, ltb-true, ltb-false}
+use lib.IntN.{pos}
+use lib.Signed.{ltZ}
+use mir.Syntax.{w16}
+use mir.Val.{toZ}
+use mir.ValLaws.{toZ-pos}
 use lib.ListN.{getD, set}
 use Rattle.float32.specs.Value.{dist, total}
 use Rattle.response.specs.declared.Held.{Held}
 use Rattle.response.specs.Response.{srOf, ringSumOf}
 use Rattle.response.specs.OnePass.{noPairs, withPair, passedAfter}
 use Rattle.response.specs.Internal.{Small, RingSumsOf}
+use Rattle.response.proofs.Filling.{set-all}
+
+-- ---- two numbers below 2^15, compared as i16
+module _ (a b : ℕ) (p : a < 32768) (q : b < 32768) where
+  pub most-second : ltZ (toZ w16 a) (toZ w16 b) ≡ true → b ≡ max a b
+  most-second l =
+      let t : ltZ (pos a) (pos b) ≡ true = rw (toZ-pos w16 a (omega arith), toZ-pos w16 b (omega arith)) at l in
+      omega (arith, ltb-true a b t)
+
+  pub most-first : ltZ (toZ w16 a) (toZ w16 b) ≡ false → a ≡ max a b
+  most-first l =
+      let t : ltZ (pos a) (pos b) ≡ false = rw (toZ-pos w16 a (omega arith), toZ-pos w16 b (omega arith)) at l in
+      omega (arith, ltb-false a b t)
 
 -- ---- small
-set-small : (l : List ℕ) (k q i : ℕ) → ((j : ℕ) → getD l j 0 ≤ 510) → q ≤ 510 → getD (set l k q) i 0 ≤ 510
-set-small [] k q i h p = h i
-set-small (x ∷ l) zero q zero h p = p
-set-small (x ∷ l) zero q (suc i) h p = h (suc i)
-set-small (x ∷ l) (suc k) q zero h p = h 0
-set-small (x ∷ l) (suc k) q (suc i) h p = set-small l k q i (λ j. h (suc j)) p
-
 pub small-none : Small 0 noPairs
 small-none = record { sr-small = omega arith; dr-small = omega arith; sum-small = omega arith; first-small = none }
   where
@@ -43,7 +55,7 @@ small-next k a b h p q s =
             sr-small = omega (arith, s .sr-small);
             dr-small = omega (arith, s .dr-small);
             sum-small = omega (arith, s .sum-small);
-            first-small = λ i. set-small (h .first) k (a + b) i (s .first-small) (omega arith);
+            first-small = λ i. set-all (λ n. n ≤ 510) (h .first) k (a + b) i (s .first-small) (omega arith);
           })
       | no g ↦
           let late : 4 ≤ k = omega arith in

@@ -4,18 +4,20 @@ use mathlib.Core.List.{List}
 use Prim.Native.Nat.{ℕ, _+_, _*_, _-_, _<_, _≤_}
 use native.Mathlib.Omega.{arith}
 use lib.Ieee.{Float}
-use lib.ListN.{length, getD}
+use lib.ListN.{length, getD, set, length-set}
+use lib.Seq.{getD-set-same, getD-set-other}
+use native.Mathlib.Decide.{decLt}
 use Rattle.lists.specs.Tab.{tab}
-use Rattle.lists.proofs.Tab.{getD-tab, tab-ext}
+use Rattle.lists.proofs.Tab.{getD-tab, getD-tab-any, tab-ext}
 use Rattle.lists.proofs.Places.{in-map}
 use Rattle.ring.specs.Ring.{Ring, dx, dy, IsRing}
 use Rattle.ring.proofs.Places.{dx-le, dy-le, radius-pos}
 use Rattle.response.specs.Response.{samples, crossOf, responseOf, response}
 use Rattle.response.specs.declared.Held.{Held}
 use Rattle.response.specs.OnePass.{passedAfter}
-use Rattle.response.specs.Internal.{offsetAt, Framed, Inner, RingSumsOf, CellSumsOf}
+use Rattle.response.specs.Internal.{offsetAt, Bytes, Framed, Inner, RingSumsOf, CellSumsOf, Long, Summed}
 use Rattle.response.proofs.OnePass.{passed-all}
-use Rattle.response.proofs.Indices.{area-le, row-above, row-below, place-add}
+use Rattle.response.proofs.Indices.{row-above, row-below, place-add}
 
 -- ---- any ring of a radius r
 module _ (t : Ring) (is : IsRing t) (r : ℕ) (e : t .radius ≡ r) (w h x y : ℕ) (n : Inner w h r x y) where
@@ -78,20 +80,53 @@ module _ (img : List ℕ) (w h : ℕ) (t : Ring) (radius : ℕ) (off : List ℕ)
   pub cross-lies : (w ≤ y * w + x) × (1 ≤ y * w + x) × (y * w + x + w < length img) × (y * w + x + 1 < length img)
   cross-lies = rw (f .image .sized) (cross-in t (f .is-ring) radius (f .own-radius) w h x y n)
 
-  -- the corner of the ring's square and the cell itself, as indices
-  pub corner-small : (y - radius) * w + (x - radius) < 16777216
-  corner-small =
-      omega (
-        arith,
-        in-map w h (x - radius) (y - radius) (omega (arith, n .right)) (omega (arith, n .below)),
-        area-le w h (f .image .narrow) (f .image .low),
-      )
-
-  pub cell-small : y * w + x < 16777216
-  cell-small = omega (arith, in-map w h x y (omega (arith, n .right)) (omega (arith, n .below)), area-le w h (f .image .narrow) (f .image .low))
+-- what is gathered from bytes are bytes
+pub gathered-bytes : (img : List ℕ) (base : ℕ) (off : List ℕ) → Bytes img → (s : List ℕ) → s ≡ tab 16 (λ k. getD img (base + getD off k 0) 0) → Bytes s
+gathered-bytes img base off b s e i =
+    rw e (getD-tab-any (λ (n : ℕ). n < 256) 0 (omega arith) (λ k. getD img (base + getD off k 0) 0) (λ k. b (base + getD off k 0)) 16 i)
 
 -- the float of a cell's sums is its response
 pub assembled : (img : List ℕ) (w : ℕ) (t : Ring) (x y a b m q : ℕ) (v : Float) → CellSumsOf img w t x y a b m q → v ≡ responseOf a b m q
     → v ≡ response img w t x y
 unfolding response
 assembled img w t x y a b m q v p e = rw (e, p .ring .sr-is, p .ring .dr-is, p .ring .sum-is, p .cross-is)
+
+-- ---- the sums of a run
+pub summed-set : (tile : List ℕ) (t : Ring) (radius y i : ℕ) (a b c d : List ℕ) (p q r v : ℕ) → i < 128 → Summed tile t radius y i a b c d
+    → CellSumsOf tile 148 t (radius + i) y p q r v
+    → Summed tile t radius y (i + 1) (set a i p) (set b i q) (set c i r) (set d i v)
+summed-set tile t radius y i a b c d p q r v small sums new =
+    record {
+      long =
+          record {
+            sr-long = length-set a i p ∙ long .sr-long;
+            dr-long = length-set b i q ∙ long .dr-long;
+            sum-long = length-set c i r ∙ long .sum-long;
+            cross-long = length-set d i v ∙ long .cross-long;
+          };
+      cells = cells;
+    }
+  where
+    long : Long a b c d
+    long = sums .long
+
+    cells : (k : ℕ) → k < i + 1
+        → CellSumsOf tile 148 t (radius + k) y (getD (set a i p) k 0) (getD (set b i q) k 0) (getD (set c i r) k 0) (getD (set d i v) k 0)
+    cells k l = elim (decLt k i) [
+      | yes x ↦
+          let other : k ≡ i → ⊥ = λ e. absurd (omega arith) in
+          rw (getD-set-other a i k p 0 other, getD-set-other b i k q 0 other, getD-set-other c i k r 0 other, getD-set-other d i k v 0 other) (sums .cells k x)
+      | no x ↦
+          let same : k ≡ i = omega arith in
+          rw (
+            same,
+            getD-set-same a i p 0 (omega (arith, long .sr-long)),
+            getD-set-same b i q 0 (omega (arith, long .dr-long)),
+            getD-set-same c i r 0 (omega (arith, long .sum-long)),
+            getD-set-same d i v 0 (omega (arith, long .cross-long)),
+          )
+          new
+    ]
+
+pub summed-end : (tile : List ℕ) (t : Ring) (radius y i n : ℕ) (a b c d : List ℕ) → Summed tile t radius y i a b c d → i ≡ n → Summed tile t radius y n a b c d
+summed-end tile t radius y i n a b c d sums e = subst (λ (k : ℕ). Summed tile t radius y k a b c d) e sums

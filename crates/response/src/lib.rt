@@ -1,6 +1,8 @@
 // The ChESS response map of a box of an image.
 mod cell; // cell.rt: the response of one cell
-mod rows; // rows.rt: runs, rows and boxes of cells
+mod rows; // rows.rt: a map, edges and blocks
+mod runs; // runs.rt: runs of cells
+mod tile; // tile.rt: the pixels of a block
 
 ghost use mathlib.Core.Path.{_≡_};
 ghost use Prim.Native.Nat.{_*_, _≤_};

@@ -9,10 +9,10 @@ use Rattle.response.proofs.cell.gather.Statement.{statement}
 use Rattle.response.proofs.cell.gather.Tie as tie
 
 abbrev Inv-loop : tie.InvT-loop
-Inv-loop img base off s₀ k₀ s k = (k ≤ 16) × Prefix 16 (λ j. getD img (base + getD off j 0) 0) k s
+Inv-loop tile base off s₀ k₀ s k = (k ≤ 16) × Prefix 16 (λ j. getD tile (base + getD off j 0) 0) k s
 
 abbrev μ-loop : tie.MeasureT-loop
-μ-loop img base off s₀ k₀ s k = 16 - k
+μ-loop tile base off s₀ k₀ s k = 16 - k
 
 loop-holds : tie.Need-loop-holds Inv-loop μ-loop
 loop-holds c = (search needs, prefix-none _ _ _ refl)
@@ -26,8 +26,14 @@ array-read-o c = search needs
 add-s : tie.Need-add-s Inv-loop μ-loop
 add-s c = omega (arith, c .before .before .pre (c .before .loop .k) (search needs))
 
-shared-slice-read-s : tie.Need-shared-slice-read-s Inv-loop μ-loop
-shared-slice-read-s c = c .before .before .before .pre (c .before .before .loop .k) (search needs)
+mul-s : tie.Need-mul-s Inv-loop μ-loop
+mul-s c = omega (arith, c .before .before .pre (c .before .loop .k) (search needs))
+
+element-copy-out-s : tie.Need-element-copy-out-s Inv-loop μ-loop
+element-copy-out-s c = c .before .before .pre (c .before .loop .k) (search needs)
+
+mul-s-2 : tie.Need-mul-s-2 Inv-loop μ-loop
+mul-s-2 c = search needs
 
 array-write-s : tie.Need-array-write-s Inv-loop μ-loop
 array-write-s c = search needs
@@ -54,7 +60,9 @@ gather-spec =
     mul-o
     array-read-o
     add-s
-    shared-slice-read-s
+    mul-s
+    element-copy-out-s
+    mul-s-2
     array-write-s
     add-k
     loop-less

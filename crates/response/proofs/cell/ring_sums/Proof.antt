@@ -1,7 +1,6 @@
 -- `response::cell::ring_sums` meets its contract: the loop holds what is held of the pairs passed. Assumes nothing.
 use Prim.Native.Nat.{_-_, _≤_, min}
-use native.Mathlib.Omega.{arith}
-use mathlib.Core.Path.{_≡_, refl}
+use mathlib.Core.Path.{_≡_}
 use borrow.Author.Needs.{needs}
 use Rattle.response.specs.OnePass.{passedAfter}
 use Rattle.response.specs.Internal.{Small}
@@ -21,17 +20,23 @@ lesser-requires c κs = search needs
 loop-holds : tie.Need-loop-holds Inv-loop μ-loop
 loop-holds c = (search needs, search needs, passed-none _, small-none)
 
+mul-with-pair : tie.Need-mul-with-pair Inv-loop μ-loop
+mul-with-pair c = search needs
+
 array-read-with-pair : tie.Need-array-read-with-pair Inv-loop μ-loop
 array-read-with-pair c = search needs
 
 add-with-pair : tie.Need-add-with-pair Inv-loop μ-loop
 add-with-pair c = search needs
 
+mul-with-pair-2 : tie.Need-mul-with-pair-2 Inv-loop μ-loop
+mul-with-pair-2 c = search needs
+
 array-read-with-pair-2 : tie.Need-array-read-with-pair-2 Inv-loop μ-loop
 array-read-with-pair-2 c = search needs
 
 with-pair-requires : tie.Need-with-pair-requires Inv-loop μ-loop
-with-pair-requires c κs = search needs
+with-pair-requires c κs = (search needs, c .before .loop .inv .3, c .before .before .before .pre _, c .before .before .before .pre _)
 
 add-k : tie.Need-add-k Inv-loop μ-loop
 add-k c = search needs
@@ -55,8 +60,10 @@ ring-sums-spec =
     μ-loop
     lesser-requires
     loop-holds
+    mul-with-pair
     array-read-with-pair
     add-with-pair
+    mul-with-pair-2
     array-read-with-pair-2
     with-pair-requires
     add-k

@@ -1,105 +1,116 @@
--- `response::rows::fill` meets its contract. After j rows the buffer's front holds the rows' cells, and the rest is as it was. Assumes nothing.
-use mathlib.Core.Path.{_≡_, refl, sym}
-use mathlib.Core.List.{_++_}
-use Prim.Native.Nat.{_+_, _*_, _-_, _≤_}
-use native.Mathlib.Nat.{zero-mul}
+-- `response::rows::fill` meets its contract: the five parts of the map. Assumes nothing.
+mod Landmarks
+use mathlib.Core.Path.{refl, _∙_}
+use native.Mathlib.Nat.{le-refl}
 use native.Mathlib.Omega.{arith}
 use borrow.Author.Needs.{needs}
-use lib.ListN.{length, drop}
-use Rattle.lists.specs.Tab.{grid}
-use Rattle.ring.specs.Ring.{ringOf}
-use Rattle.ring.proofs.Table.{ringOf-is}
-use Rattle.response.specs.Response.{responseAt}
-use Rattle.lists.proofs.Tab.{grid-none, grid-put, grid-all, row-end, part-length}
-use Rattle.response.proofs.Indices.{row-below}
+use lib.ListN.{length}
+use Rattle.response.specs.declared.rows.Field.{Field}
+use Rattle.response.specs.Internal.{Placed}
+use Rattle.response.proofs.Edges.{cleared-long, rows-fit, part-inside, whole-map}
+use Rattle.response.proofs.Tiles.{placed-still}
 use Rattle.response.proofs.rows.fill.Statement.{statement}
 use Rattle.response.proofs.rows.fill.Tie as tie
+use Landmarks.*
 
-abbrev Inv-loop : tie.InvT-loop
-Inv-loop img w h ring x y pw ph map₀ off radius a₀ j₀ map a j =
-    (length map ≡ length map₀) × (map ≡ grid pw j (λ p q. responseAt img w h (ringOf ring) (x + p) (y + q)) ++ drop a map₀) × (a ≡ j * pw) × (j ≤ ph)
+abbrev field : tie.Start → Field
+field c =
+    let a = c .args in
+    record { w = a .w; h = a .h; radius = a .ring; x = a .x; y = a .y; pw = a .pw; ph = a .ph }
 
-abbrev μ-loop : tie.MeasureT-loop
-μ-loop img w h ring x y pw ph map₀ off radius a₀ j₀ map a j = ph - j
+placed : (c : tie.Start) → Placed (length (c .args .img .now)) (field c) (length (c .args .map .now))
+placed c =
+    record { image = c .pre .0 .0; own-radius = c .pre .0 .1; across = c .pre .1 .0; down = c .pre .1 .1; enough = c .pre .1 .2 }
 
-offsets-requires : tie.Need-offsets-requires Inv-loop μ-loop
-offsets-requires c κs = c .before .before .pre .0 .0 .narrow
+reach-requires : tie.Need-reach-requires
+reach-requires c κs = search needs
 
-loop-holds : tie.Need-loop-holds Inv-loop μ-loop
-loop-holds c = (refl, grid-none _ _ _, sym (zero-mul _), search needs)
+reach-requires-2 : tie.Need-reach-requires-2
+reach-requires-2 c κs = search needs
 
--- the next row lies in the buffer
-row-fits : (c : tie.In-loop Inv-loop μ-loop)
-    → c .before .loop .a + c .before .before .before .before .before .args .pw ≤ length (c .before .before .before .before .before .args .map .now)
-row-fits c = row-end _ _ _ _ _ (c .loop-test .taken) (c .before .loop .inv .2) (c .before .before .before .before .before .pre .1 .2)
+clear-part-requires : tie.Need-clear-part-requires
+clear-part-requires c κs =
+    let start = start-from-clear-part-requires c in
+    let rows = c .before .reach2 .ensures in
+    let fit = rows-fit _ _ _ _ (placed start) refl (c .before .reach2 .result .from) (omega (arith, rows .ordered, rows .ends)) in
+    (omega arith, le-refl _, omega arith, fit .0, fit .1)
 
-add-e : tie.Need-add-e Inv-loop μ-loop
-add-e c = omega (arith, row-fits c)
+clear-part-requires-2 : tie.Need-clear-part-requires-2
+clear-part-requires-2 c κs =
+    let start = start-from-clear-part-requires-2 c in
+    let rows = reach2-from-clear-part-requires-2 c .reach2 .ensures in
+    let columns = reach-from-clear-part-requires-2 c .reach .ensures in
+    let long = cleared-long (clear-part-from-clear-part-requires-2 c .clear-part .ensures) in
+    let fit = rows-fit _ _ _ _ (placed start) long (reach2-from-clear-part-requires-2 c .reach2 .result .to) (rows .ends) in
+    (omega arith, omega (arith, columns .ordered, columns .ends), rows .ordered, fit .0, fit .1)
 
-add-row : tie.Need-add-row Inv-loop μ-loop
-add-row c = search needs
+clear-part-requires-3 : tie.Need-clear-part-requires-3
+clear-part-requires-3 c κs =
+    let start = start-from-clear-part-requires-3 c in
+    let rows = reach2-from-clear-part-requires-3 c .reach2 .ensures in
+    let columns = reach-from-clear-part-requires-3 c .reach .ensures in
+    let before = cleared-long (clear-part-from-clear-part-requires-3 c .clear-part .ensures) in
+    let long = cleared-long (clear-part2-from-clear-part-requires-3 c .clear-part2 .ensures) ∙ before in
+    let fit = rows-fit _ _ _ _ (placed start) long (reach2-from-clear-part-requires-3 c .reach2 .result .to) (rows .ends) in
+    (columns .ends, le-refl _, rows .ordered, fit .0, fit .1)
 
-mul-row : tie.Need-mul-row Inv-loop μ-loop
-mul-row c = omega (arith, row-fits c)
+clear-part-requires-4 : tie.Need-clear-part-requires-4
+clear-part-requires-4 c κs =
+    let start = start-from-clear-part-requires-4 c in
+    let rows = reach2-from-clear-part-requires-4 c .reach2 .ensures in
+    let first = cleared-long (clear-part-from-clear-part-requires-4 c .clear-part .ensures) in
+    let second = cleared-long (clear-part2-from-clear-part-requires-4 c .clear-part2 .ensures) in
+    let long = cleared-long (clear-part3-from-clear-part-requires-4 c .clear-part3 .ensures) ∙ second ∙ first in
+    let fit = rows-fit _ _ _ _ (placed start) long (start .args .ph) (le-refl _) in
+    (omega arith, le-refl _, rows .ends, fit .0, fit .1)
 
-sub-row : tie.Need-sub-row Inv-loop μ-loop
-sub-row c = search needs
+offsets-requires : tie.Need-offsets-requires
+offsets-requires c κs = search needs
 
-part-row-start : tie.Need-part-row-start Inv-loop μ-loop
-part-row-start c = search needs
-
-part-row-end : tie.Need-part-row-end Inv-loop μ-loop
-part-row-end c = omega (arith, row-fits c)
-
-row-requires : tie.Need-row-requires Inv-loop μ-loop
-row-requires c κs =
-    let p = c .before .before .before .before .before .before .pre in (
-      record { image = p .0 .0; is-ring = ringOf-is _; own-radius = p .0 .1; offsets = c .before .before .before .offsets .ensures },
-      search needs,
+inner-requires : tie.Need-inner-requires
+inner-requires c κs =
+    let start = start-from-inner-requires c in
+    let rows = reach2-from-inner-requires c .reach2 .ensures in
+    let columns = reach-from-inner-requires c .reach .ensures in
+    let first = cleared-long (clear-part-from-inner-requires c .clear-part .ensures) in
+    let second = cleared-long (clear-part2-from-inner-requires c .clear-part2 .ensures) in
+    let third = cleared-long (clear-part3-from-inner-requires c .clear-part3 .ensures) in
+    let long = cleared-long (clear-part4-from-inner-requires c .clear-part4 .ensures) ∙ third ∙ second ∙ first in (
+      (
+        placed-still _ (field start) _ _ (placed start) long,
+        part-inside (start .args .img .now) (field start) _ _ _ _ (start .pre .0 .1) columns rows,
+        columns .ordered,
+        rows .ordered,
+      ),
+      c .before .offsets .ensures,
     )
 
-add-j : tie.Need-add-j Inv-loop μ-loop
-add-j c = search needs
-
-loop-less : tie.Need-loop-less Inv-loop μ-loop
-loop-less c = search needs
-
-loop-again : tie.Need-loop-again Inv-loop μ-loop
-loop-again c = (
-  search needs,
-  grid-put _ _ _ _ _ _ _ _ (c .before .before .before .before .before .loop .inv .1)
-      (c .before .before .before .before .before .loop .inv .2) (c .before .before .row .ensures)
-      (part-length _ _ _ (omega (arith, row-fits (c .before .before .before .before)))),
-  omega (
-    arith,
-    row-below (c .before .before .before .before .before .before .before .before .before .args .pw) (c .before .before .before .before .before .loop .j),
-  ),
-  search needs,
-)
-
-same-length : tie.Need-same-length Inv-loop μ-loop
+same-length : tie.Need-same-length
 same-length c = search needs
 
-returns : tie.Need-returns Inv-loop μ-loop
-returns c = grid-all _ _ _ _ _ _ _ (c .before .loop .inv .1) (c .before .loop .inv .2) (search needs)
+returns : tie.Need-returns
+returns c =
+    let start = start-from-returns c in
+    let columns = reach-from-returns c .reach .ensures in
+    let rows = reach2-from-returns c .reach2 .ensures in
+    let above = clear-part-from-returns c .clear-part .ensures in
+    let left = clear-part2-from-returns c .clear-part2 .ensures in
+    let right = clear-part3-from-returns c .clear-part3 .ensures in
+    let below = clear-part4-from-returns c .clear-part4 .ensures in
+    let inner = c .before .before .inner .ensures in
+    whole-map (start .args .img .now) (field start) _ _ _ _ (start .pre .0 .1) columns rows _ _ _ _ _ _ above left right below inner (start .pre .1 .2)
 
 pub fill-spec : {M : Type 1} → statement M
 fill-spec =
     tie.close
     (tie.spec
-    Inv-loop
-    μ-loop
+    reach-requires
+    reach-requires-2
+    clear-part-requires
+    clear-part-requires-2
+    clear-part-requires-3
+    clear-part-requires-4
     offsets-requires
-    loop-holds
-    add-e
-    add-row
-    mul-row
-    sub-row
-    part-row-start
-    part-row-end
-    row-requires
-    add-j
-    loop-less
-    loop-again
+    inner-requires
     same-length
     returns)

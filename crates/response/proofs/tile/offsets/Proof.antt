@@ -1,4 +1,4 @@
--- `response::rows::offsets` meets its contract. The loop fills the offsets from the front. Assumes nothing.
+-- `response::tile::offsets` meets its contract. The loop fills the offsets from the front. Assumes nothing.
 use mathlib.Core.Path.{_≡_, refl, ap, _∙_}
 use Prim.Native.Nat.{_-_, _≤_}
 use borrow.Author.Needs.{needs}
@@ -6,15 +6,15 @@ use Rattle.lists.proofs.Tab.{Prefix, prefix-none, prefix-set, prefix-all}
 use Rattle.ring.specs.Ring.{ringOf, columns as columnsOf, rows as rowsOf}
 use Rattle.ring.specs.declared.RingOffsets.{RingOffsets}
 use Rattle.response.specs.Internal.{offsetAt}
-use Rattle.response.proofs.rows.offsets.Statement.{statement}
-use Rattle.response.proofs.rows.offsets.Tie as tie
+use Rattle.response.proofs.tile.offsets.Statement.{statement}
+use Rattle.response.proofs.tile.offsets.Tie as tie
 
 abbrev Inv-loop : tie.InvT-loop
-Inv-loop ring w columns rows off₀ k₀ off k =
-    (k ≤ 16) × Prefix 16 (offsetAt (ringOf ring) w) k off × (columns ≡ columnsOf (ringOf ring)) × (rows ≡ rowsOf (ringOf ring))
+Inv-loop ring columns rows off₀ k₀ off k =
+    (k ≤ 16) × Prefix 16 (offsetAt (ringOf ring) 148) k off × (columns ≡ columnsOf (ringOf ring)) × (rows ≡ rowsOf (ringOf ring))
 
 abbrev μ-loop : tie.MeasureT-loop
-μ-loop ring w columns rows off₀ k₀ off k = 16 - k
+μ-loop ring columns rows off₀ k₀ off k = 16 - k
 
 ring-offsets-requires : tie.Need-ring-offsets-requires Inv-loop μ-loop
 ring-offsets-requires c κs = search needs

@@ -1,0 +1,159 @@
+-- The response of a cell in a tile is that of the cell in the image. Assumes nothing.
+use mathlib.Core.Path.{_≡_, refl, sym, ap, _∙_, subst}
+use mathlib.Core.List.{List}
+use Prim.Native.Nat.{ℕ, _+_, _*_, _-_, _<_, _≤_}
+use native.Mathlib.Nat.{mul-comm, mul-le-mul-right}
+use native.Mathlib.Omega.{arith}
+use lib.Ieee.{Float}
+use lib.ListN.{getD}
+use Rattle.float32.specs.Float32.{zero}
+use Rattle.lists.specs.Tab.{tab, pixel}
+use Rattle.lists.proofs.Tab.{tab-ext}
+use Rattle.ring.specs.Ring.{Ring, ringOf, dx, dy, IsRing}
+use Rattle.ring.proofs.Places.{dx-le, dy-le, radius-pos, radius-small}
+use Rattle.ring.proofs.Table.{ringOf-is}
+use Rattle.response.specs.declared.rows.Field.{Field}
+use Rattle.response.specs.Response.{samples, crossOf, response, responseOf}
+use Rattle.response.specs.Internal.{offsetAt, Framed, Inner, IsTile, Summed, Written, Filled, Placed, Part, responses}
+use Rattle.response.proofs.Filling.{row-after, row-filled, then-below}
+use Rattle.response.proofs.Indices.{area-le}
+use Rattle.response.proofs.Inside.{at-inside}
+use Rattle.response.proofs.Samples.{assembled}
+
+-- a list with rows of s places that has the pixels of n columns from column X on and m rows from row Y on of an image w wide
+module _ (img tile : List ℕ) (w s X Y n m : ℕ) (same : (u v : ℕ) → u < n → v < m → pixel tile s u v ≡ pixel img w (X + u) (Y + v)) where
+  at : (u v u₁ v₁ : ℕ) → u < n → v < m → u₁ ≡ X + u → v₁ ≡ Y + v → pixel tile s u v ≡ pixel img w u₁ v₁
+  at u v u₁ v₁ a b e g = same u v a b ∙ rw (e, g)
+
+  pub tile-response : (t : Ring) → IsRing t → (r : ℕ) → t .radius ≡ r → (x y : ℕ) → r ≤ x → x + r < n → r ≤ y → y + r < m
+      → response tile s t x y ≡ response img w t (X + x) (Y + y)
+  unfolding response
+  tile-response t is r own x y l p a b = rw (ring, cross)
+    where
+      ring : samples tile s t x y ≡ samples img w t (X + x) (Y + y)
+      ring =
+          unfold samples in
+          (tab-ext 16 _ _ (λ c k.
+          at (x - t .radius + dx t c) (y - t .radius + dy t c) _ _ (omega (arith, dx-le t is c)) (omega (arith, dy-le t is c)) (omega arith) (omega arith)))
+
+      one : 1 ≤ r
+      one = omega (arith, radius-pos t is)
+
+      cross : crossOf tile s x y ≡ crossOf img w (X + x) (Y + y)
+      cross =
+          rw (
+            at x y (X + x) (Y + y) (omega arith) (omega arith) (omega arith) (omega arith),
+            at x (y - 1) (X + x) (Y + y - 1) (omega arith) (omega arith) (omega arith) (omega (arith, one)),
+            at x (y + 1) (X + x) (Y + y + 1) (omega arith) (omega (arith, one)) (omega arith) (omega arith),
+            at (x + 1) y (X + x + 1) (Y + y) (omega (arith, one)) (omega arith) (omega arith) (omega arith),
+            at (x - 1) y (X + x - 1) (Y + y) (omega arith) (omega arith) (omega (arith, one)) (omega arith),
+          )
+
+-- ---- where a block lies
+pub tile-framed : (tile : List ℕ) (r : ℕ) (off : List ℕ) → IsTile tile → ringOf r .radius ≡ r → off ≡ tab 16 (offsetAt (ringOf r) 148)
+    → Framed tile 148 36 (ringOf r) r off
+tile-framed tile r off is own e =
+    record {
+      image = record { narrow = omega arith; low = omega arith; sized = is .long };
+      is-ring = ringOf-is r;
+      own-radius = own;
+      offsets = e;
+    }
+
+pub placed-still : (pixels : ℕ) (f : Field) (n m : ℕ) → Placed pixels f n → m ≡ n → Placed pixels f m
+placed-still pixels f n m p e = subst (λ (k : ℕ). Placed pixels f k) (sym e) p
+
+pub part-of : (f : Field) (a b c e a′ b′ c′ e′ : ℕ) → Part f a b c e → a ≤ a′ → b′ ≤ b → c ≤ c′ → e′ ≤ e → Part f a′ b′ c′ e′
+part-of f a b c e a′ b′ c′ e′ p l r u v =
+    record {
+      across = omega (arith, p .across);
+      down = omega (arith, p .down);
+      inner = λ i j x y z w. p .inner i j (omega arith) (omega arith) (omega arith) (omega arith);
+    }
+
+module _ (pixels places : ℕ) (f : Field) (p : Placed pixels f places) where
+  pub radius-le : f .radius ≤ 10
+  radius-le = omega (arith, radius-small (f .radius), p .own-radius)
+
+  pub map-small : f .ph * f .pw ≤ 16777216
+  map-small = area-le (f .ph) (f .pw) (omega (arith, p .down, p .image .low)) (omega (arith, p .across, p .image .narrow))
+
+  module _ (i j n m : ℕ) (part : Part f i (i + n) j (j + m)) (wide : 0 < n) (high : 0 < m) where
+    first-cell : Inner (f .w) (f .h) (f .radius) (f .x + i) (f .y + j)
+    first-cell = part .inner i j (omega arith) (omega arith) (omega arith) (omega arith)
+
+    last-cell : Inner (f .w) (f .h) (f .radius) (f .x + (i + (n - 1))) (f .y + (j + (m - 1)))
+    last-cell = part .inner (i + (n - 1)) (j + (m - 1)) (omega arith) (omega arith) (omega arith) (omega arith)
+
+    pub from-left : f .radius ≤ f .x + i
+    from-left = first-cell .left
+
+    pub from-top : f .radius ≤ f .y + j
+    from-top = first-cell .above
+
+    pub columns-in : f .x + i - f .radius + (n + f .radius + f .radius) ≤ f .w
+    columns-in = omega (arith, from-left, last-cell .right)
+
+    rows-in : f .y + j - f .radius + (m + f .radius + f .radius) ≤ f .h
+    rows-in = omega (arith, from-top, last-cell .below)
+
+    pub rows-low : f .y + j - f .radius + (m + f .radius + f .radius) ≤ 4096
+    rows-low = omega (arith, rows-in, p .image .low)
+
+    pub pixels-in : (f .y + j - f .radius + (m + f .radius + f .radius)) * f .w ≤ pixels
+    pixels-in = rw (p .image .sized, mul-comm (f .w) (f .h)) (mul-le-mul-right (f .w) rows-in)
+
+    pub row-in : (k : ℕ) → k < m → ((j + k) * f .pw + i + n ≤ places) × ((j + k) * f .pw + i + n ≤ 16777216)
+    row-in k l =
+        let within : (j + k) * f .pw + i + n ≤ f .ph * f .pw =
+        omega (arith, row-after (f .pw) (j + k) (f .ph) (omega (arith, part .down)), part .across) in
+        (omega (arith, p .enough), omega (arith, map-small))
+
+    pub corner-small : (f .x + i ≤ 4096) × (f .y + j ≤ 4096)
+    corner-small = (
+      omega (arith, p .across, part .across, p .image .narrow),
+      omega (arith, p .down, part .down, p .image .low),
+    )
+
+  pub pixels-few : pixels ≤ 16777216
+  pixels-few = omega (arith, p .image .sized, area-le (f .w) (f .h) (p .image .narrow) (p .image .low))
+
+-- ---- a row of a block
+module _ (img tile : List ℕ) (f : Field) (i j n m : ℕ) (is-ring : IsRing (ringOf (f .radius))) (own : ringOf (f .radius) .radius ≡ f .radius)
+    (part : Part f i (i + n) j (j + m)) (some : 0 < n) (k : ℕ) (below : k < m)
+    (same : (u v : ℕ) → u < n + f .radius + f .radius → v < m + f .radius + f .radius
+    → pixel tile 148 u v ≡ pixel img (f .w) (f .x + i - f .radius + u) (f .y + j - f .radius + v)) where
+  in-image : (p : ℕ) → p < n → Inner (f .w) (f .h) (f .radius) (f .x + (i + p)) (f .y + (j + k))
+  in-image p l = part .inner (i + p) (j + k) (omega arith) (omega arith) (omega arith) (omega arith)
+
+  cell-is : (p : ℕ) → p < n → response tile 148 (ringOf (f .radius)) (f .radius + p) (f .radius + k) ≡ responses img f (i + p) (j + k)
+  cell-is p l =
+      let first = part .inner i j (omega arith) (omega arith) (omega arith) (omega arith) in
+      let column : f .x + i - f .radius + (f .radius + p) ≡ f .x + (i + p) = omega (arith, first .left) in
+      let row : f .y + j - f .radius + (f .radius + k) ≡ f .y + (j + k) = omega (arith, first .above) in
+      tile-response img tile (f .w) 148 (f .x + i - f .radius) (f .y + j - f .radius) (n + f .radius + f .radius) (m + f .radius + f .radius) same
+      (ringOf (f .radius)) is-ring (f .radius) own (f .radius + p) (f .radius + k) (omega arith) (omega arith) (omega arith) (omega arith)
+      ∙ (rw (column, row))
+      ∙ sym (at-inside (f .w) (f .h) (ringOf (f .radius)) (f .x + (i + p)) (f .y + (j + k)) img (f .radius) own (in-image p l))
+
+  pub block-step : (a b c d : List ℕ) (z at : ℕ) (s₀ s t : List Float) → n ≤ z → Summed tile (ringOf (f .radius)) (f .radius) (f .radius + k) z a b c d
+      → Written zero at n (λ p. responseOf (getD a p 0) (getD b p 0) (getD c p 0) (getD d p 0)) s t → at ≡ (j + k) * f .pw + i
+      → Filled zero (f .pw) (f .ph) (responses img f) i (i + n) j (j + k) s₀ s
+      → Filled zero (f .pw) (f .ph) (responses img f) i (i + n) j (j + (k + 1)) s₀ t
+  block-step a b c d z at s₀ s t l sums wr is before =
+      let g : ℕ → Float = λ p. responseOf (getD a p 0) (getD b p 0) (getD c p 0) (getD d p 0) in
+      let next : j + k + 1 ≡ j + (k + 1) = omega arith in
+      subst (λ (e : ℕ). Filled zero (f .pw) (f .ph) (responses img f) i (i + n) j e s₀ t) next
+      (then-below zero (f .pw) (f .ph) (responses img f) i (i + n) j (j + k) (j + k + 1) s₀ s t before
+      (row-filled zero (f .pw) (f .ph) (responses img f) at n i (i + n) (j + k) g s t wr is refl (part .across) (omega (arith, part .down))
+      (λ p q. assembled tile 148 (ringOf (f .radius)) (f .radius + p) (f .radius + k) _ _ _ _ _ (sums .cells p (omega arith)) refl ∙ cell-is p q)))
+
+-- ---- a row more of a tile
+pub tile-row : (img : List ℕ) (w x y n j o : ℕ) (s t u : List ℕ) → j < 36 → n ≤ 148 → o ≡ (y + j) * w + x
+    → Filled 0 148 36 (λ p q. pixel img w (x + p) (y + q)) 0 n 0 j s t → Written 0 (j * 148) n (λ i. getD img (o + i) 0) t u
+    → Filled 0 148 36 (λ p q. pixel img w (x + p) (y + q)) 0 n 0 (j + 1) s u
+tile-row img w x y n j o s t u l fits is before wr =
+    let f : ℕ → ℕ → ℕ = λ p q. pixel img w (x + p) (y + q) in
+    then-below 0 148 36 f 0 n 0 j (j + 1) s t u before
+    (row-filled 0 148 36 f (j * 148) n 0 n j (λ i. getD img (o + i) 0) t u wr (omega arith) (omega arith) fits l
+    (λ i q. ap (λ (k : ℕ). getD img k 0) (omega arith)))
