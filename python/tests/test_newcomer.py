@@ -19,7 +19,8 @@ HAS_MADE = all(os.path.exists(os.path.join(MADE, name)) for name in ("bin/corner
 HAS_TOOLS = all(map(shutil.which, ("ld", "ar", "bash")))
 RT = """#!/bin/sh
 case "$1" in
-check) mkdir -p target/bin && cp "{made}/bin/$2" target/bin ;;
+check) mkdir -p target/bin target/rlib target/stamp
+       [ "$2" != corners ] || cp "{made}/bin/$2" target/bin ;;
 staticlib) mkdir -p target/staticlib && ar rc "target/staticlib/lib$2.a"
            [ "$2" != capi ] || cp "{made}/zakdomp/libzakdomp.a" target/staticlib/libcapi.a ;;
 *) exit 9 ;;
@@ -38,9 +39,10 @@ class Newcomer(unittest.TestCase):
         """The repository without what is made of it, and with a stand-in for `rt`."""
         for name in ("examples", "python", "tools"):
             shutil.copytree(os.path.join(TOP, name), self.path(name), ignore=shutil.ignore_patterns("__pycache__"))
-        for name in ("run", "NOTICE", "README.md", "CHANGELOG.md"):
+        for name in ("run", "NOTICE", "README.md", "CHANGELOG.md", "crates.txt"):
             shutil.copy(os.path.join(TOP, name), self.path(name))
-        os.makedirs(self.path("bin"))
+        for name in ("bin", "crates"):
+            os.makedirs(self.path(name))
         for name in ("gcc", "cc"):  # no C compiler is on the machine
             os.symlink("/bin/false", self.path("bin", name))
         with open(self.path("bin", "rt"), "w", encoding="utf-8") as file:
