@@ -1,6 +1,6 @@
-/* How much stack the calls of zakdomp.h take: each runs on the main thread, and then on a thread that has just the stack that the header asks for.
- * Results and buffers must be the same. Prints what was used, 'N passed, M failed' at the end, and returns 0 if none failed; a call that needs more
- * stack ends the program by a signal. */
+/* How much stack the calls of zakdomp.h take: each runs on the main thread, and then on a thread that has just the
+ * stack that the header asks for. Results and buffers must be the same. Prints what was used, 'N passed, M failed' at
+ * the end, and returns 0 if none failed; a call that needs more stack ends the program by a signal. */
 #define _GNU_SOURCE /* pthread_getattr_np */
 #include "zakdomp.h"
 
@@ -23,8 +23,9 @@ static void expect(int holds, const char *what) {
     }
 }
 
-/* A board of squares of so many pixels. Every cell with a positive response is a peak, so there are as many corners as can be, and `radius` merges
- * only those that several boxes found. With more than one level a seed's box is the whole image, or small in a large one. */
+/* A board of squares of so many pixels. Every cell with a positive response is a peak, so there are as many corners as
+ * can be, and `radius` merges only those that several boxes found. With more than one level a seed's box is the whole
+ * image, or small in a large one. */
 struct frame {
     size_t side;
     unsigned square;
@@ -63,8 +64,9 @@ static void run(struct call *c) {
     uint32_t search = f->side <= 96 ? 255 : 1;
     float **l = c->lists;
     c->number = (exact ? zakdomp_find_exact_corners : zakdomp_find_corners)(
-        img, cells, f->side, f->side, f->ring, 0, 0, 0, 0, radius, f->levels, 1, search, c->map, cells, c->levels, cells, l[0], PLACES, l[1], PLACES,
-        l[2], PLACES, c->neighbours[0], PLACES, l[3], PLACES, l[4], PLACES, l[5], PLACES, c->neighbours[1], PLACES, &c->count, &c->ties);
+        img, cells, f->side, f->side, f->ring, 0, 0, 0, 0, radius, f->levels, 1, search, c->map, cells, c->levels,
+        cells, l[0], PLACES, l[1], PLACES, l[2], PLACES, c->neighbours[0], PLACES, l[3], PLACES, l[4], PLACES, l[5],
+        PLACES, c->neighbours[1], PLACES, &c->count, &c->ties);
 }
 
 /* Marks the thread's stack below its own frame, runs the call, and looks how far the marks are gone. */
@@ -107,8 +109,9 @@ static void drop(struct call *c) {
 }
 
 static int same(const struct call *a, const struct call *b) {
-    int s = a->number == b->number && a->count == b->count && a->ties == b->ties && memcmp(a->levels, b->levels, CELLS) == 0 &&
-            memcmp(a->text, b->text, ZAKDOMP_LONGEST) == 0 && memcmp(a->map, b->map, CELLS * sizeof(float)) == 0;
+    int s = a->number == b->number && a->count == b->count && a->ties == b->ties &&
+            memcmp(a->levels, b->levels, CELLS) == 0 && memcmp(a->text, b->text, ZAKDOMP_LONGEST) == 0 &&
+            memcmp(a->map, b->map, CELLS * sizeof(float)) == 0;
     for (int i = 0; i < 6; i++) s = s && memcmp(a->lists[i], b->lists[i], PLACES * sizeof(float)) == 0;
     for (int i = 0; i < 2; i++) s = s && memcmp(a->neighbours[i], b->neighbours[i], PLACES * sizeof(uint32_t)) == 0;
     return s;
@@ -135,9 +138,10 @@ static void frame(const struct frame *f) {
     char what[80];
     struct call c;
     board(f->side, f->square);
-    snprintf(what, sizeof what, "%zu x %zu, ring %u, levels %u%s", f->side, f->side, (unsigned)f->ring, (unsigned)f->levels, exact ? ", exact" : "");
+    snprintf(what, sizeof what, "%zu x %zu, ring %u, levels %u%s", f->side, f->side, (unsigned)f->ring,
+             (unsigned)f->levels, exact ? ", exact" : "");
     c = both(f, f->side <= 96 ? SMALL : LARGE, what);
-    expect(c.number == ZAKDOMP_DONE && c.count >= f->least, "as many corners as are wanted");
+    expect(c.number == ZAKDOMP_DONE && c.count >= f->least, "as many corners as are needed");
     drop(&c);
 }
 
@@ -161,8 +165,9 @@ static void streamed(unsigned square, uint8_t ring, uint8_t levels, const char *
 
 int main(void) {
     static const struct frame frames[] = {
-        {96, 3, 5, 1, 3000}, {96, 3, 5, 2, 2000}, {96, 3, 5, 3, 2000}, {96, 3, 10, 1, 2000}, {96, 3, 10, 2, 1000}, {96, 3, 10, 3, 1000},
-        {400, 3, 5, 1, 60000}, {400, 3, 5, 2, 9000}, {400, 3, 5, 3, 9000}, {400, 3, 10, 1, 60000}, {400, 3, 10, 2, 9000}, {400, 3, 10, 3, 9000},
+        {96, 3, 5, 1, 3000},  {96, 3, 5, 2, 2000},    {96, 3, 5, 3, 2000},   {96, 3, 10, 1, 2000},
+        {96, 3, 10, 2, 1000}, {96, 3, 10, 3, 1000},   {400, 3, 5, 1, 60000}, {400, 3, 5, 2, 9000},
+        {400, 3, 5, 3, 9000}, {400, 3, 10, 1, 60000}, {400, 3, 10, 2, 9000}, {400, 3, 10, 3, 9000},
     };
     for (exact = 0; exact < 2; exact++) {
         for (size_t i = 0; i < sizeof frames / sizeof *frames; i++) frame(frames + i);

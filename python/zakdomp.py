@@ -8,7 +8,7 @@
                                                            as those without `exact` are to `find`
     read_pgm(upload)                                   ->  Photograph(at, width, height, pixels)
     response(pixels, width, height, ring=5)            ->  ResponseMap(width, height, cells)
-    retouch(pixels, cells, width, height, x, y, value) ->  how many cells of the map were computed anew
+    retouch(pixels, cells, width, height, x, y, value) ->  how many cells of the map were computed again
     has_peaks(cells, width, height, wanted)            ->  Enough(enough, rows): whether a map has so many peaks
     response_limits(low, high, width, height)          ->  ResponseLimits(lows, highs): each response's fifths
     sure_peak(lows, highs, width, height, x, y)        ->  whether a place is a peak of every image between the limits
@@ -194,7 +194,7 @@ def _load() -> ctypes.CDLL:
         "response_limits": 2 * piece + sides + [u32] + 2 * piece,
         "sure_peak": 2 * piece + sides + 5 * [u32] + [*sides, letter],
         "has_peaks": image + params[:5] + [size, letter, out],
-        "merge_apart": 4 * piece + [size, f32] + 4 * piece + [out],
+        "merge_by_table": 4 * piece + [size, f32] + piece + [out],
         "merge_naive": 4 * piece + [size, f32, out],
         "show_corner": 4 * piece + [size, u32, size] + 3 * [ctypes.POINTER(f32)] + 2 * [ctypes.POINTER(u32)],
         "strike_corner": 4 * piece + [out, ctypes.POINTER(u32), size, u32],
@@ -332,16 +332,17 @@ class _List:
 
     @classmethod
     def of(cls, corners: Iterable[Iterable[Any]]) -> "_List":
-        """A list with just the places of some corners, which stand in it."""
+        """A list with just the places of some corners, which are in it."""
         rows = [_fields(corner) for corner in corners]
         made = cls(len(rows))
         for values, column in zip(made._slices, zip(*rows)):
             values[:len(rows)] = list(column)
         return made
 
-    def words(self, places: int) -> list[Word]:
-        """The first places, as four pointers and lengths."""
-        return [word for values in self._slices for word in (ctypes.addressof(values), places)]
+    def words(self, places: int | None = None) -> list[Word]:
+        """All places, or the first so many, as four pointers and lengths."""
+        length = self.places if places is None else places
+        return [word for values in self._slices for word in (ctypes.addressof(values), length)]
 
     def corners(self, count: int) -> list[Corner]:
         """The first corners."""
@@ -349,7 +350,7 @@ class _List:
 
 
 class _Buffers:
-    """The buffers of the frame pass: each is made anew only where an image asks for more than any before it."""
+    """The buffers of the frame pass: a larger one is made only where an image needs more than any before it."""
 
     def __init__(self) -> None:
         self._map = (ctypes.c_float * 1)()
@@ -455,7 +456,7 @@ def _search(function: Callable[..., int], asked: _Asked) -> Frame:
 
 
 def _called_as(shape: Callable[P, _Asked]) -> Callable[[Callable[..., R]], Callable[P, R]]:
-    """A function that is called as `shape` is, for `help` as for mypy: the parameters stand there once."""
+    """A function that is called as `shape` is, for `help` as for mypy: the parameters are written once."""
     def called(function: Callable[..., R]) -> Callable[P, R]:
         answer = inspect.signature(function).return_annotation
         setattr(function, "__signature__", inspect.signature(shape).replace(return_annotation=answer))
@@ -614,22 +615,24 @@ def has_peaks(cells: Sequence[float] | Buffer, width: Whole, height: Whole, want
 
 def merged(corners: Iterable[Iterable[Any]], radius: Number) -> list[Corner]:
     """What merging corners by a radius would leave of them, in a new list; they are merged as a frame's corners are
-    (include/zakdomp.h). A radius that is 0, negative or not finite leaves all."""
-    given = _List.of(corners)
-    left, kept = _List(given.places), ctypes.c_size_t(0)
-    _call(_library.zakdomp_merge_apart, *given.words(given.places), given.places, _single("radius", radius),
-          *left.words(left.places), ctypes.byref(kept))
-    return left.corners(kept.value)
+    (include/zakdomp.h). A radius that is 0, negative or not finite leaves all. The time grows with their number, in
+    whatever order they come; it takes a table of four floats for each."""
+    given, kept = _List.of(corners), ctypes.c_size_t(0)
+    slots = 4 * given.places + 4
+    table = (ctypes.c_float * slots)()
+    _call(_library.zakdomp_merge_by_table, *given.words(), given.places, _single("radius", radius),
+          ctypes.addressof(table), slots, ctypes.byref(kept))
+    return given.corners(kept.value)
 
 
 def merge_naive(corners: Iterable[Iterable[Any]], radius: Number) -> list[Corner]:
     """What is left of corners that are merged by distance alone. Each in turn looks among those kept for the first at
     most `radius` away, takes its place if it is strictly stronger, and is dropped if not; where there is none it is
-    kept behind the others. A radius of 0, a negative one and one that is not finite keep all. No frame is merged so:
+    kept after the others. A radius of 0, a negative one and one that is not finite keep all. No frame is merged so:
     the two merges leave the same where the coordinates are multiples of 1/64 and the radius is a power of two from 1/64
     to 4096."""
     given, kept = _List.of(corners), ctypes.c_size_t(0)
-    _call(_library.zakdomp_merge_naive, *given.words(given.places), given.places, _single("radius", radius),
+    _call(_library.zakdomp_merge_naive, *given.words(), given.places, _single("radius", radius),
           ctypes.byref(kept))
     return given.corners(kept.value)
 
@@ -660,7 +663,7 @@ class EditedList:
     def show(self, place: Whole) -> Shown:
         """The corner at a place, which counts from 0, and the list's change number."""
         floats, counts = [ctypes.c_float(0) for _ in range(3)], [ctypes.c_uint32(0) for _ in range(2)]
-        _call(_library.zakdomp_show_corner, *self._list.words(self._list.places), self._count, self._change,
+        _call(_library.zakdomp_show_corner, *self._list.words(), self._count, self._change,
               _whole("place", place, 64), *map(ctypes.byref, floats), *map(ctypes.byref, counts))
         neighbours, change = (count.value for count in counts)
         return Shown(Corner._make([*(number.value for number in floats), neighbours]), change)
@@ -668,7 +671,7 @@ class EditedList:
     def strike(self, place: Whole, change: Whole) -> None:
         """Strikes the corner at a place, if `change` is the list's change number: later corners move up. A refusal
         leaves the list as it was."""
-        _call(_library.zakdomp_strike_corner, *self._list.words(self._list.places), ctypes.byref(self._count),
+        _call(_library.zakdomp_strike_corner, *self._list.words(), ctypes.byref(self._count),
               ctypes.byref(self._change), _whole("place", place, 64), _whole("change", change, 32))
 
 

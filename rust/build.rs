@@ -1,5 +1,5 @@
-//! Links libzakdomp.a: from the folder that the environment variable ZAKDOMP_DIR names; else from where the repository or the installed crate has
-//! it; else from where pkg-config says.
+//! Links libzakdomp.a: from the folder that the environment variable `ZAKDOMP_DIR` names; else from where the
+//! repository or the installed crate has it; else from where pkg-config says.
 
 use std::path::Path;
 use std::process::Command;
@@ -17,7 +17,10 @@ fn main() {
         }
     });
     if !holds(&folder) {
-        println!("cargo::warning=no libzakdomp.a in {folder}: ZAKDOMP_DIR names another folder, PKG_CONFIG_PATH that of zakdomp.pc");
+        println!(
+            "cargo::warning=no libzakdomp.a in {folder}: ZAKDOMP_DIR names another folder, PKG_CONFIG_PATH that of \
+             zakdomp.pc"
+        );
     }
     println!("cargo::rerun-if-changed={folder}/libzakdomp.a");
     println!("cargo::rustc-link-search=native={folder}");

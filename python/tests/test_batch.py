@@ -33,12 +33,13 @@ cluster.PATIENCE = 20
 cluster.WORKERS = 60
 sys.exit(main.main(sys.argv[3:]))
 """
-REFUSED = {"a.jpg": b"\xff\xd8\xff", "empty": b"", "large.pgm": b"P5 5000 1 255\n", "maxval.pgm": b"P5 1 1 15\na", "short.pgm": board()[:-1]}
+REFUSED = {"a.jpg": b"\xff\xd8\xff", "empty": b"", "large.pgm": b"P5 5000 1 255\n", "maxval.pgm": b"P5 1 1 15\na",
+           "short.pgm": board()[:-1]}
 
 
 def tree(folder):
-    """The names and digests of all files below a folder, but not of its ledger, which knows the hour; an invoice's day is
-    left out."""
+    """The names and digests of all files below a folder, but not of its ledger, which knows the hour; an invoice's day
+    is left out."""
     found = {}
     for place, _, names in os.walk(folder):
         for name in set(names) - {ledger.NAME}:
@@ -74,13 +75,15 @@ class Batch(Command):
         return self.done("batch", self.path("in"), "--out", self.path(out), *options)
 
     def started(self, *options, last=None, interrupt=signal.default_int_handler, **named):
-        """The same in a process of its own, which ends with the test. Uploads behind `last` are held until the file `gate` is there. A process that
-        is started with SIGINT ignored, as by a shell in the background, stays so: here it has the default, or ignores it."""
+        """The same in a process of its own, which ends with the test. Uploads after `last` are held until the file
+        `gate` is there. A process that is started with SIGINT ignored, as by a shell in the background, stays so: here
+        it has the default, or ignores it."""
         start = ["-m", "zakdomp_command"] if last is None else ["-c", HELD, last, self.path("gate")]
         command = [sys.executable, "-B", *start, "batch", self.path("in"), "--out", self.path("out"), *options]
         before = signal.signal(signal.SIGINT, interrupt)
         try:
-            run = subprocess.Popen(command, env={**os.environ, **self.variables, "PYTHONPATH": HERE}, stdout=subprocess.DEVNULL, **named)
+            run = subprocess.Popen(command, env={**os.environ, **self.variables, "PYTHONPATH": HERE},
+                                   stdout=subprocess.DEVNULL, **named)
         finally:
             signal.signal(signal.SIGINT, before)
         self.addCleanup(run.wait)
@@ -140,7 +143,8 @@ class Invoices(Batch):
         self.assertEqual(len(tree(self.path("one"))), 13)
 
     def test_names_of_all_kinds(self):
-        names = ["a,b.pgm", 'quote".pgm', "two\nlines.pgm", "back\\slash", "invoice.csv", os.fsdecode(b"latin-\xe9.pgm"), "ünï.pgm", " ", "-", "n" * 250,
+        names = ["a,b.pgm", 'quote".pgm', "two\nlines.pgm", "back\\slash", "invoice.csv",
+                 os.fsdecode(b"latin-\xe9.pgm"), "ünï.pgm", " ", "-", "n" * 250,
                  "=1+1"]
         for name in names:
             self.put("in/" + name, board())
@@ -152,17 +156,19 @@ class Invoices(Batch):
         self.assertEqual(set(lines), set(names))
         self.assertEqual(lines["n" * 250]["words"], "")
         self.assertEqual(len(os.listdir(self.path("out/corners"))), len(names))
-        self.assertEqual(os.listdir(self.path("out/corners/by-digest")), [os.path.basename(by_digest("n" * 250, board())) + ".corners"])
+        self.assertEqual(os.listdir(self.path("out/corners/by-digest")),
+                         [os.path.basename(by_digest("n" * 250, board())) + ".corners"])
 
     def test_what_cannot_be_read_has_a_line(self):
         self.fill(1)
         os.mkfifo(self.path("in/pipe"))
         os.symlink(self.path("none"), self.path("in/dangling"))
         os.mkdir(self.path("in/sub"))
-        status, output, said = self.run_command("batch", self.path("in"), "--out", self.path("in/sub/out"), "--jobs", 1)
+        status, _, said = self.run_command("batch", self.path("in"), "--out", self.path("in/sub/out"), "--jobs", 1)
         self.assertEqual((status, said), (0, f"zakdomp: {self.path('in')}: 1 subfolder not looked into\n"))
         words = {line["name"]: line["words"] for line in self.lines("in/sub/out")}
-        self.assertEqual(words, {"000.pgm": "", "pipe": "cannot be read: not a regular file", "dangling": "cannot be read: No such file or directory"})
+        self.assertEqual(words, {"000.pgm": "", "pipe": "cannot be read: not a regular file",
+                                 "dangling": "cannot be read: No such file or directory"})
 
     def test_files_that_are_not_of_the_run_are_kept_and_told(self):
         self.fill(3)
@@ -184,7 +190,8 @@ class Invoices(Batch):
         self.assertEqual(sorted(os.listdir(self.folder)), ["file", "in"])
         self.assertEqual(os.listdir(self.path("in")), [])
         for options, words in (((), "--out"), (("--out",), "--out"), (("--out", ""), "no folder is named"),
-                               (("--out", "x", "--jobs", "0"), "'0' is no whole number from 1"), (("--out", "x", "--jobs", "two"), "'two' is no whole")):
+                               (("--out", "x", "--jobs", "0"), "'0' is no whole number from 1"),
+                               (("--out", "x", "--jobs", "two"), "'two' is no whole")):
             status, _, said = self.run_command("batch", self.path("in"), *options)
             self.assertEqual((status, words in said), (2, True), said)
 
@@ -193,7 +200,8 @@ class Invoices(Batch):
         self.fails(2, "file: File exists", "batch", self.path("in"), "--out", self.put("file", b""))
         os.makedirs(self.path("out"))
         self.put("out/invoice.csv", b"of an older batch\n")
-        self.fails(2, "invoice.csv: this invoice is of no ledger: move it away", "batch", self.path("in"), "--out", self.path("out"))
+        self.fails(2, "invoice.csv: this invoice is of no ledger: move it away", "batch", self.path("in"), "--out",
+                   self.path("out"))
         self.assertEqual(os.listdir(self.path("out")), ["invoice.csv"])
         os.unlink(self.path("out/invoice.csv"))
         self.batch("--jobs", 1)
@@ -217,7 +225,8 @@ class Invoices(Batch):
         with mock.patch.object(uploads, "read", vanishing):
             said = self.batch("--jobs", 1).decode()
         self.assertTrue(said.startswith("4 uploads: 3 found, 0 refused, 1 not read; "))
-        self.assertEqual([line["words"] for line in self.lines()], ["", "", "cannot be read: No such file or directory", ""])
+        self.assertEqual([line["words"] for line in self.lines()],
+                         ["", "", "cannot be read: No such file or directory", ""])
 
     def test_a_folder_that_disappears(self):
         """Its uploads were there when it was listed, and have their lines; the batch is done."""
@@ -239,7 +248,8 @@ class Invoices(Batch):
             self.put("in/" + name, board())
         self.batch("--jobs", 1)
         self.assertEqual(len(self.lines()), 5)
-        self.assertEqual(set(os.listdir(self.path("out/corners"))), {name + ".corners" for name in os.listdir(self.path("in"))})
+        self.assertEqual(set(os.listdir(self.path("out/corners"))),
+                         {name + ".corners" for name in os.listdir(self.path("in"))})
 
 
 class Resuming(Batch):
@@ -266,7 +276,8 @@ class Resuming(Batch):
             self.fails(2, "run 1 is not whole: start its batch again", "invoice", self.path("out"))
             self.batch("--jobs", jobs)
             self.assertEqual(tree(self.path("out")), due)
-            self.assertEqual([name for name in left if os.stat(self.path("out/" + name)).st_mtime_ns != times[name]], [])
+            self.assertEqual([name for name in left if os.stat(self.path("out/" + name)).st_mtime_ns != times[name]],
+                             [])
             os.rename(self.path("out"), self.path(f"out{jobs}"))
 
     def halted(self, *options):
@@ -292,7 +303,7 @@ class Resuming(Batch):
         return names
 
     def test_a_full_disk_puts_no_file_elsewhere(self):
-        """Not even where it has a place again a moment later: each file stands under its upload's name."""
+        """Not even where it has a place again a moment later: each file is under its upload's name."""
         self.fill(2)
         real, asked = corner_files.files.place, []
 
@@ -303,7 +314,8 @@ class Resuming(Batch):
             real(name, content)
 
         with mock.patch.object(corner_files.files, "place", full_once):
-            self.fails(2, "000.pgm.corners: No space left", "batch", self.path("in"), "--out", self.path("out"), "--jobs", 1)
+            self.fails(2, "000.pgm.corners: No space left", "batch", self.path("in"), "--out", self.path("out"),
+                       "--jobs", 1)
         self.batch("--jobs", 1)
         self.assertEqual(sorted(os.listdir(self.path("out/corners"))), ["000.pgm.corners", "001.pgm.corners"])
 
@@ -352,7 +364,7 @@ class Processes(Batch):
         self.fill(3)
         mine = os.getpid()
 
-        def dies(order, name):
+        def dies(_order, _name):
             os.kill(os.getpid(), signal.SIGKILL if os.getpid() != mine else 0)
 
         with mock.patch.object(uploads, "read", dies):
@@ -380,7 +392,8 @@ class Processes(Batch):
             self.waited(lambda: self.corners() >= 10)
             run.send_signal(signal.SIGINT)
             self.put("gate", b"")
-            self.assertEqual((run.communicate(timeout=LIMIT)[1].decode(), run.returncode), (f"zakdomp: {self.path('in')}: stopped\n", 130))
+            self.assertEqual((run.communicate(timeout=LIMIT)[1].decode(), run.returncode),
+                             (f"zakdomp: {self.path('in')}: stopped\n", 130))
             self.assertFalse(os.path.exists(self.path("out/invoice.csv")))
             self.batch()
             self.assertEqual(len(self.lines()), 30)

@@ -160,7 +160,7 @@ class Diamonds(Command):
 
     def test_none_where_the_lists_are_the_same(self):
         for upload in (board(), ORDER):
-            (_, _, _, palette, rows), picture = self.drawn(upload)
+            (_, _, _, palette, _), picture = self.drawn(upload)
             self.assertEqual(list(picture.iter(SPACE + "polygon")), [])
             self.assertNotIn("diamonds", picture.findtext(SPACE + "title"))
             self.assertNotIn(bytes(marks.ALONE["exact"]), [palette[place:place + 3] for place in range(0, 768, 3)])
@@ -246,7 +246,7 @@ class Resuming(Batch):
         self.assertEqual(self.read(), ["other.pgm"])
 
     def test_a_killed_run_goes_on(self):
-        """By a signal that leaves it no time, with uploads held that lie behind."""
+        """By a signal that leaves it no time, with later uploads held."""
         run = self.started("--jobs", "2", last="order.pgm")
         self.waited(lambda: self.corners() >= 4)
         run.send_signal(signal.SIGKILL)
@@ -257,7 +257,7 @@ class Resuming(Batch):
 
 class Workers(unittest.TestCase):
     def test_a_worker_of_before_the_exact_choice(self):
-        """Each side compares what an outcome says, so that no column is empty for want of an answer."""
+        """Each side compares what an outcome says, so that no column is empty for lack of an answer."""
         order, upload = uploads.Order("", "listing", zakdomp.Params()._asdict()), uploads.Upload(OTHER, len(OTHER), 2)
         for version in (zakdomp.__version__, uploads.VERSION.replace(" exact_corners", "")):
             with self.assertRaisesRegex(ValueError, "a worker has zakdomp "):

@@ -1,4 +1,5 @@
-"""`zakdomp batch --scheduler`: a scheduler and two workers as processes of this machine: python3 -m unittest test_cluster"""
+"""`zakdomp batch --scheduler`: a scheduler and two workers as processes of this machine:
+python3 -m unittest test_cluster"""
 import importlib.util
 import json
 import os
@@ -27,7 +28,8 @@ assert eval(sys.argv[2])
 class Missing(Batch):
     def test_without_the_package(self):
         with mock.patch.dict(sys.modules, {"distributed": None}):
-            self.fails(2, "needs the Python package distributed", "batch", self.path("in"), "--out", self.path("out"), "--scheduler", "tcp://127.0.0.1:1")
+            self.fails(2, "needs the Python package distributed", "batch", self.path("in"), "--out", self.path("out"),
+                       "--scheduler", "tcp://127.0.0.1:1")
 
 
 class Killed(Exception):
@@ -57,7 +59,8 @@ class Tasks(Batch):
                 self.ended(problem)
 
     def test_a_scheduler_that_is_gone(self):
-        for named in ({"status": "connecting"}, {"gathered": ConnectionError()}, {"gathered": CancelledError()}, {"gathered": TimeoutError()}):
+        for named in ({"status": "connecting"}, {"gathered": ConnectionError()}, {"gathered": CancelledError()},
+                      {"gathered": TimeoutError()}):
             with self.assertRaisesRegex(OSError, "the scheduler is gone"):
                 self.ended(**named)
 
@@ -68,13 +71,14 @@ class Cluster(Batch):
         super().setUp()
         os.mkdir(self.path("cluster"))
         self.variables = {"DASK_CONFIG": self.path("cluster"), "DASK_DISTRIBUTED__SCHEDULER__ALLOWED_FAILURES": "3"}
+        self.file, self.scheduler, self.address, self.workers = self.path("cluster/scheduler.json"), None, None, []
 
     def begin(self, workers):
         """A scheduler and some workers."""
-        self.file = self.path("cluster/scheduler.json")
         if os.path.exists(self.file):
             os.unlink(self.file)
-        self.scheduler = self.process("scheduler", "--host", "127.0.0.1", "--port", "0", "--no-dashboard", "--scheduler-file", self.file)
+        self.scheduler = self.process("scheduler", "--host", "127.0.0.1", "--port", "0", "--no-dashboard",
+                                      "--scheduler-file", self.file)
         self.address = self.waited(self.said)
         self.workers = [self.worker() for _ in range(workers)]
 
@@ -82,13 +86,15 @@ class Cluster(Batch):
         """A process of the cluster, which ends with the test."""
         command = [sys.executable, "-B", "-m", f"distributed.cli.dask_{kind}", *options]
         with open(self.path(f"cluster/{kind}.log"), "ab") as log:
-            run = subprocess.Popen(command, stdout=log, stderr=log, cwd=self.path("cluster"), env={**os.environ, **self.variables, "PYTHONPATH": HERE})
+            run = subprocess.Popen(command, stdout=log, stderr=log, cwd=self.path("cluster"),
+                                   env={**os.environ, **self.variables, "PYTHONPATH": HERE})
         self.addCleanup(run.wait)
         self.addCleanup(run.kill)
         return run
 
     def worker(self):
-        return self.process("worker", self.address, "--host", "127.0.0.1", "--nthreads", "1", "--no-nanny", "--no-dashboard", "--local-directory",
+        return self.process("worker", self.address, "--host", "127.0.0.1", "--nthreads", "1", "--no-nanny",
+                            "--no-dashboard", "--local-directory",
                             self.path("cluster"))
 
     def said(self):
@@ -101,7 +107,8 @@ class Cluster(Batch):
 
     def ask(self, question):
         """Waits until a client of the scheduler says that it is so."""
-        subprocess.run([sys.executable, "-B", "-c", ASK, self.address, question], env={**os.environ, **self.variables}, check=True)
+        subprocess.run([sys.executable, "-B", "-c", ASK, self.address, question], env={**os.environ, **self.variables},
+                       check=True)
 
     def begun(self, last):
         return self.started("--scheduler", self.address, last=last, stderr=subprocess.PIPE)
@@ -131,7 +138,8 @@ class Cluster(Batch):
         self.assertEqual(sum(line["same_list"] == "no" for line in self.lines()), 1)
 
     def test_a_worker_that_dies_with_what_it_found(self):
-        """It is killed when it has found and the batch, which is held, has not yet asked for it; then comes a new one."""
+        """It is killed when it has found and the batch, which is held, has not yet asked for it; then comes a new
+        one."""
         self.begin(workers=1)
         self.fill(20)
         run = self.begun(last="001.pgm")
@@ -198,13 +206,15 @@ class Cluster(Batch):
         """A stand-in for its client: the wait ends with a line, and not never."""
         threads = iter([{"a": 1}, {}, {}, {}])
         client = mock.Mock(status="running", nthreads=lambda: next(threads, {}))
-        with mock.patch.object(cluster, "OFTEN", 0.01), self.assertRaisesRegex(OSError, "at x has no workers: start some"):
+        told = self.assertRaisesRegex(OSError, "at x has no workers: start some")
+        with mock.patch.object(cluster, "OFTEN", 0.01), told:
             cluster._manned(client, "x", lambda: False, 0.2)
         cluster._manned(client, "x", lambda: True, 0)
 
     def test_what_is_no_scheduler(self):
         run = self.started("--scheduler", "here", stderr=subprocess.PIPE)
-        self.assertRegex(run.communicate(timeout=LIMIT)[1].decode(), r"^zakdomp: [^\n]*: no scheduler at here: [^\n]+\n$")
+        self.assertRegex(run.communicate(timeout=LIMIT)[1].decode(),
+                         r"^zakdomp: [^\n]*: no scheduler at here: [^\n]+\n$")
         self.assertEqual(run.returncode, 2)
 
 

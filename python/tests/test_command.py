@@ -16,15 +16,15 @@ import zlib
 from unittest import mock
 
 import zakdomp
-from common import HERE, board, pgm
-from test_zakdomp import SIDE, whole_case
+from common import HERE, SIDE, board, pgm, whole_case
 from zakdomp_command import choices, files, formats, marks, png
 from zakdomp_command.main import main
 
 EXAMPLES = os.path.join(HERE, "..", "examples")
 PLAIN = "--window 0 --least-neighbours 0 --centroid-radius 0 --search-radius 0".split()
 COMPARED = re.compile(r"zakdomp: .*: (computed (only: .*|\d+ corners?, exact choice .*)|exact choice only: .*|"
-                      r"\d+ photographs? with another list by the exact choice|\d+ lines? more, of earlier batches: .*)\n")
+                      r"\d+ photographs? with another list by the exact choice|"
+                      r"\d+ lines? more, of earlier batches: .*)\n")
 
 
 def noise(side, seed, values=range(256)):
@@ -65,7 +65,8 @@ class Command(unittest.TestCase):
     def run_command(self, *arguments, given=b""):
         """The status, the bytes on standard output and the text on standard error."""
         output, said = io.TextIOWrapper(io.BytesIO(), "utf-8"), io.StringIO()
-        with contextlib.redirect_stdout(output), contextlib.redirect_stderr(said), mock.patch("sys.stdin", io.TextIOWrapper(io.BytesIO(given))):
+        asked = mock.patch("sys.stdin", io.TextIOWrapper(io.BytesIO(given)))
+        with contextlib.redirect_stdout(output), contextlib.redirect_stderr(said), asked:
             try:
                 status = main([str(argument) for argument in arguments])
             except SystemExit as end:
@@ -93,26 +94,31 @@ class Finding(Command):
         stream = example("board.stream")
         pixels = b"".join(stream[23 + 33 * block:55 + 33 * block] for block in range(288))
         photo = self.put("board.pgm", pgm(pixels, 96, 96))
-        self.assertEqual(self.done("find", photo, *"--threshold 100 --levels 2 --minimum-side 32".split()), example("board.txt"))
+        self.assertEqual(self.done("find", photo, *"--threshold 100 --levels 2 --minimum-side 32".split()),
+                         example("board.txt"))
 
     def test_standard_input(self):
         upload = pgm(whole_case(), SIDE, SIDE)
         self.assertEqual(self.done("find", "-", *PLAIN, given=upload), example("whole.txt"))
         environment = {**os.environ, "PYTHONPATH": HERE}
-        ran = subprocess.run([sys.executable, "-B", "-m", "zakdomp_command", "find", "-", *PLAIN], input=upload, capture_output=True, env=environment)
+        ran = subprocess.run([sys.executable, "-B", "-m", "zakdomp_command", "find", "-", *PLAIN], input=upload,
+                             capture_output=True, env=environment, check=False)
         self.assertEqual((ran.returncode, ran.stdout), (0, example("whole.txt")))
         self.assertEqual(ran.stderr, b"zakdomp: -: computed 1 corner, exact choice 1 corner: the same list\n")
 
     def test_the_defaults_are_the_library_s(self):
         upload = noise(64, 1)
-        self.assertEqual(self.done("find", "-", given=upload).decode(), zakdomp.listing(zakdomp.find_corners_pgm(upload)))
+        self.assertEqual(self.done("find", "-", given=upload).decode(),
+                         zakdomp.listing(zakdomp.find_corners_pgm(upload)))
 
     def test_every_parameter_is_an_option(self):
         upload = noise(64, 2)
-        for name, value in dict(ring=10, threshold=900.5, window=1, least_neighbours=5, centroid_radius=1, merge_radius=9.5, levels=2, minimum_side=40,
+        for name, value in dict(ring=10, threshold=900.5, window=1, least_neighbours=5, centroid_radius=1,
+                                merge_radius=9.5, levels=2, minimum_side=40,
                                 search_radius=12).items():
             base = dict(levels=2, window=1, least_neighbours=0) if name in ("minimum_side", "search_radius") else {}
-            options = [word for key, each in {**base, name: value}.items() for word in ("--" + key.replace("_", "-"), each)]
+            options = [word for key, each in {**base, name: value}.items()
+                       for word in ("--" + key.replace("_", "-"), each)]
             due = zakdomp.listing(zakdomp.find_corners_pgm(upload, **{**base, name: value}))
             self.assertEqual(self.done("find", "-", *options, given=upload).decode(), due)
             self.assertNotEqual(due, zakdomp.listing(zakdomp.find_corners_pgm(upload, **base)), name)
@@ -128,13 +134,15 @@ class Finding(Command):
         """The status and standard error of a line of a shell, in which $ZAKDOMP is the command."""
         command = f"{sys.executable} -B -m zakdomp_command"
         environment = {**os.environ, "PYTHONPATH": HERE, "ZAKDOMP": command, "PHOTO": self.put("a.pgm", noise(300, 1))}
-        ran = subprocess.run(["bash", "-c", line], capture_output=True, env=environment, text=True)
+        ran = subprocess.run(["bash", "-c", line], capture_output=True, env=environment, text=True, check=False)
         return ran.returncode, ran.stderr
 
     def test_standard_input_and_output_that_fail(self):
         self.assertEqual(self.in_a_shell("$ZAKDOMP find - <&-"), (2, "zakdomp: standard input: Bad file descriptor\n"))
-        self.assertEqual(self.in_a_shell("$ZAKDOMP find $PHOTO >&-"), (2, "zakdomp: standard output: Bad file descriptor\n"))
-        self.assertEqual(self.in_a_shell("$ZAKDOMP find $PHOTO >/dev/full"), (2, "zakdomp: standard output: No space left on device\n"))
+        self.assertEqual(self.in_a_shell("$ZAKDOMP find $PHOTO >&-"),
+                         (2, "zakdomp: standard output: Bad file descriptor\n"))
+        self.assertEqual(self.in_a_shell("$ZAKDOMP find $PHOTO >/dev/full"),
+                         (2, "zakdomp: standard output: No space left on device\n"))
         status, said = self.in_a_shell("$ZAKDOMP find $PHOTO | head -n 1")
         self.assertEqual((status, beside(said)), (0, ""))
         closed = "cmp <($ZAKDOMP find $PHOTO 2>&-) <($ZAKDOMP find $PHOTO 2>/dev/null)"
@@ -143,7 +151,8 @@ class Finding(Command):
     def test_what_is_no_usage_and_no_file(self):
         self.fails(2, "No such file", "find", self.path("none.pgm"))
         self.fails(2, "Is a directory", "find", self.folder)
-        self.fails(2, f"zakdomp: {self.path('none/a.png')}: No such file", "find", "-", "--png", self.path("none/a.png"), given=board())
+        self.fails(2, f"zakdomp: {self.path('none/a.png')}: No such file", "find", "-", "--png",
+                   self.path("none/a.png"), given=board())
         self.fails(2, "levels is not within", "find", "-", "--levels", -1, given=board())
         self.fails(2, "cannot be drawn", "find", "-", "--png", self.path("a.png"), given=b"P5 0 7 255\n")
         for arguments in ((), ("find",), ("found",), ("find", "-", "--ring", "x"), ("find", "-", "--format", "xml")):
@@ -154,7 +163,8 @@ class Finding(Command):
     def test_nothing_takes_the_place_of_what_is_read(self):
         photo, picture = self.put("a.pgm", board()), self.path("a.png")
         os.symlink(photo, self.path("link"))
-        for options in (("--png", photo), ("--svg", self.path("link")), ("--png", picture, "--svg", os.path.join(self.folder, ".", "a.png"))):
+        for options in (("--png", photo), ("--svg", self.path("link")),
+                        ("--png", picture, "--svg", os.path.join(self.folder, ".", "a.png"))):
             self.fails(2, "would be written over", "find", photo, *options)
         self.fails(2, "would be written over", "stream", photo, "--out", photo)
         self.assertEqual((self.content("a.pgm"), sorted(os.listdir(self.folder))), (board(), ["a.pgm", "link"]))
@@ -176,7 +186,8 @@ class Formats(Command):
         upload = noise(40, 3, (0, 255))
         said = json.loads(self.done("find", "-", "--format", "json", "--window", 1, "--threshold", "nan", given=upload))
         frame = zakdomp.find_pgm(upload, window=1)
-        self.assertEqual((said["width"], said["height"], said["ties"], len(said["corners"])), (40, 40, frame.ties, len(frame.corners)))
+        self.assertEqual((said["width"], said["height"], said["ties"], len(said["corners"])),
+                         (40, 40, frame.ties, len(frame.corners)))
         self.assertEqual(said["parameters"], {**zakdomp.Params()._asdict(), "window": 1, "threshold": "nan"})
         self.assertEqual(list(said["corners"][0]), list(zakdomp.Corner._fields))
 
@@ -196,8 +207,9 @@ class Formats(Command):
         self.assertEqual(formats.shortest(struct.unpack("<f", struct.pack("<f", 0.1))[0]), 0.1)
 
     def test_what_is_no_corner_file(self):
-        for content in (b"", b"corners 1\n", b"corners 1\n1 2 3\n", b"corners x\n", b"\xff", b"x,y\n1,2\n", b"{}", b"{", b'{"corners": [{"x": 1}]}',
-                        b'{"corners": [1]}', (",".join(formats.FIELDS) + "\n" + ",".join(["1e99"] * len(formats.FIELDS))).encode()):
+        for content in (b"", b"corners 1\n", b"corners 1\n1 2 3\n", b"corners x\n", b"\xff", b"x,y\n1,2\n", b"{}", b"{",
+                        b'{"corners": [{"x": 1}]}', b'{"corners": [1]}',
+                        (",".join(formats.FIELDS) + "\n" + ",".join(["1e99"] * len(formats.FIELDS))).encode()):
             with self.assertRaisesRegex(ValueError, "^no corner file: "):
                 formats.read(content)
 
@@ -205,7 +217,8 @@ class Formats(Command):
         head, one = ",".join(formats.FIELDS) + "\n", '{"corners": [{"x": 1, "y": 1, "strength": 1, "neighbours": %s}]}'
         self.assertEqual(formats.read((head + "1,1,1,4294967295\n").encode()).corners[0].neighbours, (1 << 32) - 1)
         self.assertEqual(formats.read((one % 7).encode()).corners[0].neighbours, 7)
-        for content in (head + "1,1,1,3.5\n", head + "1,1,1,-1\n", head + "1,1,1,4294967296\n", one % "1.5", one % "true", one % "null",
+        for content in (head + "1,1,1,3.5\n", head + "1,1,1,-1\n", head + "1,1,1,4294967296\n", one % "1.5",
+                        one % "true", one % "null",
                         '{"corners":' + "[" * 100_000):
             with self.assertRaisesRegex(ValueError, "^no corner file: "):
                 formats.read(content.encode())
@@ -224,7 +237,8 @@ def decoded(content):
     width, height, depth, kind, *rest = struct.unpack(">IIBBBBB", chunks[b"IHDR"])
     data = zlib.decompress(chunks[b"IDAT"])
     assert (depth, rest, len(data)) == (8, [0, 0, 0], (width + 1) * height) and list(chunks)[-1] == b"IEND"
-    return width, height, kind, chunks.get(b"PLTE"), [data[row * (width + 1) + 1:(row + 1) * (width + 1)] for row in range(height)]
+    return width, height, kind, chunks.get(b"PLTE"), [data[row * (width + 1) + 1:(row + 1) * (width + 1)]
+                                                      for row in range(height)]
 
 
 def tied_peaks(photo, window, border):
@@ -233,7 +247,8 @@ def tied_peaks(photo, window, border):
     tied = []
     for y in range(border, side - border):
         for x in range(border, side - border):
-            about = [cells[v * side + u] for v in range(y - window, y + window + 1) for u in range(x - window, x + window + 1) if (u, v) != (x, y)]
+            about = [cells[v * side + u] for v in range(y - window, y + window + 1)
+                     for u in range(x - window, x + window + 1) if (u, v) != (x, y)]
             if cells[y * side + x] > 0 and max(about) <= cells[y * side + x]:
                 tied.append(cells[y * side + x] in about)
     return tied
@@ -261,7 +276,8 @@ class Pictures(Command):
         near = {min(range(35), key=lambda c: abs(corners[c].x - x) + abs(corners[c].y - y)) for x, y in coloured}
         self.assertEqual(len(near), 35)
         self.assertTrue(all(min(max(abs(c.x - x), abs(c.y - y)) for c in corners) < 12 for x, y in coloured))
-        self.assertTrue(all(rows[round(c.y)][round(c.x)] < png.GREYS for c in corners), "the photograph is seen inside a mark")
+        self.assertTrue(all(rows[round(c.y)][round(c.x)] < png.GREYS for c in corners),
+                        "the photograph is seen inside a mark")
 
     def test_a_small_photograph_is_enlarged(self):
         (width, height, _, _, _), picture = self.drawn(board(96, 60))
@@ -279,7 +295,8 @@ class Pictures(Command):
         shapes = picture.findall(f"{space}g/{space}g")
         self.assertEqual(len(shapes), len(corners))
         circles = [circle for shape in shapes for circle in shape.findall(space + "circle")]
-        self.assertLessEqual({(circle.get("cx"), circle.get("cy")) for circle in circles}, {(f"{c.x:.3f}", f"{c.y:.3f}") for c in corners})
+        self.assertLessEqual({(circle.get("cx"), circle.get("cy")) for circle in circles},
+                             {(f"{c.x:.3f}", f"{c.y:.3f}") for c in corners})
 
     def test_strength_is_size_and_colour(self):
         corners = zakdomp.find_corners_pgm(noise(100, 7))
@@ -297,7 +314,8 @@ class Pictures(Command):
             upload = noise(40, seed, (0, 255))
             photo = zakdomp.read_pgm(upload)
             for window, radius in ((1, 0), (1, 1), (2, 2)):
-                chosen = zakdomp.Params(window=window, least_neighbours=0, centroid_radius=radius, merge_radius=0)._asdict()
+                chosen = zakdomp.Params(window=window, least_neighbours=0, centroid_radius=radius,
+                                        merge_radius=0)._asdict()
                 corners = zakdomp.find_corners_pgm(upload, **chosen)
                 made = {mark.corner: mark.tied for mark in drawn(photo, corners, chosen)}
                 due = tied_peaks(photo, window, 5 + window + radius)
@@ -309,7 +327,8 @@ class Pictures(Command):
         self.assertEqual(len(squares), 2 * sum(due))
 
     def test_the_picture_of_the_readme(self):
-        made = subprocess.run([sys.executable, os.path.join(EXAMPLES, "photograph")], capture_output=True, check=True).stdout
+        made = subprocess.run([sys.executable, os.path.join(EXAMPLES, "photograph")], capture_output=True,
+                              check=True).stdout
         picture, _ = self.drawn(made, "--threshold", 100)
         with open(os.path.join(HERE, "..", "docs", "board.png"), "rb") as file:
             self.assertEqual(picture, decoded(file.read()))
@@ -324,7 +343,8 @@ class Pictures(Command):
     def test_a_large_picture_has_large_marks(self):
         photo = zakdomp.Photograph(0, 4096, 4096, memoryview(bytes(1)))
         small = photo._replace(width=640, height=480)
-        apart = [zakdomp.find_corners_pgm(pgm(whole_case(), SIDE, SIDE), window=0, least_neighbours=0, centroid_radius=0)[0]]
+        apart = [zakdomp.find_corners_pgm(pgm(whole_case(), SIDE, SIDE), window=0, least_neighbours=0,
+                                          centroid_radius=0)[0]]
         self.assertGreater(marks._largest(photo, apart), 40)
         self.assertEqual(marks._largest(small, apart), 8)
         dense = [apart[0]._replace(x=20.0 * (i % 100), y=20.0 * (i // 100)) for i in range(10_000)]
@@ -342,7 +362,7 @@ class Files(Command):
         self.assertEqual(os.stat(name).st_mode & 0o777, 0o666 & ~files._mask())
 
     def test_a_link_and_what_is_no_file_stay_what_they_are(self):
-        name = self.put("a", b"older")
+        self.put("a", b"older")
         os.symlink("a", self.path("link"))
         files.place(self.path("link"), b"newer")
         self.assertTrue(os.path.islink(self.path("link")))

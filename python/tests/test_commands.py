@@ -8,8 +8,8 @@ import unittest
 from unittest import mock
 
 import zakdomp
+from common import SIDE, whole_case
 from test_command import PLAIN, Command, board, example, noise, pgm
-from test_zakdomp import SIDE, whole_case
 from zakdomp_command import formats
 
 
@@ -28,8 +28,10 @@ class Streams(Command):
 
 class Retained(Command):
     def test_a_photograph_for_90_days(self):
-        for at, due in (("2026-08-17T23:59:59", b"N not yet\n"), ("2026-08-18", b"H held\n"), ("2026-11-15T23:59:59+00:00", b"H held\n"),
-                        ("2026-11-16", b"G gone\n"), ("@1794787200", b"G gone\n"), ("2026-11-16T01:00:00+02:00", b"H held\n")):
+        for at, due in (("2026-08-17T23:59:59", b"N not yet\n"), ("2026-08-18", b"H held\n"),
+                        ("2026-11-15T23:59:59+00:00", b"H held\n"),
+                        ("2026-11-16", b"G gone\n"), ("@1794787200", b"G gone\n"),
+                        ("2026-11-16T01:00:00+02:00", b"H held\n")):
             self.assertEqual(self.done("retained", "photograph", "2026-08-18", "--at", at), due, at)
 
     def test_kinds_and_now(self):
@@ -41,9 +43,11 @@ class Retained(Command):
 
     def test_a_time_that_can_be_read_in_two_ways_is_refused(self):
         """20261115 is a day of 2026 and a second of 1970, by which a photograph would be gone."""
-        for text, words in (("20261115", "write @20261115 or a date as 2026-11-15"), ("0", "write @0"), ("\u0661", "can be"),
+        for text, words in (("20261115", "write @20261115 or a date as 2026-11-15"), ("0", "write @0"),
+                            ("\u0661", "can be"),
                             ("2026-W46-1", "is no date"), ("2026-11", "is no date"), ("20261115T00", "is no date"),
-                            ("2026-02-30", "is no date"), ("@", "is no date"), ("@1e9", "is no date"), ("@-1", "is no date")):
+                            ("2026-02-30", "is no date"), ("@", "is no date"), ("@1e9", "is no date"),
+                            ("@-1", "is no date")):
             for arguments in ((text,), ("2026-08-18", "--at", text)):
                 status, output, said = self.run_command("retained", "photograph", *arguments)
                 self.assertEqual((status, output, words in said), (2, b"", True), said)
@@ -54,14 +58,16 @@ class Retained(Command):
         status, output, said = self.run_command("retained", "--stream", self.put("items", items + b"\x07"))
         self.assertEqual((status, output), (1, b"H\nH\nN\nrefused 6\n"))
         self.assertIn("refused 6: there is no such kind of item", said)
-        self.assertEqual(self.run_command("retained", "--stream", "-"), (1, b"refused 7\n", "zakdomp: refused 7: the stream is cut short\n"))
+        self.assertEqual(self.run_command("retained", "--stream", "-"),
+                         (1, b"refused 7\n", "zakdomp: refused 7: the stream is cut short\n"))
 
     def test_usage(self):
         self.fails(1, "refused 20: ", "retained", "file", f"@{(1 << 40) + 1}", "--at", "@5")
         self.fails(2, "KIND and START", "retained")
         self.fails(2, "KIND and START", "retained", "file")
         self.fails(2, "KIND and START", "retained", "file", "@3", "--stream", "-")
-        for arguments, words in ((("photo", "@3"), "'photo' is no kind: file, photograph, token are"), (("file", "now"), "'now' is no date as "),
+        for arguments, words in ((("photo", "@3"), "'photo' is no kind: file, photograph, token are"),
+                                 (("file", "now"), "'now' is no date as "),
                                  (("file", "1969-12-31"), "'1969-12-31' is before 1970"), (("file", -1), "")):
             status, _, said = self.run_command("retained", *arguments)
             self.assertEqual((status, words in said), (2, True), said)
@@ -107,11 +113,14 @@ class Merging(Command):
     def test_several_radii(self):
         due = [(radius, list(self.merged(self.corners, radius))) for radius in (0.0, 5.0, 20.0)]
         arguments = ("merge", self.file, "--radius", "0,5,20")
-        self.assertEqual(self.done(*arguments).decode(), "".join(f"radius {radius:g}\n{zakdomp.listing(corners)}" for radius, corners in due))
+        self.assertEqual(self.done(*arguments).decode(),
+                         "".join(f"radius {radius:g}\n{zakdomp.listing(corners)}" for radius, corners in due))
         rows = list(csv.DictReader(io.StringIO(self.done(*arguments, "--format", "csv").decode())))
-        self.assertEqual([sum(row["radius"] == f"{radius:g}" for row in rows) for radius, _ in due], [len(corners) for _, corners in due])
+        self.assertEqual([sum(row["radius"] == f"{radius:g}" for row in rows) for radius, _ in due],
+                         [len(corners) for _, corners in due])
         said = json.loads(self.done(*arguments, "--format", "json"))
-        self.assertEqual([(each["radius"], len(each["corners"])) for each in said], [(radius, len(corners)) for radius, corners in due])
+        self.assertEqual([(each["radius"], len(each["corners"])) for each in said],
+                         [(radius, len(corners)) for radius, corners in due])
 
     def test_refusals_and_usage(self):
         self.fails(1, "refused 5: ", "merge", self.file, "--radius", "3,5000")
@@ -121,7 +130,8 @@ class Merging(Command):
             self.assertEqual((status, f"'{radii}' is no number" in said), (2, True), said)
 
 
-@unittest.skipUnless(hasattr(zakdomp, "merged") and hasattr(zakdomp, "merge_naive"), "this library has no merged and merge_naive")
+@unittest.skipUnless(hasattr(zakdomp, "merged") and hasattr(zakdomp, "merge_naive"),
+                     "this library has no merged and merge_naive")
 class LibraryMerging(Merging):
     merged, merge_naive = (staticmethod(getattr(zakdomp, name, kept)) for name in ("merged", "merge_naive"))
 

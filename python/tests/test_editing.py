@@ -22,7 +22,8 @@ class Model:
         return (self.kept[place], self.change) if place < len(self.kept) else 17
 
     def strike(self, place, change):
-        for number, condition in ((16, change != self.change), (17, place >= len(self.kept)), (18, self.change == LARGEST)):
+        for number, condition in ((16, change != self.change), (17, place >= len(self.kept)),
+                                  (18, self.change == LARGEST)):
             if condition:
                 return number
         del self.kept[place]
@@ -72,7 +73,8 @@ class Editing(unittest.TestCase):
 
     def test_numbers_that_do_not_fit(self):
         edited = zakdomp.EditedList(corners(1))
-        for call in (lambda: edited.show(-1), lambda: edited.strike(0, 1 << 32), lambda: zakdomp.EditedList([], change=-1),
+        for call in (lambda: edited.show(-1), lambda: edited.strike(0, 1 << 32),
+                     lambda: zakdomp.EditedList([], change=-1),
                      lambda: zakdomp.EditedList([zakdomp.Corner(1.0, 1.0, 1.0, -1)])):
             with self.assertRaises(ValueError):
                 call()

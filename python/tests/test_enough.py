@@ -16,7 +16,8 @@ def rows_of_peaks(cells, width, height, *, ring, threshold, window, least_neighb
     for y in range(border, height - border):
         for x in range(border, width - border):
             centre = cells[y * width + x]
-            others = [cells[v * width + u] for v in range(y - window, y + window + 1) for u in range(x - window, x + window + 1)
+            others = [cells[v * width + u] for v in range(y - window, y + window + 1)
+                      for u in range(x - window, x + window + 1)
                       if (u, v) != (x, y)]
             if not centre <= threshold and not any(cell > centre for cell in others):
                 if sum(cell > 0 for cell in others) >= least_neighbours:
@@ -50,7 +51,8 @@ class Enough(unittest.TestCase):
         self.assertEqual(caught.exception.number, number)
 
     def test_the_rows_of_a_column(self):
-        for wanted, told in ((0, (True, 0)), (1, (True, 1)), (2, (True, 2)), (3, (True, 3)), (4, (False, 3)), ((1 << 64) - 1, (False, 3))):
+        for wanted, told in ((0, (True, 0)), (1, (True, 1)), (2, (True, 2)), (3, (True, 3)), (4, (False, 3)),
+                             ((1 << 64) - 1, (False, 3))):
             self.assertEqual(zakdomp.has_peaks(column(), 11, 13, wanted, **PLAIN), told)
 
     def test_a_side_of_twice_the_border(self):
@@ -73,7 +75,8 @@ class Enough(unittest.TestCase):
         r = random.Random(7)
         seen = {True: 0, False: 0}
         for _ in range(400):
-            named = dict(ring=r.choice((5, 5, 5, 10)), threshold=r.choice((math.nan, -1.0, 0.0, 1.0, 2.5)), window=r.randrange(3),
+            named = dict(ring=r.choice((5, 5, 5, 10)), threshold=r.choice((math.nan, -1.0, 0.0, 1.0, 2.5)),
+                         window=r.randrange(3),
                          least_neighbours=r.randrange(4), centroid_radius=r.randrange(2))
             border = named["ring"] + named["window"] + named["centroid_radius"]
             width, height = (2 * border - 1 + r.randrange(12) for _ in range(2))
@@ -81,7 +84,8 @@ class Enough(unittest.TestCase):
             count = len(rows_of_peaks(cells, width, height, **named))
             for wanted in (0, 1, max(count - 1, 0), count, count + 1):
                 told = counted(cells, width, height, wanted, **named)
-                self.assertEqual(zakdomp.has_peaks(cells, width, height, wanted, **named), told, (width, height, wanted, named))
+                self.assertEqual(zakdomp.has_peaks(cells, width, height, wanted, **named), told,
+                                 (width, height, wanted, named))
                 seen[told[0]] += 1
         self.assertTrue(min(seen.values()) > 100, seen)
 

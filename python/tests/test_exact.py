@@ -5,11 +5,8 @@ import unittest
 from fractions import Fraction
 
 import zakdomp
-from test_zakdomp import SIDE, whole_case
+from common import CROSS, RING, SIDE, f32, whole_case
 
-RING = ((0, -5), (2, -5), (3, -3), (5, -2), (5, 0), (5, 2), (3, 3), (2, 5), (0, 5), (-2, 5), (-3, 3), (-5, 2), (-5, 0),
-        (-5, -2), (-3, -3), (-2, -5))
-CROSS = ((0, 0), (0, -1), (0, 1), (1, 0), (-1, 0))
 BARE = dict(window=1, least_neighbours=0, centroid_radius=0, merge_radius=0)
 WIDE = 13
 
@@ -36,11 +33,6 @@ def fifths(image, side, x, y):
     return 5 * (sr - dr) - abs(5 * sum(s) - 16 * cross)
 
 
-def single(value):
-    """The number that the library has for one: the nearest of single precision."""
-    return struct.unpack("<f", struct.pack("<f", value))[0]
-
-
 def beside(value):
     """The float nearest to a number, and its two neighbours."""
     bits, = struct.unpack("<I", struct.pack("<f", value))
@@ -50,7 +42,7 @@ def beside(value):
 def exact_list(image, side, window, least, threshold):
     """The exact list of a square image (RULES 10.1), without a centroid radius. The threshold is a number as it is, and
     not the nearest fifth."""
-    limit = 5 * Fraction(single(threshold))
+    limit = 5 * Fraction(f32(threshold))
     cells = {(x, y): fifths(image, side, x, y) for y in range(side) for x in range(side)}
     inside = range(5 + window, side - 5 - window)
     found = []

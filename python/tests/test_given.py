@@ -17,7 +17,7 @@ import unittest
 from unittest import mock
 
 import zakdomp
-from test_zakdomp import PLAIN, SIDE, whole_case
+from common import PLAIN, SIDE, whole_case
 
 HAS_NUMPY = importlib.util.find_spec("numpy") is not None
 if HAS_NUMPY:
@@ -312,8 +312,8 @@ class Buffers(unittest.TestCase):
         self.assertEqual(found, [25 * [each] for each in due])
 
     def test_a_signal_in_between(self):
-        """A handler that finds corners itself runs between the library's answer and the reading of its buffers. The next
-        signal comes when it has ended: on a machine at work handlers would else stand on handlers without an end."""
+        """A handler that finds corners itself runs between the library's answer and the reading of its buffers. The
+        next signal comes when it has ended: else a busy machine would call handlers inside handlers without an end."""
         image, other = random.Random(5).randbytes(300 * 300), random.Random(6).randbytes(300 * 300)
         due, calls, under_way = zakdomp.find(image, 300, 300), [], threading.Event()
 

@@ -75,7 +75,8 @@ class Hostile(Batch):
         """Files of the system may have nothing to say when they are asked, as /proc/kmsg, and memory may be short."""
         self.fill(3)
         real = uploads._content
-        answers = {"000.pgm": mock.Mock(read=lambda most: None), "001.pgm": mock.Mock(read=mock.Mock(side_effect=MemoryError))}
+        answers = {"000.pgm": mock.Mock(read=lambda most: None),
+                   "001.pgm": mock.Mock(read=mock.Mock(side_effect=MemoryError))}
 
         def content(file):
             return real(answers.get(os.path.basename(os.readlink(f"/proc/self/fd/{file.fileno()}")), file))

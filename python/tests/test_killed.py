@@ -1,6 +1,7 @@
 """Random folders of hostile uploads, killed at random instants and started again: python3 -m unittest test_killed
 
-`python3 test_killed.py 1000 5000` does so many rounds, from a seed on, says how far it is, and the seed of one that fails."""
+`python3 test_killed.py 1000 5000` does so many rounds, from a seed on, says how far it is, and the seed of one that
+fails."""
 import csv
 import hashlib
 import io
@@ -21,7 +22,8 @@ from test_names import HOSTILE
 from zakdomp_command import formats, names
 
 ROUNDS = 6
-# the batch kills itself before so many writes, of files and of all that is said to the ledger, which hears so few at a time
+# the batch kills itself before so many writes, of files and of all that is said to the ledger, which hears so few at a
+# time
 KILLED = """import os, signal, sqlite3, sys
 from zakdomp_command import batch, main
 left, kill, batch.FEW = int(sys.argv[1]), os.kill, int(sys.argv[2])
@@ -50,7 +52,8 @@ def upload(chosen):
     photo = noise(chosen.randint(1, 60), chosen.randint(0, 9), chosen.choice((range(256), (0, 1), (7,))))
     return chosen.choice((
         photo, photo, photo, board(), photo[:-1], photo + b"more", b"", b"\xff\xd8\xffx", b"P2 1 1 255 7",
-        b"P5 5000 1 255\n", b"P5 1 1 65535\nab", b"P5 #" + bytes(9999), b"P5 0 9 255\n", chosen.randbytes(chosen.randint(1, 99))))
+        b"P5 5000 1 255\n", b"P5 1 1 65535\nab", b"P5 #" + bytes(9999), b"P5 0 9 255\n",
+        chosen.randbytes(chosen.randint(1, 99))))
 
 
 def fill(folder, chosen):
@@ -155,4 +158,7 @@ def main(rounds, first):
 
 
 if __name__ == "__main__":
-    main(*map(int, sys.argv[1:])) if sys.argv[1:] else unittest.main()
+    if sys.argv[1:]:
+        main(*map(int, sys.argv[1:]))
+    else:
+        unittest.main()

@@ -138,14 +138,15 @@ class Runs(Kept):
         self.assertEqual(os.listdir(self.path("out/corners")).count("000.pgm.corners"), 0, "it is another upload's")
 
     def test_the_summary_is_of_this_batch(self):
-        """Of an upload that comes back as it was before, and with a clock that goes back; and lines of earlier batches are
-        told, for the invoice's total has them too."""
+        """Of an upload that comes back as it was before, and with a clock that goes back; and lines of earlier batches
+        are told, for the invoice's total has them too."""
         junk = b"no photograph"
         for clock, content, found in ((100, board(), 1), (200, junk, 0), (300, board(), 1), (50, noise(60, 1), 1)):
             self.put("in/a.pgm", content)
             with mock.patch.object(ledger, "now", lambda: clock):
                 status, said, told = self.run_command("batch", self.path("in"), "--out", self.path("out"), "--jobs", 1)
-            self.assertEqual((status, said.split(b";")[0]), (0, b"1 upload: %d found, %d refused, 0 not read" % (found, 1 - found)))
+            self.assertEqual((status, said.split(b";")[0]),
+                             (0, b"1 upload: %d found, %d refused, 0 not read" % (found, 1 - found)))
         words = "2 lines more, of earlier batches: the total has all of them"
         self.assertEqual(told, f"zakdomp: {self.path('out/invoice.csv')}: {words}\n")
         self.assertEqual(len(self.lines()), 3)

@@ -4,19 +4,7 @@ import random
 import unittest
 
 import zakdomp
-
-RING = [(0, -5), (2, -5), (3, -3), (5, -2), (5, 0), (5, 2), (3, 3), (2, 5), (0, 5), (-2, 5), (-3, 3), (-5, 2), (-5, 0), (-5, -2), (-3, -3), (-2, -5)]
-CROSS = [(0, 0), (0, -1), (0, 1), (1, 0), (-1, 0)]
-BRIGHT = [(5, 0), (7, 0), (8, 2), (10, 3), (5, 10), (3, 10), (2, 8), (0, 7)]
-
-
-def whole_case():
-    image = bytearray(121)
-    for x, y in BRIGHT:
-        image[y * 11 + x] = 255
-    for dx, dy in CROSS:
-        image[(5 + dy) * 11 + 5 + dx] = 128
-    return image
+from common import CROSS, RING, whole_case
 
 
 def terms(s, cross):
@@ -50,7 +38,8 @@ def limits(low, high, w, h, radius, x, y):
     s = [known[(y + dy * radius // 5) * w + x + dx * radius // 5] for dx, dy in RING]
     cross = [known[(y + dy) * w + x + dx] for dx, dy in CROSS]
     found = [(weight, extremes(a, b)) for a, b, weight in terms(s, cross)]
-    return (sum(weight * ends[weight < 0] for weight, ends in found), sum(weight * ends[weight > 0] for weight, ends in found))
+    return (sum(weight * ends[weight < 0] for weight, ends in found),
+            sum(weight * ends[weight > 0] for weight, ends in found))
 
 
 def is_sure(lows, highs, w, h, x, y, ring, threshold, window, least, centroid):
@@ -76,7 +65,8 @@ class Limits(unittest.TestCase):
         less, more = bytes(max(v - 1, 0) for v in image), bytes(min(v + 1, 255) for v in image)
         dark, light = bytearray(image), bytearray(image)
         dark[60], light[60] = 127, 130
-        for low, high, numbers in ((less, more, (9920, 10200)), (dark, light, (10128, 10176)), (bytes(121), 121 * b"\xff", (-30600, 10200)),
+        for low, high, numbers in ((less, more, (9920, 10200)), (dark, light, (10128, 10176)),
+                                   (bytes(121), 121 * b"\xff", (-30600, 10200)),
                                    (image, image, (10160, 10160))):
             found = zakdomp.response_limits(low, high, 11, 11)
             self.assertEqual((found.lows[60], found.highs[60]), numbers)
@@ -115,7 +105,8 @@ class Limits(unittest.TestCase):
 
     def test_refusals(self):
         low, high = bytes(121), 121 * b"\x01"
-        for number, arguments, ring in ((1, (high, low[:120], 4097, 11), 6), (2, (high, low[:120], 11, 11), 6), (2, (high[:120], low, 11, 11), 6),
+        for number, arguments, ring in ((1, (high, low[:120], 4097, 11), 6), (2, (high, low[:120], 11, 11), 6),
+                                        (2, (high[:120], low, 11, 11), 6),
                                         (15, (high, low, 11, 11), 6), (3, (low, high, 11, 11), 6)):
             with self.assertRaises(zakdomp.Refusal) as refused:
                 zakdomp.response_limits(*arguments, ring=ring)
@@ -135,7 +126,8 @@ class SurePeaks(unittest.TestCase):
             if rng.random() < 0.5:
                 highs = [min(v, lows[y * w + x]) for v in highs]
                 highs[y * w + x] = (1 << 31) - 1
-            names = {"threshold": rng.choice((0, 0, 1, rng.randrange(1 << 32))), "window": rng.randint(0, 2), "least_neighbours": rng.randint(0, 4),
+            names = {"threshold": rng.choice((0, 0, 1, rng.randrange(1 << 32))), "window": rng.randint(0, 2),
+                     "least_neighbours": rng.randint(0, 4),
                      "centroid_radius": rng.randint(0, 1)}
             sure = zakdomp.sure_peak(lows, highs, w, h, x, y, **names)
             self.assertEqual(sure, is_sure(lows, highs, w, h, x, y, 5, *names.values()))
@@ -144,15 +136,21 @@ class SurePeaks(unittest.TestCase):
 
     def test_thresholds(self):
         found = zakdomp.response_limits(whole_case(), whole_case(), 11, 11)
-        for threshold, sure in ((0, True), (2031, True), (2032, False), (858_993_459, False), (858_993_460, False), ((1 << 32) - 1, False)):
-            self.assertEqual(zakdomp.sure_peak(*found, 11, 11, 5, 5, threshold=threshold, window=0, least_neighbours=0, centroid_radius=0), sure)
+        for threshold, sure in ((0, True), (2031, True), (2032, False), (858_993_459, False), (858_993_460, False),
+                                ((1 << 32) - 1, False)):
+            self.assertEqual(zakdomp.sure_peak(*found, 11, 11, 5, 5, threshold=threshold, window=0, least_neighbours=0,
+                                               centroid_radius=0), sure)
 
     def test_refusals(self):
         cells, more = 121 * [7], 122 * [7]
-        for number, arguments, names in ((1, (cells, more, 4097, 11, 11, 0), {"ring": 6}), (2, (cells, more, 11, 11, 11, 0), {"ring": 6}),
-                                         (2, (more, cells, 11, 11, 11, 0), {"ring": 6}), (3, (cells, cells, 11, 11, 11, 0), {"ring": 6}),
-                                         (3, (cells, cells, 11, 11, 11, 0), {"window": 17}), (3, (cells, cells, 11, 11, 0, 0), {"centroid_radius": 17}),
-                                         (14, (cells, cells, 11, 11, 11, 0), {}), (14, (cells, cells, 11, 11, 0, 11), {}), (14, ([], [], 0, 0, 0, 0), {})):
+        for number, arguments, names in ((1, (cells, more, 4097, 11, 11, 0), {"ring": 6}),
+                                         (2, (cells, more, 11, 11, 11, 0), {"ring": 6}),
+                                         (2, (more, cells, 11, 11, 11, 0), {"ring": 6}),
+                                         (3, (cells, cells, 11, 11, 11, 0), {"ring": 6}),
+                                         (3, (cells, cells, 11, 11, 11, 0), {"window": 17}),
+                                         (3, (cells, cells, 11, 11, 0, 0), {"centroid_radius": 17}),
+                                         (14, (cells, cells, 11, 11, 11, 0), {}),
+                                         (14, (cells, cells, 11, 11, 0, 11), {}), (14, ([], [], 0, 0, 0, 0), {})):
             with self.assertRaises(zakdomp.Refusal) as refused:
                 zakdomp.sure_peak(*arguments, **names)
             self.assertEqual(refused.exception.number, number)

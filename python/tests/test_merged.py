@@ -9,7 +9,8 @@ from zakdomp import Corner
 
 
 def by_the_rules(corners, radius):
-    """The merge in exact arithmetic: corners on quarter pixels and radii that are powers of two leave nothing to be rounded."""
+    """The merge in exact arithmetic: corners on quarter pixels and radii that are powers of two leave nothing to be
+    rounded."""
     if not math.isfinite(radius) or radius <= 0:
         return list(corners)
     exact = [(Fraction(c.x), Fraction(c.y)) for c in corners]
@@ -57,7 +58,8 @@ class Merged(unittest.TestCase):
         for case in range(300):
             count = 700 if case == 0 else r.randrange(30)
             side = 120 if case == 0 else 12
-            corners = [Corner(r.randrange(4 * side) / 4, r.randrange(4 * side) / 4, float(r.randrange(4)), i) for i in range(count)]
+            corners = [Corner(r.randrange(4 * side) / 4, r.randrange(4 * side) / 4, float(r.randrange(4)), i)
+                       for i in range(count)]
             for radius in (1, 0.5, r.choice((2, 4, 8, 1 / 64, 4096, 0))):
                 told = by_the_rules(corners, radius)
                 self.assertEqual(zakdomp.merged(corners, radius), told, (corners, radius))

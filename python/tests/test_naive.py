@@ -1,16 +1,12 @@
-"""Corners merged by distance alone, against a second implementation and the merge by cells: python3 -m unittest test_naive"""
+"""Corners merged by distance alone, against a second implementation and the merge by cells:
+python3 -m unittest test_naive"""
 import ctypes
 import random
-import struct
 import unittest
 
 import zakdomp
+from common import f32
 from zakdomp import Corner
-
-
-def f32(x):
-    """The nearest float of four bytes: Python's own have eight, which is enough for one operation to be rounded again."""
-    return struct.unpack("f", struct.pack("f", x))[0]
 
 
 def is_near(a, b, radius):
@@ -45,12 +41,15 @@ def by_cells(corners, radius):
         return int(f32(f32(v - least) * inverse))
 
     def joins(c, o):
-        return abs(cell(c.x, left) - cell(o.x, left)) <= 1 and abs(cell(c.y, top) - cell(o.y, top)) <= 1 and is_near(c, o, radius)
+        beside = abs(cell(c.x, left) - cell(o.x, left)) <= 1 and abs(cell(c.y, top) - cell(o.y, top)) <= 1
+        return beside and is_near(c, o, radius)
+
     return merged(corners, joins)
 
 
 def some_corners(rng, coordinate):
-    return [Corner(coordinate(), coordinate(), float(rng.randrange(5)), rng.randrange(1 << 32)) for _ in range(rng.randrange(24))]
+    return [Corner(coordinate(), coordinate(), float(rng.randrange(5)), rng.randrange(1 << 32))
+            for _ in range(rng.randrange(24))]
 
 
 class Naive(unittest.TestCase):
@@ -99,14 +98,11 @@ class Naive(unittest.TestCase):
             zakdomp.merge_naive([Corner(1.0, 1.0, 1.0, 1 << 32)], 1)
 
     def test_short_slices(self):
-        values = (ctypes.c_float * 2)(1, 2)
-        neighbours = (ctypes.c_uint32 * 1)(7)
-        piece = [ctypes.addressof(values), 2]
-        kept = ctypes.c_size_t(77)
-        others = [(ctypes.c_float * 2)(1, 2) for _ in range(2)]
-        pieces = piece + [word for other in others for word in (ctypes.addressof(other), 2)] + [ctypes.addressof(neighbours), 1]
-        self.assertEqual(zakdomp._library.zakdomp_merge_naive(*pieces, 2, 1, ctypes.byref(kept)), 10)
-        self.assertEqual((kept.value, list(values), neighbours[0]), (77, [1, 2], 7))
+        given, kept = zakdomp._List.of([Corner(1.0, 1.0, 1.0, 7), Corner(2.0, 2.0, 2.0, 8)]), ctypes.c_size_t(77)
+        words = given.words()
+        words[-1] = 1  # a place for the neighbours of one corner only
+        self.assertEqual(zakdomp._library.zakdomp_merge_naive(*words, 2, 1, ctypes.byref(kept)), 10)
+        self.assertEqual((kept.value, given.corners(2)), (77, [(1.0, 1.0, 1.0, 7), (2.0, 2.0, 2.0, 8)]))
 
 
 if __name__ == "__main__":

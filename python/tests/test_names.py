@@ -54,7 +54,8 @@ class Words(Command):
                 (b"", "it is empty"), (b"\xff\xd8\xff\xe0abc", "it looks like a JPEG; convert PHOTO "),
                 (b"\x89PNG\r\n\x1a\n", "a PNG; convert "), (b"P2\n1 1\n255\n7\n", "a plain PGM (P2); convert "),
                 (b"P6 1 1 255\nabc", "a colour PPM (P6); convert "), (b"II*\0", "a TIFF"),
-                (b"RIFFabcdWEBPVP8 ", "a WebP"), (b"\0\0\0\x18ftypheic", "a HEIC"), (photo[:-1], "it is cut short: its header says 160 x 120"),
+                (b"RIFFabcdWEBPVP8 ", "a WebP"), (b"\0\0\0\x18ftypheic", "a HEIC"),
+                (photo[:-1], "it is cut short: its header says 160 x 120"),
                 (b"P5 2 2 65535\nabc", "says 2 x 2 of 16 bits"), (b"P5 2", "no width, height and maxval follow"),
                 (b"PK\x03\x04", "a ZIP archive"), (b"<html>", "HTML"), (b"hello", "no photograph at all"),
                 (b"\0\0\0", "nothing but zeros"), (b"P5 #a\n2 #b\r 2 255 a", "says 2 x 2,")):
@@ -67,8 +68,9 @@ class Words(Command):
                 self.fails(1, words, command, "-", given=upload)
 
     def test_long_comments(self):
-        """The words name the sides behind them, and take no longer for comments without an end."""
-        for comment, words in ((b"#" + bytes(99_999) + b"\n", "says 2 x 2,"), (9_999 * b"#a\r", "says 2 x 2,"), (400_000 * b"a#\n", "no width"),
+        """The words name the sides after comments, and take no longer for comments without an end."""
+        for comment, words in ((b"#" + bytes(99_999) + b"\n", "says 2 x 2,"), (9_999 * b"#a\r", "says 2 x 2,"),
+                               (400_000 * b"a#\n", "no width"),
                                ((1 << 21) * b"#", "no width, height and maxval follow in its first megabyte"),
                                ((1 << 21) * b" ", "no width, height and maxval follow in its first megabyte")):
             began = time.monotonic()

@@ -153,7 +153,7 @@ class OnePhotograph(Newcomer):
         first = self.content("a b-corners.png")
         self.assertEqual(first[:8], b"\x89PNG\r\n\x1a\n")
         self.assertEqual(self.run_on("a b.PGM", "--threshold", "2000", "--format", "csv")[0], 0)
-        self.assertNotEqual(self.content("a b-corners.png"), first, "its own picture is drawn anew")
+        self.assertNotEqual(self.content("a b-corners.png"), first, "its own picture is drawn again")
         self.assertEqual(sorted(os.listdir(self.folder)), ["a b-corners.png", "a b.PGM"])
 
     def test_what_is_not_its_own_stays(self):

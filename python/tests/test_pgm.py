@@ -12,7 +12,7 @@ import tempfile
 import unittest
 
 import zakdomp
-from test_zakdomp import PLAIN, SIDE, whole_case
+from common import PLAIN, whole_case
 
 SPACE = rb"[ \t\n\v\f\r]"
 COMMENT = re.compile(rb"#[^\r\n]*[\r\n]?")
@@ -21,7 +21,8 @@ MAXVAL = re.compile(rb"%b+([0-9]+)%b" % (SPACE, SPACE))
 
 
 def read(upload):
-    """The number of the refusal, or the place of the pixels and both sides: the comments are removed first, then the fields are matched."""
+    """The number of the refusal, or the place of the pixels and both sides: the comments are removed first, then the
+    fields are matched."""
     behind = upload[2:]
     comments = {place for comment in COMMENT.finditer(behind) for place in range(*comment.span())}
     places = [place for place in range(len(behind)) if place not in comments]
@@ -102,7 +103,8 @@ class Uploads:
 
     def space(self):
         r = self.random
-        return b"".join(r.choice((b" ", b"\t", b"\n", b"\v", b"\f", b"\r", b"#c\n", b"# \r")) for _ in range(r.randint(1, 3)))
+        return b"".join(r.choice((b" ", b"\t", b"\n", b"\v", b"\f", b"\r", b"#c\n", b"# \r"))
+                        for _ in range(r.randint(1, 3)))
 
     def number(self, value):
         digits = str(value).zfill(self.random.choice((1, 1, 1, 3, 30))).encode()
@@ -111,7 +113,8 @@ class Uploads:
 
     def header(self):
         r = self.random
-        sides = [r.choice((0, 1, 2, 3, r.randrange(6), r.choice((4096, 4097, 65536, 65537, 1 << 64)))) for _ in range(2)]
+        sides = [r.choice((0, 1, 2, 3, r.randrange(6), r.choice((4096, 4097, 65536, 65537, 1 << 64))))
+                 for _ in range(2)]
         maxval = r.choice((255, 255, 255, 254, 256, 0, 65535, 65536, (1 << 64) + 255, (1 << 16) + 255))
         fields = b"".join(self.space() + self.number(value) for value in (*sides, maxval))
         upload = bytearray(b"P5" + fields + self.space() + bytes(r.choices(b" \n#1A", k=r.randrange(24))))
@@ -168,13 +171,16 @@ class Finding(unittest.TestCase):
 
     def test_as_of_the_pixels(self):
         image = random.Random(2).randbytes(300 * 200)
-        for named in (dict(window=1, least_neighbours=0, merge_radius=0), dict(threshold=30, levels=3, minimum_side=20)):
-            self.assertEqual(zakdomp.find_corners_pgm(b"P5 300 200 255\n" + image, **named), zakdomp.find_corners(image, 300, 200, **named))
+        for named in (dict(window=1, least_neighbours=0, merge_radius=0),
+                      dict(threshold=30, levels=3, minimum_side=20)):
+            self.assertEqual(zakdomp.find_corners_pgm(b"P5 300 200 255\n" + image, **named),
+                             zakdomp.find_corners(image, 300, 200, **named))
 
     def test_refusals(self):
         upload = WRITTEN[0] + whole_case()
         self.assertEqual(self.refused(12, upload[:-1], ring=6), "the photograph is no whole binary PGM (number 12)")
-        self.assertEqual(self.refused(13, upload.replace(b"255", b"254", 1), ring=6), "the maxval of the photograph is not 255 (number 13)")
+        self.assertEqual(self.refused(13, upload.replace(b"255", b"254", 1), ring=6),
+                         "the maxval of the photograph is not 255 (number 13)")
         self.refused(1, b"P5 4097 1", ring=6)
         self.refused(3, upload, ring=6)
         self.refused(5, upload, merge_radius=5000.0)
@@ -213,11 +219,13 @@ class CommandLine(unittest.TestCase):
         length = corners(stream, len(stream), printed)
         text = printed.raw[:length].decode("ascii")
         self.assertGreater(text.count("\n"), 10)
-        words = [word for name, value in named._asdict().items() for word in ("--" + name.replace("_", "-"), str(value))]
+        words = [word for name, value in named._asdict().items()
+                 for word in ("--" + name.replace("_", "-"), str(value))]
         self.assertEqual(self.run_on(b"P5 96 96 255 " + image, *words), (0, text, ""))
 
     def test_refusals(self):
-        self.assertEqual(self.run_on(b"P2 1 1 255\n0"), (1, "", "zakdomp: photo.pgm: the photograph is no whole binary PGM (number 12)\n"))
+        self.assertEqual(self.run_on(b"P2 1 1 255\n0"),
+                         (1, "", "zakdomp: photo.pgm: the photograph is no whole binary PGM (number 12)\n"))
         self.assertEqual(self.run_on(b"P5 0 0 255\n", "--ring", "-1")[0], 1)
         status, out, err = self.run_on(WRITTEN[0] + whole_case(), "--ring", "6")
         self.assertEqual((status, out), (1, ""))
@@ -236,7 +244,7 @@ class Others(unittest.TestCase):
         """Reads what a command writes, 32 by 5 pixels, where the program is here and says that it is the one."""
         asked = b""
         if shutil.which(ask[0]):
-            asked = subprocess.run(ask, stdout=subprocess.PIPE, stderr=subprocess.STDOUT).stdout
+            asked = subprocess.run(ask, stdout=subprocess.PIPE, stderr=subprocess.STDOUT, check=False).stdout
         if says not in asked:
             self.skipTest(f"no such {command[0]} on this machine")
         upload = subprocess.run(command, check=True, capture_output=True).stdout
@@ -247,7 +255,8 @@ class Others(unittest.TestCase):
         self.check(b"Netpbm", ["pgmramp", "--version"], "pgmramp", "-lr", "32", "5")
 
     def test_imagemagick(self):
-        self.check(b"Version: ImageMagick", ["convert", "-version"], "convert", "-size", "32x5", "gradient:", "-set", "comment", "a board", "-depth", "8", "pgm:-")
+        self.check(b"Version: ImageMagick", ["convert", "-version"], "convert", "-size", "32x5", "gradient:", "-set",
+                   "comment", "a board", "-depth", "8", "pgm:-")
 
 
 if __name__ == "__main__":

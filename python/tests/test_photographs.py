@@ -1,4 +1,5 @@
-"""bench/photographs on a few of the photographs of Debian's opencv-doc, where they are: python3 -m unittest test_photographs"""
+"""bench/photographs on a few of the photographs of Debian's opencv-doc, where they are:
+python3 -m unittest test_photographs"""
 import importlib.machinery
 import importlib.util
 import os
@@ -11,7 +12,8 @@ BENCH = os.path.join(TOP, "bench", "photographs")
 PHOTOGRAPH = "/usr/share/doc/opencv-doc/examples/data/left01.jpg"
 
 
-@unittest.skipUnless(importlib.util.find_spec("cv2") and importlib.util.find_spec("numpy"), "no python3-opencv on this machine")
+@unittest.skipUnless(importlib.util.find_spec("cv2") and importlib.util.find_spec("numpy"),
+                     "no python3-opencv on this machine")
 @unittest.skipUnless(os.path.exists(PHOTOGRAPH), "no photographs of opencv-doc on this machine")
 class Photographs(unittest.TestCase):
     def test_three_boards(self):

@@ -16,10 +16,10 @@ from zakdomp_command import marks
 
 HOSTILE = {"<script>alert(1)<!--": b"x", '"onerror="alert(1)': board(), "<img src=x onerror=alert(1)>.pgm": board(),
            "a\u202eb&amp;": b"\xff\xd8\xff", "--><svg onload=alert(1)>": noise(30, 2), "';<style><b>": b""}
-TAGS = set("html head meta title style body h1 h2 p table thead tbody tfoot tr th td a article figure figcaption svg image g "
-           "circle polygon path rect".split())
-ATTRIBUTES = set("lang charset name content http-equiv class id href xmlns width height viewbox style transform fill stroke "
-                 "stroke-width cx cy r x y points d".split())
+TAGS = set("html head meta title style body h1 h2 p table thead tbody tfoot tr th td a article figure figcaption svg "
+           "image g circle polygon path rect".split())
+ATTRIBUTES = set("lang charset name content http-equiv class id href xmlns width height viewbox style transform fill "
+                 "stroke stroke-width cx cy r x y points d".split())
 
 
 class Page(html.parser.HTMLParser):
@@ -57,13 +57,17 @@ class Reports(Reported):
         self.done("strike", self.path("out/corners/board.pgm.corners"), 3, "--confirm", 0)
         text = self.report()
         page = Page(text)
-        for words in ("4 uploads: 2 found, 1 refused, 1 not read", "35 corners, 1 struck, 34 left", "ring 5, threshold 0.0",
-                      "By the exact choice 35 corners: the same list", "Computed only: x 32.0, y 9.666667", "Struck on 20",
-                      "By the exact choice only: x 29.424242", "No profile: refused 12: ", "it looks like a JPEG; convert ",
+        for words in ("4 uploads: 2 found, 1 refused, 1 not read", "35 corners, 1 struck, 34 left",
+                      "ring 5, threshold 0.0",
+                      "By the exact choice 35 corners: the same list", "Computed only: x 32.0, y 9.666667",
+                      "Struck on 20",
+                      "By the exact choice only: x 29.424242", "No profile: refused 12: ",
+                      "it looks like a JPEG; convert ",
                       "cannot be read: Too many levels", "corner file corners/board.pgm.corners, SHA-256 "):
             self.assertIn(words, page.text)
         self.assertEqual((text.count("<svg "), text.count("<title>35 corners, 1 of them struck</title>")), (2, 1))
-        self.assertEqual((text.count("<circle "), text.count("<path ")), (2 * (34 + 7), 2), "each shape over a black one")
+        self.assertEqual((text.count("<circle "), text.count("<path ")), (2 * (34 + 7), 2),
+                         "each shape over a black one")
         self.assertEqual(text.count("<polygon "), 4)
 
     def test_hostile_names_stay_names(self):
@@ -117,7 +121,8 @@ class Reports(Reported):
         self.batch("--jobs", 1)
         os.unlink(self.path("out/corners/a.pgm.corners"))
         text = self.report()
-        self.assertEqual((text.count("<circle "), text.count("The corner file is no longer as the batch made it")), (70, 1))
+        self.assertEqual((text.count("<circle "), text.count("The corner file is no longer as the batch made it")),
+                         (70, 1))
 
     def test_crosses_are_seen_among_hundreds(self):
         """They are as large as diamonds, and over all other marks."""

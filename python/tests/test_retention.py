@@ -62,7 +62,8 @@ class Streams:
 
     def start(self, time):
         r = self.random
-        back = r.choice((0, WEEK, 89 * DAY, 90 * DAY, 91 * DAY, time % DAY, 90 * DAY + time % DAY, r.randrange(100 * DAY)))
+        back = r.choice((0, WEEK, 89 * DAY, 90 * DAY, 91 * DAY, time % DAY, 90 * DAY + time % DAY,
+                         r.randrange(100 * DAY)))
         return max(0, min(LATE, time - back + r.choice((-1, 0, 1))))
 
     def sound(self):
@@ -97,7 +98,8 @@ class Retention(unittest.TestCase):
     def test_each_kind_at_its_ends(self):
         now = 90 * DAY
         for kind, start, time, told in (
-                (1, 0, LATE, "H"), (1, now + 1, now, "N"), (2, 0, now - 1, "H"), (2, DAY - 1, now, "G"), (2, DAY, now, "H"),
+                (1, 0, LATE, "H"), (1, now + 1, now, "N"), (2, 0, now - 1, "H"), (2, DAY - 1, now, "G"),
+                (2, DAY, now, "H"),
                 (2, now + 1, now, "N"), (3, now - WEEK + 1, now, "H"), (3, now - WEEK, now, "G"), (3, LATE, LATE, "H")):
             self.assertEqual(zakdomp.holding(kind, start, time), told)
 

@@ -1,18 +1,10 @@
 """A pixel changed and its map redone, against a second implementation: python3 -m unittest test_retouch"""
 import array
 import random
-import struct
 import unittest
 
 import zakdomp
-
-RING = [(0, -5), (2, -5), (3, -3), (5, -2), (5, 0), (5, 2), (3, 3), (2, 5), (0, 5), (-2, 5), (-3, 3), (-5, 2), (-5, 0), (-5, -2), (-3, -3), (-2, -5)]
-CROSS = [(0, 0), (0, -1), (0, 1), (1, 0), (-1, 0)]
-
-
-def f32(x):
-    """The nearest float of four bytes: Python's own have eight, which is enough for one operation to be rounded again."""
-    return struct.unpack("f", struct.pack("f", x))[0]
+from common import CROSS, RING, f32
 
 
 def ring_of(radius):
@@ -40,9 +32,10 @@ def whole(image, w, h, radius):
 
 
 def touched(w, h, radius, x, y):
-    """The cells that are to be computed anew: every cell of the map is asked for its samples."""
+    """The cells that are to be computed again: every cell of the map is asked for its samples."""
+    samples = (*ring_of(radius), *CROSS)
     return [(i, j) for j in range(h) for i in range(w)
-            if is_inside(w, h, radius, i, j) and any((i + dx, j + dy) == (x, y) for dx, dy in ring_of(radius) + CROSS)]
+            if is_inside(w, h, radius, i, j) and any((i + dx, j + dy) == (x, y) for dx, dy in samples)]
 
 
 class Retouch(unittest.TestCase):
@@ -99,9 +92,12 @@ class Retouch(unittest.TestCase):
     def test_refusals(self):
         image, cells = bytearray(121), array.array("f", 121 * [7.0])
         short = array.array("f", 120 * [7.0])
-        for number, arguments, ring in ((1, (image, short, 4097, 11, 11, 0, 1), 6), (2, (image, short, 11, 11, 11, 0, 1), 6),
-                                        (2, (image[:120], cells, 11, 11, 5, 5, 1), 5), (3, (image, cells, 11, 11, 11, 0, 1), 6),
-                                        (14, (image, cells, 11, 11, 11, 0, 1), 5), (14, (image, cells, 11, 11, 0, 11, 1), 5),
+        for number, arguments, ring in ((1, (image, short, 4097, 11, 11, 0, 1), 6),
+                                        (2, (image, short, 11, 11, 11, 0, 1), 6),
+                                        (2, (image[:120], cells, 11, 11, 5, 5, 1), 5),
+                                        (3, (image, cells, 11, 11, 11, 0, 1), 6),
+                                        (14, (image, cells, 11, 11, 11, 0, 1), 5),
+                                        (14, (image, cells, 11, 11, 0, 11, 1), 5),
                                         (14, (bytearray(), array.array("f"), 0, 0, 0, 0, 1), 5)):
             with self.assertRaises(zakdomp.Refusal) as refused:
                 zakdomp.retouch(*arguments, ring=ring)

@@ -1,4 +1,5 @@
-"""The frame stream that is written, against a second implementation and the streams of the sample: python3 -m unittest test_stream"""
+"""The frame stream that is written, against a second implementation and the streams of the sample:
+python3 -m unittest test_stream"""
 import math
 import os
 import random
@@ -10,7 +11,8 @@ import unittest
 import zakdomp
 from common import TOP
 
-NAMES = ("ring", "threshold_bits", "window", "least_neighbours", "centroid_radius", "merge_bits", "levels", "minimum_side", "search_radius")
+NAMES = ("ring", "threshold_bits", "window", "least_neighbours", "centroid_radius", "merge_bits", "levels",
+         "minimum_side", "search_radius")
 PARAMETERS = struct.Struct("<BIBBBIBHB")
 PLAIN = dict(zip(NAMES, (5, 0, 0, 0, 0, 0x40400000, 1, 1, 0)))
 NANS = (0x7fc00000, 0x7fc00001, 0x7f800001, 0xffc12345, 0xffffffff)
@@ -88,10 +90,13 @@ class Values:
 
     def taken(self):
         r = self.random
-        width, height = r.choice(((r.randrange(97), r.randrange(97)), (r.randrange(9), r.randrange(9)), (32, r.randrange(4)), (96, 96), (0, 5)))
+        width, height = r.choice(((r.randrange(97), r.randrange(97)), (r.randrange(9), r.randrange(9)),
+                                  (32, r.randrange(4)), (96, 96), (0, 5)))
         small = (0, 16, r.randrange(17))
-        p = dict(zip(NAMES, (r.choice((5, 10)), self.bits(), r.choice(small), r.choice((0, 255, r.randrange(256))), r.choice(small),
-                             self.bits(), r.choice((0, 1, 255)), r.choice((0, 65_535, r.randrange(65_536))), r.randrange(256))))
+        p = dict(zip(NAMES, (r.choice((5, 10)), self.bits(), r.choice(small), r.choice((0, 255, r.randrange(256))),
+                             r.choice(small),
+                             self.bits(), r.choice((0, 1, 255)), r.choice((0, 65_535, r.randrange(65_536))),
+                             r.randrange(256))))
         while outside(p["merge_bits"]):
             p["merge_bits"] = self.bits()
         return r.randbytes(width * height), width, height, p
@@ -99,8 +104,10 @@ class Values:
     def any(self):
         r = self.random
         pixels, width, height, p = self.taken()
-        wrong = {"ring": (0, 6, 261), "window": (17, 272), "least_neighbours": (256, 1 << 31), "centroid_radius": (17, 256), "levels": (256,),
-                 "minimum_side": (65_536, 1 << 63), "search_radius": (256, 511), "merge_bits": (0x459c4000, 0x3c7fffff, 1)}
+        wrong = {"ring": (0, 6, 261), "window": (17, 272), "least_neighbours": (256, 1 << 31),
+                 "centroid_radius": (17, 256), "levels": (256,),
+                 "minimum_side": (65_536, 1 << 63), "search_radius": (256, 511),
+                 "merge_bits": (0x459c4000, 0x3c7fffff, 1)}
         for name in r.sample(sorted(wrong), r.randrange(3)):
             p[name] = r.choice(wrong[name])
         if r.randrange(4) == 0:
@@ -192,7 +199,8 @@ class Writing(unittest.TestCase):
             pixels, width, height, p, length = read(stream)
             self.assertEqual(zakdomp.write_stream(pixels, width, height, **p), stream[:length])
             if name == "board":
-                board = subprocess.run([sys.executable, os.path.join(examples, name)], stdout=subprocess.PIPE, check=True).stdout
+                board = subprocess.run([sys.executable, os.path.join(examples, name)], stdout=subprocess.PIPE,
+                                       check=True).stdout
                 self.assertEqual(board, stream)
 
 

@@ -3,28 +3,18 @@ import random
 import unittest
 
 import zakdomp
-
-SIDE = 11
-PLAIN = dict(window=0, least_neighbours=0, centroid_radius=0, search_radius=0)
-
-
-def whole_case():
-    """The whole case (RULES 14): one corner in the middle of 11 by 11 pixels."""
-    image = bytearray(SIDE * SIDE)
-    for dx, dy in ((0, -5), (2, -5), (3, -3), (5, -2), (0, 5), (-2, 5), (-3, 3), (-5, 2)):
-        image[(5 + dy) * SIDE + 5 + dx] = 255
-    for dx, dy in ((0, 0), (0, -1), (0, 1), (1, 0), (-1, 0)):
-        image[(5 + dy) * SIDE + 5 + dx] = 128
-    return image
+from common import PLAIN, SIDE, whole_case
 
 
 def peaks_of(image, side, window, border):
-    """The peaks of a square image's map at threshold 0, by RULES 4.3, a second time: each with the other cells of its window."""
+    """The peaks of a square image's map at threshold 0, by RULES 4.3, a second time: each with the other cells of its
+    window."""
     cells = zakdomp.response(image, side, side).cells
     for y in range(border, side - border):
         for x in range(border, side - border):
             rows, columns = range(y - window, y + window + 1), range(x - window, x + window + 1)
-            value, others = cells[y * side + x], [cells[v * side + u] for v in rows for u in columns if (u, v) != (x, y)]
+            value, others = cells[y * side + x], [cells[v * side + u] for v in rows for u in columns
+                                                  if (u, v) != (x, y)]
             if value > 0 and all(cell <= value for cell in others):
                 yield value, others
 
@@ -87,7 +77,8 @@ class Finding(unittest.TestCase):
     def test_ties_before_merging(self):
         numbers = random.Random(2)
         image = bytes(numbers.choice((0, 255)) for _ in range(40 * 40))
-        apart, merged = (zakdomp.find(image, 40, 40, window=1, least_neighbours=0, merge_radius=radius) for radius in (0, 4096))
+        apart, merged = (zakdomp.find(image, 40, 40, window=1, least_neighbours=0, merge_radius=radius)
+                         for radius in (0, 4096))
         self.assertEqual((len(merged.corners), merged.ties), (1, apart.ties))
         self.assertGreater(merged.ties, 0)
 
@@ -95,7 +86,8 @@ class Finding(unittest.TestCase):
         image = random.Random(5).randbytes(48 * 48)
         for window in (0, 1, 2, 3):
             named = dict(window=window, least_neighbours=0, centroid_radius=1)
-            due = [(value, sum(cell > 0 for cell in others)) for value, others in peaks_of(image, 48, window, 6 + window)]
+            due = [(value, sum(cell > 0 for cell in others)) for value,
+                   others in peaks_of(image, 48, window, 6 + window)]
             apart, merged = (zakdomp.find_corners(image, 48, 48, merge_radius=radius, **named) for radius in (0, 8))
             self.assertEqual([(c.strength, c.neighbours) for c in apart], due)
             self.assertEqual(any(c.neighbours for c in apart), window > 0)

@@ -102,8 +102,8 @@ def _whole(value: Any) -> int:
 
 
 def _read_listing(text: str) -> list[zakdomp.Corner]:
-    """The bits of a line's floats, and behind them its whole numbers; the 256ths before them say nothing that the bits
-    do not."""
+    """The bits of a line's floats, followed by its whole numbers; the 256ths before them say nothing that the bits do
+    not."""
     first, *lines = text.splitlines()
     if first != f"corners {len(lines)}":
         raise ValueError(f"the listing says '{first}' and has {len(lines)} lines")

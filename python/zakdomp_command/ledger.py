@@ -234,7 +234,7 @@ def now() -> int:
 
 def _upload(ledger: sqlite3.Connection, folder: str, outcome: Outcome) -> int:
     """The number of an upload, which is noted if it is new. One that was put there again since it was seen is seen
-    anew: it is held from that day on. None is seen before it was put there, whatever this machine's clock says."""
+    again: it is held from that day on. None is seen before it was put there, whatever this machine's clock says."""
     asked = (os.fsencode(outcome.name), *((outcome.size, outcome.sha256) if outcome.settled else (0, "")))
     seen = max(now(), outcome.put)
     ledger.execute("INSERT INTO uploads (name, size, sha256, seen, folder) VALUES (?, ?, ?, ?, ?) ON CONFLICT (name, "

@@ -60,7 +60,7 @@ def _depth(upload: bytes) -> str:
     return f"{maxval}{CONVERT} makes one of 8 bits of it"
 
 
-def _large(upload: bytes) -> str:
+def _large(_: bytes) -> str:
     """For number 1."""
     return f"{SMALLER} makes it smaller"
 

@@ -87,7 +87,7 @@ def smaller(drawing: Drawing, side: int) -> Drawing:
 
 
 def colour(step: int) -> tuple[int, int, int]:
-    """The colour of a step: from blue over red to yellow, and behind these those of the diamonds."""
+    """The colour of a step: from blue over red to yellow, followed by those of the diamonds."""
     if step >= STEPS:
         return list(ALONE.values())[step - STEPS]
     share = 2 * step / (STEPS - 1)

@@ -23,9 +23,9 @@ def cell(name: str) -> str:
     """A name as a cell of a table."""
     inner = name.strip(" ")
     before = len(name) - len(name.lstrip(" ")) if inner else len(name)
-    behind = len(name) - before - len(inner)
+    after = len(name) - before - len(inner)
     first = _bytes(inner[0]) if inner and inner[0] in FORMULA and not before else line(inner[:1])
-    return before * "\\x20" + first + line(inner[1:]) + behind * "\\x20"
+    return before * "\\x20" + first + line(inner[1:]) + after * "\\x20"
 
 
 def name_of(text: str) -> str:

@@ -12,7 +12,7 @@ GREY, PALETTE = 0, 3
 
 
 class Canvas(NamedTuple):
-    """Places of the palette, in row order, and which of them is black: it stands behind the greys and before the
+    """Places of the palette, in row order, and which of them is black: it follows the greys and comes before the
     colours."""
     width: int
     height: int
@@ -80,14 +80,14 @@ def _half(away: float, radius: float, shape: str) -> float:
 
 def _fill(canvas: Canvas, row: int, start: float, end: float, cell: int) -> None:
     """Fills the cells of a row whose middle lies within a part of it."""
-    first, behind = max(math.ceil(start - 0.5), 0), min(math.ceil(end - 0.5), canvas.width)
-    if first < behind:
+    first, last = max(math.ceil(start - 0.5), 0), min(math.ceil(end - 0.5), canvas.width)
+    if first < last:
         place = row * canvas.width
-        canvas.cells[place + first:place + behind] = bytes([cell]) * (behind - first)
+        canvas.cells[place + first:place + last] = bytes([cell]) * (last - first)
 
 
 def _file(width: int, height: int, kind: int, cells: bytes | bytearray, palette: bytes = b"") -> bytes:
-    """Eight bits a cell, no interlace, and each row as it is behind its 0."""
+    """Eight bits a cell, no interlace, and a 0 before each row, which is as it is."""
     rows = b"".join(b"\0" + cells[start:start + width] for start in range(0, width * height, width))
     header = _chunk(b"IHDR", struct.pack(">IIBBBBB", width, height, 8, kind, 0, 0, 0))
     colours = _chunk(b"PLTE", palette) if palette else b""

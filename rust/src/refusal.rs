@@ -52,6 +52,7 @@ impl Refusal {
     }
 
     /// Its number.
+    #[must_use]
     pub fn number(self) -> u8 {
         match self {
             Self::Side => 1,
@@ -83,7 +84,8 @@ impl std::fmt::Display for Refusal {
             Self::Side => "a side is above 4096, or above 96 in a stream",
             Self::Length => "the number of pixels or of cells is not width times height",
             Self::Parameter => {
-                "the ring is not 5 or 10, a window, centroid or search radius is out of range, or a value too wide for a stream"
+                "the ring is not 5 or 10, a window, centroid or search radius is out of range, \
+                 or a value too wide for a stream"
             }
             Self::Coordinate => "a coordinate is out of range",
             Self::MergeRadius => "the merge radius is not within 1/64 to 4096",

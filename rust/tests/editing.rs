@@ -1,28 +1,19 @@
 //! Corners struck from a list in two steps, over the linked library.
+mod common;
+
+use common::Numbers;
 use zakdomp::raw::{zakdomp_show_corner, zakdomp_strike_corner};
 use zakdomp::{Corner, EditedList, Refusal, Shown};
 
 /// Corners with four fields that tell them apart.
-fn corners(count: usize) -> Vec<Corner> {
-    let corner = |i: usize| Corner {
-        x: i as f32,
-        y: 0.5 + i as f32,
-        strength: -(i as f32),
-        neighbours: 1000 + i as u32,
+fn corners(count: u8) -> Vec<Corner> {
+    let corner = |i: u8| Corner {
+        x: f32::from(i),
+        y: 0.5 + f32::from(i),
+        strength: -f32::from(i),
+        neighbours: 1000 + u32::from(i),
     };
     (1..=count).map(corner).collect()
-}
-
-/// Numbers that look random.
-struct Numbers(u64);
-
-impl Numbers {
-    fn below(&mut self, n: usize) -> usize {
-        self.0 ^= self.0 << 13;
-        self.0 ^= self.0 >> 7;
-        self.0 ^= self.0 << 17;
-        (self.0 % n as u64) as usize
-    }
 }
 
 #[test]
@@ -50,13 +41,13 @@ fn refusals_in_their_order() {
     assert_eq!(list.strike(9, 5), Err(Refusal::Changed));
     assert_eq!(list, before);
     assert_eq!(list.show(2).map(|shown| shown.change), Ok(u32::MAX));
-    let mut last = EditedList::with_change(&corners(3), u32::MAX - 1);
-    assert_eq!((last.strike(2, u32::MAX - 1), last.change(), last.len()), (Ok(()), u32::MAX, 2));
+    let mut before = EditedList::with_change(&corners(3), u32::MAX - 1);
+    assert_eq!((before.strike(2, u32::MAX - 1), before.change(), before.len()), (Ok(()), u32::MAX, 2));
     assert_eq!([Refusal::Changed, Refusal::Beyond, Refusal::Largest].map(Refusal::number), [16, 17, 18]);
     assert_eq!(Refusal::Beyond.to_string(), "the place is beyond the list (number 17)");
 }
 
-/// The shortest slice counts, and no slice is changed behind the list.
+/// The shortest slice counts, and no slice is changed after the list.
 #[test]
 #[rustfmt::skip]
 fn slices_of_different_lengths() {
@@ -69,12 +60,13 @@ fn slices_of_different_lengths() {
         let (first, second) = unsafe {
             (
                 zakdomp_show_corner(
-                    xs.as_ptr(), xs.len(), ys.as_ptr(), ys.len(), strengths.as_ptr(), strengths.len(), neighbours.as_ptr(), neighbours.len(),
-                    count, change, 0, &mut x, &mut y, &mut strength, &mut neighbour_count, &mut shown,
+                    xs.as_ptr(), xs.len(), ys.as_ptr(), ys.len(), strengths.as_ptr(), strengths.len(),
+                    neighbours.as_ptr(), neighbours.len(), count, change, 0,
+                    &raw mut x, &raw mut y, &raw mut strength, &raw mut neighbour_count, &raw mut shown,
                 ),
                 zakdomp_strike_corner(
                     xs.as_mut_ptr(), xs.len(), ys.as_mut_ptr(), ys.len(), strengths.as_mut_ptr(), strengths.len(),
-                    neighbours.as_mut_ptr(), neighbours.len(), &mut count, &mut change, 0, 7,
+                    neighbours.as_mut_ptr(), neighbours.len(), &raw mut count, &raw mut change, 0, 7,
                 ),
             )
         };
@@ -96,7 +88,7 @@ fn what_was_shown_is_struck() {
     let mut numbers = Numbers(10);
     let mut struck = 0;
     for _ in 0..300 {
-        let mut kept = corners(numbers.below(12));
+        let mut kept = corners(numbers.byte(12));
         let mut list = EditedList::new(&kept);
         let mut seen: Vec<(usize, Shown)> = vec![];
         for _ in 0..40 {

@@ -1,19 +1,23 @@
 //! The list that a merge would leave, over the linked library and against a second implementation.
+mod common;
+
+use common::{float, Numbers};
 use zakdomp::{merged, Corner, Refusal};
 
 fn corner(x: f32, y: f32, strength: f32, neighbours: u32) -> Corner {
     Corner { x, y, strength, neighbours }
 }
 
-/// The merge by the rules, corner by corner: cell numbers from the least coordinates, and the lowest place that is joined.
+/// The merge by the rules, corner by corner: cell numbers from the least coordinates, and the lowest place that is
+/// joined.
 fn by_the_rules(corners: &[Corner], radius: f32) -> Vec<Corner> {
     if !radius.is_finite() || radius <= 0.0 {
         return corners.to_vec();
     }
     let least = |of: fn(&Corner) -> f32| corners.iter().map(of).fold(f32::INFINITY, f32::min);
     let (left, top, inverse) = (least(|c| c.x), least(|c| c.y), 1.0 / radius);
-    let cell = |v: f32, origin: f32| ((v - origin) * inverse) as u64;
-    let beside = |a: f32, b: f32, origin: f32| cell(a, origin).abs_diff(cell(b, origin)) <= 1;
+    let cell = |v: f32, origin: f32| ((v - origin) * inverse).trunc();
+    let beside = |a: f32, b: f32, origin: f32| (cell(a, origin) - cell(b, origin)).abs() <= 1.0;
     let joins = |a: &Corner, b: &Corner| {
         let (dx, dy) = (a.x - b.x, a.y - b.y);
         beside(a.x, b.x, left) && beside(a.y, b.y, top) && dx * dx + dy * dy <= radius * radius
@@ -29,21 +33,11 @@ fn by_the_rules(corners: &[Corner], radius: f32) -> Vec<Corner> {
     kept
 }
 
-/// Numbers that look random, by a linear congruence.
-struct Numbers(u64);
-
-impl Numbers {
-    fn below(&mut self, n: u64) -> u64 {
-        self.0 = self.0.wrapping_mul(6_364_136_223_846_793_005).wrapping_add(1_442_695_040_888_963_407);
-        (self.0 >> 33) % n
-    }
-
-    /// Corners on quarter pixels, so that many are as near as a radius.
-    fn corners(&mut self, count: u64, side: u64) -> Vec<Corner> {
-        let mut place = |n: u64| self.below(4 * n + 1) as f32 / 4.0;
-        let places: Vec<(f32, f32, f32)> = (0..count).map(|_| (place(side), place(side), place(3))).collect();
-        places.iter().enumerate().map(|(i, &(x, y, s))| corner(x, y, s, i as u32)).collect()
-    }
+/// Corners on quarter pixels, so that many are as near as a radius.
+fn some_corners(numbers: &mut Numbers, count: usize, side: usize) -> Vec<Corner> {
+    let mut quarters = |n: usize| float(numbers.below(4 * n + 1)) / 4.0;
+    let count = u32::try_from(count).unwrap();
+    (0..count).map(|i| corner(quarters(side), quarters(side), quarters(3), i)).collect()
 }
 
 #[test]
@@ -72,9 +66,9 @@ fn random_lists_against_the_second_implementation() {
     let radii = [1.0, 3.0, 0.5, 0.7, 7.0, 1.0 / 3.0, 1.0 / 64.0, 4096.0, 0.0];
     for case in 0..400 {
         let (count, side) = if case % 100 == 99 { (600 + 30 * case, 1000) } else { (case % 40, 12) };
-        let corners = numbers.corners(count, side);
+        let corners = some_corners(&mut numbers, count, side);
         for _ in 0..3 {
-            let radius = radii[numbers.below(radii.len() as u64) as usize];
+            let radius = numbers.one_of(&radii);
             if count < 1000 || radius < 3.0 {
                 let left = by_the_rules(&corners, radius);
                 assert_eq!(merged(&corners, radius), Ok(left), "case {case}, radius {radius}");

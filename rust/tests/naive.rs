@@ -1,28 +1,20 @@
-//! Corners merged by distance alone, over the linked library: against a second implementation, and against the merge by cells.
+//! Corners merged by distance alone, over the linked library: against a second implementation, and against the merge by
+//! cells.
+mod common;
+
+use common::{bits, float, Numbers};
 use zakdomp::raw::{zakdomp_merge, zakdomp_merge_naive};
 use zakdomp::{merge_naive, Corner, Refusal};
 
-/// Numbers that look random.
-struct Numbers(u64);
-
-impl Numbers {
-    fn below(&mut self, n: usize) -> usize {
-        self.0 ^= self.0 << 13;
-        self.0 ^= self.0 >> 7;
-        self.0 ^= self.0 << 17;
-        (self.0 % n as u64) as usize
-    }
-
-    /// Corners at multiples of a step, fewer than `most` from 0, so that many are near each other.
-    fn corners(&mut self, step: f32, most: usize) -> Vec<Corner> {
-        let corner = |numbers: &mut Self| Corner {
-            x: numbers.below(most) as f32 * step,
-            y: numbers.below(most) as f32 * step,
-            strength: numbers.below(5) as f32,
-            neighbours: numbers.below(1000) as u32,
-        };
-        (0..self.below(24)).map(|_| corner(self)).collect()
-    }
+/// Corners at multiples of a step, fewer than `most` from 0, so that many are near each other.
+fn some_corners(numbers: &mut Numbers, step: f32, most: usize) -> Vec<Corner> {
+    let corner = |numbers: &mut Numbers| Corner {
+        x: float(numbers.below(most)) * step,
+        y: float(numbers.below(most)) * step,
+        strength: float(numbers.below(5)),
+        neighbours: numbers.word(1000),
+    };
+    (0..numbers.below(24)).map(|_| corner(numbers)).collect()
 }
 
 fn at(x: f32, y: f32) -> Corner {
@@ -62,8 +54,7 @@ impl Slices {
     }
 
     fn bits(&self) -> Vec<u32> {
-        let floats = self.floats.iter().flatten().map(|v| v.to_bits());
-        floats.chain(self.neighbours.iter().copied()).collect()
+        [bits(&self.floats.concat()), self.neighbours.clone()].concat()
     }
 
     #[rustfmt::skip]
@@ -74,8 +65,8 @@ impl Slices {
         // SAFETY: every slice is whole, none overlaps another, and the call keeps none.
         let number = unsafe {
             function(
-                xs.as_mut_ptr(), xs.len(), ys.as_mut_ptr(), ys.len(), ss.as_mut_ptr(), ss.len(), ns.as_mut_ptr(), ns.len(),
-                count, radius, &mut kept,
+                xs.as_mut_ptr(), xs.len(), ys.as_mut_ptr(), ys.len(), ss.as_mut_ptr(), ss.len(),
+                ns.as_mut_ptr(), ns.len(), count, radius, &raw mut kept,
             )
         };
         (number, kept, self.bits())
@@ -96,22 +87,23 @@ fn case_that_tells_the_merges_apart() {
 fn random_lists() {
     let mut numbers = Numbers(12);
     for _ in 0..4000 {
-        let step = [1.0, 0.5, 0.1, 1.0 / 64.0, 0.37][numbers.below(5)];
-        let corners = numbers.corners(step, 60);
-        let radius = [1.0, 3.0, 0.7, 1.0 / 64.0, 2.5, 64.0][numbers.below(6)];
+        let step = numbers.one_of(&[1.0, 0.5, 0.1, 1.0 / 64.0, 0.37]);
+        let corners = some_corners(&mut numbers, step, 60);
+        let radius = numbers.one_of(&[1.0, 3.0, 0.7, 1.0 / 64.0, 2.5, 64.0]);
         assert_eq!(merge_naive(&corners, radius), Ok(by_distance(&corners, radius)));
     }
 }
 
-/// At multiples of 1/64, from -2 to 4,112, and with each power of two, whatever the count: numbers, counts and buffers of the two calls.
+/// At multiples of 1/64, from -2 to 4,112, and with each power of two, whatever the count: numbers, counts and buffers
+/// of the two calls.
 #[test]
 fn alike_at_multiples_of_a_64th() {
     let mut numbers = Numbers(64);
     let mut refused = 0;
     for case in 0..8000 {
         let radius = 2f32.powi(case % 19 - 6);
-        let most = [40, 400, 4000, 263_168][numbers.below(4)];
-        let mut corners = numbers.corners(1.0 / 64.0, most);
+        let most = numbers.one_of(&[40, 400, 4000, 263_168]);
+        let mut corners = some_corners(&mut numbers, 1.0 / 64.0, most);
         for c in &mut corners {
             match numbers.below(200) {
                 0 => c.x = -0.0,
@@ -157,12 +149,12 @@ fn off_radius_keeps_all() {
     assert_eq!(merge_naive(&[], 1.0), Ok(vec![]));
 }
 
-/// The stronger corner comes with its neighbours, and behind the list the slices are as they were.
+/// The stronger corner comes with its neighbours, and after the list the slices are as they were.
 #[test]
-fn neighbours_and_what_is_behind() {
+fn neighbours_and_what_follows() {
     let mut all = [at(1.0, 1.0), at(1.5, 1.0), at(9.0, 9.0), at(7.0, 7.0)];
-    for (i, c) in all.iter_mut().enumerate() {
-        (c.strength, c.neighbours) = (i as f32, 10 + i as u32);
+    for (i, c) in (0_u8..).zip(&mut all) {
+        (c.strength, c.neighbours) = (f32::from(i), 10 + u32::from(i));
     }
     let (number, kept, bits) = Slices::of(&all).merge(true, 3, 1.0);
     let due = [all[1], all[2], all[2], all[3]];

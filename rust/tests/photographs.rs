@@ -1,29 +1,12 @@
 //! Photographs, over the linked library.
+mod common;
+
+use common::{corners, photograph, whole_case, PLAIN, SIDE};
 use zakdomp::{read_pgm, Corner, Finder, Params, Refusal};
 
-const SIDE: usize = 11;
-const PLAIN: Params = Params {
-    ring: 5,
-    threshold: 0.0,
-    window: 0,
-    least_neighbours: 0,
-    centroid_radius: 0,
-    merge_radius: 3.0,
-    levels: 1,
-    minimum_side: 1,
-    search_radius: 0,
-};
-
-/// A header and the pixels of document 01's whole case, with bytes behind them.
-fn photograph(header: &str) -> Vec<u8> {
-    let bright = [(0, -5), (2, -5), (3, -3), (5, -2), (0, 5), (-2, 5), (-3, 3), (-5, 2)];
-    let cross = [(0, 0), (0, -1), (0, 1), (1, 0), (-1, 0)];
-    let mut upload = [header.as_bytes(), &[0; SIDE * SIDE], b"#behind"].concat();
-    let pixels = &mut upload[header.len()..];
-    let mut put = |(dx, dy): (isize, isize), grey| pixels[((5 + dy) * 11 + 5 + dx) as usize] = grey;
-    bright.into_iter().for_each(|at| put(at, 255));
-    cross.into_iter().for_each(|at| put(at, 128));
-    upload
+/// The whole case under a header, with bytes after it.
+fn upload(header: &str) -> Vec<u8> {
+    [photograph(header, &whole_case()), b"#more".to_vec()].concat()
 }
 
 #[test]
@@ -31,14 +14,14 @@ fn the_whole_case_by_any_header() {
     let mut finder = Finder::new();
     let headers = ["P5\n11 11\n255\n", "P5 # GIMP\n11\t1#c\r1\x0b\x0c0255\r", "P5\r\n11 11\r\n255#\n "];
     for header in headers {
-        let found = finder.find_pgm(&photograph(header), &PLAIN);
+        let found = corners(finder.find_pgm(&upload(header), &PLAIN));
         assert_eq!(found, Ok(vec![Corner { x: 5.0, y: 5.0, strength: 2032.0, neighbours: 0 }]), "{header:?}");
     }
 }
 
 #[test]
 fn as_of_the_pixels() {
-    let upload = photograph("P5 11 11 255\n");
+    let upload = upload("P5 11 11 255\n");
     let photo = read_pgm(&upload).unwrap();
     assert_eq!((photo.width, photo.height, photo.pixels), (SIDE, SIDE, &upload[13..13 + SIDE * SIDE]));
     let mut finder = Finder::new();
@@ -55,11 +38,9 @@ fn refusals() {
     assert_eq!(refused(b"P5 1 1 255\n", &wrong_ring), Refusal::Pgm);
     assert_eq!(refused(b"P5 1 1 254\nA", &wrong_ring), Refusal::Maxval);
     assert_eq!(refused(b"P5 1 1 255\nA", &wrong_ring), Refusal::Parameter);
-    assert_eq!(
-        refused(&photograph("P5 11 11 255\n"), &Params { merge_radius: 5000.0, ..PLAIN }),
-        Refusal::MergeRadius
-    );
-    assert_eq!(Finder::with_most(0).find_pgm(&photograph("P5 11 11 255\n"), &PLAIN), Err(Refusal::ListShort));
+    let upload = upload("P5 11 11 255\n");
+    assert_eq!(refused(&upload, &Params { merge_radius: 5000.0, ..PLAIN }), Refusal::MergeRadius);
+    assert_eq!(Finder::with_most(0).find_pgm(&upload, &PLAIN), Err(Refusal::ListShort));
     assert_eq!(read_pgm(b"P5"), Err(Refusal::Pgm));
     assert_eq!(Refusal::Pgm.to_string(), "the photograph is no whole binary PGM (number 12)");
     assert_eq!(Refusal::Maxval.to_string(), "the maxval of the photograph is not 255 (number 13)");
@@ -69,5 +50,5 @@ fn refusals() {
 fn sides_of_0() {
     let photo = read_pgm(b"P5 0 4096 255\n").unwrap();
     assert_eq!((photo.width, photo.height, photo.pixels), (0, 4096, &[][..]));
-    assert_eq!(Finder::new().find_pgm(b"P5 0 0 255\n", &PLAIN), Ok(vec![]));
+    assert_eq!(corners(Finder::new().find_pgm(b"P5 0 0 255\n", &PLAIN)), Ok(vec![]));
 }

@@ -61,10 +61,10 @@ fn streams() {
 
 #[test]
 fn no_more_than_65536_records() {
-    let most = stream(NOW, &[(1, 0); 65_536]);
+    let most = stream(NOW, &vec![(1, 0); 65_536]);
     let text = holdings(&most);
     assert_eq!(text, "H\n".repeat(65_536));
     assert_eq!(holdings(&[most, vec![9]].concat()), text);
-    let last_refused = [stream(NOW, &[(1, 0); 65_535]), vec![1, 0]].concat();
+    let last_refused = [stream(NOW, &vec![(1, 0); 65_535]), vec![1, 0]].concat();
     assert_eq!(holdings(&last_refused), "H\n".repeat(65_535) + "refused 7\n");
 }

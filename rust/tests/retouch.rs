@@ -1,48 +1,23 @@
 //! A pixel changed and its map redone, over the linked library.
+mod common;
+
+use common::{bits, whole_case, Numbers, SIDE};
 use zakdomp::{response, retouch, Refusal};
-
-const SIDE: usize = 11;
-
-/// Document 01's whole case.
-fn whole_case() -> Vec<u8> {
-    let bright = [(5, 0), (7, 0), (8, 2), (10, 3), (5, 10), (3, 10), (2, 8), (0, 7)];
-    let cross = [(5, 5), (5, 4), (5, 6), (6, 5), (4, 5)];
-    let mut image = vec![0; SIDE * SIDE];
-    bright.iter().for_each(|(x, y)| image[y * SIDE + x] = 255);
-    cross.iter().for_each(|(x, y)| image[y * SIDE + x] = 128);
-    image
-}
 
 fn cells(image: &[u8], w: usize, h: usize, ring: u32) -> Vec<f32> {
     response(image, w, h, ring, 0..w, 0..h).expect("a map").cells
 }
 
-fn bits(map: &[f32]) -> Vec<u32> {
-    map.iter().map(|cell| cell.to_bits()).collect()
-}
-
-/// Numbers that look random.
-struct Numbers(u64);
-
-impl Numbers {
-    fn below(&mut self, n: usize) -> usize {
-        self.0 ^= self.0 << 13;
-        self.0 ^= self.0 >> 7;
-        self.0 ^= self.0 << 17;
-        (self.0 % n as u64) as usize
-    }
-}
-
 #[test]
 fn the_whole_case() {
     for (x, y, value, count, fifths) in
-        [(5, 5, 129, 1, 10_144), (5, 0, 254, 1, 10_145), (0, 0, 9, 0, 10_160), (5, 5, 128, 1, 10_160)]
+        [(5, 5, 129, 1, 10_144.0), (5, 0, 254, 1, 10_145.0), (0, 0, 9, 0, 10_160.0), (5, 5, 128, 1, 10_160.0)]
     {
         let mut image = whole_case();
         let mut map = cells(&image, SIDE, SIDE, 5);
         assert_eq!(retouch(&mut image, SIDE, SIDE, 5, &mut map, x, y, value), Ok(count));
         assert_eq!(image[y * SIDE + x], value);
-        assert!((map[60] * 5.0 - fifths as f32).abs() < 0.005, "{} fifths", map[60] * 5.0);
+        assert!((map[60] * 5.0 - fifths).abs() < 0.005, "{} fifths", map[60] * 5.0);
         assert_eq!(bits(&map), bits(&cells(&image, SIDE, SIDE, 5)));
     }
 }
@@ -62,11 +37,11 @@ fn as_a_fresh_run() {
     let mut numbers = Numbers(8);
     for _ in 0..300 {
         let (w, h) = (1 + numbers.below(40), 1 + numbers.below(40));
-        let ring = [5, 10][numbers.below(2)];
-        let mut image: Vec<u8> = (0..w * h).map(|_| numbers.below(256) as u8).collect();
+        let ring = numbers.one_of(&[5, 10]);
+        let mut image = numbers.pixels(w * h, 256);
         let mut map = cells(&image, w, h, ring);
         for _ in 0..5 {
-            let (x, y, value) = (numbers.below(w), numbers.below(h), numbers.below(256) as u8);
+            let (x, y, value) = (numbers.below(w), numbers.below(h), numbers.byte(256));
             let mut painted = image.clone();
             painted[y * w + x] = value;
             let count = retouch(&mut image, w, h, ring, &mut map, x, y, value).expect("not refused");
@@ -82,9 +57,9 @@ fn another_map_gets_those_cells_and_no_more() {
     let mut numbers = Numbers(14);
     for _ in 0..100 {
         let (w, h) = (11 + numbers.below(30), 11 + numbers.below(30));
-        let mut image: Vec<u8> = (0..w * h).map(|_| numbers.below(256) as u8).collect();
+        let mut image = numbers.pixels(w * h, 256);
         let mut map = vec![f32::NAN; w * h];
-        let (x, y, value) = (numbers.below(w), numbers.below(h), numbers.below(256) as u8);
+        let (x, y, value) = (numbers.below(w), numbers.below(h), numbers.byte(256));
         let count = retouch(&mut image, w, h, 5, &mut map, x, y, value).expect("not refused");
         let fresh = cells(&image, w, h, 5);
         let redone: Vec<usize> = (0..w * h).filter(|&i| !map[i].is_nan()).collect();

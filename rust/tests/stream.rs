@@ -1,4 +1,7 @@
 //! The frame stream, over the linked library.
+mod common;
+
+use common::{board, PLAIN};
 use zakdomp::{raw, write_stream, Params, Refusal};
 
 /// What the program `corners` prints for a stream.
@@ -12,15 +15,12 @@ fn listing(stream: &[u8]) -> String {
 #[test]
 fn one_pixel_bit_for_bit() {
     let params = Params {
-        ring: 5,
         threshold: f32::from_bits(0x7fc0_0001),
-        window: 0,
-        least_neighbours: 0,
-        centroid_radius: 0,
         merge_radius: f32::from_bits(0xffc1_2345),
         levels: 255,
         minimum_side: 65_535,
         search_radius: 255,
+        ..PLAIN
     };
     let head =
         [1, 1, 0, 1, 0, 2, 5, 1, 0, 0xc0, 0x7f, 0, 0, 0, 0x45, 0x23, 0xc1, 0xff, 255, 255, 255, 255, 3, 9];
@@ -41,8 +41,7 @@ fn lengths_about_a_record() {
 
 #[test]
 fn corners_reads_it() {
-    let image: Vec<u8> =
-        (0..96 * 96).map(|i| if (i % 96 / 16 + i / 96 / 16) % 2 == 0 { 30 } else { 225 }).collect();
+    let image = board(96, 96, 16);
     let stream = write_stream(&image, 96, 96, &Params { threshold: 100.0, ..Params::default() }).unwrap();
     let text = listing(&stream);
     assert!(text.starts_with("corners 25\n"), "{text}");

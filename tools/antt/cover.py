@@ -1,5 +1,5 @@
 """cover: checks that each public function of src/ has two wrong programs or more, and that no edit changes a
-definition alone. An edit of must-fail/ or more-edits/ is one of a function if a text that it replaces stands in that
+definition alone. An edit of must-fail/ or more-edits/ is one of a function if a text that it replaces is in that
 function, or in a private function or a constant of its crate that it uses, directly or not. A function that does
 nothing has none. With --all it names the edits of each function. Exit status: 0 if so."""
 import re
@@ -8,7 +8,8 @@ from pathlib import Path
 
 LEAST = 2
 CRATES = {folder.name for folder in Path('crates').iterdir()}
-ITEM = re.compile(r'^ *(?P<public>pub )?(?:pub\(crate\) )?(?:extern "C" )?(?P<kind>fn|const|static|struct|enum|impl|mod) (?P<name>\w+)')
+ITEM = re.compile(r'^ *(?P<public>pub )?(?:pub\(crate\) )?(?:extern "C" )?'
+                  r'(?P<kind>fn|const|static|struct|enum|impl|mod) (?P<name>\w+)')
 USED = re.compile(r'(?:\b(\w+)::)?\b(?:([a-z]\w*)\(|([A-Z]\w*))')
 
 
@@ -37,7 +38,8 @@ def items(path):
 
 
 def used(item, crate):
-    """The private functions and the constants that an item uses, directly or not. A name is that of its own file, if it is there."""
+    """The private functions and the constants that an item uses, directly or not. A name is that of its own file, if it
+    is there."""
     seen, wait = [item], [item]
     while wait:
         user = wait.pop()
@@ -78,7 +80,8 @@ def main(show):
                 continue
             functions += 1
             texts = [(part.path.relative_to(folder).as_posix(), '\n'.join(part.lines)) for part in used(item, crate)]
-            own = [path for path, pairs in tried if any(file == where and old in text for file, old in pairs for where, text in texts)]
+            own = [path for path, pairs in tried
+                   if any(file == where and old in text for file, old in pairs for where, text in texts)]
             if show:
                 print(f'{folder.name} {item.name}: {", ".join(path.stem for path in own)}')
             if len(own) < LEAST:

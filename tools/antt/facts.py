@@ -7,10 +7,11 @@ NEED = re.compile(r'Need-(\S+) =\s+\(c : ([^\s)]+)')
 
 
 class Function:
-    """A function's places: what stands before each, what was bound there, and the places that a proof can begin at, by their names.
+    """A function's places: what is before each, what was bound there, and the places that a proof can begin at, by
+    their names.
 
-    `home` is the module that has the places, and `parameters` what each takes there: the invariants and measures of loops, and in a
-    function that calls itself what is asked and promised.
+    `home` is the module that has the places, and `parameters` what each takes there: the invariants and measures of
+    loops, and in a function that calls itself what is asked and promised.
     """
 
     def __init__(self, folder):
@@ -34,7 +35,8 @@ class Function:
         path, = folder.glob('Lts-*.antt')
         text = path.read_text(encoding='utf-8')
         lifetimes = re.search(r'^abbrev pub ps : List\.List \(Kinds\.PK (\d+)\)', text, re.M).group(1)
-        self.parameters = [('claims', 'tie.Claims'), ('given', f'Kinds.In {lifetimes} tie.ps'), ('post', f'Kinds.Out {lifetimes} tie.ps tie.r')]
+        self.parameters = [('claims', 'tie.Claims'), ('given', f'Kinds.In {lifetimes} tie.ps'),
+                           ('post', f'Kinds.Out {lifetimes} tie.ps tie.r')]
         return path.stem, text
 
     def way(self, place):

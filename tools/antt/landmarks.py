@@ -1,10 +1,11 @@
-"""Writes the landmarks of the functions whose proofs name some, or sees whether they are what would be written: see tools/landmarks.
+"""Writes the landmarks of the functions whose proofs name some, or checks whether they are what would be written: see
+tools/landmarks.
 
-A proof that has the line `mod Landmarks` names a place as `THING-from-NEED c`: the place where THING was bound (a call, a test, a loop, or
-`start`), seen from the place c of the need NEED; or, in a lemma on another place, `THING-from-PLACE c`. So a call that gains a slice, or a
-statement that is added, moves no path of the proof.
-The number of steps of each way back is seen by the check of the crate, by the types of the two places; `--compare`, which checks nothing,
-sees that the proof names every landmark of its file, and that each is built on the one before.
+A proof that has the line `mod Landmarks` names a place as `THING-from-NEED c`: the place where THING was bound (a call,
+a test, a loop, or `start`), seen from the place c of the need NEED; or, in a lemma on another place,
+`THING-from-PLACE c`. So a call that gains a slice, or a statement that is added, moves no path of the proof.
+The number of steps of each way back is checked with the crate, by the types of the two places; `--compare`, which
+proves nothing, checks that the proof names every landmark of its file, and that each is built on the one before.
 """
 import pathlib
 import re
@@ -12,6 +13,7 @@ import shutil
 import subprocess
 import sys
 
+from breaking import filled
 from facts import Function
 
 CRATES = pathlib.Path('crates')
@@ -31,15 +33,12 @@ class Landmark:
         self.name, self.start, self.end, self.base, self.steps = name, start, end, base, steps
 
     def text(self, indent):
-        lines, line = [f'{indent}abbrev pub {self.name} : {self.start} → {self.end}'], f'{indent}{self.name} c ='
-        words = [self.base] + ['.before'] * self.steps
-        if len(' '.join([line] + words)) > WIDTH:
-            lines, line = lines + [line], indent + '   '
-        for word in words:
-            if len(line) + 1 + len(word) > WIDTH:
-                lines, line = lines + [line], indent + '   '
-            line += ' ' + word
-        return '\n'.join(lines + [line]) + '\n'
+        head, words = f'{indent}{self.name} c =', [self.base] + ['.before'] * self.steps
+        lines = [' '.join([head] + words)]
+        if len(lines[0]) > WIDTH:
+            deeper = indent + '    '
+            lines = [head, *filled([deeper + words[0], *words[1:]], WIDTH, deeper)]
+        return '\n'.join([f'{indent}abbrev pub {self.name} : {self.start} → {self.end}', *lines]) + '\n'
 
 
 # ---- what a proof names, and what is written of it
@@ -48,7 +47,8 @@ def named(text):
     """The landmarks that a proof names, without what it takes from elsewhere."""
     text = re.sub(r'--.*', '', text)
     taken = set(re.findall(r'[^\s{},]+', ' '.join(re.findall(r'^use .*', text, re.M))))
-    return {name for name in NAME.findall(text) if name not in taken and not re.search(rf'^(abbrev )?{re.escape(name)} :', text, re.M)}
+    return {name for name in NAME.findall(text) if name not in taken
+            and not re.search(rf'^(abbrev )?{re.escape(name)} :', text, re.M)}
 
 
 def landmarks(function, names):
@@ -145,7 +145,8 @@ def file_of(proof):
 
 
 def generated(crate):
-    """What `rt` generates of a crate. Where a file of landmarks is missing it is first written empty, so that the crate can be read."""
+    """What `rt` generates of a crate. Where a file of landmarks is missing it is first written empty, so that the crate
+    can be read."""
     for proof in proofs([crate]):
         file_of(proof).parent.mkdir(exist_ok=True)
         if not file_of(proof).exists():
@@ -153,7 +154,8 @@ def generated(crate):
     folder = pathlib.Path('target/landmarks') / crate
     shutil.rmtree(folder, ignore_errors=True)
     folder.parent.mkdir(parents=True, exist_ok=True)
-    subprocess.run(['rt', 'dev', crate, '--generated', str(folder)], stdout=subprocess.DEVNULL, stderr=subprocess.DEVNULL, check=False)
+    subprocess.run(['rt', 'dev', crate, '--generated', str(folder)], stdout=subprocess.DEVNULL,
+                   stderr=subprocess.DEVNULL, check=False)
     return folder / f'Rattle.{crate}.proofs'
 
 

@@ -1,6 +1,6 @@
-"""numbers: checks that the tables of refusals agree. docs/RULES.md has all of them (2.2). The functions for C (13.3) give those that 2.4
-says; include/zakdomp.h and rust/src/refusal.rs have these and no other, by the same names, and python/zakdomp.py has words for them. The
-oracle has all numbers. Exit status: 0 if so."""
+"""numbers: checks that the tables of refusals agree. docs/RULES.md has all of them (2.2). The functions for C (13.3)
+give those that 2.4 says; include/zakdomp.h and rust/src/refusal.rs have these and no other, by the same names, and
+python/zakdomp.py has words for them. The oracle has all numbers. Exit status: 0 if so."""
 import re
 import sys
 
@@ -25,7 +25,8 @@ def rows(rules, begin, end):
 def by_rules(rules):
     """All numbers, and those that a function for C gives."""
     numbers = {int(row[0]) for row in rows(rules, '**2.2 ', '**2.3 ')}
-    given = {name: set(map(int, re.findall(r'\d+', row[1]))) for row in rows(rules, '**2.4 ', '**2.5 ') for name in re.findall(r'`(\w+)`', row[0])}
+    given = {name: set(map(int, re.findall(r'\d+', row[1]))) for row in rows(rules, '**2.4 ', '**2.5 ')
+             for name in re.findall(r'`(\w+)`', row[0])}
     for_c = [name for row in rows(rules, '**13.3** ', '**13.4** ') for name in re.findall(r'`(\w+)`', row[1])]
     return numbers, set().union(*(given.get(name, set()) for name in for_c))
 
@@ -37,7 +38,8 @@ def pairs(text, pattern):
 
 def differences(what, found, due):
     """A line for each entry that a table lacks or has too many."""
-    return [f'{what} lacks {entry}' for entry in sorted(due - found)] + [f'{what} has {entry} too many' for entry in sorted(found - due)]
+    lacking = [f'{what} lacks {entry}' for entry in sorted(due - found)]
+    return lacking + [f'{what} has {entry} too many' for entry in sorted(found - due)]
 
 
 def main():
@@ -48,7 +50,8 @@ def main():
     python = set(map(int, re.findall(r'^ +(\d+): ', words, re.M)))
     oracle = set(map(int, re.findall(r'^pub const \w+: Refusal = (\d+);', read(ORACLE), re.M)))
     wrong = differences(HEADER, {number for _, number in header}, for_c)
-    wrong += differences(f'{RUST}, of', {(name.lower(), int(number)) for number, name in re.findall(r'(\d+) => Self::(\w+)', rust)}, header)
+    read_back = {(name.lower(), int(number)) for number, name in re.findall(r'(\d+) => Self::(\w+)', rust)}
+    wrong += differences(f'{RUST}, of', read_back, header)
     wrong += differences(f'{RUST}, number', pairs(rust, r'Self::(\w+) => (\d+)'), header)
     wrong += differences(PYTHON, python & for_c, for_c) + differences(PYTHON, python, python & numbers)
     wrong += differences(ORACLE, oracle, numbers)

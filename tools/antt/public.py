@@ -1,8 +1,8 @@
-"""public: sees that the lists of public functions are complete. Each function that src/ marks `pub` stands in docs/RULES.md: those
-for C in 13.3, those that refuse in 2.4 and every other in 1.8. Each that 2.4 names is public and has a field of `Total`
-(crates/demands/specs/Total.antt), but those that hand out pixels, whose number is that of the function beside them; and each field of
-`Total` is named by 2.4. The table of calls (crates/demands/specs/Occurring.antt) has a row for each, with the numbers of 2.4. Exit status: 0
-if so."""
+"""public: checks that the lists of public functions are complete. Each function that src/ marks `pub` is in
+docs/RULES.md: those for C in 13.3, those that refuse in 2.4 and every other in 1.8. Each that 2.4 names is public and
+has a field of `Total` (crates/demands/specs/Total.antt), but those that hand out pixels, whose number is that of the
+function beside them; and each field of `Total` is named by 2.4. The table of calls
+(crates/demands/specs/Occurring.antt) has a row for each, with the numbers of 2.4. Exit status: 0 if so."""
 import glob
 import re
 import sys
@@ -21,9 +21,11 @@ def read(path):
 
 
 def named(rules, part):
-    """The functions that stand in the first two columns of a table's rows, and those that its last column says hand out pixels."""
+    """The functions in the first two columns of a table's rows, and those that its last column says hand out
+    pixels."""
     begin, end = PARTS[part]
-    rows = [line.split('|') for line in rules[rules.index(begin):rules.index(end)].splitlines() if line.startswith('| `')]
+    rows = [line.split('|') for line in rules[rules.index(begin):rules.index(end)].splitlines()
+            if line.startswith('| `')]
     first = [re.findall(r'`(?:\w+::)?(\w+)`', ''.join(row[1:3] if part == '1.8' else row[1:2])) for row in rows]
     beside = [re.findall(r'`(\w+)` hands out no pixels', row[-2]) for row in rows]
     return {name for names in first for name in names}, {name for names in beside for name in names}
@@ -32,8 +34,10 @@ def named(rules, part):
 def numbers(rules):
     """The numbers of each function by 2.4."""
     begin, end = PARTS['2.4']
-    rows = [line.split('|') for line in rules[rules.index(begin):rules.index(end)].splitlines() if line.startswith('| `')]
-    return {name: sorted(map(int, re.findall(r'\d+', row[2]))) for row in rows for name in re.findall(r'`(\w+)`', row[1])}
+    rows = [line.split('|') for line in rules[rules.index(begin):rules.index(end)].splitlines()
+            if line.startswith('| `')]
+    return {name: sorted(map(int, re.findall(r'\d+', row[2]))) for row in rows
+            for name in re.findall(r'`(\w+)`', row[1])}
 
 
 def occurring(table, fields):
@@ -63,7 +67,8 @@ def main():
     wrong += [f'{name} is a field of Total, and 2.4 does not name it' for name in fields - refusing]
     rows, by_rules = list(occurring(read(OCCURRING), fields)), numbers(rules)
     wrong += [f'{name} has no row of Occurring' for name in fields - {name for names, _ in rows for name in names}]
-    wrong += [f'{name} has other numbers in Occurring than 2.4 says' for names, said in rows for name in names if said != by_rules.get(name)]
+    wrong += [f'{name} has other numbers in Occurring than 2.4 says' for names, said in rows for name in names
+              if said != by_rules.get(name)]
     for line in sorted(wrong):
         print(f'public: {line}')
     return bool(wrong)

@@ -1,9 +1,11 @@
-"""tried: tries the edits of must-fail/ in a copy of the repository, of the named crates or of all, and leaves their logs where `rt` does.
+"""tried: tries the edits of must-fail/ in a copy of the repository, of the named crates or of all, and leaves their
+logs where `rt` does.
 
     tried.py COPY [CRATE..]
 
-A crate is checked once, and then again with each of its edits, by the incremental check: only what an edit changed is proved anew, in a tenth of
-the time. Two crates at a time, each in a copy of its own. Exit status: 0 if the prover refused all of them."""
+A crate is checked once, and then again with each of its edits, by the incremental check: only what an edit changed is
+proved again, in a tenth of the time. Two crates at a time, each in a copy of its own. Exit status: 0 if the prover
+refused all of them."""
 import concurrent.futures
 import pathlib
 import queue

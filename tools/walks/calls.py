@@ -7,7 +7,8 @@ from walk import Context, Value, Walk
 
 
 class Callee(NamedTuple):
-    """A function that is called: the slices of the caller that it borrows, the values behind them, its answer, and what it says of all."""
+    """A function that is called: the slices of the caller that it borrows, the values after them, its answer, and what
+    it says of all."""
     crate: str
     name: str
     borrowed: tuple
@@ -32,7 +33,8 @@ class Callee(NamedTuple):
     @property
     def lasts(self):
         """The type of what is left after of the parameters."""
-        return product([f'List {slice.kind.values}' if slice.mutable else 'Unit {0}' for slice in self.borrowed] + ['Unit {0}' for _ in self.plain])
+        return product([f'List {slice.kind.values}' if slice.mutable else 'Unit {0}' for slice in self.borrowed]
+                       + ['Unit {0}' for _ in self.plain])
 
 
 # ---- what a proof says of the functions that are called
@@ -42,7 +44,8 @@ def modules(callees):
     lines = []
     for callee in callees:
         path = f'Rattle.{callee.crate}{"·proofs" if callee.crate == "merge_slice" else ""}.proofs.{callee.name}'
-        lines += [f'{path} as {callee.alias}', f'{path}.Symbol as {callee.alias}-def', f'{path}.Symbol.{{name as #{callee.key}}}',
+        lines += [f'{path} as {callee.alias}', f'{path}.Symbol as {callee.alias}-def',
+                  f'{path}.Symbol.{{name as #{callee.key}}}',
                   f'{path}.Met as {callee.alias}-thm']
     return ''.join(line + '\n' for line in lines)
 
@@ -67,7 +70,8 @@ Known 𝓤 H A mem run C = {known}
 def cited(callees):
     """That the tables of the function's environment have them."""
     parts = [f'cited 𝓤 H ({callee.alias.capitalize()} 𝓤 H (𝓖 .A) (𝓜 .mem) (𝓡 .run)) 𝓜 𝓡 code.env #{callee.key} '
-             f'{callee.alias}-def.routine code.calls-{callee.key} ({callee.alias}-thm.met 𝓤 H 𝓜 𝓖 𝓡)' for callee in callees]
+             f'{callee.alias}-def.routine code.calls-{callee.key} ({callee.alias}-thm.met 𝓤 H 𝓜 𝓖 𝓡)'
+             for callee in callees]
     return ' ' + nested(parts, 4) if callees else ''
 
 
@@ -78,7 +82,8 @@ def handed(callee):
     terms, machines = ([f'{letter}{number}' for number in values] for letter in 'vu')
     borrowed = [f'({spaced(lifetimes)} : ℕ) ({spaced(names)} : GName)'] if callee.borrowed else []
     borrowed += [f'({contents} : List {slice.kind.values})' for slice, contents in zip(callee.borrowed, lists)]
-    binders = spaced(borrowed + [f'({term} : {kind.values})' for term, kind in zip(terms, callee.plain)] + [f'({spaced(machines)} : Val)'])
+    binders = spaced(borrowed + [f'({term} : {kind.values})' for term, kind in zip(terms, callee.plain)]
+                     + [f'({spaced(machines)} : Val)'])
     given = spaced(lifetimes + names + lists + terms + machines)
     bound = rows([rows([
         nest(f'{lifetime} ∷ []' for lifetime in lifetimes),
@@ -88,7 +93,8 @@ def handed(callee):
         nest([f's{number} ∷ []' for number in numbers] + [f'{machine} ∷ []' for machine in machines]),
     ], 4), 'tt'], 2)
     parts = [f'‵ (flft ({lifetime} ∷ []) fullShare)' for lifetime in lifetimes]
-    parts += [f'‵ ({slice.owned(at, f"({lifetimes[at]} ∷ [])", names[at], lists[at])})' for at, slice in enumerate(callee.borrowed)]
+    parts += [f'‵ ({slice.owned(at, f"({lifetimes[at]} ∷ [])", names[at], lists[at])})'
+              for at, slice in enumerate(callee.borrowed)]
     related = [f'Is {kind.row} {term} ({machine} ∷ [])' for kind, term, machine in zip(callee.plain, terms, machines)]
     asked = related + ([callee.asks(lists, terms)] if callee.asks else [])
     proofs = spaced([f'p{number}' for number in values] + (['asked'] if callee.asks else []))
@@ -156,7 +162,8 @@ class Call(NamedTuple):
     def given(self):
         """What the lemmas on the callee are applied to."""
         borrowed = self.callee.borrowed
-        return spaced([self.lifetime(slice) for slice in borrowed] + [self.name(slice) for slice in borrowed] + self.lists
+        return spaced([self.lifetime(slice) for slice in borrowed] + [self.name(slice) for slice in borrowed]
+                      + self.lists
                       + [atom(value.term) for value in self.values] + [atom(value.machine) for value in self.values])
 
     @property
@@ -169,7 +176,8 @@ class Call(NamedTuple):
 
     @property
     def arguments(self):
-        borrowed = [f'ref{slice.number} {self.name(slice)} {contents}' for slice, contents in zip(self.callee.borrowed, self.lists)]
+        borrowed = [f'ref{slice.number} {self.name(slice)} {contents}'
+                    for slice, contents in zip(self.callee.borrowed, self.lists)]
         return nest(borrowed + [value.term for value in self.values])
 
     @property
@@ -198,12 +206,14 @@ class Call(NamedTuple):
         number, row = self.number, self.callee.answer.row
         lengths = {f'g{number}{slice.number}': f'length {self.after(slice)} ≡ length {contents}'
                    for slice, contents in zip(self.callee.borrowed, self.lists) if slice.mutable}
-        return {f'w{number}': 'Val', f'r{number}': self.callee.answer.values, f'zs{number}': self.callee.lasts, f'e{number}': self.said(), **lengths,
+        return {f'w{number}': 'Val', f'r{number}': self.callee.answer.values, f'zs{number}': self.callee.lasts,
+                f'e{number}': self.said(), **lengths,
                 f'is{number}': f'Is {row} r{number} (w{number} ∷ [])'}
 
 
 class Caller(Walk):
-    """A walk with calls. Slice J stands as `sliceJ` with its token `lftJ`; its contents are `lists[J]`, as long as at entry by `lengths[J]`."""
+    """A walk with calls. Slice J stands as `sliceJ` with its token `lftJ`; its contents are `lists[J]`, as long as at
+    entry by `lengths[J]`."""
 
     def __init__(self, facts, slices, values, callees):
         super().__init__(facts, slices, values)
@@ -243,7 +253,8 @@ class Caller(Walk):
         number, lifetime, contents = slice.number, call.lifetime(slice), self.lists[slice.number]
         kept = f'Borrowed{number} {lifetime} δ {contents}' if slice.mutable else f'Shared{number} {lifetime} {contents}'
         loan = f'(λ (δ : GName). ‵ ({slice.owned(at, f"({lifetime} ∷ [])", "δ", contents)}) ⊛ ‵ ({kept}))'
-        rule = f'{"borrows" if slice.mutable else "shares"}-again {call.loan(slice, at)} {contents} (length L{number}) {self.lengths[number]}'
+        rule = 'borrows-again' if slice.mutable else 'shares-again'
+        rule = f'{rule} {call.loan(slice, at)} {contents} (length L{number}) {self.lengths[number]}'
         self.make([], [lifetime], f'lft-new ! tt (λ {lifetime}.')
         self.make([f'slice{number}', f'lft{number}'], [f'loan{number}'], f'use2 W (later (some {loan})) ({rule})')
         self.step('await ! tt')
@@ -253,7 +264,8 @@ class Caller(Walk):
     def hand_over(self, call, known, operands):
         """What is borrowed as the callee asks for it, and the call itself."""
         callee = call.callee
-        borrowed = [call.lifetime(slice) for slice in callee.borrowed] + [f'borrowed{slice.number}' for slice in callee.borrowed]
+        borrowed = [call.lifetime(slice) for slice in callee.borrowed]
+        borrowed += [f'borrowed{slice.number}' for slice in callee.borrowed]
         if borrowed:
             self.rename(borrowed[-1], 'handed')
             for fact in reversed(borrowed[:-1]):
@@ -261,12 +273,15 @@ class Caller(Walk):
         else:
             self.make([], ['handed'], 'nothing !')
         proofs = [atom(value.related) for value in call.values] + ([f'({callee.met(self)})'] if callee.asks else [])
-        self.make(['handed'], ['asked'], f'use1 W (raw ({callee.contract} .pre {call.ghost})) (goes-{callee.alias} {call.given} {spaced(proofs)})')
+        goes = f'(goes-{callee.alias} {call.given} {spaced(proofs)})'
+        self.make(['handed'], ['asked'], f'use1 W (raw ({callee.contract} .pre {call.ghost})) {goes}')
         rule, _ = self.several(operands)
-        self.step(f'calls-at ! (fmOf 𝓤 H (W .laws) 𝓣) ({callee.contract}) ({known}) {call.ghost} {rule} (λ w{call.number}.')
+        self.step(f'calls-at ! (fmOf 𝓤 H (W .laws) 𝓣) ({callee.contract}) ({known}) {call.ghost} {rule} '
+                  f'(λ w{call.number}.')
 
     def hear(self, call):
-        """What the callee leaves: the tokens, its answer, the last contents of what was borrowed, and what it says of them."""
+        """What the callee leaves: the tokens, its answer, the last contents of what was borrowed, and what it says of
+        them."""
         callee, number, alias = call.callee, call.number, call.callee.alias
         ensured = f'ensured 𝓤 H A {alias}.ended ({alias}.clauses 𝓤 H A mem run) {call.lifetimes} {call.arguments} tt r'
         left = f'({call.tokens} ⊛ ‵ ({callee.answer.row} .own r (w{number} ∷ []))) ⊛ raw ({ensured})'
@@ -291,7 +306,8 @@ class Caller(Walk):
         """The answer in its local."""
         kind, number = call.callee.answer, call.number
         self.move(f'answer{number}')
-        self.step(f'peeks ! {kind.row} (Is {kind.row}) (shows 𝓤 H A {kind.row}) r{number} (w{number} ∷ []) (λ is{number}.')
+        shown = f'{kind.row} (Is {kind.row}) (shows 𝓤 H A {kind.row})'
+        self.step(f'peeks ! {shown} r{number} (w{number} ∷ []) (λ is{number}.')
         self.step(f'land ! {self.written(target, Value(kind, f"r{number}", f"is{number}", f"w{number}"))}')
         if kind.machine:
             held = f'(λ (u : Val). ‵ (fat fullShare {kind.mir} l{target[1:]} 0 u))'
@@ -300,7 +316,8 @@ class Caller(Walk):
 
     def take_back(self, call, slice):
         number, contents, length = slice.number, self.lists[slice.number], self.lengths[slice.number]
-        held, again = [call.lifetime(slice), f'kept{number}'], f'{call.loan(slice, number)} {contents} (length L{number}) {length}'
+        held = [call.lifetime(slice), f'kept{number}']
+        again = f'{call.loan(slice, number)} {contents} (length L{number}) {length}'
         if slice.mutable:
             held.append(f'final{number}')
             self.lists[number], longer = call.after(slice), f'g{call.number}{number}'
@@ -309,6 +326,7 @@ class Caller(Walk):
         else:
             rule = f'comes-unchanged {again} fits{number}'
         owned = self.slices[number].owned(number, f'κ{number}', f'γ{number}', self.lists[number])
-        self.make(held, [f'back{number}'], f'use{len(held)} W (later (‵ ({owned}) ⊛ ‵ (flft κ{number} q{number}))) ({rule})')
+        back = f'later (‵ ({owned}) ⊛ ‵ (flft κ{number} q{number}))'
+        self.make(held, [f'back{number}'], f'use{len(held)} W ({back}) ({rule})')
         self.step('await ! tt')
         self.split(f'back{number}', f'slice{number}', f'lft{number}')

@@ -15,7 +15,8 @@ SUBJECT = Subject(
 ''',
     SLICES, (Plain('n', WORD),),
     asks=(('n0', 'n ≤ length L0'), ('nb', f'n ≤ placesOf ({buffer(f"L{s.number}" for s in BUFFER)})')),
-    asked=f'({BOUND} ≤ length ({ARGUMENTS[0]} .now)) × ({BOUND} ≤ placesOf ({buffer(f"({argument} .now)" for argument in ARGUMENTS[1:])}))')
+    asked=f'({BOUND} ≤ length ({ARGUMENTS[0]} .now)) × '
+          f'({BOUND} ≤ placesOf ({buffer(f"({argument} .now)" for argument in ARGUMENTS[1:])}))')
 COUNT = SUBJECT.code.before[0].split(' = ')[0]
 
 
@@ -100,8 +101,10 @@ def closed(walk):
                   f'closes-slice ! tt {s.kind.row} L{n} (A{n} i) (long{n} i) b{n} o{n}')
 
 
-HEAD = {f'_{number}': value for number, value in enumerate(SUBJECT.each(borrow, lambda p: Value(p.kind, p.name, f'{p.name}-fits')), 1)}
-LOOP = Loop(SUBJECT, lambda facts, values: Walk(facts, SLICES, values), opened(), HEAD | {COUNT: Value(WORD, 'i .0', 'fits i')},
+ENTERED = SUBJECT.each(borrow, lambda p: Value(p.kind, p.name, f'{p.name}-fits'))
+HEAD = {f'_{number}': value for number, value in enumerate(ENTERED, 1)}
+LOOP = Loop(SUBJECT, lambda facts, values: Walk(facts, SLICES, values), opened(),
+            HEAD | {COUNT: Value(WORD, 'i .0', 'fits i')},
             lambda walk: walk.note('the elements go back into their rows'), closed,
             tuple(f'{part}{s.number}' for s in SLICES for part in ('obs', 'bor', 'lft')))
 
@@ -111,7 +114,8 @@ def exits():
     had = []
     for s in SLICES:
         n, row = s.number, s.kind.row
-        had += [f'‵ (fobs γ{n} {tracked(s, f"(A{n} i)")})', f'‵ (fbor κ{n} (Held {row} (length (A{n} i)) b{n} o{n} γ{n}))',
+        had += [f'‵ (fobs γ{n} {tracked(s, f"(A{n} i)")})',
+                f'‵ (fbor κ{n} (Held {row} (length (A{n} i)) b{n} o{n} γ{n}))',
                 f'‵ (flft κ{n} q{n})']
     context = Context(LOOP.left)
     context.gather([f'lft{s.number}' for s in SLICES], 'tokens')
@@ -122,7 +126,8 @@ def exits():
     for s in reversed(SLICES):
         n, row = s.number, s.kind.row
         context.fjoin(f'obs{n}', f'bor{n}', f'slice{n}')
-        long = f'(ap (λ (m : ℕ). sliceVal (b{n}, o{n}) m ∷ []) (sym (long{n} i)), subst (Room {row}) (sym (long{n} i)) fits{n})'
+        long = (f'(ap (λ (m : ℕ). sliceVal (b{n}, o{n}) m ∷ []) (sym (long{n} i)), '
+                f'subst (Room {row}) (sym (long{n} i)) fits{n})')
         context.make([], ['at'], f'pureI ! (at-slice {row} (ref{n} γ{n} (A{n} i)) (s{n} ∷ [])) (tt, (tt, tt)) {long}')
         context.fjoin('at', f'slice{n}', f'slice{n}')
         context.fjoin(f'slice{n}', 'owned', 'owned')
@@ -156,7 +161,8 @@ def entry():
         n = s.number
         walk.fsplit(f'slice{n}', f'at{n}', f'slice{n}')
         walk.fsplit(f'slice{n}', f'obs{n}', f'bor{n}')
-        walk.make([f'obs{n}', f'bor{n}', f'lft{n}'], [f'row{n}', f'obor{n}', f'obs{n}', f'auth{n}'], f'opens-slice ! tt {s.kind.row} L{n} b{n} o{n}')
+        walk.make([f'obs{n}', f'bor{n}', f'lft{n}'], [f'row{n}', f'obor{n}', f'obs{n}', f'auth{n}'],
+                  f'opens-slice ! tt {s.kind.row} L{n} b{n} o{n}')
     walk.keep(LOOP.had)
     walk.note('the loop')
     walk.step(LOOP.entered(f'𝓣 {SUBJECT.addresses}'))
@@ -165,4 +171,5 @@ def entry():
 
 def proof():
     return file(SUBJECT, bodies(SUBJECT), parameters(SUBJECT), COUNTER, lists(), exits(), elements(SUBJECT), stored(),
-                LOOP.text(f'{SUBJECT.tables} ({SUBJECT.addresses} : ℕ)'), walked(SUBJECT, chain(entry(), 8), '    unfolding tab\n'))
+                LOOP.text(f'{SUBJECT.tables} ({SUBJECT.addresses} : ℕ)'),
+                walked(SUBJECT, chain(entry(), 8), '    unfolding tab\n'))

@@ -7,7 +7,8 @@ from text import chain, items
 from walk import Context, Value
 
 SLICE = CORNERS._replace(mutable=False)
-LESSER = Callee('numbers', 'lesser', (), (WORD, WORD), WORD, lambda _, values, __, answer: f'{answer} ≡ min {values[0]} {values[1]}')
+LESSER = Callee('numbers', 'lesser', (), (WORD, WORD), WORD,
+                lambda _, values, __, answer: f'{answer} ≡ min {values[0]} {values[1]}')
 EITHER = Callee('merge_slice', 'either_outside', (), (BOOL, CORNER), BOOL,
                 lambda _, values, __, answer: f'{answer} ≡ ({values[0]} || isOutside {values[1]})')
 SUBJECT = Subject(
@@ -71,7 +72,8 @@ def closed(walk):
 
 
 HEAD = to_loop().values | {OUTSIDE: Value(BOOL, 'outsideUpto L0 (i .0)'), COUNT: Value(WORD, 'i .0', 'fits i')}
-LOOP = Loop(SUBJECT, lambda facts, values: Caller(facts, (SLICE,), values, SUBJECT.callees), OPENED, HEAD, judged, closed, ('lft0', 'res0', 'shr0'))
+LOOP = Loop(SUBJECT, lambda facts, values: Caller(facts, (SLICE,), values, SUBJECT.callees), OPENED, HEAD, judged,
+            closed, ('lft0', 'res0', 'shr0'))
 
 
 def exits():
@@ -111,7 +113,8 @@ def entry():
     walk.note('the slice is looked into')
     walk.fsplit('slice0', 'at0', 'slice0')
     walk.fsplit('slice0', 'res0', 'shr0')
-    laws = f'(Is T.the-row) (shows 𝓤 H A T.the-row) ({CORNER.spelled}) ({CORNER.tells}) (LL.copy T.the-type T′.the-copy 𝓤 H A W)'
+    laws = (f'(Is T.the-row) (shows 𝓤 H A T.the-row) ({CORNER.spelled}) ({CORNER.tells}) '
+            '(LL.copy T.the-type T′.the-copy 𝓤 H A W)')
     walk.make(['shr0', 'lft0'], ['row0', 'obor0', 'shr0'], f'looks-slice ! tt T.the-row {laws} L0 b0 o0 (λ share.')
     walk.keep(LOOP.had)
     walk.note('the loop')
@@ -122,4 +125,5 @@ def entry():
 def proof():
     return file(SUBJECT, bodies(SUBJECT), parameters(SUBJECT), LISTS, COUNTER, CONTENTS, elements(SUBJECT), exits(),
                 '  -- ---- what the callees are handed\n', *map(handed, SUBJECT.callees),
-                LOOP.text(f'{SUBJECT.tables} (share : Share) ({SUBJECT.addresses} : ℕ)'), walked(SUBJECT, chain(entry(), 8)))
+                LOOP.text(f'{SUBJECT.tables} (share : Share) ({SUBJECT.addresses} : ℕ)'),
+                walked(SUBJECT, chain(entry(), 8)))

@@ -1,4 +1,5 @@
-"""The types that the walks meet, with what the logic calls what it knows of them; the fields of a corner; the parameters."""
+"""The types that the walks meet, with what the logic calls what it knows of them; the fields of a corner; the
+parameters."""
 import re
 from typing import NamedTuple, Optional
 
@@ -21,15 +22,22 @@ class Kind(NamedTuple):
     spells: str = '{fact}'  # that a machine value is the one that is written out, from their relation
 
 
-WORD = Kind('usize', 'ℕ', 'word', 8, 'vint w64 {}', 'uint-vals w64', 'uint-tells w64', 'uint-makes 𝓤 H A W w64', 'uint-lawful 𝓤 H A W w64',
+WORD = Kind('usize', 'ℕ', 'word', 8, 'vint w64 {}', 'uint-vals w64', 'uint-tells w64', 'uint-makes 𝓤 H A W w64',
+            'uint-lawful 𝓤 H A W w64',
             fits='{} < 2 ^ 64', typed='record {{ fits = {fact} }}', related='(refl, {fact})', spells='({fact} .0)')
-FLOAT = Kind('f32', 'Float', 'float', 4, 'vfloat binary32 {}', 'float-vals binary32', 'float-tells binary32', 'float-makes 𝓤 H A W binary32',
-             'float-lawful 𝓤 H A W binary32', 'nan', 'Ieee.fits binary32 {} ≡ true', 'passes _ {atom}', '(refl, {fact})', '({fact} .0)')
-WORD32 = Kind('u32', 'ℕ', 'word32', 4, 'vint w32 {}', 'uint-vals w32', 'uint-tells w32', 'uint-makes 𝓤 H A W w32', 'uint-lawful 𝓤 H A W w32', '0',
+FLOAT = Kind('f32', 'Float', 'float', 4, 'vfloat binary32 {}', 'float-vals binary32', 'float-tells binary32',
+             'float-makes 𝓤 H A W binary32',
+             'float-lawful 𝓤 H A W binary32', 'nan', 'Ieee.fits binary32 {} ≡ true', 'passes _ {atom}',
+             '(refl, {fact})', '({fact} .0)')
+WORD32 = Kind('u32', 'ℕ', 'word32', 4, 'vint w32 {}', 'uint-vals w32', 'uint-tells w32', 'uint-makes 𝓤 H A W w32',
+              'uint-lawful 𝓤 H A W w32', '0',
               '{} < 2 ^ 32', 'record {{ fits = {fact} }}', '(refl, {fact})', '({fact} .0)')
-BOOL = Kind('bool', 'Bool', 'tyBool', 1, 'vbool {}', 'bool-vals', 'bool-tells', 'bool-makes 𝓤 H A W', 'bool-lawful 𝓤 H A W', related='refl')
-UNIT = Kind('unit', 'Unit {0}', 'tyUnit', 0, '', 'nothing-vals', 'nothing-tells', 'nothing-makes 𝓤 H A W', 'nothing-lawful 𝓤 H A W')
-MERGED = Kind('S.the-row', 'Merged', 'merged', 0, '', '', '', 'EL.makes S.the-type S′.the-plain 𝓤 H A', 'EL.lawful S.the-type S′.the-laws 𝓤 H A W tt')
+BOOL = Kind('bool', 'Bool', 'tyBool', 1, 'vbool {}', 'bool-vals', 'bool-tells', 'bool-makes 𝓤 H A W',
+            'bool-lawful 𝓤 H A W', related='refl')
+UNIT = Kind('unit', 'Unit {0}', 'tyUnit', 0, '', 'nothing-vals', 'nothing-tells', 'nothing-makes 𝓤 H A W',
+            'nothing-lawful 𝓤 H A W')
+MERGED = Kind('S.the-row', 'Merged', 'merged', 0, '', '', '', 'EL.makes S.the-type S′.the-plain 𝓤 H A',
+              'EL.lawful S.the-type S′.the-laws 𝓤 H A W tt')
 POINTER = Kind('', '', 'tyPtr', 8, '', '', '', '', '')
 
 
@@ -47,14 +55,18 @@ FIELDS = (
     Field('strength', FLOAT, 'strengthOf', 'in-strengths'),
     Field('neighbours', WORD32, 'neighboursOf', 'in-neighbours'),
 )
-CORNER = Kind('T.the-row', 'Corner', 'corner', sum(field.kind.size for field in FIELDS), 'LL.val T.the-type T′.the-laws {}',
-              'LL.vals T.the-type T′.the-laws', 'LL.tells T.the-type T′.the-laws', 'LL.makes T.the-type T′.the-plain 𝓤 H A',
+CORNER = Kind('T.the-row', 'Corner', 'corner', sum(field.kind.size for field in FIELDS),
+              'LL.val T.the-type T′.the-laws {}',
+              'LL.vals T.the-type T′.the-laws', 'LL.tells T.the-type T′.the-laws',
+              'LL.makes T.the-type T′.the-plain 𝓤 H A',
               'LL.lawful T.the-type T′.the-laws 𝓤 H A W', 'nowhere')
 
 # ---- the types of locals, by their names in the listing
 
-KINDS = {'usize': WORD, 'f32': FLOAT, 'u32': WORD32, 'bool': BOOL, '()': UNIT, 'Corner': CORNER, 'Merged': MERGED, 'ptr': POINTER}
-DEFINED = {'word': 'tyInt w64', 'float': 'tyFloat binary32', 'word32': 'tyInt w32', 'corner': 'T′.mir', 'merged': 'S′.mir'}
+KINDS = {'usize': WORD, 'f32': FLOAT, 'u32': WORD32, 'bool': BOOL, '()': UNIT, 'Corner': CORNER, 'Merged': MERGED,
+         'ptr': POINTER}
+DEFINED = {'word': 'tyInt w64', 'float': 'tyFloat binary32', 'word32': 'tyInt w32', 'corner': 'T′.mir',
+           'merged': 'S′.mir'}
 
 
 def local_type(name):
@@ -73,7 +85,8 @@ def local_type(name):
 # ---- parameters
 
 class Slice(NamedTuple):
-    """A slice: of corners, or of a field of them. Slice J has the lifetime κJ and lies at (bJ, oJ), with the contents LJ at entry."""
+    """A slice: of corners, or of a field of them. Slice J has the lifetime κJ and lies at (bJ, oJ), with the contents
+    LJ at entry."""
     number: int
     kind: Kind
     field: Optional[Field] = None
@@ -90,7 +103,8 @@ class Slice(NamedTuple):
 
     def owned(self, at, lifetime, name, contents):
         """What the slice owns as a parameter number `at`, under a name and with some contents."""
-        return f'{self.type} (named {at}) {lifetime} {self.kind.row} .own (ref{self.number} {name} {contents}) (s{self.number} ∷ [])'
+        reference = f'(ref{self.number} {name} {contents})'
+        return f'{self.type} (named {at}) {lifetime} {self.kind.row} .own {reference} (s{self.number} ∷ [])'
 
 
 class Plain(NamedTuple):

@@ -1,7 +1,8 @@
-"""What the walks with a loop have in common: a counter `i` up to a bound `n`, the elements of the slices at the counter, and a turn.
+"""What the walks with a loop have in common: a counter `i` up to a bound `n`, the elements of the slices at the
+counter, and a turn.
 
-Of slice J such a proof says `nJ`, that it has n places, `AJ i`, its contents after i turns, `longJ`, that these stay as many, and, where it is
-changed, `turnJ`, that one turn is one place more.
+Of slice J such a proof says `nJ`, that it has n places, `AJ i`, its contents after i turns, `longJ`, that these stay as
+many, and, where it is changed, `turnJ`, that one turn is one place more.
 """
 from typing import Callable, NamedTuple
 
@@ -84,13 +85,14 @@ def elements(subject):
 
 
 class Loop(NamedTuple):
-    """A loop: the walk that goes through it, what is had of the slices in it, by names, and what the locals hold at its head."""
+    """A loop: the walk that goes through it, what is had of the slices in it, by names, and what the locals hold at its
+    head."""
     subject: Subject
     walk: Callable  # from what is had and what the locals hold
     opened: dict
     head: dict
-    turned: Callable  # what a turn does behind its statements
-    closed: Callable  # how the slices are closed behind the loop
+    turned: Callable  # what a turn does after its statements
+    closed: Callable  # how the slices are closed after the loop
     left: tuple  # what is had of them then
 
     @property
@@ -123,7 +125,7 @@ class Loop(NamedTuple):
         return walk.steps
 
     def over(self):
-        """The steps behind the loop."""
+        """The steps after the loop."""
         walk = self.tested()
         walk.steps = []
         walk.run(self.subject.code.after[0])
@@ -141,7 +143,7 @@ class Loop(NamedTuple):
         """Its part of the proof, over a section's parameters."""
         subject, code = self.subject, self.subject.code
         machines = {name: held(subject, int(name[1:]), atom(value.machine)) for name, value in self.head.items()}
-        behind = f'Mir.t-{len(code.before) + 2}'
+        onward = f'Mir.t-{len(code.before) + 2}'
         return f'''  module _ {section} where
 {environment(subject)}    -- what is had after i turns
     abbrev At : Upto → List (Item 𝓤)
@@ -151,7 +153,7 @@ class Loop(NamedTuple):
     abbrev Turned : Upto → Out → SProp 𝓤
     Turned i =
         afterTurn 𝓤 H (Below 𝓤 H A Nearer At i)
-        (afterBlock 𝓤 H (afterSeq 𝓤 H (Wp 𝓤 H (𝓣 .C) (𝓣 .Λ) En {behind} (atReturn 𝓤 H En Post)) (atReturn 𝓤 H En Post)))
+        (afterBlock 𝓤 H (afterSeq 𝓤 H (Wp 𝓤 H (𝓣 .C) (𝓣 .Λ) En {onward} (atReturn 𝓤 H En Post)) (atReturn 𝓤 H En Post)))
 
     turns : (i : Upto) → Sq W (At i) (runs (𝓣 .C) (𝓣 .Λ) En Mir.turn-1 (anyQ (Turned i)))
     unfolding afterTurn
@@ -159,7 +161,7 @@ class Loop(NamedTuple):
         {chain(self.tested().steps, 8)}
         (λ less. skips ! $ exec ! (𝓣 .C) (𝓣 .Λ) En more (anyQ (Turned i)) $
         {chain(self.turn(), 8)})
-        (λ over. jumps ! $ exec ! (𝓣 .C) (𝓣 .Λ) En {behind} (atRet En Post) $
+        (λ over. jumps ! $ exec ! (𝓣 .C) (𝓣 .Λ) En {onward} (atRet En Post) $
         {chain(self.over(), 8)})
 
 '''

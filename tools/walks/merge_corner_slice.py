@@ -1,4 +1,5 @@
-"""The walk of `merge_corner_slice`, which is calls alone: judged, exchanged, merged and exchanged again. It is cut into parts behind each call."""
+"""The walk of `merge_corner_slice`, which is calls alone: judged, exchanged, merged and exchanged again. It is cut into
+parts after each call."""
 import re
 
 from calls import Callee, Caller, handed
@@ -28,7 +29,8 @@ def exchanges(before, values, after, _):
 
 def merges(before, values, after, answer):
     places, count, radius = values
-    return f'Merges {radius} (min {places} (placesOf ({buffer(before)}))) {count} ({buffer(before)}) {answer} ({buffer(after)})'
+    most = f'(min {places} (placesOf ({buffer(before)})))'
+    return f'Merges {radius} {most} {count} ({buffer(before)}) {answer} ({buffer(after)})'
 
 
 def places(lists, values):
@@ -43,11 +45,13 @@ def has_places(walk):
 CALLEES = (
     Callee('merge_slice', 'has_outside', (CORNERS._replace(mutable=False),), (WORD,), BOOL,
            lambda lists, values, _, answer: f'{answer} ≡ any isOutside (take {values[0]} {lists[0]})'),
-    Callee('merge_slice', 'shared_places', (), (WORD,) * (1 + len(SLICES)), WORD, lambda _, values, __, answer: f'{answer} ≡ {least(values)}'),
+    Callee('merge_slice', 'shared_places', (), (WORD,) * (1 + len(SLICES)), WORD,
+           lambda _, values, __, answer: f'{answer} ≡ {least(values)}'),
     Callee('merge_slice', 'exchange', SLICES, (WORD,), UNIT, exchanges, places, has_places),
     Callee('merge', 'merge_within', BUFFER, (WORD, WORD, FLOAT), MERGED, merges),
     Callee('merge_slice', 'judged', (), (BOOL, FLOAT, MERGED), MERGED,
-           lambda _, values, __, answer: f'{answer} ≡ cond (not (isOff {values[1]}) && {values[0]}) (Refused 4) {values[2]}'),
+           lambda _, values, __, answer: (f'{answer} ≡ cond (not (isOff {values[1]}) && {values[0]}) '
+                                          f'(Refused 4) {values[2]}')),
 )
 SUBJECT = Subject(
     'merge_corner_slice',
@@ -98,7 +102,8 @@ def fitting():
 def owned():
     """What is had of the slices, at the lists: their tokens, and what they own."""
     tokens = {f'lft{n}': f'‵ (flft κ{n} q{n})' for n in NUMBERS}
-    return tokens | {f'slice{s.number}': f'‵ ({s.owned(s.number, f"κ{s.number}", f"γ{s.number}", f"k{s.number}")})' for s in SLICES}
+    return tokens | {f'slice{s.number}': f'‵ ({s.owned(s.number, f"κ{s.number}", f"γ{s.number}", f"k{s.number}")})'
+                     for s in SLICES}
 
 
 def exits():
@@ -108,7 +113,8 @@ def exits():
     context.frame('tokens')
     context.make([], ['owned'], 'nothing !')
     for plain in reversed(SUBJECT.plain):
-        context.make([], ['value'], f'owned ! {plain.kind.row} (Is {plain.kind.row}) ({plain.kind.makes}) {plain.name} _ (refl, {plain.name}-fits)')
+        row = f'{plain.kind.row} (Is {plain.kind.row}) ({plain.kind.makes})'
+        context.make([], ['value'], f'owned ! {row} {plain.name} _ (refl, {plain.name}-fits)')
         context.fjoin('value', 'owned', 'owned')
     for n in reversed(NUMBERS):
         context.fjoin(f'slice{n}', 'owned', 'owned')
@@ -164,7 +170,8 @@ class Part:
 
     def text(self, varying):
         """It as a lemma; `varying` are the locals whose memory differs from part to part."""
-        memory = [f'({held(SUBJECT, int(name[1:]), atom(self.held[name]) if name in self.held else None)})' for name in varying]
+        memory = [f'({held(SUBJECT, int(name[1:]), atom(self.held[name]) if name in self.held else None)})'
+                  for name in varying]
         binders = spaced(f'({name} : {type})' for name, type in self.bound.items())
         return f'''    from-{self.place} : {binders}
         → Sq W (At {spaced(self.lists + memory)}) (runs (𝓣 .C) (𝓣 .Λ) En Mir.t-{self.place} (atRet En Post))
@@ -175,7 +182,8 @@ class Part:
 
 
 def parts(walk):
-    """The parts of the walk from the entry on. Each ends behind a call; there the locals that are not read any more are forgotten."""
+    """The parts of the walk from the entry on. Each ends after a call; there the locals that are not read any more are
+    forgotten."""
     found = [Part(1, walk)]
     for place, statement in enumerate(STATEMENTS, 1):
         walk.run(statement)
@@ -187,7 +195,8 @@ def parts(walk):
             found.append(Part(place + 1, walk))
     walk.give_back()
     walk.keep([*owned(), 'answer6'])
-    walk.step(f'by ! (exits r6 w6 {spaced(walk.lists[n] for n in NUMBERS)} ({MERGED_BY_CALLS}) {spaced(walk.lengths[n] for n in NUMBERS)})')
+    lists, lengths = (spaced(facts[n] for n in NUMBERS) for facts in (walk.lists, walk.lengths))
+    walk.step(f'by ! (exits r6 w6 {lists} ({MERGED_BY_CALLS}) {lengths})')
     found[-1].steps = walk.steps
     return found
 
@@ -198,11 +207,11 @@ def walk():
     begin(start, SUBJECT)
     passed = {name: held(SUBJECT, int(name[1:]), atom(value.machine)) for name, value in start.values.items()}
     first, second, *others = parts(start)
-    behind = [second, *others]
-    for part, onward in reversed(list(zip(behind, others))):
+    later = [second, *others]
+    for part, onward in reversed(list(zip(later, others))):
         part.steps.append(f'from-{onward.place} {spaced(onward.bound)}')
     first.steps.append(f'from-{second.place} {SUBJECT.given} {SUBJECT.addresses} {spaced(second.bound)}')
-    varying = sorted({name for part in behind for name in part.held}, key=lambda name: int(name[1:]))
+    varying = sorted({name for part in later for name in part.held}, key=lambda name: int(name[1:]))
     names = [f'm{name[1:]}' for name in varying]
     had = [*owned().values(), *all_held(SUBJECT, passed | dict(zip(varying, names)))]
     return f'''  module _ {SUBJECT.tables} ({SUBJECT.addresses} : ℕ) where
@@ -211,9 +220,10 @@ def walk():
     At {spaced(LISTS + names)} =
         {items(had, 8)}
 
-{''.join(part.text(varying) for part in reversed(behind))}{walked(SUBJECT, chain(first.steps, 8))}'''
+{''.join(part.text(varying) for part in reversed(later))}{walked(SUBJECT, chain(first.steps, 8))}'''
 
 
 def proof():
-    return file(SUBJECT, EXCHANGES, parameters(SUBJECT), borrowing(), fitting(), '  -- ---- what the callees are handed\n',
+    return file(SUBJECT, EXCHANGES, parameters(SUBJECT), borrowing(), fitting(),
+                '  -- ---- what the callees are handed\n',
                 *map(handed, CALLEES), exits(), walk())

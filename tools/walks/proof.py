@@ -1,4 +1,5 @@
-"""What the proofs of the walks have in common: their head and imports, what they say of the parameters and the locals, and their end."""
+"""What the proofs of the walks have in common: their head and imports, what they say of the parameters and the locals,
+and their end."""
 from typing import NamedTuple
 
 from calls import cited, contracts, modules
@@ -89,13 +90,15 @@ Rattle.merge_slice.proofs.Slice.{slice-merged}
 Rattle.merge_slice.proofs.Again.{BorrowedAgain, borrows-again, comes-back, SharedAgain, shares-again, comes-unchanged}
 '''
 
-GIVEN = '{M : Type 1} (𝓤 : URA M) (H : Heap 𝓤) (A : Atoms 𝓤) (W : Given 𝓤 H A) (mem : Memory → SProp 𝓤) (run : Routine → Fun 𝓤)'
+GIVEN = ('{M : Type 1} (𝓤 : URA M) (H : Heap 𝓤) (A : Atoms 𝓤) (W : Given 𝓤 H A) (mem : Memory → SProp 𝓤) '
+         '(run : Routine → Fun 𝓤)')
 CLAUSES = '(f.clauses 𝓤 H A mem run)'
 RUN = '(WpFn 𝓤 H (𝓣 .C) (𝓣 .Λ) code.function)'
 
 
 class Subject(NamedTuple):
-    """A function that is walked: its parameters, the slices first, the functions that it calls, and what it asks of the arguments `a`."""
+    """A function that is walked: its parameters, the slices first, the functions that it calls, and what it asks of the
+    arguments `a`."""
     name: str
     about: str
     slices: tuple
@@ -150,7 +153,8 @@ class Subject(NamedTuple):
 def file(subject, *sections):
     """A proof of some sections."""
     path = f'Rattle.merge_slice.proofs.{subject.name}'
-    own = f'{path}.Key.{{name as {subject.key}}}\n{path} as f\n{path}.Statement as stated\n{path}.Code as code\n{path}.Code.Mir as Mir\n'
+    own = (f'{path}.Key.{{name as {subject.key}}}\n{path} as f\n{path}.Statement as stated\n'
+           f'{path}.Code as code\n{path}.Code.Mir as Mir\n')
     body = folded(stayed(subject) + types(subject) + contracts(subject.callees) + ''.join(sections) + end(subject))
     head = f'-- Written by tools/walks/{subject.name}.py, and not edited by hand.\n{subject.about}'
     return f'{head}{imports(NAMES + modules(subject.callees) + own, body)}\n\n{body}'
@@ -171,12 +175,15 @@ stayed = {nested(slots, 0)}
 
 def parameters(subject):
     """The section of a walk over the parameters, and what stands for them."""
-    names = [f'({spaced(letter + str(slice.number) for slice in subject.slices)} : {type})' for letter, type in (('κ', 'Lft'), ('q', 'Share'))]
+    names = [f'({spaced(letter + str(slice.number) for slice in subject.slices)} : {type})'
+             for letter, type in (('κ', 'Lft'), ('q', 'Share'))]
     lines = [spaced(names)]
     for s in subject.slices:
         n, kind = s.number, s.kind
-        lines.append(f'(b{n} o{n} : ℕ) (γ{n} : GName) (L{n} : List {kind.values}) (fits{n} : Room {kind.row} (length L{n}))')
-    values = [f'({plain.name} : {plain.kind.values}) ({plain.name}-fits : {plain.kind.fits.format(plain.name)})' for plain in subject.plain]
+        lines.append(f'(b{n} o{n} : ℕ) (γ{n} : GName) (L{n} : List {kind.values}) '
+                     f'(fits{n} : Room {kind.row} (length L{n}))')
+    values = [f'({plain.name} : {plain.kind.values}) ({plain.name}-fits : {plain.kind.fits.format(plain.name)})'
+              for plain in subject.plain]
     lines.append(spaced(values + [f'({name} : {fact})' for name, fact in subject.asks]))
     machines = subject.each(lambda s: f's{s.number}', lambda p: p.kind.machine.format(p.name))
     slices = ''.join(f'''  abbrev ref{s.number} : GName → List {s.kind.values} → RefT (List {s.kind.values})
@@ -217,7 +224,8 @@ def locals_of(subject):
     named = [local_type(name) for name in subject.code.locals]
     for number, s in enumerate(subject.slices, 1):
         way = 'mut' if s.mutable else 'imm'
-        named[number] = f'slice{s.number}', f'sliceTy (tyRef (named {s.number}) {way} (pointee ({s.kind.row} .written)))'
+        pointer = f'tyRef (named {s.number}) {way} (pointee ({s.kind.row} .written))'
+        named[number] = f'slice{s.number}', f'sliceTy ({pointer})'
     return [name for name, _ in named], {name: type for name, type in named if type}
 
 
@@ -254,7 +262,8 @@ def all_held(subject, machines):
 # ---- the walk, from the entry to the statement
 
 def begin(walk, subject):
-    """The steps to the first statement: the locals have their memory and the parameters their values, and what the slices own is had."""
+    """The steps to the first statement: the locals have their memory and the parameters their values, and what the
+    slices own is had."""
     walk.step('enter ! (𝓣 .C) (𝓣 .Λ) code.function machs _')
     for number in range(len(subject.code.locals)):
         walk.step(f'alloc1 ! (λ l{number}.')
@@ -278,7 +287,8 @@ def at_entry(subject):
 def walked(subject, chained, unfolding=''):
     """The walk by its steps."""
     tokens = ''.join(f'‵ (flft κ{s.number} q{s.number}) ⊛ ' for s in subject.slices)
-    owned = listed(subject.each(lambda s: f'{s.type} (named {s.number}) κ{s.number} {s.kind.row}', lambda p: p.kind.row))
+    owned = listed(subject.each(lambda s: f'{s.type} (named {s.number}) κ{s.number} {s.kind.row}',
+                                lambda p: p.kind.row))
     return f'''  module _ {subject.tables} where
     walk : ent 𝓤 (onEntry 𝓤 H A f.signature {subject.lifetimes} {subject.shares} args vals) (WpFn 𝓤 H (𝓣 .C) (𝓣 .Λ) code.function machs Post)
 {unfolding}    walk =
@@ -294,15 +304,18 @@ def end(subject):
     slices, count = subject.slices, len(subject.slices)
     path = [' .1' * place for place in range(len(slices + subject.plain))]
     vals = subject.each(lambda s: 'slice-vals', lambda p: p.kind.spelled)
-    tells = subject.each(lambda s: f'{"mut" if s.mutable else "shr"}-slice-tells (named {s.number}) (κs{path[s.number]} .0) {s.kind.row}',
+    tells = subject.each(lambda s: (f'{"mut" if s.mutable else "shr"}-slice-tells (named {s.number}) '
+                                    f'(κs{path[s.number]} .0) {s.kind.row}'),
                          lambda p: p.kind.tells)
-    goes = subject.each(lambda s: f'goes-slice 𝓤 H A W {count} {s.number} tt (plain (λ _. {s.kind.row}))' if s.mutable else
+    goes = subject.each(lambda s: f'goes-slice 𝓤 H A W {count} {s.number} tt (plain (λ _. {s.kind.row}))'
+                        if s.mutable else
                         f'goes-none-slice 𝓤 H A W {count} ({s.number} ∷ []) tt (plain (λ _. {s.kind.row})) yes',
                         lambda p: f'goes-none 𝓤 H A W {count} (λ _. {p.kind.row}) yes (λ κs x f. refl)')
     given = ['walk 𝓤 H A W mem run'] + [f'({name}{path[s.number]} .0)' for name in ('κs', 'qs') for s in slices]
     for place, part in enumerate(slices + subject.plain):
         at, are = f'a{path[place]} .0', f'are{path[place]} .0'
-        given.append(f'({at} .ptr .0) ({at} .ptr .1) ({at} .name) ({at} .now) ({are} .0 .1)' if isinstance(part, Slice) else f'({at}) ({are} .1)')
+        given.append(f'({at} .ptr .0) ({at} .ptr .1) ({at} .name) ({at} .now) ({are} .0 .1)' if isinstance(part, Slice)
+                     else f'({at}) ({are} .1)')
     given += [f'(asked .{place})' for place in range(len(subject.asks))] + [subject.given]
     start = f'needs 𝓤 ({subject.asked}) _ (λ asked.' if subject.asks else 'via 𝓤 _ (fst∗ 𝓤 _ (emp 𝓤)) ('
     return f'''module _ {GIVEN} where

@@ -15,7 +15,8 @@ LISTING = pathlib.Path(__file__).parent / 'merge_slice.mir'
 
 
 class Function(NamedTuple):
-    """The types of a function's locals, and its statements: before its loop, in a turn, and after; without a loop all are before."""
+    """The types of a function's locals, and its statements: before its loop, in a turn, and after; without a loop all
+    are before."""
     locals: list
     before: list
     turn: list

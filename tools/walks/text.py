@@ -1,5 +1,11 @@
-"""The layout of antt text: pairs, lists and chains of steps, in lines that `rt fmt` leaves as they are; and the imports of a text."""
+"""The layout of antt text: pairs, lists and chains of steps, in lines that `rt fmt` leaves as they are; and the imports
+of a text."""
+import pathlib
 import re
+import sys
+
+sys.path.append(str(pathlib.Path(__file__).resolve().parents[1] / 'antt'))
+from breaking import broken, closing, has_parts, spaces
 
 WIDTH = 160
 
@@ -50,46 +56,20 @@ def atom(term):
 
 # ---- lines
 
-def closing(text, start):
-    """Where the bracket at a place closes."""
-    depth = 0
-    for place in range(start, len(text)):
-        depth += (text[place] in '([{') - (text[place] in ')]}')
-        if depth == 0:
-            return place
-    return len(text)
-
-
-def is_tuple(text, start):
-    """Whether the bracket at a place holds a pair or a record, which `rt fmt` lays out anew where it is broken."""
-    depth = 0
-    for letter in text[start:closing(text, start)]:
-        depth += (letter in '([{') - (letter in ')]}')
-        if letter == ',' and depth == 1:
-            return True
-    return text[start] == '{'
-
-
-def breaks(line):
-    """The spaces where a line may be broken: how well, and where. The farther out the better, and best before an arrow."""
-    open_brackets = []
-    for place, letter in enumerate(line):
-        if letter in '([{':
-            open_brackets.append(is_tuple(line, place))
-        elif letter in ')]}' and open_brackets:
-            open_brackets.pop()
-        elif letter == ' ' and not any(open_brackets) and line[place - 1] not in '→:' and not re.match(r'\$|where$', line[place + 1:]):
-            yield -len(open_brackets), line[place + 1] == '→', place
+def is_kept(line, start):
+    """Whether the bracket at a place is not broken: `rt fmt` gives each part of a pair or a record a line."""
+    return line[start] == '{' or has_parts(line, start)
 
 
 def wrapped(line, width, indent=''):
-    """A line in lines of a width, broken as late as it goes."""
-    lines = []
-    while len(line) > width:
-        *_, place = max(way for way in breaks(line) if width // 3 < way[2] <= width)
-        lines.append(line[:place])
-        line = indent + line[place + 1:]
-    return lines + [line]
+    """A line in lines of a width, broken as late as possible: the farther out the better, and best before an arrow."""
+    def chosen(line):
+        ways = [(-len(brackets), line[place + 1] == '→', place) for place, _, brackets in spaces(line, is_kept)
+                if width // 3 < place <= width and not any(brackets)
+                and line[place - 1] not in '→:' and not re.match(r'\$|where$', line[place + 1:])]
+        return [max(ways)[2]]
+
+    return broken(line, width, chosen, indent)
 
 
 def folded(text):
@@ -121,7 +101,7 @@ def filled(pieces, indent):
 
 
 def chain(steps, indent):
-    """The steps of a proof. A step that ends in a full stop binds a variable, and its bracket closes behind the last."""
+    """The steps of a proof. A step that ends in a full stop binds a variable, and its bracket closes after the last."""
     pieces = [step if step.startswith('-- ') or step.endswith('.') else step + ' $' for step in steps[:-1]]
     return filled(pieces + [steps[-1] + ')' * sum(step.endswith('.') for step in steps)], indent)
 

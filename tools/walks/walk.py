@@ -1,7 +1,7 @@
 """A walk along statements: what is had at each of them, and the step of the program logic that takes it.
 
-The logic finds what is had by its place in a list, the context, and every step changes the list. A `Context` keeps it by names: `_N` is the
-memory of local N and `dN` what frees it, `rowJ` has the elements of slice J, and so on.
+The logic finds what is had by its place in a list, the context, and every step changes the list. A `Context` keeps it
+by names: `_N` is the memory of local N and `dN` what frees it, `rowJ` has the elements of slice J, and so on.
 """
 from dataclasses import dataclass, replace
 from typing import Optional
@@ -93,7 +93,9 @@ class Value:
 
     @property
     def typed(self):
-        return nest(part.typed for part in self.parts) if self.parts else self.kind.typed.format(fact=self.fact, atom=atom(self.fact))
+        if self.parts:
+            return nest(part.typed for part in self.parts)
+        return self.kind.typed.format(fact=self.fact, atom=atom(self.fact))
 
     @property
     def shown(self):
@@ -115,7 +117,8 @@ def memory(code):
 class Walk(Context):
     """A context with the locals of a function, of which `values` says what they hold, and the steps of its statements.
 
-    In a turn of a loop the counter is `i`, and `less` says that it is less than its bound; of slice J the contents are then `AJ i`.
+    In a turn of a loop the counter is `i`, and `less` says that it is less than its bound; of slice J the contents are
+    then `AJ i`.
     """
 
     def __init__(self, facts, slices, values):
@@ -142,11 +145,13 @@ class Walk(Context):
             slice = self.values[operand[1:]].slice
             self.take_out(slice)
             look = 'look-raw' if slice.kind is CORNER else 'look'
-            return f'(load ! (from ! {self.through(operand[1:])}) ({look} ! {self.place(f"cell{slice.number}")} refl))', self.cells[slice.number]
+            cell = self.place(f'cell{slice.number}')
+            rule = f'(load ! (from ! {self.through(operand[1:])}) ({look} ! {cell} refl))'
+            return rule, self.cells[slice.number]
         if operand[0] == '_' and '.' in operand:
             name, part = operand.split('.')
-            rule = f'(load ! (from ! (fld ! refl (stop !))) (look-in ! {self.place(name)} (sub ! {part} refl (whole !))))'
-            return rule, self.values[name].parts[int(part)]
+            found = f'(look-in ! {self.place(name)} (sub ! {part} refl (whole !)))'
+            return f'(load ! (from ! (fld ! refl (stop !))) {found})', self.values[name].parts[int(part)]
         if operand[0] == '_':
             return f'(load ! (from ! (stop !)) (look ! {self.place(operand)} refl))', self.values[operand]
         if operand.isdigit():
@@ -167,7 +172,8 @@ class Walk(Context):
         if source[0] == '&':
             name = source[2:-2]
             place = f'(look-in ! {self.place(name)} (sub ! 0 refl (whole !)))'
-            return f'(addr ! (from ! (fld ! refl (hop ! {place} (stop !)))))', Value(POINTER, slice=self.values[name].slice)
+            return f'(addr ! (from ! (fld ! refl (hop ! {place} (stop !)))))', Value(POINTER,
+                                                                                     slice=self.values[name].slice)
         if not operands:
             rule, value = self.read(source)
             return f'(of-opd ! {rule})', value
@@ -201,7 +207,8 @@ class Walk(Context):
             self.cells[slice.number] = value
             self.changed.add(slice.number)
             store = 'store-raw' if slice.kind is CORNER else 'store'
-            return f'(from ! {self.through(target[1:])}) ({store} ! {self.place(f"cell{slice.number}")} refl {value.shown})'
+            through, cell = self.through(target[1:]), self.place(f'cell{slice.number}')
+            return f'(from ! {through}) ({store} ! {cell} refl {value.shown})'
         write = 'store' if target in self.values else 'init'
         self.values[target] = value
         return f'(from ! (stop !)) ({write} ! {self.place(target)} refl {value.shown})'
@@ -244,9 +251,11 @@ class Walk(Context):
             return
         laws = f'(Is {kind.row}) (shows 𝓤 H A {kind.row}) ({kind.spelled}) ({kind.tells})'
         element = f'{slice.share} (A{number} i) (i .0) {kind.beyond} b{number} o{number} (in{number} i less)'
-        self.make([f'row{number}'], [f'cell{number}', f'owned{number}', f'others{number}'], f'elem-out ! {kind.row} {laws} {element} (λ {fact}.')
+        self.make([f'row{number}'], [f'cell{number}', f'owned{number}', f'others{number}'],
+                  f'elem-out ! {kind.row} {laws} {element} (λ {fact}.')
         if kind is CORNER:
-            parts = tuple(Value(field.kind, f'{field.get} (old-c i)', f'c-fits{k} i {fact}') for k, field in enumerate(FIELDS))
+            parts = tuple(Value(field.kind, f'{field.get} (old-c i)', f'c-fits{k} i {fact}') for k,
+                          field in enumerate(FIELDS))
             self.cells[number] = Value(CORNER, 'old-c i', fact, parts=parts)
         else:
             self.cells[number] = Value(kind, f'getD (A{number} i) (i .0) {kind.beyond}', f'{fact} .1')

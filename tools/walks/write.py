@@ -1,4 +1,4 @@
-"""Writes the proofs of the walked functions of merge_slice, or sees whether they are what would be written.
+"""Writes the proofs of the walked functions of merge_slice, or checks whether they are what would be written.
 
     python3 tools/walks/write.py            writes crates/merge_slice/proofs/NAME/Proof.antt for each
     python3 tools/walks/write.py --compare  names those that differ, with exit status 1

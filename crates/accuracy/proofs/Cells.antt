@@ -45,7 +45,8 @@ module _ (img : List ℕ) (w : ℕ) (t : Ring) (x y : ℕ) (bytes : Bytes img) w
   sample-lt k = getD-tab-any (λ (v : ℕ). v < 256) 0 (lit< tt) _ (λ i. bytes _) 16 k
 
   cross-le : crossOf img w x y ≤ 1275
-  cross-le = omega (arith, bytes (y * w + x), bytes ((y - 1) * w + x), bytes ((y + 1) * w + x), bytes (y * w + (x + 1)), bytes (y * w + (x - 1)))
+  cross-le =
+      omega (arith, bytes (y * w + x), bytes ((y - 1) * w + x), bytes ((y + 1) * w + x), bytes (y * w + (x + 1)), bytes (y * w + (x - 1)))
 
   in-range : InRange (srOf (samples img w t x y)) (drOf (samples img w t x y)) (ringSumOf (samples img w t x y)) (crossOf img w x y)
   in-range =
@@ -71,7 +72,8 @@ pub map-accurate : (v : View) → Bytes (v .img) → (i j : ℕ) (d : Float) →
 map-accurate v bytes i j d p q = rw (cells-at v i j d p q) (cell-accurate (v .img) (v .w) (v .h) (v .ring) _ _ bytes)
 
 -- in the buffer e that `chess_response_u8_patch` leaves
-pub patch-accurate : (v : View) (radius : ℕ) (d e : List Float) (r : Patch) (pw ph : ℕ) → Patched v radius d r e → r ≡ Cells pw ph → Bytes (v .img)
+pub patch-accurate : (v : View) (radius : ℕ) (d e : List Float) (r : Patch) (pw ph : ℕ) → Patched v radius d r e → r ≡ Cells pw ph
+    → Bytes (v .img)
     → (i j : ℕ) (z : Float) → i < pw → j < ph → Accurate (getD e (j * pw + i) z) (fifthsIn v i j)
 patch-accurate v radius d e r pw ph p c bytes i j z a b =
     rw (cell-at v d e pw ph (filled v radius d e r p pw ph c) i j z a b) (cell-accurate (v .img) (v .w) (v .h) (v .ring) _ _ bytes)

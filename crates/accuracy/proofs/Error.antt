@@ -1,5 +1,6 @@
--- The computed response against the exact one. Two tracks through the same operations: with errors, over the common denominator 655360 = 5 * 2 ^ 17, in which
--- half a unit in the last place of the means is 5; and exactly, over 16, where the cross sum is a multiple of 5. Assumes nothing.
+-- The computed response against the exact one. Two tracks through the same operations: with errors, over the common denominator 655360 = 5
+-- * 2 ^ 17, in which half a unit in the last place of the means is 5; and exactly, over 16, where the cross sum is a multiple of 5. Assumes
+-- nothing.
 use mathlib.Core.Path.{_≡_, refl, sym, ap, subst}
 use mathlib.Core.Logic.{⊎-elim}
 use Prim.Native.Nat.{ℕ, _+_, _-_, _*_, _≤_, _<_}
@@ -46,11 +47,14 @@ meanTerm ring cross = mul binary32 sixteen (abs (difference ring cross))
 
 module _ (ring cross : ℕ) (Rs : ring ≤ 4080) (Cs : cross ≤ 1275) where
   ring-exact : IsValue (ringMean ring) ring 0 16
-  ring-exact = div-exact binary32 (floatOf ring) sixteen 16 (ring * 1) 0 1 ring 0 4 (lit< tt) (lit< tt) is-sixteen (int ring 1 Rs) (omega arith) (omega arith)
+  ring-exact =
+      div-exact binary32 (floatOf ring) sixteen 16 (ring * 1) 0 1 ring 0 4 (lit< tt) (lit< tt) is-sixteen (int ring 1 Rs)
+      (omega arith) (omega arith)
 
   ring-near : Within (ringMean ring) (40960 * ring) 0 655360 0
   ring-near =
-      restate (ringMean ring) ring 0 16 0 (40960 * ring) 0 655360 0 (lit< tt) (omega arith) (omega arith) (value-within (ringMean ring) ring 0 16 ring-exact)
+      restate (ringMean ring) ring 0 16 0 (40960 * ring) 0 655360 0 (lit< tt) (omega arith) (omega arith)
+      (value-within (ringMean ring) ring 0 16 ring-exact)
 
   cross-near : Within (crossMean cross) (cross * 131072) 0 655360 5
   cross-near =
@@ -59,10 +63,12 @@ module _ (ring cross : ℕ) (Rs : ring ≤ 4080) (Cs : cross ≤ 1275) where
 
   term-near : Within (meanTerm ring cross) (131072 * dist (5 * ring) (16 * cross)) 0 655360 240
   term-near =
-      let d = sub-within binary32 (ringMean ring) (crossMean cross) (40960 * ring) 0 (cross * 131072) 0 655360 0 5 8 5 ring-near cross-near (omega arith) in
+      let d = sub-within binary32 (ringMean ring) (crossMean cross) (40960 * ring) 0
+      (cross * 131072) 0 655360 0 5 8 5 ring-near cross-near (omega arith) in
       let a = abs-within (difference ring cross) (40960 * ring + 0) (0 + cross * 131072) 655360 10 d in
       let D = dist (40960 * ring + 0) (0 + cross * 131072) in
-      let m = mul-within binary32 sixteen (abs (difference ring cross)) 16 0 D 0 655360 10 12 80 (of-HasValue sixteen false 16 1 is-sixteen) a (omega arith) in
+      let m = mul-within binary32 sixteen (abs (difference ring cross)) 16 0 D 0 655360 10 12 80
+      (of-HasValue sixteen false 16 1 is-sixteen) a (omega arith) in
       restate (meanTerm ring cross) (16 * D + 0 * 0) (16 * 0 + 0 * D) 655360 240 (131072 * dist (5 * ring) (16 * cross)) 0 655360 240
       (lit< tt) (omega arith) (omega arith) m
 
@@ -120,7 +126,8 @@ module _ (sr dr ring cross : ℕ) (i : InRange sr dr ring cross) where
       restate (sub binary32 (sums sr dr) (meanTerm ring cross)) (655360 * sr + 0) (655360 * dr + B) 655360 400 (1024 * credit sr)
       (1024 * debit dr ring cross) 5120 5 (lit< tt) (omega arith) (omega arith) x
 
-  response-exact : (k a b : ℕ) → cross ≡ 5 * k → credit sr + 5 * b ≡ debit dr ring cross + 5 * a → IsValue (responseOf sr dr ring cross) a b 1
+  response-exact : (k a b : ℕ) → cross ≡ 5 * k → credit sr + 5 * b ≡ debit dr ring cross + 5 * a
+      → IsValue (responseOf sr dr ring cross) a b 1
   unfolding responseOf
   response-exact k a b K e =
       let D = dist (ring + 0) (0 + 16 * k) in

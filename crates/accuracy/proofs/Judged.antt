@@ -34,7 +34,8 @@ in-fifths sr dr ring cross i =
     (sub-parts (credit sr) (debit dr ring cross)) (computed sr dr ring cross i)
 
 -- ---- x, near (P - N) fifths, against a whole number k, which it is exactly where P - N is 5 k
-module _ (t x : Float) (k P N : ℕ) (w : IsWhole t k) (near : Within x (1024 * P) (1024 * N) 5120 5) (level : P ≡ 5 * k + N → IsValue x k 0 1) where
+module _ (t x : Float) (k P N : ℕ) (w : IsWhole t k) (near : Within x (1024 * P) (1024 * N) 5120 5)
+    (level : P ≡ 5 * k + N → IsValue x k 0 1) where
   threshold : Within t (5120 * k) 0 5120 0
   threshold = restate t k 0 1 0 (5120 * k) 0 5120 0 (lit< tt) (omega arith) (omega arith) (value-within t k 0 1 w)
 
@@ -45,13 +46,15 @@ module _ (t x : Float) (k P N : ℕ) (w : IsWhole t k) (near : Within x (1024 * 
   below h = lt-within x t (1024 * P) (1024 * N) (5120 * k) 0 5120 5 0 (lit< tt) near threshold (omega arith)
 
   above-only : T (lt t x) → 5 * k + N < P
-  above-only l = lt-of-not-le (λ (h : P ≤ 5 * k + N). ⊎-elim equal (λ m. lt-asym t x (w .is-finite) (near .is-finite) l (below m)) (eq-or-lt-of-le h))
+  above-only l =
+      lt-of-not-le (λ (h : P ≤ 5 * k + N). ⊎-elim equal (λ m. lt-asym t x (w .is-finite) (near .is-finite) l (below m)) (eq-or-lt-of-le h))
     where
       equal : P ≡ 5 * k + N → ⊥
       equal e = let m = lt-value t x k 0 k 0 1 (lit< tt) w (level e) .0 l in omega arith
 
   below-only : T (lt x t) → P < 5 * k + N
-  below-only l = lt-of-not-le (λ (h : 5 * k + N ≤ P). ⊎-elim equal (λ m. lt-asym x t (near .is-finite) (w .is-finite) l (above m)) (eq-or-lt-of-le h))
+  below-only l =
+      lt-of-not-le (λ (h : 5 * k + N ≤ P). ⊎-elim equal (λ m. lt-asym x t (near .is-finite) (w .is-finite) l (above m)) (eq-or-lt-of-le h))
     where
       equal : 5 * k + N ≡ P → ⊥
       equal e = let m = lt-value x t k 0 k 0 1 (lit< tt) (level (sym e)) w .0 l in omega arith

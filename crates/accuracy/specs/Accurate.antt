@@ -1,4 +1,4 @@
--- What is promised of a computed response for its exact value.
+-- What is promised about a computed response and its exact value.
 use Prim.Native.Nat.{ℕ, _*_, _<_}
 use mathlib.Core.Path.{_≡_}
 use mathlib.Core.Logic.{_↔_}
@@ -11,15 +11,15 @@ use lib.Ieee.{Float, lt}
 use Rattle.float32.specs.Float32.{zero}
 use Rattle.float32.specs.Value.{IsValue, Within, plusPart, minusPart}
 
--- of the float x, for an exact value of E fifths
+-- about the float x, for an exact value of E fifths
 pub record Accurate (x : Float) (E : ℤ) : Type 0 where
   -- x is finite, and |x - E / 5| ≤ 1 / 1024
   pub near : Within x (1024 * plusPart E) (1024 * minusPart E) (5 * 1024) 5
-  -- x has E's sign, and is +0.0 where E is 0
+  -- x has E's sign, and is +0.0 if E is 0
   pub positive : T (lt zero x) ↔ (pos 0 <ℤ E)
   pub negative : T (lt x zero) ↔ (E <ℤ pos 0)
   pub level : E ≡ pos 0 → x ≡ zero
-  -- where E / 5 is an integer z, x is z
+  -- if E / 5 is an integer z, x is z
   pub exact : (z : ℤ) → E ≡ pos 5 *ℤ z → IsValue x (plusPart z) (minusPart z) 1
 
 -- an image of bytes

@@ -1,4 +1,5 @@
--- A response is above the threshold that lies between two fifths exactly where its exact value is above the threshold given. Assumes nothing.
+-- A response is above the threshold that lies between two fifths exactly where its exact value is above the threshold given. Assumes
+-- nothing.
 use Prim.Native.Nat.{ℕ, _+_, _*_, _/_, _≤_, _<_}
 use native.Mathlib.Nat.{lt-of-not-le, div-lt-iff-lt-mul, mul-le-mul-right}
 use native.Mathlib.Omega.{arith}
@@ -29,7 +30,8 @@ use Rattle.agreement.proofs.Slack.{either}
 -- ---- whole numbers: E fifths are above t where they are more than the fifths in t. No exact value is above 10,200
 past-all : (m : ℕ) (e : ℤ) → le aboveAll (fin false m e) ≡ true → 2041 * down e ≤ m * up e
 past-all m e h =
-    let k = le-value aboveAll (fin false m e) (2041 * down e) 0 (m * up e) 0 (down e) (down-pos e) (record { is-finite = tt; equal = omega arith })
+    let k = le-value aboveAll (fin false m e) (2041 * down e) 0 (m * up e) 0 (down e) (down-pos e)
+    (record { is-finite = tt; equal = omega arith })
     (approx.own (fin false m e) tt) .0 (to-T h) in
     omega arith
 
@@ -77,16 +79,20 @@ module _ (t x : Float) (E : ℤ) (p : T (plus t)) (a : Accurate x E) where
   -- above where E is more than n, and below where it is not
   over : n + minusPart E < plusPart E → T (lt (betweenFifths t) x)
   over h =
-      lt-within (betweenFifths t) x (512 * (2 * n + 1)) 0 (1024 * plusPart E) (1024 * minusPart E) 5120 1 5 (lit< tt) bar (a .near) (omega arith)
+      lt-within (betweenFifths t) x (512 * (2 * n + 1)) 0 (1024 * plusPart E) (1024 * minusPart E) 5120 1 5 (lit< tt) bar
+      (a .near) (omega arith)
 
   under : plusPart E ≤ n + minusPart E → T (lt x (betweenFifths t))
   under h =
-      lt-within x (betweenFifths t) (1024 * plusPart E) (1024 * minusPart E) (512 * (2 * n + 1)) 0 5120 5 1 (lit< tt) (a .near) bar (omega arith)
+      lt-within x (betweenFifths t) (1024 * plusPart E) (1024 * minusPart E) (512 * (2 * n + 1)) 0 5120 5 1 (lit< tt)
+      (a .near) bar (omega arith)
 
   above-bar : not (le x (betweenFifths t)) ≡ ltZ (pos n) E
   above-bar = either _ _ (
-    λ e. less-is (pos n) E .1 (less-parts (pos n) E .1 (lt-of-not-le (λ (h : plusPart E + 0 ≤ n + minusPart E). low e (under (omega arith))))),
-    λ e. ap not (is-false (le x (betweenFifths t)) (λ l. at-most .0 (to-T l) (over (omega (arith, less-parts (pos n) E .0 (less-is (pos n) E .0 e)))))),
+    λ e. less-is (pos n) E .1 (less-parts (pos n) E .1
+        (lt-of-not-le (λ (h : plusPart E + 0 ≤ n + minusPart E). low e (under (omega arith))))),
+    λ e. ap not (is-false (le x (betweenFifths t))
+        (λ l. at-most .0 (to-T l) (over (omega (arith, less-parts (pos n) E .0 (less-is (pos n) E .0 e)))))),
   )
     where
       at-most : T (le x (betweenFifths t)) ↔ (T (lt (betweenFifths t) x) → ⊥)

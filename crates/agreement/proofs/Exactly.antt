@@ -55,7 +55,8 @@ exact-same : (m : List Float) (fifths : Place → ℤ) (t : Float) (w h : ℕ) �
     → ((p : Place) → Modest (fifths p) × (plusPart (fifths p) ≤ 10200)) → Same (reading true m w (betweenFifths t)) (exact fifths t) w h
 exact-same m fifths t w h plain cells small = record {
   above = λ p px py. above-exactly t (valueAt m w p) (fifths p) plain (small p .1) (cells p px py);
-  larger = λ q p qx qy px py. beats-exactly (valueAt m w p) (valueAt m w q) (fifths p) (fifths q) (small p .0) (cells p px py) (cells q qx qy);
+  larger = λ q p qx qy px py. beats-exactly (valueAt m w p) (valueAt m w q) (fifths p) (fifths q) (small p .0) (cells p px py)
+      (cells q qx qy);
   positive = λ q qx qy. either _ _ (positive-both m fifths w h cells q qx qy);
 }
 

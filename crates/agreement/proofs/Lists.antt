@@ -1,4 +1,5 @@
--- When a map's peaks by computed values are those by exact values, for any map of accurate cells: from each place to the lists. Assumes nothing.
+-- When a map's peaks by computed values are those by exact values, for any map of accurate cells: from each place to the lists. Assumes
+-- nothing.
 use Prim.Native.Nat.{ℕ, _-_}
 use native.Mathlib.Omega.{arith}
 use mathlib.Core.Path.{_≡_}
@@ -56,4 +57,5 @@ peaks-alike m fifths t k w h border r least whole cells = (
     at : NoTie m fifths w h r (peakPlaces (exact fifths t) w h border r least) → (p : Place) → Inside w h border p
         → isPeak (exact fifths t) w h r least p ≡ true
         → All (λ q. Tied m fifths w p q → ⊥) (window w h r p)
-    at n = unfold peakPlaces in (peak-at (λ p. All (λ q. Tied m fifths w p q → ⊥) (window w h r p)) (isPeak (exact fifths t) w h r least) w h border n)
+    at n = unfold peakPlaces in
+        (peak-at (λ p. All (λ q. Tied m fifths w p q → ⊥) (window w h r p)) (isPeak (exact fifths t) w h r least) w h border n)

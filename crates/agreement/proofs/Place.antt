@@ -1,5 +1,5 @@
--- A place of a map of accurate cells at a whole threshold: a computed peak is an exact one, and an exact one is a computed one exactly when it has
--- no tie. Assumes nothing.
+-- A place of a map of accurate cells at a whole threshold: a computed peak is an exact one, and an exact one is a computed one exactly when
+-- it has no tie. Assumes nothing.
 use Prim.Native.Nat.{ℕ, _*_, _<_, _≤_}
 use native.Mathlib.Nat.{le-trans}
 use mathlib.Core.Path.{_≡_, refl, sym, ap, _∙_}
@@ -66,10 +66,12 @@ module _ (m : List Float) (fifths : Place → ℤ) (t : Float) (k w h : ℕ) (wh
 
   larger-kept : (q p : Place) → q .x < w → q .y < h → p .x < w → p .y < h → ltZ (fifths p) (fifths q) ≡ true → largerIn m w q p ≡ true
   larger-kept q p qx qy px py e =
-      from-T _ (ordered (valueAt m w p) (valueAt m w q) (fifths p) (fifths q) (cells p px py) (cells q qx qy) (less-is (fifths p) (fifths q) .0 e))
+      from-T _ (ordered (valueAt m w p) (valueAt m w q) (fifths p) (fifths q) (cells p px py) (cells q qx qy)
+      (less-is (fifths p) (fifths q) .0 e))
 
   -- computed larger, and exactly not larger: equal
-  equal-of : (q p : Place) → q .x < w → q .y < h → p .x < w → p .y < h → largerIn m w q p ≡ true → (ltZ (fifths p) (fifths q) ≡ true → ⊥) → fifths q ≡ fifths p
+  equal-of : (q p : Place) → q .x < w → q .y < h → p .x < w → p .y < h → largerIn m w q p ≡ true
+      → (ltZ (fifths p) (fifths q) ≡ true → ⊥) → fifths q ≡ fifths p
   equal-of q p qx qy px py l f =
       level (fifths q) (fifths p)
       (λ e. lt-asym (valueAt m w p) (valueAt m w q) (cells p px py .near .is-finite) (cells q qx qy .near .is-finite) (to-T l)
@@ -94,10 +96,12 @@ module _ (m : List Float) (fifths : Place → ℤ) (t : Float) (k w h : ℕ) (wh
     unfolding beaten
     unbeaten-of u =
         none-any (λ q. largerIn m w q p) (window w h r p)
-        (all-map (λ q. ((q .x < w) × (q .y < h)) × ((Tied m fifths w p q → ⊥) × (ltZ (fifths p) (fifths q) ≡ true → ⊥))) (λ q. largerIn m w q p ≡ true → ⊥)
+        (all-map (λ q. ((q .x < w) × (q .y < h)) × ((Tied m fifths w p q → ⊥) × (ltZ (fifths p) (fifths q) ≡ true → ⊥)))
+        (λ q. largerIn m w q p ≡ true → ⊥)
         (λ q c e. c .1 .0 (record { equal = equal-of q p (c .0 .0) (c .0 .1) px py e (c .1 .1); larger = e }))
         (window w h r p)
-        (all-both _ _ (window w h r p) (window-in (λ q. (q .x < w) × (q .y < h)) w h r p (λ q a b. (a, b))) (all-both _ _ (window w h r p) u none-larger)))
+        (all-both _ _ (window w h r p) (window-in (λ q. (q .x < w) × (q .y < h)) w h r p (λ q a b. (a, b)))
+        (all-both _ _ (window w h r p) u none-larger)))
 
     no-tie-of : isPeak (computed m w t) w h r least p ≡ true → All (λ q. Tied m fifths w p q → ⊥) (window w h r p)
     unfolding beaten
@@ -116,6 +120,7 @@ module _ (m : List Float) (fifths : Place → ℤ) (t : Float) (k w h : ℕ) (wh
     peak-both = (
       no-tie-of,
       λ u.
-          sym (peak-counted (computed m w t) w h r least p (above-both p px py .1 (peak-above (exact fifths t) w h r least p top)) (ap not (unbeaten-of u)))
+          sym (peak-counted (computed m w t) w h r least p (above-both p px py .1 (peak-above (exact fifths t) w h r least p top))
+          (ap not (unbeaten-of u)))
           ∙ le-leb least _ enough,
     )

@@ -23,20 +23,22 @@ either true b i = sym (i .0 refl)
 either false true i = i .1 refl
 either false false i = refl
 
--- ---- the slack of 1/256. Over the denominator 20480 = 5 * 4096 a fifth is 4096, the slack 80, the error of a response 20, and that of the sum 5.
--- a response of at most 6120 in size: what the sums of bytes give
+-- ---- the slack of 1/256. Over the denominator 20480 = 5 * 4096 a fifth is 4096, the slack 80, the error of a response 20, and that of the
+-- sum 5. a response of at most 6120 in size: what the sums of bytes give
 pub record Modest (E : ℤ) : Type 0 where
   pub plus : plusPart E ≤ 30600
   pub minus : minusPart E ≤ 30600
 
 near : (x : Float) (E : ℤ) → Accurate x E → Within x (4096 * plusPart E) (4096 * minusPart E) 20480 20
 near x E a =
-    restate x (1024 * plusPart E) (1024 * minusPart E) 5120 5 (4096 * plusPart E) (4096 * minusPart E) 20480 20 (lit< tt) (omega arith) (omega arith) (a .near)
+    restate x (1024 * plusPart E) (1024 * minusPart E) 5120 5 (4096 * plusPart E) (4096 * minusPart E) 20480 20 (lit< tt)
+    (omega arith) (omega arith) (a .near)
 
 is-slack : Within slack 80 0 20480 0
 is-slack = value-within slack 80 0 20480 (record { is-finite = tt; equal = refl })
 
-bar : (x : Float) (E : ℤ) → Modest E → Accurate x E → Within (add binary32 x slack) (4096 * plusPart E + 80) (4096 * minusPart E + 0) 20480 25
+bar : (x : Float) (E : ℤ) → Modest E → Accurate x E
+    → Within (add binary32 x slack) (4096 * plusPart E + 80) (4096 * minusPart E + 0) 20480 25
 bar x E m a =
     add-within binary32 x slack (4096 * plusPart E) (4096 * minusPart E) 80 0 20480 20 0 13 5 (near x E a) is-slack
     (record {
@@ -50,13 +52,15 @@ bar x E m a =
 module _ (x y : Float) (E F : ℤ) (m : Modest E) (a : Accurate x E) (b : Accurate y F) where
   larger : E <ℤ F → T (lt (add binary32 x slack) y)
   larger h =
-      lt-within (add binary32 x slack) y (4096 * plusPart E + 80) (4096 * minusPart E + 0) (4096 * plusPart F) (4096 * minusPart F) 20480 25 20
+      lt-within (add binary32 x slack) y (4096 * plusPart E + 80) (4096 * minusPart E + 0) (4096 * plusPart F)
+      (4096 * minusPart F) 20480 25 20
       (lit< tt) (bar x E m a) (near y F b) (omega (arith, less-parts E F .0 h))
 
   -- otherwise y is below the bar
   under : plusPart F + minusPart E ≤ plusPart E + minusPart F → T (lt y (add binary32 x slack))
   under h =
-      lt-within y (add binary32 x slack) (4096 * plusPart F) (4096 * minusPart F) (4096 * plusPart E + 80) (4096 * minusPart E + 0) 20480 20 25
+      lt-within y (add binary32 x slack) (4096 * plusPart F) (4096 * minusPart F) (4096 * plusPart E + 80)
+      (4096 * minusPart E + 0) 20480 20 25
       (lit< tt) (near y F b) (bar x E m a) (omega arith)
 
   only : T (lt (add binary32 x slack) y) → E <ℤ F

@@ -22,14 +22,19 @@ less-is a b = (λ e. record { lt = to-T e }, λ h. from-T _ (h .lt))
 
 -- neither is less
 pub level : (a b : ℤ) → (ltZ a b ≡ true → ⊥) → (ltZ b a ≡ true → ⊥) → a ≡ b
-level (pos a) (pos b) f g = let x = ltb-false a b (is-false _ f) in let y = ltb-false b a (is-false _ g) in ap pos (let e : a ≡ b = omega arith in e)
+level (pos a) (pos b) f g = let x = ltb-false a b (is-false _ f) in
+    let y = ltb-false b a (is-false _ g) in
+    ap pos (let e : a ≡ b = omega arith in e)
 level (pos a) (negsuc b) f g = absurd (g refl)
 level (negsuc a) (pos b) f g = absurd (f refl)
-level (negsuc a) (negsuc b) f g = let x = ltb-false b a (is-false _ f) in let y = ltb-false a b (is-false _ g) in ap negsuc (let e : a ≡ b = omega arith in e)
+level (negsuc a) (negsuc b) f g = let x = ltb-false b a (is-false _ f) in
+    let y = ltb-false a b (is-false _ g) in
+    ap negsuc (let e : a ≡ b = omega arith in e)
 
 -- ---- a whole threshold: its number, and what is above it
 scaled : (a n d : ℕ) → 0 < d → (a * d < n * d) ↔ (a < n)
-scaled a n d h = (λ l. lt-of-not-le (λ (q : n ≤ a). let z = mul-le-mul-right d q in let no : ⊥ = omega arith in no), λ l. mul-lt-mul-of-pos-right l h)
+scaled a n d h =
+    (λ l. lt-of-not-le (λ (q : n ≤ a). let z = mul-le-mul-right d q in let no : ⊥ = omega arith in no), λ l. mul-lt-mul-of-pos-right l h)
 
 whole-number : (t : Float) (k : ℕ) → IsWhole t k → num t ≡ k * den t
 whole-number nan k w = absurd (w .is-finite)

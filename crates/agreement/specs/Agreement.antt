@@ -1,4 +1,5 @@
--- Ties that rounding breaks, in any map: what keeps the peaks by computed values from those by exact values.
+-- Ties that rounding breaks, in any map: what makes the peaks chosen by computed values differ from those chosen by
+-- exact values.
 use Prim.Native.Nat.{ℕ}
 use mathlib.Core.Path.{_≡_}
 use mathlib.Core.Bool.{true}

@@ -13,8 +13,10 @@ use Rattle.frame.specs.declared.FrameAnswer.the-variants.{Corners, Refused}
 use Rattle.frame.specs.Frame.{Buffers, refusalOf, numberOf, valuesOf, FrameFound}
 use Rattle.capi.specs.Finding.{CornersFound}
 
-pub corners-found : (choose : Choice) (p : FrameParams) (img : List ℕ) (w h : ℕ) (b : Buffers) (count ties : ℕ) (a : FrameAnswer) (r : ℕ) (b′ : Buffers)
-    (count′ ties′ : ℕ) → FrameFound choose p img w h b a b′ → r ≡ numberOf a → count′ ≡ getD (valuesOf a) 0 count → ties′ ≡ getD (valuesOf a) 1 ties
+pub corners-found : (choose : Choice) (p : FrameParams) (img : List ℕ) (w h : ℕ) (b : Buffers) (count ties : ℕ) (a : FrameAnswer)
+    (r : ℕ) (b′ : Buffers)
+    (count′ ties′ : ℕ) → FrameFound choose p img w h b a b′ → r ≡ numberOf a → count′ ≡ getD (valuesOf a) 0 count
+    → ties′ ≡ getD (valuesOf a) 1 ties
     → CornersFound choose p img w h b count ties r b′ count′ ties′
 corners-found choose p img w h b count ties a r b′ count′ ties′ f n x y =
     let number = refusalOf choose p img w h b in

@@ -10,9 +10,11 @@ use Rattle.frame.specs.declared.FrameAnswer.the-variants.{Corners, Refused}
 use Rattle.frame.specs.Frame.{Buffers, FrameFound}
 use Rattle.lists.specs.Refusals.{unless, resultOr}
 
--- the number r that is returned is that of the answer, and the buffers, the count and the ties are those of the answer
-pub record CornersFound (choose : Choice) (p : FrameParams) (img : List ℕ) (w h : ℕ) (b : Buffers) (count ties r : ℕ) (b′ : Buffers)
+-- r is the number of the answer, and the buffers, the count and the ties are the answer's too
+pub record CornersFound (choose : Choice) (p : FrameParams) (img : List ℕ) (w h : ℕ) (b : Buffers)
+    (count ties r : ℕ) (b′ : Buffers)
     (count′ ties′ : ℕ) : Type 0 where
-  pub answer : FrameFound choose p img w h b (unless Refused r (Corners (length (framePass p img w h choose .corners)) (framePass p img w h choose .ties))) b′
+  pub answer : FrameFound choose p img w h b
+      (unless Refused r (Corners (length (framePass p img w h choose .corners)) (framePass p img w h choose .ties))) b′
   pub count-is : count′ ≡ resultOr r (length (framePass p img w h choose .corners)) count
   pub ties-are : ties′ ≡ resultOr r (framePass p img w h choose .ties) ties

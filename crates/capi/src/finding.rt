@@ -37,11 +37,17 @@ fn find(
     count: &mut usize,
     ties: &mut u64,
 ) -> u8
-    ensures { λ r. ⌜ CornersFound (choiceOf (params ring threshold window «least_neighbours» «centroid_radius» «merge_radius» «level_count» «minimum_side» «search_radius») exact) (params ring threshold window «least_neighbours» «centroid_radius» «merge_radius» «level_count» «minimum_side» «search_radius») (now (img .entry)) w h
-        (buffers (now (map .entry)) (now (levels .entry)) (slices (now (sx .entry)) (now (sy .entry)) (now (ss .entry)) (now (sn .entry)))
+    ensures { λ r. ⌜ CornersFound (choiceOf
+        (params ring threshold window «least_neighbours» «centroid_radius» «merge_radius» «level_count»
+        «minimum_side» «search_radius») exact)
+        (params ring threshold window «least_neighbours» «centroid_radius» «merge_radius» «level_count»
+        «minimum_side» «search_radius») (now (img .entry)) w h
+        (buffers (now (map .entry)) (now (levels .entry))
+        (slices (now (sx .entry)) (now (sy .entry)) (now (ss .entry)) (now (sn .entry)))
         (slices (now (cx .entry)) (now (cy .entry)) (now (cs .entry)) (now (cn .entry))))
         (now (count .entry)) (now (ties .entry)) r
-        (buffers (now (map .exit)) (now (levels .exit)) (slices (now (sx .exit)) (now (sy .exit)) (now (ss .exit)) (now (sn .exit)))
+        (buffers (now (map .exit)) (now (levels .exit))
+        (slices (now (sx .exit)) (now (sy .exit)) (now (ss .exit)) (now (sn .exit)))
         (slices (now (cx .exit)) (now (cy .exit)) (now (cs .exit)) (now (cn .exit))))
         (now (count .exit)) (now (ties .exit)) ⌝ }
 {
@@ -78,8 +84,8 @@ fn find(
     number_of(a)
 }
 
-// Finds the corners of an image of w by h pixels: they stand first in the corner buffer (cx, cy, cs, cn), their number goes into `count`, and that of
-// the ties of the peaks found before merging into `ties`.
+// Finds the corners of an image of w by h pixels. They are written to the start of the corner buffer (cx, cy, cs, cn).
+// `count` gets their number, and `ties` the number of ties of the peaks found before merging.
 #[no_mangle]
 pub extern "C" fn zakdomp_find_corners(
     img: &[u8],
@@ -107,11 +113,17 @@ pub extern "C" fn zakdomp_find_corners(
     count: &mut usize,
     ties: &mut u64,
 ) -> u8
-    ensures { λ r. ⌜ CornersFound (computedChoice (params ring threshold window «least_neighbours» «centroid_radius» «merge_radius» «level_count» «minimum_side» «search_radius»)) (params ring threshold window «least_neighbours» «centroid_radius» «merge_radius» «level_count» «minimum_side» «search_radius») (now (img .entry)) w h
-        (buffers (now (map .entry)) (now (levels .entry)) (slices (now (sx .entry)) (now (sy .entry)) (now (ss .entry)) (now (sn .entry)))
+    ensures { λ r. ⌜ CornersFound (computedChoice
+        (params ring threshold window «least_neighbours» «centroid_radius» «merge_radius» «level_count»
+        «minimum_side» «search_radius»))
+        (params ring threshold window «least_neighbours» «centroid_radius» «merge_radius» «level_count»
+        «minimum_side» «search_radius») (now (img .entry)) w h
+        (buffers (now (map .entry)) (now (levels .entry))
+        (slices (now (sx .entry)) (now (sy .entry)) (now (ss .entry)) (now (sn .entry)))
         (slices (now (cx .entry)) (now (cy .entry)) (now (cs .entry)) (now (cn .entry))))
         (now (count .entry)) (now (ties .entry)) r
-        (buffers (now (map .exit)) (now (levels .exit)) (slices (now (sx .exit)) (now (sy .exit)) (now (ss .exit)) (now (sn .exit)))
+        (buffers (now (map .exit)) (now (levels .exit))
+        (slices (now (sx .exit)) (now (sy .exit)) (now (ss .exit)) (now (sn .exit)))
         (slices (now (cx .exit)) (now (cy .exit)) (now (cs .exit)) (now (cn .exit))))
         (now (count .exit)) (now (ties .exit)) ⌝ }
 {
@@ -144,7 +156,7 @@ pub extern "C" fn zakdomp_find_corners(
     )
 }
 
-// The same by the exact values of the paper's formula.
+// The same, with peaks chosen by the exact values of the paper's formula.
 #[no_mangle]
 pub extern "C" fn zakdomp_find_exact_corners(
     img: &[u8],
@@ -172,11 +184,17 @@ pub extern "C" fn zakdomp_find_exact_corners(
     count: &mut usize,
     ties: &mut u64,
 ) -> u8
-    ensures { λ r. ⌜ CornersFound (exactChoice (params ring threshold window «least_neighbours» «centroid_radius» «merge_radius» «level_count» «minimum_side» «search_radius»)) (params ring threshold window «least_neighbours» «centroid_radius» «merge_radius» «level_count» «minimum_side» «search_radius») (now (img .entry)) w h
-        (buffers (now (map .entry)) (now (levels .entry)) (slices (now (sx .entry)) (now (sy .entry)) (now (ss .entry)) (now (sn .entry)))
+    ensures { λ r. ⌜ CornersFound (exactChoice
+        (params ring threshold window «least_neighbours» «centroid_radius» «merge_radius» «level_count»
+        «minimum_side» «search_radius»))
+        (params ring threshold window «least_neighbours» «centroid_radius» «merge_radius» «level_count»
+        «minimum_side» «search_radius») (now (img .entry)) w h
+        (buffers (now (map .entry)) (now (levels .entry))
+        (slices (now (sx .entry)) (now (sy .entry)) (now (ss .entry)) (now (sn .entry)))
         (slices (now (cx .entry)) (now (cy .entry)) (now (cs .entry)) (now (cn .entry))))
         (now (count .entry)) (now (ties .entry)) r
-        (buffers (now (map .exit)) (now (levels .exit)) (slices (now (sx .exit)) (now (sy .exit)) (now (ss .exit)) (now (sn .exit)))
+        (buffers (now (map .exit)) (now (levels .exit))
+        (slices (now (sx .exit)) (now (sy .exit)) (now (ss .exit)) (now (sn .exit)))
         (slices (now (cx .exit)) (now (cy .exit)) (now (cs .exit)) (now (cn .exit))))
         (now (count .exit)) (now (ties .exit)) ⌝ }
 {

@@ -19,7 +19,8 @@ use Rattle.capi_limits.specs.Limits.{LimitsTold, SureTold}
 
 -- ---- the limits
 pub limits-told : (low high : List ℕ) (w h ring : ℕ) (lows highs : List ℤ) (a : Limits) (r : ℕ) (lows′ highs′ : List ℤ)
-    → limits.LimitsWritten low high w h ring lows highs a lows′ highs′ → r ≡ limits.numberOf a → LimitsTold low high w h ring lows highs r lows′ highs′
+    → limits.LimitsWritten low high w h ring lows highs a lows′ highs′ → r ≡ limits.numberOf a
+    → LimitsTold low high w h ring lows highs r lows′ highs′
 limits-told low high w h ring lows highs a r lows′ highs′ p n =
     let number = limits.refusalOf low high w h ring (length lows) (length highs) in
     record {
@@ -30,7 +31,8 @@ limits-told low high w h ring lows highs a r lows′ highs′ p n =
 
 -- ---- a sure peak
 pub sure-told : (lows highs : List ℤ) (w h ring threshold window least centroid : ℕ) (p : Place) (before : ℕ) (a : Sure) (r after : ℕ)
-    → sure_peak.SureTold lows highs w h ring threshold window least centroid p a → r ≡ sure_peak.numberOf a → after ≡ getD (sure_peak.valuesOf a) 0 before
+    → sure_peak.SureTold lows highs w h ring threshold window least centroid p a → r ≡ sure_peak.numberOf a
+    → after ≡ getD (sure_peak.valuesOf a) 0 before
     → SureTold lows highs w h ring threshold window least centroid p before r after
 sure-told lows highs w h ring threshold window least centroid p before a r after t n x =
     let number = sure_peak.refusalOf (length lows) (length highs) w h ring window centroid p in

@@ -12,12 +12,14 @@ use Rattle.sure_peak.specs.declared.Sure.the-variants.{Yes, No, Refused}
 use Rattle.sure_peak.specs.SurePeak.{isSure}
 use Rattle.sure_peak.specs.Promise as sure_peak
 
--- the number r that is returned is that of the answer, and the buffers are those of the answer
-pub record LimitsTold (low high : List ℕ) (w h ring : ℕ) (lows highs : List ℤ) (r : ℕ) (lows′ highs′ : List ℤ) : Type 0 where
+-- r is the number of the answer, and the buffers are the answer's too
+pub record LimitsTold (low high : List ℕ) (w h ring : ℕ) (lows highs : List ℤ) (r : ℕ)
+    (lows′ highs′ : List ℤ) : Type 0 where
   pub answer : LimitsWritten low high w h ring lows highs (unless limits.Refused r limits.Written) lows′ highs′
 
--- the number r that is returned is that of the answer, and so is the result: 1 for yes and 0 for no
-pub record SureTold (lows highs : List ℤ) (w h ring threshold window least centroid : ℕ) (p : Place) (before r after : ℕ) : Type 0 where
+-- r is the number of the answer, and the result is the answer's too: 1 for yes and 0 for no
+pub record SureTold (lows highs : List ℤ) (w h ring threshold window least centroid : ℕ) (p : Place)
+    (before r after : ℕ) : Type 0 where
   pub answer : sure_peak.SureTold lows highs w h ring threshold window least centroid p
       (unless Refused r (cond (isSure lows highs w h ring threshold window least centroid p) Yes No))
   pub sure-is : after ≡ resultOr r (cond (isSure lows highs w h ring threshold window least centroid p) 1 0) before

@@ -27,7 +27,8 @@ module _ (b : Slices) (e : Edition) (place : ℕ) (a : Shown) (r : ℕ) (p : sho
       value showing.numberOf a number (p .number) r n (λ s. map part (showing.valuesOf s)) (part (cornerAt b place, e .change) ∷ [])
       (ap (map part) (p .values) ∙ go number) 0 before x
     where
-      go : (k : ℕ) → map part (valuesUnless k ((cornerAt b place, e .change) ∷ [])) ≡ valuesUnless k (part (cornerAt b place, e .change) ∷ [])
+      go : (k : ℕ) → map part (valuesUnless k ((cornerAt b place, e .change) ∷ []))
+          ≡ valuesUnless k (part (cornerAt b place, e .change) ∷ [])
       go zero = refl
       go (suc k) = refl
 

@@ -9,7 +9,8 @@ use Rattle.merge.specs.declared.Merged.the-variants.{Kept, Refused}
 use Rattle.merge.specs.Merge.{resultOf}
 use Rattle.merge.specs.Apart.{MergedApart}
 
--- the number r that is returned is that of the answer, and the separate buffer d and the count are those of the answer
-pub record CornersMergedApart (radius : Float) (count : ℕ) (b d : Slices) (kept r : ℕ) (d′ : Slices) (kept′ : ℕ) : Type 0 where
+-- r is the number of the answer, and the separate buffer d and the count are the answer's too
+pub record CornersMergedApart (radius : Float) (count : ℕ) (b d : Slices) (kept r : ℕ) (d′ : Slices)
+    (kept′ : ℕ) : Type 0 where
   pub answer : MergedApart radius count b d (unless Refused r (Kept (length (resultOf radius (cornersOf b count))))) d′
   pub kept-is : kept′ ≡ resultOr r (length (resultOf radius (cornersOf b count))) kept

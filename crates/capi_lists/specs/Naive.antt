@@ -8,7 +8,8 @@ use Rattle.corner_list.specs.CornerList.{Slices, cornersOf}
 use Rattle.merge.specs.declared.Merged.the-variants.{Kept, Refused}
 use Rattle.merge_naive.specs.MergeNaive.{naiveOf, MergesNaive}
 
--- the number r that is returned is that of the answer, and the buffer and the count are those of the answer
-pub record CornersMergedNaively (radius : Float) (count : ℕ) (b : Slices) (kept r : ℕ) (b′ : Slices) (kept′ : ℕ) : Type 0 where
+-- r is the number of the answer, and the buffer and the count are the answer's too
+pub record CornersMergedNaively (radius : Float) (count : ℕ) (b : Slices) (kept r : ℕ) (b′ : Slices)
+    (kept′ : ℕ) : Type 0 where
   pub answer : MergesNaive radius count b (unless Refused r (Kept (length (naiveOf radius (cornersOf b count))))) b′
   pub kept-is : kept′ ≡ resultOr r (length (naiveOf radius (cornersOf b count))) kept

@@ -13,8 +13,9 @@ use Rattle.corner_strike.specs.Showing.{Shows}
 abbrev pub corner : Float → Float → Float → ℕ → Corner
 corner x y strength neighbours = record { x = x; y = y; strength = strength; neighbours = neighbours }
 
--- the number r that is returned is that of the answer, and so are the corner and the change number
-pub record CornerShown (b : Slices) (e : Edition) (place : ℕ) (c : Corner) (shown r : ℕ) (c′ : Corner) (shown′ : ℕ) : Type 0 where
+-- r is the number of the answer, and the corner and the change number are the answer's too
+pub record CornerShown (b : Slices) (e : Edition) (place : ℕ) (c : Corner) (shown r : ℕ) (c′ : Corner)
+    (shown′ : ℕ) : Type 0 where
   pub answer : Shows b e place (unless Refused r (Found (cornerAt b place) (e .change)))
   pub corner-is : c′ ≡ resultOr r (cornerAt b place) c
   pub shown-is : shown′ ≡ resultOr r (e .change) shown

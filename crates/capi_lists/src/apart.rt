@@ -6,7 +6,7 @@ ghost use Rattle.corner_list.specs.CornerList.{slices};
 ghost use Rattle.merge.specs.Merge.{numberOf, valuesOf};
 ghost use Rattle.capi_lists.specs.Apart.{CornersMergedApart};
 
-// The number of an answer, 0 where a list was written.
+// The number of an answer, 0 if a list was written.
 fn number_of(a: Merged) -> u8
     ensures { λ r. ⌜ r ≡ numberOf a ⌝ }
 {
@@ -16,7 +16,7 @@ fn number_of(a: Merged) -> u8
     }
 }
 
-// How many corners are left, or `before` where refused.
+// How many corners are left, or `before` if refused.
 fn kept_of(a: Merged, before: usize) -> usize
     ensures { λ r. ⌜ r ≡ getD (valuesOf a) 0 before ⌝ }
 {
@@ -26,8 +26,8 @@ fn kept_of(a: Merged, before: usize) -> usize
     }
 }
 
-// Leaves in a separate buffer, `mx` to `mn`, what merging the first `count` corners of a buffer in place would leave there, and puts the number of
-// those corners into `kept`.
+// Writes to a separate buffer, `mx` to `mn`, what merging the first `count` corners of a buffer in place would leave
+// there. `kept` gets the number of those corners.
 #[no_mangle]
 pub extern "C" fn zakdomp_merge_apart(
     xs: &[f32],
@@ -42,7 +42,8 @@ pub extern "C" fn zakdomp_merge_apart(
     mn: &mut [u32],
     kept: &mut usize,
 ) -> u8
-    ensures { λ r. ⌜ CornersMergedApart radius count (slices (now (xs .entry)) (now (ys .entry)) (now (strengths .entry)) (now (neighbours .entry)))
+    ensures { λ r. ⌜ CornersMergedApart radius count
+        (slices (now (xs .entry)) (now (ys .entry)) (now (strengths .entry)) (now (neighbours .entry)))
         (slices (now (mx .entry)) (now (my .entry)) (now (ms .entry)) (now (mn .entry))) (now (kept .entry))
         r (slices (now (mx .exit)) (now (my .exit)) (now (ms .exit)) (now (mn .exit))) (now (kept .exit)) ⌝ }
 {

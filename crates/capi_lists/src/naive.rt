@@ -6,7 +6,7 @@ ghost use Rattle.corner_list.specs.CornerList.{slices};
 ghost use Rattle.merge.specs.Merge.{numberOf, valuesOf};
 ghost use Rattle.capi_lists.specs.Naive.{CornersMergedNaively};
 
-// The number of an answer, 0 where corners were merged.
+// The number of an answer, 0 if corners were merged.
 fn number_of(a: Merged) -> u8
     ensures { λ r. ⌜ r ≡ numberOf a ⌝ }
 {
@@ -16,7 +16,7 @@ fn number_of(a: Merged) -> u8
     }
 }
 
-// How many corners are left, or `before` where refused.
+// How many corners are left, or `before` if refused.
 fn kept_of(a: Merged, before: usize) -> usize
     ensures { λ r. ⌜ r ≡ getD (valuesOf a) 0 before ⌝ }
 {
@@ -26,7 +26,7 @@ fn kept_of(a: Merged, before: usize) -> usize
     }
 }
 
-// Merges the first `count` corners of a buffer in place by distance alone, and puts the number of those that are left into `kept`.
+// Merges the first `count` corners of a buffer in place by distance alone. `kept` gets the number of corners left.
 #[no_mangle]
 pub extern "C" fn zakdomp_merge_naive(
     xs: &mut [f32],
@@ -37,8 +37,10 @@ pub extern "C" fn zakdomp_merge_naive(
     radius: f32,
     kept: &mut usize,
 ) -> u8
-    ensures { λ r. ⌜ CornersMergedNaively radius count (slices (now (xs .entry)) (now (ys .entry)) (now (strengths .entry)) (now (neighbours .entry)))
-        (now (kept .entry)) r (slices (now (xs .exit)) (now (ys .exit)) (now (strengths .exit)) (now (neighbours .exit))) (now (kept .exit)) ⌝ }
+    ensures { λ r. ⌜ CornersMergedNaively radius count
+        (slices (now (xs .entry)) (now (ys .entry)) (now (strengths .entry)) (now (neighbours .entry)))
+        (now (kept .entry)) r (slices (now (xs .exit)) (now (ys .exit)) (now (strengths .exit))
+        (now (neighbours .exit))) (now (kept .exit)) ⌝ }
 {
     let a = merge_naive::merge_corners_naive(xs, ys, strengths, neighbours, count, radius);
     *kept = kept_of(a, *kept);

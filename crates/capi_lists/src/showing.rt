@@ -9,7 +9,7 @@ ghost use Rattle.corner_strike.specs.Editions.{edition};
 ghost use Rattle.corner_strike.specs.Showing.{numberOf, valuesOf};
 ghost use Rattle.capi_lists.specs.Showing.{corner, CornerShown};
 
-// The number of an answer, 0 where a corner is shown.
+// The number of an answer, 0 if a corner is shown.
 fn number_of(a: Shown) -> u8
     ensures { λ r. ⌜ r ≡ numberOf a ⌝ }
 {
@@ -19,7 +19,7 @@ fn number_of(a: Shown) -> u8
     }
 }
 
-// The corner, or `before` where refused.
+// The corner, or `before` if refused.
 fn corner_of(a: Shown, before: Corner) -> Corner
     ensures { λ r. ⌜ r ≡ getD (map (λ v. v .0) (valuesOf a)) 0 before ⌝ }
 {
@@ -29,7 +29,7 @@ fn corner_of(a: Shown, before: Corner) -> Corner
     }
 }
 
-// The change number, or `before` where refused.
+// The change number, or `before` if refused.
 fn change_of(a: Shown, before: u32) -> u32
     ensures { λ r. ⌜ r ≡ getD (map (λ v. v .1) (valuesOf a)) 0 before ⌝ }
 {
@@ -39,8 +39,8 @@ fn change_of(a: Shown, before: u32) -> u32
     }
 }
 
-// Puts the corner at a place of a list of `count` corners with the change number `change` into `x` to `neighbour_count`, and that number into
-// `shown`.
+// Copies the corner at a place of a list of `count` corners, whose change number is `change`, to `x` to
+// `neighbour_count`, and the change number to `shown`.
 #[no_mangle]
 pub extern "C" fn zakdomp_show_corner(
     xs: &[f32],
@@ -56,9 +56,12 @@ pub extern "C" fn zakdomp_show_corner(
     neighbour_count: &mut u32,
     shown: &mut u32,
 ) -> u8
-    ensures { λ r. ⌜ CornerShown (slices (now (xs .entry)) (now (ys .entry)) (now (strengths .entry)) (now (neighbours .entry))) (edition count change) place
-        (corner (now (x .entry)) (now (y .entry)) (now (strength .entry)) (now («neighbour_count» .entry))) (now (shown .entry))
-        r (corner (now (x .exit)) (now (y .exit)) (now (strength .exit)) (now («neighbour_count» .exit))) (now (shown .exit)) ⌝ }
+    ensures { λ r. ⌜ CornerShown (slices (now (xs .entry)) (now (ys .entry)) (now (strengths .entry))
+        (now (neighbours .entry))) (edition count change) place
+        (corner (now (x .entry)) (now (y .entry)) (now (strength .entry)) (now («neighbour_count» .entry)))
+        (now (shown .entry))
+        r (corner (now (x .exit)) (now (y .exit)) (now (strength .exit)) (now («neighbour_count» .exit)))
+        (now (shown .exit)) ⌝ }
 {
     let a = corner_strike::show_corner(xs, ys, strengths, neighbours, count, change, place);
     let before = Corner {

@@ -6,7 +6,7 @@ ghost use Rattle.corner_strike.specs.Editions.{edition};
 ghost use Rattle.corner_strike.specs.Striking.{numberOf};
 ghost use Rattle.capi_lists.specs.Striking.{CornerStruck};
 
-// The number of an answer, 0 where a corner was struck.
+// The number of an answer, 0 if a corner was struck.
 fn number_of(a: Strike) -> u8
     ensures { λ r. ⌜ r ≡ numberOf a ⌝ }
 {
@@ -16,8 +16,8 @@ fn number_of(a: Strike) -> u8
     }
 }
 
-// Removes the corner at a place of a list of `count` corners whose change number `change` is the one that was shown. One corner fewer is counted,
-// and the change number is raised by one.
+// Removes the corner at a place of a list of `count` corners, if the list's change number `change` is the one that was
+// shown. The count goes down by one, and the change number up by one.
 #[no_mangle]
 pub extern "C" fn zakdomp_strike_corner(
     xs: &mut [f32],
@@ -29,9 +29,11 @@ pub extern "C" fn zakdomp_strike_corner(
     place: usize,
     shown: u32,
 ) -> u8
-    ensures { λ r. ⌜ CornerStruck (slices (now (xs .entry)) (now (ys .entry)) (now (strengths .entry)) (now (neighbours .entry)))
+    ensures { λ r. ⌜ CornerStruck (slices (now (xs .entry)) (now (ys .entry)) (now (strengths .entry))
+        (now (neighbours .entry)))
         (edition (now (count .entry)) (now (change .entry))) place shown
-        r (slices (now (xs .exit)) (now (ys .exit)) (now (strengths .exit)) (now (neighbours .exit))) (edition (now (count .exit)) (now (change .exit))) ⌝ }
+        r (slices (now (xs .exit)) (now (ys .exit)) (now (strengths .exit)) (now (neighbours .exit)))
+        (edition (now (count .exit)) (now (change .exit))) ⌝ }
 {
     let a = corner_strike::strike_corner(
         xs,

@@ -13,8 +13,10 @@ use Rattle.frame.specs.Frame.{Buffers, numberOf, valuesOf}
 use Rattle.pgm_frame.specs.PgmFrame.{passOn, refusalOf, PhotographFound}
 use Rattle.capi_photo.specs.Photographs.{PhotographCorners}
 
-pub photograph-corners : (choose : Choice) (p : FrameParams) (upload : List ℕ) (b : Buffers) (count ties : ℕ) (a : FrameAnswer) (r : ℕ) (b′ : Buffers)
-    (count′ ties′ : ℕ) → PhotographFound choose p upload b a b′ → r ≡ numberOf a → count′ ≡ getD (valuesOf a) 0 count → ties′ ≡ getD (valuesOf a) 1 ties
+pub photograph-corners : (choose : Choice) (p : FrameParams) (upload : List ℕ) (b : Buffers) (count ties : ℕ) (a : FrameAnswer)
+    (r : ℕ) (b′ : Buffers)
+    (count′ ties′ : ℕ) → PhotographFound choose p upload b a b′ → r ≡ numberOf a → count′ ≡ getD (valuesOf a) 0 count
+    → ties′ ≡ getD (valuesOf a) 1 ties
     → PhotographCorners choose p upload b count ties r b′ count′ ties′
 photograph-corners choose p upload b count ties a r b′ count′ ties′ f n x y =
     let number = refusalOf choose p upload b in

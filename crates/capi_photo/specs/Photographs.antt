@@ -1,4 +1,5 @@
--- What `zakdomp_find_corners_pgm` and `zakdomp_find_exact_corners_pgm` promise, by the promise of the frame of an upload by a choice of peaks.
+-- What `zakdomp_find_corners_pgm` and `zakdomp_find_exact_corners_pgm` promise, by the promise of the frame of an
+-- upload by a choice of peaks.
 use Prim.Native.Nat.{ℕ}
 use mathlib.Core.Path.{_≡_}
 use mathlib.Core.List.{List}
@@ -10,9 +11,11 @@ use Rattle.frame.specs.declared.FrameAnswer.the-variants.{Corners, Refused}
 use Rattle.frame.specs.Frame.{Buffers}
 use Rattle.pgm_frame.specs.PgmFrame.{passOn, PhotographFound}
 
--- the number r that is returned is that of the answer, and the buffers, the count and the ties are those of the answer
-pub record PhotographCorners (choose : Choice) (p : FrameParams) (upload : List ℕ) (b : Buffers) (count ties r : ℕ) (b′ : Buffers)
+-- r is the number of the answer, and the buffers, the count and the ties are the answer's too
+pub record PhotographCorners (choose : Choice) (p : FrameParams) (upload : List ℕ) (b : Buffers)
+    (count ties r : ℕ) (b′ : Buffers)
     (count′ ties′ : ℕ) : Type 0 where
-  pub answer : PhotographFound choose p upload b (unless Refused r (Corners (length (passOn choose p upload .corners)) (passOn choose p upload .ties))) b′
+  pub answer : PhotographFound choose p upload b
+      (unless Refused r (Corners (length (passOn choose p upload .corners)) (passOn choose p upload .ties))) b′
   pub count-is : count′ ≡ resultOr r (length (passOn choose p upload .corners)) count
   pub ties-are : ties′ ≡ resultOr r (passOn choose p upload .ties) ties

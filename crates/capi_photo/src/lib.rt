@@ -35,11 +35,17 @@ fn find(
     count: &mut usize,
     ties: &mut u64,
 ) -> u8
-    ensures { λ r. ⌜ PhotographCorners (choiceOf (params ring threshold window «least_neighbours» «centroid_radius» «merge_radius» «level_count» «minimum_side» «search_radius») exact) (params ring threshold window «least_neighbours» «centroid_radius» «merge_radius» «level_count» «minimum_side» «search_radius») (now (upload .entry))
-        (buffers (now (map .entry)) (now (levels .entry)) (slices (now (sx .entry)) (now (sy .entry)) (now (ss .entry)) (now (sn .entry)))
+    ensures { λ r. ⌜ PhotographCorners
+        (choiceOf (params ring threshold window «least_neighbours» «centroid_radius» «merge_radius»
+        «level_count» «minimum_side» «search_radius») exact)
+        (params ring threshold window «least_neighbours» «centroid_radius» «merge_radius» «level_count»
+        «minimum_side» «search_radius») (now (upload .entry))
+        (buffers (now (map .entry)) (now (levels .entry))
+        (slices (now (sx .entry)) (now (sy .entry)) (now (ss .entry)) (now (sn .entry)))
         (slices (now (cx .entry)) (now (cy .entry)) (now (cs .entry)) (now (cn .entry))))
         (now (count .entry)) (now (ties .entry)) r
-        (buffers (now (map .exit)) (now (levels .exit)) (slices (now (sx .exit)) (now (sy .exit)) (now (ss .exit)) (now (sn .exit)))
+        (buffers (now (map .exit)) (now (levels .exit))
+        (slices (now (sx .exit)) (now (sy .exit)) (now (ss .exit)) (now (sn .exit)))
         (slices (now (cx .exit)) (now (cy .exit)) (now (cs .exit)) (now (cn .exit))))
         (now (count .exit)) (now (ties .exit)) ⌝ }
 {
@@ -74,7 +80,7 @@ fn find(
     number_of(a)
 }
 
-// Finds the corners of an upload, as `zakdomp_find_corners` does of its pixels.
+// Finds the corners of an upload, as `zakdomp_find_corners` does for its pixels.
 #[no_mangle]
 pub extern "C" fn zakdomp_find_corners_pgm(
     upload: &[u8],
@@ -100,11 +106,17 @@ pub extern "C" fn zakdomp_find_corners_pgm(
     count: &mut usize,
     ties: &mut u64,
 ) -> u8
-    ensures { λ r. ⌜ PhotographCorners (computedChoice (params ring threshold window «least_neighbours» «centroid_radius» «merge_radius» «level_count» «minimum_side» «search_radius»)) (params ring threshold window «least_neighbours» «centroid_radius» «merge_radius» «level_count» «minimum_side» «search_radius») (now (upload .entry))
-        (buffers (now (map .entry)) (now (levels .entry)) (slices (now (sx .entry)) (now (sy .entry)) (now (ss .entry)) (now (sn .entry)))
+    ensures { λ r. ⌜ PhotographCorners
+        (computedChoice (params ring threshold window «least_neighbours» «centroid_radius» «merge_radius»
+        «level_count» «minimum_side» «search_radius»))
+        (params ring threshold window «least_neighbours» «centroid_radius» «merge_radius» «level_count»
+        «minimum_side» «search_radius») (now (upload .entry))
+        (buffers (now (map .entry)) (now (levels .entry))
+        (slices (now (sx .entry)) (now (sy .entry)) (now (ss .entry)) (now (sn .entry)))
         (slices (now (cx .entry)) (now (cy .entry)) (now (cs .entry)) (now (cn .entry))))
         (now (count .entry)) (now (ties .entry)) r
-        (buffers (now (map .exit)) (now (levels .exit)) (slices (now (sx .exit)) (now (sy .exit)) (now (ss .exit)) (now (sn .exit)))
+        (buffers (now (map .exit)) (now (levels .exit))
+        (slices (now (sx .exit)) (now (sy .exit)) (now (ss .exit)) (now (sn .exit)))
         (slices (now (cx .exit)) (now (cy .exit)) (now (cs .exit)) (now (cn .exit))))
         (now (count .exit)) (now (ties .exit)) ⌝ }
 {
@@ -135,7 +147,7 @@ pub extern "C" fn zakdomp_find_corners_pgm(
     )
 }
 
-// The same by the exact values of the paper's formula.
+// The same, with peaks chosen by the exact values of the paper's formula.
 #[no_mangle]
 pub extern "C" fn zakdomp_find_exact_corners_pgm(
     upload: &[u8],
@@ -161,11 +173,17 @@ pub extern "C" fn zakdomp_find_exact_corners_pgm(
     count: &mut usize,
     ties: &mut u64,
 ) -> u8
-    ensures { λ r. ⌜ PhotographCorners (exactChoice (params ring threshold window «least_neighbours» «centroid_radius» «merge_radius» «level_count» «minimum_side» «search_radius»)) (params ring threshold window «least_neighbours» «centroid_radius» «merge_radius» «level_count» «minimum_side» «search_radius») (now (upload .entry))
-        (buffers (now (map .entry)) (now (levels .entry)) (slices (now (sx .entry)) (now (sy .entry)) (now (ss .entry)) (now (sn .entry)))
+    ensures { λ r. ⌜ PhotographCorners
+        (exactChoice (params ring threshold window «least_neighbours» «centroid_radius» «merge_radius»
+        «level_count» «minimum_side» «search_radius»))
+        (params ring threshold window «least_neighbours» «centroid_radius» «merge_radius» «level_count»
+        «minimum_side» «search_radius») (now (upload .entry))
+        (buffers (now (map .entry)) (now (levels .entry))
+        (slices (now (sx .entry)) (now (sy .entry)) (now (ss .entry)) (now (sn .entry)))
         (slices (now (cx .entry)) (now (cy .entry)) (now (cs .entry)) (now (cn .entry))))
         (now (count .entry)) (now (ties .entry)) r
-        (buffers (now (map .exit)) (now (levels .exit)) (slices (now (sx .exit)) (now (sy .exit)) (now (ss .exit)) (now (sn .exit)))
+        (buffers (now (map .exit)) (now (levels .exit))
+        (slices (now (sx .exit)) (now (sy .exit)) (now (ss .exit)) (now (sn .exit)))
         (slices (now (cx .exit)) (now (cy .exit)) (now (cs .exit)) (now (cn .exit))))
         (now (count .exit)) (now (ties .exit)) ⌝ }
 {

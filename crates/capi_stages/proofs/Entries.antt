@@ -43,7 +43,8 @@ use Rattle.capi_stages.specs.Merging.{CornersMerged}
 use Rattle.capi_stages.specs.Levels.{LevelsBuilt}
 
 -- ---- the response of a box
-module _ (v : response.View) (radius : ℕ) (map : List Float) (width height : ℕ) (a : Patch) (r : ℕ) (map′ : List Float) (width′ height′ : ℕ) where
+module _ (v : response.View) (radius : ℕ) (map : List Float) (width height : ℕ) (a : Patch) (r : ℕ) (map′ : List Float)
+    (width′ height′ : ℕ) where
   pub responded : response.Patched v radius map a map′ → r ≡ response.numberOf a → width′ ≡ getD (response.valuesOf a) 0 width
       → height′ ≡ getD (response.valuesOf a) 1 height → Responded v radius map width height r map′ width′ height′
   responded p n x y =
@@ -85,7 +86,8 @@ module _ (conds : List (Bool × ℕ)) (m : List Float) (s : Search) (wanted befo
       record {
         answer =
             subst (enough.EnoughFound conds m s wanted)
-            (answer enough.numberOf a (lowest conds) (f .number) r n (λ k. unless Refused k (enough.enoughOf s wanted found)) (f .answer)) f;
+            (answer enough.numberOf a (lowest conds) (f .number) r n (λ k. unless Refused k (enough.enoughOf s wanted found))
+            (f .answer)) f;
         enough-is = value enough.numberOf a (lowest conds) (f .number) r n enough.valuesOf told (f .values) 0 before after x;
         rows-is = value enough.numberOf a (lowest conds) (f .number) r n enough.valuesOf told (f .values) 1 rows rows′ y;
       }
@@ -106,7 +108,8 @@ module _ (radius : Float) (count : ℕ) (b : Slices) (kept : ℕ) (a : Merged) (
 
 -- ---- levels
 module _ (img : List ℕ) (w h count minimum : ℕ) (levels : List ℕ) (built : ℕ) (a : Pyramid) (r : ℕ) (levels′ : List ℕ) (built′ : ℕ) where
-  pub levels-built : pyramid.Built img w h count minimum levels a levels′ → r ≡ pyramid.numberOf a → built′ ≡ getD (pyramid.valuesOf a) 0 built
+  pub levels-built : pyramid.Built img w h count minimum levels a levels′ → r ≡ pyramid.numberOf a
+      → built′ ≡ getD (pyramid.valuesOf a) 0 built
       → LevelsBuilt img w h count minimum levels built r levels′ built′
   levels-built p n x =
       let number = buildRefusalOf (ask (length img) (length levels) w h count minimum) in

@@ -16,7 +16,7 @@ seed x y mass = record { x = x; y = y; mass = mass }
 abbrev pub three : Seed → List Float
 three s = s .x ∷ s .y ∷ s .mass ∷ []
 
--- the number r that is returned is that of the outcome, and x, y and mass are its values, or as before where it is refused
+-- r is the number of the outcome, and x, y and mass are its values, or unchanged if it is a refusal
 pub record Located (radius : ℕ) (m : List Float) (w h : ℕ) (before : Seed) (r : ℕ) (after : List Float) : Type 0 where
   pub number : r ≡ refusalOf radius (before .x) (before .y) true (length m) w h
   pub values : after ≡ resultOr r (valuesOf (outcomeOf radius (before .x) (before .y) m w h)) (three before)

@@ -12,8 +12,9 @@ use Rattle.detect.specs.declared.enough.Enough.the-variants.{Refused}
 use Rattle.detect.specs.Detect.{peaksIn}
 use Rattle.detect.specs.Enough.{rowsFor, enoughOf, EnoughFound}
 
--- the number r that is returned is that of the answer, and `enough` and the rows are those of the answer
-pub record PeaksCounted (conds : List (Bool × ℕ)) (m : List Float) (s : Search) (wanted enough rows r enough′ rows′ : ℕ) : Type 0 where
+-- r is the number of the answer, and `enough` and the rows are the answer's too
+pub record PeaksCounted (conds : List (Bool × ℕ)) (m : List Float) (s : Search)
+    (wanted enough rows r enough′ rows′ : ℕ) : Type 0 where
   pub answer : EnoughFound conds m s wanted (unless Refused r (enoughOf s wanted (peaksIn m s)))
   pub enough-is : enough′ ≡ resultOr r (cond (leb wanted (length (peaksIn m s))) 1 0) enough
   pub rows-is : rows′ ≡ resultOr r (rowsFor s wanted (peaksIn m s)) rows

@@ -8,7 +8,8 @@ use Rattle.merge.specs.declared.Merged.the-variants.{Kept, Refused}
 use Rattle.merge.specs.Merge.{resultOf, Merges}
 use Rattle.lists.specs.Refusals.{resultOr, unless}
 
--- the number r that is returned is that of the answer, and the buffer and the count are those of the answer
+-- r is the number of the answer, and the buffer and the count are the answer's too
 pub record CornersMerged (radius : Float) (count : ℕ) (b : Slices) (kept r : ℕ) (b′ : Slices) (kept′ : ℕ) : Type 0 where
-  pub answer : Merges radius (placesOf b) count b (unless Refused r (Kept (length (resultOf radius (cornersOf b count))))) b′
+  pub answer : Merges radius (placesOf b) count b
+      (unless Refused r (Kept (length (resultOf radius (cornersOf b count))))) b′
   pub kept-is : kept′ ≡ resultOr r (length (resultOf radius (cornersOf b count))) kept

@@ -7,8 +7,9 @@ use Rattle.response.specs.declared.Patch.the-variants.{Cells, Refused}
 use Rattle.response.specs.Patch.{View, mapWidth, mapHeight, Patched}
 use Rattle.lists.specs.Refusals.{resultOr, unless}
 
--- the number r that is returned is that of the answer, and the map and its sides are those of the answer
-pub record Responded (v : View) (radius : ℕ) (map : List Float) (width height r : ℕ) (map′ : List Float) (width′ height′ : ℕ) : Type 0 where
+-- r is the number of the answer, and the map and its sides are the answer's too
+pub record Responded (v : View) (radius : ℕ) (map : List Float) (width height r : ℕ) (map′ : List Float)
+    (width′ height′ : ℕ) : Type 0 where
   pub answer : Patched v radius map (unless Refused r (Cells (mapWidth v) (mapHeight v))) map′
   pub width-is : width′ ≡ resultOr r (mapWidth v) width
   pub height-is : height′ ≡ resultOr r (mapHeight v) height

@@ -10,8 +10,9 @@ use Rattle.detect.specs.declared.Peaks.the-variants.{Added, Refused}
 use Rattle.detect.specs.Detect.{PeaksAdded}
 use Rattle.lists.specs.Refusals.{resultOr, unless}
 
--- the number r that is returned is that of the answer, and the buffer, the count and the ties are those of the answer
-pub record PeaksFound (conds : List (Bool × ℕ)) (cs : List Corner) (sum held : ℕ) (b : Slices) (added ties r : ℕ) (b′ : Slices) (added′ ties′ : ℕ)
+-- r is the number of the answer, and the buffer, the count and the ties are the answer's too
+pub record PeaksFound (conds : List (Bool × ℕ)) (cs : List Corner) (sum held : ℕ) (b : Slices)
+    (added ties r : ℕ) (b′ : Slices) (added′ ties′ : ℕ)
     : Type 0 where
   pub answer : PeaksAdded conds cs sum held b (unless Refused r (Added (length cs) sum)) b′
   pub added-is : added′ ≡ resultOr r (length cs) added

@@ -1,4 +1,4 @@
-// The centre of mass of a map about a seed.
+// The centre of mass of a map around a seed.
 use center_of_mass::CenterOfMassRefiner;
 use center_of_mass::Outcome;
 ghost use mathlib.Core.Path.{_≡_};
@@ -6,14 +6,14 @@ ghost use Rattle.center_of_mass.specs.CenterOfMass.{numberOf};
 ghost use Rattle.capi_stages.specs.Centroid.{seed, three, Located};
 ghost use Rattle.capi_stages.specs.Internal.{located};
 
-// A seed or its centre of mass, and the mass, which is 0 where the seed is unmoved.
+// A seed or its centre of mass, and the mass, which is 0 if the seed did not move.
 struct Seed {
     x: f32,
     y: f32,
     mass: f32,
 }
 
-// The number of an outcome, 0 where there is no refusal.
+// The number of an outcome, 0 if there is no refusal.
 fn number_of(o: Outcome) -> u8
     ensures { λ r. ⌜ r ≡ numberOf o ⌝ }
 {
@@ -26,7 +26,7 @@ fn number_of(o: Outcome) -> u8
     }
 }
 
-// Where an outcome lies and its mass, or `before` where refused.
+// The place and the mass of an outcome, or `before` if refused.
 fn values_of(o: Outcome, before: Seed) -> Seed
     ensures { λ r. ⌜ three r ≡ located o (three before) ⌝ }
 {
@@ -39,7 +39,7 @@ fn values_of(o: Outcome, before: Seed) -> Seed
     }
 }
 
-// Moves the seed (x, y) to the centre of mass of the cells about it, and puts their mass into `mass`; 0 where the seed stays.
+// Moves the seed (x, y) to the centre of mass of the cells around it. `mass` gets their mass, or 0 if the seed stays.
 #[no_mangle]
 pub extern "C" fn zakdomp_centroid(
     map: &[f32],

@@ -17,7 +17,7 @@ fn number_of(a: Enough) -> u8
     }
 }
 
-// 1 for yes and 0 for no, or `before` where refused.
+// 1 for yes and 0 for no, or `before` if refused.
 fn yes_of(a: Enough, before: u8) -> u8
     ensures { λ r. ⌜ r ≡ getD (valuesOf a) 0 before ⌝ }
 {
@@ -28,7 +28,7 @@ fn yes_of(a: Enough, before: u8) -> u8
     }
 }
 
-// The rows looked at, or `before` where refused.
+// The rows looked at, or `before` if refused.
 fn rows_of(a: Enough, before: usize) -> usize
     ensures { λ r. ⌜ r ≡ getD (valuesOf a) 1 before ⌝ }
 {
@@ -39,7 +39,7 @@ fn rows_of(a: Enough, before: usize) -> usize
     }
 }
 
-// Puts into `enough` whether a map has at least `wanted` peaks, 1 or 0, and into `rows` how many rows were looked at.
+// Sets `enough` to 1 if a map has at least `wanted` peaks and to 0 if not, and `rows` to the number of rows looked at.
 #[no_mangle]
 pub extern "C" fn zakdomp_has_peaks(
     map: &[f32],
@@ -54,8 +54,10 @@ pub extern "C" fn zakdomp_has_peaks(
     enough: &mut u8,
     rows: &mut usize,
 ) -> u8
-    ensures { λ r. ⌜ PeaksCounted (conditions (length (now (map .entry))) w h ring window «centroid_radius») (now (map .entry))
-        (searchOf w h ring threshold window «least_neighbours» «centroid_radius») wanted (now (enough .entry)) (now (rows .entry))
+    ensures { λ r. ⌜ PeaksCounted (conditions (length (now (map .entry))) w h ring window «centroid_radius»)
+        (now (map .entry))
+        (searchOf w h ring threshold window «least_neighbours» «centroid_radius») wanted (now (enough .entry))
+        (now (rows .entry))
         r (now (enough .exit)) (now (rows .exit)) ⌝ }
 {
     let a = detect::has_peaks(

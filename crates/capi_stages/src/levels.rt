@@ -6,7 +6,7 @@ ghost use Rattle.pyramid_levels.specs.Levels.{levelCount, cellsAbove, capped};
 ghost use Rattle.pyramid.specs.Build.{numberOf, valuesOf};
 ghost use Rattle.capi_stages.specs.Levels.{LevelsBuilt};
 
-// The number of an answer, 0 where levels were built.
+// The number of an answer, 0 if levels were built.
 fn number_of(a: Pyramid) -> u8
     ensures { λ r. ⌜ r ≡ numberOf a ⌝ }
 {
@@ -16,7 +16,7 @@ fn number_of(a: Pyramid) -> u8
     }
 }
 
-// How many levels there are, or `before` where refused.
+// How many levels there are, or `before` if refused.
 fn built_of(a: Pyramid, before: usize) -> usize
     ensures { λ r. ⌜ r ≡ getD (valuesOf a) 0 before ⌝ }
 {
@@ -26,7 +26,7 @@ fn built_of(a: Pyramid, before: usize) -> usize
     }
 }
 
-// How many bytes the level buffer of such an image needs; the largest number where there are more.
+// How many bytes the level buffer of such an image needs; the largest number if it needs more.
 #[no_mangle]
 pub extern "C" fn zakdomp_level_bytes(w: usize, h: usize, count: u32, minimum_side: usize) -> usize
     ensures { λ r. ⌜ r ≡ capped (cellsAbove w h (levelCount w h count «minimum_side»)) ⌝ }
@@ -34,7 +34,7 @@ pub extern "C" fn zakdomp_level_bytes(w: usize, h: usize, count: u32, minimum_si
     pyramid_levels::cells_above(w, h, count, minimum_side)
 }
 
-// Builds the levels above an image first in `levels`, and puts their number, the image included, into `built`.
+// Writes the levels above an image to the start of `levels`. `built` gets the number of levels, the image included.
 #[no_mangle]
 pub extern "C" fn zakdomp_levels(
     img: &[u8],

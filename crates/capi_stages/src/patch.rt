@@ -16,7 +16,7 @@ fn number_of(a: Patch) -> u8
     }
 }
 
-// The width of a map, or `before` where there is none.
+// The width of a map, or `before` if there is none.
 fn width_of(a: Patch, before: usize) -> usize
     ensures { λ r. ⌜ r ≡ getD (valuesOf a) 0 before ⌝ }
 {
@@ -26,7 +26,7 @@ fn width_of(a: Patch, before: usize) -> usize
     }
 }
 
-// The height of a map, or `before` where there is none.
+// The height of a map, or `before` if there is none.
 fn height_of(a: Patch, before: usize) -> usize
     ensures { λ r. ⌜ r ≡ getD (valuesOf a) 1 before ⌝ }
 {
@@ -36,8 +36,8 @@ fn height_of(a: Patch, before: usize) -> usize
     }
 }
 
-// Puts the responses of the cells in the columns x0 up to x1 and the rows y0 up to y1 first in `map`, and the sides of that map into `width` and
-// `height`. The box is clipped to the image.
+// Writes the responses of the cells in columns x0 up to x1 and rows y0 up to y1 to the start of `map`, and the sides of
+// that map to `width` and `height`. The box is clipped to the image.
 #[no_mangle]
 pub extern "C" fn zakdomp_response(
     img: &[u8],
@@ -52,8 +52,10 @@ pub extern "C" fn zakdomp_response(
     width: &mut usize,
     height: &mut usize,
 ) -> u8
-    ensures { λ r. ⌜ Responded (record { img = now (img .entry); w = w; h = h; ring = ringOf ring; x0 = x0; y0 = y0; x1 = x1; y1 = y1 }) ring
-        (now (map .entry)) (now (width .entry)) (now (height .entry)) r (now (map .exit)) (now (width .exit)) (now (height .exit)) ⌝ }
+    ensures { λ r. ⌜ Responded (record
+        { img = now (img .entry); w = w; h = h; ring = ringOf ring; x0 = x0; y0 = y0; x1 = x1; y1 = y1 }) ring
+        (now (map .entry)) (now (width .entry)) (now (height .entry)) r (now (map .exit)) (now (width .exit))
+        (now (height .exit)) ⌝ }
 {
     let a = response::chess_response_u8_patch(img, w, h, ring, x0, y0, x1, y1, map);
     *width = width_of(a, *width);

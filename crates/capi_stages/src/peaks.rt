@@ -6,7 +6,7 @@ ghost use Rattle.corner_list.specs.CornerList.{slices};
 ghost use Rattle.detect.specs.Detect.{searchOf, startsIn, tiesIn, conditions, numberOf, valuesOf};
 ghost use Rattle.capi_stages.specs.Peaks.{PeaksFound};
 
-// The number of an answer, 0 where peaks were added.
+// The number of an answer, 0 if peaks were added.
 fn number_of(a: Peaks) -> u8
     ensures { λ r. ⌜ r ≡ numberOf a ⌝ }
 {
@@ -16,7 +16,7 @@ fn number_of(a: Peaks) -> u8
     }
 }
 
-// How many peaks were added, or `before` where refused.
+// How many peaks were added, or `before` if refused.
 fn added_of(a: Peaks, before: usize) -> usize
     ensures { λ r. ⌜ r ≡ getD (valuesOf a) 0 before ⌝ }
 {
@@ -26,7 +26,7 @@ fn added_of(a: Peaks, before: usize) -> usize
     }
 }
 
-// How many ties they have, or `before` where refused.
+// How many ties they have, or `before` if refused.
 fn ties_of(a: Peaks, before: u64) -> u64
     ensures { λ r. ⌜ r ≡ getD (valuesOf a) 1 before ⌝ }
 {
@@ -36,7 +36,8 @@ fn ties_of(a: Peaks, before: u64) -> u64
     }
 }
 
-// Puts the peaks of a map behind the first `held` corners of a buffer, their number into `added` and the number of their ties into `ties`.
+// Writes the peaks of a map after the first `held` corners of a buffer. `added` gets their number, and `ties` the
+// number of their ties.
 #[no_mangle]
 pub extern "C" fn zakdomp_peaks(
     map: &[f32],
@@ -58,8 +59,10 @@ pub extern "C" fn zakdomp_peaks(
     ensures { λ r. ⌜ PeaksFound (conditions (length (now (map .entry))) w h ring window «centroid_radius»)
         (startsIn (now (map .entry)) (searchOf w h ring threshold window «least_neighbours» «centroid_radius»))
         (tiesIn (now (map .entry)) (searchOf w h ring threshold window «least_neighbours» «centroid_radius»))
-        held (slices (now (xs .entry)) (now (ys .entry)) (now (strengths .entry)) (now (neighbours .entry))) (now (added .entry)) (now (ties .entry))
-        r (slices (now (xs .exit)) (now (ys .exit)) (now (strengths .exit)) (now (neighbours .exit))) (now (added .exit)) (now (ties .exit)) ⌝ }
+        held (slices (now (xs .entry)) (now (ys .entry)) (now (strengths .entry)) (now (neighbours .entry)))
+        (now (added .entry)) (now (ties .entry))
+        r (slices (now (xs .exit)) (now (ys .exit)) (now (strengths .exit)) (now (neighbours .exit)))
+        (now (added .exit)) (now (ties .exit)) ⌝ }
 {
     let a = detect::detect_peaks_from_response_with_refine_radius(
         map,

@@ -47,7 +47,8 @@ module _ (kind start time letter : ℕ) (a : Holding) (r letter′ : ℕ) where
       go false true = refl
       go false false = refl
 
-  pub holding-told : Told kind start time a → r ≡ numberOf a → letter′ ≡ getD (valuesOf a) 0 letter → HoldingTold kind start time letter r letter′
+  pub holding-told : Told kind start time a → r ≡ numberOf a → letter′ ≡ getD (valuesOf a) 0 letter
+      → HoldingTold kind start time letter r letter′
   holding-told t n x =
       let number = refusalOf kind start time in record {
         answer = subst (Told kind start time) (answer numberOf a number (t .number) r n (λ k. unless Refused k state) (t .answer)) t;
@@ -61,7 +62,8 @@ module _ (upload : List ℕ) (a : PgmImage) (r : ℕ) (f : pgm.PgmRead upload a)
   value-is : (i before x : ℕ) → x ≡ getD (pgm.valuesOf a) i before
       → x ≡ resultOr r (getD (rasterAt upload ∷ widthOf upload ∷ heightOf upload ∷ []) i before) before
   value-is =
-      value pgm.numberOf a (pgm.refusalOf upload) (f .number) r n pgm.valuesOf (rasterAt upload ∷ widthOf upload ∷ heightOf upload ∷ []) (f .values)
+      value pgm.numberOf a (pgm.refusalOf upload) (f .number) r n pgm.valuesOf
+      (rasterAt upload ∷ widthOf upload ∷ heightOf upload ∷ []) (f .values)
 
   pub image-read : (at width height at′ width′ height′ : ℕ)
       → at′ ≡ getD (pgm.valuesOf a) 0 at → width′ ≡ getD (pgm.valuesOf a) 1 width → height′ ≡ getD (pgm.valuesOf a) 2 height
@@ -90,7 +92,8 @@ module _ (h : Header) (pixels stream : List ℕ) (written : ℕ) (a : FrameWriti
 -- ---- a pixel changed
 module _ (w h ring : ℕ) (q : Place) (v : ℕ) (img : List ℕ) (map : List Float) (redone : ℕ)
     (a : Retouched) (r : ℕ) (img′ : List ℕ) (map′ : List Float) (redone′ : ℕ) where
-  pub pixel-retouched : retouch.Retouches w h ring q v img map a img′ map′ → r ≡ retouch.numberOf a → redone′ ≡ getD (retouch.valuesOf a) 0 redone
+  pub pixel-retouched : retouch.Retouches w h ring q v img map a img′ map′ → r ≡ retouch.numberOf a
+      → redone′ ≡ getD (retouch.valuesOf a) 0 redone
       → PixelRetouched w h ring q v img map redone r img′ map′ redone′
   pixel-retouched p n x =
       let number = retouch.refusalOf (length img) (length map) w h ring q in

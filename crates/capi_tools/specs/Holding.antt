@@ -6,7 +6,7 @@ use Rattle.retention.specs.Retention.{stateOf, letterOf}
 use Rattle.retention.specs.Answer.{Told}
 use Rattle.lists.specs.Refusals.{unless, resultOr}
 
--- the number r that is returned is that of the answer, and the letter is that of the answer
+-- r is the number of the answer, and the letter is the answer's too
 pub record HoldingTold (kind start time letter r letter′ : ℕ) : Type 0 where
   pub answer : Told kind start time (unless Refused r (stateOf kind start time))
   pub letter-is : letter′ ≡ resultOr r (letterOf (stateOf kind start time)) letter

@@ -7,7 +7,7 @@ use Rattle.pgm.specs.Header.{widthOf, heightOf, rasterAt}
 use Rattle.pgm.specs.Pgm.{PgmRead}
 use Rattle.lists.specs.Refusals.{unless, resultOr}
 
--- the number r that is returned is that of the answer, and so are the place of the pixels and both sides
+-- r is the number of the answer, and the place of the pixels and both sides are the answer's too
 pub record ImageRead (upload : List ℕ) (at width height r at′ width′ height′ : ℕ) : Type 0 where
   pub answer : PgmRead upload (unless Refused r (Pixels (rasterAt upload) (widthOf upload) (heightOf upload)))
   pub at-is : at′ ≡ resultOr r (rasterAt upload) at

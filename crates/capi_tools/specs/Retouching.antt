@@ -10,8 +10,9 @@ use Rattle.retouch.specs.Retouch.{touchedCount}
 use Rattle.retouch.specs.Promise.{Retouches}
 use Rattle.lists.specs.Refusals.{unless, resultOr}
 
--- the number r that is returned is that of the answer, and image, map and count are those of the answer
+-- r is the number of the answer, and image, map and count are the answer's too
 pub record PixelRetouched (w h ring : ℕ) (q : Place) (value : ℕ) (img : List ℕ) (map : List Float) (redone : ℕ)
     (r : ℕ) (img′ : List ℕ) (map′ : List Float) (redone′ : ℕ) : Type 0 where
-  pub answer : Retouches w h ring q value img map (unless Refused r (Redone (touchedCount w h (ringOf ring) q))) img′ map′
+  pub answer : Retouches w h ring q value img map
+      (unless Refused r (Redone (touchedCount w h (ringOf ring) q))) img′ map′
   pub redone-is : redone′ ≡ resultOr r (touchedCount w h (ringOf ring) q) redone

@@ -9,7 +9,8 @@ use Rattle.frame_writer.specs.declared.FrameWriting.the-variants.{Written, Refu
 use Rattle.frame_writer.specs.FrameWriter.{FrameWritten}
 use Rattle.lists.specs.Refusals.{unless, resultOr}
 
--- the number r that is returned is that of the answer, and the buffer and the length are those of the answer
-pub record StreamTold (h : Header) (pixels stream : List ℕ) (written r : ℕ) (stream′ : List ℕ) (written′ : ℕ) : Type 0 where
+-- r is the number of the answer, and the buffer and the length are the answer's too
+pub record StreamTold (h : Header) (pixels stream : List ℕ) (written r : ℕ) (stream′ : List ℕ)
+    (written′ : ℕ) : Type 0 where
   pub answer : FrameWritten h pixels stream (unless Refused r (Written (length (frameBytes h pixels)))) stream′
   pub written-is : written′ ≡ resultOr r (length (frameBytes h pixels)) written

@@ -8,7 +8,7 @@ ghost use Rattle.retention.specs.Retention.{numberOf, valuesOf};
 ghost use Rattle.retention.specs.Stream.{outputOf};
 ghost use Rattle.capi_tools.specs.Holding.{HoldingTold};
 
-// The number of an answer, 0 where there is no refusal.
+// The number of an answer, 0 if there is no refusal.
 fn number_of(a: Holding) -> u8
     ensures { λ r. ⌜ r ≡ numberOf a ⌝ }
 {
@@ -20,7 +20,7 @@ fn number_of(a: Holding) -> u8
     }
 }
 
-// The letter of an answer, or `before` where refused.
+// The letter of an answer, or `before` if refused.
 fn letter_of(a: Holding, before: u8) -> u8
     ensures { λ r. ⌜ r ≡ getD (valuesOf a) 0 before ⌝ }
 {
@@ -32,7 +32,7 @@ fn letter_of(a: Holding, before: u8) -> u8
     }
 }
 
-// Puts the letter of an item at a time into `letter`: N not yet, H held, G gone.
+// Sets `letter` to the letter of an item at a time: N not yet, H held, G gone.
 #[no_mangle]
 pub extern "C" fn zakdomp_holding(kind: u8, start: u64, time: u64, letter: &mut u8) -> u8
     ensures { λ r. ⌜ HoldingTold kind start time (now (letter .entry)) r (now (letter .exit)) ⌝ }
@@ -42,7 +42,7 @@ pub extern "C" fn zakdomp_holding(kind: u8, start: u64, time: u64, letter: &mut 
     number_of(a)
 }
 
-// Writes what is printed of a stream of items first in `output`, and returns its length.
+// Writes what is printed for a stream of items to the start of `output`, and returns its length.
 #[no_mangle]
 pub extern "C" fn zakdomp_holdings(input: &[u8], output: &mut [u8; LONGEST]) -> usize
     ensures { λ r. ⌜ Written (outputOf (now (input .entry))) (now (output .entry)) r (now (output .exit)) ⌝ }

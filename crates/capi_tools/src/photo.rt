@@ -5,7 +5,7 @@ ghost use lib.ListN.{getD};
 ghost use Rattle.pgm.specs.Pgm.{numberOf, valuesOf};
 ghost use Rattle.capi_tools.specs.Photo.{ImageRead};
 
-// The number of an answer, 0 where the upload is accepted.
+// The number of an answer, 0 if the upload is accepted.
 fn number_of(a: PgmImage) -> u8
     ensures { λ r. ⌜ r ≡ numberOf a ⌝ }
 {
@@ -15,7 +15,7 @@ fn number_of(a: PgmImage) -> u8
     }
 }
 
-// Where the pixels begin, and the sides; or `before` where refused.
+// Where the pixels begin, and the sides; or `before` if refused.
 fn place_of(a: PgmImage, before: usize) -> usize
     ensures { λ r. ⌜ r ≡ getD (valuesOf a) 0 before ⌝ }
 {
@@ -51,7 +51,8 @@ pub extern "C" fn zakdomp_pgm(
     width: &mut usize,
     height: &mut usize,
 ) -> u8
-    ensures { λ r. ⌜ ImageRead (now (upload .entry)) (now (at .entry)) (now (width .entry)) (now (height .entry)) r (now (at .exit)) (now (width .exit)) (now (height .exit)) ⌝ }
+    ensures { λ r. ⌜ ImageRead (now (upload .entry)) (now (at .entry)) (now (width .entry))
+        (now (height .entry)) r (now (at .exit)) (now (width .exit)) (now (height .exit)) ⌝ }
 {
     let a = pgm::read_pgm(upload);
     *at = place_of(a, *at);

@@ -1,11 +1,11 @@
-// A pixel of an image changed, and its map redone.
+// A pixel of an image changed, and its map updated.
 use retouch::Retouched;
 ghost use mathlib.Core.Path.{_≡_};
 ghost use lib.ListN.{getD};
 ghost use Rattle.retouch.specs.Promise.{numberOf, valuesOf};
 ghost use Rattle.capi_tools.specs.Retouching.{PixelRetouched};
 
-// The number of an answer, 0 where the pixel was changed.
+// The number of an answer, 0 if the pixel was changed.
 fn number_of(a: Retouched) -> u8
     ensures { λ r. ⌜ r ≡ numberOf a ⌝ }
 {
@@ -15,7 +15,7 @@ fn number_of(a: Retouched) -> u8
     }
 }
 
-// How many cells were computed anew, or `before` where refused.
+// How many cells were computed again, or `before` if refused.
 fn redone_of(a: Retouched, before: usize) -> usize
     ensures { λ r. ⌜ r ≡ getD (valuesOf a) 0 before ⌝ }
 {
@@ -25,8 +25,8 @@ fn redone_of(a: Retouched, before: usize) -> usize
     }
 }
 
-// Changes the pixel (x, y) of an image to `value`, computes the cells of its map anew that this pixel touches, and puts their number into
-// `redone`.
+// Changes the pixel (x, y) of an image to `value` and computes the cells of its map that depend on this pixel again.
+// `redone` gets their number.
 #[no_mangle]
 pub extern "C" fn zakdomp_retouch(
     img: &mut [u8],
@@ -39,7 +39,8 @@ pub extern "C" fn zakdomp_retouch(
     value: u8,
     redone: &mut usize,
 ) -> u8
-    ensures { λ r. ⌜ PixelRetouched w h ring (record { x = x; y = y }) value (now (img .entry)) (now (map .entry)) (now (redone .entry))
+    ensures { λ r. ⌜ PixelRetouched w h ring (record { x = x; y = y }) value (now (img .entry))
+        (now (map .entry)) (now (redone .entry))
         r (now (img .exit)) (now (map .exit)) (now (redone .exit)) ⌝ }
 {
     let a = retouch::retouch(img, w, h, ring, map, x, y, value);

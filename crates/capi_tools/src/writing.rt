@@ -7,7 +7,7 @@ ghost use Rattle.stream.specs.Stream.{header};
 ghost use Rattle.frame_writer.specs.FrameWriter.{numberOf, valuesOf};
 ghost use Rattle.capi_tools.specs.Writing.{StreamTold};
 
-// The number of an answer, 0 where a stream was written.
+// The number of an answer, 0 if a stream was written.
 fn number_of(a: FrameWriting) -> u8
     ensures { λ r. ⌜ r ≡ numberOf a ⌝ }
 {
@@ -17,7 +17,7 @@ fn number_of(a: FrameWriting) -> u8
     }
 }
 
-// How long the stream is, or `before` where refused.
+// How long the stream is, or `before` if refused.
 fn length_of(a: FrameWriting, before: usize) -> usize
     ensures { λ r. ⌜ r ≡ getD (valuesOf a) 0 before ⌝ }
 {
@@ -27,7 +27,7 @@ fn length_of(a: FrameWriting, before: usize) -> usize
     }
 }
 
-// Writes the stream of a frame first in `stream`, and puts its length into `written`. The floats come as their bits.
+// Writes the stream of a frame to the start of `stream`. `written` gets its length. The floats are given as their bits.
 #[no_mangle]
 pub extern "C" fn zakdomp_write_stream(
     pixels: &[u8],
@@ -45,7 +45,8 @@ pub extern "C" fn zakdomp_write_stream(
     stream: &mut [u8],
     written: &mut usize,
 ) -> u8
-    ensures { λ r. ⌜ StreamTold (header w h ring «threshold_bits» window «least_neighbours» «centroid_radius» «merge_bits» «level_count» «minimum_side» «search_radius») (now (pixels .entry))
+    ensures { λ r. ⌜ StreamTold (header w h ring «threshold_bits» window «least_neighbours» «centroid_radius»
+        «merge_bits» «level_count» «minimum_side» «search_radius») (now (pixels .entry))
         (now (stream .entry)) (now (written .entry)) r (now (stream .exit)) (now (written .exit)) ⌝ }
 {
     let header = Header {

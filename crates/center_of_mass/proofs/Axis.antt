@@ -37,7 +37,8 @@ module _ (r side p : ℕ) where
 placed-in : (r side p : ℕ) (o : Rounded) → At p ≡ centreFrom r side o → (o ≡ Natural p) × (r ≤ p) × (p + r < side)
 placed-in r side p (Natural q) h = go (ltb q r) (leb (side - r) q) refl refl h
   where
-    go : (a b : Bool) → ltb q r ≡ a → leb (side - r) q ≡ b → At p ≡ cond (a || b) Outside (At q) → (Natural q ≡ Natural p) × (r ≤ p) × (p + r < side)
+    go : (a b : Bool) → ltb q r ≡ a → leb (side - r) q ≡ b → At p ≡ cond (a || b) Outside (At q)
+        → (Natural q ≡ Natural p) × (r ≤ p) × (p + r < side)
     go true b s t e = absurd (let z : _≡_ {A = ℕ} 0 1 = cc in omega arith)
     go false true s t e = absurd (let z : _≡_ {A = ℕ} 0 1 = cc in omega arith)
     go false false s t e = let k : p ≡ q = cc in ((cc), omega (arith, ltb-false q r s), omega (arith, leb-false (side - r) q t))

@@ -6,6 +6,7 @@ use Prim.Native.Nat.{ℕ, _≤_, _<_}
 use lib.Dec.{ltb, lit<}
 use lib.Ieee.{Float}
 use borrow.Author.Tests.{lt-ltb, le-ltb, ltb-false}
+use Rattle.lists.specs.Limits.{largestRadius}
 use Rattle.lists.specs.Places.{All}
 use Rattle.lists.specs.Refusals.{isLarge, isMisfit}
 use Rattle.lists.specs.Internal.{Sized}
@@ -26,22 +27,23 @@ module _ (r : ℕ) (x y : Float) (cells w h : ℕ) where
 
   -- ---- the radius and the seed
   module _ (hasMap : Bool) (f : MapFits hasMap) where
-    seed-only : refusalOf r x y hasMap cells w h ≡ cond (ltb 16 r) 3 (cond (not (seedFits x && seedFits y)) 4 0)
+    seed-only : refusalOf r x y hasMap cells w h ≡ cond (ltb largestRadius r) 3 (cond (not (seedFits x && seedFits y)) 4 0)
     unfolding refusalOf
     seed-only = go f
       where
-        go : MapFits hasMap → refusalOf r x y hasMap cells w h ≡ cond (ltb 16 r) 3 (cond (not (seedFits x && seedFits y)) 4 0)
+        go : MapFits hasMap → refusalOf r x y hasMap cells w h ≡ cond (ltb largestRadius r) 3 (cond (not (seedFits x && seedFits y)) 4 0)
         go (inl g) = rw (g .0) (passed cells w h _ (g .1))
         go (inr g) = rw g
 
-    pub large : 16 < r → 3 ≡ refusalOf r x y hasMap cells w h
-    large k = rw (seed-only, lt-ltb 16 r k)
+    pub large : largestRadius < r → 3 ≡ refusalOf r x y hasMap cells w h
+    large k = rw (seed-only, lt-ltb largestRadius r k)
 
-    pub seed-far : (a b : Bool) → r ≤ 16 → a ≡ seedFits x → b ≡ seedFits y → (a && b) ≡ false → 4 ≡ refusalOf r x y hasMap cells w h
-    seed-far a b k p q e = rw (seed-only, le-ltb 16 r k, ← p, ← q, e)
+    pub seed-far : (a b : Bool) → r ≤ largestRadius → a ≡ seedFits x → b ≡ seedFits y → (a && b) ≡ false
+        → 4 ≡ refusalOf r x y hasMap cells w h
+    seed-far a b k p q e = rw (seed-only, le-ltb largestRadius r k, ← p, ← q, e)
 
-    pub none : r ≤ 16 → true ≡ seedFits x → true ≡ seedFits y → 0 ≡ refusalOf r x y hasMap cells w h
-    none k p q = rw (seed-only, le-ltb 16 r k, ← p, ← q)
+    pub none : r ≤ largestRadius → true ≡ seedFits x → true ≡ seedFits y → 0 ≡ refusalOf r x y hasMap cells w h
+    none k p q = rw (seed-only, le-ltb largestRadius r k, ← p, ← q)
 
   -- ---- nothing is refused
   module _ (hasMap : Bool) (e : refusalOf r x y hasMap cells w h ≡ 0) where
@@ -49,8 +51,8 @@ module _ (r : ℕ) (x y : Float) (cells w h : ℕ) where
     unfolding refusalOf
     clear = all-clear (conditions r x y hasMap cells w h) (lit< tt, (lit< tt, (lit< tt, (lit< tt, tt)))) e
 
-    pub radius-small : r ≤ 16
-    radius-small = ltb-false 16 r (clear .1 .1 .0)
+    pub radius-small : r ≤ largestRadius
+    radius-small = ltb-false largestRadius r (clear .1 .1 .0)
 
     pub map-fits : hasMap ≡ true → Sized cells w h
     map-fits m = go hasMap m (clear .0) (clear .1 .0)

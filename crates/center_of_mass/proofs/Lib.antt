@@ -7,3 +7,4 @@ pub mod Weights
 pub mod Told
 pub mod Range
 pub mod Peak
+pub mod Alike

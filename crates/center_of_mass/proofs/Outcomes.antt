@@ -25,7 +25,8 @@ module _ (r : ℕ) (x y : Float) (m : List Float) (w h : ℕ) where
       go Outside = refl
 
   module _ (cx cy : ℕ) (p : centreOn r w x ≡ At cx) (q : centreOn r h y ≡ At cy) (s : Sums) (e : s ≡ windowSums r m w cx cy) where
-    pub with-mass : lt zero (s .sw) ≡ true → Accepted (div binary32 (s .sx) (s .sw)) (div binary32 (s .sy) (s .sw)) (s .sw) ≡ outcomeOf r x y m w h
+    pub with-mass : lt zero (s .sw) ≡ true
+        → Accepted (div binary32 (s .sx) (s .sw)) (div binary32 (s .sy) (s .sw)) (s .sw) ≡ outcomeOf r x y m w h
     unfolding outcomeOf
     with-mass k = rw (p, q, ← e, k)
 

@@ -13,7 +13,8 @@ use Rattle.center_of_mass.specs.declared.Centre.{Centre}
 use Rattle.center_of_mass.specs.declared.Centre.the-variants.{At, Outside}
 use Rattle.center_of_mass.specs.declared.Outcome.{Outcome}
 use Rattle.center_of_mass.specs.declared.Outcome.the-variants.{Accepted, Rejected, OutOfBounds, IllConditioned, Refused}
-use Rattle.center_of_mass.specs.CenterOfMass.{windowSums, refusalOf, centreOn, meanOf, weighed, outcomeOf, refined, numberOf, valuesOf}
+use Rattle.center_of_mass.specs.CenterOfMass.{windowSums, refusalOf, centreOn, meanOf, weighed, outcomeOf, refined, numberOf}
+use Rattle.center_of_mass.specs.CenterOfMass.{valuesOf}
 use Rattle.center_of_mass.specs.Promise.{Refined}
 
 -- ---- an outcome that is no refusal, whose number is 0
@@ -30,7 +31,8 @@ number-none (Refused n) u = absurd (u n refl)
 mean-unrefused : (x y : Float) (s : Sums) → Unrefused (meanOf x y s)
 mean-unrefused x y s = go (lt zero32 (s .sw))
   where
-    go : (b : Bool) → Unrefused (cond b (Accepted (div binary32 (s .sx) (s .sw)) (div binary32 (s .sy) (s .sw)) (s .sw)) (IllConditioned x y))
+    go : (b : Bool) → Unrefused (cond b (Accepted (div binary32 (s .sx) (s .sw)) (div binary32 (s .sy) (s .sw)) (s .sw))
+        (IllConditioned x y))
     go true k e = let z : _≡_ {A = ℕ} 0 1 = cc in omega arith
     go false k e = let z : _≡_ {A = ℕ} 0 1 = cc in omega arith
 

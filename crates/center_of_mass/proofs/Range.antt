@@ -1,5 +1,5 @@
--- Where an accepted centre of mass lies, in a map as the response makes it: it is the quotient of two running sums over a window within the map.
--- Assumes nothing.
+-- Where an accepted centre of mass lies, in a map as the response makes it: it is the quotient of two running sums over a window within the
+-- map. Assumes nothing.
 use mathlib.Core.Path.{_≡_, refl, sym, subst}
 use mathlib.Core.Bool.{Bool, true, false, cond}
 use mathlib.Core.List.{List}
@@ -10,6 +10,7 @@ use lib.Dec.{T}
 use lib.ListN.{length}
 use lib.IntN.{pos}
 use lib.Ieee.{Float, nan, binary32, lt, add, div, ofInt}
+use Rattle.lists.specs.Limits.{largestSide, largestRadius}
 use Rattle.lists.specs.Refusals.{unless}
 use Rattle.lists.specs.Places.{All}
 use Rattle.lists.proofs.Places.{length-block}
@@ -21,17 +22,18 @@ use Rattle.center_of_mass.specs.declared.Sums.{Sums}
 use Rattle.center_of_mass.specs.declared.Outcome.the-variants.{Accepted, Rejected, IllConditioned, Refused}
 use Rattle.center_of_mass.specs.declared.Centre.{Centre}
 use Rattle.center_of_mass.specs.declared.Centre.the-variants.{At, Outside}
-use Rattle.center_of_mass.specs.CenterOfMass.{noSums, weightAt, cellsAbout, windowSums, refusalOf, centreOn, meanOf, weighed, outcomeOf, refined}
+use Rattle.center_of_mass.specs.CenterOfMass.{noSums, weightAt, cellsAbout, windowSums, refusalOf, centreOn, meanOf, weighed}
+use Rattle.center_of_mass.specs.CenterOfMass.{outcomeOf, refined}
 use Rattle.center_of_mass.proofs.Axis.{centre-rounded, window-in}
 use Rattle.center_of_mass.proofs.Judgement.{radius-small, map-fits}
 use Rattle.center_of_mass.proofs.Weights.{Usual, Weighs, weighs, sx-is, sy-is, mean-upto}
 
 -- ---- the window of radius r about a centre whose window lies within the map
 pub record Inside (r : ℕ) (m : List Float) (w h cx cy : ℕ) : Type 0 where
-  pub radius : r ≤ 16
+  pub radius : r ≤ largestRadius
   pub across : (r ≤ cx) × (cx + r < w)
   pub down : (r ≤ cy) × (cy + r < h)
-  pub sides : (w ≤ 4096) × (h ≤ 4096)
+  pub sides : (w ≤ largestSide) × (h ≤ largestSide)
   pub cells : length m ≡ w * h
 
 -- the cells of a window whose radius is at most n
@@ -82,14 +84,16 @@ module _ (r : ℕ) (x y : Float) (m : List Float) (w h : ℕ) (cx cy mass : Floa
       → T (lt zero32 (s .sw)) × (cx ≡ div binary32 (s .sx) (s .sw)) × (cy ≡ div binary32 (s .sy) (s .sw)) × (mass ≡ s .sw)
   mean-accepted s e = go (lt zero32 (s .sw)) e
     where
-      go : (b : Bool) → cond b (Accepted (div binary32 (s .sx) (s .sw)) (div binary32 (s .sy) (s .sw)) (s .sw)) (IllConditioned x y) ≡ Accepted cx cy mass
+      go : (b : Bool) → cond b (Accepted (div binary32 (s .sx) (s .sw)) (div binary32 (s .sy) (s .sw)) (s .sw))
+          (IllConditioned x y) ≡ Accepted cx cy mass
           → T b × (cx ≡ div binary32 (s .sx) (s .sw)) × (cy ≡ div binary32 (s .sy) (s .sw)) × (mass ≡ s .sw)
       go true e = (tt, (cc), (cc), (cc))
       go false e = absurd (let z : _≡_ {A = ℕ} 0 1 = cc in omega arith)
 
   -- the map, which nothing is refused of
-  module _ (radius : r ≤ 16) (sides : (w ≤ 4096) × (h ≤ 4096)) (cells : length m ≡ w * h) where
-    weighing-at : (a b : Centre) → centreOn r w x ≡ a → centreOn r h y ≡ b → weighed r x y m w a b ≡ Accepted cx cy mass → Weighing r x y m w h cx cy mass
+  module _ (radius : r ≤ largestRadius) (sides : (w ≤ largestSide) × (h ≤ largestSide)) (cells : length m ≡ w * h) where
+    weighing-at : (a b : Centre) → centreOn r w x ≡ a → centreOn r h y ≡ b → weighed r x y m w a b ≡ Accepted cx cy mass
+        → Weighing r x y m w h cx cy mass
     weighing-at (At px) (At py) p q e =
         let k = mean-accepted (windowSums r m w px py) e in
         record {
@@ -97,7 +101,13 @@ module _ (r : ℕ) (x y : Float) (m : List Float) (w h : ℕ) (cx cy mass : Floa
           py = py;
           column-is = centre-rounded r w px x (sym p);
           row-is = centre-rounded r h py y (sym q);
-          inside = record { radius = radius; across = window-in r w px x (sym p); down = window-in r h py y (sym q); sides = sides; cells = cells };
+          inside = record {
+            radius = radius;
+            across = window-in r w px x (sym p);
+            down = window-in r h py y (sym q);
+            sides = sides;
+            cells = cells;
+          };
           above = k .0;
           cx-is = k .1;
           cy-is = k .2;
@@ -114,7 +124,8 @@ module _ (r : ℕ) (x y : Float) (m : List Float) (w h : ℕ) (cx cy mass : Floa
           → unless Refused k (cond b (outcomeOf r x y m w h) (Rejected x y)) ≡ Accepted cx cy mass → Weighing r x y m w h cx cy mass
       judged zero n true t e =
           let f = map-fits r x y (length m) w h hasMap n t in
-          weighing-at (radius-small r x y (length m) w h hasMap n) (f .narrow, f .low) (f .sized) (centreOn r w x) (centreOn r h y) refl refl e
+          weighing-at (radius-small r x y (length m) w h hasMap n) (f .narrow, f .low) (f .sized) (centreOn r w x)
+          (centreOn r h y) refl refl e
       judged zero n false t e = absurd (let z : _≡_ {A = ℕ} 0 1 = cc in omega arith)
       judged (suc k) n b t e = absurd (let z : _≡_ {A = ℕ} 0 1 = cc in omega arith)
 
@@ -122,17 +133,21 @@ module _ (r : ℕ) (x y : Float) (m : List Float) (w h : ℕ) (cx cy mass : Floa
 pub within-map : (r : ℕ) (x y : Float) (hasMap : Bool) (m : List Float) (w h : ℕ) (cx cy mass : Float) → All Usual m
     → refined r x y hasMap m w h ≡ Accepted cx cy mass → UpTo cx w × UpTo cy h
 within-map r x y hasMap m w h cx cy mass u e =
-    let g = weighing r x y m w h cx cy mass hasMap e in
-    (rw (g .cx-is) (x-upto r m w h (g .px) (g .py) (g .inside) u (g .above)), rw (g .cy-is) (y-upto r m w h (g .px) (g .py) (g .inside) u (g .above)))
+    let g = weighing r x y m w h cx cy mass hasMap e in (
+      rw (g .cx-is) (x-upto r m w h (g .px) (g .py) (g .inside) u (g .above)),
+      rw (g .cy-is) (y-upto r m w h (g .px) (g .py) (g .inside) u (g .above)),
+    )
 
-moved : (c : Float) (w x0 width : ℕ) → x0 + w ≤ width → width ≤ 4096 → UpTo c w → UpTo (add binary32 c (ofInt binary32 (pos x0))) width
+moved : (c : Float) (w x0 width : ℕ) → x0 + w ≤ width → width ≤ largestSide → UpTo c w
+    → UpTo (add binary32 c (ofInt binary32 (pos x0))) width
 moved c w x0 width h k u =
     upto-more (add binary32 c (ofInt binary32 (pos x0))) (w + x0) width (omega arith)
     (add-upto binary32 c (ofInt binary32 (pos x0)) w x0 (omega arith) u (whole-upto binary32 x0 (omega arith)))
 
 -- and, moved by the corner (x0, y0) of the map's box in an image, within the image
 pub within-image : (r : ℕ) (x y : Float) (hasMap : Bool) (m : List Float) (w h : ℕ) (cx cy mass : Float) → All Usual m
-    → refined r x y hasMap m w h ≡ Accepted cx cy mass → (x0 y0 width height : ℕ) → x0 + w ≤ width → y0 + h ≤ height → width ≤ 4096 → height ≤ 4096
+    → refined r x y hasMap m w h ≡ Accepted cx cy mass → (x0 y0 width height : ℕ) → x0 + w ≤ width → y0 + h ≤ height → width ≤ largestSide
+    → height ≤ largestSide
     → UpTo (add binary32 cx (ofInt binary32 (pos x0))) width × UpTo (add binary32 cy (ofInt binary32 (pos y0))) height
 within-image r x y hasMap m w h cx cy mass u e x0 y0 width height a b k l =
     let i = within-map r x y hasMap m w h cx cy mass u e in

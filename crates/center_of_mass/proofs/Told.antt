@@ -46,9 +46,11 @@ module _ (r : ℕ) (x y : Float) (m : List Float) (w h : ℕ) where
       go false true p q e = rw (out-placed r h (roundHalfAway y) q) (second (centreFrom r w (roundHalfAway x)))
       go false false p q e = absurd (true≢false (sym e))
 
-  pub outcome-in : (p q : ℕ) → roundHalfAway x ≡ Natural p → roundHalfAway y ≡ Natural q → isOut r w (Natural p) ≡ false → isOut r h (Natural q) ≡ false
+  pub outcome-in : (p q : ℕ) → roundHalfAway x ≡ Natural p → roundHalfAway y ≡ Natural q → isOut r w (Natural p) ≡ false
+      → isOut r h (Natural q) ≡ false
       → outcomeOf r x y m w h
       ≡ meanBy x y (summed (term m w (λ c. c .x)) zero (cellsAbout r p q)) (summed (term m w (λ c. c .y)) zero (cellsAbout r p q))
       (summed (weightAt m w) zero (cellsAbout r p q))
   unfolding outcomeOf centreOn
-  outcome-in p q a b c d = rw (a, b, c, d, sx-is m w noSums (cellsAbout r p q), sy-is m w noSums (cellsAbout r p q), sw-is m w noSums (cellsAbout r p q))
+  outcome-in p q a b c d =
+      rw (a, b, c, d, sx-is m w noSums (cellsAbout r p q), sy-is m w noSums (cellsAbout r p q), sw-is m w noSums (cellsAbout r p q))

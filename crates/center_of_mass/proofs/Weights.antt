@@ -1,4 +1,5 @@
--- The weights of a window's cells, in a map of usual cells: each is a number of units, and the three sums are running sums of them. Assumes nothing.
+-- The weights of a window's cells, in a map of usual cells: each is a number of units, and the three sums are running sums of them. Assumes
+-- nothing.
 use mathlib.Core.Path.{_≡_, refl, sym}
 use mathlib.Core.Bool.{Bool, true, false, cond, true≢false}
 use mathlib.Core.List.{List, [], _∷_}
@@ -12,6 +13,7 @@ use lib.IntN.{ℤ, pos}
 use lib.Pow.{pow-pos}
 use lib.Ieee.{Float, nan, inf, fin, binary32, low, fits, lt, le, mul, div, ofInt}
 use lib.Ieee.Bits.{is-true}
+use Rattle.lists.specs.Limits.{largestWindow}
 use Rattle.lists.specs.Places.{Place, All, sumOf}
 use Rattle.lists.proofs.Members.{all-map, all-both, sum-weighted, sum-none}
 use Rattle.float32.specs.Float32.{zero, lift}
@@ -83,24 +85,28 @@ module _ (m : List Float) (w : ℕ) where
   abbrev pub unitsAt : Place → ℕ
   unitsAt p = unitsOf (weightAt m w p)
 
-  module _ (ps : List Place) (few : length ps ≤ 1089) (each : All (λ p. Weighs (weightAt m w p)) ps) where
+  module _ (ps : List Place) (few : length ps ≤ largestWindow) (each : All (λ p. Weighs (weightAt m w p)) ps) where
     pub mass-nearly : Nearly (withCells m w noSums ps .sw) (sumOf unitsAt ps) (0 + length ps)
     mass-nearly =
         rw (sw-is noSums ps)
         (summed-nearly weight unitsAt 0 (8192 * 2 ^ low binary32) ps (omega arith) (in-all (length ps) (2 ^ low binary32) few)
         (all-map (λ p. Weighs (weightAt m w p)) _ (λ p h. (exactly (weight p) (unitsAt p) (h .0), h .1)) ps each))
       where
-        in-all : (n L : ℕ) → n ≤ 1089 → n * (8192 * L) ≤ 2 ^ 60 * L
-        in-all n L h = let k : n * L ≤ 1089 * L = mul-le-mul-right L h in simp (mul-comm, mul-left-comm) (omega (arith, mul-comm n L))
+        in-all : (n L : ℕ) → n ≤ largestWindow → n * (8192 * L) ≤ 2 ^ 60 * L
+        in-all n L h = let k : n * L ≤ largestWindow * L = mul-le-mul-right L h in
+            simp (mul-comm, mul-left-comm) (omega (arith, mul-comm n L))
 
     module _ (co : Place → ℕ) (M : ℕ) (narrow : M ≤ 4095) (side : All (λ p. co p ≤ M) ps) where
       pub moment-nearly : Nearly (summed (term co) zero ps) (sumOf (λ p. co p * unitsAt p) ps) (1 + length ps)
       moment-nearly =
-          summed-nearly (term co) (λ p. co p * unitsAt p) 1 (4095 * (8192 * 2 ^ low binary32)) ps (omega arith) (in-all (length ps) (2 ^ low binary32) few)
-          (all-map (λ p. Weighs (weightAt m w p) × (co p ≤ M)) _ (λ p h. one p (h .0) (le-trans (h .1) narrow)) ps (all-both _ _ ps each side))
+          summed-nearly (term co) (λ p. co p * unitsAt p) 1 (4095 * (8192 * 2 ^ low binary32)) ps (omega arith)
+          (in-all (length ps) (2 ^ low binary32) few)
+          (all-map (λ p. Weighs (weightAt m w p) × (co p ≤ M)) _ (λ p h. one p (h .0) (le-trans (h .1) narrow)) ps
+          (all-both _ _ ps each side))
         where
-          in-all : (n L : ℕ) → n ≤ 1089 → n * (4095 * (8192 * L)) ≤ 2 ^ 60 * L
-          in-all n L h = let k : n * L ≤ 1089 * L = mul-le-mul-right L h in simp (mul-comm, mul-left-comm) (omega (arith, mul-comm n L))
+          in-all : (n L : ℕ) → n ≤ largestWindow → n * (4095 * (8192 * L)) ≤ 2 ^ 60 * L
+          in-all n L h = let k : n * L ≤ largestWindow * L = mul-le-mul-right L h in
+              simp (mul-comm, mul-left-comm) (omega (arith, mul-comm n L))
 
           in-one : (a L : ℕ) → a ≤ 4095 * (8192 * L) → a ≤ 2 ^ 60 * L
           in-one a L h = omega arith
@@ -115,7 +121,8 @@ module _ (m : List Float) (w : ℕ) where
               )
 
       -- a coordinate of the centre of mass
-      pub mean-upto : T (lt zero (withCells m w noSums ps .sw)) → UpTo (div binary32 (summed (term co) zero ps) (withCells m w noSums ps .sw)) (M + 1)
+      pub mean-upto : T (lt zero (withCells m w noSums ps .sw))
+          → UpTo (div binary32 (summed (term co) zero ps) (withCells m w noSums ps .sw)) (M + 1)
       mean-upto p =
           quotient-upto (summed (term co) zero ps) (withCells m w noSums ps .sw) (sumOf (λ p. co p * unitsAt p) ps) (sumOf unitsAt ps)
           (1 + length ps) (0 + length ps) M
@@ -123,7 +130,7 @@ module _ (m : List Float) (w : ℕ) where
           (sum-weighted (λ p. co p * unitsAt p) unitsAt M ps (all-map (λ p. co p ≤ M) _ (λ p h. mul-le-mul-right (unitsAt p) h) ps side))
           (omega arith) (steps M (length ps) narrow few) (omega arith) moment-nearly mass-nearly
         where
-          steps : (M n : ℕ) → M ≤ 4095 → n ≤ 1089 → M * (1 + n + (0 + n)) + (0 + n) ≤ 16775168
+          steps : (M n : ℕ) → M ≤ 4095 → n ≤ largestWindow → M * (1 + n + (0 + n)) + (0 + n) ≤ 16775168
           steps M n h k =
               let q : 1 + n + (0 + n) ≤ 2179 = omega arith in
               let p : M * (1 + n + (0 + n)) ≤ 4095 * 2179 = mul-le-mul h q in

@@ -5,6 +5,7 @@ use Prim.Native.Nat.{ℕ, _+_, _*_, _≤_, _<_}
 use native.Mathlib.Nat.{mul-le-mul, mul-le-mul-right, mul-comm, suc-mul}
 use native.Mathlib.Omega.{arith}
 use lib.Ieee.{Float}
+use Rattle.lists.specs.Limits.{largestSide, largestMap}
 use Rattle.lists.specs.Places.{Place, row, block}
 use Rattle.lists.proofs.Places.{row-end, row-step, block-end, block-step}
 use Rattle.center_of_mass.specs.declared.Sums.{Sums}
@@ -36,7 +37,7 @@ module _ (m : List Float) (w : ℕ) where
     no-row h = rw (block-end x0 x1 y y1 h) at e
 
 -- ---- a row of the window is one of the map's, whose cells are at most 2 ^ 24
-pub row-small : (y w : ℕ) → y ≤ 4096 → w ≤ 4096 → y * w ≤ 16777216
+pub row-small : (y w : ℕ) → y ≤ largestSide → w ≤ largestSide → y * w ≤ largestMap
 row-small y w h k = mul-le-mul h k
 
 pub row-in : (y y1 w l : ℕ) → y < y1 → y1 * w ≤ l → y * w + w ≤ l

@@ -1,10 +1,12 @@
--- The centre of mass of a map's positive cells about a seed: its window, its sums and its outcome, as the Rust computes them in binary32.
+-- The centre of mass of a map's positive cells around a seed: its window, its sums and its outcome, as the Rust
+-- computes them in binary32.
 use Prim.Native.Nat.{ℕ, _+_, _-_, _*_}
 use mathlib.Core.Bool.{Bool, not, _&&_, _||_, cond}
 use mathlib.Core.List.{List, [], _∷_}
 use lib.Dec.{ltb, leb}
 use lib.ListN.{length, getD}
 use lib.Ieee.{Float, nan, binary32, add, mul, div, ofInt, lt, le}
+use Rattle.lists.specs.Limits.{largestRadius}
 use Rattle.lists.specs.Places.{Place, block}
 use Rattle.lists.specs.Refusals.{unless, lowest, isLarge, isMisfit}
 use Rattle.float32.specs.Float32.{zero as zero32, abs, lift, roundHalfAway, floatOf}
@@ -14,7 +16,8 @@ use Rattle.center_of_mass.specs.declared.Sums.{Sums}
 use Rattle.center_of_mass.specs.declared.Centre.{Centre}
 use Rattle.center_of_mass.specs.declared.Centre.the-variants.{At, Outside}
 use Rattle.center_of_mass.specs.declared.Outcome.{Outcome}
-use Rattle.center_of_mass.specs.declared.Outcome.the-variants.{Accepted, Rejected, OutOfBounds, IllConditioned, Refused}
+use Rattle.center_of_mass.specs.declared.Outcome.the-variants.{Accepted, Rejected, OutOfBounds, IllConditioned}
+use Rattle.center_of_mass.specs.declared.Outcome.the-variants.{Refused}
 
 -- ---- the sums, over cells of a map that is w wide
 abbrev pub noSums : Sums
@@ -24,7 +27,7 @@ noSums = record { sx = zero32; sy = zero32; sw = zero32 }
 abbrev pub weightAt : List Float → ℕ → Place → Float
 weightAt m w p = lift (getD m (p .y * w + p .x) nan)
 
--- one cell more
+-- the sums with one more cell
 abbrev pub withCell : List Float → ℕ → Sums → Place → Sums
 withCell m w s p = record {
   sx = add binary32 (s .sx) (mul binary32 (floatOf (p .x)) (weightAt m w p));
@@ -32,14 +35,14 @@ withCell m w s p = record {
   sw = add binary32 (s .sw) (weightAt m w p);
 }
 
--- the cells at some places more, one after the other
+-- the sums with the cells at some places added, one after the other
 unfoldable pub withCells : List Float → ℕ → Sums → List Place → Sums
 unfolding lift
 withCells m w s [] = s
 withCells m w s (p ∷ ps) = withCells m w (withCell m w s p) ps
 
--- the window of radius r about column cx and row cy, in row order. It lies within the map: the Rust's clamp never acts (`RefineAsPublished` of
--- published)
+-- the window of radius r around column cx and row cy, in row order. It lies within the map: the Rust's clamp never acts
+-- (`RefineAsPublished` of published)
 abbrev pub cellsAbout : ℕ → ℕ → ℕ → List Place
 cellsAbout r cx cy = block (cx - r) (cx + r + 1) (cy - r) (cy + r + 1)
 
@@ -47,17 +50,21 @@ abbrev pub windowSums : ℕ → List Float → ℕ → ℕ → ℕ → Sums
 windowSums r m w cx cy = withCells m w noSums (cellsAbout r cx cy)
 
 -- ---- refusals
--- finite, and at most 1,000,000 either way
+-- 4: how far a seed may be from 0, either way
+abbrev pub furthestSeed : ℕ
+furthestSeed = 1000000
+
+-- finite, and at most that far
 unfoldable pub seedFits : Float → Bool
 unfolding abs le ofInt
-seedFits x = le (abs x) (floatOf 1000000)
+seedFits x = le (abs x) (floatOf furthestSeed)
 
--- the conditions and their numbers; `cells` is the map's length. 1 and 2 are not judged without a map
+-- the conditions and their numbers; `cells` is the map's length. 1 and 2 are not checked without a map
 abbrev pub conditions : ℕ → Float → Float → Bool → ℕ → ℕ → ℕ → List (Bool × ℕ)
 conditions r x y hasMap cells w h =
     (hasMap && isLarge w h, 1)
     ∷ (hasMap && isMisfit cells w h, 2)
-    ∷ (ltb 16 r, 3)
+    ∷ (ltb largestRadius r, 3)
     ∷ (not (seedFits x && seedFits y), 4)
     ∷ []
 
@@ -77,9 +84,11 @@ unfoldable pub centreOn : ℕ → ℕ → Float → Centre
 unfolding roundHalfAway
 centreOn r side x = centreFrom r side (roundHalfAway x)
 
--- the quotients of the sums, where the mass is above 0
+-- the quotients of the sums, if the mass is above 0
 abbrev pub meanOf : Float → Float → Sums → Outcome
-meanOf x y s = cond (lt zero32 (s .sw)) (Accepted (div binary32 (s .sx) (s .sw)) (div binary32 (s .sy) (s .sw)) (s .sw)) (IllConditioned x y)
+meanOf x y s =
+    cond (lt zero32 (s .sw)) (Accepted (div binary32 (s .sx) (s .sw)) (div binary32 (s .sy) (s .sw)) (s .sw))
+    (IllConditioned x y)
 
 abbrev pub weighed : ℕ → Float → Float → List Float → ℕ → Centre → Centre → Outcome
 weighed r x y m w (At cx) (At cy) = meanOf x y (windowSums r m w cx cy)
@@ -94,9 +103,11 @@ outcomeOf r x y m w h = weighed r x y m w (centreOn r w x) (centreOn r h y)
 -- refusals come before outcomes
 unfoldable pub refined : ℕ → Float → Float → Bool → List Float → ℕ → ℕ → Outcome
 unfolding refusalOf outcomeOf
-refined r x y hasMap m w h = unless Refused (refusalOf r x y hasMap (length m) w h) (cond hasMap (outcomeOf r x y m w h) (Rejected x y))
+refined r x y hasMap m w h =
+    unless Refused (refusalOf r x y hasMap (length m) w h) (cond hasMap (outcomeOf r x y m w h) (Rejected x y))
 
--- ---- the number and the values of each case (RULES 5.3): 0 for no refusal; x, y and the mass, which is 0 where the seed is unmoved
+-- ---- the number and the values of each case (RULES 5.3): 0 for no refusal; x, y and the mass, which is 0 if the seed
+-- did not move
 abbrev pub numberOf : Outcome → ℕ
 numberOf (Accepted x y m) = 0
 numberOf (Rejected x y) = 0

@@ -14,4 +14,5 @@ pub record Refined (r : ℕ) (x y : Float) (hasMap : Bool) (m : List Float) (w h
   pub answer : o ≡ refined r x y hasMap m w h
   pub number : numberOf o ≡ refusalOf r x y hasMap (length m) w h
   pub values : valuesOf o
-      ≡ valuesUnless (refusalOf r x y hasMap (length m) w h) (valuesOf (cond hasMap (outcomeOf r x y m w h) (Rejected x y)))
+      ≡ valuesUnless (refusalOf r x y hasMap (length m) w h)
+      (valuesOf (cond hasMap (outcomeOf r x y m w h) (Rejected x y)))

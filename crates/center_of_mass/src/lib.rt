@@ -1,7 +1,8 @@
-// The centre of mass of a response map about a seed.
+// The centre of mass of a response map around a seed.
 ghost use mathlib.Core.Path.{_≡_};
 ghost use Prim.Native.Nat.{_+_, _*_, _≤_, _<_};
 ghost use lib.ListN.{length};
+ghost use Rattle.lists.specs.Limits.{largestSide, largestRadius};
 ghost use Rattle.lists.specs.Places.{row, block};
 ghost use Rattle.center_of_mass.specs.CenterOfMass.{noSums, withCells, seedFits, refusalOf, centreOn, outcomeOf};
 ghost use Rattle.center_of_mass.specs.Promise.{Refined};
@@ -10,7 +11,7 @@ pub struct CenterOfMassRefiner {
     pub radius: u32,
 }
 
-// The floats are the centre of mass and the mass, or the seed as it came; `Refused` holds the number of the refusal.
+// The floats are the centre of mass and the mass, or the seed unchanged. `Refused` holds the number of the refusal.
 pub enum Outcome {
     Accepted(f32, f32, f32),
     Rejected(f32, f32),
@@ -26,15 +27,15 @@ struct Sums {
     sw: f32,
 }
 
-// The window's centre on one axis, where the whole window lies within the side.
+// The window's centre on one axis, if the whole window lies within the side.
 enum Centre {
     At(usize),
     Outside,
 }
 
-// The sums s with the cells of row y more, from column x0 up to, not including, column x1, of a map w wide.
+// The sums s plus the cells of row y from column x0 up to, not including, column x1, of a map w wide.
 fn row_sums(map: &[f32], w: usize, x0: usize, x1: usize, y: usize, s: Sums) -> Sums
-    requires { ⌜ (x1 ≤ w) × (w ≤ 4096) × (y ≤ 4096) × (y * w + w ≤ length (now map)) ⌝ }
+    requires { ⌜ (x1 ≤ w) × (w ≤ largestSide) × (y ≤ largestSide) × (y * w + w ≤ length (now map)) ⌝ }
     ensures { λ r. ⌜ r ≡ withCells (now (map .entry)) w s (row y x0 x1) ⌝ }
 {
     let mut sx = s.sx;
@@ -51,9 +52,9 @@ fn row_sums(map: &[f32], w: usize, x0: usize, x1: usize, y: usize, s: Sums) -> S
     Sums { sx, sy, sw }
 }
 
-// The sums over columns x0 to x1 of rows y0 to y1, the ends x1 and y1 left out, row by row.
+// The sums over columns x0 to x1 and rows y0 to y1, without x1 and y1, row by row.
 fn window_sums(map: &[f32], w: usize, x0: usize, x1: usize, y0: usize, y1: usize) -> Sums
-    requires { ⌜ (x1 ≤ w) × (w ≤ 4096) × (y1 ≤ 4096) × (y1 * w ≤ length (now map)) ⌝ }
+    requires { ⌜ (x1 ≤ w) × (w ≤ largestSide) × (y1 ≤ largestSide) × (y1 * w ≤ length (now map)) ⌝ }
     ensures { λ r. ⌜ r ≡ withCells (now (map .entry)) w noSums (block x0 x1 y0 y1) ⌝ }
 {
     let mut s = Sums {
@@ -69,10 +70,13 @@ fn window_sums(map: &[f32], w: usize, x0: usize, x1: usize, y0: usize, y1: usize
     s
 }
 
+// How far a seed may be from 0, either way.
+const FURTHEST_SEED: f32 = 1000000.0;
+
 fn seed_fits(x: f32) -> bool
     ensures { λ r. ⌜ r ≡ seedFits x ⌝ }
 {
-    float32::abs(x) <= 1000000.0
+    float32::abs(x) <= FURTHEST_SEED
 }
 
 // The number of the refusal, 0 for none; `cells` is the map's length.
@@ -85,7 +89,7 @@ fn refusal(radius: u32, x: f32, y: f32, has_map: bool, cells: usize, w: usize, h
             return no;
         }
     }
-    if 16 < radius {
+    if lists::LARGEST_RADIUS < radius {
         return 3;
     }
     if seed_fits(x) {
@@ -115,9 +119,9 @@ fn centre_on(x: f32, r: usize, side: usize) -> Centre
     Centre::At(p)
 }
 
-// The outcome where nothing is refused and a map is given.
+// The outcome if nothing is refused and a map is given.
 fn centre_of_mass(r: usize, x: f32, y: f32, map: &[f32], w: usize, h: usize) -> Outcome
-    requires { ⌜ (r ≤ 16) × (w ≤ 4096) × (h ≤ 4096) × (length (now map) ≡ w * h) ⌝ }
+    requires { ⌜ (r ≤ largestRadius) × (w ≤ largestSide) × (h ≤ largestSide) × (length (now map) ≡ w * h) ⌝ }
     ensures { λ o. ⌜ o ≡ outcomeOf r x y (now (map .entry)) w h ⌝ }
 {
     let across = centre_on(x, r, w);
@@ -136,7 +140,7 @@ fn centre_of_mass(r: usize, x: f32, y: f32, map: &[f32], w: usize, h: usize) -> 
 }
 
 impl CenterOfMassRefiner {
-    // `has_map` says whether a response map is given: a map w wide and h high, in row order.
+    // `has_map` says whether a response map is given. The map is w wide and h high, in row order.
     pub fn refine(self, x: f32, y: f32, has_map: bool, map: &[f32], w: usize, h: usize) -> Outcome
         ensures { λ o. ⌜ Refined (self .radius) x y «has_map» (now (map .entry)) w h o ⌝ }
     {

@@ -18,7 +18,12 @@ module _ {A : Type 0} (n : ℕ) (z : A) (d₀ : List A) where
   pub wiping-none : Wiping n n z d₀ d₀
   wiping-none =
       let e : 0 ≡ n - n = omega arith in
-      record { behind = omega arith; upto = omega arith; long = refl; is = placed-none n d₀ ∙ ap (λ (k : ℕ). placed n (replicate k z) d₀) e }
+      record {
+        behind = omega arith;
+        upto = omega arith;
+        long = refl;
+        is = placed-none n d₀ ∙ ap (λ (k : ℕ). placed n (replicate k z) d₀) e;
+      }
 
   module _ (i : ℕ) (d : List A) (at : Wiping n i z d₀ d) where
     pub wiping-set : i < length d₀ → Wiping n (i + 1) z d₀ (set d i z)

@@ -1,4 +1,4 @@
-// Buffers set to zero behind what they hold: a frame leaves its buffers so (RULES 9.6).
+// Clears the unused end of a buffer: a frame leaves its buffers so (RULES 9.6).
 ghost use mathlib.Core.Path.{_≡_};
 ghost use lib.ListN.{length, replicate};
 ghost use Rattle.lists.specs.Buffer.{wipedFrom};
@@ -6,7 +6,7 @@ ghost use Rattle.float32.specs.Float32.{zero};
 ghost use Rattle.corner_list.specs.CornerList.{slices};
 ghost use Rattle.clearing.specs.Clearing.{clearedFrom};
 
-// Sets a buffer's places from n on to 0.
+// Sets the places of a buffer from n on to 0.
 pub fn clear(d: &mut [f32], n: usize)
     ensures { λ _. ⌜ now (d .exit) ≡ wipedFrom n zero (now (d .entry)) ⌝ }
 {
@@ -24,7 +24,7 @@ pub fn clear_bytes(d: &mut [u8])
     }
 }
 
-// Sets a slice of counts from n on to 0.
+// Sets the counts of a slice from n on to 0.
 fn clear_counts(counts: &mut [u32], n: usize)
     ensures { λ _. ⌜ now (counts .exit) ≡ wipedFrom n 0 (now (counts .entry)) ⌝ }
 {
@@ -42,7 +42,8 @@ pub fn clear_list(
     n: usize,
 )
     ensures { λ _. ⌜ slices (now (xs .exit)) (now (ys .exit)) (now (strengths .exit)) (now (neighbours .exit))
-        ≡ clearedFrom n (slices (now (xs .entry)) (now (ys .entry)) (now (strengths .entry)) (now (neighbours .entry))) ⌝ }
+        ≡ clearedFrom n (slices (now (xs .entry)) (now (ys .entry)) (now (strengths .entry))
+        (now (neighbours .entry))) ⌝ }
 {
     clear(xs, n);
     clear(ys, n);

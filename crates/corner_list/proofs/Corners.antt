@@ -160,20 +160,23 @@ corners-same b n h =
     (same strengthOf (b .strengths) (omega arith) (corners-strengths b n (omega arith)))
     (same neighboursOf (b .neighbours) (omega arith) (corners-neighbours b n (omega arith)))
   where
-    same : {A : Type 0} (g : Corner → A) (s : List A) → n ≤ length s → map g (cornersOf b n) ≡ take n s → s ≡ front (map g (cornersOf b n)) s
+    same : {A : Type 0} (g : Corner → A) (s : List A) → n ≤ length s → map g (cornersOf b n) ≡ take n s
+        → s ≡ front (map g (cornersOf b n)) s
     same {A} g s h e = front-same n s h ∙ ap (λ (l : List A). front l s) (sym e)
 
 module _ (cs : List Corner) (b : Slices) where
   -- other corners over them, at least as many
   pub corners-again : (ds : List Corner) → length cs ≤ length ds → frontCorners ds (frontCorners cs b) ≡ frontCorners ds b
-  corners-again ds h = slices-alike (again xOf (b .xs)) (again yOf (b .ys)) (again strengthOf (b .strengths)) (again neighboursOf (b .neighbours))
+  corners-again ds h =
+      slices-alike (again xOf (b .xs)) (again yOf (b .ys)) (again strengthOf (b .strengths)) (again neighboursOf (b .neighbours))
     where
       again : {A : Type 0} (g : Corner → A) (s : List A) → front (map g ds) (front (map g cs) s) ≡ front (map g ds) s
       again g s = front-again (map g cs) (map g ds) s (omega (arith, length-map cs g, length-map ds g))
 
   -- a corner behind them
   pub corners-behind : (i : ℕ) → length cs ≤ i → cornerAt (frontCorners cs b) i ≡ cornerAt b i
-  corners-behind i h = rw (behind nan xOf (b .xs), behind nan yOf (b .ys), behind nan strengthOf (b .strengths), behind 0 neighboursOf (b .neighbours))
+  corners-behind i h =
+      rw (behind nan xOf (b .xs), behind nan yOf (b .ys), behind nan strengthOf (b .strengths), behind 0 neighboursOf (b .neighbours))
     where
       behind : {A : Type 0} (z : A) (g : Corner → A) (s : List A) → getD (front (map g cs) s) i z ≡ getD s i z
       behind z g s = front-behind (map g cs) s i z (omega (arith, length-map cs g))
@@ -193,7 +196,8 @@ module _ (cs : List Corner) (b : Slices) where
           front-set (map g cs) s i (g c) (omega (arith, length-map cs g)) ∙ ap (λ (l : List A). front l s) (sym (map-set g cs i c))
 
   -- one corner more
-  pub corners-next : (n : ℕ) (c : Corner) → n ≡ length cs → n < placesOf b → withCorner n c (frontCorners cs b) ≡ frontCorners (cs ++ (c ∷ [])) b
+  pub corners-next : (n : ℕ) (c : Corner) → n ≡ length cs → n < placesOf b
+      → withCorner n c (frontCorners cs b) ≡ frontCorners (cs ++ (c ∷ [])) b
   corners-next n c e h =
       let l : n ≤ placesOf b = omega arith in
       with-corner-inside n c (frontCorners cs b)

@@ -7,12 +7,14 @@ use lib.ListN.{length, set, length-append, length-map}
 use Rattle.lists.specs.Buffer.{front, placed}
 use Rattle.lists.proofs.Buffer.{placed-none, placed-set, placed-length, front-more}
 use Rattle.corner_list.specs.declared.Corner.{Corner}
-use Rattle.corner_list.specs.CornerList.{Slices, xOf, yOf, strengthOf, neighboursOf, placesOf, setCorner, withCorner, frontCorners, placedCorners}
+use Rattle.corner_list.specs.CornerList.{Slices, xOf, yOf, strengthOf, neighboursOf, placesOf, setCorner, withCorner, frontCorners}
+use Rattle.corner_list.specs.CornerList.{placedCorners}
 use Rattle.corner_list.proofs.Corners.{slices-alike, same-places, with-corner-inside}
 
 -- ---- one slice
 module _ {A : Type 0} (g : Corner → A) (done : List Corner) (held k : ℕ) (d : List A) (e : k ≡ length done) where
-  slice-put : (c : Corner) → held + k < length d → set (placed held (map g done) d) (held + k) (g c) ≡ placed held (map g (done ++ (c ∷ []))) d
+  slice-put : (c : Corner) → held + k < length d
+      → set (placed held (map g done) d) (held + k) (g c) ≡ placed held (map g (done ++ (c ∷ []))) d
   slice-put c h =
       let n : held + k ≡ held + length (map g done) = omega (arith, length-map done g) in
       ap (λ (i : ℕ). set (placed held (map g done) d) i (g c)) n
@@ -36,7 +38,8 @@ growing-none all held b h = record {
   count = refl;
   split = refl;
   fits = h;
-  is = slices-alike (placed-none held (b .xs)) (placed-none held (b .ys)) (placed-none held (b .strengths)) (placed-none held (b .neighbours));
+  is = slices-alike (placed-none held (b .xs)) (placed-none held (b .ys)) (placed-none held (b .strengths))
+      (placed-none held (b .neighbours));
 }
 
 module _ (all rest : List Corner) (held k : ℕ) (b₀ b : Slices) (at : Growing all rest held k b₀ b) where
@@ -46,13 +49,21 @@ module _ (all rest : List Corner) (held k : ℕ) (b₀ b : Slices) (at : Growing
   -- the same corners left, by another name
   pub growing-to : (rest′ : List Corner) → rest ≡ rest′ → Growing all rest′ held k b₀ b
   growing-to rest′ e =
-      record { done = at .done; count = at .count; split = at .split ∙ ap (λ (l : List Corner). at .done ++ l) e; fits = at .fits; is = at .is }
+      record {
+        done = at .done;
+        count = at .count;
+        split = at .split ∙ ap (λ (l : List Corner). at .done ++ l) e;
+        fits = at .fits;
+        is = at .is;
+      }
 
   pub growing-xs : length (b .xs) ≡ length (b₀ .xs)
-  growing-xs = ap (λ (s : Slices). length (s .xs)) (at .is) ∙ slice-length xOf (at .done) held k (b₀ .xs) (at .count) (omega (arith, upto, at .fits))
+  growing-xs =
+      ap (λ (s : Slices). length (s .xs)) (at .is) ∙ slice-length xOf (at .done) held k (b₀ .xs) (at .count) (omega (arith, upto, at .fits))
 
   pub growing-ys : length (b .ys) ≡ length (b₀ .ys)
-  growing-ys = ap (λ (s : Slices). length (s .ys)) (at .is) ∙ slice-length yOf (at .done) held k (b₀ .ys) (at .count) (omega (arith, upto, at .fits))
+  growing-ys =
+      ap (λ (s : Slices). length (s .ys)) (at .is) ∙ slice-length yOf (at .done) held k (b₀ .ys) (at .count) (omega (arith, upto, at .fits))
 
   pub growing-strengths : length (b .strengths) ≡ length (b₀ .strengths)
   growing-strengths =
@@ -106,4 +117,5 @@ module _ (cs more : List Corner) (held : ℕ) (b : Slices) (e : held ≡ length 
 
   pub corners-more : placedCorners held more (frontCorners cs b) ≡ frontCorners (cs ++ more) b
   corners-more =
-      slices-alike (slice-more xOf (b .xs)) (slice-more yOf (b .ys)) (slice-more strengthOf (b .strengths)) (slice-more neighboursOf (b .neighbours))
+      slices-alike (slice-more xOf (b .xs)) (slice-more yOf (b .ys)) (slice-more strengthOf (b .strengths))
+      (slice-more neighboursOf (b .neighbours))

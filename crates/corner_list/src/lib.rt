@@ -5,7 +5,7 @@ ghost use lib.ListN.{getD};
 ghost use lib.Ieee.{nan};
 ghost use Rattle.corner_list.specs.CornerList.{isInside, slices, cornerAt, withCorner};
 
-// Where a corner is, in pixels, the response at its peak, and how many neighbours of that peak were above 0.
+// Where a corner is, in pixels, the response at its peak, and how many neighbours of that peak are above 0.
 pub struct Corner {
     pub x: f32,
     pub y: f32,
@@ -13,18 +13,21 @@ pub struct Corner {
     pub neighbours: u32,
 }
 
-// Whether both coordinates are from 0 to 4,096.
+// The largest side as a float.
+const LARGEST_COORDINATE: f32 = 4096.0;
+
+// Whether both coordinates are from 0 to the largest.
 pub fn is_inside(c: Corner) -> bool
     ensures { λ r. ⌜ r ≡ isInside c ⌝ }
 {
-    if float32::is_between(0.0, 4096.0, c.x) {
-        float32::is_between(0.0, 4096.0, c.y)
+    if float32::is_between(0.0, LARGEST_COORDINATE, c.x) {
+        float32::is_between(0.0, LARGEST_COORDINATE, c.y)
     } else {
         false
     }
 }
 
-// The element at a place of a slice, and NaN past its end.
+// The element at a place of a slice, or NaN past its end.
 fn element(s: &[f32], at: usize) -> f32
     ensures { λ r. ⌜ r ≡ getD (now (s .entry)) at nan ⌝ }
 {
@@ -34,7 +37,7 @@ fn element(s: &[f32], at: usize) -> f32
     0.0 / 0.0
 }
 
-// The count at a place of a slice, and 0 past its end.
+// The count at a place of a slice, or 0 past its end.
 fn count(s: &[u32], at: usize) -> u32
     ensures { λ r. ⌜ r ≡ getD (now (s .entry)) at 0 ⌝ }
 {
@@ -44,9 +47,10 @@ fn count(s: &[u32], at: usize) -> u32
     0
 }
 
-// The corner at a place of a buffer; a field whose slice is shorter is NaN, and the neighbours are 0.
+// The corner at a place of a buffer. A field whose slice is too short is NaN, and 0 for the neighbours.
 pub fn corner_at(xs: &[f32], ys: &[f32], strengths: &[f32], neighbours: &[u32], at: usize) -> Corner
-    ensures { λ r. ⌜ r ≡ cornerAt (slices (now (xs .entry)) (now (ys .entry)) (now (strengths .entry)) (now (neighbours .entry))) at ⌝ }
+    ensures { λ r. ⌜ r ≡ cornerAt (slices (now (xs .entry)) (now (ys .entry)) (now (strengths .entry))
+        (now (neighbours .entry))) at ⌝ }
 {
     Corner {
         x: element(xs, at),
@@ -56,7 +60,7 @@ pub fn corner_at(xs: &[f32], ys: &[f32], strengths: &[f32], neighbours: &[u32], 
     }
 }
 
-// Puts a corner at a place of a buffer. Where the buffer has no such place, every slice stays as it was, the longer ones too.
+// Puts a corner at a place of a buffer. If one slice has no such place, no slice changes.
 pub fn put_corner(
     xs: &mut [f32],
     ys: &mut [f32],
@@ -66,7 +70,8 @@ pub fn put_corner(
     c: Corner,
 )
     ensures { λ _. ⌜ slices (now (xs .exit)) (now (ys .exit)) (now (strengths .exit)) (now (neighbours .exit))
-        ≡ withCorner at c (slices (now (xs .entry)) (now (ys .entry)) (now (strengths .entry)) (now (neighbours .entry))) ⌝ }
+        ≡ withCorner at c (slices (now (xs .entry)) (now (ys .entry)) (now (strengths .entry))
+        (now (neighbours .entry))) ⌝ }
 {
     if at < places(xs.len(), ys.len(), strengths.len(), neighbours.len()) {
         xs[at] = c.x;
@@ -76,7 +81,7 @@ pub fn put_corner(
     }
 }
 
-// The places of a buffer whose slices have these lengths: those of the shortest.
+// How many corners a buffer with slices of these lengths can hold: the shortest slice counts.
 pub fn places(xs: usize, ys: usize, strengths: usize, neighbours: usize) -> usize
     ensures { λ r. ⌜ r ≡ min xs (min ys (min strengths neighbours)) ⌝ }
 {

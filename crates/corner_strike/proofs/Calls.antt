@@ -34,7 +34,8 @@ pub record StruckAs (b : Slices) (e : Edition) (place change : ℕ) (r : Strike)
   pub buffer-is : b′ ≡ withoutCorner place (e .count) b
   pub edition-is : e′ ≡ raised e
 
-module _ (b : Slices) (e : Edition) (place change : ℕ) (r : Strike) (b′ : Slices) (e′ : Edition) (p : striking.Strikes b e place change r b′ e′) where
+module _ (b : Slices) (e : Edition) (place change : ℕ) (r : Strike) (b′ : Slices) (e′ : Edition)
+    (p : striking.Strikes b e place change r b′ e′) where
   pub was-struck : striking.numberOf r ≡ 0 → StruckAs b e place change r b′ e′
   was-struck z =
       let n : striking.refusalOf (placesOf b) e place change ≡ 0 = sym (p .number) ∙ z in
@@ -46,11 +47,13 @@ module _ (b : Slices) (e : Edition) (place change : ℕ) (r : Strike) (b′ : Sl
       }
 
 -- ---- a call that was refused left the list as it was
-module _ (b : Slices) (e : Edition) (place change k : ℕ) (b′ : Slices) (e′ : Edition) (p : striking.Strikes b e place change (strike.Refused k) b′ e′) where
+module _ (b : Slices) (e : Edition) (place change k : ℕ) (b′ : Slices) (e′ : Edition)
+    (p : striking.Strikes b e place change (strike.Refused k) b′ e′) where
   pub was-refused : (b′ ≡ b) × (e′ ≡ e)
   was-refused = go (striking.refusalOf (placesOf b) e place change) (p .values) (p .buffer) (p .edition)
     where
-      go : (n : ℕ) → striking.valuesOf (strike.Refused k) ≡ valuesUnless n (raised e ∷ []) → b′ ≡ resultOr n (withoutCorner place (e .count) b) b
+      go : (n : ℕ) → striking.valuesOf (strike.Refused k) ≡ valuesUnless n (raised e ∷ [])
+          → b′ ≡ resultOr n (withoutCorner place (e .count) b) b
           → e′ ≡ resultOr n (raised e) e → (b′ ≡ b) × (e′ ≡ e)
       go zero v q q′ = let none = ap length v in absurd (let no : ⊥ = omega arith in no)
       go (suc n) v q q′ = (q, q′)

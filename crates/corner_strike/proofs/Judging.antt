@@ -9,7 +9,7 @@ use Rattle.corner_list.specs.declared.Corner.{Corner}
 use Rattle.corner_list.specs.CornerList.{Slices, placesOf, cornerAt, withoutCorner}
 use Rattle.corner_strike.specs.declared.showing.Shown.the-variants as shown
 use Rattle.corner_strike.specs.declared.striking.Strike.the-variants as strike
-use Rattle.corner_strike.specs.Editions.{Edition, raised}
+use Rattle.corner_strike.specs.Editions.{largestChange, Edition, raised}
 use Rattle.corner_strike.specs.Showing as showing
 use Rattle.corner_strike.specs.Striking as striking
 
@@ -29,9 +29,10 @@ pub record Strikable (places : ℕ) (e : Edition) (place change : ℕ) : Type 0 
   pub fits : e .count ≤ places
   pub same : change ≡ e .change
   pub inside : place < e .count
-  pub not-largest : e .change ≡ 4294967295 → ⊥
+  pub not-largest : e .change ≡ largestChange → ⊥
 
-pub strikable : (places : ℕ) (e : Edition) (place change : ℕ) → striking.refusalOf places e place change ≡ 0 → Strikable places e place change
+pub strikable : (places : ℕ) (e : Edition) (place change : ℕ) → striking.refusalOf places e place change ≡ 0
+    → Strikable places e place change
 unfolding striking.refusalOf
 strikable places e place change n =
     let c = all-clear (striking.conditions places e place change) (omega arith, (omega arith, (omega arith, (omega arith, tt)))) n in
@@ -39,7 +40,7 @@ strikable places e place change n =
       fits = ltb-false places (e .count) (c .0);
       same = eqb-true change (e .change) (not-false (eqb change (e .change)) (c .1 .0));
       inside = leb-false (e .count) place (c .1 .1 .0);
-      not-largest = eqb-false (e .change) 4294967295 (c .1 .1 .1 .0);
+      not-largest = eqb-false (e .change) largestChange (c .1 .1 .1 .0);
     }
 
 -- ---- what a call answers and leaves, whose buffer has so many places

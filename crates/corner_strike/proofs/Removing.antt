@@ -71,7 +71,8 @@ module _ (b₀ : Slices) (n place : ℕ) (p : place < n) (h : n ≤ placesOf b�
     past = omega arith;
     upto = p;
     is = corners-same b₀ place (omega arith)
-        ∙ ap (λ (cs : List Corner). frontCorners cs b₀) (sym (without-first place (cornersOf b₀ n) in-list ∙ first-corners b₀ n place (omega arith)));
+        ∙ ap (λ (cs : List Corner). frontCorners cs b₀)
+        (sym (without-first place (cornersOf b₀ n) in-list ∙ first-corners b₀ n place (omega arith)));
   }
 
   -- the corners of the buffer that is left: those that stay, and behind them the one that is 0
@@ -145,7 +146,8 @@ module _ (b₀ : Slices) (n place : ℕ) (p : place < n) (h : n ≤ placesOf b�
         ∙ ap (λ (k : ℕ). getD (cornersOf b₀ n) k (cornerAt b₀ 0)) (add-one at)
         ∙ sym (without-behind place (cornersOf b₀ n) in-list at (cornerAt b₀ 0) (m .past))
 
-    pub moving-next : (c : Corner) (b′ : Slices) → at < n - 1 → c ≡ cornerAt b (at + 1) → b′ ≡ withCorner at c b → Moving b₀ n place (at + 1) b′
+    pub moving-next : (c : Corner) (b′ : Slices) → at < n - 1 → c ≡ cornerAt b (at + 1) → b′ ≡ withCorner at c b
+        → Moving b₀ n place (at + 1) b′
     moving-next c b′ l r e = record {
       past = omega (arith, m .past);
       upto = omega arith;
@@ -172,8 +174,10 @@ module _ (b₀ : Slices) (n place : ℕ) (p : place < n) (h : n ≤ placesOf b�
 
     pub moving-strengths : length (b .strengths) ≡ length (b₀ .strengths)
     moving-strengths =
-        ap (λ (s : Slices). length (s .strengths)) (m .is) ∙ front-strengths (take at (left b₀ n place)) b₀ at taken (omega (arith, m .upto))
+        ap (λ (s : Slices). length (s .strengths)) (m .is)
+        ∙ front-strengths (take at (left b₀ n place)) b₀ at taken (omega (arith, m .upto))
 
     pub moving-neighbours : length (b .neighbours) ≡ length (b₀ .neighbours)
     moving-neighbours =
-        ap (λ (s : Slices). length (s .neighbours)) (m .is) ∙ front-neighbours (take at (left b₀ n place)) b₀ at taken (omega (arith, m .upto))
+        ap (λ (s : Slices). length (s .neighbours)) (m .is)
+        ∙ front-neighbours (take at (left b₀ n place)) b₀ at taken (omega (arith, m .upto))

@@ -1,18 +1,19 @@
--- A list that is edited (RULES 29.1): a buffer of corners, its count and its change number; and what both calls on it judge.
+-- A list that is edited (RULES 29.1): a buffer of corners, its count and its change number; and the conditions that
+-- both calls on it check.
 use Prim.Native.Nat.{ℕ, _+_, _-_}
 use mathlib.Core.Bool.{Bool, not}
 use lib.Dec.{eqb, ltb, leb}
 
--- what a list has beside its buffer: how many corners, and its change number (RULES 29.1)
+-- what a list has besides its buffer: how many corners, and its change number (RULES 29.1)
 pub record Edition : Type 0 where
   pub count : ℕ
   pub change : ℕ
 
--- a list of so many corners with this change number (RULES 29.1)
+-- a list of that many corners with this change number (RULES 29.1)
 abbrev pub edition : ℕ → ℕ → Edition
 edition count change = record { count = count; change = change }
 
--- one corner struck: one corner less, and the change number raised by one (RULES 29.1)
+-- one corner struck: one corner fewer, and the change number raised by one (RULES 29.1)
 abbrev pub raised : Edition → Edition
 raised e = edition (e .count - 1) (e .change + 1)
 
@@ -22,7 +23,7 @@ raised e = edition (e .count - 1) (e .change + 1)
 abbrev pub isShort : ℕ → ℕ → Bool
 isShort places count = ltb places count
 
--- 16: the change number that is named differs from the list's
+-- 16: the change number given differs from the list's
 abbrev pub isOther : Edition → ℕ → Bool
 isOther e change = not (eqb change (e .change))
 
@@ -30,6 +31,9 @@ isOther e change = not (eqb change (e .change))
 abbrev pub isBeyond : ℕ → ℕ → Bool
 isBeyond count place = leb count place
 
--- 18: the change number is the largest u32
+-- 18: the largest change number, the largest u32
+abbrev pub largestChange : ℕ
+largestChange = 4294967295
+
 abbrev pub isLargest : Edition → Bool
-isLargest e = eqb (e .change) 4294967295
+isLargest e = eqb (e .change) largestChange

@@ -10,7 +10,7 @@ use Rattle.corner_strike.specs.declared.showing.Shown.{Shown}
 use Rattle.corner_strike.specs.declared.showing.Shown.the-variants.{Found, Refused}
 use Rattle.corner_strike.specs.Editions.{Edition, isShort, isBeyond}
 
--- 10, then 17; the change number is not judged
+-- 10, then 17; the change number is not checked
 abbrev pub conditions : ℕ → ℕ → ℕ → List (Bool × ℕ)
 conditions places count place = (isShort places count, 10) ∷ (isBeyond count place, 17) ∷ []
 
@@ -26,7 +26,8 @@ abbrev pub valuesOf : Shown → List (Corner × ℕ)
 valuesOf (Found c change) = (c, change) ∷ []
 valuesOf (Refused k) = []
 
--- the promise of `show_corner`, of the list with the buffer b: the corner at the place, and the list's change number. It has no buffer to change
+-- the promise of `show_corner` for the list with the buffer b: the corner at the place, and the list's change number.
+-- No buffer can change
 pub record Shows (b : Slices) (e : Edition) (place : ℕ) (r : Shown) : Type 0 where
   pub answer : r ≡ unless Refused (refusalOf (placesOf b) (e .count) place) (Found (cornerAt b place) (e .change))
   pub number : numberOf r ≡ refusalOf (placesOf b) (e .count) place

@@ -17,7 +17,7 @@ conditions places e place change =
 unfoldable pub refusalOf : ℕ → Edition → ℕ → ℕ → ℕ
 refusalOf places e place change = lowest (conditions places e place change)
 
--- what is answered where nothing refuses: the list's count and change number after the strike
+-- the answer if nothing refuses: the list's count and change number after the strike
 abbrev pub struckBy : Edition → Strike
 struckBy e = Struck (raised e .count) (raised e .change)
 
@@ -30,9 +30,10 @@ abbrev pub valuesOf : Strike → List Edition
 valuesOf (Struck count change) = edition count change ∷ []
 valuesOf (Refused k) = []
 
--- the promise of `strike_corner`, of the list with the buffer b and the count and change number e: the corner at the place is removed, and both
--- numbers are changed in their places; where refused, buffer, count and change number are as they were
-pub record Strikes (b : Slices) (e : Edition) (place change : ℕ) (r : Strike) (b′ : Slices) (e′ : Edition) : Type 0 where
+-- the promise of `strike_corner` for the list with the buffer b and the count and change number e: the corner at the
+-- place is removed, and both numbers change in place; if refused, buffer, count and change number are unchanged
+pub record Strikes (b : Slices) (e : Edition) (place change : ℕ) (r : Strike) (b′ : Slices)
+    (e′ : Edition) : Type 0 where
   pub answer : r ≡ unless Refused (refusalOf (placesOf b) e place change) (struckBy e)
   pub number : numberOf r ≡ refusalOf (placesOf b) e place change
   pub values : valuesOf r ≡ valuesUnless (refusalOf (placesOf b) e place change) (raised e ∷ [])

@@ -1,4 +1,5 @@
-// A corner of a list struck in two steps: it is shown with the list's change number, and then struck by its place and that number (RULES 29).
+// Strikes a corner from a list in two steps: the corner is shown with the list's change number, and then struck by its
+// place and that number (RULES 29).
 mod showing; // show_corner: the corner at a place
 mod striking; // strike_corner: the corner at a place removed
 

@@ -24,7 +24,8 @@ fn refusal(places: usize, count: usize, place: usize) -> u8
     0
 }
 
-// Shows the corner at a place of a list of `count` corners with the change number `change`, and that number, by which it can be struck.
+// Shows the corner at a place of a list of `count` corners, and the list's change number `change`. With that number the
+// corner can be struck.
 pub fn show_corner(
     xs: &[f32],
     ys: &[f32],
@@ -34,7 +35,8 @@ pub fn show_corner(
     change: u32,
     place: usize,
 ) -> Shown
-    ensures { λ r. ⌜ Shows (slices (now (xs .entry)) (now (ys .entry)) (now (strengths .entry)) (now (neighbours .entry)))
+    ensures { λ r. ⌜ Shows (slices (now (xs .entry)) (now (ys .entry)) (now (strengths .entry))
+        (now (neighbours .entry)))
         (edition count change) place r ⌝ }
 {
     let places = corner_list::places(xs.len(), ys.len(), strengths.len(), neighbours.len());

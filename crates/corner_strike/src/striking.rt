@@ -12,6 +12,9 @@ pub enum Strike {
     Refused(u8),
 }
 
+// The largest change number, the largest u32.
+const LARGEST_CHANGE: u32 = 4294967295;
+
 // The number of the refusal, 0 for none.
 fn refusal(places: usize, count: usize, change: u32, place: usize, shown: u32) -> u8
     ensures { λ r. ⌜ r ≡ refusalOf places (edition count change) place shown ⌝ }
@@ -25,13 +28,13 @@ fn refusal(places: usize, count: usize, change: u32, place: usize, shown: u32) -
     if count <= place {
         return 17;
     }
-    if change == 4294967295 {
+    if change == LARGEST_CHANGE {
         return 18;
     }
     0
 }
 
-// Removes one of the first `count` corners: those behind it move up, and the last place becomes zero in every slice.
+// Removes one of the first `count` corners: later ones move up, and the last place becomes zero in every slice.
 fn remove_corner(
     xs: &mut [f32],
     ys: &mut [f32],
@@ -42,7 +45,8 @@ fn remove_corner(
 )
     requires { ⌜ (place < count) × (count ≤ placesOf (slices (now xs) (now ys) (now strengths) (now neighbours))) ⌝ }
     ensures { λ _. ⌜ slices (now (xs .exit)) (now (ys .exit)) (now (strengths .exit)) (now (neighbours .exit))
-        ≡ withoutCorner place count (slices (now (xs .entry)) (now (ys .entry)) (now (strengths .entry)) (now (neighbours .entry))) ⌝ }
+        ≡ withoutCorner place count (slices (now (xs .entry)) (now (ys .entry)) (now (strengths .entry))
+        (now (neighbours .entry))) ⌝ }
 {
     let last = count - 1;
     let mut at = place;
@@ -60,9 +64,9 @@ fn remove_corner(
     corner_list::put_corner(xs, ys, strengths, neighbours, last, none);
 }
 
-// Strikes the corner at a place of a list of `count` corners whose change number `change` is the one that was shown. Both are borrowed: one corner
-// fewer is counted and the change number is raised by one in place, so whoever has the list sees that it changed, and a second call by the number
-// that was shown is refused.
+// Strikes the corner at a place of a list of `count` corners, if the list's change number `change` is the one that was
+// shown. Both are borrowed: the count goes down by one and the change number up by one in place. So the owner of the
+// list can tell that it changed, and a second call with the shown number is refused.
 pub fn strike_corner(
     xs: &mut [f32],
     ys: &mut [f32],
@@ -73,9 +77,11 @@ pub fn strike_corner(
     place: usize,
     shown: u32,
 ) -> Strike
-    ensures { λ r. ⌜ Strikes (slices (now (xs .entry)) (now (ys .entry)) (now (strengths .entry)) (now (neighbours .entry)))
+    ensures { λ r. ⌜ Strikes (slices (now (xs .entry)) (now (ys .entry)) (now (strengths .entry))
+        (now (neighbours .entry)))
         (edition (now (count .entry)) (now (change .entry))) place shown
-        r (slices (now (xs .exit)) (now (ys .exit)) (now (strengths .exit)) (now (neighbours .exit))) (edition (now (count .exit)) (now (change .exit))) ⌝ }
+        r (slices (now (xs .exit)) (now (ys .exit)) (now (strengths .exit)) (now (neighbours .exit)))
+        (edition (now (count .exit)) (now (change .exit))) ⌝ }
 {
     let places = corner_list::places(xs.len(), ys.len(), strengths.len(), neighbours.len());
     let number = refusal(places, *count, *change, place, shown);

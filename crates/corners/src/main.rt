@@ -1,5 +1,5 @@
-// The program `corners`: prints the listing of the frame stream that it reads from standard input, of which it reads no byte more than
-// decides the listing. A line on standard error says so where it cannot read or write.
+// The program `corners`: prints the listing of the frame stream that it reads from standard input. It reads no more
+// bytes than decide the listing. If it cannot read or write, it says so in a line on standard error.
 mod writing;
 
 use input::Input;
@@ -11,13 +11,14 @@ ghost use lib.ListN.{length};
 ghost use Rattle.input.specs.Input.{isBelow0};
 ghost use Rattle.input.specs.Reading.{Read};
 ghost use Rattle.stream.specs.Wanted.{wanted};
+ghost use Rattle.stream.specs.Stream.{longestStream};
 
 // No frame stream is longer.
-const LONGEST_STREAM: usize = 9527;
+const LONGEST_STREAM: usize = 23 + stream::MOST_PIXELS / 32 * 33;
 
-// Reads as many bytes as are wanted, again and again, until none is or none comes.
+// Reads as many bytes as are needed, again and again, until none are needed or none come.
 fn read_stream(stream: &mut [u8]) -> Input
-    requires { ⌜ length (now stream) ≡ 9527 ⌝ }
+    requires { ⌜ length (now stream) ≡ longestStream ⌝ }
     ensures { λ r. ⌜ Read wanted r (now (stream .exit)) ⌝ }
 {
     let mut input = input::begin();

@@ -29,7 +29,9 @@ module _ (m : List Float) (w h : ℕ) (p : PeakCall m w h) where
   ties-are = fitted .tied
 
   pub added-are : programList p ≡ startsIn m (searchIn p)
-  added-are = rw (fitted .buffer) (corners-placed (p .held) (startsIn m (searchIn p)) (p .before) (omega (arith, fitted .fits)) (p .added) (fitted .count))
+  added-are =
+      rw (fitted .buffer) (corners-placed (p .held) (startsIn m (searchIn p)) (p .before) (omega (arith, fitted .fits)) (p .added)
+      (fitted .count))
 
   names-are : map position (programList p) ≡ map nameOf (peaksIn m (searchIn p))
   names-are = ap (map position) added-are ∙ map-map position (startAt m (searchIn p)) (peaksIn m (searchIn p))
@@ -37,10 +39,12 @@ module _ (m : List Float) (w h : ℕ) (p : PeakCall m w h) where
   peaks-small : (v : CellTests) → All Small (peaksBy v (searchIn p))
   peaks-small v =
       let k = sound (length m) w h (p .ring) (p .window) (p .radius) no-fault in
-      all-map (λ q. (q .x < w) × (q .y < h)) Small (λ q i. (omega (arith, i .0, k .wide), omega (arith, i .1, k .high))) (peaksBy v (searchIn p))
+      all-map (λ q. (q .x < w) × (q .y < h)) Small (λ q i. (omega (arith, i .0, k .wide), omega (arith, i .1, k .high)))
+      (peaksBy v (searchIn p))
       (peaks-in-map v w h (searchIn p .border) (p .window) (p .«least_neighbours»))
 
-  pub named : (v : CellTests) → (map position (programList p) ≡ map nameOf (peaksBy v (searchIn p))) ↔ (peaksIn m (searchIn p) ≡ peaksBy v (searchIn p))
+  pub named : (v : CellTests) → (map position (programList p) ≡ map nameOf (peaksBy v (searchIn p)))
+      ↔ (peaksIn m (searchIn p) ≡ peaksBy v (searchIn p))
   named v = (
     λ e. names-only _ _ (peaks-small (readIn m (searchIn p))) (peaks-small v) (sym names-are ∙ e),
     λ e. names-are ∙ ap (map nameOf) e,

@@ -18,14 +18,16 @@ as-it-was : (number : ℕ) (left : List Corner) (d : Slices) (k : ℕ) → unles
 as-it-was zero left d k e = cc
 as-it-was (suc number) left d k e = refl
 
-refused-as-it-was : (number : ℕ) (left : List Corner) (d : Slices) (r : Merged) (d′ : Slices) → Leaves number left d r d′ → (k : ℕ) → r ≡ Refused k → d′ ≡ d
+refused-as-it-was : (number : ℕ) (left : List Corner) (d : Slices) (r : Merged) (d′ : Slices) → Leaves number left d r d′
+    → (k : ℕ) → r ≡ Refused k → d′ ≡ d
 refused-as-it-was number left d r d′ l k e = l .buffer ∙ as-it-was number left d k (sym (l .answer) ∙ e)
 
 pub apart-is-merge : ApartIsMerge
 apart-is-merge = record {
   same-answer = λ t. same-answer (t .radius) (t .count) (t .original) (t .separate) (t .answer) (t .separate′) (t .apart) (t .own-answer)
       (t .original′) (t .own);
-  same-list = λ t. same-list (t .radius) (t .count) (t .original) (t .separate) (t .answer) (t .separate′) (t .apart) (t .own-answer) (t .original′) (t .own);
+  same-list = λ t. same-list (t .radius) (t .count) (t .original) (t .separate) (t .answer) (t .separate′) (t .apart)
+      (t .own-answer) (t .original′) (t .own);
   crowded = λ t. crowded-number (t .radius) (t .count) (t .original) (t .separate) (t .answer) (t .separate′) (t .apart) (t .own-answer)
       (t .original′) (t .own);
   refused = λ t. refused-as-it-was _ _ (t .separate) (t .answer) (t .separate′) (t .apart);

@@ -36,10 +36,12 @@ use Rattle.lists.specs.Buffer.{front}
 map-is : (c : ResponseCall) → mapOf c ≡ cells (viewIn c)
 map-is c =
     let v = viewIn c in
-    front-is v (c .before) (c .after) (c .pw) (c .ph) (filled v (c .ring) (c .before) (c .after) (Cells (c .pw) (c .ph)) (c .promise) (c .pw) (c .ph) refl)
+    front-is v (c .before) (c .after) (c .pw) (c .ph)
+    (filled v (c .ring) (c .before) (c .after) (Cells (c .pw) (c .ph)) (c .promise) (c .pw) (c .ph) refl)
 
 -- ---- outcomes
-refined-is : (radius : ℕ) (x y : Float) (hasMap : Bool) (m : List Float) (w h : ℕ) (r : Outcome) → Refined radius x y hasMap m w h r → center.numberOf r ≡ 0
+refined-is : (radius : ℕ) (x y : Float) (hasMap : Bool) (m : List Float) (w h : ℕ) (r : Outcome)
+    → Refined radius x y hasMap m w h r → center.numberOf r ≡ 0
     → r ≡ cond hasMap (center.outcomeOf radius x y m w h) (Rejected x y)
 unfolding center.refined
 refined-is radius x y hasMap m w h r f none = f .answer ∙ rw (sym (f .number) ∙ none)
@@ -57,7 +59,8 @@ kept-is (suc k) n m e = absurd (let z : _≡_ {A = ℕ} 0 1 = cc in omega arith)
 left-is : (number : ℕ) (left : List Corner) (b b′ : Slices) (n : ℕ) → merge.Leaves number left b (Kept n) b′ → cornersOf b′ n ≡ left
 left-is number left b b′ n f =
     let k = kept-is number n (length left) (f .answer) in
-    ap (λ (s : Slices). cornersOf s n) (f .buffer ∙ ap (λ (j : ℕ). resultOr j (frontCorners left b) b) (k .0)) ∙ corners-front left b n (k .1)
+    ap (λ (s : Slices). cornersOf s n) (f .buffer ∙ ap (λ (j : ℕ). resultOr j (frontCorners left b) b) (k .0))
+    ∙ corners-front left b n (k .1)
 
 slice-is : (radius : Float) (count : ℕ) (cs cs′ : List Corner) (b b′ : Slices) (n : ℕ) → MergesSlice radius count cs b (Kept n) cs′ b′
     → take n cs′ ≡ merge.resultOf radius (take count cs)
@@ -75,8 +78,10 @@ bit-for-bit = record {
       level-found base w h count least d e n (built base w h count least d _ e f n refl) k l;
   «compute_roi» = box-is;
   «merge_corners_simple» = λ radius count b b′ n f. left-is _ _ b b′ n f;
+  «merge_by_table» = λ radius count b b′ table table′ n f. left-is _ _ b b′ n (f .merges);
   «merge_corners_naive» = λ radius count b b′ n f. left-is _ _ b b′ n f;
   «merge_corner_slice» = slice-is;
-  «find_corners» = λ c. finished-tells _ (c .parameters) (c .img) (c .w) (c .h) (c .before) (c .count) (c .ties) (c .after) (c .promise) .corners;
+  «find_corners» = λ c. finished-tells _ (c .parameters) (c .img) (c .w) (c .h) (c .before) (c .count) (c .ties) (c .after)
+      (c .promise) .corners;
   find = λ input text text′ end f. rw (f .holds) (front-take (outputOf input) text end (f .ends));
 }

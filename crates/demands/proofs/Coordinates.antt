@@ -1,5 +1,5 @@
--- Every coordinate of a pass lies from 0 to 4,096 (`corners-inside` of frame_pass), and is a float of binary32: a quotient of the centre of mass, or
--- the sum of one with a box's corner. Assumes nothing.
+-- Every coordinate of a pass lies from 0 to the largest side (`corners-inside` of frame_pass), and is a float of binary32: a quotient of
+-- the centre of mass, or the sum of one with a box's corner. Assumes nothing.
 use Prim.Native.Nat.{ℕ, zero, suc}
 use mathlib.Core.Path.{_≡_}
 use mathlib.Core.Bool.{true}
@@ -63,4 +63,5 @@ module _ (p : FrameParams) (choose : Choice) where
     pub pass-inside : SoundFrame p img w h → All (λ c. isInside c ≡ true) (framePass p img w h choose .corners)
     unfolding framePass
     pass-inside s =
-        result-all (λ c. isInside c ≡ true) (p .«merge_radius») (foundOf p img w h choose (levelsIn p img w h)) (corners-inside p img w h choose s .1)
+        result-all (λ c. isInside c ≡ true) (p .«merge_radius») (foundOf p img w h choose (levelsIn p img w h))
+        (corners-inside p img w h choose s .1)

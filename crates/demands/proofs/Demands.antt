@@ -20,7 +20,8 @@ use Rattle.demands.proofs.MergeNaive.{naive-alike, naive-refuses-alike,
 use Rattle.demands.proofs.Retention.{held-when, retained-total, retained-reads}
 use Rattle.demands.proofs.Retouch.{only-touched, at-most-21, fresh-again, moves-little}
 use Rattle.demands.proofs.Limits.{limits-contain, limits-exact, sure-peak-exact}
-use Rattle.demands.proofs.FrameExact.{frame-exact, alike-by-name, maps-searched, maps-alike, frame-without-ties, four-never, peaks-kept}
+use Rattle.demands.proofs.FrameExact.{frame-exact, alike-by-name, maps-searched, maps-alike, frame-without-ties, four-never}
+use Rattle.demands.proofs.FrameExact.{peaks-kept}
 use Rattle.demands.proofs.Photographs.{photograph-is-frame, plain-header-read, behind-unread, uploads-read}
 use Rattle.demands.proofs.OnePrice.{exact-frame, one-price, nothing-tipped}
 use Rattle.demands.proofs.Ties.{nan-top, peak-ties, frame-ties, maps-alike-without-equals}

@@ -1,4 +1,5 @@
--- From the laws of detect: an answer that is not refused is that of counting, and what was not looked at does not change it. Assumes nothing.
+-- From the laws of detect: an answer that is not refused is that of counting, and what was not looked at does not change it. Assumes
+-- nothing.
 use Prim.Native.Nat.{ℕ, zero, suc, _≤_}
 use mathlib.Core.Path.{_≡_, refl, sym, ap, subst, _∙_}
 use mathlib.Core.Logic.{_↔_}
@@ -66,7 +67,8 @@ module _ (m m′ : List Float) (s : Search) (wanted : ℕ) (r r′ : Enough) (sa
   looked e = ap rowsOf e ∙ rows-are (leb wanted (length (peaksIn m s))) (rowsFor s wanted (peaksIn m s))
 
   -- by the number of the two calls
-  same-by : (k : ℕ) → r ≡ unless Refused k (enoughOf s wanted (peaksIn m s)) → r′ ≡ unless Refused k (enoughOf s wanted (peaksIn m′ s)) → r ≡ r′
+  same-by : (k : ℕ) → r ≡ unless Refused k (enoughOf s wanted (peaksIn m s))
+      → r′ ≡ unless Refused k (enoughOf s wanted (peaksIn m′ s)) → r ≡ r′
   same-by zero e e′ = e ∙ same-answer m m′ s wanted (subst (λ (n : ℕ). SameNear s n m m′) (looked e) same) ∙ sym e′
   same-by (suc k) e e′ = e ∙ sym e′
 

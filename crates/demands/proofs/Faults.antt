@@ -11,7 +11,8 @@ use Rattle.lists.specs.Places.{any}
 use Rattle.lists.specs.Refusals.{unless}
 use Rattle.merge_radius.specs.MergeRadius.{radiusOutside}
 use Rattle.stream.specs.declared.Header.{Header}
-use Rattle.stream.specs.Stream.{u8, u16, u32, known as isKnown, bodyLength, bodyOf, behind, headerOf, rangeOutside, Reading, accepted}
+use Rattle.stream.specs.Stream.{largestStreamSide, u8, u16, u32, known as isKnown, bodyLength, bodyOf, behind, headerOf, rangeOutside}
+use Rattle.stream.specs.Stream.{Reading, accepted}
 use Rattle.stream.specs.Stream.{refused, sidesFault, parametersFault, paddingFault, bodyFault, recordFault, readRecord, recordsFor}
 use Rattle.stream.specs.Stream.{readPixels, readParameters, readFrame}
 use Rattle.demands.specs.Numbers.{OneOf, Refuses}
@@ -32,7 +33,7 @@ either b m n = cond-one b m n (0 ∷ numbers)
 -- ---- a record's fault
 sides-known : (w h : ℕ) → Known (sidesFault w h)
 unfolding sidesFault
-sides-known w h = either (ltb 96 w || ltb 96 h) 1 0 (known 1 refl) (known 0 refl)
+sides-known w h = either (ltb largestStreamSide w || ltb largestStreamSide h) 1 0 (known 1 refl) (known 0 refl)
 
 parameters-known : (ring window centroid radius : ℕ) → Known (parametersFault ring window centroid radius)
 unfolding parametersFault
@@ -62,13 +63,15 @@ record-known due left (kind ∷ rest) =
     let short = ltb (length rest) (bodyLength due) in
     let wrong = not (eqb kind due) in
     either (not (isKnown kind)) 6 (cond wrong 11 (cond short 7 body)) (known 6 refl)
-    (either wrong 11 (cond short 7 body) (known 11 refl) (either short 7 body (known 7 refl) (body-known due left (take (bodyLength due) rest))))
+    (either wrong 11 (cond short 7 body) (known 11 refl)
+    (either short 7 body (known 7 refl) (body-known due left (take (bodyLength due) rest))))
 
 -- ---- a reading
 abbrev Few : Reading → Type 0
 Few = Refuses refused numbers
 
-record-few : (due left : ℕ) (s : List ℕ) (next : List ℕ → List ℕ → Reading) → ((body rest : List ℕ) → Few (next body rest)) → Few (readRecord due left s next)
+record-few : (due left : ℕ) (s : List ℕ) (next : List ℕ → List ℕ → Reading) → ((body rest : List ℕ) → Few (next body rest))
+    → Few (readRecord due left s next)
 unfolding readRecord
 record-few due left s next f = go (recordFault due left s) (record-known due left s)
   where
@@ -81,7 +84,8 @@ record-few due left s next f = go (recordFault due left s) (record-known due lef
 pixels-few : (n : ℕ) (header : Header) (left : ℕ) (pixels s : List ℕ) → Few (readPixels n header left pixels s)
 unfolding readPixels
 pixels-few zero header left pixels s =
-    record-few 4 left s (λ body rest. accepted header pixels) (λ body rest k e. let z : _≡_ {A = ℕ} 0 1 = cc in absurd (let no : ⊥ = omega arith in no))
+    record-few 4 left s (λ body rest. accepted header pixels)
+    (λ body rest k e. let z : _≡_ {A = ℕ} 0 1 = cc in absurd (let no : ⊥ = omega arith in no))
 pixels-few (suc n) header left pixels s =
     record-few 3 left s (λ body rest. readPixels n header (left - 32) (pixels ++ take left body) rest)
     (λ body rest. pixels-few n header (left - 32) (pixels ++ take left body) rest)

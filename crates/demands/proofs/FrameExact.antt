@@ -85,7 +85,8 @@ map-alike p k whole v f =
 
 pub maps-alike : MapsAlike
 maps-alike c k whole =
-    all-map (Fine (c .parameters)) (λ v. Alike (c .parameters) v ↔ WithoutTie (c .parameters) v) (map-alike (c .parameters) k whole) (mapsIn c) (fine-maps c)
+    all-map (Fine (c .parameters)) (λ v. Alike (c .parameters) v ↔ WithoutTie (c .parameters) v)
+    (map-alike (c .parameters) k whole) (mapsIn c) (fine-maps c)
 
 pub all-alike : (c : FrameCall) (k : ℕ) → IsWhole (lift (c .parameters .threshold)) k → All (WithoutTie (c .parameters)) (mapsIn c)
     → All (Alike (c .parameters)) (mapsIn c)

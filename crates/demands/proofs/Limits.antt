@@ -1,4 +1,5 @@
--- From the laws of response_limits and sure_peak: a call that wrote the maps was not refused, and the maps by column and row. Assumes nothing.
+-- From the laws of response_limits and sure_peak: a call that wrote the maps was not refused, and the maps by column and row. Assumes
+-- nothing.
 use Prim.Native.Nat.{ℕ, _+_, _*_, _<_}
 use native.Mathlib.Nat.{mul-comm}
 use mathlib.Core.Path.{_≡_, refl, sym, ap, _∙_}
@@ -28,10 +29,12 @@ use Rattle.response_limits.specs.Promise.{refusalOf}
 use Rattle.response_limits.proofs.Contained as contained
 use Rattle.sure_peak.specs.SurePeak.{byLimits, isSure}
 use Rattle.sure_peak.proofs.Exact.{Within, listed, sure-inside, sure-peak}
-use Rattle.demands.specs.Limits.{LimitsCall, SureCall, InImage, lowCell, highCell, exactCell, LimitsContain, LimitsExact, SurePeakExact}
+use Rattle.demands.specs.Limits.{LimitsCall, SureCall, InImage, lowCell, highCell, exactCell, LimitsContain, LimitsExact}
+use Rattle.demands.specs.Limits.{SurePeakExact}
 
 -- ---- the promise taken apart
-at-front : (w h : ℕ) (f : ℕ → ℕ → ℤ) (d : List ℤ) (p : Place) → p .x < w → p .y < h → getD (front (grid w h f) d) (p .y * w + p .x) (pos 0) ≡ f (p .x) (p .y)
+at-front : (w h : ℕ) (f : ℕ → ℕ → ℤ) (d : List ℤ) (p : Place) → p .x < w → p .y < h
+    → getD (front (grid w h f) d) (p .y * w + p .x) (pos 0) ≡ f (p .x) (p .y)
 at-front w h f d p i j =
     List·getD-append (grid w h f) _ (pos 0) (p .y * w + p .x) (rw (length-grid w h f, mul-comm h w) (in-map w h (p .x) (p .y) i j))
     ∙ getD-grid w h f (p .x) (p .y) (pos 0) i j
@@ -104,7 +107,8 @@ module _ (c : LimitsCall) (s : SureCall c) where
     border : Inside (c .w) (c .h) (c .ring + s .window + s .centroid) (s .place)
     border = sure-inside low high _ _ _ _ _ _ _ _ is-yes
 
-    peak : isPeak (byLimits (exactCell c img) (exactCell c img) (s .threshold)) (c .w) (c .h) (s .window) (s .«least_neighbours») (s .place) ≡ true
+    peak : isPeak (byLimits (exactCell c img) (exactCell c img) (s .threshold)) (c .w) (c .h) (s .window) (s .«least_neighbours»)
+        (s .place) ≡ true
     peak = sure-peak low high _ _ _ _ _ _ _ _ is-yes (exactCell c img) within
 
 -- the threshold as a float
@@ -122,5 +126,6 @@ sure-peak-exact = record {
   by-search =
       λ c s img b t whole. listed (exact (exactCell c img) (lift t)) (c .w) (c .h) (c .ring + s .window + s .centroid) (s .window)
       (s .«least_neighbours») (s .place) (border c s img b)
-      (by-float (exactCell c img) (lift t) (s .threshold) (c .w) (c .h) (s .window) (s .«least_neighbours») (s .place) whole (peak c s img b));
+      (by-float (exactCell c img) (lift t) (s .threshold) (c .w) (c .h) (s .window) (s .«least_neighbours») (s .place) whole
+      (peak c s img b));
 }

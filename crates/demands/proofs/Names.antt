@@ -5,17 +5,18 @@ use mathlib.Core.Path.{_≡_, ap}
 use mathlib.Core.Bool.{false}
 use mathlib.Core.List.{List, map}
 use lib.Ieee.{Float, binary32}
+use Rattle.lists.specs.Limits.{largestSide}
 use Rattle.lists.specs.Places.{Place, All}
 use Rattle.lists.proofs.Members.{map-only}
 use Rattle.float32.specs.Float32.{floatOf}
 use Rattle.float32.proofs.Values.{ofInt-value, value-unique}
 use Rattle.demands.specs.PeaksAlike.{nameOf}
 
--- a place of a map whose sides are at most 4096
+-- a place of a map of at most the largest sides
 abbrev pub Small : Place → Type 0
-Small p = (p .x < 4096) × (p .y < 4096)
+Small p = (p .x < largestSide) × (p .y < largestSide)
 
-float-only : (a b : ℕ) → a < 4096 → b < 4096 → floatOf a ≡ floatOf b → a ≡ b
+float-only : (a b : ℕ) → a < largestSide → b < largestSide → floatOf a ≡ floatOf b → a ≡ b
 float-only a b p q e =
     let v = value-unique (floatOf a) false a 1 b 1 (ofInt-value binary32 a (omega arith)) (rw e (ofInt-value binary32 b (omega arith))) in
     omega arith

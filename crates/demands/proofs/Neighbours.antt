@@ -1,4 +1,5 @@
--- From `finished-tells` of frame, and from `result-all` of merge and the pass, map by map; the counts from `counts-alike` of agreement. Assumes nothing.
+-- From `finished-tells` of frame, and from `result-all` of merge and the pass, map by map; the counts from `counts-alike` of agreement.
+-- Assumes nothing.
 use Prim.Native.Nat.{ℕ, zero, suc}
 use mathlib.Core.Path.{_≡_, refl, sym, _∙_}
 use mathlib.Core.Bool.{true}
@@ -40,7 +41,8 @@ all-in l = in-whole l [] l refl
 
 module _ (p : FrameParams) (maps : List View) where
   -- whatever becomes of its place
-  elsewhere : (c : Corner) (x y : Float) → OfPeak p maps c → OfPeak p maps (record { x = x; y = y; strength = c .strength; neighbours = c .neighbours })
+  elsewhere : (c : Corner) (x y : Float) → OfPeak p maps c
+      → OfPeak p maps (record { x = x; y = y; strength = c .strength; neighbours = c .neighbours })
   elsewhere c x y o = record {
     view = o .view;
     searched = o .searched;
@@ -62,7 +64,9 @@ module _ (p : FrameParams) (maps : List View) where
   module _ (v : View) (searched : IsIn v maps) where
     -- a place of the list of peaks, and what is true of it there
     abbrev Chosen : Place → Type 0
-    Chosen a = IsIn a (computedChoice p v) × (Inside (mapWidth v) (mapHeight v) (searchOn p v .border) a × (peakIn (cells v) (searchOn p v) a ≡ true))
+    Chosen a =
+        IsIn a (computedChoice p v) × (Inside (mapWidth v) (mapHeight v) (searchOn p v .border) a
+        × (peakIn (cells v) (searchOn p v) a ≡ true))
 
     chosen : All Chosen (computedChoice p v)
     chosen =
@@ -100,7 +104,8 @@ module _ (p : FrameParams) (maps : List View) where
         all-mapped (OfPeak p maps) (moved (v .x0) (v .y0)) corners
         (all-map (OfPeak p maps) (λ c. OfPeak p maps (moved (v .x0) (v .y0) c)) (λ c. elsewhere c _ _) corners (corners-of v i))
 
-    found-of : (n : ℕ) → All (λ v. IsIn v maps) (mapsOf p img w h (computedChoice p) n) → All (OfPeak p maps) (foundOf p img w h (computedChoice p) n)
+    found-of : (n : ℕ) → All (λ v. IsIn v maps) (mapsOf p img w h (computedChoice p) n)
+        → All (OfPeak p maps) (foundOf p img w h (computedChoice p) n)
     unfolding mapsOf foundOf
     found-of zero i = tt
     found-of (suc zero) i = corners-of (levelView p img w h 0) (i .0)
@@ -131,6 +136,7 @@ counts-exact c =
     let p = c .parameters in
     all-map (Fine p) (λ v. (a : Place) → exactNeighbours p v a ≡ neighboursAt (cells v) (searchOn p v) a)
     (λ v f a.
-    counts-alike (cells v) (λ q. fifthsIn v (q .x) (q .y)) (mapWidth v) (mapHeight v) (λ q x y. map-accurate v (f .bytes) (q .x) (q .y) nan x y)
+    counts-alike (cells v) (λ q. fifthsIn v (q .x) (q .y)) (mapWidth v) (mapHeight v)
+    (λ q x y. map-accurate v (f .bytes) (q .x) (q .y) nan x y)
     (p .window) a)
     (ownMaps c) (looked-fine p (c .img) (c .w) (c .h) (computedChoice p) (sound c))

@@ -36,9 +36,12 @@ use Rattle.retention.specs.Retention as retention
 use Rattle.demands.specs.Occurring.{occurring, NumbersOccur}
 
 pub numbers-occur : NumbersOccur
-unfolding occurring sub mul div ofBits counted range row rowsFrom block count total ringOf responseAt fifthsAt response.cells response.refusalOf
-    levelCount cellsAbove buildRefusalOf levelRefusalOf levelPixels square window beaten positives isPeak peakPlaces fifthsAbove detect.conditions
-    detect.refusalOf seedFits refined multiscale.refusalOf isOff isSized merge.refusalOf refusalApart refusalFor showing.refusalOf striking.refusalOf
+unfolding occurring sub mul div ofBits counted range row rowsFrom block count total ringOf responseAt fifthsAt response.cells
+    response.refusalOf
+    levelCount cellsAbove buildRefusalOf levelRefusalOf levelPixels square window beaten positives isPeak peakPlaces fifthsAbove
+    detect.conditions
+    detect.refusalOf seedFits refined multiscale.refusalOf isOff isSized merge.refusalOf refusalApart refusalFor showing.refusalOf
+    striking.refusalOf
     parametersFit frame.refusalOf bare fieldOf pixelsIn photograph.refusalOf readFrame frameBytes writer.refusalOf retouch.refusalOf
     limits.refusalOf sure.refusalOf retention.refusalOf
 numbers-occur = refl

@@ -23,15 +23,18 @@ use Rattle.demands.proofs.Added.{named}
 
 map-accurate : (c : ResponseCall) → CellsAccurate (mapOf c) (exactAt c) (c .pw) (c .ph)
 map-accurate c p x y =
-    rw (getD-take (c .ph * c .pw) (c .after) (p .y * c .pw + p .x) nan (omega (arith, in-map (c .pw) (c .ph) (p .x) (p .y) x y, mul-comm (c .pw) (c .ph))))
+    rw (getD-take (c .ph * c .pw) (c .after) (p .y * c .pw + p .x) nan
+    (omega (arith, in-map (c .pw) (c .ph) (p .x) (p .y) x y, mul-comm (c .pw) (c .ph))))
     (response-accurate .call c p (x, y))
 
 -- in any map of accurate cells
-alike : (m : List Float) (fifths : Place → ℤ) (w h : ℕ) → CellsAccurate m fifths w h → (p : PeakCall m w h) (k : ℕ) → IsWhole (lift (p .threshold)) k
+alike : (m : List Float) (fifths : Place → ℤ) (w h : ℕ) → CellsAccurate m fifths w h → (p : PeakCall m w h) (k : ℕ)
+    → IsWhole (lift (p .threshold)) k
     → AlikeUnlessTied fifths p
 alike m fifths w h cells p k whole =
     let n = named m w h p (exact fifths (lift (p .threshold))) in
-    let a = agreement.peaks-alike m fifths (lift (p .threshold)) k w h (searchIn p .border) (p .window) (p .«least_neighbours») whole cells in
+    let a = agreement.peaks-alike m fifths (lift (p .threshold)) k w h (searchIn p .border) (p .window)
+    (p .«least_neighbours») whole cells in
     (λ e. a .0 (n .0 e), λ e. n .1 (a .1 e))
 
 pub peaks-alike : PeaksAlike

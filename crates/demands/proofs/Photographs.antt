@@ -25,7 +25,8 @@ use Rattle.demands.proofs.PlainHeader.{width-is, height-is, maxval-is, 
 use Rattle.demands.specs.FrameExact.{CallBy}
 
 -- ---- by the number of the upload
-module _ (choose : Choice) (p : FrameParams) (upload : List ℕ) (b b′ : Buffers) (r : FrameAnswer) (f : PhotographFound choose p upload b r b′) where
+module _ (choose : Choice) (p : FrameParams) (upload : List ℕ) (b b′ : Buffers) (r : FrameAnswer)
+    (f : PhotographFound choose p upload b r b′) where
   pub photograph-accepted : refusalOf upload ≡ 0 → FrameFound choose p (pixelsIn upload) (widthOf upload) (heightOf upload) b r b′
   unfolding photograph.refusalOf
   photograph-accepted e =
@@ -89,13 +90,15 @@ frame-call {choose} c = let f = finished choose c in record {
 }
 
 -- ---- what is read of an upload that is accepted
-read-as : (upload : List ℕ) (at w h : ℕ) (pixels : List ℕ) → refusalOf upload ≡ 0 → rasterAt upload ≡ at → widthOf upload ≡ w → heightOf upload ≡ h
+read-as : (upload : List ℕ) (at w h : ℕ) (pixels : List ℕ) → refusalOf upload ≡ 0 → rasterAt upload ≡ at → widthOf upload ≡ w
+    → heightOf upload ≡ h
     → pixelsIn upload ≡ pixels → ReadAs upload at w h pixels
 read-as upload at w h pixels none place width height part =
     record { image = λ r f. f .answer ∙ rw (none, place, width, height); part = part }
 
 -- two calls on frames that are the same
-frames-same : (choose : Choice) (p : FrameParams) (i i′ : List ℕ) (w w′ h h′ : ℕ) (b b₁ b₂ : Buffers) (r₁ r₂ : FrameAnswer) → i′ ≡ i → w′ ≡ w → h′ ≡ h
+frames-same : (choose : Choice) (p : FrameParams) (i i′ : List ℕ) (w w′ h h′ : ℕ) (b b₁ b₂ : Buffers) (r₁ r₂ : FrameAnswer)
+    → i′ ≡ i → w′ ≡ w → h′ ≡ h
     → FrameFound choose p i w h b r₁ b₁ → FrameFound choose p i′ w′ h′ b r₂ b₂ → (r₂ ≡ r₁) × (b₂ ≡ b₁)
 frames-same choose p i i′ w w′ h h′ b b₁ b₂ r₁ r₂ pixels wide high f g =
     (g .answer ∙ rw (pixels, wide, high) (sym (f .answer)), g .left ∙ rw (pixels, wide, high) (sym (f .left)))
@@ -107,8 +110,10 @@ behind-unread = record {
       (same-accepted upload none behind) (same-raster upload none behind) (same-width upload none behind) (same-height upload none behind)
       (same-pixels upload none behind);
   frame = λ choose p upload none behind b b₁ b₂ r₁ r₂ f g.
-      frames-same choose p (pixelsIn upload) (pixelsIn (withBehind upload behind)) (widthOf upload) (widthOf (withBehind upload behind)) (heightOf upload)
-      (heightOf (withBehind upload behind)) b b₁ b₂ r₁ r₂ (same-pixels upload none behind) (same-width upload none behind) (same-height upload none behind)
+      frames-same choose p (pixelsIn upload) (pixelsIn (withBehind upload behind)) (widthOf upload)
+      (widthOf (withBehind upload behind)) (heightOf upload)
+      (heightOf (withBehind upload behind)) b b₁ b₂ r₁ r₂ (same-pixels upload none behind) (same-width upload none behind)
+      (same-height upload none behind)
       (photograph-accepted choose p upload b b₁ r₁ f none)
       (photograph-accepted choose p (withBehind upload behind) b b₂ r₂ g (same-accepted upload none behind));
 }

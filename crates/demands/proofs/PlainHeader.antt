@@ -52,7 +52,8 @@ digits-all : (k n : ℕ) → All Digit (digits 10 k n)
 unfolding digits Digit
 digits-all zero n = tt
 digits-all (suc k) n =
-    all-append (λ c. isDigit c ≡ true) (digits 10 k (n / 10)) (digitOf (n % 10) ∷ []) (digits-all k (n / 10)) (one (n % 10) (omega arith), tt)
+    all-append (λ c. isDigit c ≡ true) (digits 10 k (n / 10)) (digitOf (n % 10) ∷ []) (digits-all k (n / 10))
+    (one (n % 10) (omega arith), tt)
   where
     one : (d : ℕ) → d < 10 → isDigit (digitOf d) ≡ true
     one d l = rw (digit-is d l, le-leb 48 (48 + d) (omega arith), le-leb (48 + d) 57 (omega arith))
@@ -105,7 +106,8 @@ digit-no-space c e =
 digit-no-comment : (c : ℕ) → isDigit c ≡ true → eqb c 35 ≡ false
 digit-no-comment c e = let least = digit-least c e in ne-eqb c 35 (λ z. let no : ⊥ = omega arith in no)
 
-leading-all : (ds : List Character) (c : Character) (cs : List Character) → All (λ d. isDigit (d .code) ≡ true) ds → isDigit (c .code) ≡ false
+leading-all : (ds : List Character) (c : Character) (cs : List Character) → All (λ d. isDigit (d .code) ≡ true) ds
+    → isDigit (c .code) ≡ false
     → (leading isDigit (ds ++ (c ∷ cs)) ≡ ds) × (trailing isDigit (ds ++ (c ∷ cs)) ≡ c ∷ cs)
 leading-all [] c cs h e = (rw e, rw e)
 leading-all (d ∷ ds) c cs h e =

@@ -1,5 +1,5 @@
 -- From the numbers of the reader and of the frame, and from `pass-same` of frame_pass. Assumes nothing.
-use Prim.Native.Nat.{ℕ, zero, suc, _+_, _*_, _%_, _<_, _≤_}
+use Prim.Native.Nat.{ℕ, zero, suc, _+_, _*_, _%_, _<_, _≤_, _/_}
 use native.Mathlib.Nat.{mul-le-mul}
 use native.Mathlib.Omega.{arith}
 use mathlib.Core.Path.{_≡_, refl, sym, ap, _∙_}
@@ -8,6 +8,7 @@ use mathlib.Core.Bool.{Bool, not, _&&_}
 use mathlib.Core.List.{List, [], _∷_, _++_}
 use lib.ListN.{length, getD}
 use borrow.Author.Tests.{lt-ltb, le-ltb, eq-eqb}
+use Rattle.lists.specs.Limits.{largestSide}
 use Rattle.lists.specs.Refusals.{lowest, unless}
 use Rattle.pyramid_levels.specs.Levels.{levelCount, cellsAbove}
 use Rattle.pyramid_levels.proofs.Cells.{cells-le}
@@ -18,7 +19,7 @@ use Rattle.frame_pass.specs.Pass.{Pass, framePass}
 use Rattle.frame_pass.proofs.Same.{pass-same}
 use Rattle.frame.specs.Frame.{tooMany, refusalOf}
 use Rattle.stream.specs.declared.Header.{Header}
-use Rattle.stream.specs.Stream.{Reading, accepted, refused, readFrame}
+use Rattle.stream.specs.Stream.{mostPixels, Reading, accepted, refused, readFrame}
 use Rattle.stream.proofs.Order.{small-sides}
 use Rattle.stream.proofs.Accepted.{accepted-good, round-trip}
 use Rattle.stream.proofs.Meaning.{Open}
@@ -52,7 +53,8 @@ undecided input o = record {
   bytes = o .bytes;
   differs = λ e.
       let texts : refusedText (o .number) ≡ refusedText 7 = sym (ap readingText (o .refusal)) ∙ e ∙ ap readingText (o .cut) in
-      let digits = sym (digit-is (o .number) (omega (arith, o .other))) ∙ ap (λ (s : List ℕ). getD s 8 0) texts ∙ digit-is 7 (omega arith) in
+      let digits = sym (digit-is (o .number) (omega (arith, o .other))) ∙ ap (λ (s : List ℕ). getD s 8 0) texts
+      ∙ digit-is 7 (omega arith) in
       let no : ⊥ = omega (arith, o .other) in
       no;
 }
@@ -85,14 +87,14 @@ module _ (input : List ℕ) where
     number-is =
         let good = accepted-good input h pixels r in
         let small = small-sides (h .width) (h .height) (good .sides) in
-        let most : h .width * h .height ≤ 9216 = omega (arith, mul-le-mul (small .0) (small .1)) in
+        let most : h .width * h .height ≤ mostPixels = omega (arith, mul-le-mul (small .0) (small .1)) in
         let n = levelCount (h .width) (h .height) (h .levels) (h .«minimum_side») in
         rw (
-          le-ltb 4096 (h .width) (omega (arith, small .0)),
-          le-ltb 4096 (h .height) (omega (arith, small .1)),
+          le-ltb largestSide (h .width) (omega (arith, small .0)),
+          le-ltb largestSide (h .height) (omega (arith, small .1)),
           eq-eqb (length pixels) (h .width * h .height) (good .long),
-          le-ltb 9216 (h .width * h .height) most,
-          le-ltb 3072 (cellsAbove (h .width) (h .height) n) (omega (arith, cells-le (h .width) (h .height) n, most)),
+          le-ltb mostPixels (h .width * h .height) most,
+          le-ltb (mostPixels / 3) (cellsAbove (h .width) (h .height) n) (omega (arith, cells-le (h .width) (h .height) n, most)),
         )
 
     printed : (n : ℕ) → number ≡ n → outputOf input ≡ unless refusedText n (cornersText (found .corners))
@@ -103,7 +105,11 @@ module _ (input : List ℕ) where
     by-number zero e = inl (record { header = h; pixels = pixels; reading = r; finished = e; prints = printed 0 e })
     by-number (suc n) e =
         let one = numbered-one table (suc n) (sym e ∙ number-is) (omega arith) in
-        inr (record { number = suc n; numbered = widen (suc n) (3 ∷ 5 ∷ 10 ∷ []) (1 ∷ 3 ∷ 5 ∷ 6 ∷ 7 ∷ 10 ∷ 11 ∷ []) refl one; prints = printed (suc n) e })
+        inr (record {
+          number = suc n;
+          numbered = widen (suc n) (3 ∷ 5 ∷ 10 ∷ []) (1 ∷ 3 ∷ 5 ∷ 6 ∷ 7 ∷ 10 ∷ 11 ∷ []) refl one;
+          prints = printed (suc n) e;
+        })
 
   by-reading : (r : Reading) → readFrame input ≡ r → PrintsCorners input ⊎ PrintsRefusal input
   unfolding outputOf
@@ -120,7 +126,8 @@ program-total input = by-reading input (readFrame input) refl
 
 pub program-exact : ProgramExact
 program-exact input l alike =
-    l .prints ∙ ap (λ (q : Pass). cornersText (q .corners)) (pass-same (paramsOf (l .header)) (l .pixels) (l .header .width) (l .header .height) alike)
+    l .prints ∙ ap (λ (q : Pass). cornersText (q .corners))
+    (pass-same (paramsOf (l .header)) (l .pixels) (l .header .width) (l .header .height) alike)
 
 -- ---- streams
 pub program-streams : ProgramStreams

@@ -16,7 +16,8 @@ use Rattle.listing.specs.Text.{refusedText}
 use Rattle.retention.specs.declared.Holding.{Holding}
 use Rattle.retention.specs.declared.Holding.the-variants.{NotYet, Held, Gone, Refused}
 use Rattle.retention.specs.Retention.{known, dayOf, stays, stateOf, isLate, letterOf}
-use Rattle.retention.specs.Stream.{timeOf, timeFault, kindAt, secondAt, recordFault, placeOf, linesFrom, outputOf}
+use Rattle.retention.specs.Stream.{mostRecords, longestInput, timeOf, timeFault, kindAt, secondAt, recordFault, placeOf, linesFrom}
+use Rattle.retention.specs.Stream.{outputOf}
 use Rattle.retention.specs.Wanted.{itemFault, wantedItem, passedFrom, wantedFrom, items, wanted}
 use Rattle.retention.proofs.Records.{timed, time-cut, whole, fault-end, fault-cut}
 use Rattle.retention.proofs.Append.{settled-none}
@@ -25,7 +26,8 @@ use Rattle.retention.proofs.Passing.{Before, before-none, before-passing, passe
 use Rattle.retention.proofs.Decided.{decided, most, refused-time, listed-time}
 use Rattle.retention.proofs.Open.{open-text, fewer}
 use Rattle.demands.specs.Numbers.{OneOf}
-use Rattle.demands.specs.Retention.{HoldingCall, HeldWhen, lineOf, linesTo, PrintsLetters, EndsRefused, RetainedTotal, RetainedUndecided, RetainedReads}
+use Rattle.demands.specs.Retention.{HoldingCall, HeldWhen, lineOf, linesTo, PrintsLetters, EndsRefused, RetainedTotal}
+use Rattle.demands.specs.Retention.{RetainedUndecided, RetainedReads}
 use Rattle.demands.proofs.Tables.{widen, numbered-one}
 
 -- ---- a state by its two tests: before the start, and still held
@@ -61,7 +63,8 @@ module _ {kind : ℕ} (c : HoldingCall kind) where
 
   answer-is : c .answer ≡ by early held
   unfolding stateOf
-  answer-is = c .promise .answer ∙ ap (λ (n : ℕ). unless Refused n (stateOf kind (c .start) (c .time))) (sym (c .promise .number) ∙ c .finished)
+  answer-is =
+      c .promise .answer ∙ ap (λ (n : ℕ). unless Refused n (stateOf kind (c .start) (c .time))) (sym (c .promise .number) ∙ c .finished)
 
   not-yet : (c .answer ≡ NotYet) ↔ (c .time < c .start)
   not-yet = (
@@ -185,11 +188,11 @@ module _ (s : List ℕ) where
 
   -- ---- where the items before record c have no fault
   module _ (c : ℕ) (b : Before s (suc c)) where
-    few : c ≤ 65536
+    few : c ≤ mostRecords
     few = omega (arith, b .most)
 
     abbrev left : ℕ
-    left = 65536 - c
+    left = mostRecords - c
 
     reached : (k : ℕ) → Before s (suc k) → placeOf k ≤ length s
     reached zero b = timed s (b .sound 0 (omega arith)) .long
@@ -197,14 +200,14 @@ module _ (s : List ℕ) where
 
     prints : outputOf s ≡ linesTo s c ++ linesFrom s left c
     prints =
-        let all : c + left ≡ 65536 = omega (arith, few) in
+        let all : c + left ≡ mostRecords = omega (arith, few) in
         let first : 0 + c ≡ c = omega arith in
         listed-time s (b .sound 0 (omega arith))
         ∙ ap (λ (n : ℕ). linesFrom s n 0) (sym all)
         ∙ lines-of c left 0 (λ i m l. b .sound (suc i) (omega arith))
         ∙ ap (λ (k : ℕ). linesTo s c ++ linesFrom s left k) first
 
-    lists : linesFrom s left c ≡ [] → (length s ≡ placeOf c) ⊎ (c ≡ 65536) → PrintsLetters s
+    lists : linesFrom s left c ≡ [] → (length s ≡ placeOf c) ⊎ (c ≡ mostRecords) → PrintsLetters s
     lists none end = record {
       count = c;
       few = few;
@@ -214,7 +217,7 @@ module _ (s : List ℕ) where
     }
 
     -- all 65,536 of them
-    all-read : 65536 ≤ c → PrintsLetters s
+    all-read : mostRecords ≤ c → PrintsLetters s
     all-read l =
         let none : left ≡ 0 = omega arith in
         lists (ap (λ (n : ℕ). linesFrom s n c) none ∙ lines-none s c) (inr (omega (arith, few)))
@@ -239,9 +242,9 @@ module _ (s : List ℕ) where
         ∷ [])
         fault refl l)
 
-    refused : c < 65536 → placeOf c < length s → (fault ≡ 0 → ⊥) → EndsRefused s
+    refused : c < mostRecords → placeOf c < length s → (fault ≡ 0 → ⊥) → EndsRefused s
     refused l some h =
-        let one : left ≡ suc (65536 - suc c) = omega arith in
+        let one : left ≡ suc (mostRecords - suc c) = omega arith in
         let back : suc c - 1 ≡ c = omega arith in
         record {
           item = suc c;
@@ -253,7 +256,7 @@ module _ (s : List ℕ) where
           prints =
               prints
               ∙ ap (λ (n : ℕ). linesTo s c ++ linesFrom s n c) one
-              ∙ ap (λ (l : List ℕ). linesTo s c ++ l) (line-refused s (65536 - suc c) c some fault refl h)
+              ∙ ap (λ (l : List ℕ). linesTo s c ++ l) (line-refused s (mostRecords - suc c) c some fault refl h)
               ∙ ap (λ (k : ℕ). linesTo s k ++ refusedText fault) (sym back);
         }
 
@@ -280,7 +283,7 @@ module _ (s : List ℕ) where
   by-passed : (p : ℕ) → Before s p → (p < items → itemFault s p ≡ 0 → ⊥) → PrintsLetters s ⊎ EndsRefused s
   by-passed zero b stops = inr (time-refused (stops (omega arith)))
   by-passed (suc c) b stops =
-      elim (decLt c 65536) [
+      elim (decLt c mostRecords) [
         | yes l ↦
             elim (decLt (placeOf c) (length s)) [
               | yes some ↦ inr (refused c b l some (stops (omega arith)))
@@ -293,19 +296,19 @@ pub retained-total : RetainedTotal
 retained-total s = by-passed s (passedFrom s items 0) (passed-before s items 0 refl (before-none s)) (passed-stops s items 0)
 
 -- ---- what is read
-cut-short : (s : List ℕ) → outputOf (take 589832 s) ≡ outputOf s
+cut-short : (s : List ℕ) → outputOf (take longestInput s) ≡ outputOf s
 cut-short s =
-    elim (decLt 589832 (length s)) [
+    elim (decLt longestInput (length s)) [
       | yes l ↦
-          let front = take 589832 s in
-          let long = length-take-le 589832 s (omega arith) in
+          let front = take longestInput s in
+          let long = length-take-le longestInput s (omega arith) in
           let none : wanted front ≡ 0 =
           elim (decLt 0 (wanted front)) [
             | yes some ↦ absurd (let no : ⊥ = omega (arith, most front some, long) in no)
             | no g ↦ omega arith
           ] in
-          sym (decided front (drop 589832 s) none) ∙ ap outputOf (take-append-drop 589832 s)
-      | no g ↦ ap outputOf (take-all 589832 s (omega arith))
+          sym (decided front (drop longestInput s) none) ∙ ap outputOf (take-append-drop longestInput s)
+      | no g ↦ ap outputOf (take-all longestInput s (omega arith))
     ]
 
 module _ (s : List ℕ) where

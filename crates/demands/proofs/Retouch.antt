@@ -32,7 +32,8 @@ module _ (img : List ℕ) (w h : ℕ) (t : Ring) (q : Place) (m : List Float) wh
   redone-length = length-grid w h _
 
   redone-at : (z : Float) (x y : ℕ) → x < w → y < h
-      → getD (redone img w h t q m) (y * w + x) z ≡ cond (touched w h t q (record { x = x; y = y })) (responseAt img w h t x y) (getD m (y * w + x) zero)
+      → getD (redone img w h t q m) (y * w + x) z
+      ≡ cond (touched w h t q (record { x = x; y = y })) (responseAt img w h t x y) (getD m (y * w + x) zero)
   unfolding redone
   redone-at z x y a b = getD-grid w h _ x y z a b
 
@@ -91,7 +92,8 @@ fresh-call c own again v m u =
     let mine : c .map ≡ cells (viewBefore c) = sym m ∙ bit-for-bit .«chess_response_u8_patch» own ∙ ap cells v in
     let now : redone (c .img′) (c .w) (c .h) (ringOf (c .ring)) (c .pixel) (c .map) ≡ cells (viewAfter c) =
     rw (mine, pixel-changed c)
-    (fresh.fresh-map (c .img) (c .w) (c .h) (g .image .sized) (ringOf (c .ring)) (ringOf-is (c .ring)) (c .pixel) (g .column) (g .row) (c .value)) in
+    (fresh.fresh-map (c .img) (c .w) (c .h) (g .image .sized) (ringOf (c .ring)) (ringOf-is (c .ring)) (c .pixel) (g .column)
+    (g .row) (c .value)) in
     map-redone c ∙ now ∙ sym (bit-for-bit .«chess_response_u8_patch» again ∙ ap cells u)
 
 pub fresh-again : Fresh
@@ -103,9 +105,11 @@ fresh-again = record {
 moved-little : (c : RetouchCall) (t : Ring) → IsRing t → MovedLittle c t
 moved-little c t is = let g = given c in record {
   through-ring = λ p e.
-      rw (pixel-changed c) (moves.through-ring (c .img) (c .w) (c .h) (g .image .sized) t is (c .pixel) (g .column) (g .row) (c .value) p e);
+      rw (pixel-changed c) (moves.through-ring (c .img) (c .w) (c .h) (g .image .sized) t is (c .pixel) (g .column) (g .row)
+      (c .value) p e);
   through-cross = λ p e.
-      rw (pixel-changed c) (moves.through-cross (c .img) (c .w) (c .h) (g .image .sized) t is (c .pixel) (g .column) (g .row) (c .value) p e);
+      rw (pixel-changed c) (moves.through-cross (c .img) (c .w) (c .h) (g .image .sized) t is (c .pixel) (g .column) (g .row)
+      (c .value) p e);
   no-other = λ p e.
       rw (pixel-changed c) (fresh.exact-kept (c .img) (c .w) (c .h) (g .image .sized) t is (c .pixel) (g .column) (g .row) (c .value) p e);
 }

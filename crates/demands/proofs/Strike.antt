@@ -21,7 +21,8 @@ use Rattle.demands.specs.Strike.{RaisedByStrikesOnly, LaterMoveUp, Remov
 
 -- ---- one call
 module _ (s : Edited) (c : StrikeCall s) where
-  told : numberOf (c .answer) ≡ 0 → StruckAs (s .buffer) (s .edition) (c .place) (c .change) (c .answer) (c .after .buffer) (c .after .edition)
+  told : numberOf (c .answer) ≡ 0
+      → StruckAs (s .buffer) (s .edition) (c .place) (c .change) (c .answer) (c .after .buffer) (c .after .edition)
   told = was-struck (s .buffer) (s .edition) (c .place) (c .change) (c .answer) (c .after .buffer) (c .after .edition) (c .promise)
 
   struck : numberOf (c .answer) ≡ 0
@@ -32,7 +33,8 @@ module _ (s : Edited) (c : StrikeCall s) where
 
   refused : (k : ℕ) → c .answer ≡ Refused k → c .after ≡ s
   refused k e =
-      let p = subst (λ (r : Strike). Strikes (s .buffer) (s .edition) (c .place) (c .change) r (c .after .buffer) (c .after .edition)) e (c .promise) in
+      let p = subst (λ (r : Strike). Strikes (s .buffer) (s .edition) (c .place) (c .change) r (c .after .buffer)
+      (c .after .edition)) e (c .promise) in
       let same = was-refused (s .buffer) (s .edition) (c .place) (c .change) k (c .after .buffer) (c .after .edition) p in
       ap₂ (λ (b : Slices) (d : Edition). record { buffer = b; edition = d }) (same .0) (same .1)
 

@@ -1,4 +1,5 @@
--- From `finished-tells` of frame and `pass-same` of frame_pass; the maps alike from `maps-alike`: without an equal there is no tie. Assumes nothing.
+-- From `finished-tells` of frame and `pass-same` of frame_pass; the maps alike from `maps-alike`: without an equal there is no tie. Assumes
+-- nothing.
 use Prim.Native.Nat.{ℕ}
 use mathlib.Core.Path.{_≡_, refl, ap, _∙_}
 use mathlib.Core.Bool.{false, cond}

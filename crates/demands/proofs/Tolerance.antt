@@ -1,5 +1,5 @@
--- From the theorems of tolerance: the map that a call left is that of its box; the lists that a frame left are those of its pass, by `finished-tells`, and
--- merging leaves corners of the list, by `result-all`. Assumes nothing.
+-- From the theorems of tolerance: the map that a call left is that of its box; the lists that a frame left are those of its pass, by
+-- `finished-tells`, and merging leaves corners of the list, by `result-all`. Assumes nothing.
 use Prim.Native.Nat.{ℕ, zero, suc, _-_, _≤_}
 use native.Mathlib.Omega.{arith}
 use mathlib.Core.Path.{_≡_, refl, sym, ap}
@@ -44,12 +44,15 @@ module _ (p : FrameParams) (choose : Choice) (R : p .«centroid_radius» ≤ 2) 
   close-in v f =
       let start = startAt (cells v) (searchOn p v) in
       let peaks = choose v in
-      let close = all-unmapped (λ s. All (CloseCorner p v s) (localized p v s)) start peaks (tolerance.close-corners p v (f .bytes) R choose) in
+      let close = all-unmapped (λ s. All (CloseCorner p v s) (localized p v s)) start peaks
+      (tolerance.close-corners p v (f .bytes) R choose) in
       all-flat (CloseIn p choose v) (localized p v) (map start peaks)
       (all-mapped (λ s. All (CloseIn p choose v) (localized p v s)) start peaks
-      (all-map (λ a. IsIn a peaks × All (CloseCorner p v (start a)) (localized p v (start a))) (λ a. All (CloseIn p choose v) (localized p v (start a)))
+      (all-map (λ a. IsIn a peaks × All (CloseCorner p v (start a)) (localized p v (start a)))
+      (λ a. All (CloseIn p choose v) (localized p v (start a)))
       (λ a k.
-      all-map (CloseCorner p v (start a)) (CloseIn p choose v) (λ c near. record { peak = a; chosen = k .0; close = near }) (localized p v (start a)) (k .1))
+      all-map (CloseCorner p v (start a)) (CloseIn p choose v) (λ c near. record { peak = a; chosen = k .0; close = near })
+      (localized p v (start a)) (k .1))
       peaks (all-both (λ a. IsIn a peaks) (λ a. All (CloseCorner p v (start a)) (localized p v (start a))) peaks (all-in peaks) close)))
 
   -- ---- of a sound image
@@ -59,23 +62,28 @@ module _ (p : FrameParams) (choose : Choice) (R : p .«centroid_radius» ≤ 2) 
     close-seeds zero = tt
     close-seeds (suc zero) = tt
     close-seeds (suc (suc k)) =
-        let last : suc (suc k) - 1 ≡ suc k = omega arith in rw last (close-in (levelView p img w h (suc k)) (fine-level p img w h s (suc k)))
+        let last : suc (suc k) - 1 ≡ suc k = omega arith in
+        rw last (close-in (levelView p img w h (suc k)) (fine-level p img w h s (suc k)))
 
     -- the corners of a map that is searched, as they stand in the buffer
     abbrev Searched : ℕ → View → Type 0
     Searched n v = IsIn v (foundIn p img w h choose n) × Fine p v
 
-    close-standing : (n : ℕ) (v : View) → Searched n v → All (λ c. CloseFound p img w h choose n (standing p img w h choose n v c)) (cornersIn p choose v)
+    close-standing : (n : ℕ) (v : View) → Searched n v
+        → All (λ c. CloseFound p img w h choose n (standing p img w h choose n v c)) (cornersIn p choose v)
     close-standing n v i =
         all-map (CloseIn p choose v) (λ c. CloseFound p img w h choose n (standing p img w h choose n v c))
         (λ c near. record { view = v; searched = i .0; own = c; close = near; stands = refl }) (cornersIn p choose v) (close-in v (i .1))
 
-    on-patch : (k : ℕ) (v : View) → Searched (suc (suc k)) v → All (CloseFound p img w h choose (suc (suc k))) (cornersOn p img w h choose v)
+    on-patch : (k : ℕ) (v : View) → Searched (suc (suc k)) v
+        → All (CloseFound p img w h choose (suc (suc k))) (cornersOn p img w h choose v)
     on-patch k v i =
-        all-mapped (CloseFound p img w h choose (suc (suc k))) (moved (v .x0) (v .y0)) (cornersIn p choose v) (close-standing (suc (suc k)) v i)
+        all-mapped (CloseFound p img w h choose (suc (suc k))) (moved (v .x0) (v .y0)) (cornersIn p choose v)
+        (close-standing (suc (suc k)) v i)
 
     patch-fine : (k : ℕ) (l : List Corner) → All (Fine p) (flatMap (seedPatch p img w h k) l)
-    patch-fine k l = all-flat (Fine p) (seedPatch p img w h k) l (all-of (λ c. All (Fine p) (seedPatch p img w h k c)) (seed-fine p img w h s k) l)
+    patch-fine k l =
+        all-flat (Fine p) (seedPatch p img w h k) l (all-of (λ c. All (Fine p) (seedPatch p img w h k c)) (seed-fine p img w h s k) l)
 
     close-found : (n : ℕ) → All (λ v. IsIn v (foundIn p img w h choose n)) (foundIn p img w h choose n)
         → All (CloseFound p img w h choose n) (foundOf p img w h choose n)

@@ -107,10 +107,10 @@ use Rattle.demands.proofs.Tables.{widen, numbered-one, refused-one}
 use Rattle.demands.proofs.Photographs.{photograph-accepted, photograph-refused}
 use Rattle.demands.proofs.Faults.{frame-few}
 
-response-refuses : (v : response.View) (radius : ℕ) (d e : List Float) (r : Patch) → response.Patched v radius d r e
+response-refuses : (v : response.View) (cs : List Float) (radius : ℕ) (d e : List Float) (r : Patch) → response.MapMade v cs radius d r e
     → Refuses patch.Refused (1 ∷ 2 ∷ 3 ∷ 8 ∷ []) r
 unfolding response.refusalOf
-response-refuses v radius d e r f =
+response-refuses v cs radius d e r f =
     refused-one patch.Refused (λ k. unless patch.Refused k (patch.Cells (response.mapWidth v) (response.mapHeight v)))
     (λ k q. let z : _≡_ {A = ℕ} 0 1 = cc in omega arith) (λ n k q. sym (ap response.numberOf q))
     ((isLarge (v .w) (v .h), 1)
@@ -124,7 +124,8 @@ build-refuses : (base : List ℕ) (w h count least : ℕ) (d e : List ℕ) (r : 
     → Refuses built.Refused (1 ∷ 2 ∷ 9 ∷ []) r
 unfolding buildRefusalOf
 build-refuses base w h count least d e r f =
-    refused-one built.Refused (λ k. unless built.Refused k (built.Levels (levelCount w h count least))) (λ k q. let z : _≡_ {A = ℕ} 0 1 = cc in omega arith)
+    refused-one built.Refused (λ k. unless built.Refused k (built.Levels (levelCount w h count least)))
+    (λ k q. let z : _≡_ {A = ℕ} 0 1 = cc in omega arith)
     (λ n k q. sym (ap build.numberOf q))
     ((isLarge w h, 1) ∷ (isMisfit (length base) w h, 2) ∷ (isShort (ask (length base) (length d) w h count least), 9) ∷ []) r (f .answer)
 
@@ -143,21 +144,24 @@ peaks-refuse : (conds : List (Bool × ℕ)) (cs : List Corner) (ties held : ℕ)
     → Refuses peaks.Refused (map (λ c. c .1) (conds ++ ((ltb (placesOf b) (held + length cs), 10) ∷ []))) r
 unfolding detect.refusalOf
 peaks-refuse conds cs ties held b r f =
-    refused-one peaks.Refused (λ n. unless peaks.Refused n (peaks.Added (length cs) ties)) (λ k q. let z : _≡_ {A = ℕ} 0 1 = cc in omega arith)
+    refused-one peaks.Refused (λ n. unless peaks.Refused n (peaks.Added (length cs) ties))
+    (λ k q. let z : _≡_ {A = ℕ} 0 1 = cc in omega arith)
     (λ n k q. sym (ap detect.numberOf q))
     (conds ++ ((ltb (placesOf b) (held + length cs), 10) ∷ [])) r f
 
 peaks-of : (size w h ring window radius : ℕ) (cs : List Corner) (ties held : ℕ) (b b′ : Slices) (r : Peaks)
     → detect.PeaksAdded (detect.conditions size w h ring window radius) cs ties held b r b′ → Refuses peaks.Refused (1 ∷ 2 ∷ 3 ∷ 10 ∷ []) r
 unfolding detect.conditions
-peaks-of size w h ring window radius cs ties held b b′ r f = peaks-refuse (detect.conditions size w h ring window radius) cs ties held b r (f .answer)
+peaks-of size w h ring window radius cs ties held b b′ r f =
+    peaks-refuse (detect.conditions size w h ring window radius) cs ties held b r (f .answer)
 
 enough-refuses : (conds : List (Bool × ℕ)) (m : List Float) (s : Search) (wanted : ℕ) (r : Enough) → enough.EnoughFound conds m s wanted r
     → Refuses answered.Refused (map (λ c. c .1) conds) r
 unfolding enough.enoughOf
 enough-refuses conds m s wanted r f =
     let peaks = detect.peaksIn m s in
-    refused-one answered.Refused (λ n. unless answered.Refused n (enough.answerOf (leb wanted (length peaks)) (enough.rowsFor s wanted peaks)))
+    refused-one answered.Refused (λ n. unless answered.Refused n
+    (enough.answerOf (leb wanted (length peaks)) (enough.rowsFor s wanted peaks)))
     (none (leb wanted (length peaks)) (enough.rowsFor s wanted peaks)) (λ n k q. sym (ap enough.numberOf q)) conds r (f .answer)
   where
     none : (b : Bool) (rows k : ℕ) → enough.answerOf b rows ≡ answered.Refused k → ⊥
@@ -174,13 +178,16 @@ refine-refuses radius x y hasMap m w h r f k e =
 roi-refuses : (c : RoiContext) (s : Corner) (r : RoiAnswer) → Boxed c s r → Refuses roi.Refused (1 ∷ 3 ∷ 4 ∷ []) r
 unfolding multiscale.refusalOf
 roi-refuses c s r f k e =
-    numbered-one (multiscale.conditions c s) k (sym (ap multiscale.numberOf e) ∙ f .number) (box.refused-numbered c s k (sym (f .answer) ∙ e))
+    numbered-one (multiscale.conditions c s) k (sym (ap multiscale.numberOf e) ∙ f .number)
+    (box.refused-numbered c s k (sym (f .answer) ∙ e))
 
 -- the merge entries
-merge-numbers : (four five ten : Bool) (n : ℕ) (r : Merged) → r ≡ unless merged.Refused (lowest ((four, 4) ∷ (five, 5) ∷ (ten, 10) ∷ [])) (merged.Kept n)
+merge-numbers : (four five ten : Bool) (n : ℕ) (r : Merged)
+    → r ≡ unless merged.Refused (lowest ((four, 4) ∷ (five, 5) ∷ (ten, 10) ∷ [])) (merged.Kept n)
     → Refuses merged.Refused (4 ∷ 5 ∷ 10 ∷ []) r
 merge-numbers four five ten n r f =
-    refused-one merged.Refused (λ k. unless merged.Refused k (merged.Kept n)) (λ k q. let z : _≡_ {A = ℕ} 0 1 = cc in omega arith) (λ n k q. cc)
+    refused-one merged.Refused (λ k. unless merged.Refused k (merged.Kept n)) (λ k q. let z : _≡_ {A = ℕ} 0 1 = cc in omega arith)
+    (λ n k q. cc)
     ((four, 4) ∷ (five, 5) ∷ (ten, 10) ∷ []) r f
 
 merge-refuses : (radius : Float) (places count : ℕ) (b : Slices) (n : ℕ) (r : Merged)
@@ -272,7 +279,8 @@ photograph-refuses choose p upload b b′ r f k e = go (pgm.refusalOf upload) re
         let same : k ≡ pgm.refusalOf upload = ap frame.numberOf (sym e ∙ told) in
         widen k (1 ∷ 12 ∷ 13 ∷ []) (1 ∷ 3 ∷ 5 ∷ 8 ∷ 9 ∷ 10 ∷ 12 ∷ 13 ∷ []) refl (upload-one k same (omega (arith, same, some)))
 
-stream-refuses : (input pixels pixels′ : List ℕ) (r : FrameStream) → FrameRead input pixels r pixels′ → Refuses stream.Refused (1 ∷ 3 ∷ 5 ∷ 6 ∷ 7 ∷ 11 ∷ []) r
+stream-refuses : (input pixels pixels′ : List ℕ) (r : FrameStream) → FrameRead input pixels r pixels′
+    → Refuses stream.Refused (1 ∷ 3 ∷ 5 ∷ 6 ∷ 7 ∷ 11 ∷ []) r
 stream-refuses input pixels pixels′ r f k e =
     frame-few input k (refusal-found input pixels k pixels′ (subst (λ (a : FrameStream). FrameRead input pixels a pixels′) e f) .0)
 
@@ -284,7 +292,8 @@ writer-refuses h pixels out out′ r f =
     (λ k q. let z : _≡_ {A = ℕ} 0 1 = cc in omega arith)
     (λ n k q. sym (ap writer.numberOf q)) (writer.conditions h pixels (length out)) r (f .answer)
 
-listing-refuses : (b : Slices) (count : ℕ) (out out′ : List ℕ) (r : Listing) → listing.CornersWritten b count out r out′ → Refuses listed.Refused (10 ∷ []) r
+listing-refuses : (b : Slices) (count : ℕ) (out out′ : List ℕ) (r : Listing) → listing.CornersWritten b count out r out′
+    → Refuses listed.Refused (10 ∷ []) r
 listing-refuses b count out out′ r f =
     refused-one listed.Refused (λ n. unless listed.Refused n (listed.Text (length (cornersText (cornersOf b count)))))
     (λ k q. let z : _≡_ {A = ℕ} 0 1 = cc in omega arith) (λ n k q. sym (ap listing.numberOf q)) ((ltb 512 count, 10) ∷ []) r (f .answer)
@@ -311,7 +320,8 @@ unfolding sure.refusalOf
 sure-refuses lows highs w h ring threshold window least centroid q r f k e =
     let yes = isSure lows highs w h ring threshold window least centroid q in
     widen k (1 ∷ 2 ∷ 2 ∷ 3 ∷ 14 ∷ []) (1 ∷ 2 ∷ 3 ∷ 14 ∷ []) refl
-    (refused-one surely.Refused (λ n. unless surely.Refused n (cond yes surely.Yes surely.No)) (none yes) (λ n k q. sym (ap sure.numberOf q))
+    (refused-one surely.Refused (λ n. unless surely.Refused n (cond yes surely.Yes surely.No)) (none yes)
+    (λ n k q. sym (ap sure.numberOf q))
     (sure.conditions (length lows) (length highs) w h ring window centroid q) r (f .answer) k e)
   where
     none : (b : Bool) (k : ℕ) → cond b surely.Yes surely.No ≡ surely.Refused k → ⊥
@@ -322,7 +332,8 @@ holding-refuses : (kind start time : ℕ) (r : Holding) → Told kind start time
 unfolding retention.refusalOf
 holding-refuses kind start time r f =
     let state = retention.stateOf kind start time in
-    refused-one held.Refused (λ n. unless held.Refused n state) (λ k q. none k (ap retention.letterOf q)) (λ n k q. sym (ap retention.numberOf q))
+    refused-one held.Refused (λ n. unless held.Refused n state) (λ k q. none k (ap retention.letterOf q))
+    (λ n k q. sym (ap retention.numberOf q))
     ((not (retention.known kind), 6) ∷ (retention.isLate start || retention.isLate time, 20) ∷ []) r (f .answer)
   where
     none : (k : ℕ) → retention.letterOf (retention.stateOf kind start time) ≡ 0 → ⊥
@@ -333,7 +344,8 @@ search-refuses search m w h ring t window least radius b b′ held r f = peaks-o
 
 pub total : Total
 total = record {
-  «chess_response_u8_patch» = λ img w h ring x0 y0 x1 y1 d e r f. response-refuses (viewOf img w h ring x0 y0 x1 y1) ring d e r f;
+  «chess_response_u8_patch» = λ img w h ring x0 y0 x1 y1 d e r f. response-refuses (viewOf img w h ring x0 y0 x1 y1) _ ring d e r f;
+  «inner_patch» = λ img w h ring x0 y0 x1 y1 margin d e r f. response-refuses (viewOf img w h ring x0 y0 x1 y1) _ ring d e r f;
   «build_pyramid» = build-refuses;
   «level_at» = level-refuses;
   «detect_peaks_from_response_with_refine_radius» = search-refuses detect.searchOf;
@@ -341,10 +353,13 @@ total = record {
   «has_peaks» = λ m w h ring t window least radius wanted r f. unfold detect.conditions in
       (enough-refuses (detect.conditions (length m) w h ring window radius) m _ wanted r f);
   «add_map_corners» = λ p exact m w h held b b′ r f. peaks-of (length m) w h (p .ring) (p .window) (p .«centroid_radius») _ _ held b b′ r f;
+  «add_row_corners» = λ p exact m w h a z held b b′ r f. peaks-of (length m) w h (p .ring) (p .window)
+      (p .«centroid_radius») _ _ held b b′ r f;
   refine = refine-refuses;
   «compute_roi» = roi-refuses;
   «merge_corners_simple» = λ radius count b b′ r f. merge-refuses radius (placesOf b) count b _ r (f .answer);
   «merge_within» = λ radius places count b b′ r f. merge-refuses radius (min places (placesOf b)) count b _ r (f .answer);
+  «merge_by_table» = λ radius count b b′ table table′ r f. merge-refuses radius (placesOf b) count b _ r (f .merges .answer);
   «merge_apart» = λ radius count b d d′ r f. apart-refuses radius (placesOf d) count b _ r (f .answer);
   «merge_corners_naive» = λ radius count b b′ r f. merge-refuses radius (placesOf b) count b _ r (f .answer);
   «merge_corner_slice» = λ radius count cs cs′ b b′ r f. slice-refuses radius count cs b _ r (f .answer);

@@ -43,7 +43,8 @@ read-back w n e rest r i =
     ap (take n) (written .stands) ∙ front-take (frameBytes (w .header) (w .pixels)) (w .before) n (written .long) in
     let reading : readFrame (r .input) ≡ accepted (w .header) (w .pixels) =
     ap readFrame (i ∙ ap (λ (s : List ℕ). s ++ rest) bytes) ∙ frame-back (w .header) (w .pixels) rest (written .good) in
-    let p = says (r .answer) (r .after) (w .header) (w .pixels) (reading-is (r .input) (r .before) (r .answer) (r .after) (r .promise) ∙ reading) in
+    let p = says (r .answer) (r .after) (w .header) (w .pixels)
+    (reading-is (r .input) (r .before) (r .answer) (r .after) (r .promise) ∙ reading) in
     record { header = p .0; pixels-are = p .1 }
 
 -- ---- written back
@@ -70,7 +71,8 @@ module _ (r : ReadCall) (w : WriteCall) (s : Returns r (w .header) (w .pixels)) 
   number : refusalOf h (w .pixels) (length (w .before)) ≡ lowest ((ltb (length (w .before)) (length bytes), 19) ∷ [])
   number = read-number h (w .pixels) (length (w .before)) (r .input) reading b
 
-  answers : (n : ℕ) → refusalOf h (w .pixels) (length (w .before)) ≡ n → w .answer ≡ unless writing.Refused n (writing.Written (length bytes))
+  answers : (n : ℕ) → refusalOf h (w .pixels) (length (w .before)) ≡ n
+      → w .answer ≡ unless writing.Refused n (writing.Written (length bytes))
   answers n e = w .promise .answer ∙ ap (λ (k : ℕ). unless writing.Refused k (writing.Written (length bytes))) e
 
   long : endOf h < length (w .before) → Rewritten r w (endOf h)

@@ -23,7 +23,8 @@ use Rattle.demands.specs.WrongRefusals.{wrongRefusals, WrongRefusals}
 use Rattle.demands.proofs.Roads.{differ}
 
 pub wrong-refusals : WrongRefusals
-unfolding wrongRefusals lt le add sub mul div ofInt ofBits toUnsigned tab isInside seedFits center.refusalOf isOff isSized merge.refusalOf gridOf near
+unfolding wrongRefusals lt le add sub mul div ofInt ofBits toUnsigned tab isInside seedFits center.refusalOf isOff isSized
+    merge.refusalOf gridOf near
     neighbours resultOf refusalApart bodyLength rangeOutside readFrame pixelBytes frameBytes bare fieldOf pgm.conditions pgm.refusalOf
     limits.refusalOf striking.refusalOf writer.conditions writer.refusalOf retention.refusalOf retouch.refusalOf
 wrong-refusals = record { ours = refl; wrong = refl; differ = differ wrongRefusals refl }

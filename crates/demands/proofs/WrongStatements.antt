@@ -87,7 +87,8 @@ abbrev value : ℕ → Float
 value i = getD (valuesOf outcome) i nan
 
 centre-exact : CentreExact → ⊥
-unfolding refined refusalOf seedFits outcomeOf withCells centreOn cells responseAt response responseOf samples fifthsAt total tab grid ring5 abs lift
+unfolding refined refusalOf seedFits outcomeOf withCells centreOn cells responseAt response responseOf samples fifthsAt total tab
+    grid ring5 abs lift
     nearestWhole roundHalfAway counted range row rowsFrom block lt le add sub mul div ofInt
 centre-exact exact = eqb-false _ _ refl (exact seven 12 11 1 (floatOf 5) (floatOf 5) (value 0) (value 1) (value 2) refl .equal)
 

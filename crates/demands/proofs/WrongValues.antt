@@ -35,9 +35,13 @@ use Rattle.demands.specs.WrongValues.{wrongValues, WrongValues}
 use Rattle.demands.proofs.Roads.{differ}
 
 pub wrong-values : WrongValues
-unfolding wrongValues toolRoads lt le add sub mul div ofInt ofBits toBits toUnsigned counted range row rowsFrom block count tab abs lift nearestWhole
-    roundHalfAway total ring5 ringOf samples responseOf withPair passedAfter fifthsAt withoutCorner square window beaten equals positives isPeak
-    peakPlaces fifthsAbove rowsInside enoughOf withCells seedFits refusalOf centreOn outcomeOf refined roiRadius isOff gridOf near neighbours resultOf
-    naiveOf bare fieldOf pgm.conditions pgm.refusalOf pgm.pixelsIn unitsOf lowAt isSure striking.refusalOf pixelBytes frameBytes stays stateOf
+unfolding wrongValues toolRoads lt le add sub mul div ofInt ofBits toBits toUnsigned counted range row rowsFrom block count tab
+    abs lift nearestWhole
+    roundHalfAway total ring5 ringOf samples responseOf withPair passedAfter fifthsAt withoutCorner square window beaten equals
+    positives isPeak
+    peakPlaces fifthsAbove rowsInside enoughOf withCells seedFits refusalOf centreOn outcomeOf refined roiRadius isOff gridOf near
+    neighbours resultOf
+    naiveOf bare fieldOf pgm.conditions pgm.refusalOf pgm.pixelsIn unitsOf lowAt isSure striking.refusalOf pixelBytes frameBytes
+    stays stateOf
     response responseAt cells grid redone windowTest timeFault linesFrom outputOf decimal digits places digitOf refusedText
 wrong-values = record { ours = refl; wrong = refl; differ = differ wrongValues refl }

@@ -1,5 +1,5 @@
--- What is stated beside the calls for any ring table (RULES 3.1): "Facts common to both rings are shown for any ring table of sixteen different places,
--- none in the cross and none beyond its radius either way."
+-- What is stated beside the calls for any ring table (RULES 3.1): "Facts common to both rings are shown for any ring
+-- table of sixteen different places, none in the cross and none beyond its radius either way."
 use Prim.Native.Nat.{ℕ, _+_, _*_, _<_}
 use mathlib.Core.Path.{_≡_}
 use mathlib.Core.Bool.{true}
@@ -13,12 +13,13 @@ use Rattle.response.specs.Patch.{View, mapWidth, mapHeight, cells}
 use Rattle.response.specs.Exact.{fifthsIn}
 use Rattle.accuracy.specs.Accurate.{Bytes}
 
--- the program's rings are such tables, whichever a radius selects, and have the radius that a parameter set says
+-- the program's rings are such tables, whichever a radius selects, and have the radius that a parameter set gives
 pub record OwnRings : Type 0 where
   pub are-rings : (n : ℕ) → IsRing (ringOf n)
   pub radius-said : (n : ℕ) → isRing n ≡ true → ringOf n .radius ≡ n
 
--- a box of an image of bytes by any ring table: its map is that of the definitions (3.4, 3.7), which a call leaves for the rings that it can be given
+-- a box of an image of bytes with any ring table: its map is that of the definitions (3.4, 3.7), which a call leaves
+-- for the rings that it accepts
 pub record AnyMap : Type 0 where
   pub view : View
   pub bytes : Bytes (view .img)

@@ -1,5 +1,6 @@
--- Request 6 (RULES 25): "List and count equal those the original's own merge would leave, refusal and all; in its order, 10 also where the original
--- list doesn't fit" the separate buffer. That the original is untouched is no statement: `merge_apart` borrows it only to read it.
+-- Request 6 (RULES 25): "List and count equal those the original's own merge would leave, refusal and all; in its
+-- order, 10 also where the original list doesn't fit" the separate buffer. That the original does not change needs no
+-- statement: `merge_apart` borrows it only to read it.
 use Prim.Native.Nat.{ℕ, _<_, _≤_}
 use mathlib.Core.Path.{_≡_}
 use lib.Ieee.{Float}
@@ -15,25 +16,27 @@ pub record TwoMerges : Type 0 where
   pub radius : Float
   pub count : ℕ
   pub original : Slices
-  -- of `merge_apart`, with a separate buffer
+  -- the call of `merge_apart`, with a separate buffer
   pub separate : Slices
   pub answer : Merged
   pub separate′ : Slices
   pub apart : MergedApart radius count original separate answer separate′
-  -- of `merge_corners_simple`
+  -- the call of `merge_corners_simple`
   pub own-answer : Merged
   pub original′ : Slices
   pub own : Merges radius (placesOf original) count original own-answer original′
 
 pub record ApartIsMerge : Type 0 where
-  -- where the count fits the separate buffer: the same answer, so the same number, and the same count
+  -- if the count fits the separate buffer: the same answer, so the same number, and the same count
   pub same-answer : (t : TwoMerges) → t .count ≤ placesOf (t .separate) → t .answer ≡ t .own-answer
   -- and the same list
   pub same-list : (t : TwoMerges) → t .count ≤ placesOf (t .separate) → (n : ℕ) → t .answer ≡ Kept n
       → cornersOf (t .separate′) n ≡ cornersOf (t .original′) n
-  -- where it does not fit: the number of the merge, and 10 where that is none
-  pub crowded : (t : TwoMerges) → placesOf (t .separate) < t .count → numberOf (t .answer) ≡ unless (λ k. k) (numberOf (t .own-answer)) 10
-  -- refused, by whatever number, it leaves the separate buffer as it was
+  -- if it does not fit: the number of the merge, or 10 if the merge is not refused
+  pub crowded : (t : TwoMerges) → placesOf (t .separate) < t .count
+      → numberOf (t .answer) ≡ unless (λ k. k) (numberOf (t .own-answer)) 10
+  -- refused, with any number, it leaves the separate buffer unchanged
   pub refused : (t : TwoMerges) (k : ℕ) → t .answer ≡ Refused k → t .separate′ ≡ t .separate
-  -- what is behind the list stays: it is no copy that is merged in place
-  pub behind : (t : TwoMerges) (n : ℕ) → t .answer ≡ Kept n → (i : ℕ) → n ≤ i → cornerAt (t .separate′) i ≡ cornerAt (t .separate) i
+  -- what follows the list stays: it is not a copy that is merged in place
+  pub behind : (t : TwoMerges) (n : ℕ) → t .answer ≡ Kept n → (i : ℕ) → n ≤ i
+      → cornerAt (t .separate′) i ≡ cornerAt (t .separate) i

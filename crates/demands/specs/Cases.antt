@@ -1,4 +1,5 @@
--- The worked cases that RULES 14 marks P, as one table: what the definitions give, and what the rules say, both as lists of integers.
+-- The worked cases that RULES 14 marks P, as one table: what the definitions give and what the rules say, both as lists
+-- of integers.
 use Prim.Native.Nat.{ℕ}
 use mathlib.Core.Path.{_≡_}
 use mathlib.Core.List.{List, [], _∷_, map}
@@ -37,7 +38,7 @@ naturals g s = case (map pos g) (map pos s)
 abbrev pub flat : List ℕ
 flat = replicate 121 100
 
--- the whole case's image: 11 by 11, ring places 0..3 and 8..11 about (5, 5) are 255, the cross 128, all else 0
+-- the whole case's image: 11 by 11, ring places 0..3 and 8..11 around (5, 5) are 255, the cross 128, all else 0
 abbrev pub wholeCase : List ℕ
 wholeCase =
     0 ∷ 0 ∷ 0 ∷ 0 ∷ 0 ∷ 255 ∷ 0 ∷ 255 ∷ 0 ∷ 0 ∷ 0 ∷
@@ -53,13 +54,14 @@ wholeCase =
     0 ∷ 0 ∷ 0 ∷ 255 ∷ 0 ∷ 255 ∷ 0 ∷ 0 ∷ 0 ∷ 0 ∷ 0 ∷
     []
 
--- with its centre one brighter, a cross sum of 641
+-- the same with its centre one brighter, a cross sum of 641
 abbrev pub brighter : List ℕ
 brighter = set wholeCase 60 129
 
 -- ---- boxes: base 200 by 200, border 9, scale 1/2, search 3
 abbrev context : RoiContext
-context = record { width = 200; height = 200; ring = 5; window = 2; «centroid_radius» = 2; «search_radius» = 3; level = 1 }
+context =
+    record { width = 200; height = 200; ring = 5; window = 2; «centroid_radius» = 2; «search_radius» = 3; level = 1 }
 
 abbrev seed : Float → Float → Corner
 seed x y = record { x = x; y = y; strength = zero; neighbours = 0 }
@@ -95,11 +97,15 @@ cases =
     ∷ case (fifthsAt brighter 11 11 ring5 5 5 ∷ []) (pos 10144 ∷ [])
     -- SR 8, DR 0, ring sum 1,600, cross sum 501; and 8, 0, 32, 11 → 24 fifths both, and the first float is larger
     ∷ case (fifths 8 0 1600 501 ∷ fifths 8 0 32 11 ∷ []) (pos 24 ∷ pos 24 ∷ [])
-    ∷ naturals (toBits binary32 (responseOf 8 0 1600 501) ∷ toBits binary32 (responseOf 8 0 32 11) ∷ []) (0x4099_9a00 ∷ 0x4099_9998 ∷ [])
-    -- so the first beats the second by floats, and by exact values (RULES 34.2) it does not; 1 fifth beats 0, and with a slack of 1/4 it would not
-    ∷ naturals (told (beats false (responseOf 8 0 32 11) (responseOf 8 0 1600 501)) ∷ told (beats true (responseOf 8 0 32 11) (responseOf 8 0 1600 501)) ∷ [])
+    ∷ naturals (toBits binary32 (responseOf 8 0 1600 501) ∷ toBits binary32 (responseOf 8 0 32 11) ∷ [])
+    (0x4099_9a00 ∷ 0x4099_9998 ∷ [])
+    -- so the first beats the second by floats, but not by exact values (RULES 34.2); 1 fifth beats 0, and with a slack
+    -- of 1/4 it would not
+    ∷ naturals (told (beats false (responseOf 8 0 32 11) (responseOf 8 0 1600 501)) ∷ told
+    (beats true (responseOf 8 0 32 11) (responseOf 8 0 1600 501)) ∷ [])
     (1 ∷ 0 ∷ [])
-    ∷ naturals (told (beats true zero (responseOf 1 0 4 1)) ∷ told (lt (fin false 1 (negsuc 1)) (responseOf 1 0 4 1)) ∷ []) (1 ∷ 0 ∷ [])
+    ∷ naturals (told (beats true zero (responseOf 1 0 4 1)) ∷ told
+    (lt (fin false 1 (negsuc 1)) (responseOf 1 0 4 1)) ∷ []) (1 ∷ 0 ∷ [])
     -- seed (50,40) → (89,69,112,92); (7.5,50) → no box; (8,50) → box with x from 9 to 28
     ∷ naturals (box (seed (floatOf 50) (floatOf 40))) (0 ∷ 89 ∷ 69 ∷ 112 ∷ 92 ∷ [])
     ∷ naturals (box (seed (fin false 15 (negsuc 0)) (floatOf 50))) (0 ∷ [])
@@ -109,6 +115,6 @@ cases =
     ∷ naturals (columnBits (naiveOf one three)) (0x3f7f_ffff ∷ 0 ∷ [])
     ∷ []
 
--- each comes out as it is said
+-- each case gives what the rules say
 abbrev pub CasesHold : Type 0
 CasesHold = map (λ (c : Case). c .given) cases ≡ map (λ (c : Case). c .said) cases

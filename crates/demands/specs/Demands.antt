@@ -1,5 +1,6 @@
--- The demands on the finder as one theorem, a field for each statement. The function `met` promises it, so the check wants a proof of each.
--- The quotations are the demands' words, and the request's under its heading; the lines that follow say in which file each statement stands.
+-- The demands on the finder as one theorem, a field for each statement. The function `met` promises it, so the checker
+-- requires a proof of each. The quotations are the words of the demands, or of the request in the heading above; a
+-- field's type is defined in the file that the imports below name.
 use Rattle.demands.specs.Total.{Total}
 use Rattle.demands.specs.Occurring.{NumbersOccur}
 use Rattle.demands.specs.Program.{ProgramTotal, ProgramReads, ProgramDecided, ProgramStreams, ProgramExact}
@@ -20,7 +21,8 @@ use Rattle.demands.specs.MergeNaive.{MergesAlike, RefusesAlike, OffRetur
 use Rattle.demands.specs.Retention.{HeldWhen, RetainedTotal, RetainedReads}
 use Rattle.demands.specs.Retouch.{OnlyTouched, AtMost21, Fresh, MovesLittle}
 use Rattle.demands.specs.Limits.{LimitsContain, LimitsExact, SurePeakExact}
-use Rattle.demands.specs.FrameExact.{FrameExact, AlikeByName, MapsSearched, MapsAlike, FrameWithoutTies, FourNever, PeaksKept}
+use Rattle.demands.specs.FrameExact.{FrameExact, AlikeByName, MapsSearched, MapsAlike, FrameWithoutTies}
+use Rattle.demands.specs.FrameExact.{FourNever, PeaksKept}
 use Rattle.demands.specs.OnePrice.{ExactFrame, OnePrice, NothingTipped}
 use Rattle.demands.specs.Ties.{NanTop, PeakTies, FrameTies, MapsAlikeWithoutEquals}
 use Rattle.demands.specs.Neighbours.{NeighboursKept, CountsExact}
@@ -32,61 +34,66 @@ use Rattle.demands.specs.WrongStatements.{WrongStatements}
 
 pub record Demands : Type 0 where
   -- ---- 1. Total
-  -- "comes back as a finished corner list or as one of eleven numbered refusals": the numbers that each function can give
+  -- "comes back as a finished corner list or as one of eleven numbered refusals": the numbers that each function can
+  -- give
   pub total : Total
   -- and each of them is given: a call for each function and number
   pub numbers-occur : NumbersOccur
-  -- number 4 is none of a frame's
+  -- a frame never gives number 4
   pub four-never : FourNever
-  -- and its number 10 is of peaks: the centroid drops none of them
+  -- and its number 10 counts peaks: the centroid drops none of them
   pub peaks-kept : PeaksKept
-  -- the same of what the program prints, whatever it reads
+  -- the same for what the program prints, whatever it reads
   pub program-total : ProgramTotal
-  -- and it reads as much as can matter
+  -- and only its first 9,527 bytes can matter
   pub program-reads : ProgramReads
-  -- no byte more than decides what it prints, and none fewer
+  -- and it reads exactly the bytes that decide what it prints
   pub program-decided : ProgramDecided
-  -- a stream says one thing: written and read it is the same, and read and written too
+  -- a stream has one meaning: written and then read, it gives the same values; read and then written, the same stream
   pub program-streams : ProgramStreams
   -- ---- 2. Bit for bit
-  -- "Response maps, peaks, centroids, pyramid levels, search boxes and merged corners": what each call leaves, by the definitions
+  -- "Response maps, peaks, centroids, pyramid levels, search boxes and merged corners": what each call leaves, by the
+  -- definitions
   pub bit-for-bit : BitForBit
   -- "those of the scalar Rust": the definitions give what its text gives, function by function
   pub as-published : AsPublished
   -- and what the definitions give in the worked cases
   pub cases-hold : CasesHold
-  -- "Facts common to both rings are shown for any ring table of sixteen different places ..": the program's two are such tables
+  -- "Facts common to both rings are shown for any ring table of sixteen different places ..": the program's two are
+  -- such tables
   pub own-rings : OwnRings
   -- ---- 3. Exact choice
   -- "every computed response is within 1/1024 of the paper's exact value and has its sign, 0 for 0"
   pub response-accurate : ResponseAccurate
   -- "any two responses with different exact values stand in the same order as those values"
   pub responses-ordered : ResponsesOrdered
-  -- "the program's peak list of the response map and the list chosen by exact values are alike .. exactly when no peak .. has .. an equal"
+  -- "the program's peak list of the response map and the list chosen by exact values are alike .. exactly when no peak
+  -- .. has .. an equal"
   pub peaks-alike : PeaksAlike
-  -- "with the two lists alike for each map it looks at, its whole corner list is the one that exact peak choice leads to"
+  -- "with the two lists alike for each map it looks at, its whole corner list is the one that exact peak choice leads
+  -- to"
   pub frame-exact : FrameExact
-  -- and prints it
+  -- and the program prints that list
   pub program-exact : ProgramExact
   -- alike is "naming the same places in the same order"
   pub alike-by-name : AlikeByName
-  -- which nothing but a short buffer keeps from being seen on "each map it looks at"
+  -- and on "each map it looks at" only a buffer that is too short can refuse that search
   pub maps-searched : MapsSearched
-  -- at a whole threshold each of these maps is alike exactly when it has no such tie
+  -- at a whole threshold the lists of each of these maps are alike exactly when the map has no such tie
   pub maps-alike : MapsAlike
   -- and so a frame without ties has the exact list
   pub frame-without-ties : FrameWithoutTies
   -- ---- The exact choice as a program: "A corner tipped over by rounding puts two prices on one photograph."
   -- a frame by exact values has the exact list, whatever its ties and its threshold
   pub exact-frame : ExactFrame
-  -- so beside it a computed list is seen to be the exact one, or not, and so is its count
+  -- so a comparison with it shows whether a computed list is the exact one, and whether its count is
   pub one-price : OnePrice
-  -- and where demand 3's tie does not occur the two are equal
+  -- and if demand 3's tie does not occur, the two are equal
   pub nothing-tipped : NothingTipped
   -- ---- Request 1: PGM photographs
-  -- "The frame is the image's pixels as a part of the uploaded bytes": demands 2 and 3 hold of it
+  -- "The frame is the image's pixels as a part of the uploaded bytes": demands 2 and 3 hold for it
   pub photograph-is-frame : PhotographIsFrame
-  -- "Read the P5 form": a header that is written plainly is read back, for every size
+  -- "Read the P5 form": a plainly written header is read back, for every size
   pub plain-header-read : PlainHeaderRead
   -- "Bytes after the pixels are not read."
   pub behind-unread : BehindUnread
@@ -105,10 +112,12 @@ pub record Demands : Type 0 where
   pub peak-ties : PeakTies
   -- "a finished frame pass returns the total", which is "defined from the computed maps"
   pub frame-ties : FrameTies
-  -- "both peak lists are alike for each map a finished frame looks at if no peak of the exact lists has an exact equal in its window"
+  -- "both peak lists are alike for each map a finished frame looks at if no peak of the exact lists has an exact equal
+  -- in its window"
   pub maps-alike-without-equals : MapsAlikeWithoutEquals
   -- ---- Request 5: neighbours kept with the corner
-  -- "The corner record keeps the positive-neighbour count that admitted it": merged, each corner of a frame has that of a peak with its strength
+  -- "The corner record keeps the positive-neighbour count that admitted it": each merged corner of a frame has the
+  -- count of a peak with its strength
   pub neighbours-kept : NeighboursKept
   -- "the count is matched to its definition": by exact values it is the same
   pub counts-exact : CountsExact
@@ -127,7 +136,8 @@ pub record Demands : Type 0 where
   pub at-most-21 : AtMost21
   -- "map and image equal a fresh run"
   pub fresh-again : Fresh
-  -- "moves the exact response by at most 15d fifths through a ring place and 16d through the cross, and no other cell at all"
+  -- "moves the exact response by at most 15d fifths through a ring place and 16d through the cross, and no other cell
+  -- at all"
   pub moves-little : MovesLittle
   -- ---- Request 9: pixels known between limits
   -- "Every image lying between the two has its exact response inside"
@@ -149,7 +159,8 @@ pub record Demands : Type 0 where
   -- "an accepted stream, read and rewritten, is the same up to its kind 4 byte"
   pub written-back : WrittenBack
   -- ---- Request 12: merge without cells
-  -- "equal to the one in use whenever all coordinates are multiples of 1/64 and the radius is a power of two from 1/64 to 4,096"
+  -- "equal to the one in use whenever all coordinates are multiples of 1/64 and the radius is a power of two from 1/64
+  -- to 4,096"
   pub naive-alike : MergesAlike
   -- "It gives the old merge's refusals in their order"
   pub naive-refuses-alike : RefusesAlike
@@ -169,7 +180,7 @@ pub record Demands : Type 0 where
   pub centre-tolerance : CentreTolerance
   -- "It covers seeds and patch corners alike"
   pub frame-tolerance : FrameTolerance
-  -- ---- Wrong roads: what the words of the demands and the requests could be taken for, and are not
+  -- ---- Wrong roads: what the words of the demands and the requests could be mistaken for
   -- definitions with another value, on the smallest input that shows it
   pub wrong-values : WrongValues
   -- tables of conditions with another number

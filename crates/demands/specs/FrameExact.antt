@@ -1,5 +1,5 @@
--- Demand 3: "Whatever the frame not refused, with the two lists alike for each map it looks at, its whole corner list is the one that exact
--- peak choice leads to: as many corners, in that order, each field bit for bit."
+-- Demand 3: "Whatever the frame not refused, with the two lists alike for each map it looks at, its whole corner list
+-- is the one that exact peak choice leads to: as many corners, in that order, each field bit for bit."
 use Prim.Native.Nat.{ℕ}
 use mathlib.Core.Path.{_≡_}
 use mathlib.Core.Logic.{_↔_}
@@ -25,13 +25,14 @@ use Rattle.frame.specs.Frame.{Buffers, FrameFound}
 use Rattle.demands.specs.PeakCall.{PeakCall, searchIn}
 use Rattle.demands.specs.PeaksAlike.{programList, position, nameOf}
 
--- a call that finished, with its promise word for word: of `find_corners`, which chooses by computed values, or of `find_exact_corners`
+-- a call that finished, with its promise word for word: of `find_corners`, which chooses by computed values, or of
+-- `find_exact_corners`
 pub record CallBy (choose : FrameParams → Choice) : Type 0 where
   pub parameters : FrameParams
   pub img : List ℕ
   pub w : ℕ
   pub h : ℕ
-  -- the pixels are of type u8
+  -- the pixels have type u8
   pub bytes : Bytes img
   -- the buffers before and after, how many corners were found, and the ties
   pub before : Buffers
@@ -43,7 +44,7 @@ pub record CallBy (choose : FrameParams → Choice) : Type 0 where
 abbrev pub FrameCall : Type 0
 FrameCall = CallBy computedChoice
 
--- "its whole corner list": it stands first in the corner buffer
+-- "its whole corner list": it is at the start of the corner buffer
 abbrev pub frameList : {choose : FrameParams → Choice} → CallBy choose → List Corner
 frameList c = cornersOf (c .after .corners) (c .count)
 
@@ -66,14 +67,15 @@ pub record IsExact (c : FrameCall) : Type 0 where
 abbrev pub FrameExact : Type 0
 FrameExact = (c : FrameCall) → All (Alike (c .parameters)) (mapsIn c) → IsExact c
 
--- Alike is what demand 3 says of a map. Whichever call of peak finding searched the box's map as the frame does, the list that it added to its
--- buffer and the exact list name the same places in the same order exactly then.
+-- Alike is what demand 3 says about a map: for every call of peak finding that searches the box's map as the frame
+-- does, the list that it adds to its buffer and the exact list name the same places in the same order exactly if the
+-- two are alike.
 abbrev pub AlikeByName : Type 0
 AlikeByName =
     (p : FrameParams) (v : View) (c : PeakCall (cells v) (mapWidth v) (mapHeight v)) → searchIn c ≡ searchOn p v
     → (map position (programList c) ≡ map nameOf (exactChoice p v)) ↔ Alike p v
 
--- and on a map that the frame looks at nothing but a buffer that is too short refuses such a call
+-- and on a map that the frame looks at, only a buffer that is too short can refuse such a call
 abbrev pub MapsSearched : Type 0
 MapsSearched =
     (c : FrameCall) → All (λ v. lowest
@@ -82,22 +84,27 @@ MapsSearched =
 
 -- "no peak of the exact list has in its window an equal exact value with a larger computed one"
 abbrev pub WithoutTie : FrameParams → View → Type 0
-WithoutTie p v = NoTie (cells v) (λ q. fifthsIn v (q .x) (q .y)) (mapWidth v) (mapHeight v) (p .window) (exactChoice p v)
+WithoutTie p v =
+    NoTie (cells v) (λ q. fifthsIn v (q .x) (q .y)) (mapWidth v) (mapHeight v) (p .window) (exactChoice p v)
 
--- at a threshold that is the whole number k once it is lifted, each map is alike exactly when it has no such tie, and so without ties the
--- frame's list is the exact one
+-- at a threshold that, once lifted, is the whole number k, each map is alike exactly when it has no such tie; so
+-- without ties the frame's list is the exact one
 abbrev pub MapsAlike : Type 0
 MapsAlike =
     (c : FrameCall) (k : ℕ) → IsWhole (lift (c .parameters .threshold)) k
     → All (λ v. Alike (c .parameters) v ↔ WithoutTie (c .parameters) v) (mapsIn c)
 
 abbrev pub FrameWithoutTies : Type 0
-FrameWithoutTies = (c : FrameCall) (k : ℕ) → IsWhole (lift (c .parameters .threshold)) k → All (WithoutTie (c .parameters)) (mapsIn c) → IsExact c
+FrameWithoutTies =
+    (c : FrameCall) (k : ℕ) → IsWhole (lift (c .parameters .threshold)) k
+    → All (WithoutTie (c .parameters)) (mapsIn c) → IsExact c
 
--- And number 4 does not arise in a frame that is not refused before its pass, by any choice of peaks: each corner has coordinates from 0 to
--- 4,096, and each seed has a box or "no box".
+-- And number 4 does not occur in a frame that is not refused before its pass, for any choice of peaks: each corner has
+-- coordinates from 0 to the largest, and each seed has a box or "no box".
 abbrev pub FourNever : Type 0
-FourNever = (p : FrameParams) (img : List ℕ) (w h : ℕ) (choose : Choice) → CornersInside p img w h choose × BoxesAnswered p img w h choose
+FourNever =
+    (p : FrameParams) (img : List ℕ) (w h : ℕ) (choose : Choice)
+    → CornersInside p img w h choose × BoxesAnswered p img w h choose
 
 -- The centroid drops no peak of a map that a frame looks at, so the lists that number 10 counts are lists of peaks.
 abbrev pub PeaksKept : Type 0

@@ -1,5 +1,5 @@
--- Request 9, "Pixels known between limits" (RULES 28): what the calls of `response_limits` and `sure_peak` leave and answer, over their promises. What
--- holds of both rings is stated for any ring table.
+-- Request 9, "Pixels known between limits" (RULES 28): what the calls of `response_limits` and `sure_peak` leave and
+-- answer, by their promises. What holds for both rings is stated for any ring table.
 use Prim.Native.Nat.{ℕ, _+_, _*_, _<_}
 use mathlib.Core.Path.{_≡_}
 use mathlib.Core.Bool.{true}
@@ -36,7 +36,7 @@ pub record LimitsCall : Type 0 where
   pub highs′ : List ℤ
   pub promise : LimitsWritten low high w h ring lows highs Written lows′ highs′
 
--- a cell of its maps, the two numbers that stand there, and the paper's exact value for an image of the same sides
+-- a cell of its maps, its two numbers, and the paper's exact value for an image with the same sides
 abbrev pub InImage : LimitsCall → Place → Type 0
 InImage c p = (p .x < c .w) × (p .y < c .h)
 
@@ -63,8 +63,8 @@ pub record LimitsExact : Type 0 where
   pub any-ring : (t : Ring) (img : List ℕ) (w h x y : ℕ)
       → (lowAt img img w h t x y ≡ fifthsAt img w h t x y) × (highAt img img w h t x y ≡ fifthsAt img w h t x y)
 
--- a call of `sure_peak` on the maps that a call of `response_limits` made, with its ring, that answered yes: the maps are the first w * h places of
--- the buffers
+-- a call of `sure_peak` that answered yes, on the maps that a call of `response_limits` made and with its ring: the
+-- maps are the first w * h places of the buffers
 pub record SureCall (c : LimitsCall) : Type 0 where
   pub threshold : ℕ
   pub window : ℕ
@@ -74,15 +74,19 @@ pub record SureCall (c : LimitsCall) : Type 0 where
   pub promise : SureTold (take (c .h * c .w) (c .lows′)) (take (c .h * c .w) (c .highs′)) (c .w) (c .h)
       (c .ring) threshold window «least_neighbours» centroid place Yes
 
--- "With maps so made for the ring given it is then a peak by exact values of every such image": it is one of the list of peaks that exact values
--- choose, for any u32 threshold; and for one that is a float's, of the exact list of a search with that float
+-- "With maps so made for the ring given it is then a peak by exact values of every such image": it is in the list of
+-- peaks that exact values choose, for any u32 threshold; and if that threshold is also a float, in the exact list of a
+-- search with that float
 pub record SurePeakExact : Type 0 where
   pub by-fifths : (c : LimitsCall) (s : SureCall c) (img : List ℕ) → Between (c .low) (c .high) img
       → any (λ q. same q (s .place))
-      (peakPlaces (byLimits (exactCell c img) (exactCell c img) (s .threshold)) (c .w) (c .h) (c .ring + s .window + s .centroid)
+      (peakPlaces (byLimits (exactCell c img) (exactCell c img) (s .threshold)) (c .w) (c .h)
+      (c .ring + s .window + s .centroid)
       (s .window) (s .«least_neighbours»))
       ≡ true
-  pub by-search : (c : LimitsCall) (s : SureCall c) (img : List ℕ) → Between (c .low) (c .high) img → (t : Float) → IsWhole (lift t) (s .threshold)
+  pub by-search : (c : LimitsCall) (s : SureCall c) (img : List ℕ) → Between (c .low) (c .high) img
+      → (t : Float) → IsWhole (lift t) (s .threshold)
       → any (λ q. same q (s .place))
-      (exactPeaks (exactCell c img) (searchOf (c .w) (c .h) (c .ring) t (s .window) (s .«least_neighbours») (s .centroid)))
+      (exactPeaks (exactCell c img) (searchOf (c .w) (c .h) (c .ring) t (s .window) (s .«least_neighbours»)
+      (s .centroid)))
       ≡ true

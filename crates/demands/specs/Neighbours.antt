@@ -1,5 +1,5 @@
--- Request 5, neighbours kept with the corner (RULES 24): "The corner record keeps the positive-neighbour count that admitted it, and a merge that
--- replaces a corner takes the newcomer's count."
+-- Request 5, neighbours kept with the corner (RULES 24): "The corner record keeps the positive-neighbour count that
+-- admitted it, and a merge that replaces a corner takes the newcomer's count."
 use Prim.Native.Nat.{ℕ, _≤_}
 use mathlib.Core.Path.{_≡_}
 use mathlib.Core.List.{List, _∷_, _++_}
@@ -26,7 +26,8 @@ pub record IsIn {A : Type 0} (a : A) (l : List A) : Type 0 where
   pub behind : List A
   pub split : l ≡ ahead ++ (a ∷ behind)
 
--- a corner comes of a peak of one of these maps: it has the peak's strength and its positive neighbours, which were enough for a peak
+-- a corner that comes from a peak of one of these maps: it has the peak's strength and its positive neighbours, which
+-- were enough for a peak
 pub record OfPeak (p : FrameParams) (maps : List View) (k : Corner) : Type 0 where
   pub view : View
   pub searched : IsIn view maps
@@ -36,7 +37,8 @@ pub record OfPeak (p : FrameParams) (maps : List View) (k : Corner) : Type 0 whe
   pub neighbours : k .neighbours ≡ neighboursAt (cells view) (searchOn p view) place
   pub enough : p .«least_neighbours» ≤ k .neighbours
 
--- so does each corner of a finished frame, moved to its centre of mass and into the image, and merged with others
+-- each corner of a finished frame does, although it was moved to its centre of mass and into the image, and merged with
+-- others
 abbrev pub NeighboursKept : Type 0
 NeighboursKept = (c : FrameCall) → All (OfPeak (c .parameters) (ownMaps c)) (frameList c)
 
@@ -44,7 +46,8 @@ NeighboursKept = (c : FrameCall) → All (OfPeak (c .parameters) (ownMaps c)) (f
 abbrev pub exactNeighbours : FrameParams → View → Place → ℕ
 exactNeighbours p v = positives (λ q. ltZ (pos 0) (fifthsIn v (q .x) (q .y))) (mapWidth v) (mapHeight v) (p .window)
 
--- are as many, about every place of each of these maps
+-- are as many, around every place of each of these maps
 abbrev pub CountsExact : Type 0
 CountsExact =
-    (c : FrameCall) → All (λ v. (a : Place) → exactNeighbours (c .parameters) v a ≡ neighboursAt (cells v) (searchOn (c .parameters) v) a) (ownMaps c)
+    (c : FrameCall) → All (λ v. (a : Place)
+    → exactNeighbours (c .parameters) v a ≡ neighboursAt (cells v) (searchOn (c .parameters) v) a) (ownMaps c)

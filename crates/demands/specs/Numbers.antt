@@ -9,6 +9,6 @@ abbrev pub OneOf : ℕ → List ℕ → Type 0
 OneOf n [] = ⊥
 OneOf n (k ∷ ks) = (n ≡ k) ⊎ OneOf n ks
 
--- an answer that is no refusal, or one with a number of the list
+-- an answer that is not a refusal, or one with a number from the list
 abbrev pub Refuses : {A : Type 0} → (ℕ → A) → List ℕ → A → Type 0
 Refuses refused numbers answer = (k : ℕ) → answer ≡ refused k → OneOf k numbers

@@ -1,6 +1,7 @@
--- Demand 1 (RULES 2.4): each number occurs. `Total` says that a function gives no other numbers than those of its list; here stands for each function
--- of `Total`, and each number of its list, a call that is refused by it. What refuses a call is written as the `number` field of the function's promise
--- has it, so that this field gives, of any call with these arguments, that number.
+-- Demand 1 (RULES 2.4): each number occurs. `Total` says that a function gives no numbers but those of its list. Here
+-- is, for each function of `Total` and each number of its list, a call that is refused with it. What refuses a call is
+-- written as in the `number` field of the function's promise, so that field gives this number for any call with these
+-- arguments.
 use Prim.Native.Nat.{ℕ, _+_, _^_, min}
 use mathlib.Core.Path.{_≡_}
 use mathlib.Core.Bool.{Bool, true, false}
@@ -27,7 +28,7 @@ use Rattle.corner_strike.specs.Showing as showing
 use Rattle.corner_strike.specs.Striking as striking
 use Rattle.patch_corners.specs.declared.FrameParams.{FrameParams}
 use Rattle.patch_corners.specs.OneMap.{Choice, choiceOf, computedChoice, exactChoice}
-use Rattle.patch_corners.specs.MapCorners.{centresIn}
+use Rattle.patch_corners.specs.MapCorners.{centresIn, centresInRows}
 use Rattle.frame.specs.Frame.{Buffers, buffers, params}
 use Rattle.frame.specs.Frame as frame
 use Rattle.pgm.specs.Pgm as pgm
@@ -45,7 +46,7 @@ use Rattle.demands.specs.ResponseCall.{viewOf}
 use Rattle.demands.specs.Texts.{bytesOf}
 use Rattle.demands.specs.Cases.{wholeCase}
 
--- what refuses some calls of a function, and the numbers that `Total` says of it
+-- what refuses some calls of a function, and the numbers that `Total` states for it
 pub record Row : Type 0 where
   pub given : List ℕ
   pub said : List ℕ
@@ -65,7 +66,7 @@ tooFar = fin false 1 (pos 13)
 abbrev tooFarBits : ℕ
 tooFarBits = 0x4600_0000
 
--- a corner at column x, and corner buffers without a place and with one (RULES 1.5, 1.6)
+-- a corner at column x, and corner buffers with no place and with one (RULES 1.5, 1.6)
 abbrev cornerOf : Float → Corner
 cornerOf x = record { x = x; y = zero; strength = zero; neighbours = 0 }
 
@@ -83,7 +84,7 @@ first = record { x = 0; y = 0 }
 abbrev parameters : ℕ → Float → ℕ → FrameParams
 parameters ring radius levels = params ring zero 0 0 0 radius levels 0 0
 
--- buffers of a frame, without a place but for the map (RULES 9.1)
+-- buffers of a frame, with no place except in the map (RULES 9.1)
 abbrev withMap : List Float → Buffers
 withMap m = buffers m [] noPlace noPlace
 
@@ -93,7 +94,7 @@ frameOf w h ring merge = header w h ring 0 0 0 0 merge 0 0 0
 
 -- ---- what refuses a call, by its promise
 
--- RULES 3.8: a whole image as one box
+-- RULES 3.8 and 3.9: a whole image as one box
 abbrev patch : List ℕ → ℕ → ℕ → ℕ → List Float → ℕ
 patch img w h ring d = response.refusalOf (viewOf img w h ring 0 0 w h) ring (length d)
 
@@ -104,20 +105,29 @@ build base w h d = buildRefusalOf (ask (length base) (length d) w h 2 0)
 abbrev level : ℕ → ℕ → ℕ → ℕ → ℕ → ℕ
 level pixels places w h k = levelRefusalOf (ask pixels places w h 2 0) k
 
--- RULES 4.6: window and radius 0, and a buffer without a place
+-- RULES 4.6: window and radius 0, and a buffer with no place
 abbrev peaks : (ℕ → ℕ → ℕ → Float → ℕ → ℕ → ℕ → Search) → List Float → ℕ → ℕ → ℕ → ℕ → ℕ
 peaks search m w h ring held =
-    detect.refusalOf (detect.conditions (length m) w h ring 0 0) (placesOf noPlace) held (length (detect.startsIn m (search w h ring zero 0 0 0)))
+    detect.refusalOf (detect.conditions (length m) w h ring 0 0) (placesOf noPlace) held
+    (length (detect.startsIn m (search w h ring zero 0 0 0)))
 
 -- RULES 26.3, likewise
 abbrev enough : List Float → ℕ → ℕ → ℕ → ℕ
 enough m w h ring = lowest (detect.conditions (length m) w h ring 0 0)
 
--- RULES 9.7: with the parameters of a frame, and a buffer without a place
+-- RULES 9.7: with the parameters of a frame, and a buffer with no place
 abbrev mapCorners : Bool → List Float → ℕ → ℕ → ℕ → ℕ → ℕ
 mapCorners exact m w h ring held =
     let p = parameters ring zero 1 in
-    detect.refusalOf (detect.conditions (length m) w h (p .ring) (p .window) (p .«centroid_radius»)) (placesOf noPlace) held (length (centresIn p exact m w h))
+    detect.refusalOf (detect.conditions (length m) w h (p .ring) (p .window) (p .«centroid_radius»))
+    (placesOf noPlace) held (length (centresIn p exact m w h))
+
+-- RULES 9.9: likewise, of all rows
+abbrev rowCorners : Bool → List Float → ℕ → ℕ → ℕ → ℕ → ℕ
+rowCorners exact m w h ring held =
+    let p = parameters ring zero 1 in
+    detect.refusalOf (detect.conditions (length m) w h (p .ring) (p .window) (p .«centroid_radius»))
+    (placesOf noPlace) held (length (centresInRows p exact m w h 0 h))
 
 -- RULES 5.4: with a map
 abbrev refine : ℕ → Float → List Float → ℕ → ℕ → ℕ
@@ -130,7 +140,8 @@ box w ring x =
     (record { width = w; height = 0; ring = ring; window = 0; «centroid_radius» = 0; «search_radius» = 0; level = 0 })
     (cornerOf x)
 
--- RULES 8.5; of one place at most; into a buffer without a place (RULES 25.2); one slice (RULES 8.6), with scratch without a place
+-- RULES 8.5; with at most one place; into a buffer with no place (RULES 25.2); one slice (RULES 8.6), with scratch
+-- space that has no place
 abbrev merged : Float → ℕ → Slices → ℕ
 merged radius count b = merge.refusalOf radius (placesOf b) count b
 
@@ -150,7 +161,7 @@ show b e place = showing.refusalOf (placesOf b) (e .count) place
 abbrev strike : Slices → Edition → ℕ → ℕ → ℕ
 strike b e place change = striking.refusalOf (placesOf b) e place change
 
--- RULES 9.1 and 9.5, by a choice of peaks; and of an upload (RULES 20.7)
+-- RULES 9.1 and 9.5, by a choice of peaks; and for an upload (RULES 20.7)
 abbrev frames : (FrameParams → Choice) → FrameParams → List ℕ → ℕ → ℕ → List Float → ℕ
 frames choose p img w h m = frame.refusalOf (choose p) p img w h (withMap m)
 
@@ -161,11 +172,11 @@ photographs choose p upload m = photograph.refusalOf (choose p) p upload (withMa
 abbrev read : List ℕ → ℕ
 read input = stream.numberOf (stream.answerOf (readFrame input))
 
--- RULES 30.2: into a buffer without a place
+-- RULES 30.2: into a buffer with no place
 abbrev write : Header → List ℕ → ℕ
 write h pixels = writer.refusalOf h pixels 0
 
--- RULES 27.4, 28.5, with buffers without a place, and 28.7, with window and radius 0
+-- RULES 27.4, 28.5, with buffers that have no place, and 28.7, with window and radius 0
 abbrev retouched : List ℕ → List Float → ℕ → ℕ → ℕ → ℕ
 retouched img m w h ring = retouch.refusalOf (length img) (length m) w h ring first
 
@@ -177,7 +188,7 @@ surely lows highs w h ring = sure.refusalOf (length lows) (length highs) w h rin
 
 -- ---- several functions with one list (RULES 2.4)
 
--- 1, 2, 3, 10: a map without a cell, and one corner that is held in a buffer without a place
+-- 1, 2, 3, 10: a map without a cell, and one corner held in a buffer with no place
 abbrev peakNumbers : (List Float → ℕ → ℕ → ℕ → ℕ → ℕ) → List ℕ
 peakNumbers call = call [] 4097 0 5 0 ∷ call [] 1 1 5 0 ∷ call [] 0 0 0 0 ∷ call [] 0 0 5 1 ∷ []
 
@@ -197,7 +208,7 @@ frameNumbers choose =
     ∷ frames choose (parameters 5 zero 1) wholeCase 11 11 (replicate 121 zero)
     ∷ []
 
--- 1, 3, 5, 8, 9, 10, 12, 13: likewise, of uploads
+-- 1, 3, 5, 8, 9, 10, 12, 13: likewise, for uploads
 abbrev photographNumbers : (FrameParams → Choice) → List ℕ
 photographNumbers choose =
     photographs choose (parameters 5 zero 1) (bytesOf "P5 4097 0") []
@@ -214,7 +225,11 @@ photographNumbers choose =
 unfoldable pub occurring : List Row
 occurring =
     -- chess_response_u8_patch
-    row (patch [] 4097 0 5 [] ∷ patch [] 1 1 5 [] ∷ patch [] 0 0 0 [] ∷ patch (0 ∷ []) 1 1 5 [] ∷ []) (1 ∷ 2 ∷ 3 ∷ 8 ∷ [])
+    row (patch [] 4097 0 5 [] ∷ patch [] 1 1 5 [] ∷ patch [] 0 0 0 [] ∷ patch (0 ∷ []) 1 1 5 [] ∷ [])
+    (1 ∷ 2 ∷ 3 ∷ 8 ∷ [])
+    -- inner_patch, by whatever margin
+    ∷ row (patch [] 4097 0 5 [] ∷ patch [] 1 1 5 [] ∷ patch [] 0 0 0 [] ∷ patch (0 ∷ []) 1 1 5 [] ∷ [])
+    (1 ∷ 2 ∷ 3 ∷ 8 ∷ [])
     -- build_pyramid
     ∷ row (build [] 4097 0 [] ∷ build [] 1 1 [] ∷ build (replicate 4 0) 2 2 [] ∷ []) (1 ∷ 2 ∷ 9 ∷ [])
     -- level_at
@@ -229,11 +244,15 @@ occurring =
     -- add_map_corners, by computed and by exact values
     ∷ row (peakNumbers (mapCorners false)) (1 ∷ 2 ∷ 3 ∷ 10 ∷ [])
     ∷ row (peakNumbers (mapCorners true)) (1 ∷ 2 ∷ 3 ∷ 10 ∷ [])
+    -- add_row_corners, likewise
+    ∷ row (peakNumbers (rowCorners false)) (1 ∷ 2 ∷ 3 ∷ 10 ∷ [])
+    ∷ row (peakNumbers (rowCorners true)) (1 ∷ 2 ∷ 3 ∷ 10 ∷ [])
     -- refine
-    ∷ row (refine 0 zero [] 4097 0 ∷ refine 0 zero [] 1 1 ∷ refine 17 zero [] 0 0 ∷ refine 0 nan [] 0 0 ∷ []) (1 ∷ 2 ∷ 3 ∷ 4 ∷ [])
+    ∷ row (refine 0 zero [] 4097 0 ∷ refine 0 zero [] 1 1 ∷ refine 17 zero [] 0 0 ∷ refine 0 nan [] 0 0 ∷ [])
+    (1 ∷ 2 ∷ 3 ∷ 4 ∷ [])
     -- compute_roi
     ∷ row (box 4097 5 zero ∷ box 0 0 zero ∷ box 0 5 nan ∷ []) (1 ∷ 3 ∷ 4 ∷ [])
-    -- merge_corners_simple and merge_corners_naive, whose promises have one table
+    -- merge_corners_simple, merge_by_table and merge_corners_naive, whose promises have one table
     ∷ row (mergeNumbers merged) (4 ∷ 5 ∷ 10 ∷ [])
     -- merge_within
     ∷ row (mergeNumbers within) (4 ∷ 5 ∷ 10 ∷ [])
@@ -259,7 +278,8 @@ occurring =
     ∷ row (frameNumbers (λ p. choiceOf p false)) (1 ∷ 2 ∷ 3 ∷ 5 ∷ 8 ∷ 9 ∷ 10 ∷ [])
     ∷ row (frameNumbers (λ p. choiceOf p true)) (1 ∷ 2 ∷ 3 ∷ 5 ∷ 8 ∷ 9 ∷ 10 ∷ [])
     -- read_pgm
-    ∷ row (pgm.refusalOf (bytesOf "P5 4097 0") ∷ pgm.refusalOf [] ∷ pgm.refusalOf (bytesOf "P5 0 0 0\n") ∷ []) (1 ∷ 12 ∷ 13 ∷ [])
+    ∷ row (pgm.refusalOf (bytesOf "P5 4097 0") ∷ pgm.refusalOf [] ∷ pgm.refusalOf (bytesOf "P5 0 0 0\n") ∷ [])
+    (1 ∷ 12 ∷ 13 ∷ [])
     -- find_pgm_corners
     ∷ row (photographNumbers computedChoice) (1 ∷ 3 ∷ 5 ∷ 8 ∷ 9 ∷ 10 ∷ 12 ∷ 13 ∷ [])
     -- find_exact_pgm_corners
@@ -289,7 +309,9 @@ occurring =
     -- write_corners (RULES 12.3)
     ∷ row (listing.refusalOf 513 ∷ []) (10 ∷ [])
     -- retouch
-    ∷ row (retouched [] [] 4097 0 5 ∷ retouched [] [] 1 1 5 ∷ retouched [] [] 0 0 0 ∷ retouched [] [] 0 0 5 ∷ []) (1 ∷ 2 ∷ 3 ∷ 14 ∷ [])
+    ∷ row
+    (retouched [] [] 4097 0 5 ∷ retouched [] [] 1 1 5 ∷ retouched [] [] 0 0 0 ∷ retouched [] [] 0 0 5 ∷ [])
+    (1 ∷ 2 ∷ 3 ∷ 14 ∷ [])
     -- response_limits
     ∷ row
     (limited [] [] 4097 0 5
@@ -300,7 +322,8 @@ occurring =
     ∷ [])
     (1 ∷ 2 ∷ 3 ∷ 8 ∷ 15 ∷ [])
     -- sure_peak
-    ∷ row (surely [] [] 4097 0 5 ∷ surely [] [] 1 1 5 ∷ surely [] [] 0 0 0 ∷ surely [] [] 0 0 5 ∷ []) (1 ∷ 2 ∷ 3 ∷ 14 ∷ [])
+    ∷ row (surely [] [] 4097 0 5 ∷ surely [] [] 1 1 5 ∷ surely [] [] 0 0 0 ∷ surely [] [] 0 0 5 ∷ [])
+    (1 ∷ 2 ∷ 3 ∷ 14 ∷ [])
     -- holding (RULES 32.3)
     ∷ row (retention.refusalOf 0 0 0 ∷ retention.refusalOf 1 0 (2 ^ 40 + 1) ∷ []) (6 ∷ 20 ∷ [])
     ∷ []

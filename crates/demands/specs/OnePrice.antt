@@ -1,5 +1,6 @@
--- The exact pass as a program (RULES 34): "A corner tipped over by rounding puts two prices on one photograph." A call of `find_exact_corners` has the
--- exact list, so that beside one of `find_corners` on the same frame it tells whether rounding tipped a corner.
+-- The exact pass as a program (RULES 34): "A corner tipped over by rounding puts two prices on one photograph." A call
+-- of `find_exact_corners` has the exact list, so comparing it with a call of `find_corners` on the same frame tells
+-- whether rounding tipped a corner.
 use Prim.Native.Nat.{ℕ}
 use mathlib.Core.Path.{_≡_}
 use mathlib.Core.Logic.{_↔_}
@@ -20,7 +21,7 @@ ExactCall = CallBy exactChoice
 abbrev pub exactPass : ExactCall → Pass
 exactPass d = framePass (d .parameters) (d .img) (d .w) (d .h) (exactChoice (d .parameters))
 
--- its list, how long that is, and its ties are those of the exact pass, whatever the threshold and the ties
+-- its list, the list's length, and its ties are those of the exact pass, whatever the threshold and the ties
 pub record HasExactList (d : ExactCall) : Type 0 where
   pub corners : frameList d ≡ exactPass d .corners
   pub count : d .count ≡ length (exactPass d .corners)
@@ -36,7 +37,8 @@ pub record OnOneFrame (c : FrameCall) (d : ExactCall) : Type 0 where
   pub w : c .w ≡ d .w
   pub h : c .h ≡ d .h
 
--- the computed list is the exact one exactly where the two calls left the same list, and its count the exact one exactly where they have one count
+-- the computed list is the exact one exactly if the two calls left the same list, and its count is the exact one
+-- exactly if their counts are equal
 pub record OnePriceOf (c : FrameCall) (d : ExactCall) : Type 0 where
   pub corners : (frameList c ≡ frameList d) ↔ (frameList c ≡ exactCorners c)
   pub count : (c .count ≡ d .count) ↔ (c .count ≡ length (exactCorners c))
@@ -44,7 +46,8 @@ pub record OnePriceOf (c : FrameCall) (d : ExactCall) : Type 0 where
 abbrev pub OnePrice : Type 0
 OnePrice = (c : FrameCall) (d : ExactCall) → OnOneFrame c d → OnePriceOf c d
 
--- and so the two are equal, ties and all, where both lists of each map are alike, as at a whole threshold they are where the tie of demand 3 does not occur
+-- and so the two are equal, ties included, if both lists of each map are alike; at a whole threshold they are if the
+-- tie of demand 3 does not occur
 pub record SamePrice (c : FrameCall) (d : ExactCall) : Type 0 where
   pub corners : frameList c ≡ frameList d
   pub count : c .count ≡ d .count

@@ -1,5 +1,5 @@
--- A call of `detect_peaks_from_response_with_refine_radius` on a map m of w by h cells that added corners to its buffer, with its promise word for
--- word.
+-- A call of `detect_peaks_from_response_with_refine_radius` on a map m of w by h cells that added corners to its
+-- buffer, with its promise word for word.
 use Prim.Native.Nat.{ℕ}
 use mathlib.Core.List.{List}
 use lib.ListN.{length}
@@ -10,7 +10,7 @@ use Rattle.detect.specs.declared.Peaks.the-variants.{Added}
 use Rattle.detect.specs.Detect.{searchOf, startsIn, tiesIn, conditions, PeaksAdded}
 
 pub record PeakCall (m : List Float) (w h : ℕ) : Type 0 where
-  -- the parameters; `radius` is the centroid's. Ring, window and radius make the border
+  -- the parameters; `radius` is the centroid's. Ring, window and radius determine the border
   pub ring : ℕ
   pub threshold : Float
   pub window : ℕ
@@ -23,7 +23,8 @@ pub record PeakCall (m : List Float) (w h : ℕ) : Type 0 where
   pub added : ℕ
   pub ties : ℕ
   pub promise : PeaksAdded (conditions (length m) w h ring window radius)
-      (startsIn m (searchOf w h ring threshold window «least_neighbours» radius)) (tiesIn m (searchOf w h ring threshold window «least_neighbours» radius))
+      (startsIn m (searchOf w h ring threshold window «least_neighbours» radius))
+      (tiesIn m (searchOf w h ring threshold window «least_neighbours» radius))
       held before (Added added ties) after
 
 -- what the map was searched with: the border, the lifted threshold and so on

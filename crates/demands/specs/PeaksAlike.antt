@@ -1,6 +1,7 @@
--- Demand 3 (RULES 10.5): "Whatever the image, box, parameters and .. not refused, as long as the threshold is a whole number once negatives and NaN are
--- lifted to 0: the program's peak list of the response map and the list chosen by exact values are alike, naming the same places in the same
--- order, exactly when no peak of the exact list has in its window an equal exact value with a larger computed one."
+-- Demand 3 (RULES 10.5): "Whatever the image, box, parameters and .. not refused, as long as the threshold is a whole
+-- number once negatives and NaN are lifted to 0: the program's peak list of the response map and the list chosen by
+-- exact values are alike, naming the same places in the same order, exactly when no peak of the exact list has in its
+-- window an equal exact value with a larger computed one."
 use Prim.Native.Nat.{ℕ, _+_}
 use mathlib.Core.Path.{_≡_}
 use mathlib.Core.Logic.{_↔_}
@@ -20,7 +21,8 @@ use Rattle.demands.specs.ResponseCall.{ResponseCall, mapOf, exactAt}
 use Rattle.demands.specs.AnyRing.{AnyMap, mapIn, exactIn}
 use Rattle.demands.specs.PeakCall.{PeakCall, searchIn}
 
--- the program's list of a map (RULES 10.4) is what peak finding adds to its buffer, the corners behind those that the buffer held
+-- the program's list for a map (RULES 10.4) is what peak finding adds to its buffer: the corners after those that the
+-- buffer held
 abbrev pub programList : {m : List Float} {w h : ℕ} → PeakCall m w h → List Corner
 programList p = tab (p .added) (λ i. cornerAt (p .after) (p .held + i))
 
@@ -35,15 +37,18 @@ position k = (k .x, k .y)
 abbrev pub nameOf : Place → Float × Float
 nameOf q = (floatOf (q .x), floatOf (q .y))
 
--- of a map m with these exact values and a search of it: alike "exactly when no peak of the exact list has .." such an equal
+-- for a map m with these exact values and a search of it: alike "exactly when no peak of the exact list has .." such an
+-- equal
 abbrev pub AlikeUnlessTied : {m : List Float} {w h : ℕ} → (Place → ℤ) → PeakCall m w h → Type 0
 AlikeUnlessTied {m} {w} {h} exact p =
     (map position (programList p) ≡ map nameOf (exactList exact p)) ↔ NoTie m exact w h (p .window) (exactList exact p)
 
 -- at a threshold that is the whole number k once it is lifted
 pub record PeaksAlike : Type 0 where
-  -- of a search of the map that a call of the response left
-  pub call : (c : ResponseCall) (p : PeakCall (mapOf c) (c .pw) (c .ph)) (k : ℕ) → IsWhole (lift (p .threshold)) k → AlikeUnlessTied (exactAt c) p
-  -- and of a map by any ring table, which peak finding takes like every other
-  pub any-ring : (a : AnyMap) (p : PeakCall (mapIn a) (mapWidth (a .view)) (mapHeight (a .view))) (k : ℕ) → IsWhole (lift (p .threshold)) k
+  -- for a search of the map that a call of the response left
+  pub call : (c : ResponseCall) (p : PeakCall (mapOf c) (c .pw) (c .ph)) (k : ℕ)
+      → IsWhole (lift (p .threshold)) k → AlikeUnlessTied (exactAt c) p
+  -- and for a map with any ring table, which peak finding treats like any other
+  pub any-ring : (a : AnyMap) (p : PeakCall (mapIn a) (mapWidth (a .view)) (mapHeight (a .view))) (k : ℕ)
+      → IsWhole (lift (p .threshold)) k
       → AlikeUnlessTied (exactIn a) p

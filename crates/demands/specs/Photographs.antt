@@ -1,9 +1,11 @@
--- Request 1, "PGM photographs": what a call of `find_pgm_corners`, or of `find_exact_pgm_corners`, leaves is what the frame of the upload's pixels
--- leaves, so that demands 2 and 3 hold of it; and what the reader `read_pgm` makes of uploads. Which numbers they give is in `Total`.
+-- Request 1, "PGM photographs": what a call of `find_pgm_corners` or `find_exact_pgm_corners` leaves is what the frame
+-- of the upload's pixels leaves, so demands 2 and 3 hold for it; and what the reader `read_pgm` makes of uploads.
+-- `Total` says which numbers they give.
 use Prim.Native.Nat.{ℕ, _+_, _*_, _≤_}
 use mathlib.Core.Path.{_≡_}
 use mathlib.Core.List.{List, [], _∷_, _++_, map}
 use lib.ListN.{length, take, replicate}
+use Rattle.lists.specs.Limits.{largestSide}
 use Rattle.lists.specs.Refusals.{valuesUnless}
 use Rattle.accuracy.specs.Accurate.{Bytes}
 use Rattle.listing.specs.Text.{decimal, space, newline}
@@ -21,11 +23,12 @@ use Rattle.demands.specs.Texts.{bytesOf}
 
 -- ---- the frame of a photograph
 
--- a call that finished, with its promise word for word: of `find_pgm_corners`, which chooses by computed values, or of `find_exact_pgm_corners`
+-- a call that finished, with its promise word for word: of `find_pgm_corners`, which chooses by computed values, or of
+-- `find_exact_pgm_corners`
 pub record PhotographCall (choose : FrameParams → Choice) : Type 0 where
   pub parameters : FrameParams
   pub upload : List ℕ
-  -- the upload is of type u8
+  -- the upload has type u8
   pub bytes : Bytes upload
   -- the buffers before and after, how many corners were found, and the ties
   pub before : Buffers
@@ -34,25 +37,28 @@ pub record PhotographCall (choose : FrameParams → Choice) : Type 0 where
   pub ties : ℕ
   pub promise : PhotographFound (choose parameters) parameters upload before (Corners count ties) after
 
--- "The frame is the image's pixels": it is a call of `find_corners` or `find_exact_corners` on them (`CallBy`), of which demands 2 and 3 and request 14
--- speak
+-- "The frame is the image's pixels": it is a call of `find_corners` or `find_exact_corners` on them (`CallBy`), to
+-- which demands 2 and 3 and request 14 apply
 pub record OnPixels {choose : FrameParams → Choice} (c : PhotographCall choose) : Type 0 where
   pub accepted : refusalOf (c .upload) ≡ 0
   pub pixels : Bytes (pixelsIn (c .upload))
-  pub promise : FrameFound (choose (c .parameters)) (c .parameters) (pixelsIn (c .upload)) (widthOf (c .upload)) (heightOf (c .upload)) (c .before)
+  pub promise : FrameFound (choose (c .parameters)) (c .parameters) (pixelsIn (c .upload))
+      (widthOf (c .upload)) (heightOf (c .upload)) (c .before)
       (Corners (c .count) (c .ties)) (c .after)
 
 pub record PhotographIsFrame : Type 0 where
   pub finished : (choose : FrameParams → Choice) (c : PhotographCall choose) → OnPixels c
-  -- finished or not: an upload that is accepted has the frame's promise, and one that is not its own number, and changes no buffer
-  pub accepted : (choose : Choice) (p : FrameParams) (upload : List ℕ) (b b′ : Buffers) (r : FrameAnswer) → PhotographFound choose p upload b r b′
+  -- finished or not: an accepted upload has the frame's promise; a refused one its own number, and no buffer changes
+  pub accepted : (choose : Choice) (p : FrameParams) (upload : List ℕ) (b b′ : Buffers) (r : FrameAnswer)
+      → PhotographFound choose p upload b r b′
       → refusalOf upload ≡ 0 → FrameFound choose p (pixelsIn upload) (widthOf upload) (heightOf upload) b r b′
-  pub refused : (choose : Choice) (p : FrameParams) (upload : List ℕ) (b b′ : Buffers) (r : FrameAnswer) → PhotographFound choose p upload b r b′
+  pub refused : (choose : Choice) (p : FrameParams) (upload : List ℕ) (b b′ : Buffers) (r : FrameAnswer)
+      → PhotographFound choose p upload b r b′
       → (refusalOf upload ≡ 0 → ⊥) → (r ≡ Refused (refusalOf upload)) × (b′ ≡ b)
 
 -- ---- the reader
 
--- what `read_pgm` answers, and `pgm_pixels` hands out
+-- what `read_pgm` answers, and `pgm_pixels` returns
 pub record ReadAs (upload : List ℕ) (at w h : ℕ) (pixels : List ℕ) : Type 0 where
   pub image : (r : PgmImage) → PgmRead upload r → r ≡ Pixels at w h
   pub part : pixelsIn upload ≡ pixels
@@ -64,23 +70,27 @@ plainHeader w h = 80 ∷ 53 ∷ newline ∷ (decimal w ++ (space ∷ (decimal h 
 -- every size is read back, "A side of 0 .. like any other"
 abbrev pub PlainHeaderRead : Type 0
 PlainHeaderRead =
-    (w h : ℕ) (pixels behind : List ℕ) → w ≤ 4096 → h ≤ 4096 → length pixels ≡ w * h
+    (w h : ℕ) (pixels behind : List ℕ) → w ≤ largestSide → h ≤ largestSide → length pixels ≡ w * h
     → ReadAs (plainHeader w h ++ (pixels ++ behind)) (length (plainHeader w h)) w h pixels
 
--- "Bytes after the pixels are not read": others in their place
+-- "Bytes after the pixels are not read": other bytes in their place
 abbrev pub withBehind : List ℕ → List ℕ → List ℕ
 withBehind upload behind = take (rasterAt upload + widthOf upload * heightOf upload) upload ++ behind
 
 -- change nothing
 pub record BehindUnread : Type 0 where
-  -- of what the reader makes of it
+  -- in what the reader makes of it
   pub reader : (upload : List ℕ) → refusalOf upload ≡ 0 → (behind : List ℕ)
       → ReadAs (withBehind upload behind) (rasterAt upload) (widthOf upload) (heightOf upload) (pixelsIn upload)
-  -- and of what a call of `find_pgm_corners`, or of `find_exact_pgm_corners`, answers and leaves in the same buffers, finished or not
-  pub frame : (choose : Choice) (p : FrameParams) (upload : List ℕ) → refusalOf upload ≡ 0 → (behind : List ℕ) (b b₁ b₂ : Buffers) (r₁ r₂ : FrameAnswer)
-      → PhotographFound choose p upload b r₁ b₁ → PhotographFound choose p (withBehind upload behind) b r₂ b₂ → (r₂ ≡ r₁) × (b₂ ≡ b₁)
+  -- and in what a call of `find_pgm_corners` or `find_exact_pgm_corners` answers and leaves in the same buffers,
+  -- finished or not
+  pub frame : (choose : Choice) (p : FrameParams) (upload : List ℕ) → refusalOf upload ≡ 0
+      → (behind : List ℕ) (b b₁ b₂ : Buffers) (r₁ r₂ : FrameAnswer)
+      → PhotographFound choose p upload b r₁ b₁ → PhotographFound choose p (withBehind upload behind) b r₂ b₂
+      → (r₂ ≡ r₁) × (b₂ ≡ b₁)
 
--- ---- a table of uploads, and what is read of each: its number; where that is 0, also the pixels' place, both sides and the pixels
+-- ---- a table of uploads, and what is read from each: its number; if that is 0, also the pixels' place, both sides and
+-- the pixels
 pub record Upload : Type 0 where
   pub bytes : List ℕ
   pub said : List ℕ
@@ -98,26 +108,26 @@ unfoldable pub uploads : List Upload
 uploads =
     reads (bytesOf "P5 1 1 255\nA") 11 1 1 (65 ∷ [])
     ∷ reads (bytesOf "P5 0001 01 0255\nA") 16 1 1 (65 ∷ [])
-    -- the raster begins behind one whitespace character: what follows is a pixel
+    -- the raster begins after one whitespace character: what follows is a pixel
     ∷ reads (bytesOf "P5 1 1 255\r\nA") 11 1 1 (10 ∷ [])
     ∷ reads (bytesOf "P5 1 1 255\n#") 11 1 1 (35 ∷ [])
     ∷ reads (bytesOf "P5\t1\r1\n255\u{b}A") 11 1 1 (65 ∷ [])
     ∷ reads (bytesOf "P5 0 0 255\n") 11 0 0 []
     ∷ refuses (bytesOf "P5 0 0 255") 12
-    -- a comment is ignored, its end included, also in a number, and is no whitespace
+    -- a comment is ignored together with its line end, also in a number, and does not count as whitespace
     ∷ reads (bytesOf "P5 #c\n1 1 255\nA") 14 1 1 (65 ∷ [])
     ∷ reads (bytesOf "P5 1#c\n1 1 255\n" ++ replicate 11 7) 15 11 1 (replicate 11 7)
     ∷ reads (bytesOf "P5 1 1 255#c\r\nA") 14 1 1 (65 ∷ [])
     ∷ refuses (bytesOf "P5#c\n1 1 255\nA") 12
     ∷ refuses (bytesOf "P5 1 1 255#c\nA") 12
-    -- 1 where both sides can be read, whatever follows the height's last digit
+    -- 1 if both sides can be read, whatever follows the height's last digit
     ∷ refuses (bytesOf "P5 4097 1") 1
     ∷ refuses (bytesOf "P5 1 4097#") 1
     ∷ refuses (bytesOf "P5 409#\n7 1x") 1
     ∷ refuses (bytesOf "P5 18446744073709551617 1 255\nA") 1
     ∷ refuses (bytesOf "P5 4097 ") 12
     ∷ refuses (bytesOf "P5 4097 x") 12
-    -- 12: not of that form, or fewer bytes than pixels
+    -- 12: not in that form, or fewer bytes than pixels
     ∷ refuses (bytesOf "P51 1 255\nA") 12
     ∷ refuses (bytesOf "P5 1 1 256x") 12
     ∷ refuses (bytesOf "P5 +1 1 255\nA") 12

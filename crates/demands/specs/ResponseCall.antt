@@ -1,5 +1,5 @@
--- A call of `chess_response_u8_patch` that answered a map of pw by ph cells: what it was given, what it left, and its promise, word for word as
--- its contract has it.
+-- A call of `chess_response_u8_patch` that answered a map of pw by ph cells: what it was given, what it left, and its
+-- promise, word for word as in its contract.
 use Prim.Native.Nat.{ℕ, _+_, _*_, _<_}
 use mathlib.Core.List.{List}
 use lib.ListN.{getD, take}
@@ -12,9 +12,10 @@ use Rattle.response.specs.Exact.{fifthsIn}
 use Rattle.response.specs.declared.Patch.the-variants.{Cells}
 use Rattle.accuracy.specs.Accurate.{Bytes}
 
--- the box x0, y0, x1, y1 of an image of w by h pixels, by the ring that a radius selects
+-- the box x0, y0, x1, y1 of an image of w by h pixels, with the ring that a radius selects
 abbrev pub viewOf : List ℕ → ℕ → ℕ → ℕ → ℕ → ℕ → ℕ → ℕ → View
-viewOf img w h ring x0 y0 x1 y1 = record { img = img; w = w; h = h; ring = ringOf ring; x0 = x0; y0 = y0; x1 = x1; y1 = y1 }
+viewOf img w h ring x0 y0 x1 y1 =
+    record { img = img; w = w; h = h; ring = ringOf ring; x0 = x0; y0 = y0; x1 = x1; y1 = y1 }
 
 pub record ResponseCall : Type 0 where
   pub img : List ℕ
@@ -25,7 +26,7 @@ pub record ResponseCall : Type 0 where
   pub y0 : ℕ
   pub x1 : ℕ
   pub y1 : ℕ
-  -- the pixels are of type u8
+  -- the pixels have type u8
   pub bytes : Bytes img
   -- the buffer before and after
   pub before : List Float
@@ -38,7 +39,7 @@ pub record ResponseCall : Type 0 where
 abbrev pub InMap : ResponseCall → Place → Type 0
 InMap c p = (p .x < c .pw) × (p .y < c .ph)
 
--- the response that stands in the buffer for it, in row order
+-- its response in the buffer, in row order
 abbrev pub computedAt : ResponseCall → Place → Float
 computedAt c p = getD (c .after) (p .y * c .pw + p .x) nan
 

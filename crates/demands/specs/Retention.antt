@@ -1,5 +1,5 @@
--- Request 13, "What may be deleted": what `holding` tells of an item, what the program `retained` prints of a stream, which is `outputOf` of its input
--- bytes, and how many of them it reads.
+-- Request 13, "What may be deleted": what `holding` tells about an item, what the program `retained` prints for a
+-- stream, which is `outputOf` of its input bytes, and how many of them it reads.
 use Prim.Native.Nat.{ℕ, _+_, _-_, _<_, _≤_}
 use mathlib.Core.Path.{_≡_}
 use mathlib.Core.Logic.{_↔_, _⊎_}
@@ -10,14 +10,14 @@ use Rattle.listing.specs.Text.{newline, refusedText}
 use Rattle.retention.specs.declared.Holding.{Holding}
 use Rattle.retention.specs.declared.Holding.the-variants.{NotYet, Held, Gone}
 use Rattle.retention.specs.Retention.{dayOf, numberOf, letterOf}
-use Rattle.retention.specs.Stream.{stateAt, placeOf, outputOf}
+use Rattle.retention.specs.Stream.{mostRecords, longestInput, stateAt, placeOf, outputOf}
 use Rattle.retention.specs.Wanted.{itemFault, items, wanted}
 use Rattle.retention.specs.Answer.{Told}
 use Rattle.demands.specs.Numbers.{OneOf}
 
 -- ---- an item
 
--- a call of `holding` for an item of a kind that was not refused, with its promise word for word
+-- a call of `holding` for an item of a kind, not refused, with its promise word for word
 pub record HoldingCall (kind : ℕ) : Type 0 where
   pub start : ℕ
   pub time : ℕ
@@ -31,15 +31,17 @@ pub record HeldWhen : Type 0 where
   pub file-never-gone : (c : HoldingCall 1) → c .answer ≡ Gone → ⊥
   -- "Photographs received on day d: days d to d+89, gone on d+90."
   pub photograph-held : (c : HoldingCall 2)
-      → (c .answer ≡ Held) ↔ ((c .start ≤ c .time) × (dayOf (c .start) ≤ dayOf (c .time)) × (dayOf (c .time) ≤ dayOf (c .start) + 89))
+      → (c .answer ≡ Held) ↔ ((c .start ≤ c .time) × (dayOf (c .start) ≤ dayOf (c .time))
+      × (dayOf (c .time) ≤ dayOf (c .start) + 89))
   pub photograph-gone : (c : HoldingCall 2) → (c .answer ≡ Gone) ↔ (dayOf (c .start) + 90 ≤ dayOf (c .time))
   -- "Tokens issued at second t: from t up to but excluding t + 604,800."
   pub token-held : (c : HoldingCall 3) → (c .answer ≡ Held) ↔ ((c .start ≤ c .time) × (c .time < c .start + 604800))
   pub token-gone : (c : HoldingCall 3) → (c .answer ≡ Gone) ↔ (c .start + 604800 ≤ c .time)
-  -- before its second an item is not yet, a photograph on its own day too (RULES 32.2)
+  -- before its second an item is not held yet, even a photograph on its own day (RULES 32.2)
   pub not-yet : {kind : ℕ} (c : HoldingCall kind) → (c .answer ≡ NotYet) ↔ (c .time < c .start)
-  -- what is gone stays so
-  pub gone-for-good : {kind : ℕ} (c d : HoldingCall kind) → c .start ≡ d .start → c .time ≤ d .time → c .answer ≡ Gone → d .answer ≡ Gone
+  -- what is gone stays gone
+  pub gone-for-good : {kind : ℕ} (c d : HoldingCall kind) → c .start ≡ d .start → c .time ≤ d .time
+      → c .answer ≡ Gone → d .answer ≡ Gone
 
 -- ---- a stream
 
@@ -51,16 +53,16 @@ lineOf input i = letterOf (stateAt input (placeOf i)) ∷ newline ∷ []
 abbrev pub linesTo : List ℕ → ℕ → List ℕ
 linesTo input k = flatMap (lineOf input) (counted 0 k)
 
--- no fault: the stream ends behind k records, or k is 65,536
+-- no fault: the stream ends after k records, or k is 65,536
 pub record PrintsLetters (input : List ℕ) : Type 0 where
   pub count : ℕ
-  pub few : count ≤ 65536
+  pub few : count ≤ mostRecords
   pub sound : (i : ℕ) → i ≤ count → itemFault input i ≡ 0
-  pub all : (length input ≡ placeOf count) ⊎ (count ≡ 65536)
+  pub all : (length input ≡ placeOf count) ⊎ (count ≡ mostRecords)
   pub prints : outputOf input ≡ linesTo input count
 
--- "at a faulty record or time, a line `refused N` with its number ends the output": the first item with a fault, item 0 being the time and
--- record k item k + 1
+-- "at a faulty record or time, a line `refused N` with its number ends the output": the first item with a fault, where
+-- item 0 is the time and item k + 1 is record k
 pub record EndsRefused (input : List ℕ) : Type 0 where
   pub item : ℕ
   pub few : item < items
@@ -84,10 +86,12 @@ pub record RetainedUndecided (input : List ℕ) : Type 0 where
 
 pub record RetainedReads : Type 0 where
   -- "at most 65,536 records are read and what follows is not"
-  pub most : (input : List ℕ) → outputOf (take 589832 input) ≡ outputOf input
-  -- neither is what follows a fault, unless that is the end of the bytes
-  pub behind-fault : (input : List ℕ) (r : EndsRefused input) → (r .number ≡ 7 → ⊥) → (t : List ℕ) → outputOf (input ++ t) ≡ outputOf input
-  -- it reads as many bytes as are `wanted` behind those so far, until that is 0. Then what follows changes nothing, and with fewer something may
+  pub most : (input : List ℕ) → outputOf (take longestInput input) ≡ outputOf input
+  -- nor do bytes after a fault matter, unless the input ends there
+  pub behind-fault : (input : List ℕ) (r : EndsRefused input) → (r .number ≡ 7 → ⊥) → (t : List ℕ)
+      → outputOf (input ++ t) ≡ outputOf input
+  -- it reads `wanted` more bytes at a time, until that is 0. Then what follows changes nothing, and with fewer bytes it
+  -- may
   pub decided : (input : List ℕ) → wanted input ≡ 0 → (t : List ℕ) → outputOf (input ++ t) ≡ outputOf input
   pub undecided : (input t : List ℕ) → length t < wanted input → RetainedUndecided (input ++ t)
-  pub within : (input : List ℕ) → 0 < wanted input → length input + wanted input ≤ 589832
+  pub within : (input : List ℕ) → 0 < wanted input → length input + wanted input ≤ longestInput

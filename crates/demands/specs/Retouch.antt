@@ -1,4 +1,5 @@
--- Request 8, "Retouched pixels": what a call of `retouch` leaves, over its promise. What holds of both rings is stated for any ring table.
+-- Request 8, "Retouched pixels": what a call of `retouch` leaves, by its promise. What holds for both rings is stated
+-- for any ring table.
 use Prim.Native.Nat.{ℕ, _+_, _*_, _<_, _≤_}
 use mathlib.Core.Path.{_≡_}
 use mathlib.Core.Bool.{true, false}
@@ -31,7 +32,7 @@ pub record RetouchCall : Type 0 where
   pub map′ : List Float
   pub promise : Retouches w h ring pixel value img map (Redone count) img′ map′
 
--- a cell of its map, and what stands there before and after
+-- a cell of its map, and its value before and after
 abbrev pub InImage : RetouchCall → Place → Type 0
 InImage c p = (p .x < c .w) × (p .y < c .h)
 
@@ -41,11 +42,12 @@ cellBefore c p = getD (c .map) (p .y * c .w + p .x) nan
 abbrev pub cellAfter : RetouchCall → Place → Float
 cellAfter c p = getD (c .map′) (p .y * c .w + p .x) nan
 
--- "only cells not within a ring radius of the edge whose sixteen or five samples contain it are recomputed ..; any other map gets those cells and
--- no more"
+-- "only cells not within a ring radius of the edge whose sixteen or five samples contain it are recomputed ..; any
+-- other map gets those cells and no more"
 pub record OnlyTouched : Type 0 where
   pub pixel-changed : (c : RetouchCall) → c .img′ ≡ changed (c .img) (c .w) (c .pixel) (c .value)
-  pub recomputed : (c : RetouchCall) (p : Place) → InImage c p → touched (c .w) (c .h) (ringOf (c .ring)) (c .pixel) p ≡ true
+  pub recomputed : (c : RetouchCall) (p : Place) → InImage c p
+      → touched (c .w) (c .h) (ringOf (c .ring)) (c .pixel) p ≡ true
       → cellAfter c p ≡ responseAt (c .img′) (c .w) (c .h) (ringOf (c .ring)) (p .x) (p .y)
   pub kept : (c : RetouchCall) (p : Place) → InImage c p → touched (c .w) (c .h) (ringOf (c .ring)) (c .pixel) p ≡ false
       → cellAfter c p ≡ cellBefore c p
@@ -64,16 +66,18 @@ viewBefore c = whole (c .img) (c .w) (c .h) (ringOf (c .ring))
 abbrev pub viewAfter : RetouchCall → View
 viewAfter c = whole (c .img′) (c .w) (c .h) (ringOf (c .ring))
 
--- "map and image equal a fresh run where the map was that image's and ring's own before": the map was what a call of the response left of the
--- whole image, and now it is what another such call leaves of the changed image
+-- "map and image equal a fresh run where the map was that image's and ring's own before": the map was what a call of
+-- the response left for the whole image, and now it is what another such call leaves for the changed image
 pub record Fresh : Type 0 where
-  pub call : (c : RetouchCall) (own again : ResponseCall) → viewIn own ≡ viewBefore c → mapOf own ≡ c .map → viewIn again ≡ viewAfter c
+  pub call : (c : RetouchCall) (own again : ResponseCall) → viewIn own ≡ viewBefore c → mapOf own ≡ c .map
+      → viewIn again ≡ viewAfter c
       → c .map′ ≡ mapOf again
-  pub any-ring : (t : Ring) → IsRing t → (img : List ℕ) (w h : ℕ) (q : Place) (value : ℕ) → length img ≡ w * h → q .x < w → q .y < h
+  pub any-ring : (t : Ring) → IsRing t → (img : List ℕ) (w h : ℕ) (q : Place) (value : ℕ) → length img ≡ w * h
+      → q .x < w → q .y < h
       → redone (changed img w q value) w h t q (cells (whole img w h t)) ≡ cells (whole (changed img w q value) w h t)
 
--- ---- "a change of d grey levels moves the exact response by at most 15d fifths through a ring place and 16d through the cross, and no other
--- cell at all"
+-- ---- "a change of d grey levels moves the exact response by at most 15d fifths through a ring place and 16d through
+-- the cross, and no other cell at all"
 abbrev pub levels : RetouchCall → ℕ
 levels c = dist (getD (c .img) (c .pixel .y * c .w + c .pixel .x) 0) (c .value)
 
@@ -83,13 +87,15 @@ exactBefore c t p = fifthsAt (c .img) (c .w) (c .h) t (p .x) (p .y)
 abbrev pub exactAfter : RetouchCall → Ring → Place → ℤ
 exactAfter c t p = fifthsAt (c .img′) (c .w) (c .h) t (p .x) (p .y)
 
--- by the ring t, whichever the call was given: the exact values are those of the image before and after it
+-- with the ring t, whichever the call was given: the exact values are those of the image before and after it
 pub record MovedLittle (c : RetouchCall) (t : Ring) : Type 0 where
-  pub through-ring : (p : Place) → onRing t (c .pixel) p ≡ true → natAbs (exactAfter c t p -ℤ exactBefore c t p) ≤ 15 * levels c
-  pub through-cross : (p : Place) → inCross t (c .pixel) p ≡ true → natAbs (exactAfter c t p -ℤ exactBefore c t p) ≤ 16 * levels c
+  pub through-ring : (p : Place) → onRing t (c .pixel) p ≡ true
+      → natAbs (exactAfter c t p -ℤ exactBefore c t p) ≤ 15 * levels c
+  pub through-cross : (p : Place) → inCross t (c .pixel) p ≡ true
+      → natAbs (exactAfter c t p -ℤ exactBefore c t p) ≤ 16 * levels c
   pub no-other : (p : Place) → touched (c .w) (c .h) t (c .pixel) p ≡ false → exactAfter c t p ≡ exactBefore c t p
 
 pub record MovesLittle : Type 0 where
-  -- by the call's own ring
+  -- with the call's own ring
   pub call : (c : RetouchCall) → MovedLittle c (ringOf (c .ring))
   pub any-ring : (c : RetouchCall) (t : Ring) → IsRing t → MovedLittle c t

@@ -1,6 +1,7 @@
--- Wrong roads (RULES 15.3): what words of the rules could be taken for, and are not. A road is an input on which the definition of the rules and a wrong
--- one give different numbers, as small as it can be. WrongValues.antt has those that lead to a wrong value, WrongRefusals.antt those that lead to a wrong
--- refusal; the quoted words are those that a road gets wrong.
+-- Wrong roads (RULES 15.3): what words of the rules could be mistaken for. A road is an input, as small as possible, on
+-- which the definition from the rules and a wrong one give different numbers. WrongValues.antt has those that lead to a
+-- wrong value, WrongRefusals.antt those that lead to a wrong refusal. The comment on a road quotes the words that it
+-- gets wrong, then says how it reads them.
 use Prim.Native.Nat.{ℕ}
 use mathlib.Core.Path.{_≡_}
 use mathlib.Core.Bool.{Bool, true, cond}
@@ -12,7 +13,7 @@ use Rattle.float32.specs.Float32.{floatOf}
 use Rattle.corner_list.specs.declared.Corner.{Corner}
 use Rattle.corner_list.specs.CornerList.{Slices, slices, frontCorners}
 
--- what the rules give, what a wrong definition gives, and both as they are said
+-- what the rules give, what a wrong definition gives, and the numbers stated for both
 pub record Road : Type 0 where
   pub ours : ℕ
   pub said : ℕ
@@ -22,7 +23,7 @@ pub record Road : Type 0 where
 abbrev pub road : ℕ → ℕ → ℕ → ℕ → Road
 road ours said wrong instead = record { ours = ours; said = said; wrong = wrong; instead = instead }
 
--- of a table of them: each comes out as it is said, and nowhere is the wrong number the right one
+-- for a table of them: each gives the number stated, and the wrong number is never the right one
 pub record Wrong (roads : List Road) : Type 0 where
   pub ours : map (λ (r : Road). r .ours) roads ≡ map (λ (r : Road). r .said) roads
   pub wrong : map (λ (r : Road). r .wrong) roads ≡ map (λ (r : Road). r .instead) roads
@@ -38,12 +39,13 @@ abbrev pub place : ℕ → ℕ → Place
 place x y = record { x = x; y = y }
 
 abbrev pub corner : ℕ → ℕ → ℕ → ℕ → Corner
-corner x y strength neighbours = record { x = floatOf x; y = floatOf y; strength = floatOf strength; neighbours = neighbours }
+corner x y strength neighbours =
+    record { x = floatOf x; y = floatOf y; strength = floatOf strength; neighbours = neighbours }
 
 -- a corner to the left of the image
 abbrev pub outside : Corner
 outside = record { x = fin true 1 (pos 0); y = floatOf 1; strength = floatOf 1; neighbours = 0 }
 
--- a buffer with a place for each of some corners, and no other
+-- a buffer with a place for each of some corners, and no more
 abbrev pub holding : List Corner → Slices
 holding cs = frontCorners cs (slices [] [] [] [])

@@ -1,5 +1,6 @@
--- Request 10, "Strike a corner in two steps" (RULES 29): over any sequence of calls of `strike_corner`, refused or not. `show_corner` borrows the
--- buffer only to read it and takes count and change number by value: it leaves no list that differs from the one it was called on.
+-- Request 10, "Strike a corner in two steps" (RULES 29): for any sequence of calls of `strike_corner`, refused or not.
+-- `show_corner` borrows the buffer only to read it and takes count and change number by value, so it cannot change the
+-- list.
 use Prim.Native.Nat.{ℕ, _+_, _<_, _≤_}
 use mathlib.Core.Path.{_≡_}
 use mathlib.Core.List.{List, _∷_, _++_}
@@ -30,7 +31,8 @@ pub record ShowCall (s : Edited) : Type 0 where
   pub answer : Shown
   pub promise : Shows (s .buffer) (s .edition) place answer
 
--- of `strike_corner`, with any place and any change number: `after` is the list that it leaves, in the buffer and the two numbers that it borrows
+-- of `strike_corner`, with any place and any change number: `after` is the list that it leaves, in the buffer and the
+-- two numbers that it borrows
 pub record StrikeCall (s : Edited) : Type 0 where
   pub place : ℕ
   pub change : ℕ
@@ -54,33 +56,38 @@ struckIn s s′ (more _ t calls c) = struckIn s t calls + strikesOf (c .answer)
 
 -- ---- "The list has a change number from 0, raised by each strike and by nothing else."
 pub record RaisedByStrikesOnly : Type 0 where
-  -- one call: a strike takes one corner and raises the number by one, a refusal leaves the list as it was
+  -- one call: a strike removes one corner and raises the number by one, a refusal leaves the list unchanged
   pub struck : (s : Edited) (c : StrikeCall s) → numberOf (c .answer) ≡ 0
       → (c .after .edition .change ≡ s .edition .change + 1) × (c .after .edition .count + 1 ≡ s .edition .count)
   pub refused : (s : Edited) (c : StrikeCall s) (k : ℕ) → c .answer ≡ Refused k → c .after ≡ s
-  -- many: the number has grown by the corners that were struck; from 0, as its owner begins a list, it is how many these are
-  pub counted : (s s′ : Edited) (calls : StrikeCalls s s′) → s′ .edition .change ≡ s .edition .change + struckIn s s′ calls
-  pub from-0 : (s s′ : Edited) (calls : StrikeCalls s s′) → s .edition .change ≡ 0 → s′ .edition .change ≡ struckIn s s′ calls
-  -- so a number that the list had before a strike strikes nothing behind it
+  -- many: the number has grown by how many corners were struck; if it began at 0, as the owner of a new list sets it,
+  -- it is that number
+  pub counted : (s s′ : Edited) (calls : StrikeCalls s s′)
+      → s′ .edition .change ≡ s .edition .change + struckIn s s′ calls
+  pub from-0 : (s s′ : Edited) (calls : StrikeCalls s s′) → s .edition .change ≡ 0
+      → s′ .edition .change ≡ struckIn s s′ calls
+  -- so a change number from before a strike strikes nothing after it
   pub once : (s s′ : Edited) (calls : StrikeCalls s s′) → 0 < struckIn s s′ calls
       → (c : StrikeCall s′) → c .change ≡ s .edition .change → numberOf (c .answer) ≡ 0 → ⊥
 
 -- ---- "it removes the corner at that place, later ones moving up and the freed last place becoming zero."
 
--- place by place of the buffer: those before it stay, each later corner is at the place before its own, the last of the list's places is 0 in every
--- slice, and behind it nothing is changed
+-- for each place of the buffer: those before it stay, each later corner moves to the place before its own, the last of
+-- the list's places is 0 in every slice, and nothing after it changes
 pub record MovedUp (s : Edited) (c : StrikeCall s) : Type 0 where
   pub before : (i : ℕ) → i < c .place → cornerAt (c .after .buffer) i ≡ cornerAt (s .buffer) i
-  pub later : (i : ℕ) → c .place ≤ i → i + 1 < s .edition .count → cornerAt (c .after .buffer) i ≡ cornerAt (s .buffer) (i + 1)
+  pub later : (i : ℕ) → c .place ≤ i → i + 1 < s .edition .count
+      → cornerAt (c .after .buffer) i ≡ cornerAt (s .buffer) (i + 1)
   pub freed : (i : ℕ) → i + 1 ≡ s .edition .count → cornerAt (c .after .buffer) i ≡ noCorner
   pub behind : (i : ℕ) → s .edition .count ≤ i → cornerAt (c .after .buffer) i ≡ cornerAt (s .buffer) i
 
 abbrev pub LaterMoveUp : Type 0
 LaterMoveUp = (s : Edited) (c : StrikeCall s) → numberOf (c .answer) ≡ 0 → MovedUp s c
 
--- ---- "Where only strikes came between, a confirming not refused removes the very corner shown for that place and number."
+-- ---- "Where only strikes came between, a confirming not refused removes the very corner shown for that place and
+-- number."
 
--- the corner k is removed from its place in a list, and nothing else is changed
+-- the corner k is removed from its place in a list, and nothing else changes
 pub record Removed (k : Corner) (place : ℕ) (before after : List Corner) : Type 0 where
   pub first : List Corner
   pub later : List Corner

@@ -1,5 +1,6 @@
--- Request 4, how many ties (RULES 23): "Peak finding returns its sum over the peaks it adds, and a finished frame pass returns the total, a u64, over
--- all peaks found before merging, seeds not counted. The total is defined from the computed maps."
+-- Request 4, how many ties (RULES 23): "Peak finding returns its sum over the peaks it adds, and a finished frame pass
+-- returns the total, a u64, over all peaks found before merging, seeds not counted. The total is defined from the
+-- computed maps."
 use Prim.Native.Nat.{ℕ}
 use mathlib.Core.Path.{_≡_}
 use mathlib.Core.List.{List}
@@ -21,29 +22,36 @@ use Rattle.demands.specs.PeakCall.{PeakCall, searchIn}
 use Rattle.demands.specs.FrameExact.{FrameCall, mapsIn, Alike}
 use Rattle.frame.specs.Frame.{passOf}
 
--- "A NaN centre is top with 0 ties": what the code's window test, `window_test` of detect, answers of one, by its promise
+-- "A NaN centre is top with 0 ties": what the code's window test, `window_test` of detect, answers for one, by its
+-- promise
 abbrev pub NanTop : Type 0
-NanTop = (m : List Float) (s : Search) (p : Place) (t : WindowTest) → WindowTested m s p t → valueAt m (s .w) p ≡ nan → t ≡ Top 0
+NanTop =
+    (m : List Float) (s : Search) (p : Place) (t : WindowTest) → WindowTested m s p t
+    → valueAt m (s .w) p ≡ nan → t ≡ Top 0
 
 -- the sum over the peaks of the map
 abbrev pub PeakTies : Type 0
 PeakTies = (m : List Float) (w h : ℕ) (p : PeakCall m w h) → p .ties ≡ tiesIn m (searchIn p)
 
--- the total is the pass's; and where the two lists are alike for each map, that of the exact pass too, which counts in the computed maps
+-- the total is the pass's; and if the two lists are alike for each map, it is also that of the exact pass, which counts
+-- in the computed maps
 pub record TiesAre (c : FrameCall) : Type 0 where
   pub computed : c .ties ≡ passOf (c .parameters) (c .img) (c .w) (c .h) .ties
-  pub exact : All (Alike (c .parameters)) (mapsIn c) → c .ties ≡ framePass (c .parameters) (c .img) (c .w) (c .h) (exactChoice (c .parameters)) .ties
+  pub exact : All (Alike (c .parameters)) (mapsIn c)
+      → c .ties ≡ framePass (c .parameters) (c .img) (c .w) (c .h) (exactChoice (c .parameters)) .ties
 
 abbrev pub FrameTies : Type 0
 FrameTies = (c : FrameCall) → TiesAre c
 
--- "no peak of the exact lists has an exact equal in its window", of one map
+-- "no peak of the exact lists has an exact equal in its window", for one map
 abbrev pub WithoutEquals : FrameParams → View → Type 0
 WithoutEquals p v =
-    All (λ (a : Place). All (λ (q : Place). fifthsIn v (q .x) (q .y) ≡ fifthsIn v (a .x) (a .y) → ⊥) (window (mapWidth v) (mapHeight v) (p .window) a))
+    All (λ (a : Place). All (λ (q : Place). fifthsIn v (q .x) (q .y) ≡ fifthsIn v (a .x) (a .y) → ⊥)
+    (window (mapWidth v) (mapHeight v) (p .window) a))
     (exactChoice p v)
 
--- "With the threshold whole as in demand 3, both peak lists are alike for each map a finished frame looks at if" so; map by map, which is more
+-- "With the threshold whole as in demand 3, both peak lists are alike for each map a finished frame looks at if" so;
+-- stated for each map by itself, which is stronger
 abbrev pub MapsAlikeWithoutEquals : Type 0
 MapsAlikeWithoutEquals =
     (c : FrameCall) (k : ℕ) → IsWhole (lift (c .parameters .threshold)) k

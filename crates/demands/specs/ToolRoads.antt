@@ -1,4 +1,4 @@
--- Wrong roads that lead to a wrong value (RULES 15.3), of the tools beside the finder.
+-- Wrong roads that lead to a wrong value (RULES 15.3), for the tools beside the finder.
 use Prim.Native.Nat.{ℕ, suc, _+_, _-_, _*_, _%_, _^_, min}
 use mathlib.Core.Bool.{Bool, false, cond, not, _||_}
 use mathlib.Core.List.{List, [], _∷_, _++_}
@@ -37,7 +37,7 @@ use Rattle.demands.specs.Roads.{Road, road, told, place, corner, holding
 
 -- ---- request 1, PGM photographs
 
--- a comment taken for whitespace (RULES 20.3)
+-- a comment that counts as whitespace (RULES 20.3)
 abbrev spaced : Bool → ℕ → List ℕ → List Character
 spaced inside from [] = []
 spaced inside from (c ∷ cs) =
@@ -69,17 +69,18 @@ column = bytesOf "P5 1 2 255\nAB"
 
 abbrev photographs : List Road
 photographs =
-    -- "comments": a comment is whitespace, though the digits about it are one number (RULES 20.3)
+    -- "comments": a comment is whitespace, though the digits around it are one number (RULES 20.3)
     road (widthOf commented) 12 (fieldOf (spaced false 2 (drop 2 commented)) .number) 1
     -- and ends at LF alone, not at CR too
     ∷ road (widthOf ended) 12 (fieldOf (toNewline false 2 (drop 2 ended)) .number) 1
-    -- "the P5 form": all whitespace behind the maxval is passed over, though an LF behind the CR is a pixel (RULES 20.2)
+    -- "the P5 form": all whitespace after the maxval is skipped, though an LF after the CR is a pixel (RULES 20.2)
     ∷ road (getD (pixelsIn twoEnds) 0 0) 10 (firstCode (trailing isSpace (maxvalField twoEnds .rest))) 65
     -- "width, height": the other way round
     ∷ road (widthOf column) 1 (heightOf column) 2
     ∷ []
 
--- ---- request 8, retouched pixels (RULES 27): an image of 10 by 11, in which the ring about (5, 5) does not lie; and one of 11 by 11, whose map was 1
+-- ---- request 8, retouched pixels (RULES 27): an image of 10 by 11, in which the ring around (5, 5) does not fit; and
+-- one of 11 by 11, whose map was 1
 abbrev dark : List ℕ
 dark = replicate 121 0
 
@@ -89,31 +90,34 @@ firstCell m = nearestWhole (getD m 0 nan)
 abbrev retouching : List Road
 retouching =
     -- "only cells not within a ring radius of the edge": all whose samples contain the pixel
-    road (told (touched 10 11 ring5 (place 5 5) (place 5 5))) 0 (told (any (isAt ring5 (place 5 5) (place 5 5)) (samplePlaces ring5))) 1
+    road (told (touched 10 11 ring5 (place 5 5) (place 5 5))) 0
+    (told (any (isAt ring5 (place 5 5) (place 5 5)) (samplePlaces ring5))) 1
     -- "any other map gets those cells and no more": a fresh map (RULES 27.3)
-    ∷ road (firstCell (redone dark 11 11 ring5 (place 5 5) (replicate 121 one))) 1 (firstCell (cells (whole dark 11 11 ring5))) 0
+    ∷ road (firstCell (redone dark 11 11 ring5 (place 5 5) (replicate 121 one))) 1
+    (firstCell (cells (whole dark 11 11 ring5))) 0
     ∷ []
 
 -- ---- request 9, pixels known between limits (RULES 28)
 abbrev ranging : ℕ → ℕ → Range
 ranging low high = record { low = low; high = high }
 
--- 11 by 11 pixels that are 0, but the centre, which is 1
+-- 11 by 11 pixels that are 0, except the centre, which is 1
 abbrev lit : List ℕ
 lit = set dark 60 1
 
--- maps of 13 by 13 with a number in every cell and one in the centre
+-- maps of 13 by 13 with one number in the centre and another in every other cell
 abbrev about : ℕ → ℕ → List ℤ
 about others centre = set (replicate 169 (pos others)) 84 (pos centre)
 
--- whether the centre is a sure peak, with window 1, at a threshold, with so many neighbours; and by another reading
+-- whether the centre is a sure peak, with window 1, at a threshold, with this least number of neighbours; and by
+-- another reading
 abbrev sure : List ℤ → List ℤ → ℕ → ℕ → ℕ
 sure lows highs threshold least = told (isSure lows highs 13 13 5 threshold 1 least 0 (place 6 6))
 
 abbrev sureBy : ℕ → CellTests → ℕ
 sureBy least v = told (isPeak v 13 13 1 least (place 6 6))
 
--- the right reading, and those with another test of the threshold, of larger cells and of neighbours
+-- the right reading, and those with another test for the threshold, for larger cells and for neighbours
 module _ (lows highs : List ℤ) (threshold : ℕ) where
   abbrev right : CellTests
   right = byLimits (fifthsIn lows 13) (fifthsIn highs 13) threshold
@@ -141,15 +145,19 @@ between =
     (sureBy 0 (aboveBy (about 0 10) (about 0 10) 2 (λ p. not (ltZ (fifthsIn (about 0 10) 13 p) (pos (5 * 2)))))) 1
     -- with the product cut to 32 bits
     ∷ road (sure (about 0 most) (about 0 most) (2 ^ 30) 0) 0
-    (sureBy 0 (aboveBy (about 0 most) (about 0 most) (2 ^ 30) (λ p. ltZ (pos (5 * 2 ^ 30 % 2 ^ 32)) (fifthsIn (about 0 most) 13 p)))) 1
+    (sureBy 0 (aboveBy (about 0 most) (about 0 most) (2 ^ 30)
+    (λ p. ltZ (pos (5 * 2 ^ 30 % 2 ^ 32)) (fifthsIn (about 0 most) 13 p)))) 1
     -- "is at least every window cell's high": is above it
     ∷ road (sure (about 10 10) (about 10 10) 1 0) 1
-    (sureBy 0 (largerBy (about 10 10) (about 10 10) 1 (λ q p. not (ltZ (fifthsIn (about 10 10) 13 q) (fifthsIn (about 10 10) 13 p))))) 0
+    (sureBy 0 (largerBy (about 10 10) (about 10 10) 1
+    (λ q p. not (ltZ (fifthsIn (about 10 10) 13 q) (fifthsIn (about 10 10) 13 p))))) 0
     -- "enough neighbours of low above 0": of high
-    ∷ road (sure (about 0 10) (about 5 10) 1 1) 0 (sureBy 1 (positiveBy (about 0 10) (about 5 10) 1 (λ q. ltZ (pos 0) (fifthsIn (about 5 10) 13 q)))) 1
+    ∷ road (sure (about 0 10) (about 5 10) 1 1) 0
+    (sureBy 1 (positiveBy (about 0 10) (about 5 10) 1 (λ q. ltZ (pos 0) (fifthsIn (about 5 10) 13 q)))) 1
     ∷ []
 
--- ---- request 10, a corner struck (RULES 29.3): the only corner of a list, at column 7; and a list of two, with 1 and 2 neighbours
+-- ---- request 10, a corner struck (RULES 29.3): the only corner of a list, at column 7; and a list of two, with 1 and
+-- 2 neighbours
 abbrev only : Slices
 only = holding (corner 7 0 0 0 ∷ [])
 
@@ -165,10 +173,11 @@ strikes =
     road (firstX (withoutCorner 0 1 only)) 0 (firstX (frontCorners (without 0 (cornersOf only 1)) only)) 7
     -- "later ones moving up": in the slices of floats alone
     ∷ road (getD (withoutCorner 0 2 both .neighbours) 0 0) 2 (getD (both .neighbours) 0 0) 1
-    -- "the very corner shown for that place and number": for that place, where a strike came between (RULES 29.5)
+    -- "the very corner shown for that place and number": for that place, though a strike came between (RULES 29.5)
     ∷ road (cornerAt (withoutCorner 0 2 both) 0 .neighbours) 2 (cornerAt both 0 .neighbours) 1
     -- "raised by each strike and by nothing else": by a call that is refused (RULES 29.1)
-    ∷ road (resultOr (striking.refusalOf 0 (edition 0 0) 0 0) (raised (edition 0 0)) (edition 0 0) .change) 0 (raised (edition 0 0) .change) 1
+    ∷ road (resultOr (striking.refusalOf 0 (edition 0 0) 0 0) (raised (edition 0 0)) (edition 0 0) .change) 0
+    (raised (edition 0 0) .change) 1
     ∷ []
 
 -- ---- request 11, the frame stream written (RULES 30.1): a threshold of these bits
@@ -180,7 +189,7 @@ writing =
     -- "float bits included": the bits of the float that they are
     road (u32 (frameBytes (frameOf 0x7f80_0001) []) 7) 0x7f80_0001
     (u32 (frameBytes (frameOf (toBits binary32 (ofBits binary32 0x7f80_0001))) []) 7) 0x7fc0_0000
-    -- "the one stream for them": of one pixel, without zeros behind it
+    -- "the one stream for them": of one pixel, without zeros after it
     ∷ road (length (frameBytes (frameOf 0) (1 ∷ []))) 56 (length (frameBytes (frameOf 0) []) + 2) 25
     ∷ []
 
@@ -194,7 +203,7 @@ deleted =
     road (letterOf (stateOf 2 0 (90 * 86400))) 71 (letterOf (heldIf (leb (dayOf (90 * 86400)) (dayOf 0 + 90)))) 72
     -- "days d to d+89": 90 days of seconds, here from the last second of day 0 on
     ∷ road (letterOf (stateOf 2 86399 (90 * 86400))) 71 (letterOf (heldIf (ltb (90 * 86400) (86399 + 90 * 86400)))) 72
-    -- "up to but excluding t + 604,800": it included
+    -- "up to but excluding t + 604,800": including it
     ∷ road (letterOf (stateOf 3 0 604800)) 71 (letterOf (heldIf (leb 604800 (0 + 604800)))) 72
     -- "Before the second of receipt .. a photograph's own day included": before the day
     ∷ road (letterOf (stateOf 2 1 0)) 78 (letterOf (cond (ltb (dayOf 0) (dayOf 1)) NotYet Held)) 72

@@ -1,30 +1,35 @@
--- Demand 1 (RULES 2): "A frame handed in, with sides, pixels and parameters of any kind, comes back as a finished corner list or as one of eleven
--- numbered refusals. The conditions of each number are fixed", and so is what every buffer holds afterwards.
--- Every call of a public function ends, and asks nothing of its caller; its promise has the answer and every buffer afterwards by equations.
--- Here stand the promises of the functions that refuse, word for word, and the numbers that each can give: 0, which the definitions use for
--- "none", is no refusal's. A request's new number counts with the eleven: 12 and 13 of request 1, 14 of request 8, 15 of request 9, 16, 17 and
--- 18 of request 10, 19 of request 11, 20 of request 13. Which condition has which number, and in which order, is in the tables that the promises name. No
--- other public function refuses, and each of these promises one equation over its arguments:
---   numbers         lesser, greater, minus
---   image_size      is_large, refusal (the number alone)
---   ring            ring_offsets, is_ring
---   float32         abs, is_finite, lifted, is_between, from_bits, to_bits, cut_off, round_half_away (with its number, 0, and its values)
---   corner_list     is_inside, corner_at, put_corner, places
---   detect          refusal (the number alone)
---   pyramid_levels  level_count, cells_before, cells_above, build_refusal and level_refusal (the number alone)
---   pyramid         level (nothing where `level_at` refuses)
---   pgm             pgm_pixels (nothing where `read_pgm` refuses)
---   merge_radius    is_off, is_sized, is_outside
---   merge_refusal   refusal (the number alone)
---   merge_grid      position_of, position_at, grid_of, column_of, row_of, is_near, is_joined
---   merge_settle    settle_list (one for how many are kept, one for the buffer)
---   clearing        clear, clear_bytes, clear_list
---   frame_pass      refusal (the number before the pass)
---   stream          wanted
---   listing         write_refusal (one for its answer, one for its buffer)
---   retention       list_holdings (likewise), wanted (one for each number of its answer)
---   finder          find (likewise)
--- The functions of `capi`, `capi_stages`, `capi_lists`, `capi_tools` and `capi_limits`, for C, hand on these promises and return the number.
+-- Demand 1 (RULES 2): "A frame handed in, with sides, pixels and parameters of any kind, comes back as a finished
+-- corner list or as one of eleven numbered refusals. The conditions of each number are fixed", and so is what every
+-- buffer holds afterwards.
+-- Every call of a public function ends, and asks nothing of its caller; its promise gives the answer and every buffer
+-- afterwards by equations.
+-- Here are the promises of the functions that can refuse, word for word, with the numbers each can give. 0, which the
+-- definitions use for "none", is never one of them. The requests add numbers to the eleven: 12 and 13 from request 1,
+-- 14 from request 8, 15 from request 9, 16, 17 and 18 from request 10, 19 from request 11, 20 from request 13. The
+-- tables that the promises name say which condition has which number, and in which order they are checked.
+-- No other public function refuses. Each of these promises one equation over its arguments:
+-- numbers         lesser, greater, minus
+-- image_size      is_large, refusal (the number alone)
+-- ring            ring_offsets, is_ring
+-- float32         abs, is_finite, lifted, is_between, from_bits, to_bits, cut_off, round_half_away
+--                 (with its number, 0, and its values)
+-- corner_list     is_inside, corner_at, put_corner, places
+-- detect          refusal (the number alone)
+-- pyramid_levels  level_count, cells_before, cells_above, build_refusal and level_refusal (the number alone)
+-- pyramid         level (nothing if `level_at` refuses)
+-- pgm             pgm_pixels (nothing if `read_pgm` refuses)
+-- merge_radius    is_off, is_sized, is_outside
+-- merge_refusal   refusal (the number alone)
+-- merge_grid      position_of, position_at, grid_of, column_of, row_of, is_near, is_joined
+-- merge_settle    settle_list (one for how many are kept, one for the buffer)
+-- clearing        clear, clear_bytes, clear_list
+-- frame_pass      refusal (the number before the pass)
+-- stream          wanted
+-- listing         write_refusal (one for its answer, one for its buffer)
+-- retention       list_holdings (likewise), wanted (one for each number of its answer)
+-- finder          find (likewise)
+-- The functions of `capi`, `capi_stages`, `capi_lists`, `capi_tools` and `capi_limits`, for C, pass on these promises
+-- and return the number.
 use Prim.Native.Nat.{ℕ, min}
 use mathlib.Core.Path.{_≡_}
 use mathlib.Core.Bool.{Bool}
@@ -34,7 +39,7 @@ use lib.IntN.{ℤ}
 use lib.Ieee.{Float}
 use Rattle.response.specs.declared.Patch.{Patch}
 use Rattle.response.specs.declared.Patch.the-variants as response
-use Rattle.response.specs.Patch.{Patched}
+use Rattle.response.specs.Patch.{Patched, InnerPatched}
 use Rattle.pyramid.specs.declared.Pyramid.{Pyramid}
 use Rattle.pyramid.specs.declared.Pyramid.the-variants as pyramid
 use Rattle.pyramid_levels.specs.declared.LevelAnswer.{LevelAnswer}
@@ -61,6 +66,7 @@ use Rattle.merge.specs.declared.Merged.{Merged}
 use Rattle.merge.specs.declared.Merged.the-variants as merge
 use Rattle.merge.specs.Merge.{Merges}
 use Rattle.merge.specs.Apart.{MergedApart}
+use Rattle.merge.specs.Table.{MergesByTable}
 use Rattle.merge_naive.specs.MergeNaive.{MergesNaive}
 use Rattle.merge_slice.specs.MergeSlice.{MergesSlice}
 use Rattle.corner_strike.specs.Editions.{Edition}
@@ -72,7 +78,7 @@ use Rattle.corner_strike.specs.declared.striking.Strike.the-variants as strikin
 use Rattle.corner_strike.specs.Striking.{Strikes}
 use Rattle.patch_corners.specs.declared.FrameParams.{FrameParams}
 use Rattle.patch_corners.specs.OneMap.{Choice, choiceOf, computedChoice, exactChoice}
-use Rattle.patch_corners.specs.MapCorners.{CornersAdded}
+use Rattle.patch_corners.specs.MapCorners.{CornersAdded, RowCornersAdded}
 use Rattle.frame.specs.declared.FrameAnswer.{FrameAnswer}
 use Rattle.frame.specs.declared.FrameAnswer.the-variants as frame
 use Rattle.frame.specs.Frame.{Buffers, FrameFound}
@@ -107,17 +113,19 @@ use Rattle.demands.specs.Numbers.{Refuses}
 use Rattle.demands.specs.ResponseCall.{viewOf}
 use Rattle.demands.specs.Enough.{HasPeaks}
 
--- of a search of maps, of a frame and of the frame of an upload, by whichever choice of peaks
+-- for a search of maps, for a frame and for the frame of an upload, with any choice of peaks
 abbrev pub PeaksRefuse : (ℕ → ℕ → ℕ → Float → ℕ → ℕ → ℕ → Search) → Type 0
 PeaksRefuse search =
     (m : List Float) (w h ring : ℕ) (threshold : Float) (window least radius : ℕ) (b b′ : Slices) (held : ℕ) (r : Peaks)
     → detect.PeaksAdded (detect.conditions (length m) w h ring window radius)
-    (detect.startsIn m (search w h ring threshold window least radius)) (detect.tiesIn m (search w h ring threshold window least radius)) held b r b′
+    (detect.startsIn m (search w h ring threshold window least radius))
+    (detect.tiesIn m (search w h ring threshold window least radius)) held b r b′
     → Refuses peaks.Refused (1 ∷ 2 ∷ 3 ∷ 10 ∷ []) r
 
 abbrev pub FrameRefuses : (FrameParams → Choice) → Type 0
 FrameRefuses choose =
-    (p : FrameParams) (img : List ℕ) (w h : ℕ) (b b′ : Buffers) (r : FrameAnswer) → FrameFound (choose p) p img w h b r b′
+    (p : FrameParams) (img : List ℕ) (w h : ℕ) (b b′ : Buffers) (r : FrameAnswer)
+    → FrameFound (choose p) p img w h b r b′
     → Refuses frame.Refused (1 ∷ 2 ∷ 3 ∷ 5 ∷ 8 ∷ 9 ∷ 10 ∷ []) r
 
 abbrev pub PhotographRefuses : (FrameParams → Choice) → Type 0
@@ -130,7 +138,11 @@ pub record Total : Type 0 where
   pub «chess_response_u8_patch» : (img : List ℕ) (w h ring x0 y0 x1 y1 : ℕ) (d e : List Float) (r : Patch)
       → Patched (viewOf img w h ring x0 y0 x1 y1) ring d r e
       → Refuses response.Refused (1 ∷ 2 ∷ 3 ∷ 8 ∷ []) r
-  pub «build_pyramid» : (base : List ℕ) (w h count least : ℕ) (d e : List ℕ) (r : Pyramid) → Built base w h count least d r e
+  pub «inner_patch» : (img : List ℕ) (w h ring x0 y0 x1 y1 margin : ℕ) (d e : List Float) (r : Patch)
+      → InnerPatched (viewOf img w h ring x0 y0 x1 y1) margin ring d r e
+      → Refuses response.Refused (1 ∷ 2 ∷ 3 ∷ 8 ∷ []) r
+  pub «build_pyramid» : (base : List ℕ) (w h count least : ℕ) (d e : List ℕ) (r : Pyramid)
+      → Built base w h count least d r e
       → Refuses pyramid.Refused (1 ∷ 2 ∷ 9 ∷ []) r
   pub «level_at» : (a : Ask) (k : ℕ) (r : LevelAnswer) → LevelFound a k r
       → Refuses levels.Refused (1 ∷ 2 ∷ 3 ∷ 9 ∷ []) r
@@ -142,23 +154,35 @@ pub record Total : Type 0 where
   pub «add_map_corners» : (p : FrameParams) (exact : Bool) (m : List Float) (w h held : ℕ) (b b′ : Slices) (r : Peaks)
       → CornersAdded p exact m w h held b r b′
       → Refuses peaks.Refused (1 ∷ 2 ∷ 3 ∷ 10 ∷ []) r
-  pub refine : (radius : ℕ) (x y : Float) (hasMap : Bool) (m : List Float) (w h : ℕ) (r : Outcome) → Refined radius x y hasMap m w h r
+  pub «add_row_corners» : (p : FrameParams) (exact : Bool) (m : List Float) (w h a z held : ℕ) (b b′ : Slices)
+      (r : Peaks) → RowCornersAdded p exact m w h a z held b r b′
+      → Refuses peaks.Refused (1 ∷ 2 ∷ 3 ∷ 10 ∷ []) r
+  pub refine : (radius : ℕ) (x y : Float) (hasMap : Bool) (m : List Float) (w h : ℕ) (r : Outcome)
+      → Refined radius x y hasMap m w h r
       → Refuses outcome.Refused (1 ∷ 2 ∷ 3 ∷ 4 ∷ []) r
   pub «compute_roi» : (c : RoiContext) (s : Corner) (r : RoiAnswer) → Boxed c s r
       → Refuses roi.Refused (1 ∷ 3 ∷ 4 ∷ []) r
-  pub «merge_corners_simple» : (radius : Float) (count : ℕ) (b b′ : Slices) (r : Merged) → Merges radius (placesOf b) count b r b′
+  pub «merge_corners_simple» : (radius : Float) (count : ℕ) (b b′ : Slices) (r : Merged)
+      → Merges radius (placesOf b) count b r b′
       → Refuses merge.Refused (4 ∷ 5 ∷ 10 ∷ []) r
-  pub «merge_within» : (radius : Float) (places count : ℕ) (b b′ : Slices) (r : Merged) → Merges radius (min places (placesOf b)) count b r b′
+  pub «merge_within» : (radius : Float) (places count : ℕ) (b b′ : Slices) (r : Merged)
+      → Merges radius (min places (placesOf b)) count b r b′
+      → Refuses merge.Refused (4 ∷ 5 ∷ 10 ∷ []) r
+  pub «merge_by_table» : (radius : Float) (count : ℕ) (b b′ : Slices) (table table′ : List Float) (r : Merged)
+      → MergesByTable radius count b table r b′ table′
       → Refuses merge.Refused (4 ∷ 5 ∷ 10 ∷ []) r
   pub «merge_apart» : (radius : Float) (count : ℕ) (b d d′ : Slices) (r : Merged) → MergedApart radius count b d r d′
       → Refuses merge.Refused (4 ∷ 5 ∷ 10 ∷ []) r
-  pub «merge_corners_naive» : (radius : Float) (count : ℕ) (b b′ : Slices) (r : Merged) → MergesNaive radius count b r b′
+  pub «merge_corners_naive» : (radius : Float) (count : ℕ) (b b′ : Slices) (r : Merged)
+      → MergesNaive radius count b r b′
       → Refuses merge.Refused (4 ∷ 5 ∷ 10 ∷ []) r
-  pub «merge_corner_slice» : (radius : Float) (count : ℕ) (cs cs′ : List Corner) (b b′ : Slices) (r : Merged) → MergesSlice radius count cs b r cs′ b′
+  pub «merge_corner_slice» : (radius : Float) (count : ℕ) (cs cs′ : List Corner) (b b′ : Slices) (r : Merged)
+      → MergesSlice radius count cs b r cs′ b′
       → Refuses merge.Refused (4 ∷ 5 ∷ 10 ∷ []) r
   pub «show_corner» : (b : Slices) (e : Edition) (place : ℕ) (r : Shown) → Shows b e place r
       → Refuses showing.Refused (10 ∷ 17 ∷ []) r
-  pub «strike_corner» : (b b′ : Slices) (e e′ : Edition) (place change : ℕ) (r : Strike) → Strikes b e place change r b′ e′
+  pub «strike_corner» : (b b′ : Slices) (e e′ : Edition) (place change : ℕ) (r : Strike)
+      → Strikes b e place change r b′ e′
       → Refuses striking.Refused (10 ∷ 16 ∷ 17 ∷ 18 ∷ []) r
   pub «find_corners» : FrameRefuses computedChoice
   pub «find_exact_corners» : FrameRefuses exactChoice
@@ -174,7 +198,8 @@ pub record Total : Type 0 where
       → Refuses writing.Refused (1 ∷ 2 ∷ 3 ∷ 5 ∷ 19 ∷ []) r
   pub «write_corners» : (b : Slices) (count : ℕ) (out out′ : List ℕ) (r : Listing) → CornersWritten b count out r out′
       → Refuses listing.Refused (10 ∷ []) r
-  pub retouch : (w h ring : ℕ) (q : Place) (value : ℕ) (img : List ℕ) (m : List Float) (r : Retouched) (img′ : List ℕ) (m′ : List Float)
+  pub retouch : (w h ring : ℕ) (q : Place) (value : ℕ) (img : List ℕ) (m : List Float) (r : Retouched)
+      (img′ : List ℕ) (m′ : List Float)
       → Retouches w h ring q value img m r img′ m′
       → Refuses retouch.Refused (1 ∷ 2 ∷ 3 ∷ 14 ∷ []) r
   pub «response_limits» : (low high : List ℕ) (w h ring : ℕ) (lows highs : List ℤ) (r : Limits) (lows′ highs′ : List ℤ)

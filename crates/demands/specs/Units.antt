@@ -9,7 +9,7 @@ use lib.Ieee.Positive.{num, den}
 use Rattle.lists.specs.Places.{All}
 use Rattle.float32.specs.Float32.{zero, between}
 use Rattle.accuracy.specs.Accurate.{Bytes}
-use Rattle.corner_list.specs.CornerList.{largestSide}
+use Rattle.corner_list.specs.CornerList.{largestCoordinate}
 use Rattle.corner_list.specs.declared.Corner.{Corner}
 use Rattle.patch_corners.specs.declared.FrameParams.{FrameParams}
 use Rattle.patch_corners.specs.OneMap.{Choice, computedChoice}
@@ -17,12 +17,12 @@ use Rattle.listing.specs.Text.{unitsOf, decimal, fields}
 use Rattle.demands.specs.FrameExact.{CallBy, frameList}
 use Rattle.demands.specs.Program.{PrintsCorners, cornersBy}
 
--- (2 u - 1) / 512 ≤ x < (2 u + 1) / 512, x being num x / den x: no 256th is nearer than u, and a half goes up
+-- (2 u - 1) / 512 ≤ x < (2 u + 1) / 512, where x is num x / den x: u is the nearest 256th, and halves round up
 pub record Nearest (x : Float) (u : ℕ) : Type 0 where
   pub at-least : 2 * u * den x ≤ 512 * num x + den x
   pub below : 512 * num x < (2 * u + 1) * den x
 
--- of a corner: the first two columns of its line (listing, `fields`) are such numbers, in decimal
+-- for a corner: the first two columns of its line (listing, `fields`) are such numbers, in decimal
 pub record ColumnsNearest (c : Corner) : Type 0 where
   pub across : ℕ
   pub down : ℕ
@@ -31,9 +31,11 @@ pub record ColumnsNearest (c : Corner) : Type 0 where
   pub y-near : Nearest (c .y) down
 
 pub record UnitsNearest : Type 0 where
-  -- any f32 from 0 to 4,096
-  pub coordinate : (x : Float) → fits binary32 x ≡ true → between zero largestSide x ≡ true → Nearest x (unitsOf x)
+  -- any f32 from 0 to the largest coordinate
+  pub coordinate : (x : Float) → fits binary32 x ≡ true → between zero largestCoordinate x ≡ true
+      → Nearest x (unitsOf x)
   -- and so each corner that a finished frame leaves
   pub frame : (choose : FrameParams → Choice) (c : CallBy choose) → All ColumnsNearest (frameList c)
-  -- and each that the program prints, of pixels of type u8
-  pub printed : (input : List ℕ) (l : PrintsCorners input) → Bytes (l .pixels) → All ColumnsNearest (cornersBy computedChoice (l .header) (l .pixels))
+  -- and each that the program prints, for pixels of type u8
+  pub printed : (input : List ℕ) (l : PrintsCorners input) → Bytes (l .pixels)
+      → All ColumnsNearest (cornersBy computedChoice (l .header) (l .pixels))

@@ -1,4 +1,5 @@
--- Request 11, "Write the frame stream" (RULES 30): what the reader makes of what the writer left, and the writer of what the reader left.
+-- Request 11, "Write the frame stream" (RULES 30): what the reader makes of what the writer left, and the other way
+-- round.
 use Prim.Native.Nat.{ℕ, _+_, _*_, _<_, _≤_}
 use mathlib.Core.Path.{_≡_}
 use mathlib.Core.List.{List, _++_}
@@ -37,7 +38,8 @@ pub record Returns (r : ReadCall) (h : Header) (pixels : List ℕ) : Type 0 wher
   pub header : r .answer ≡ stream.Frame h
   pub pixels-are : take (h .width * h .height) (r .after) ≡ pixels
 
--- ---- "The reader returns the same values, float bits included": of so many bytes that were written, whatever follows them
+-- ---- "The reader returns the same values, float bits included": reading the bytes that were written, whatever follows
+-- them
 abbrev pub ReadBack : Type 0
 ReadBack =
     (w : WriteCall) (n : ℕ) → w .answer ≡ writing.Written n
@@ -56,7 +58,8 @@ pub record Rewritten (r : ReadCall) (w : WriteCall) (end : ℕ) : Type 0 where
   pub answer : w .answer ≡ writing.Written (end + 1)
   pub same : take (end + 1) (w .after) ≡ take (end + 1) (r .input)
 
--- what is read from a stream of bytes is written, or else the buffer is too short for it: the writer refuses nothing else that the reader accepts
+-- what is read from a stream of bytes is written, unless the buffer is too short for it: the writer refuses nothing
+-- else that the reader accepts
 pub record WrittenBack : Type 0 where
   pub long : (r : ReadCall) (w : WriteCall) → Returns r (w .header) (w .pixels) → All (λ v. v < 256) (r .input)
       → endOf (w .header) < length (w .before) → Rewritten r w (endOf (w .header))

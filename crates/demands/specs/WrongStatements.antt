@@ -1,5 +1,5 @@
--- Wrong statements (RULES 15.3): what could be said in place of a statement of `Demands`, and is false by its smallest example. Definitions that would
--- be wrong are those of WrongValues.antt and WrongRefusals.antt.
+-- Wrong statements (RULES 15.3): what could be said instead of a statement of `Demands`, and is false by its smallest
+-- example. Wrong definitions are in WrongValues.antt and WrongRefusals.antt.
 use Prim.Native.Nat.{ℕ, _+_, _*_, _≤_}
 use mathlib.Core.Path.{_≡_}
 use mathlib.Core.Bool.{true}
@@ -30,7 +30,8 @@ EqualFifthsEqualFloats =
 -- demand 3, "within 1/1024 of the paper's exact value": that value itself (RULES 10.5)
 abbrev pub ResponseExact : Type 0
 ResponseExact =
-    (sr dr sum cross : ℕ) → IsValue (responseOf sr dr sum cross) (plusPart (fifths sr dr sum cross)) (minusPart (fifths sr dr sum cross)) 5
+    (sr dr sum cross : ℕ) → IsValue (responseOf sr dr sum cross) (plusPart (fifths sr dr sum cross))
+    (minusPart (fifths sr dr sum cross)) 5
 
 -- request 8, "at most 21": at most 20 (RULES 27.2)
 abbrev pub AtMost20 : Type 0
@@ -38,16 +39,21 @@ AtMost20 = (w h : ℕ) (q : Place) → touchedCount w h ring5 q ≤ 20
 
 -- "at most 15d fifths through a ring place and 16d through the cross": 14d, and 15d (RULES 27.5)
 abbrev moved : List ℕ → ℕ → ℕ → Place → ℕ → Place → ℕ
-moved img w h q value p = natAbs (fifthsAt (changed img w q value) w h ring5 (p .x) (p .y) -ℤ fifthsAt img w h ring5 (p .x) (p .y))
+moved img w h q value p =
+    natAbs (fifthsAt (changed img w q value) w h ring5 (p .x) (p .y) -ℤ fifthsAt img w h ring5 (p .x) (p .y))
 
 abbrev levels : List ℕ → ℕ → Place → ℕ → ℕ
 levels img w q value = dist (getD img (q .y * w + q .x) 0) value
 
 abbrev pub Ring14 : Type 0
-Ring14 = (img : List ℕ) (w h : ℕ) (q : Place) (value : ℕ) (p : Place) → onRing ring5 q p ≡ true → moved img w h q value p ≤ 14 * levels img w q value
+Ring14 =
+    (img : List ℕ) (w h : ℕ) (q : Place) (value : ℕ) (p : Place) → onRing ring5 q p ≡ true
+    → moved img w h q value p ≤ 14 * levels img w q value
 
 abbrev pub Cross15 : Type 0
-Cross15 = (img : List ℕ) (w h : ℕ) (q : Place) (value : ℕ) (p : Place) → inCross ring5 q p ≡ true → moved img w h q value p ≤ 15 * levels img w q value
+Cross15 =
+    (img : List ℕ) (w h : ℕ) (q : Place) (value : ℕ) (p : Place) → inCross ring5 q p ≡ true
+    → moved img w h q value p ≤ 15 * levels img w q value
 
 -- request 11, "the same up to its kind 4 byte": the same, with what follows (RULES 30.5)
 abbrev pub RewrittenWhole : Type 0
@@ -59,7 +65,8 @@ exactIn img w h p = fifthsAt img w h ring5 (p .x) (p .y)
 
 abbrev pub CentreExact : Type 0
 CentreExact =
-    (img : List ℕ) (w h r : ℕ) (x y cx cy mass : Float) → refined r x y true (cells (whole img w h ring5)) w h ≡ Accepted cx cy mass
+    (img : List ℕ) (w h r : ℕ) (x y cx cy mass : Float)
+    → refined r x y true (cells (whole img w h ring5)) w h ≡ Accepted cx cy mass
     → IsValue cx (exactX (exactIn img w h) (summedCells r x y)) 0 (exactMass (exactIn img w h) (summedCells r x y))
 
 -- each is false

@@ -12,6 +12,7 @@ use lib.ListN.{length, length-map}
 use lib.Dec.{ltb}
 use lib.Ieee.{Float}
 use borrow.Author.Tests.{lt-ltb, le-ltb, ltb-true, ltb-false, eq-eqb, not-false}
+use Rattle.lists.specs.Limits.{largestSide}
 use Rattle.lists.specs.Places.{All}
 use Rattle.lists.specs.Refusals.{lowest, valuesUnless, unless, resultOr}
 use Rattle.lists.proofs.Tests.{or-neither}
@@ -35,8 +36,8 @@ pub record Clear (conds : List (Bool × ℕ)) : Type 0 where
 
 -- an input of which none of them holds
 pub record Sound (size w h ring window radius : ℕ) : Type 0 where
-  pub wide : w ≤ 4096
-  pub high : h ≤ 4096
+  pub wide : w ≤ largestSide
+  pub high : h ≤ largestSide
   pub whole : size ≡ w * h
   pub ring-is : isRing ring ≡ true
   pub in-window : window ≤ 16
@@ -68,7 +69,14 @@ module _ (size w h ring window radius : ℕ) where
       let in-window = le-ltb 16 window (k .in-window) in
       let in-radius = le-ltb 16 radius (k .in-radius) in
       clear
-      (rw (le-ltb 4096 w (k .wide), le-ltb 4096 h (k .high), eq-eqb size (w * h) (k .whole), k .ring-is, in-window, in-radius))
+      (rw (
+        le-ltb largestSide w (k .wide),
+        le-ltb largestSide h (k .high),
+        eq-eqb size (w * h) (k .whole),
+        k .ring-is,
+        in-window,
+        in-radius,
+      ))
 
 -- so its map can be searched
 pub searchable : (m : List Float) (exact : Bool) (w h ring : ℕ) (t : Float) (window least radius : ℕ)
@@ -119,7 +127,8 @@ values-are (suc k) n ties = refl
 module _ (conds : List (Bool × ℕ)) (cs : List Corner) (ties held : ℕ) (b : Slices) where
   -- by the refusal's number
   pub found-by : (k : ℕ) → refusalOf conds (placesOf b) held (length cs) ≡ k → (answer : Peaks) (b′ : Slices)
-      → answer ≡ unless Refused k (Added (length cs) ties) → b′ ≡ resultOr k (placedCorners held cs b) b → PeaksAdded conds cs ties held b answer b′
+      → answer ≡ unless Refused k (Added (length cs) ties) → b′ ≡ resultOr k (placedCorners held cs b) b
+      → PeaksAdded conds cs ties held b answer b′
   found-by k e answer b′ p q = record {
     answer = p ∙ ap (λ (r : ℕ). unless Refused r (Added (length cs) ties)) (sym e);
     number = ap numberOf p ∙ number-is k (length cs) ties ∙ sym e;
@@ -185,8 +194,10 @@ module _ (conds : List (Bool × ℕ)) (clear : Clear conds) (cs : List Corner) (
     (answer : Peaks) (b′ : Slices) (f : PeaksAdded conds cs ties held b answer b′) where
   by-number : (k : ℕ) → refusalOf conds (placesOf b) held (length cs) ≡ k
       → (answer ≡ unless Refused k (Added (length cs) ties)) × (b′ ≡ resultOr k (placedCorners held cs b) b)
-  by-number k r =
-      (f .answer ∙ ap (λ (j : ℕ). unless Refused j (Added (length cs) ties)) r, f .buffer ∙ ap (λ (j : ℕ). resultOr j (placedCorners held cs b) b) r)
+  by-number k r = (
+    f .answer ∙ ap (λ (j : ℕ). unless Refused j (Added (length cs) ties)) r,
+    f .buffer ∙ ap (λ (j : ℕ). resultOr j (placedCorners held cs b) b) r,
+  )
 
   pub added-tells : (n t : ℕ) → answer ≡ Added n t → Fitted cs ties held b n t b′
   added-tells n t q =

@@ -5,6 +5,7 @@ use native.Mathlib.Omega.{arith}
 use mathlib.Core.List.{List}
 use lib.ListN.{length}
 use lib.Ieee.{Float}
+use Rattle.lists.specs.Limits.{largestSide, largestMap}
 use Rattle.detect.specs.declared.Search.{Search}
 use Rattle.detect.specs.Internal.{Inside}
 use Rattle.detect.specs.Internal.{place, Searchable}
@@ -15,8 +16,10 @@ module _ (m : List Float) (s : Search) (k : Searchable m s) (y : ℕ) (h : y < s
   row-in b l = omega (arith, k .size, mul-comm (s .w) (s .h), mul-le-mul-right (s .w) h, suc-mul y (s .w))
 
   -- and its first place, as a number
-  pub row-small : y * s .w ≤ 16777216
-  row-small = let l : y ≤ 4096 = omega (arith, k .high) in let e : y * s .w ≤ 4096 * 4096 = mul-le-mul l (k .wide) in omega arith
+  pub row-small : y * s .w ≤ largestMap
+  row-small = let l : y ≤ largestSide = omega (arith, k .high) in
+      let e : y * s .w ≤ largestSide * largestSide = mul-le-mul l (k .wide) in
+      omega arith
 
 -- a cell inside the border
 module _ (m : List Float) (s : Search) (k : Searchable m s) (x y : ℕ) (i : Inside (s .w) (s .h) (s .border) (place x y)) where
@@ -27,9 +30,9 @@ module _ (m : List Float) (s : Search) (k : Searchable m s) (x y : ℕ) (i : Ins
   cell-small = omega (arith, row-small m s k y (omega (arith, i .bottom)), i .right, k .wide)
 
 -- there are no more cells inside the border than a map of 4,096 by 4,096 has
-pub inside-few : (s : Search) → s .w ≤ 4096 → s .h ≤ 4096 → (s .w - 2 * s .border) * (s .h - 2 * s .border) ≤ 16777216
+pub inside-few : (s : Search) → s .w ≤ largestSide → s .h ≤ largestSide → (s .w - 2 * s .border) * (s .h - 2 * s .border) ≤ largestMap
 inside-few s wide high =
-    let a : s .w - 2 * s .border ≤ 4096 = omega arith in
-    let b : s .h - 2 * s .border ≤ 4096 = omega arith in
-    let e : (s .w - 2 * s .border) * (s .h - 2 * s .border) ≤ 4096 * 4096 = mul-le-mul a b in
+    let a : s .w - 2 * s .border ≤ largestSide = omega arith in
+    let b : s .h - 2 * s .border ≤ largestSide = omega arith in
+    let e : (s .w - 2 * s .border) * (s .h - 2 * s .border) ≤ largestSide * largestSide = mul-le-mul a b in
     omega arith

@@ -8,7 +8,7 @@ use mathlib.Core.List.{List, []}
 use lib.ListN.{length}
 use lib.Dec.{T, leb}
 use lib.Ieee.{Float, le, isNan}
-use borrow.Author.Tests.{not-true, leb-true}
+use borrow.Author.Tests.{not-true, leb-true, lt-leb}
 use Rattle.lists.specs.Places.{Place, block, keep, All}
 use Rattle.lists.proofs.Tests.{and-parts}
 use Rattle.lists.proofs.Places.{block-end, block-thin, keep-le, length-block}
@@ -31,6 +31,10 @@ module _ (v : CellTests) (w h r least : ℕ) (p : Place) where
   pub peak-beaten : not (beaten (v .larger) w h r p) ≡ false → false ≡ isPeak v w h r least p
   unfolding isPeak
   peak-beaten e = rw e (sym (and-false (v .above p)))
+
+  pub peak-few : leb least (positives (v .positive) w h r p) ≡ false → false ≡ isPeak v w h r least p
+  unfolding isPeak
+  peak-few e = rw (e, and-false (not (beaten (v .larger) w h r p)), and-false (v .above p))
 
   pub peak-counted : v .above p ≡ true → not (beaten (v .larger) w h r p) ≡ true
       → leb least (positives (v .positive) w h r p) ≡ isPeak v w h r least p
@@ -57,6 +61,12 @@ module _ (m : List Float) (s : Search) (p : Place) (u : Float) (e : u ≡ valueA
 
   pub cell-below : le u (s .threshold) ≡ true → false ≡ peakIn m s p
   cell-below l = peak-below (readIn m s) (s .w) (s .h) (s .window) (s .«least_neighbours») p (above-is true l)
+
+  pub cell-few : (n : ℕ) → n ≡ positives (positiveIn m (s .w)) (s .w) (s .h) (s .window) p → n < s .«least_neighbours»
+      → false ≡ peakIn m s p
+  cell-few n c l =
+      peak-few (readIn m s) (s .w) (s .h) (s .window) (s .«least_neighbours») p
+      (ap (leb (s .«least_neighbours»)) (sym c) ∙ lt-leb (s .«least_neighbours») n l)
 
   module _ (t : Bool) (top : t ≡ not (beaten (largerBy (s .exact) m (s .w)) (s .w) (s .h) (s .window) p)) where
     pub cell-beaten : t ≡ false → false ≡ peakIn m s p

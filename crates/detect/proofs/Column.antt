@@ -1,5 +1,5 @@
--- The definitions of RULES 26 on a map of 11 by 13 whose border of 5 leaves three cells, which hold 1, 2 and 3, and on a map of 10 by 13, which is no
--- wider than twice the border. By computation. Assumes nothing.
+-- The definitions of RULES 26 on a map of 11 by 13 whose border of 5 leaves three cells, which hold 1, 2 and 3, and on a map of 10 by 13,
+-- which is no wider than twice the border. By computation. Assumes nothing.
 use Prim.Native.Nat.{ℕ}
 use mathlib.Core.Path.{_≡_, refl}
 use mathlib.Core.List.{List, [], _∷_}
@@ -20,7 +20,8 @@ enough m w wanted = let s = searchOf w 13 5 zero 0 0 0 in valuesOf (enoughOf s w
 
 -- none to four wanted
 high : flatMap (enough column 11) (0 ∷ 1 ∷ 2 ∷ 3 ∷ 4 ∷ []) ≡ 1 ∷ 0 ∷ 1 ∷ 1 ∷ 1 ∷ 2 ∷ 1 ∷ 3 ∷ 0 ∷ 3 ∷ []
-unfolding column enoughOf rowsInside peakPlaces isPeak beaten positives window square counted range row rowsFrom block count lt le eq ofInt lift
+unfolding column enoughOf rowsInside peakPlaces isPeak beaten positives window square counted range row rowsFrom block count lt le
+    eq ofInt lift
 high = refl
 
 -- one or none of a map that is narrow, and high enough

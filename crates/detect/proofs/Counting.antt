@@ -83,7 +83,8 @@ module _ (conds : List (Bool × ℕ)) (m : List Float) (s : Search) (wanted : �
   }
 
   -- where none of the conditions holds, by the search with t
-  pub enough-found : lowest conds ≡ 0 → (t : Search) → t ≡ s → (r : Enough) → r ≡ enoughOf t wanted (peaksIn m t) → EnoughFound conds m s wanted r
+  pub enough-found : lowest conds ≡ 0 → (t : Search) → t ≡ s → (r : Enough) → r ≡ enoughOf t wanted (peaksIn m t)
+      → EnoughFound conds m s wanted r
   enough-found z t same r is =
       let e = is ∙ ap (λ (u : Search). enoughOf u wanted (peaksIn m u)) same in record {
         answer = e ∙ rw z;

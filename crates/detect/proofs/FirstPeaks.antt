@@ -13,12 +13,15 @@ use lib.Dec.{ltb}
 use lib.Ieee.{Float}
 use borrow.Author.Count as passed
 use borrow.Author.Tests.{lt-ltb, le-ltb}
+use Rattle.lists.specs.Limits.{largestSide, largestMap}
 use Rattle.lists.specs.Places.{Place}
 use Rattle.detect.specs.declared.Search.{Search}
 use Rattle.detect.specs.declared.searching.Spot.{Spot}
-use Rattle.detect.specs.Detect.{peaksIn}
+use Rattle.detect.specs.Detect.{readIn, peaksIn}
 use Rattle.detect.specs.Internal.{place, placeBehind, placeOf, spotOf, startOf, peaksFrom, Searchable, NextFound, Small, Numbered}
 use Rattle.detect.specs.Internal.{PeaksListed, Standing, NextListed}
+use Rattle.detect.proofs.Cells.{inside-few}
+use Rattle.detect.proofs.Choice.{peaks-at-most}
 use Rattle.detect.proofs.Scanning.{peaks-start, next-none, next-inside, next-first, found-past}
 use Rattle.detect.proofs.Ties.{few-at, neighbours-few}
 
@@ -53,7 +56,8 @@ pub numbered-here : (f : Spot) (y1 : ℕ) → Small f → f .y < y1 → Numbered
 numbered-here f y1 k i = record { here = λ _. spot-number f k; past = λ o. absurd (let no : ⊥ = omega arith in no) }
 
 -- a peak has a number of its own
-pub found-small : (m : List Float) (s : Search) → Searchable m s → (p : Place) (f : Spot) → NextFound m s p f → f .y < s .h - s .border → Small f
+pub found-small : (m : List Float) (s : Search) → Searchable m s → (p : Place) (f : Spot) → NextFound m s p f
+    → f .y < s .h - s .border → Small f
 found-small m s k p f a l =
     let i = next-inside m s p (placeOf f) (a .next) l in record {
       x = omega (arith, i .right, k .wide);
@@ -86,9 +90,11 @@ start-next s t i = ap (startOf s t) (add-one i)
 -- a number put at place n changes none before it
 start-set : (s : Search) (t : List ℕ) (n a i : ℕ) → i ≤ n → startOf s (set t n a) i ≡ startOf s t i
 start-set s t n a zero l = refl
-start-set s t n a (suc i) l = ap (λ (k : ℕ). placeBehind (placeOf (spotOf k))) (getD-set-other t n i a 0 (λ e. let no : ⊥ = omega arith in no))
+start-set s t n a (suc i) l =
+    ap (λ (k : ℕ). placeBehind (placeOf (spotOf k))) (getD-set-other t n i a 0 (λ e. let no : ⊥ = omega arith in no))
 
-module _ (m : List Float) (s : Search) (t : List ℕ) (n : ℕ) (p : Place) (q : Spot) (a : ℕ) (g : Listing m s t n p) (below : s .h ≤ 4096)
+module _ (m : List Float) (s : Search) (t : List ℕ) (n : ℕ) (p : Place) (q : Spot) (a : ℕ) (g : Listing m s t n p)
+    (below : s .h ≤ largestSide)
     (k : n < length t) (f : NextFound m s p q) (y1 : ℕ) (e : y1 ≡ s .h - s .border) (b : Numbered q y1 a) where
   by-number : NextFound m s p (spotOf a)
   by-number =
@@ -163,6 +169,12 @@ module _ (m : List Float) (s : Search) (t : List ℕ) (n i : ℕ) (p : Place) (a
   counting-fit l places held o =
       let all : held + length (peaksIn m s) ≤ places = omega (arith, a .sum, ap length (next-none m s p (placeOf q) (f .next .next) l)) in
       sym (le-ltb places (held + length (peaksIn m s)) all)
+
+-- there are no more than cells
+pub counting-few : (m : List Float) (s : Search) (t : List ℕ) (n i : ℕ) (p : Place) → Searchable m s → Counting m s t n i p → i ≤ largestMap
+counting-few m s t n i p k a =
+    let most = peaks-at-most (readIn m s) (s .w) (s .h) (s .border) (s .window) (s .«least_neighbours») in
+    omega (arith, a .sum, most, inside-few s (k .wide) (k .high))
 
 pub counting-many : (m : List Float) (s : Search) (t : List ℕ) (n i : ℕ) (p : Place) → Counting m s t n i p
     → (places held : ℕ) → places < held + i → true ≡ ltb places (held + length (peaksIn m s))

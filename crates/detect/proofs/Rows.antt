@@ -1,9 +1,9 @@
 -- Cells at or below the threshold, at the front of a list and along a row of a map: a search may pass over them. Assumes nothing.
-use Prim.Native.Nat.{ℕ, _+_, _-_, _*_, _<_, _≤_}
+use Prim.Native.Nat.{ℕ, _+_, _-_, _*_, _<_, _≤_, max}
 use native.Mathlib.Omega.{arith}
 use native.Mathlib.Decide.{decLt}
 use mathlib.Core.Path.{_≡_, refl, sym, ap, _∙_}
-use mathlib.Core.Bool.{true, false, not}
+use mathlib.Core.Bool.{Bool, true, false, not, cond}
 use mathlib.Core.List.{List}
 use lib.ListN.{length, getD, take, drop, length-take, length-drop}
 use lib.Seq.{getD-take, getD-drop}
@@ -50,6 +50,55 @@ module _ (cells : List Float) (t : Float) where
                 ∙ ap (λ (x : Float). le x t) (sym (part-at cells i e (k - i) (omega arith)))
                 ∙ count-every (isLow t) (take (e - i) (drop i cells)) (k - i) nan (sym p ∙ q ∙ sym long) (rw long (omega arith))
           ]
+
+  -- the front of the part behind those
+  pub below-on : (i e n : ℕ) → Below cells t i → Below (take (e - i) (drop i cells)) t n → Below cells t (i + n)
+  below-on i e n b p = record { within = omega (arith, long); below = at }
+    where
+      long : n ≤ length cells - i × (n ≤ e - i)
+      long = let w = simp (length-take, length-drop) at (p .within) in (omega arith, omega arith)
+
+      at : (k : ℕ) → k < i + n → le (getD cells k nan) t ≡ true
+      at k l =
+          elim (decLt k i) [
+            | yes o ↦ b .below k o
+            | no o ↦
+                let z : i + (k - i) ≡ k = omega arith in
+                ap (λ (j : ℕ). le (getD cells j nan) t) (sym z)
+                ∙ ap (λ (x : Float). le x t) (sym (part-at cells i e (k - i) (omega (arith, long))))
+                ∙ p .below (k - i) (omega arith)
+          ]
+
+  -- of 16 cells, the first i that have a weight above g are at or below t
+  pub record Weighed (i g : ℕ) : Type 0 where
+    pub most : g ≤ 16
+    pub lighter : (j : ℕ) → j < i → g < 16 - j → le (getD cells j nan) t ≡ true
+
+  pub weighed-none : Weighed 0 0
+  weighed-none = record { most = omega arith; lighter = λ j l. absurd (let no : ⊥ = omega arith in no) }
+
+  pub weighed-next : (i g : ℕ) → Weighed i g → i < 16 → (w : ℕ) → w ≡ cond (le (getD cells i nan) t) 0 (16 - i) → Weighed (i + 1) (max g w)
+  weighed-next i g a h w e = record { most = omega (arith, a .most, light (le (getD cells i nan) t) e); lighter = at }
+    where
+      light : (b : Bool) → w ≡ cond b 0 (16 - i) → w ≤ 16
+      light true e = omega arith
+      light false e = omega arith
+
+      here : (b : Bool) → w ≡ cond b 0 (16 - i) → max g w < 16 - i → b ≡ true
+      here true e l = refl
+      here false e l = absurd (let no : ⊥ = omega arith in no)
+
+      at : (j : ℕ) → j < i + 1 → max g w < 16 - j → le (getD cells j nan) t ≡ true
+      at j l m =
+          elim (decLt j i) [
+            | yes o ↦ a .lighter j o (omega arith)
+            | no o ↦
+                let z : i ≡ j = omega arith in
+                ap (λ (k : ℕ). le (getD cells k nan) t) (sym z) ∙ here (le (getD cells i nan) t) e (omega arith)
+          ]
+
+  pub weighed-all : (i g : ℕ) → Weighed i g → 16 ≤ i → length cells ≡ 16 → Below cells t (16 - g)
+  weighed-all i g a h e = record { within = omega arith; below = λ k l. a .lighter k (omega arith) (omega arith) }
 
 -- ---- along a row
 module _ (m : List Float) (s : Search) (x y : ℕ) where

@@ -1,5 +1,5 @@
--- The definitions on a small map: equal cells do not beat each other and are ties, the window is clipped, neighbours count from `least` on, a NaN
--- cell is above every threshold, and nothing is above +infinity. By computation. Assumes nothing.
+-- The definitions on a small map: equal cells do not beat each other and are ties, the window is clipped, neighbours count from `least` on,
+-- a NaN cell is above every threshold, and nothing is above +infinity. By computation. Assumes nothing.
 use Prim.Native.Nat.{ℕ, _+_, _*_}
 use mathlib.Core.Path.{_≡_, refl}
 use mathlib.Core.Bool.{false}

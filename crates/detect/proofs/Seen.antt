@@ -3,66 +3,33 @@ use Prim.Native.Nat.{ℕ, zero, suc, _+_, _-_, _*_, _<_, _≤_}
 use native.Mathlib.Omega.{arith}
 use native.Mathlib.Decide.{decLt}
 use mathlib.Core.Path.{_≡_, refl, sym, ap, ap₂, subst, _∙_}
-use mathlib.Core.Bool.{Bool, true, not, _&&_, _||_}
+use mathlib.Core.Bool.{Bool, true}
 use mathlib.Core.List.{List, [], _∷_, _++_}
 use lib.ListN.{length, getD, take, drop, length-append, take-append-drop}
 use lib.Seq.{drop-cons, drop-append-le, drop-append-add}
 use lib.Dec.{leb}
-use lib.Ieee.{Float, lt}
+use lib.Ieee.{Float}
 use borrow.Author.Tests.{le-leb, lt-leb}
-use Rattle.lists.specs.Places.{Place, block, any, keep, count, All}
+use Rattle.lists.specs.Places.{Place, block, keep, All}
 use Rattle.lists.proofs.Members.{all-map, all-right, all-keep, all-block, keep-alike}
 use Rattle.lists.proofs.Places.{keep-append}
 use Rattle.lists.proofs.Parts.{block-split}
-use Rattle.float32.specs.Float32 as float32
 use Rattle.detect.specs.declared.Search.{Search}
 use Rattle.detect.specs.declared.enough.Enough.the-variants.{Yes}
-use Rattle.detect.specs.Peaks.{window, beaten, positives, isPeak, peakPlaces, valueAt, beats, largerBy, positiveIn, isLow}
+use Rattle.detect.specs.Peaks.{peakPlaces}
 use Rattle.detect.specs.Internal.{Inside}
 use Rattle.detect.specs.Detect.{readIn, peakIn, peaksIn}
 use Rattle.detect.specs.Enough.{rowsInside, rowsTo, rowsFor, answerOf, enoughOf, SameNear}
 use Rattle.detect.specs.Internal.{place}
-use Rattle.detect.proofs.Window.{window-near}
 use Rattle.detect.proofs.Choice.{peaks-are}
+use Rattle.detect.proofs.Nearby.{peak-alike}
 
 -- ---- lists
-
--- tests that agree
-any-alike : {A : Type 0} (f g : A → Bool) (l : List A) → All (λ a. f a ≡ g a) l → any f l ≡ any g l
-any-alike f g [] h = refl
-any-alike f g (a ∷ l) h = ap₂ (λ (b c : Bool). b || c) (h .0) (any-alike f g l (h .1))
 
 -- the first behind n members
 all-next : {A : Type 0} (P : A → Type 0) (l : List A) (n : ℕ) (a : A) (t : List A) → All P l → drop n l ≡ a ∷ t → P a
 all-next P l n a t h e =
     subst (All P) e (all-right P (take n l) (drop n l) (subst (All P) (sym (take-append-drop n l)) h)) .0
-
--- ---- a cell by the cells in the rows about its own
-module _ (m m′ : List Float) (s : Search) (p : Place) (px : p .x < s .w)
-    (same : (q : Place) → q .x < s .w → p .y ≤ q .y + s .window → q .y ≤ p .y + s .window → valueAt m (s .w) q ≡ valueAt m′ (s .w) q) where
-  here : valueAt m (s .w) p ≡ valueAt m′ (s .w) p
-  here = same p px (omega arith) (omega arith)
-
-  beaten-alike : beaten (largerBy (s .exact) m (s .w)) (s .w) (s .h) (s .window) p ≡ beaten (largerBy (s .exact) m′ (s .w)) (s .w) (s .h) (s .window) p
-  unfolding beaten
-  beaten-alike =
-      any-alike (λ q. largerBy (s .exact) m (s .w) q p) (λ q. largerBy (s .exact) m′ (s .w) q p) (window (s .w) (s .h) (s .window) p)
-      (window-near (λ q. largerBy (s .exact) m (s .w) q p ≡ largerBy (s .exact) m′ (s .w) q p) (s .w) (s .h) (s .window) p
-      (λ q i j a b. ap₂ (beats (s .exact)) here (same q i a b)))
-
-  positives-alike : positives (positiveIn m (s .w)) (s .w) (s .h) (s .window) p ≡ positives (positiveIn m′ (s .w)) (s .w) (s .h) (s .window) p
-  unfolding positives count
-  positives-alike =
-      ap length
-      (keep-alike (positiveIn m (s .w)) (positiveIn m′ (s .w)) (window (s .w) (s .h) (s .window) p)
-      (window-near (λ q. positiveIn m (s .w) q ≡ positiveIn m′ (s .w) q) (s .w) (s .h) (s .window) p
-      (λ q i j a b. ap (lt float32.zero) (same q i a b))))
-
-  peak-alike : peakIn m s p ≡ peakIn m′ s p
-  unfolding isPeak
-  peak-alike =
-      ap₂ (λ (b c : Bool). b && c) (ap (λ (v : Float). not (isLow (s .threshold) v)) here)
-      (ap₂ (λ (b : Bool) (n : ℕ). not b && leb (s .«least_neighbours») n) beaten-alike positives-alike)
 
 -- ---- the peaks of a map above row y, and those from it on
 module _ (s : Search) where
@@ -131,8 +98,8 @@ module _ (m m′ : List Float) (s : Search) where
       (all-block (λ p. peakIn m s p ≡ peakIn m′ s p) (s .border) (right s) (s .border) y
       (λ x v a b c d.
       let l = f x v a b d in
-      peak-alike m m′ s (place x v) (omega arith)
-      (λ q i o u. same (q .x) (q .y) (v - s .border) (omega arith) i (omega arith) (omega arith))))
+      peak-alike m m′ s (place x v)
+      (λ q i n. same (q .x) (q .y) (v - s .border) (omega arith) i (omega (arith, n .above)) (omega (arith, n .below))) (omega arith)))
 
   same-after : (k : ℕ) (l : List Place) → drop k (peaksIn m s) ≡ l → SameNear s (rowsTo s l) m m′
       → enoughOf s (suc k) (peaksIn m s) ≡ enoughOf s (suc k) (peaksIn m′ s)
@@ -148,7 +115,8 @@ module _ (m m′ : List Float) (s : Search) where
       let by = enough-upper s q (upper s y m) in
       ap (enoughOf s (suc k)) (two m) ∙ by (lower s y m) k has
       ∙ sym
-      (ap (enoughOf s (suc k)) (two m′ ∙ ap (λ (u : List Place). u ++ lower s y m′) (sym (near-same (q .y - s .border + 1) y same (λ x v a b d. d))))
+      (ap (enoughOf s (suc k)) (two m′
+      ∙ ap (λ (u : List Place). u ++ lower s y m′) (sym (near-same (q .y - s .border + 1) y same (λ x v a b d. d))))
       ∙ by (lower s y m′) k has)
 
   pub same-answer : (wanted : ℕ) → SameNear s (rowsFor s wanted (peaksIn m s)) m m′

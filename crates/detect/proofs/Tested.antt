@@ -6,7 +6,7 @@ use mathlib.Core.List.{List}
 use lib.Dec.{leb}
 use lib.ListN.{getD}
 use lib.Ieee.{Float, le}
-use borrow.Author.Tests.{le-leb, lt-leb, not-true, not-false}
+use borrow.Author.Tests.{le-leb, not-true, not-false}
 use Rattle.lists.specs.Places.{Place}
 use Rattle.lists.proofs.Tests.{is-false, and-parts}
 use Rattle.lists.proofs.Members.{Implies, any-more, all-of}
@@ -15,10 +15,11 @@ use Rattle.detect.specs.declared.WindowTest.{WindowTest}
 use Rattle.detect.specs.declared.WindowTest.the-variants.{Beaten, Top}
 use Rattle.detect.specs.declared.searching.PeakTest.{PeakTest}
 use Rattle.detect.specs.declared.searching.PeakTest.the-variants.{No, Peak}
-use Rattle.detect.specs.Peaks.{valueAt, window, largerIn, largerBy, positiveIn, beaten, equals, equalIn, windowTest, tiesOf, positives}
+use Rattle.detect.specs.Peaks.{valueAt, window, largerIn, largerBy, positiveIn, beaten, equals, equalIn, windowTest, tiesOf}
+use Rattle.detect.specs.Peaks.{positives}
 use Rattle.detect.specs.Detect.{peakIn, neighboursAt, testAt, tiesAt}
 use Rattle.detect.specs.Internal.{peakTest, valuesOf}
-use Rattle.detect.proofs.Choice.{cell-below, cell-beaten, cell-counted}
+use Rattle.detect.proofs.Choice.{cell-below, cell-few, cell-beaten, cell-counted}
 
 abbrev isTop : WindowTest → Bool
 isTop Beaten = false
@@ -56,7 +57,8 @@ module _ (m : List Float) (s : Search) (p : Place) where
       is-false (lost true)
       (λ t. false≢true
       (sym e ∙ any-more (λ q. largerBy true m (s .w) q p) (λ q. largerIn m (s .w) q p) (window (s .w) (s .h) (s .window) p)
-      (all-of (Implies (λ q. largerBy true m (s .w) q p) (λ q. largerIn m (s .w) q p)) (λ q g. and-parts _ _ g .0) (window (s .w) (s .h) (s .window) p)) t))
+      (all-of (Implies (λ q. largerBy true m (s .w) q p) (λ q. largerIn m (s .w) q p)) (λ q g. and-parts _ _ g .0)
+      (window (s .w) (s .h) (s .window) p)) t))
 
   -- beaten, by the window test and where that is asked by exact values
   pub lost-not : (t : WindowTest) → t ≡ testAt m s p → (n : ℕ) → t ≡ Top n → false ≡ lost (s .exact)
@@ -82,16 +84,18 @@ module _ (m : List Float) (s : Search) (p : Place) where
     pub tested-beaten : (b : Bool) → b ≡ lost (s .exact) → b ≡ true → No ≡ peakTest m s p
     tested-beaten b told is = tested-no (cell-beaten m s p u e (not b) (ap not told) (ap not is))
 
-    module _ (l : le u (s .threshold) ≡ false) (b : Bool) (told : b ≡ lost (s .exact)) (is : b ≡ false) (k : ℕ) (tied : k ≡ tiesAt m s p)
-        (n : ℕ) (c : n ≡ positives (positiveIn m (s .w)) (s .w) (s .h) (s .window) p) where
-      enough : leb (s .«least_neighbours») n ≡ peakIn m s p
-      enough = cell-counted m s p u e (not b) (ap not told) l (ap not is) n c
+    pub tested-lost : lost (s .exact) ≡ true → No ≡ peakTest m s p
+    tested-lost is = tested-beaten (lost (s .exact)) refl is
 
+    module _ (n : ℕ) (c : n ≡ neighboursAt m s p) where
       pub tested-few : n < s .«least_neighbours» → No ≡ peakTest m s p
-      tested-few o = tested-no (sym (lt-leb (s .«least_neighbours») n o) ∙ enough)
+      tested-few o = tested-no (cell-few m s p u e n c o)
 
-      pub tested-peak : s .«least_neighbours» ≤ n → Peak n k ≡ peakTest m s p
-      tested-peak o = rw (← (sym (le-leb (s .«least_neighbours») n o) ∙ enough)) (ap₂ Peak c tied)
+      pub tested-peak : le u (s .threshold) ≡ false → s .«least_neighbours» ≤ n → (b : Bool) → b ≡ lost (s .exact) → b ≡ false
+          → (k : ℕ) → k ≡ tiesAt m s p → Peak n k ≡ peakTest m s p
+      tested-peak l o b told is k tied =
+          let enough = cell-counted m s p u e (not b) (ap not told) l (ap not is) n c in
+          rw (← (sym (le-leb (s .«least_neighbours») n o) ∙ enough)) (ap₂ Peak c tied)
 
   -- ---- what the answer says
   module _ (t : PeakTest) (told : t ≡ peakTest m s p) where

@@ -34,10 +34,12 @@ below-all m e h = omega (arith, ltb-false (2041 * 1 * down e) (m * up e * 1) (or
 product : (m : ℕ) (e : ℤ) → fits binary32 (fin false m e) ≡ true → m * up e ≤ 2041 * down e
     → IsValue (mul binary64 five (fin false m e)) (5 * (m * up e)) (5 * 0) (down e)
 product m (pos k) f l =
-    scale-exact binary64 five (fin false m (pos k)) 5 (m * 2 ^ k) 0 0 (record { is-finite = tt; equal = refl }) (approx.own (fin false m (pos k)) tt)
+    scale-exact binary64 five (fin false m (pos k)) 5 (m * 2 ^ k) 0 0 (record { is-finite = tt; equal = refl })
+    (approx.own (fin false m (pos k)) tt)
     (record { under = omega (arith, l); over = omega arith; fine = lit≤ tt })
 product m (negsuc k) f l =
-    scale-exact binary64 five (fin false m (negsuc k)) 5 (m * 1) 0 (suc k) (record { is-finite = tt; equal = refl }) (approx.own (fin false m (negsuc k)) tt)
+    scale-exact binary64 five (fin false m (negsuc k)) 5 (m * 1) 0 (suc k) (record { is-finite = tt; equal = refl })
+    (approx.own (fin false m (negsuc k)) tt)
     (record {
       under = omega (arith, canonical.own false m (negsuc k) f .0);
       over = omega arith;
@@ -55,7 +57,8 @@ module _ (v : Float) (p c : ℕ) (C : 0 < c) (l : p ≤ 2041 * c) (is : IsValue 
 
   below-range : T (lt v (fin false 1 (pos 64)))
   below-range =
-      lt-value v (fin false 1 (pos 64)) (5 * p) (5 * 0) (2 ^ 64 * c) 0 c C is (record { is-finite = tt; equal = omega arith }) .1 (omega arith)
+      lt-value v (fin false 1 (pos 64)) (5 * p) (5 * 0) (2 ^ 64 * c) 0 c C is (record { is-finite = tt; equal = omega arith }) .1
+      (omega arith)
 
   cut : toUnsigned 64 v ≡ 5 * p / c
   cut =

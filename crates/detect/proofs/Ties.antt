@@ -1,18 +1,21 @@
 -- The window test by what led to its answer, and how many ties there can be: at most 1,089 of a peak. Assumes nothing.
 use Prim.Native.Nat.{ℕ, _*_, _≤_}
 use native.Mathlib.Omega.{arith}
-use mathlib.Core.Path.{_≡_, sym, ap, _∙_}
-use mathlib.Core.Bool.{Bool, true, false, not, cond}
+use mathlib.Core.Path.{_≡_, refl, sym, ap, _∙_}
+use mathlib.Core.Bool.{Bool, true, false, not, cond, _||_}
 use mathlib.Core.List.{List, [], _∷_}
 use lib.ListN.{length}
-use lib.Ieee.{Float}
+use lib.Ieee.{Float, lt, le, eq}
 use borrow.Author.Tests.{not-true, not-false}
-use Rattle.lists.specs.Places.{Place, sumOf}
+use Rattle.lists.specs.Places.{Place, any, keep, count, sumOf}
+use Rattle.lists.proofs.Tests.{or-right}
+use Rattle.lists.proofs.Members.{Implies, keep-fewer, all-of}
 use Rattle.detect.specs.declared.Search.{Search}
 use Rattle.detect.specs.declared.WindowTest.the-variants.{Beaten, Top}
-use Rattle.detect.specs.Peaks.{largerIn, equalIn, beaten, equals, windowTest, tiesOf, positiveIn, positives}
+use Rattle.detect.specs.declared.neighbors.Asked.the-variants.{AtLeast}
+use Rattle.detect.specs.Peaks.{window, valueAt, largerIn, equalIn, beaten, equals, windowTest, tiesOf, positiveIn, positives}
 use Rattle.detect.specs.Detect.{readIn, peaksIn, neighboursAt, testAt, tiesAt, tiesIn}
-use Rattle.detect.specs.Internal.{Searchable}
+use Rattle.detect.specs.Internal.{Searchable, countedAt}
 use Rattle.detect.proofs.Cells.{inside-few}
 use Rattle.detect.proofs.Choice.{peaks-at-most}
 use Rattle.detect.proofs.Window.{window-few}
@@ -30,6 +33,54 @@ module _ (m : List Float) (s : Search) (p : Place) (t : Bool)
   pub test-beaten : t ≡ false → Beaten ≡ testAt m s p
   unfolding windowTest
   test-beaten q = rw (not-false lost (sym top ∙ q))
+
+-- ---- where no other cell of the window is at least as large, none is larger and none equals it
+
+none-counted : {A : Type 0} (g : A → Bool) (l : List A) → count g l ≡ 0 → any g l ≡ false
+unfolding count
+none-counted g [] e = refl
+none-counted g (a ∷ l) e = pick (g a) (none-counted g l) e
+  where
+    pick : (b : Bool) → (length (keep g l) ≡ 0 → any g l ≡ false) → length (cond b (a ∷ keep g l) (keep g l)) ≡ 0 → (b || any g l) ≡ false
+    pick true r e = absurd (let no : ⊥ = omega arith in no)
+    pick false r e = r e
+
+lt-le : (v u : Float) → lt v u ≡ true → le v u ≡ true
+unfolding le
+lt-le v u e = rw e
+
+eq-le : (v u : Float) → eq v u ≡ true → le v u ≡ true
+unfolding le
+eq-le v u e = rw e (or-right (lt v u))
+
+module _ (m : List Float) (s : Search) (p : Place) (alone : countedAt m s p AtLeast (valueAt m (s .w) p) ≡ 0) where
+  -- no cell passes a test that only cells pass which are at least as large
+  none-pass : (g : Float → Float → Bool) → ((u : Float) → g (valueAt m (s .w) p) u ≡ true → le (valueAt m (s .w) p) u ≡ true)
+      → count (λ q. g (valueAt m (s .w) p) (valueAt m (s .w) q)) (window (s .w) (s .h) (s .window) p) ≡ 0
+  unfolding count
+  none-pass g more =
+      let here = valueAt m (s .w) p in
+      let cells = window (s .w) (s .h) (s .window) p in
+      let f : Place → Bool = λ q. g here (valueAt m (s .w) q) in
+      let f′ : Place → Bool = λ q. le here (valueAt m (s .w) q) in
+      omega (arith, alone, keep-fewer f f′ cells (all-of (Implies f f′) (λ q. more (valueAt m (s .w) q)) cells))
+
+  none-larger : beaten (largerIn m (s .w)) (s .w) (s .h) (s .window) p ≡ false
+  unfolding beaten
+  none-larger =
+      none-counted (λ q. largerIn m (s .w) q p) (window (s .w) (s .h) (s .window) p) (none-pass lt (lt-le (valueAt m (s .w) p)))
+
+  none-equal : equals (equalIn m (s .w)) (s .w) (s .h) (s .window) p ≡ 0
+  unfolding equals
+  none-equal = none-pass eq (eq-le (valueAt m (s .w) p))
+
+  test-sole : Top 0 ≡ testAt m s p
+  unfolding windowTest
+  test-sole = rw (none-larger, none-equal)
+
+pub test-alone : (m : List Float) (s : Search) (p : Place) (v : Float) → v ≡ valueAt m (s .w) p
+    → (n : ℕ) → n ≡ countedAt m s p AtLeast v → n ≡ 0 → Top 0 ≡ testAt m s p
+test-alone m s p v e n told none = test-sole m s p (ap (countedAt m s p AtLeast) (sym e) ∙ sym told ∙ none)
 
 -- ---- how many there can be
 module _ (m : List Float) (s : Search) (k : Searchable m s) where

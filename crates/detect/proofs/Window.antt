@@ -38,20 +38,30 @@ same-other u v p n = pick (eqb u (p .x)) (eqb v (p .y)) refl refl
     pick true false e f = refl
     pick false b e f = refl
 
--- ---- a fact of each cell of a map that is no further than r rows from p's is one of each cell of a window
-pub window-near : (P : Place → Type 0) (w h r : ℕ) (p : Place)
-    → ((q : Place) → q .x < w → q .y < h → p .y ≤ q .y + r → q .y ≤ p .y + r → P q) → All P (window w h r p)
+-- ---- a fact of each cell of a map that is near p is one of each cell of a window
+
+-- q lies no further than r columns and r rows from p
+pub record Near (r : ℕ) (p q : Place) : Type 0 where
+  pub left : p .x ≤ q .x + r
+  pub right : q .x ≤ p .x + r
+  pub above : p .y ≤ q .y + r
+  pub below : q .y ≤ p .y + r
+
+pub window-near : (P : Place → Type 0) (w h r : ℕ) (p : Place) → ((q : Place) → q .x < w → q .y < h → Near r p q → P q)
+    → All P (window w h r p)
 unfolding window square
 window-near P w h r p f =
     all-map (λ q. P q × (not (same q p) ≡ true)) P (λ q k. k .0) (window w h r p)
     (all-keep P (λ q. not (same q p)) (square w h r p)
     (all-block P (p .x - r) (min (p .x + r + 1) w) (p .y - r) (min (p .y + r + 1) h)
-    (λ x y a b c d. f (record { x = x; y = y }) (omega arith) (omega arith) (omega arith) (omega arith))))
+    (λ x y a b c d.
+    f (record { x = x; y = y }) (omega arith) (omega arith)
+    (record { left = omega arith; right = omega arith; above = omega arith; below = omega arith }))))
 
 -- a fact of each cell of a map
 pub window-in : (P : Place → Type 0) (w h r : ℕ) (p : Place) → ((q : Place) → q .x < w → q .y < h → P q)
     → All P (window w h r p)
-window-in P w h r p f = window-near P w h r p (λ q i j _ _. f q i j)
+window-in P w h r p f = window-near P w h r p (λ q i j _. f q i j)
 
 -- ---- at most 1,089 cells of a window pass a test, clipped or not
 pub window-few : (w h r : ℕ) (p : Place) (f : Place → Bool) → r ≤ 16 → count f (window w h r p) ≤ 1089

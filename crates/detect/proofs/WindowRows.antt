@@ -2,16 +2,19 @@
 -- equal to v; and how many ties there can be. Assumes nothing.
 use Prim.Native.Nat.{ℕ, _+_, _-_, _*_, _<_, _≤_}
 use native.Mathlib.Omega.{arith}
-use mathlib.Core.Path.{_≡_, sym, ap, _∙_}
+use mathlib.Core.Path.{_≡_, refl, sym, ap, _∙_}
 use mathlib.Core.Bool.{Bool, true, false, not, cond, _&&_}
 use mathlib.Core.List.{List}
 use lib.ListN.{length}
+use lib.Dec.{leb, eqb}
 use lib.Ieee.{Float, nan, binary32, add, lt, eq}
+use borrow.Author.Tests.{leb-true, eqb-true}
 use Rattle.lists.specs.Places.{Place, block, any, count}
 use Rattle.lists.proofs.Places.{count-block-le}
 use Rattle.lists.proofs.Rows.{rowPart, AnyRows, CountRows, any-found, any-next, any-nowhere, rows-next, rows-all}
+use Rattle.float32.specs.Float32.{zero}
 use Rattle.detect.specs.declared.Search.{Search}
-use Rattle.detect.specs.Peaks.{window, beaten, equals, valueAt, slack, beats, largerBy, equalIn}
+use Rattle.detect.specs.Peaks.{window, beaten, equals, positives, valueAt, slack, beats, largerBy, equalIn, positiveIn}
 use Rattle.detect.specs.Internal.{Inside}
 use Rattle.detect.specs.Internal.{place, Searchable}
 use Rattle.detect.proofs.Cells.{row-in}
@@ -89,22 +92,35 @@ module _ (m : List Float) (s : Search) (x y : ℕ) (v : Float) (k : Searchable m
         ∙ beaten-whole m (s .w) (s .h) (s .border) (s .window) (place x y) v (k .inside) i e b)
 
     module _ (f : Float → Bool) (n : ℕ) (a : Counted m s x y f n yy) where
-      count-all : n ≡ passing m s x y f + cond (f v) 1 0
+      pub count-all : n ≡ passing m s x y f + cond (f v) 1 0
       count-all =
           rows-all f m (s .w) nan (from s x) (past s x) (from s y) (past s y) n yy a l
           ∙ count-whole m (s .w) (s .h) (s .border) (s .window) (place x y) v (k .inside) i e f
 
-      -- the centre is taken off
-      pub centre-in : f v ≡ true → 1 ≤ n
-      centre-in q = omega (arith, rw q at count-all)
+  -- the cells above 0 are the centre's positive neighbours, and those that equal v its ties
+  pub positives-are : passing m s x y (lt zero) ≡ positives (positiveIn m (s .w)) (s .w) (s .h) (s .window) (place x y)
+  unfolding positives
+  positives-are = refl
 
-      pub centre-off : f v ≡ true → n - 1 ≡ passing m s x y f
-      centre-off q = omega (arith, rw q at count-all)
-
-      pub centre-not : f v ≡ false → n ≡ passing m s x y f
-      centre-not q = omega (arith, rw q at count-all)
-
-  -- the cells that equal v are the centre's ties
   pub equals-are : passing m s x y (eq v) ≡ equals (equalIn m (s .w)) (s .w) (s .h) (s .window) (place x y)
   unfolding equals
   equals-are = ap (λ (u : Float). passing m s x y (eq u)) e
+
+-- n cells of the square are counted, k of the window, and the centre where b holds: it is taken off
+module _ (n k : ℕ) (b : Bool) (e : n ≡ k + cond b 1 0) where
+  pub centre-in : b ≡ true → 1 ≤ n
+  centre-in q = omega (arith, rw q at e)
+
+  pub centre-off : b ≡ true → n - 1 ≡ k
+  centre-off q = omega (arith, rw q at e)
+
+  pub centre-not : b ≡ false → n ≡ k
+  centre-not q = omega (arith, rw q at e)
+
+-- and where it was: how few the others are
+module _ (n k : ℕ) (e : n ≡ k + 1) where
+  pub others-few : (l j : ℕ) → k ≡ j → leb n l ≡ true → j < l
+  others-few l j f g = omega (arith, e, f, leb-true n l g)
+
+  pub others-none : eqb n 1 ≡ true → k ≡ 0
+  others-none g = omega (arith, e, eqb-true n 1 g)

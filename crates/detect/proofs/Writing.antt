@@ -41,7 +41,8 @@ module _ (m : List Float) (s : Search) (t : List ℕ) (n held i ties : ℕ) (b�
   writing-all l =
       let none = next-none m s p (placeOf q) (f .next .next) l in
       let k = growing-all _ _ _ _ _ _ (a .growing) (ap (map (startAt m s)) none) in
-      found-added (startsIn m s) (tiesIn m s) held b₀ (a .growing .fits) i ties b (k .0) (omega (arith, a .tied, ap (sumOf (tiesAt m s)) none)) (k .1)
+      found-added (startsIn m s) (tiesIn m s) held b₀ (a .growing .fits) i ties b (k .0)
+      (omega (arith, a .tied, ap (sumOf (tiesAt m s)) none)) (k .1)
 
   module _ (l : q .y < s .h - s .border) where
     abbrev here : Place
@@ -57,7 +58,8 @@ module _ (m : List Float) (s : Search) (t : List ℕ) (n held i ties : ℕ) (b�
     pub writing-place : held + i < placesOf b₀
     writing-place =
         let g = a .growing in
-        rw (← same-places b b₀ (growing-xs _ _ _ _ _ _ g) (growing-ys _ _ _ _ _ _ g) (growing-strengths _ _ _ _ _ _ g) (growing-neighbours _ _ _ _ _ _ g))
+        rw (← same-places b b₀ (growing-xs _ _ _ _ _ _ g) (growing-ys _ _ _ _ _ _ g) (growing-strengths _ _ _ _ _ _ g)
+        (growing-neighbours _ _ _ _ _ _ g))
         (growing-fits _ _ _ _ _ _ g _ _ first)
 
     pub writing-less : length (peaksFrom m s (placeBehind here)) < length (peaksFrom m s p)

@@ -13,7 +13,8 @@ use Rattle.detect.specs.declared.Search.{Search}
 use Rattle.detect.specs.Peaks.{CellTests}
 use Rattle.detect.specs.Detect.{peaksBy}
 
--- k fifths are above a lifted threshold t = num t / den t, no NaN and not negative: as numbers, k > 5 t. Nothing is above +infinity
+-- k fifths are above a lifted threshold t = num t / den t, not NaN and not negative: as numbers, k > 5 t. Nothing is
+-- above +infinity
 unfoldable pub fifthsAbove : Float → ℤ → Bool
 fifthsAbove t (pos k) = finite t && ltb (5 * num t) (k * den t)
 fifthsAbove t (negsuc k) = false

@@ -1,16 +1,21 @@
--- What the private functions ask and promise: no public promise rests on it.
+-- What the private functions require and promise: no public promise depends on it.
 use Prim.Native.Nat.{ℕ, zero, suc, _+_, _-_, _*_, _/_, _%_, _<_, _≤_}
 use mathlib.Core.Path.{_≡_}
-use mathlib.Core.Bool.{true, cond}
+use mathlib.Core.Bool.{Bool, true, cond}
 use mathlib.Core.List.{List, [], _∷_, _++_}
 use lib.ListN.{length, getD}
 use lib.Dec.{ltb}
-use lib.Ieee.{Float, nan, le}
-use Rattle.lists.specs.Places.{Place, row, block, keep}
+use lib.Ieee.{Float, nan, lt, le, eq}
+use Rattle.lists.specs.Limits.{largestSide, largestBorder}
+use Rattle.lists.specs.Places.{Place, row, block, keep, count}
+use Rattle.float32.specs.Float32 as float32
 use Rattle.detect.specs.declared.Search.{Search}
 use Rattle.detect.specs.declared.searching.Spot.{Spot}
 use Rattle.detect.specs.declared.searching.PeakTest.{PeakTest}
 use Rattle.detect.specs.declared.searching.PeakTest.the-variants.{No, Peak}
+use Rattle.detect.specs.declared.neighbors.Asked.{Asked}
+use Rattle.detect.specs.declared.neighbors.Asked.the-variants.{Positive, AtLeast, Equal}
+use Rattle.detect.specs.Peaks.{window, valueAt}
 use Rattle.detect.specs.Detect.{peakIn, neighboursAt, tiesAt}
 
 -- column x of row y
@@ -27,11 +32,36 @@ pub record Inside (w h border : ℕ) (p : Place) : Type 0 where
 -- a map that can be searched with s
 pub record Searchable (m : List Float) (s : Search) : Type 0 where
   pub size : length m ≡ s .w * s .h
-  pub wide : s .w ≤ 4096
-  pub high : s .h ≤ 4096
+  pub wide : s .w ≤ largestSide
+  pub high : s .h ≤ largestSide
   pub radius : s .window ≤ 16
   pub inside : s .window ≤ s .border
-  pub narrow : s .border ≤ 42
+  pub narrow : s .border ≤ largestBorder
+
+-- ---- the window
+
+-- whether a cell of value u is counted for a centre of value v: it is above 0, it is at least v, or it equals v
+abbrev pub isCounted : Asked → Float → Float → Bool
+isCounted Positive v u = lt float32.zero u
+isCounted AtLeast v u = le v u
+isCounted Equal v u = eq v u
+
+-- how many cells of the window around p are counted
+abbrev pub countedAt : List Float → Search → Place → Asked → Float → ℕ
+countedAt m s p asked v = count (λ q. isCounted asked v (valueAt m (s .w) q)) (window (s .w) (s .h) (s .window) p)
+
+-- the search with a window of radius r
+abbrev pub withWindow : Search → ℕ → Search
+withWindow s r =
+    record {
+      w = s .w;
+      h = s .h;
+      border = s .border;
+      window = r;
+      threshold = s .threshold;
+      «least_neighbours» = s .«least_neighbours»;
+      exact = s .exact;
+    }
 
 -- ---- the search
 
@@ -48,7 +78,7 @@ abbrev pub valuesOf : PeakTest → List ℕ
 valuesOf No = []
 valuesOf (Peak n k) = n ∷ k ∷ []
 
--- the first n of the cells are at or below t
+-- the first n cells are at or below t
 pub record Below (cells : List Float) (t : Float) (n : ℕ) : Type 0 where
   pub within : n ≤ length cells
   pub below : (i : ℕ) → i < n → le (getD cells i nan) t ≡ true
@@ -66,18 +96,19 @@ peaksFrom m s p = keep (peakIn m s) (aheadIn s p)
 
 -- from any place of row y on, the next peaks are those of the rows below
 pub record LowRow (m : List Float) (s : Search) (y : ℕ) : Type 0 where
-  pub same-ahead : (x : ℕ) → s .border ≤ x → y < s .h - s .border → peaksFrom m s (place x y) ≡ peaksFrom m s (place (s .border) (y + 1))
+  pub same-ahead : (x : ℕ) → s .border ≤ x → y < s .h - s .border
+      → peaksFrom m s (place x y) ≡ peaksFrom m s (place (s .border) (y + 1))
 
--- and so in the rows from `low` to y
+-- and the same for the rows from `low` to y
 abbrev pub LowRows : List Float → Search → ℕ → ℕ → Type 0
 LowRows m s low y = (k : ℕ) → low ≤ k → k ≤ y → LowRow m s k
 
--- from p on, the places before q in its row are no peaks
+-- from p on, the places before q in its row are not peaks
 pub record Skipped (m : List Float) (s : Search) (p q : Place) : Type 0 where
   pub onward : p .x ≤ q .x
   pub same-ahead : peaksFrom m s p ≡ peaksFrom m s q
 
--- q is the first peak from p on, or lies past the last row inside the border where there is none
+-- q is the first peak from p on, or lies past the last row inside the border if there is none
 pub record NextPeak (m : List Float) (s : Search) (p q : Place) : Type 0 where
   pub same-ahead : peaksFrom m s p ≡ peaksFrom m s q
   pub is-peak : q .y < s .h - s .border → Inside (s .w) (s .h) (s .border) q × (peakIn m s q ≡ true)
@@ -86,44 +117,52 @@ pub record NextPeak (m : List Float) (s : Search) (p q : Place) : Type 0 where
 abbrev pub placeOf : Spot → Place
 placeOf f = place (f .x) (f .y)
 
--- what was counted of the peak that was found
+-- what was counted at the peak that was found
 pub record Counted (m : List Float) (s : Search) (f : Spot) : Type 0 where
   pub neighbours : f .neighbours ≡ neighboursAt m s (placeOf f)
   pub ties : f .ties ≡ tiesAt m s (placeOf f)
 
--- f is the first peak from p on, with what was counted of it, or lies past the last row
+-- f is the first peak from p on, with what was counted at it, or lies past the last row
 pub record NextFound (m : List Float) (s : Search) (p : Place) (f : Spot) : Type 0 where
   pub next : NextPeak m s p (placeOf f)
   pub counted : f .y < s .h - s .border → Counted m s f
 
 -- ---- a table of the first peaks
 
--- the place behind p in its row
+-- the place after p in its row
 abbrev pub placeBehind : Place → Place
 placeBehind p = place (p .x + 1) (p .y)
 
--- the peak that a number stands for: each count has 2,048 numbers, more than a window has cells, and a row 4,096 places, as many as the largest side
+-- the peak that a number encodes: each count has 2,048 numbers, more than a window has cells, and a row 4,096 places,
+-- as many as the largest side
 abbrev pub spotOf : ℕ → Spot
-spotOf a = record { x = a / 2048 / 2048 % 4096; y = a / 2048 / 2048 / 4096; neighbours = a / 2048 % 2048; ties = a % 2048 }
+spotOf a =
+    record {
+      x = a / 2048 / 2048 % largestSide;
+      y = a / 2048 / 2048 / largestSide;
+      neighbours = a / 2048 % 2048;
+      ties = a % 2048;
+    }
 
 -- f has a number of its own
 pub record Small (f : Spot) : Type 0 where
-  pub x : f .x < 4096
-  pub y : f .y < 4096
+  pub x : f .x < largestSide
+  pub y : f .y < largestSide
   pub neighbours : f .neighbours < 2048
   pub ties : f .ties < 2048
 
--- a is the number of f, or, from row y1 on, that of a place past the last row of any map
+-- a is the number of f or, from row y1 on, that of a place past the last row of any map
 pub record Numbered (f : Spot) (y1 a : ℕ) : Type 0 where
   pub here : f .y < y1 → spotOf a ≡ f
-  pub past : y1 ≤ f .y → 4096 ≤ spotOf a .y
+  pub past : y1 ≤ f .y → largestSide ≤ spotOf a .y
 
--- where the search for the peak at place i of a table begins: at the first place inside the border, or behind the peak before it
+-- where the search for the peak at place i of a table begins: at the first place inside the border, or after the peak
+-- before it
 abbrev pub startOf : Search → List ℕ → ℕ → Place
 startOf s t zero = place (s .border) (s .border)
 startOf s t (suc i) = placeBehind (placeOf (spotOf (getD t i 0)))
 
--- the first n of a table are the first n peaks; the last of them may lie past the last row, where no peak is left
+-- the first n entries of a table are the first n peaks; the last of them may lie past the last row, if no peak is left
 pub record PeaksListed (m : List Float) (s : Search) (t : List ℕ) (n : ℕ) : Type 0 where
   pub within : n ≤ length t
   pub each : (i : ℕ) → i < n → NextFound m s (startOf s t i) (spotOf (getD t i 0))

@@ -1,11 +1,13 @@
 // The corners that the peaks start as, added to a buffer if they fit.
 ghost use mathlib.Core.Path.{_≡_};
+ghost use mathlib.Core.Bool.{true};
 ghost use mathlib.Core.List.{[]};
 ghost use Prim.Native.Nat.{_+_, _-_, _*_, _≤_};
 ghost use lib.ListN.{length};
 ghost use lib.Dec.{ltb};
 ghost use lib.IntN.{pos};
 ghost use lib.Ieee.{ofInt, binary32};
+ghost use Rattle.lists.specs.Limits.{largestSide, largestBorder};
 ghost use Rattle.corner_list.specs.CornerList.{slices};
 ghost use Rattle.detect.specs.Internal.{Inside};
 ghost use Rattle.detect.specs.Detect.{peaksIn, startAt, startsIn, tiesIn, PeaksAdded};
@@ -13,14 +15,23 @@ ghost use Rattle.detect.specs.Internal.{placeOf, Searchable, Counted, Pe
 use crate::Peaks;
 use crate::Search;
 use crate::searching::Spot;
+use crate::searching::count_low;
 use crate::searching::value_at;
 use crate::table::list_peaks;
 use crate::table::peak_at;
 use corner_list::Corner;
 
+// The number of peaks that the small and the large table hold, and the least number of cells of a map that gets the
+// large one. For a smaller map, clearing the large table would take longer than the search.
+const FEW: usize = 512;
+
+const MANY: usize = 4096;
+
+const LARGE_MAP: usize = 65536;
+
 // A column or a row as a coordinate.
 fn coordinate(n: usize) -> f32
-    requires { ⌜ n ≤ 4096 ⌝ }
+    requires { ⌜ n ≤ largestSide ⌝ }
     ensures { λ v. ⌜ v ≡ ofInt binary32 (pos n) ⌝ }
 {
     n as f32
@@ -45,16 +56,59 @@ fn start_at(map: &[f32], s: Search, p: Spot) -> Corner
 
 // How many cells lie inside the border.
 fn cells_inside(s: Search) -> usize
-    requires { ⌜ (s .w ≤ 4096) × (s .h ≤ 4096) ⌝ }
-    requires { ⌜ s .border ≤ 42 ⌝ }
+    requires { ⌜ (s .w ≤ largestSide) × (s .h ≤ largestSide) ⌝ }
+    requires { ⌜ s .border ≤ largestBorder ⌝ }
     ensures { λ n. ⌜ n ≡ (s .w - 2 * s .border) * (s .h - 2 * s .border) ⌝ }
 {
     let b = 2 * s.border;
     numbers::minus(s.w, b) * numbers::minus(s.h, b)
 }
 
-// Whether the peaks are too many for a buffer of so many places, of which `held` are taken. They are counted only where there are
-// more cells that could be one.
+// How many cells inside the border are above the threshold or NaN: there are at most as many peaks.
+fn cells_above(map: &[f32], s: Search) -> usize
+    requires { ⌜ Searchable (now map) s ⌝ }
+    ensures { λ n. ⌜ length (peaksIn (now (map .entry)) s) ≤ n ⌝ }
+{
+    let w = s.w;
+    let x0 = s.border;
+    let x1 = numbers::minus(w, s.border);
+    let y1 = numbers::minus(s.h, s.border);
+    if x1 <= x0 {
+        return 0;
+    }
+    let mut n = 0;
+    let mut y = s.border;
+    while y < y1 {
+        let a = y * w + x0;
+        let e = y * w + x1;
+        n += x1 - x0 - count_low(&map[a..e], s.threshold) as usize;
+        y += 1;
+    }
+    n
+}
+
+// Whether at most `free` peaks are known to exist, without searching for them: because no more cells lie inside the
+// border, or no more of these are above the threshold. The cells above the threshold are counted only if all `places`
+// of the table are filled, so that more peaks may follow: counting takes less time than a second search. They are not
+// counted if the n peaks of the table are too many already.
+fn are_sure_to_fit(map: &[f32], s: Search, places: usize, n: usize, free: usize) -> bool
+    requires { ⌜ Searchable (now map) s ⌝ }
+    ensures { λ b. ⌜ (b ≡ true → length (peaksIn (now (map .entry)) s) ≤ free) ⌝ }
+{
+    if cells_inside(s) <= free {
+        return true;
+    }
+    if n < places {
+        return false;
+    }
+    if free < n {
+        return false;
+    }
+    cells_above(map, s) <= free
+}
+
+// Whether the peaks are too many for a buffer with `places` places, of which `held` are taken. They are counted only if
+// `are_sure_to_fit` does not know.
 fn are_too_many(map: &[f32], s: Search, table: &[u64], n: usize, places: usize, held: usize) -> bool
     requires { ⌜ Searchable (now map) s ⌝ }
     requires { ⌜ PeaksListed (now map) s (now table) n ⌝ }
@@ -64,7 +118,7 @@ fn are_too_many(map: &[f32], s: Search, table: &[u64], n: usize, places: usize, 
         return true;
     }
     let free = places - held;
-    if cells_inside(s) <= free {
+    if are_sure_to_fit(map, s, table.len(), n, free) {
         return false;
     }
     let y1 = numbers::minus(s.h, s.border);
@@ -83,8 +137,9 @@ fn are_too_many(map: &[f32], s: Search, table: &[u64], n: usize, places: usize, 
     true
 }
 
-// Adds the corners that the peaks start as to a buffer, behind the first `held`, and sums their ties. They are searched for once where the
-// table has a place for each; past its last place the search is done again to write them.
+// Adds the corners that the peaks start as to a buffer, after the first `held`, and sums their ties. The map is
+// searched once if the table has a place for each peak. Peaks that do not fit the table are searched for again to write
+// them.
 fn add_peaks(
     map: &[f32],
     s: Search,
@@ -123,7 +178,7 @@ fn add_peaks(
     }
 }
 
-// Adds them by a table of 4 KB.
+// The same with a table of 4 KB.
 fn add_few(
     map: &[f32],
     s: Search,
@@ -138,11 +193,11 @@ fn add_few(
         (slices (now (xs .entry)) (now (ys .entry)) (now (strengths .entry)) (now (neighbours .entry)))
         r (slices (now (xs .exit)) (now (ys .exit)) (now (strengths .exit)) (now (neighbours .exit))) ⌝ }
 {
-    let mut table = [0u64; 512];
+    let mut table = [0u64; FEW];
     add_peaks(map, s, &mut table, xs, ys, strengths, neighbours, held)
 }
 
-// Adds them by a table of 224 KB.
+// The same with a table of 32 KB.
 fn add_many(
     map: &[f32],
     s: Search,
@@ -157,13 +212,11 @@ fn add_many(
         (slices (now (xs .entry)) (now (ys .entry)) (now (strengths .entry)) (now (neighbours .entry)))
         r (slices (now (xs .exit)) (now (ys .exit)) (now (strengths .exit)) (now (neighbours .exit))) ⌝ }
 {
-    let mut table = [0u64; 28672];
+    let mut table = [0u64; MANY];
     add_peaks(map, s, &mut table, xs, ys, strengths, neighbours, held)
 }
 
-// Adds them by the smaller table in a map of fewer than 65,536 cells, and by the larger one else. A compiler leaves a function that calls itself,
-// and the functions with a table that it calls, apart: so a table takes stack only while it is used. For that alone it calls itself, with half
-// the cells, until none are left.
+// The same with the table that suits the size of the map.
 pub(crate) fn add_by_table(
     map: &[f32],
     s: Search,
@@ -172,18 +225,14 @@ pub(crate) fn add_by_table(
     strengths: &mut [f32],
     neighbours: &mut [u32],
     held: usize,
-    cells: usize,
 ) -> Peaks
     requires { ⌜ Searchable (now map) s ⌝ }
     ensures { λ r. ⌜ PeaksAdded [] (startsIn (now (map .entry)) s) (tiesIn (now (map .entry)) s) held
         (slices (now (xs .entry)) (now (ys .entry)) (now (strengths .entry)) (now (neighbours .entry)))
         r (slices (now (xs .exit)) (now (ys .exit)) (now (strengths .exit)) (now (neighbours .exit))) ⌝ }
 {
-    if cells == 0 {
+    if map.len() < LARGE_MAP {
         return add_few(map, s, xs, ys, strengths, neighbours, held);
-    }
-    if cells < 65536 {
-        return add_by_table(map, s, xs, ys, strengths, neighbours, held, cells / 2);
     }
     add_many(map, s, xs, ys, strengths, neighbours, held)
 }

@@ -1,23 +1,25 @@
-// Whether a map has enough peaks: it is searched in row order, and no further than the last peak that is wanted (RULES 26).
+// Whether a map has enough peaks (RULES 26): it is searched in row order, and no further than the last peak that is
+// needed.
 ghost use mathlib.Core.Path.{_≡_};
 ghost use Prim.Native.Nat.{_≤_};
 ghost use lib.ListN.{length};
+ghost use Rattle.lists.specs.Limits.{largestBorder};
 ghost use Rattle.detect.specs.Detect.{searchOf, peaksIn, conditions};
 ghost use Rattle.detect.specs.Enough.{rowsInside, enoughOf, EnoughFound};
 ghost use Rattle.detect.specs.Internal.{Searchable};
 use crate::Search;
 use crate::searching::next_peak;
 
-// The answer: whether there are as many as wanted, with the number of rows looked at, or the number of the refusal.
+// The answer: whether there are at least `wanted` peaks and how many rows were looked at, or the number of the refusal.
 pub enum Enough {
     Yes(usize),
     No(usize),
     Refused(u8),
 }
 
-// How many rows lie inside the border: none where a side is at most twice the border.
+// How many rows lie inside the border: none if a side is at most twice the border.
 fn rows_inside(s: Search) -> usize
-    requires { ⌜ s .border ≤ 42 ⌝ }
+    requires { ⌜ s .border ≤ largestBorder ⌝ }
     ensures { λ n. ⌜ n ≡ rowsInside s ⌝ }
 {
     let b = 2 * s.border;
@@ -27,7 +29,7 @@ fn rows_inside(s: Search) -> usize
     numbers::minus(s.h, b)
 }
 
-// Searches for so many peaks, one after the other, and ends with the last of them.
+// Searches for that many peaks, one after the other, and stops at the last of them.
 fn search_for(map: &[f32], s: Search, wanted: usize) -> Enough
     requires { ⌜ Searchable (now map) s ⌝ }
     ensures { λ r. ⌜ r ≡ enoughOf s wanted (peaksIn (now (map .entry)) s) ⌝ }
@@ -50,7 +52,7 @@ fn search_for(map: &[f32], s: Search, wanted: usize) -> Enough
     Enough::Yes(rows)
 }
 
-// Whether a map of w by h has at least `wanted` peaks, and how many rows inside the border were looked at to know it.
+// Whether a map of w by h has at least `wanted` peaks, and how many rows inside the border were looked at to find out.
 pub fn has_peaks(
     map: &[f32],
     w: usize,
@@ -62,7 +64,8 @@ pub fn has_peaks(
     refine_radius: u32,
     wanted: usize,
 ) -> Enough
-    ensures { λ r. ⌜ EnoughFound (conditions (length (now (map .entry))) w h ring window «refine_radius») (now (map .entry))
+    ensures { λ r. ⌜ EnoughFound (conditions (length (now (map .entry))) w h ring window «refine_radius»)
+        (now (map .entry))
         (searchOf w h ring threshold window «least_neighbours» «refine_radius») wanted r ⌝ }
 {
     let k = crate::refusal(map.len(), w, h, ring, window, refine_radius);

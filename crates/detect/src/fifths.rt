@@ -1,10 +1,12 @@
-// The threshold of the choice by exact values (RULES 34.3). Responses lie within 1/1024 of a fifth, so half a fifth above the last fifth that is not
-// above the threshold, rounded as it may be, parts those that are above it from the others.
+// The threshold of the choice by exact values (RULES 34.3). Every response is within 1/1024 of a multiple of 1/5. Half
+// a fifth above the last multiple that is not above the threshold, even when rounded, separates the responses above the
+// threshold from the others.
 ghost use mathlib.Core.Path.{_≡_};
 ghost use Rattle.float32.specs.Float32.{lift};
 ghost use Rattle.detect.specs.Fifths.{fifthsUnder, betweenFifths};
 
-// The fifths in a threshold, once it is lifted: five times it, cut off. The product is exact in f64, which has 29 digits more than f32.
+// The whole fifths in a lifted threshold: five times it, rounded down. The product is exact in f64, which has 29 binary
+// digits more than f32.
 fn fifths_under(threshold: f32) -> u64
     ensures { λ n. ⌜ n ≡ fifthsUnder (lift threshold) ⌝ }
 {
@@ -15,7 +17,7 @@ fn fifths_under(threshold: f32) -> u64
     std::num::truncating_f64_to_u64(5.0 * std::num::f32_to_f64_with_nan(t))
 }
 
-// The threshold with which responses are compared.
+// The threshold that responses are compared with.
 pub(crate) fn between_fifths(threshold: f32) -> f32
     ensures { λ t. ⌜ t ≡ betweenFifths (lift threshold) ⌝ }
 {

@@ -17,8 +17,9 @@ ghost use Rattle.lists.specs.Refusals.{lowest};
 ghost use Rattle.corner_list.specs.CornerList.{slices};
 ghost use Rattle.detect.specs.Detect.{searchBy, searchOf, startsIn, tiesIn, conditions, PeaksAdded};
 
-// What a map is searched with: its sides, the border that no peak lies in, the window's radius, the lifted threshold, the
-// least number of positive neighbours, and whether peaks are chosen by exact values. It is public because the promise speaks of it.
+// What a map is searched with: its sides, the border that no peak lies in, the window's radius, the lifted threshold,
+// the least number of positive neighbours, and whether peaks are chosen by exact values. Public because the promise
+// mentions it.
 pub struct Search {
     pub w: usize,
     pub h: usize,
@@ -29,7 +30,8 @@ pub struct Search {
     pub exact: bool,
 }
 
-// What the window about a cell says of it: one of its cells is larger, or none is and so many equal it. It is public for the same reason.
+// What the window around a cell says about the cell: one of the window's cells is larger, or none is and this many
+// equal it. Public because promises mention it.
 pub enum WindowTest {
     Beaten,
     Top(u32),
@@ -41,8 +43,8 @@ pub enum Peaks {
     Refused(u8),
 }
 
-// The number of the first condition on the input that holds, 0 for none: of a map or an image of `size` cells, w by h, and the parameters
-// that it is searched with.
+// The number of the first condition that refuses the input, 0 for none. The input is a map or an image of `size` cells,
+// w by h, and the parameters that it is searched with.
 pub fn refusal(size: usize, w: usize, h: usize, ring: u32, window: u32, refine_radius: u32) -> u8
     ensures { λ k. ⌜ k ≡ lowest (conditions size w h ring window «refine_radius») ⌝ }
 {
@@ -51,10 +53,14 @@ pub fn refusal(size: usize, w: usize, h: usize, ring: u32, window: u32, refine_r
         return no;
     }
     if ring::is_ring(ring) {
-        if 16 < window {
+        if lists::LARGEST_RADIUS < window {
             return 3;
         }
-        if 16 < refine_radius { 3 } else { 0 }
+        if lists::LARGEST_RADIUS < refine_radius {
+            3
+        } else {
+            0
+        }
     } else {
         3
     }
@@ -71,7 +77,7 @@ fn threshold_of(threshold: f32, exact: bool) -> f32
     }
 }
 
-// What a map is searched with, by the parameters.
+// What a map is searched with, from the parameters.
 fn search_of(
     w: usize,
     h: usize,
@@ -96,9 +102,9 @@ fn search_of(
     }
 }
 
-// Finds the peaks of a map of w by h, in row order, adds the corners that they start as to a buffer, behind the first `held`, and sums their ties.
-// With `exact` the peaks of a response map are those of its exact values (RULES 34). The table of the first peaks stands on the stack: 4 KB for a
-// map of fewer than 65,536 cells, 224 KB for a larger one.
+// Finds the peaks of a map of w by h, in row order, adds the corners that they start as to a buffer, after the first
+// `held`, and sums their ties. With `exact` the peaks of a response map are those of its exact values (RULES 34). The
+// table of the first peaks is on the stack: 4 KB for a map with fewer than 65,536 cells, 32 KB for a larger one.
 pub fn find_peaks(
     map: &[f32],
     w: usize,
@@ -135,10 +141,10 @@ pub fn find_peaks(
         refine_radius,
         exact,
     );
-    adding::add_by_table(map, s, xs, ys, strengths, neighbours, held, map.len())
+    adding::add_by_table(map, s, xs, ys, strengths, neighbours, held)
 }
 
-// The same by computed values.
+// The same, with peaks chosen by computed values.
 pub fn detect_peaks_from_response_with_refine_radius(
     map: &[f32],
     w: usize,

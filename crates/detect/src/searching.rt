@@ -1,19 +1,24 @@
-// The search for the next peak, in row order: cells at or below the threshold are passed over, several at a time.
+// The search for the next peak, in row order. Cells at or below the threshold are skipped, several at a time.
 ghost use mathlib.Core.Path.{_≡_};
-ghost use mathlib.Core.Bool.{true};
-ghost use Prim.Native.Nat.{_-_, _<_, _≤_};
+ghost use mathlib.Core.Bool.{true, cond};
+ghost use Prim.Native.Nat.{_-_, _<_, _≤_, max};
 ghost use lib.ListN.{length};
+ghost use Rattle.lists.specs.Limits.{largestSide};
 ghost use Rattle.lists.specs.Places.{count};
 ghost use Rattle.detect.specs.Peaks.{valueAt, isLow};
 ghost use Rattle.detect.specs.Internal.{Inside};
 ghost use Rattle.detect.specs.Internal.{place, peakTest, Searchable, Below, LowRow, LowRows, Skipped, NextFound};
 use crate::Search;
-use crate::neighbors::count_positive_neighbors;
+use crate::neighbors::Asked;
+use crate::neighbors::count_neighbors;
+use crate::neighbors::has_few;
 use crate::neighbors::is_beaten;
+use crate::neighbors::is_overtopped;
 use crate::neighbors::ties_of;
 use crate::neighbors::window_test;
 
-// What a search found: a place of the map, column x of row y, and how many positive neighbours and ties the peak there has.
+// What a search found: a place of the map, column x of row y, and how many positive neighbours and ties the peak there
+// has.
 pub(crate) struct Spot {
     pub(crate) x: usize,
     pub(crate) y: usize,
@@ -38,7 +43,9 @@ pub(crate) fn value_at(map: &[f32], s: Search, x: usize, y: usize) -> f32
     map[at]
 }
 
-// Whether the cell (x, y) is a peak, with its positive neighbours and ties: they are counted while its window is at hand.
+// Whether the cell (x, y) is a peak, with its positive neighbours and ties: they are counted while its window is in the
+// cache. The tests that drop most cells come first, to save time: in a photograph that is a larger cell next to it, in
+// noise too few positive neighbours.
 fn peak_test(map: &[f32], s: Search, x: usize, y: usize) -> PeakTest
     requires { ⌜ Searchable (now map) s ⌝ }
     requires { ⌜ Inside (s .w) (s .h) (s .border) (place x y) ⌝ }
@@ -48,12 +55,18 @@ fn peak_test(map: &[f32], s: Search, x: usize, y: usize) -> PeakTest
     if v <= s.threshold {
         return PeakTest::No;
     }
+    if is_overtopped(map, s, x, y, v) {
+        return PeakTest::No;
+    }
+    if has_few(map, s, x, y, v) {
+        return PeakTest::No;
+    }
     let t = window_test(map, s, x, y, v);
     if is_beaten(map, s, x, y, v, t) {
         return PeakTest::No;
     }
     let ties = ties_of(t);
-    let neighbours = count_positive_neighbors(map, s, x, y, v);
+    let neighbours = count_neighbors(map, s, x, y, Asked::Positive, v);
     if s.least_neighbours <= neighbours {
         PeakTest::Peak(neighbours, ties)
     } else {
@@ -61,9 +74,10 @@ fn peak_test(map: &[f32], s: Search, x: usize, y: usize) -> PeakTest
     }
 }
 
-// How many of the cells are at or below t. The loop has no other way out, so that a compiler compares several cells at a time.
-fn count_low(cells: &[f32], t: f32) -> u32
-    requires { ⌜ length (now cells) ≤ 4096 ⌝ }
+// How many of the cells are at or below t. The loop has no early exit, so that a compiler can compare several cells at
+// a time.
+pub(crate) fn count_low(cells: &[f32], t: f32) -> u32
+    requires { ⌜ length (now cells) ≤ largestSide ⌝ }
     ensures { λ n. ⌜ n ≡ count (isLow t) (now (cells .entry)) ⌝ }
 {
     let mut n: u32 = 0;
@@ -77,7 +91,7 @@ fn count_low(cells: &[f32], t: f32) -> u32
     n
 }
 
-// How many cells at the front are at or below t, by whole blocks of 16.
+// How many cells at the start are at or below t, counted in whole blocks of 16.
 fn blocks_below(cells: &[f32], t: f32) -> usize
     ensures { λ n. ⌜ Below (now (cells .entry)) t n ⌝ }
 {
@@ -92,7 +106,37 @@ fn blocks_below(cells: &[f32], t: f32) -> usize
     i
 }
 
-// Whether the first of the cells is above t. It is asked to save time: what follows from it holds without it too.
+// The weight of a cell of value u: 0 if u is at or below t, otherwise w.
+fn weight_of(u: f32, t: f32, w: u8) -> u8
+    ensures { λ r. ⌜ r ≡ cond (isLow t u) 0 w ⌝ }
+{
+    if u <= t { 0 } else { w }
+}
+
+// The greater of two weights.
+fn heavier(a: u8, b: u8) -> u8
+    ensures { λ r. ⌜ r ≡ max a b ⌝ }
+{
+    if a < b { b } else { a }
+}
+
+// How many of 16 cells come before the first that is not at or below t: that cell has the greatest weight. The loop has
+// no early exit, so that a compiler can compare several cells at a time and no branch has to be predicted.
+fn front_below(cells: &[f32], t: f32) -> usize
+    requires { ⌜ length (now cells) ≡ 16 ⌝ }
+    ensures { λ n. ⌜ Below (now (cells .entry)) t n ⌝ }
+{
+    let mut greatest: u8 = 0;
+    let mut i: u8 = 0;
+    while i < 16 {
+        let at = i as usize;
+        greatest = heavier(greatest, weight_of(cells[at], t, 16 - i));
+        i += 1;
+    }
+    (16 - greatest) as usize
+}
+
+// Whether the first of the cells is above t. A fast path; correctness does not depend on it.
 fn starts_above(cells: &[f32], t: f32) -> bool {
     if cells.len() == 0 {
         return false;
@@ -100,7 +144,7 @@ fn starts_above(cells: &[f32], t: f32) -> bool {
     t < cells[0]
 }
 
-// How many cells at the front are at or below t: all before the first that is not, which often is the first of all.
+// How many cells come before the first that is not at or below t. Often that is the very first cell.
 fn cells_below(cells: &[f32], t: f32) -> usize
     ensures { λ n. ⌜ Below (now (cells .entry)) t n ⌝ }
 {
@@ -108,6 +152,10 @@ fn cells_below(cells: &[f32], t: f32) -> usize
         return 0;
     }
     let mut n = blocks_below(cells, t);
+    if 16 <= cells.len() - n {
+        let e = n + 16;
+        return n + front_below(&cells[n..e], t);
+    }
     while n < cells.len() {
         if cells[n] <= t {
             n += 1;
@@ -118,8 +166,9 @@ fn cells_below(cells: &[f32], t: f32) -> usize
     n
 }
 
-// Whether the cells of row y inside the border are known to be at or below the threshold. Only wide maps are asked, where it pays, and only
-// rows that windows reach: each is asked when it is the last of a window, so that windows then find it in the cache.
+// True if the cells of row y inside the border are known to be at or below the threshold. Only rows of wide maps are
+// tested, where it pays, and only rows that windows reach. A row is tested when it becomes the last row of a window, so
+// that later windows find it in the cache.
 fn is_low_row(map: &[f32], s: Search, y: usize) -> bool
     requires { ⌜ Searchable (now map) s ⌝ }
     ensures { λ b. ⌜ (b ≡ true → LowRow (now (map .entry)) s y) ⌝ }
@@ -138,8 +187,8 @@ fn is_low_row(map: &[f32], s: Search, y: usize) -> bool
     (x1 - x0) as u32 <= count_low(&map[a..e], s.threshold)
 }
 
-// The first column from x on whose cell in row y may be a peak: cells at or below the threshold are passed over, up to the border. The rows from
-// `low` on have no others, up to row y at least.
+// The first column from x on whose cell in row y may be a peak: cells at or below the threshold are skipped, up to the
+// border. The rows from `low` up to y at least have only such cells.
 fn skip(map: &[f32], s: Search, x: usize, y: usize, low: usize) -> usize
     requires { ⌜ Searchable (now map) s ⌝ }
     requires { ⌜ y < s .h - s .border ⌝ }
@@ -160,7 +209,7 @@ fn skip(map: &[f32], s: Search, x: usize, y: usize, low: usize) -> usize
     x
 }
 
-// The first peak from (x, y) on, in row order; a place past the last row inside the border where there is none.
+// The first peak from (x, y) on, in row order; a place past the last row inside the border if there is none.
 pub(crate) fn next_peak(map: &[f32], s: Search, x: usize, y: usize) -> Spot
     requires { ⌜ Searchable (now map) s ⌝ }
     requires { ⌜ (s .border ≤ x) × (s .border ≤ y) ⌝ }

@@ -1,39 +1,53 @@
-// A table of the first peaks, each with its counts as one number, so that they are searched for once.
+// A table of the first peaks, so that they are searched for only once. Each peak with its counts is encoded as one
+// number.
 ghost use mathlib.Core.Path.{_≡_};
 ghost use Prim.Native.Nat.{_<_};
-ghost use Rattle.detect.specs.Internal.{place, spotOf, Searchable, Small, Numbered, PeaksListed, Standing, NextListed};
+ghost use Rattle.detect.specs.Internal.{place, spotOf, Searchable, Small, Numbered, PeaksListed, Standing};
+ghost use Rattle.detect.specs.Internal.{NextListed};
 use crate::Search;
 use crate::searching::Spot;
 use crate::searching::next_peak;
 
-// The peak that a number of a table stands for.
+// A count is below this number, which exceeds the number of cells of the largest window.
+const COUNTS: usize = 2048;
+
+const WIDE: u64 = COUNTS as u64;
+
+// A row has this many places: the largest side.
+const COLUMNS: u64 = lists::LARGEST_SIDE as u64;
+
+// The number that encodes a place past the last row of any map.
+const PAST: u64 = COLUMNS * COLUMNS * WIDE * WIDE;
+
+// The peak that a number in a table encodes.
 fn spot_of(a: u64) -> Spot
     ensures { λ p. ⌜ p ≡ spotOf a ⌝ }
 {
-    let b = a / 2048;
-    let at = b / 2048;
+    let b = a / WIDE;
+    let at = b / WIDE;
     Spot {
-        x: (at % 4096) as usize,
-        y: (at / 4096) as usize,
-        neighbours: (b % 2048) as u32,
-        ties: (a % 2048) as u32,
+        x: (at % COLUMNS) as usize,
+        y: (at / COLUMNS) as usize,
+        neighbours: (b % WIDE) as u32,
+        ties: (a % WIDE) as u32,
     }
 }
 
-// The number that stands for a peak in a table; from row y1 on, one for a place past the last row of any map.
+// The number that encodes a peak in a table. From row y1 on, it is the number for a place past the last row of any map.
 fn number_of(p: Spot, y1: usize) -> u64
     requires { ⌜ (p .y < y1 → Small p) ⌝ }
     ensures { λ a. ⌜ Numbered p y1 a ⌝ }
 {
     if p.y < y1 {
-        (((p.y * 4096 + p.x) * 2048) as u64 + p.neighbours as u64) * 2048 + p.ties as u64
+        (((p.y * lists::LARGEST_SIDE + p.x) * COUNTS) as u64 + p.neighbours as u64) * WIDE
+            + p.ties as u64
     } else {
-        70368744177664
+        PAST
     }
 }
 
-// Lists the first peaks in a table, as many as it has places for, and behind the last peak of the map a place past its last row.
-// Returns how many places are listed.
+// Lists the first peaks in a table, as many as it has places for. After the last peak of the map comes a place past its
+// last row. Returns how many places are listed.
 pub(crate) fn list_peaks(map: &[f32], s: Search, table: &mut [u64]) -> usize
     requires { ⌜ Searchable (now map) s ⌝ }
     ensures { λ n. ⌜ PeaksListed (now (map .entry)) s (now (table .exit)) n ⌝ }
@@ -55,7 +69,8 @@ pub(crate) fn list_peaks(map: &[f32], s: Search, table: &mut [u64]) -> usize
     n
 }
 
-// The first peak from (x, y) on, which is at place i of the table, where that is one of the n listed.
+// The first peak from (x, y) on: taken from place i of the table if that is one of the n listed, otherwise searched
+// for.
 pub(crate) fn peak_at(
     map: &[f32],
     s: Search,

@@ -23,36 +23,41 @@ use Rattle.stream.proofs.Callers.{FrameStands, frame-found, refusal-found}
 use Rattle.listing.specs.declared.Listing.{Listing}
 use Rattle.listing.specs.declared.Listing.the-variants as listing
 use Rattle.listing.specs.Text.{cornersText, refusedText}
-use Rattle.listing.specs.Answer.{CornersWritten}
+use Rattle.listing.specs.Answer.{mostCorners, CornersWritten}
 use Rattle.listing.proofs.Texts.{listed}
+use Rattle.stream.specs.Stream.{mostPixels}
 use Rattle.finder.specs.Finder.{paramsOf, programBuffers, frameText, outputOf}
 
 -- ---- a text that was written lies in the buffer
 pub written-fits : (text buffer : List ℕ) (end : ℕ) (after : List ℕ) → Written text buffer end after → end ≤ length after
 written-fits text buffer end after w = omega (arith, w .ends, ap length (w .holds) ∙ length-append text (drop (length text) buffer))
 
--- ---- the listing of at most 512 corners
+-- ---- the listing of so many corners as it may have
 module _ (b : Slices) (count : ℕ) (before : List ℕ) (r : Listing) (after : List ℕ) (w : CornersWritten b count before r after) where
   pub list-text : (end : ℕ) → r ≡ listing.Text end → Written (cornersText (cornersOf b count)) before end after
   list-text end e =
       let l = listed b count before end after (subst (λ (a : Listing). CornersWritten b count before a after) e w) in
       record { ends = l .ends; holds = l .text }
 
-  pub list-written : count ≤ 512 → (n : ℕ) → r ≡ listing.Refused n → ⊥
-  list-written few n e = let a = rw (le-ltb 512 count few) at (w .answer) in let z = sym a ∙ e in let no : _≡_ {A = ℕ} 0 1 = cc in omega arith
+  pub list-written : count ≤ mostCorners → (n : ℕ) → r ≡ listing.Refused n → ⊥
+  list-written few n e = let a = rw (le-ltb mostCorners count few) at (w .answer) in
+      let z = sym a ∙ e in
+      let no : _≡_ {A = ℕ} 0 1 = cc in
+      omega arith
 
 -- ---- the text of a frame
 module _ (h : Header) (pixels : List ℕ) (p : FrameParams) (is : p ≡ paramsOf h) (answer : FrameAnswer) (b′ : Buffers)
     (f : FrameFound (computedChoice p) p pixels (h .width) (h .height) programBuffers answer b′) where
-  answered : (a : FrameAnswer) → answer ≡ a → FrameFound (computedChoice (paramsOf h)) (paramsOf h) pixels (h .width) (h .height) programBuffers a b′
+  answered : (a : FrameAnswer) → answer ≡ a
+      → FrameFound (computedChoice (paramsOf h)) (paramsOf h) pixels (h .width) (h .height) programBuffers a b′
   answered a e = rw (← is, ← e) f
 
-  -- its corners, which are at most 512
+  -- its corners, which are no more
   module _ (n t : ℕ) (e : answer ≡ Corners n t) where
     finished : Finished (computedChoice (paramsOf h)) (paramsOf h) pixels (h .width) (h .height) programBuffers n t b′
     finished = finished-tells _ _ _ _ _ _ n t b′ (answered (Corners n t) e)
 
-    pub corners-few : n ≤ 512
+    pub corners-few : n ≤ mostCorners
     corners-few = omega (arith, finished .fits)
 
     pub corners-written : (before : List ℕ) (end : ℕ) (after : List ℕ) → Written (cornersText (cornersOf (b′ .corners) n)) before end after
@@ -61,14 +66,16 @@ module _ (h : Header) (pixels : List ℕ) (p : FrameParams) (is : p ≡ paramsOf
     corners-written before end after w = rw (finished .number, ← finished .corners) w
 
   -- or the refusal
-  pub refusal-written : (n : ℕ) → answer ≡ Refused n → (before : List ℕ) (end : ℕ) (after : List ℕ) → Written (refusedText n) before end after
+  pub refusal-written : (n : ℕ) → answer ≡ Refused n → (before : List ℕ) (end : ℕ) (after : List ℕ)
+      → Written (refusedText n) before end after
       → Written (frameText h pixels) before end after
   unfolding frameText
   refusal-written n e before end after w =
       rw (refused-tells (computedChoice (paramsOf h)) _ _ _ _ _ n b′ (answered (Refused n) e))
       (of n _ (refusal-positive _ _ _ _ _ _ n b′ (answered (Refused n) e)) w)
     where
-      of : (k : ℕ) (text : List ℕ) → (k ≡ 0 → ⊥) → Written (refusedText k) before end after → Written (unless refusedText k text) before end after
+      of : (k : ℕ) (text : List ℕ) → (k ≡ 0 → ⊥) → Written (refusedText k) before end after
+          → Written (unless refusedText k text) before end after
       of zero text z w = absurd (z refl)
       of (suc k) text z w = w
 
@@ -79,17 +86,19 @@ module _ (input buffer : List ℕ) (answer : FrameStream) (after : List ℕ) (r 
     found-frame = frame-found input buffer h after (subst (λ (a : FrameStream). FrameRead input buffer a after) e r)
 
     -- the buffer is as long as it was
-    pub pixels-long : length buffer ≡ 9216 → length after ≡ 9216
+    pub pixels-long : length buffer ≡ mostPixels → length after ≡ mostPixels
     pixels-long l =
         let n = h .width * h .height in
-        ap length (found-frame .buffer-is) ∙ front-length (take n after) buffer (omega (arith, l, found-frame .fits, length-take n after)) ∙ l
+        ap length (found-frame .buffer-is)
+        ∙ front-length (take n after) buffer (omega (arith, l, found-frame .fits, length-take n after)) ∙ l
 
     pub frame-listed : (before : List ℕ) (end : ℕ) (out : List ℕ) → Written (frameText h (take (h .width * h .height) after)) before end out
         → Written (outputOf input) before end out
     unfolding outputOf
     frame-listed before end out w = rw (found-frame .reading) w
 
-  pub refusal-listed : (n : ℕ) → answer ≡ stream.Refused n → (before : List ℕ) (end : ℕ) (out : List ℕ) → Written (refusedText n) before end out
+  pub refusal-listed : (n : ℕ) → answer ≡ stream.Refused n → (before : List ℕ) (end : ℕ) (out : List ℕ)
+      → Written (refusedText n) before end out
       → Written (outputOf input) before end out
   unfolding outputOf
   refusal-listed n e before end out w =

@@ -1,5 +1,6 @@
--- The program `corners` as a function from its input bytes to its output bytes: reader, frame pass and listing composed.
-use Prim.Native.Nat.{ℕ}
+-- The program `corners` as a function from its input bytes to its output bytes: reader, frame pass and listing
+-- composed.
+use Prim.Native.Nat.{ℕ, _/_}
 use mathlib.Core.List.{List}
 use lib.ListN.{replicate}
 use lib.Ieee.{binary32, ofBits}
@@ -10,21 +11,26 @@ use Rattle.patch_corners.specs.declared.FrameParams.{FrameParams}
 use Rattle.patch_corners.specs.OneMap.{computedChoice}
 use Rattle.frame.specs.Frame.{Buffers, buffers, params, refusalOf, passOf}
 use Rattle.stream.specs.declared.Header.{Header}
-use Rattle.stream.specs.Stream.{Reading, accepted, refused, readFrame}
+use Rattle.stream.specs.Stream.{mostPixels, Reading, accepted, refused, readFrame}
 use Rattle.listing.specs.Text.{cornersText, refusedText}
+use Rattle.listing.specs.Answer.{mostCorners}
 
--- the parameters that a header states; the floats are those of its bits, and every NaN pattern is the one NaN
+-- the parameters that a header states; the floats are those with its bits, and every NaN pattern is the one NaN
 abbrev pub paramsOf : Header → FrameParams
 paramsOf h =
     params (h .ring) (ofBits binary32 (h .«threshold_bits»)) (h .window) (h .«least_neighbours») (h .«centroid_radius»)
     (ofBits binary32 (h .«merge_bits»)) (h .levels) (h .«minimum_side») (h .«search_radius»)
 
--- `corners` has 512 places for seeds and 512 for corners (RULES 12.4); 9,216 map cells and 3,072 level pixels are enough for 96 by 96
-abbrev pub places512 : Slices
-places512 = slices (replicate 512 float32.zero) (replicate 512 float32.zero) (replicate 512 float32.zero) (replicate 512 0)
+-- what `corners` has places for (RULES 12.4): as many seeds, and as many corners, as a listing has; the map of the
+-- largest frame, and its levels, which have at most a third of its pixels
+abbrev pub listPlaces : Slices
+listPlaces =
+    slices (replicate mostCorners float32.zero) (replicate mostCorners float32.zero)
+    (replicate mostCorners float32.zero)
+    (replicate mostCorners 0)
 
 abbrev pub programBuffers : Buffers
-programBuffers = buffers (replicate 9216 float32.zero) (replicate 3072 0) places512 places512
+programBuffers = buffers (replicate mostPixels float32.zero) (replicate (mostPixels / 3) 0) listPlaces listPlaces
 
 -- the listing of a frame: the text of its corners, or of the number of its refusal
 unfoldable pub frameText : Header → List ℕ → List ℕ
@@ -33,7 +39,7 @@ frameText h pixels =
     unless refusedText (refusalOf (computedChoice p) p pixels (h .width) (h .height) programBuffers)
     (cornersText (passOf p pixels (h .width) (h .height) .corners))
 
--- and of what was read
+-- and the listing for what was read
 abbrev pub readingText : Reading → List ℕ
 readingText (accepted h pixels) = frameText h pixels
 readingText (refused n) = refusedText n

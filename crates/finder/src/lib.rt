@@ -2,14 +2,17 @@
 use frame::FrameAnswer;
 use listing::LONGEST;
 use listing::Listing;
+use listing::MOST_CORNERS;
 use patch_corners::FrameParams;
 use stream::FrameStream;
 use stream::Header;
+use stream::MOST_PIXELS;
 ghost use mathlib.Core.Path.{_≡_};
 ghost use Prim.Native.Nat.{_≤_};
 ghost use Rattle.lists.specs.Buffer.{Written};
 ghost use Rattle.corner_list.specs.CornerList.{slices, cornersOf};
 ghost use Rattle.listing.specs.Text.{cornersText};
+ghost use Rattle.listing.specs.Answer.{mostCorners};
 ghost use Rattle.finder.specs.Finder.{paramsOf, frameText, outputOf};
 
 // The parameters that a header states.
@@ -31,15 +34,17 @@ fn params_of(header: Header) -> FrameParams
 
 // Writes the text of the first `count` corners of a buffer.
 fn list_corners(
-    xs: &[f32; 512],
-    ys: &[f32; 512],
-    strengths: &[f32; 512],
-    neighbours: &[u32; 512],
+    xs: &[f32; MOST_CORNERS],
+    ys: &[f32; MOST_CORNERS],
+    strengths: &[f32; MOST_CORNERS],
+    neighbours: &[u32; MOST_CORNERS],
     count: usize,
     out: &mut [u8; LONGEST],
 ) -> usize
-    requires { ⌜ count ≤ 512 ⌝ }
-    ensures { λ r. ⌜ Written (cornersText (cornersOf (slices (now (xs .entry)) (now (ys .entry)) (now (strengths .entry)) (now (neighbours .entry))) count)) (now (out .entry)) r (now (out .exit)) ⌝ }
+    requires { ⌜ count ≤ mostCorners ⌝ }
+    ensures { λ r. ⌜ Written (cornersText
+        (cornersOf (slices (now (xs .entry)) (now (ys .entry)) (now (strengths .entry))
+        (now (neighbours .entry))) count)) (now (out .entry)) r (now (out .exit)) ⌝ }
 {
     let listed = listing::write_corners(xs, ys, strengths, neighbours, count, out);
     let Listing::Text(end) = listed else {
@@ -52,16 +57,16 @@ fn list_corners(
 fn list_frame(pixels: &[u8], header: Header, out: &mut [u8; LONGEST]) -> usize
     ensures { λ r. ⌜ Written (frameText header (now (pixels .entry))) (now (out .entry)) r (now (out .exit)) ⌝ }
 {
-    let mut map = [0.0f32; 9216];
-    let mut levels = [0u8; 3072];
-    let mut sx = [0.0f32; 512];
-    let mut sy = [0.0f32; 512];
-    let mut ss = [0.0f32; 512];
-    let mut sn = [0u32; 512];
-    let mut cx = [0.0f32; 512];
-    let mut cy = [0.0f32; 512];
-    let mut cs = [0.0f32; 512];
-    let mut cn = [0u32; 512];
+    let mut map = [0.0f32; MOST_PIXELS];
+    let mut levels = [0u8; MOST_PIXELS / 3];
+    let mut sx = [0.0f32; MOST_CORNERS];
+    let mut sy = [0.0f32; MOST_CORNERS];
+    let mut ss = [0.0f32; MOST_CORNERS];
+    let mut sn = [0u32; MOST_CORNERS];
+    let mut cx = [0.0f32; MOST_CORNERS];
+    let mut cy = [0.0f32; MOST_CORNERS];
+    let mut cs = [0.0f32; MOST_CORNERS];
+    let mut cn = [0u32; MOST_CORNERS];
     let answer = frame_choice::find_corners(
         pixels,
         header.width,
@@ -84,11 +89,11 @@ fn list_frame(pixels: &[u8], header: Header, out: &mut [u8; LONGEST]) -> usize
     }
 }
 
-// Writes the listing of a frame stream first in a buffer, and returns how long it is.
+// Writes the listing of a frame stream to the start of a buffer, and returns how long it is.
 pub fn find(input: &[u8], out: &mut [u8; LONGEST]) -> usize
     ensures { λ r. ⌜ Written (outputOf (now (input .entry))) (now (out .entry)) r (now (out .exit)) ⌝ }
 {
-    let mut pixels = [0u8; 9216];
+    let mut pixels = [0u8; MOST_PIXELS];
     let read = stream::read_frame(input, &mut pixels);
     match read {
         FrameStream::Frame(header) => list_frame(

@@ -32,7 +32,8 @@ abbrev pub FracWithin : ℕ → ℕ → ℕ → ℕ → ℕ → ℕ → ℕ → 
 FracWithin P N D p n c r = (P * c + n * D ≤ (p + r) * D + N * c) × (p * D + N * c ≤ P * c + (n + r) * D)
 
 -- ±a / C is (P - N) / D, which is near (p - n) / c
-near-frac : (s : Bool) (a C P N D p n c r : ℕ) → 0 < D → IsFrac s a C P N D → FracWithin P N D p n c r → FracWithin (cond s 0 a) (cond s a 0) C p n c r
+near-frac : (s : Bool) (a C P N D p n c r : ℕ) → 0 < D → IsFrac s a C P N D → FracWithin P N D p n c r
+    → FracWithin (cond s 0 a) (cond s a 0) C p n c r
 near-frac s a C P N D p n c r E e h = (
   le-of-mul-le-mul-right
       (let x = simp poly at (ap (λ (z : ℕ). z * c) e) in
@@ -46,7 +47,8 @@ near-frac s a C P N D p n c r E e h = (
       E,
 )
 
-frac-small : (s : Bool) (a C p n c r M : ℕ) → 0 < C → FracWithin (cond s 0 a) (cond s a 0) C p n c r → p + r < n + M * c → n + r < p + M * c → a < M * C
+frac-small : (s : Bool) (a C p n c r M : ℕ) → 0 < C → FracWithin (cond s 0 a) (cond s a 0) C p n c r → p + r < n + M * c
+    → n + r < p + M * c → a < M * C
 frac-small true a C p n c r M K e h k =
     lt-of-mul-lt-mul-right c
     (let x = simp poly at (mul-lt-mul-of-pos-right k K) in
@@ -71,7 +73,8 @@ half-ulp f c j h J H =
     ∙ pow-add 2 (low f) j in
     let H′ : c * 2 ^ j ≤ h * (P * 2) = le-trans H (le-of-eq (ap (λ (z : ℕ). h * z) (pow-suc 2 (prec f)))) in
     le-of-mul-le-mul-right
-    (le-trans (le-of-eq (mul-right-comm u c P ∙ ap (λ (z : ℕ). z * c) e ∙ mul-assoc L (2 ^ j) c ∙ ap (λ (z : ℕ). L * z) (mul-comm (2 ^ j) c)))
+    (le-trans (le-of-eq (mul-right-comm u c P ∙ ap (λ (z : ℕ). z * c) e ∙ mul-assoc L (2 ^ j) c
+    ∙ ap (λ (z : ℕ). L * z) (mul-comm (2 ^ j) c)))
     (le-trans (mul-le-mul-left L H′) (le-of-eq (simp (mul-assoc, mul-comm, mul-left-comm)))))
     (pow-pos (prec f))
 
@@ -97,8 +100,8 @@ rounded-near g a L C u p n c r h K e l m = (
     two-pos : 0 < 2
     two-pos = omega arith
 
--- ---- what a rounding asks: (p - n) / c, known to r / c, lies below 2 ^ j in size, and half a unit in the last place there is at most h / c.
--- At literals one `omega arith` proves it.
+-- ---- what a rounding asks: (p - n) / c, known to r / c, lies below 2 ^ j in size, and half a unit in the last place there is at most h /
+-- c. At literals one `omega arith` proves it.
 pub record Binade (f : Format) (p n c r j h : ℕ) : Type 0 where
   pub under : p + r < n + 2 ^ j * c
   pub over : n + r < p + 2 ^ j * c
@@ -118,7 +121,8 @@ round-within f s a C p n c r j h K e m = go s e
 
     near : (p n : ℕ) → (a * c + n * C ≤ (p + r) * C) × (p * C ≤ a * c + (n + r) * C)
         → (grid f a C * c + n * 2 ^ low f ≤ (p + (r + h)) * 2 ^ low f) × (p * 2 ^ low f ≤ grid f a C * c + (n + (r + h)) * 2 ^ low f)
-    near p n = rounded-near (grid f a C) a (2 ^ low f) C (ulp f j) p n c r h K (grid-near f a C j K small) (half-ulp f c j h (m .normal) (m .half))
+    near p n =
+        rounded-near (grid f a C) a (2 ^ low f) C (ulp f j) p n c r h K (grid-near f a C j K small) (half-ulp f c j h (m .normal) (m .half))
 
     go : (t : Bool) → FracWithin (cond t 0 a) (cond t a 0) C p n c r → Within (round f t a C) p n c (r + h)
     go true x =
@@ -132,11 +136,14 @@ frac-within : (f : Format) (x : Float) (P N D p n c r j h : ℕ) → 0 < D → S
     → Binade f p n c r j h → Within x p n c (r + h)
 frac-within f x P N D p n c r j h E s e m =
     subst (λ (z : Float). Within z p n c (r + h)) (sym (s .is))
-    (round-within f (s .sign) (s .top) (s .bottom) p n c r j h (s .bottom-pos) (near-frac (s .sign) (s .top) (s .bottom) P N D p n c r E (s .frac) e) m)
+    (round-within f (s .sign) (s .top) (s .bottom) p n c r j h (s .bottom-pos)
+    (near-frac (s .sign) (s .top) (s .bottom) P N D p n c r E (s .frac) e) m)
 
 -- ---- sums and differences
 own-over : (x : Float) (k : ℕ) → T (finite x) → IsValue x (gain x * k) (loss x * k) (den x * k)
-own-over x k h = rescale x (gain x) (loss x) (den x) (gain x * k) (loss x * k) (den x * k) (den-pos x) (simp (mul-assoc, mul-comm, mul-left-comm)) (own x h)
+own-over x k h =
+    rescale x (gain x) (loss x) (den x) (gain x * k) (loss x * k) (den x * k) (den-pos x)
+    (simp (mul-assoc, mul-comm, mul-left-comm)) (own x h)
 
 sum-near : (G L D G' L' D' p n q m c r s : ℕ) → FracWithin G L D p n c r → FracWithin G' L' D' q m c s
     → FracWithin (G * D' + G' * D) (L * D' + L' * D) (D * D') (p + q) (n + m) c (r + s)
@@ -176,8 +183,12 @@ sub-within f x y p n q m c r s j h v w o = add-within f x (neg y) p n m q c r s 
 scaled-near : (q m G L D p n c r : ℕ) → FracWithin G L D p n c r
     → FracWithin (q * G + m * L) (q * L + m * G) (1 * D) (q * p + m * n) (q * n + m * p) c ((q + m) * r)
 scaled-near q m G L D p n c r e = (
-  (let x = simp poly at (mul-le-mul-left q (e .0)) in let y = simp poly at (mul-le-mul-left m (e .1)) in simp (one-mul, poly) (omega arith)),
-  (let x = simp poly at (mul-le-mul-left q (e .1)) in let y = simp poly at (mul-le-mul-left m (e .0)) in simp (one-mul, poly) (omega arith)),
+  (let x = simp poly at (mul-le-mul-left q (e .0)) in
+      let y = simp poly at (mul-le-mul-left m (e .1)) in
+      simp (one-mul, poly) (omega arith)),
+  (let x = simp poly at (mul-le-mul-left q (e .1)) in
+      let y = simp poly at (mul-le-mul-left m (e .0)) in
+      simp (one-mul, poly) (omega arith)),
 )
 
 pub mul-within : (f : Format) (y x : Float) (q m p n c r j h : ℕ) → IsValue y q m 1 → Within x p n c r
@@ -209,7 +220,8 @@ dist-mul : (a b k : ℕ) → dist a b * k ≡ dist (a * k) (b * k)
 dist-mul a b k = omega (arith, add-mul (a - b) (b - a) k, spread k a b, spread k b a)
 
 -- g / D is the size of (p - n), to r
-size-near : (g D p n r : ℕ) → g + n * D ≤ (p + r) * D → p * D ≤ g + (n + r) * D → (g + 0 * D ≤ (dist p n + r) * D) × (dist p n * D ≤ g + (0 + r) * D)
+size-near : (g D p n r : ℕ) → g + n * D ≤ (p + r) * D → p * D ≤ g + (n + r) * D
+    → (g + 0 * D ≤ (dist p n + r) * D) × (dist p n * D ≤ g + (0 + r) * D)
 size-near g D p n r e k = omega (arith, dist-mul p n D, add-mul (dist p n) r D, add-mul p r D, add-mul n r D, add-mul 0 r D)
 
 pub abs-within : (x : Float) (p n c r : ℕ) → Within x p n c r → Within (abs x) (dist p n) 0 c r
@@ -269,7 +281,8 @@ lt-within x y p n q m c r s C v w h =
         let z = simp poly at (mul-lt-mul-of-pos-right h (mul-pos P P')) in
         simp poly (omega arith))
 
--- ---- exact results: a multiple (p - n) / 2 ^ i of 2 ^ -i with no more digits than the format keeps. At literals one `omega arith` proves `Digits`.
+-- ---- exact results: a multiple (p - n) / 2 ^ i of 2 ^ -i with no more digits than the format keeps. At literals one `omega arith` proves
+-- `Digits`.
 pub record Digits (f : Format) (p n i : ℕ) : Type 0 where
   pub under : p < n + 2 ^ prec f
   pub over : n < p + 2 ^ prec f
@@ -278,7 +291,8 @@ pub record Digits (f : Format) (p n i : ℕ) : Type 0 where
 gap-below : (x y z : ℕ) → y ≤ x → x < y + z → x - y < z
 gap-below x y z l h = omega arith
 
-pub round-exact-at : (f : Format) (s : Bool) (a C p n i : ℕ) → 0 < C → IsFrac s a C p n (2 ^ i) → Digits f p n i → IsValue (round f s a C) p n (2 ^ i)
+pub round-exact-at : (f : Format) (s : Bool) (a C p n i : ℕ) → 0 < C → IsFrac s a C p n (2 ^ i) → Digits f p n i
+    → IsValue (round f s a C) p n (2 ^ i)
 round-exact-at f s a C p n i K e d = go s e
   where
     split : 2 ^ low f ≡ 2 ^ i * 2 ^ (low f - i)
@@ -307,7 +321,8 @@ round-exact-at f s a C p n i K e d = go s e
     go false x =
         let h : n ≤ p = le-of-mul-le-mul-right (omega arith) K in
         rescale (round f false a C) a 0 C p n (2 ^ i) K (omega arith)
-        (of-HasValue (round f false a C) false a C (val false (p - n) (gap-below p n (2 ^ prec f) h (d .under)) (omega (arith, spread C p n))))
+        (of-HasValue (round f false a C) false a C
+        (val false (p - n) (gap-below p n (2 ^ prec f) h (d .under)) (omega (arith, spread C p n))))
 
 pub frac-exact : (f : Format) (x : Float) (P N D p n i : ℕ) → 0 < D → SignedFrac f x P N D → P * 2 ^ i + n * D ≡ p * D + N * 2 ^ i
     → Digits f p n i → IsValue x p n (2 ^ i)
@@ -325,7 +340,8 @@ frac-exact f x P N D p n i E s e d =
 
 pub sub-exact : (f : Format) (x y : Float) (p n q m i : ℕ) → IsValue x p n (2 ^ i) → IsValue y q m (2 ^ i) → Digits f (p + m) (n + q) i
     → IsValue (sub f x y) (p + m) (n + q) (2 ^ i)
-sub-exact f x y p n q m i v w d = frac-exact f (sub f x y) (p + m) (n + q) (2 ^ i) (p + m) (n + q) i (pow-pos i) (sub-frac f x y p n q m (2 ^ i) v w) refl d
+sub-exact f x y p n q m i v w d =
+    frac-exact f (sub f x y) (p + m) (n + q) (2 ^ i) (p + m) (n + q) i (pow-pos i) (sub-frac f x y p n q m (2 ^ i) v w) refl d
 
 pub scale-exact : (f : Format) (y x : Float) (k p n i : ℕ) → IsValue y k 0 1 → IsValue x p n (2 ^ i) → Digits f (k * p) (k * n) i
     → IsValue (mul f y x) (k * p) (k * n) (2 ^ i)
@@ -343,15 +359,18 @@ abs-exact x p n c v =
     let w = abs-within x p n c 0 (value-within x p n c v) in
     record {
       is-finite = w .is-finite;
-      equal = le-antisymm (omega (arith, w .at-most, add-mul (dist p n) 0 (den (abs x)))) (omega (arith, w .at-least, add-mul (dist p n) 0 (den (abs x))));
+      equal = le-antisymm (omega (arith, w .at-most, add-mul (dist p n) 0 (den (abs x))))
+          (omega (arith, w .at-least, add-mul (dist p n) 0 (den (abs x))));
     }
 
 pub lt-asym : (x y : Float) → T (finite x) → T (finite y) → T (lt x y) → T (lt y x) → ⊥
 lt-asym x y h k l m =
     let v = own-over x (den y) h in
     let w = subst (λ (z : ℕ). IsValue y (gain y * den x) (loss y * den x) z) (mul-comm (den y) (den x)) (own-over y (den x) k) in
-    let a = lt-value x y (gain x * den y) (loss x * den y) (gain y * den x) (loss y * den x) (den x * den y) (mul-pos (den-pos x) (den-pos y)) v w .0 l in
-    let b = lt-value y x (gain y * den x) (loss y * den x) (gain x * den y) (loss x * den y) (den x * den y) (mul-pos (den-pos x) (den-pos y)) w v .0 m in
+    let a = lt-value x y (gain x * den y) (loss x * den y) (gain y * den x) (loss y * den x) (den x * den y)
+    (mul-pos (den-pos x) (den-pos y)) v w .0 l in
+    let b = lt-value y x (gain y * den x) (loss y * den x) (gain x * den y) (loss x * den y) (den x * den y)
+    (mul-pos (den-pos x) (den-pos y)) w v .0 m in
     omega arith
 
 -- ---- the sign of what is not below 0
@@ -388,7 +407,8 @@ add-whole f (fin true m e) (fin t n d) a b v w = absurd (true≢false (v .0))
 add-whole f (fin false m e) (fin true n d) a b v w = absurd (true≢false (w .0))
 add-whole f (fin false m e) (fin false n d) a b v w =
     round-same f false (m * up e * down d + n * up d * down e) (down e * down d) (a + b) 1 (mul-pos (down-pos e) (down-pos d)) (lit< tt)
-    (let x : m * up e * down d ≡ a * (down e * down d) = ap (λ (z : ℕ). z * down d) (sym (mul-one (m * up e)) ∙ v .1) ∙ mul-assoc a (down e) (down d) in
+    (let x : m * up e * down d ≡ a * (down e * down d) =
+    ap (λ (z : ℕ). z * down d) (sym (mul-one (m * up e)) ∙ v .1) ∙ mul-assoc a (down e) (down d) in
     let y : n * up d * down e ≡ b * (down e * down d) = ap (λ (z : ℕ). z * down e) (sym (mul-one (n * up d)) ∙ w .1)
     ∙ mul-assoc b (down d) (down e) ∙ ap (λ (z : ℕ). b * z) (mul-comm (down d) (down e)) in
     omega (arith, add-mul a b (down e * down d)))

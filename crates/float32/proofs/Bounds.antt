@@ -1,4 +1,5 @@
--- Bounds by whole numbers go through a rounding unharmed, since the format holds the whole number: sums and quotients of what is not negative. Assumes nothing.
+-- Bounds by whole numbers go through a rounding unharmed, since the format holds the whole number: sums and quotients of what is not
+-- negative. Assumes nothing.
 use mathlib.Core.Path.{_≡_, refl, sym, ap, _∙_, subst}
 use Prim.Native.Nat.{ℕ, zero as none, suc, _+_, _*_, _^_, _≤_, _<_}
 use native.Mathlib.Nat.{le-trans, le-of-eq, lt-of-le-of-lt, mul-comm, mul-right-comm, mul-one, zero-mul, mul-pos, mul-le-mul-right}
@@ -36,19 +37,28 @@ pub upto-finite : (x : Float) (n : ℕ) → UpTo x n → T (finite x)
 upto-finite x n u = of-HasValue x false (u .top) (u .bottom) (u .value) .is-finite
 
 pub upto-below : (x y : Float) (n : ℕ) → HasValue y false n 1 → UpTo x n → T (le x y)
-upto-below x y n v u = le-of-values x y (u .top) (u .bottom) n 1 (u .bottom-pos) (lit< tt) (u .value) v (le-trans (le-of-eq (mul-one (u .top))) (u .at-most))
+upto-below x y n v u =
+    le-of-values x y (u .top) (u .bottom) n 1 (u .bottom-pos) (lit< tt) (u .value) v (le-trans (le-of-eq (mul-one (u .top))) (u .at-most))
 
 pub upto-above : (x : Float) (n : ℕ) → UpTo x n → T (le zero x)
-upto-above x n u = le-of-values zero x 0 1 (u .top) (u .bottom) (lit< tt) (u .bottom-pos) (refl, refl) (u .value) (omega (arith, zero-mul (u .bottom)))
+upto-above x n u =
+    le-of-values zero x 0 1 (u .top) (u .bottom) (lit< tt) (u .bottom-pos) (refl, refl) (u .value) (omega (arith, zero-mul (u .bottom)))
 
 pub upto-more : (x : Float) (n m : ℕ) → n ≤ m → UpTo x n → UpTo x m
 upto-more x n m h u =
-    record { top = u .top; bottom = u .bottom; bottom-pos = u .bottom-pos; value = u .value; at-most = le-trans (u .at-most) (mul-le-mul-right (u .bottom) h) }
+    record {
+      top = u .top;
+      bottom = u .bottom;
+      bottom-pos = u .bottom-pos;
+      value = u .value;
+      at-most = le-trans (u .at-most) (mul-le-mul-right (u .bottom) h);
+    }
 
 -- it is in a range from 0 that ends at n or later
 pub upto-between : (x top : Float) (n b : ℕ) → n ≤ b → HasValue top false b 1 → UpTo x n → between zero top x ≡ true
 upto-between x top n b l v u =
-    sym (and-on (le zero x) (le x top) (from-T (le zero x) (upto-above x n u))) ∙ from-T (le x top) (upto-below x top b v (upto-more x n b l u))
+    sym (and-on (le zero x) (le x top) (from-T (le zero x) (upto-above x n u)))
+    ∙ from-T (le x top) (upto-below x top b v (upto-more x n b l u))
 
 pub whole-upto : (f : Format) (n : ℕ) → n < 2 ^ prec f → UpTo (ofInt f (pos n)) n
 whole-upto f n h = record { top = n; bottom = 1; bottom-pos = lit< tt; value = ofInt-value f n h; at-most = le-of-eq (sym (mul-one n)) }
@@ -100,7 +110,8 @@ add-upto f x y n m h u v =
         simp poly (omega arith)
 
 -- ---- quotients
-pub div-round : (f : Format) (x y : Float) (a b L : ℕ) → 0 < L → 0 < b → HasValue x false a L → HasValue y false b L → div f x y ≡ round f false a b
+pub div-round : (f : Format) (x y : Float) (a b L : ℕ) → 0 < L → 0 < b → HasValue x false a L → HasValue y false b L
+    → div f x y ≡ round f false a b
 unfolding div
 div-round f nan y a b L K B v w = absurd v
 div-round f (inf s) y a b L K B v w = absurd v
@@ -109,8 +120,10 @@ div-round f (fin s m e) (inf t) a b L K B v w = absurd w
 div-round f (fin true m e) (fin t n i) a b L K B v w = absurd (true≢false (v .0))
 div-round f (fin false m e) (fin true n i) a b L K B v w = absurd (true≢false (w .0))
 div-round f (fin false m e) (fin false n i) a b L K B v w =
-    ap (λ (z : Bool). cond z (cond (eqb m 0) nan (inf false)) (round f false (m * up e * down i) (n * up i * down e))) (not-eqb n (first-pos n (up i) Y))
-    ∙ round-same f false (m * up e * down i) (n * up i * down e) a b (mul-pos Y (down-pos e)) B (cross (m * up e) (down e) (n * up i) (down i) (v .1) (w .1))
+    ap (λ (z : Bool). cond z (cond (eqb m 0) nan (inf false)) (round f false (m * up e * down i) (n * up i * down e)))
+    (not-eqb n (first-pos n (up i) Y))
+    ∙ round-same f false (m * up e * down i) (n * up i * down e) a b (mul-pos Y (down-pos e)) B
+    (cross (m * up e) (down e) (n * up i) (down i) (v .1) (w .1))
   where
     Y : 0 < n * up i
     Y = first-pos (n * up i) L (subst (λ (z : ℕ). 0 < z) (sym (w .1)) (mul-pos B (down-pos i)))
@@ -141,7 +154,8 @@ pub quotient-upto : (x y : Float) (X Y c d M : ℕ) → 0 < Y → X ≤ M * Y �
     → Nearly x X c → Nearly y Y d → UpTo (div binary32 x y) (M + 1)
 quotient-upto x y X Y c d M P h k r s u v =
     let W = above-zero (v .size) Y d P k (v .near) in
-    subst (λ (z : Float). UpTo z (M + 1)) (sym (div-round binary32 x y (u .size) (v .size) (2 ^ low binary32) (pow-pos (low binary32)) W (u .units) (v .units)))
+    subst (λ (z : Float). UpTo z (M + 1))
+    (sym (div-round binary32 x y (u .size) (v .size) (2 ^ low binary32) (pow-pos (low binary32)) W (u .units) (v .units)))
     (round-upto binary32 (u .size) (v .size) (M + 1) W (omega arith) (quotient-bound (u .size) (v .size) X Y c d M h r (u .near) (v .near)))
 
 -- a running sum whose exact value is above 0 is above 0

@@ -1,5 +1,5 @@
--- How binary32 writes a finite number: m * 2 ^ e with m odd, or 0 with the exponent 0. So a number is written in one way, and rounding leaves
--- what the format holds as it is, also times a power of two. Assumes nothing.
+-- How binary32 writes a finite number: m * 2 ^ e with m odd, or 0 with the exponent 0. So a number is written in one way, and rounding
+-- leaves what the format holds as it is, also times a power of two. Assumes nothing.
 use mathlib.Core.Path.{_≡_, refl, sym, ap, _∙_}
 use mathlib.Core.Bool.{Bool, true, false, _&&_}
 use Prim.Native.Nat.{ℕ, zero, suc, _+_, _-_, _*_, _%_, _^_, _≤_, _<_}
@@ -37,8 +37,12 @@ own-parts s m e h =
     let D = ltb (suc m * up e) (2 ^ 128 * down e) in
     let p = and-parts (A && B && C) D h in
     let q = and-parts (A && B) C (p .0) in
-    let r = and-parts A B (q .0) in
-    (eqb-true (suc m % 2) 1 (r .0), ltb-true (suc m) (2 ^ 24) (r .1), leb-true (down e) (2 ^ 149) (q .1), ltb-true (suc m * up e) (2 ^ 128 * down e) (p .1))
+    let r = and-parts A B (q .0) in (
+      eqb-true (suc m % 2) 1 (r .0),
+      ltb-true (suc m) (2 ^ 24) (r .1),
+      leb-true (down e) (2 ^ 149) (q .1),
+      ltb-true (suc m * up e) (2 ^ 128 * down e) (p .1),
+    )
 
 pub own : (s : Bool) (m : ℕ) (e : ℤ) → fits binary32 (fin s m e) ≡ true → (m < 2 ^ 24) × (down e ≤ 2 ^ 149) × (m * up e < 2 ^ 128 * down e)
 own s zero e h = rw (own-zero s e h) (pow-pos 24, lit≤ tt, pow-pos 128)
@@ -53,7 +57,8 @@ unfolding fits
 fits-plain s zero e = refl
 fits-plain s (suc m) e = refl
 
--- ---- 2 ^ e in units of 2 ^ -149, the format's smallest value: 2 ^ place e of them. Where the format holds 2 ^ e, rest e digits are free below it
+-- ---- 2 ^ e in units of 2 ^ -149, the format's smallest value: 2 ^ place e of them. Where the format holds 2 ^ e, rest e digits are free
+-- below it
 place : ℤ → ℕ
 place (pos k) = k + 149
 place (negsuc k) = 149 - suc k
@@ -120,9 +125,11 @@ over-units X E R Y G Q L p h k e =
 at-place : (m : ℕ) (e : ℤ) → m * up e * 2 ^ rest e ≡ m * 2 ^ place e
 at-place m e = mul-assoc m (up e) (2 ^ rest e) ∙ ap (λ (z : ℕ). m * z) (up-place e)
 
-written-once : (m n : ℕ) (e g : ℤ) → m % 2 ≡ 1 → n % 2 ≡ 1 → down e ≤ 2 ^ 149 → down g ≤ 2 ^ 149 → m * up e * down g ≡ n * up g * down e → (m ≡ n) × (e ≡ g)
+written-once : (m n : ℕ) (e g : ℤ) → m % 2 ≡ 1 → n % 2 ≡ 1 → down e ≤ 2 ^ 149 → down g ≤ 2 ^ 149
+    → m * up e * down g ≡ n * up g * down e → (m ≡ n) × (e ≡ g)
 written-once m n e g o p h l q =
-    let u = over-units (m * up e) (down e) (2 ^ rest e) (n * up g) (down g) (2 ^ rest g) (2 ^ 149) (pow-pos 149) (down-rest e h) (down-rest g l) q in
+    let u = over-units (m * up e) (down e) (2 ^ rest e) (n * up g) (down g) (2 ^ rest g) (2 ^ 149) (pow-pos 149) (down-rest e h)
+    (down-rest g l) q in
     let r = odd-pow m n (place e) (place g) o p (sym (at-place m e) ∙ u ∙ at-place n g) in
     (r .0, place-unique e g h l (r .1))
 
@@ -138,7 +145,8 @@ not-none m e g h =
     let l : 0 * up g * down e ≡ 0 = ap (λ (z : ℕ). z * down e) (zero-mul (up g)) ∙ zero-mul (down e) in
     omega arith
 
-pub same-float : (x y : Float) (s : Bool) (a c : ℕ) → 0 < c → fits binary32 x ≡ true → fits binary32 y ≡ true → HasValue x s a c → HasValue y s a c → x ≡ y
+pub same-float : (x y : Float) (s : Bool) (a c : ℕ) → 0 < c → fits binary32 x ≡ true → fits binary32 y ≡ true → HasValue x s a c
+    → HasValue y s a c → x ≡ y
 same-float nan y s a c C f g h k = absurd h
 same-float (inf t) y s a c C f g h k = absurd h
 same-float (fin t m e) nan s a c C f g h k = absurd k
@@ -148,12 +156,14 @@ same-float (fin t m e) (fin u n d) s a c C f g h k = go m n f g (crossed (m * up
     signs : t ≡ u
     signs = h .0 ∙ sym (k .0)
 
-    go : (m n : ℕ) → fits binary32 (fin t m e) ≡ true → fits binary32 (fin u n d) ≡ true → m * up e * down d ≡ n * up d * down e → fin t m e ≡ fin u n d
+    go : (m n : ℕ) → fits binary32 (fin t m e) ≡ true → fits binary32 (fin u n d) ≡ true → m * up e * down d ≡ n * up d * down e
+        → fin t m e ≡ fin u n d
     go zero zero f g q = rw (signs, own-zero t e f, own-zero u d g)
     go zero (suc n) f g q = absurd (not-none n d e (sym q))
     go (suc m) zero f g q = absurd (not-none m e d q)
     go (suc m) (suc n) f g q =
-        let r = written-once (suc m) (suc n) e d (own-parts t m e f .0) (own-parts u n d g .0) (own-low t (suc m) e f) (own-low u (suc n) d g) q in
+        let r = written-once (suc m) (suc n) e d (own-parts t m e f .0) (own-parts u n d g .0) (own-low t (suc m) e f)
+        (own-low u (suc n) d g) q in
         rw (signs, r .0, r .1)
 
 -- ---- m * 2 ^ e, times a power of two without overflow, is rounded to itself
@@ -174,7 +184,8 @@ module _ (s : Bool) (m : ℕ) (e : ℤ) (k : ℕ) (f : fits binary32 (fin s m e)
     where
       bound : (X E R B L Q : ℕ) → 0 < R → E * R ≡ L → X * R ≡ Q → X < B * E → Q < B * L
       bound X E R B L Q P r q l =
-          lt-of-lt-of-le (lt-of-le-of-lt (le-of-eq (sym q)) (mul-lt-mul-of-pos-right l P)) (le-of-eq (mul-assoc B E R ∙ ap (λ (z : ℕ). B * z) r))
+          lt-of-lt-of-le (lt-of-le-of-lt (le-of-eq (sym q)) (mul-lt-mul-of-pos-right l P))
+          (le-of-eq (mul-assoc B E R ∙ ap (λ (z : ℕ). B * z) r))
 
       equal : (n d X E R L Q : ℕ) → E * R ≡ L → X * R ≡ Q → n * E ≡ X * d → n * L ≡ Q * d
       equal n d X E R L Q r q l =
@@ -186,6 +197,7 @@ far-below n d p h = lt-of-le-of-lt h (mul-lt-mul-of-pos-right (lit< tt) p)
 
 pub round-own : (s : Bool) (m : ℕ) (e : ℤ) → fits binary32 (fin s m e) ≡ true → round binary32 s (m * up e) (down e) ≡ fin s m e
 round-own s m e f =
-    same-float (round binary32 s (m * up e) (down e)) (fin s m e) s (m * up e) (down e) (down-pos e) (from-T _ (round-fits binary32 s (m * up e) (down e))) f
+    same-float (round binary32 s (m * up e) (down e)) (fin s m e) s (m * up e) (down e) (down-pos e)
+    (from-T _ (round-fits binary32 s (m * up e) (down e))) f
     (round-shifted s m e 0 f (rw mul-one (own s m e f .2)) (m * up e) (down e) (down-pos e) (rw mul-one refl))
     (refl, refl)

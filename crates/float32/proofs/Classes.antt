@@ -110,7 +110,8 @@ is-nan (inf s) t = absurd t
 is-nan (fin s m e) t = absurd t
 
 pub nan-pattern : (n : ℕ) → 0x7f80_0000 < n % 0x8000_0000 → nan ≡ ofBits binary32 n
-nan-pattern n h = is-nan (ofBits binary32 n) (subst T (sym (nanBits-above binary32 n) ∙ nanBits-is binary32 n) (lt→ltb 0x7f80_0000 (n % 0x8000_0000) h))
+nan-pattern n h =
+    is-nan (ofBits binary32 n) (subst T (sym (nanBits-above binary32 n) ∙ nanBits-is binary32 n) (lt→ltb 0x7f80_0000 (n % 0x8000_0000) h))
 
 pub no-nan-pattern : (n : ℕ) → n % 0x8000_0000 ≤ 0x7f80_0000 → T (not (nanBits binary32 n))
 no-nan-pattern n h = to-T-not (nanBits-above binary32 n ∙ le-ltb 0x7f80_0000 (n % 0x8000_0000) h)

@@ -1,5 +1,5 @@
--- Rounding half away from zero: twice a float is exact, so half of one more than twice |x|, cut off, is the nearest whole number with a half up.
--- And a float that is a / c, as any fraction, rounds to what that fraction rounds to. Assumes nothing.
+-- Rounding half away from zero: twice a float is exact, so half of one more than twice |x|, cut off, is the nearest whole number with a
+-- half up. And a float that is a / c, as any fraction, rounds to what that fraction rounds to. Assumes nothing.
 use mathlib.Core.Path.{_≡_, refl, sym, ap, _∙_, subst}
 use mathlib.Core.Bool.{Bool, true, false, cond, true≢false}
 use mathlib.Core.List.{[], _∷_}
@@ -19,7 +19,8 @@ use lib.Ieee.Positive.{num, den, den-pos}
 use Rattle.lists.proofs.Tests.{to-T, from-T}
 use Rattle.float32.specs.declared.Rounded.{Rounded}
 use Rattle.float32.specs.declared.Rounded.the-variants.{Natural, Negative, Beyond}
-use Rattle.float32.specs.Float32.{zero, abs, nearestWhole, isJudged, judged, signed, roundHalfAway, numberOf, valuesOf, Rounds}
+use Rattle.float32.specs.Float32.{zero, abs, nearestWhole, largestRounded, isJudged, judged, signed, roundHalfAway, numberOf}
+use Rattle.float32.specs.Float32.{valuesOf, Rounds}
 use Rattle.float32.proofs.Bounds.{value-le, whole-over}
 use Rattle.float32.proofs.Canonical.{fits-plain, far-below, round-shifted}
 use Rattle.float32.proofs.Poly.{poly}
@@ -40,17 +41,19 @@ doubled m e f small =
 
 -- ---- the nearest whole number, a half up, by twice the float
 half-up : (n d : ℕ) → 0 < d → (2 * n / d + 1) / 2 ≡ (2 * n + d) / (2 * d)
-half-up n d p = ap (λ (z : ℕ). z / 2) (sym (add-div-right (2 * n) p)) ∙ div-div-eq-div-mul (2 * n + d) d 2 ∙ ap (λ (z : ℕ). (2 * n + d) / z) (mul-comm d 2)
+half-up n d p =
+    ap (λ (z : ℕ). z / 2) (sym (add-div-right (2 * n) p)) ∙ div-div-eq-div-mul (2 * n + d) d 2
+    ∙ ap (λ (z : ℕ). (2 * n + d) / z) (mul-comm d 2)
 
 twice-small : (n d : ℕ) → 0 < d → n ≤ 2 ^ 24 * d → 2 * n / d < 2 ^ 26
 twice-small n d p h = div-lt-iff-lt-mul {k = d} {x = 2 * n} {y = 2 ^ 26} p .1 (omega arith)
 
-pub size-within : (m : ℕ) (e : ℤ) → le (fin false m e) (fin false 1 (pos 24)) ≡ true → m * up e ≤ 2 ^ 24 * down e
+pub size-within : (m : ℕ) (e : ℤ) → le (fin false m e) largestRounded ≡ true → m * up e ≤ 2 ^ 24 * down e
 size-within m e h =
-    value-le (fin false m e) (fin false 1 (pos 24)) (m * up e) (2 ^ 24 * down e) (down e) (down-pos e) (refl, refl)
-    (whole-over (fin false 1 (pos 24)) (2 ^ 24) (down e) (refl, refl)) (to-T h)
+    value-le (fin false m e) largestRounded (m * up e) (2 ^ 24 * down e) (down e) (down-pos e) (refl, refl)
+    (whole-over largestRounded (2 ^ 24) (down e) (refl, refl)) (to-T h)
 
-whole-twice : (x : Float) → fits binary32 x ≡ true → le (abs x) (fin false 1 (pos 24)) ≡ true
+whole-twice : (x : Float) → fits binary32 x ≡ true → le (abs x) largestRounded ≡ true
     → (toUnsigned 64 (add binary32 (abs x) (abs x)) ≡ 2 * num x / den x) × (2 * num x / den x < 2 ^ 26)
 unfolding abs le
 whole-twice nan f h = absurd (true≢false (sym h))
@@ -65,25 +68,26 @@ whole-twice (fin s m e) f h =
     )
 
 -- ---- what `round_half_away` finds: n is twice |x|, cut off
-pub rounds : (x a : Float) (n : ℕ) → fits binary32 x ≡ true → a ≡ abs x → le a (fin false 1 (pos 24)) ≡ true → n ≡ toUnsigned 64 (add binary32 a a)
+pub rounds : (x a : Float) (n : ℕ) → fits binary32 x ≡ true → a ≡ abs x → le a largestRounded ≡ true → n ≡ toUnsigned 64 (add binary32 a a)
     → (n < 2 ^ 26) × (signed (lt x zero) ((n + 1) / 2) ≡ roundHalfAway x)
 unfolding roundHalfAway nearestWhole
 rounds x a n f p h q =
-    let h′ : le (abs x) (fin false 1 (pos 24)) ≡ true = rw p at h in
+    let h′ : le (abs x) largestRounded ≡ true = rw p at h in
     let w = whole-twice x f h′ in
     let k : n ≡ 2 * num x / den x = q ∙ ap (λ (z : Float). toUnsigned 64 (add binary32 z z)) p ∙ w .0 in
     (omega (arith, w .1), rw (h′, k, half-up (num x) (den x) (den-pos x)))
 
-pub beyond : (x a : Float) → a ≡ abs x → le a (fin false 1 (pos 24)) ≡ false → Beyond ≡ roundHalfAway x
+pub beyond : (x a : Float) → a ≡ abs x → le a largestRounded ≡ false → Beyond ≡ roundHalfAway x
 unfolding roundHalfAway
-beyond x a p h = let h′ : le (abs x) (fin false 1 (pos 24)) ≡ false = rw p at h in rw h′
+beyond x a p h = let h′ : le (abs x) largestRounded ≡ false = rw p at h in rw h′
 
 pub signed-negative : (k : ℕ) → (k ≡ 0 → ⊥) → Negative k ≡ signed true k
 signed-negative ℕ.zero h = absurd (h refl)
 signed-negative (suc k) h = refl
 
 -- ---- the promise by its answer
-judged-values : (judge negative : Bool) (n : ℕ) → valuesOf (judged judge (signed negative n)) ≡ cond judge (cond negative (negℤ (pos n)) (pos n) ∷ []) []
+judged-values : (judge negative : Bool) (n : ℕ)
+    → valuesOf (judged judge (signed negative n)) ≡ cond judge (cond negative (negℤ (pos n)) (pos n) ∷ []) []
 judged-values true true ℕ.zero = refl
 judged-values true true (suc n) = refl
 judged-values true false n = refl
@@ -96,14 +100,17 @@ no-number Beyond = refl
 
 pub rounded : (x : Float) (r : Rounded) → r ≡ roundHalfAway x → Rounds x r
 unfolding roundHalfAway
-rounded x r e = record { answer = e; number = no-number r; values = ap valuesOf e ∙ judged-values (isJudged x) (lt x zero) (nearestWhole x) }
+rounded x r e =
+    record { answer = e; number = no-number r; values = ap valuesOf e ∙ judged-values (isJudged x) (lt x zero) (nearestWhole x) }
 
 -- ---- the rounding of a value that is a / c, not negative
-judged-small : (m : ℕ) (e : ℤ) (a c : ℕ) → 0 < c → a ≤ 2 ^ 24 * c → m * up e * c ≡ a * down e → le (fin false m e) (fin false 1 (pos 24)) ≡ true
-judged-small m e a c p l h = from-T _ (le-of-values (fin false m e) (fin false 1 (pos 24)) a c (2 ^ 24) 1 p (lit< tt) (refl, h) (refl, refl) (omega arith))
+judged-small : (m : ℕ) (e : ℤ) (a c : ℕ) → 0 < c → a ≤ 2 ^ 24 * c → m * up e * c ≡ a * down e → le (fin false m e) largestRounded ≡ true
+judged-small m e a c p l h =
+    from-T _ (le-of-values (fin false m e) largestRounded a c (2 ^ 24) 1 p (lit< tt) (refl, h) (refl, refl) (omega arith))
 
 same-nearest : (n d a c : ℕ) → 0 < d → 0 < c → n * c ≡ a * d → (2 * n + d) / (2 * d) ≡ (2 * a + c) / (2 * c)
-same-nearest n d a c D C h = div-same (2 * n + d) (2 * d) (2 * a + c) (2 * c) (omega arith) (omega arith) (let x = simp poly at h in simp poly (omega arith))
+same-nearest n d a c D C h =
+    div-same (2 * n + d) (2 * d) (2 * a + c) (2 * c) (omega arith) (omega arith) (let x = simp poly at h in simp poly (omega arith))
 
 not-below : (t : Bool) (m : ℕ) (e : ℤ) → (t ≡ true → m * up e ≡ 0) → lt (fin t m e) zero ≡ false
 unfolding lt

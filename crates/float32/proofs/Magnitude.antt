@@ -34,4 +34,5 @@ abs-above (inf true) h = absurd (true≢false h)
 abs-above (inf false) h = refl
 abs-above (fin false m e) h = refl
 abs-above (fin true ℕ.zero e) h = absurd (true≢false (simp zero-mul at h))
-abs-above (fin true (suc m) e) h = absurd (let k = ltb-false 0 (suc m * up e * 1 + 0 * down e) (or-neither _ _ h .0) in omega (arith, size-pos m e))
+abs-above (fin true (suc m) e) h =
+    absurd (let k = ltb-false 0 (suc m * up e * 1 + 0 * down e) (or-neither _ _ h .0) in omega (arith, size-pos m e))

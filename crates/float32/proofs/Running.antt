@@ -5,7 +5,8 @@ use mathlib.Core.Path.{_≡_, refl}
 use mathlib.Core.List.{List, [], _∷_}
 use lib.ListN.{length}
 use Prim.Native.Nat.{ℕ, suc, _+_, _*_, _^_, _≤_, _<_}
-use native.Mathlib.Nat.{add-zero, zero-add, add-assoc, suc-mul, le-trans, le-of-lt, lt-of-le-of-lt, add-mul, mul-le-mul-left, mul-suc, mul-lt-mul-of-pos-right}
+use native.Mathlib.Nat.{add-zero, zero-add, add-assoc, suc-mul, le-trans, le-of-lt, lt-of-le-of-lt, add-mul, mul-le-mul-left, mul-suc}
+use native.Mathlib.Nat.{mul-lt-mul-of-pos-right}
 use native.Mathlib.Omega.{arith}
 use mathlib.Core.Bool.{false}
 use lib.Dec.{lit<, lit≤}
@@ -56,21 +57,24 @@ small-of A X c L K h n m =
 below : (c : ℕ) → c < 2048 → c ≤ 2048
 below c h = omega arith
 
-add-nearly : (x y : Float) (X Y c d : ℕ) → d ≤ c → c < 2048 → Modest (X + Y) → Nearly x X c → Nearly y Y d → Nearly (add binary32 x y) (X + Y) (suc c)
+add-nearly : (x y : Float) (X Y c d : ℕ) → d ≤ c → c < 2048 → Modest (X + Y) → Nearly x X c → Nearly y Y d
+    → Nearly (add binary32 x y) (X + Y) (suc c)
 add-nearly x y X Y c d l h m v w =
     let n = sum-near (v .size) (w .size) X Y c (v .near) (looser (w .size) Y d c l (w .near)) in
     record {
       size = rounded binary32 (v .size + w .size);
       units = add-units binary32 x y (v .size) (w .size) (v .units) (w .units)
           (small-of (v .size + w .size) (X + Y) c (2 ^ low binary32) (pow-pos (low binary32)) (below c h) n m);
-      near = rounded-near (rounded binary32 (v .size + w .size)) (v .size + w .size) (X + Y) c h (units-near binary32 (v .size + w .size)) n;
+      near = rounded-near (rounded binary32 (v .size + w .size)) (v .size + w .size) (X + Y) c h
+          (units-near binary32 (v .size + w .size)) n;
     }
 
 pub exactly : (x : Float) (X : ℕ) → Units binary32 x X → Nearly x X 0
 exactly x X v = record { size = X; units = v; near = near-zero X X refl }
 
 -- a whole number times an exact value
-pub scale-nearly : (x y : Float) (k b : ℕ) → HasValue x false k 1 → Units binary32 y b → Modest (k * b) → Nearly (mul binary32 x y) (k * b) 1
+pub scale-nearly : (x y : Float) (k b : ℕ) → HasValue x false k 1 → Units binary32 y b → Modest (k * b)
+    → Nearly (mul binary32 x y) (k * b) 1
 scale-nearly x y k b v w m =
     let n = near-zero (k * b) (k * b) refl in
     record {
@@ -95,7 +99,8 @@ module _ {A : Type 0} (t : A → Float) where
         let k : c + suc (length ps) ≡ suc c + length ps = omega arith in
         let m : S + X p + length ps * H ≤ B = omega (arith, h .0 .1, suc-mul (length ps) H) in
         let s = add-nearly a (t p) S (X p) c d l (omega arith) (le-trans (omega arith) top) v (h .0 .0) in
-        rw (← add-assoc S (X p) (sumOf X ps), k) (summed-on ps (h .1) (add binary32 a (t p)) (S + X p) (suc c) s (omega arith) (omega arith) m)
+        rw (← add-assoc S (X p) (sumOf X ps), k)
+        (summed-on ps (h .1) (add binary32 a (t p)) (S + X p) (suc c) s (omega arith) (omega arith) m)
 
   pub summed-nearly : (X : A → ℕ) (d H : ℕ) (ps : List A) → d + length ps ≤ 2048 → length ps * H ≤ 2 ^ 60 * 2 ^ low binary32
       → All (λ p. Nearly (t p) (X p) d × (X p ≤ H)) ps

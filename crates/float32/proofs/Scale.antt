@@ -27,4 +27,5 @@ pub scaled : (s : Bool) (m : ℕ) (e : ℤ) (k : ℕ) → fits binary32 (fin s m
 unfolding mul
 scaled s m e k f small =
     rw (same-sign s, one-mul, mul-one)
-    (round-shifted s m e k f (far-below (m * up e * 2 ^ k) (down e) (down-pos e) (omega (arith, small))) (m * up e * 2 ^ k) (down e) (down-pos e) refl)
+    (round-shifted s m e k f (far-below (m * up e * 2 ^ k) (down e) (down-pos e) (omega (arith, small))) (m * up e * 2 ^ k)
+    (down e) (down-pos e) refl)

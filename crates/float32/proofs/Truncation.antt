@@ -37,7 +37,8 @@ cut-all (fin false m e) h k =
     sym (capped (m * up e) (down e) (down-pos e) (omega (arith, ltb-false (m * up e * 1) (1 * 2 ^ 64 * down e) k)))
 
 -- ---- within it: the whole part of a value ±a / c above -1
-pub cut-value : (w : ℕ) (v : Float) (s : Bool) (a c : ℕ) → 0 < c → (s ≡ true → a < c) → a / c < 2 ^ w → HasValue v s a c → toUnsigned w v ≡ a / c
+pub cut-value : (w : ℕ) (v : Float) (s : Bool) (a c : ℕ) → 0 < c → (s ≡ true → a < c) → a / c < 2 ^ w → HasValue v s a c
+    → toUnsigned w v ≡ a / c
 unfolding toUnsigned
 cut-value w nan s a c p n l h = absurd h
 cut-value w (inf t) s a c p n l h = absurd h

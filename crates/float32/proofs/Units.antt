@@ -36,10 +36,12 @@ units-exact f s h =
     let L = 2 ^ low f in
     let o : s * 2 ^ 0 < overflow f = lt-of-lt-of-le (subst (λ (z : ℕ). z < 2 ^ prec f) (sym (mul-one s)) h)
     (pow-mono (more (prec f) (low f) (suc (emax f)) (reach f))) in
-    let e : HasValue (round f false s L) false s L = round-exact f false s L s 0 (pow-pos (low f)) h o (ap (λ (z : ℕ). z * L) (sym (mul-one s))) in
+    let e : HasValue (round f false s L) false s L = round-exact f false s L s 0 (pow-pos (low f)) h o
+    (ap (λ (z : ℕ). z * L) (sym (mul-one s))) in
     let g : rounded f s < overflow f = grid-under f s L 0 (pow-pos (low f)) (none (emax f))
     (lt-of-lt-of-le h (le-trans (pow-mono (fewer f)) (le-of-eq (sym (one-mul L))))) in
-    eq-of-mul-eq-mul-right L (pow-pos (low f)) (rounded f s) s (value-unique (round f false s L) false (rounded f s) L s L (round-val f false s L g) e)
+    eq-of-mul-eq-mul-right L (pow-pos (low f)) (rounded f s) s
+    (value-unique (round f false s L) false (rounded f s) L s L (round-val f false s L g) e)
   where
     more : (p l e : ℕ) → p ≤ e → p ≤ l + e
     more p l e h = omega arith
@@ -72,7 +74,8 @@ units-near f s = ⊎-elim normal small (eq-zero-or-pos (prec f - size (s * 2 ^ l
     small : 0 < prec f - size (s * 2 ^ low f / 2 ^ low f) → HalfNear (rounded f s * 2 ^ (prec f - 1)) (s * 2 ^ (prec f - 1)) s
     small h =
         let e : s * 2 ^ low f / 2 ^ low f ≡ s = mul-div-cancel s (pow-pos (low f)) in
-        let l : s < 2 ^ prec f = lt-of-lt-of-le (size-lt s) (pow-mono (some-left (prec f) (size s) (subst (λ (z : ℕ). 0 < prec f - size z) e h))) in
+        let l : s < 2 ^ prec f = lt-of-lt-of-le (size-lt s)
+        (pow-mono (some-left (prec f) (size s) (subst (λ (z : ℕ). 0 < prec f - size z) e h))) in
         subst (λ (z : ℕ). HalfNear (z * 2 ^ (prec f - 1)) (s * 2 ^ (prec f - 1)) s) (sym (units-exact f s l)) (level s (2 ^ (prec f - 1)))
 
 -- ---- x is g units, and not negative
@@ -113,7 +116,8 @@ add-round f (fin s m e) (inf t) a c b d C D v w = absurd w
 add-round f (fin true m e) (fin t n i) a c b d C D v w = absurd (true≢false (v .0))
 add-round f (fin false m e) (fin true n i) a c b d C D v w = absurd (true≢false (w .0))
 add-round f (fin false m e) (fin false n i) a c b d C D v w =
-    round-same f false (m * up e * down i + n * up i * down e) (down e * down i) (a * d + b * c) (c * d) (mul-pos (down-pos e) (down-pos i)) (mul-pos C D)
+    round-same f false (m * up e * down i + n * up i * down e) (down e * down i) (a * d + b * c) (c * d)
+    (mul-pos (down-pos e) (down-pos i)) (mul-pos C D)
     (cross (m * up e) (down e) (n * up i) (down i) (v .1) (w .1))
   where
     cross : (X E Y I : ℕ) → X * c ≡ a * E → Y * d ≡ b * I → (X * I + Y * E) * (c * d) ≡ (a * d + b * c) * (E * I)
@@ -131,8 +135,10 @@ add-units f x y a b v w h =
     over : (L : ℕ) → 0 < L → round f false (a * L + b * L) (L * L) ≡ round f false (a + b) L
     over L K = round-same f false (a * L + b * L) (L * L) (a + b) L (mul-pos K K) K (simp poly)
 
-pub scale-units : (f : Format) (x y : Float) (k b : ℕ) → HasValue x false k 1 → Units f y b → Small f (k * b) → Units f (mul f x y) (rounded f (k * b))
+pub scale-units : (f : Format) (x y : Float) (k b : ℕ) → HasValue x false k 1 → Units f y b → Small f (k * b)
+    → Units f (mul f x y) (rounded f (k * b))
 scale-units f x y k b v w h =
     subst (λ (z : Float). Units f z (rounded f (k * b)))
-    (sym (mul-round f x y false false k 1 b (2 ^ low f) (lit< tt) (pow-pos (low f)) v w ∙ ap (λ (z : ℕ). round f false (k * b) z) (one-mul (2 ^ low f))))
+    (sym (mul-round f x y false false k 1 b (2 ^ low f) (lit< tt) (pow-pos (low f)) v w
+    ∙ ap (λ (z : ℕ). round f false (k * b) z) (one-mul (2 ^ low f))))
     (round-units f (k * b) h)

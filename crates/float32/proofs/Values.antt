@@ -11,7 +11,8 @@ use mathlib.Core.Bool.{Bool, true, false, not, _&&_, _||_, cond, true≢false}
 use lib.Dec.{T, ltb, eqb, ltb→lt, lt→ltb, nltb→le, eqb·suc-zero, eqb→eq}
 use lib.IntN.{pos}
 use lib.Pow.{pow-add, pow-pos, pow-mono}
-use lib.Ieee.{Float, nan, inf, fin, Format, binary32, binary64, prec, emax, low, up, down, unlike, round, neg, sum, add, sub, mul, div, ofInt, lt, eq, le}
+use lib.Ieee.{Float, nan, inf, fin, Format, binary32, binary64, prec, emax, low, up, down, unlike, round, neg, sum, add, sub, mul, div}
+use lib.Ieee.{ofInt, lt, eq, le}
 use lib.Ieee.Fits.{down-pos, reach, and-i, and-l, and-r, eq→eqb}
 use lib.Ieee.Exact.{HasValue, round-exact}
 use lib.Ieee.Positive.{den, den-pos, first-pos}
@@ -84,13 +85,16 @@ swap s a c p n q m d e = omega (arith, add-mul p q c, add-mul n m c, add-mul q p
 sum-frac : (f : Format) (s : Bool) (a : ℕ) (t : Bool) (b c p n q m d : ℕ) → 0 < c → IsFrac s a c p n d → IsFrac t b c q m d
     → SignedFrac f (sum f s a t b c) (p + q) (n + m) d
 unfolding sum
-sum-frac f true a true b c p n q m d C e k = record { sign = true; top = a + b; bottom = c; bottom-pos = C; is = refl; frac = alike true a b c p n q m d e k }
+sum-frac f true a true b c p n q m d C e k =
+    record { sign = true; top = a + b; bottom = c; bottom-pos = C; is = refl; frac = alike true a b c p n q m d e k }
 sum-frac f false a false b c p n q m d C e k =
     record { sign = false; top = a + b; bottom = c; bottom-pos = C; is = refl; frac = alike false a b c p n q m d e k }
 sum-frac f false a true b c p n q m d C e k = go (ltb a b) (ltb→lt a b) (nltb→le a b)
   where
-    go : (w : Bool) → (T w → a < b) → (T (not w) → b ≤ a) → SignedFrac f (cond w (round f true (b - a) c) (round f false (a - b) c)) (p + q) (n + m) d
-    go true h l = record { sign = true; top = b - a; bottom = c; bottom-pos = C; is = refl; frac = down-past a b c p n q m d (le-of-lt (h tt)) e k }
+    go : (w : Bool) → (T w → a < b) → (T (not w) → b ≤ a)
+        → SignedFrac f (cond w (round f true (b - a) c) (round f false (a - b) c)) (p + q) (n + m) d
+    go true h l =
+        record { sign = true; top = b - a; bottom = c; bottom-pos = C; is = refl; frac = down-past a b c p n q m d (le-of-lt (h tt)) e k }
     go false h l = record { sign = false; top = a - b; bottom = c; bottom-pos = C; is = refl; frac = down-to a b c p n q m d (l tt) e k }
 sum-frac f true a false b c p n q m d C e k = go (ltb a b) (ltb b a) (ltb→lt a b) (nltb→le a b) (nltb→le b a)
   where
@@ -106,7 +110,14 @@ sum-frac f true a false b c p n q m d C e k = go (ltb a b) (ltb b a) (ltb→lt a
           frac = swap false (b - a) c p n q m d (down-to b a c q m p n d (le-of-lt (h tt)) k e);
         }
     go false true h l l′ =
-        record { sign = true; top = a - b; bottom = c; bottom-pos = C; is = refl; frac = swap true (a - b) c p n q m d (down-past b a c q m p n d (l tt) k e) }
+        record {
+          sign = true;
+          top = a - b;
+          bottom = c;
+          bottom-pos = C;
+          is = refl;
+          frac = swap true (a - b) c p n q m d (down-past b a c q m p n d (l tt) k e);
+        }
     go false false h l l′ =
         record {
           sign = false;
@@ -116,7 +127,8 @@ sum-frac f true a false b c p n q m d C e k = go (ltb a b) (ltb b a) (ltb→lt a
           is = refl;
           frac = let x : a ≡ b = le-antisymm (l′ tt) (l tt) in
               let y : a - b ≡ b - a = ap (λ (z : ℕ). z - b) x ∙ ap (λ (z : ℕ). b - z) (sym x) in
-              subst (λ (z : ℕ). IsFrac false z c (p + q) (n + m) d) (sym y) (swap false (b - a) c p n q m d (down-to b a c q m p n d (l′ tt) k e));
+              subst (λ (z : ℕ). IsFrac false z c (p + q) (n + m) d) (sym y)
+              (swap false (b - a) c p n q m d (down-to b a c q m p n d (l′ tt) k e));
         }
 
 -- a value's own fraction, over a larger denominator
@@ -133,7 +145,8 @@ add-frac f (fin s a i) (inf t) p n q m d e k = absurd (k .is-finite)
 add-frac f (fin s a i) (fin t b o) p n q m d e k =
     sum-frac f s (a * up i * down o) t (b * up o * down i) (down i * down o) p n q m d (mul-pos (down-pos i) (down-pos o))
     (times s (a * up i) (down i) d p n (down o) (e .equal))
-    (subst (λ (z : ℕ). IsFrac t (b * up o * down i) z q m d) (mul-comm (down o) (down i)) (times t (b * up o) (down o) d q m (down i) (k .equal)))
+    (subst (λ (z : ℕ). IsFrac t (b * up o * down i) z q m d) (mul-comm (down o) (down i))
+    (times t (b * up o) (down o) d q m (down i) (k .equal)))
 
 neg-value : (x : Float) (p n c : ℕ) → IsValue x p n c → IsValue (neg x) n p c
 unfolding neg
@@ -207,7 +220,8 @@ pub same-sign : (s : Bool) → unlike s false ≡ s
 same-sign true = refl
 same-sign false = refl
 
-pub div-frac : (f : Format) (x y : Float) (k p n c : ℕ) → 0 < k → HasValue y false k 1 → IsValue x p n c → SignedFrac f (div f x y) p n (k * c)
+pub div-frac : (f : Format) (x y : Float) (k p n c : ℕ) → 0 < k → HasValue y false k 1 → IsValue x p n c
+    → SignedFrac f (div f x y) p n (k * c)
 unfolding div
 div-frac f nan y k p n c K v e = absurd (e .is-finite)
 div-frac f (inf s) y k p n c K v e = absurd (e .is-finite)
@@ -231,7 +245,8 @@ div-frac f (fin s a i) (fin false b o) k p n c K v e = record {
 
 -- ---- a product by sign and size
 cross-mul : (X De Y Dd a c b d : ℕ) → X * c ≡ a * De → Y * d ≡ b * Dd → X * Y * (c * d) ≡ a * b * (De * Dd)
-cross-mul X De Y Dd a c b d h k = mul-mul-mul-comm X Y c d ∙ ap (λ (z : ℕ). z * (Y * d)) h ∙ ap (λ (z : ℕ). a * De * z) k ∙ mul-mul-mul-comm a De b Dd
+cross-mul X De Y Dd a c b d h k =
+    mul-mul-mul-comm X Y c d ∙ ap (λ (z : ℕ). z * (Y * d)) h ∙ ap (λ (z : ℕ). a * De * z) k ∙ mul-mul-mul-comm a De b Dd
 
 pub mul-round : (f : Format) (x y : Float) (s t : Bool) (a c b d : ℕ) → 0 < c → 0 < d → HasValue x s a c → HasValue y t b d
     → mul f x y ≡ round f (unlike s t) (a * b) (c * d)
@@ -252,7 +267,8 @@ unfolding ofInt
 ofInt-value f n h =
     round-exact f false n 1 n (low f) (pow-pos 0) h
     (lt-of-lt-of-le (mul-lt-mul-of-pos-right h (pow-pos (low f)))
-    (le-trans (le-of-eq (mul-comm (2 ^ prec f) (2 ^ low f) ∙ sym (pow-add 2 (low f) (prec f)))) (pow-mono (more (low f) (prec f) (suc (emax f)) (reach f)))))
+    (le-trans (le-of-eq (mul-comm (2 ^ prec f) (2 ^ low f) ∙ sym (pow-add 2 (low f) (prec f))))
+    (pow-mono (more (low f) (prec f) (suc (emax f)) (reach f)))))
     (sym (mul-one (n * 2 ^ low f)))
   where
     more : (l p e : ℕ) → p ≤ e → l + p ≤ l + e
@@ -327,13 +343,19 @@ lt-parts nan y h k = absurd h
 lt-parts (inf s) y h k = absurd h
 lt-parts (fin s m e) nan h k = absurd k
 lt-parts (fin s m e) (inf t) h k = absurd k
-lt-parts (fin false m e) (fin false n d) h k =
-    (λ l. let z = ltb→lt (m * up e * down d) (n * up d * down e) l in omega arith, λ l. lt→ltb (m * up e * down d) (n * up d * down e) (omega arith))
+lt-parts (fin false m e) (fin false n d) h k = (
+  λ l. let z = ltb→lt (m * up e * down d) (n * up d * down e) l in omega arith,
+  λ l. lt→ltb (m * up e * down d) (n * up d * down e) (omega arith),
+)
 lt-parts (fin false m e) (fin true n d) h k = (λ l. absurd l, λ l. absurd (omega arith))
-lt-parts (fin true m e) (fin false n d) h k =
-    (λ l. let z = ltb→lt 0 (m * up e * down d + n * up d * down e) l in omega arith, λ l. lt→ltb 0 (m * up e * down d + n * up d * down e) (omega arith))
-lt-parts (fin true m e) (fin true n d) h k =
-    (λ l. let z = ltb→lt (n * up d * down e) (m * up e * down d) l in omega arith, λ l. lt→ltb (n * up d * down e) (m * up e * down d) (omega arith))
+lt-parts (fin true m e) (fin false n d) h k = (
+  λ l. let z = ltb→lt 0 (m * up e * down d + n * up d * down e) l in omega arith,
+  λ l. lt→ltb 0 (m * up e * down d + n * up d * down e) (omega arith),
+)
+lt-parts (fin true m e) (fin true n d) h k = (
+  λ l. let z = ltb→lt (n * up d * down e) (m * up e * down d) l in omega arith,
+  λ l. lt→ltb (n * up d * down e) (m * up e * down d) (omega arith),
+)
 
 -- over any common denominator
 order-eq : (G L D G' L' D' p n q m c : ℕ) → 0 < c → 0 < D → 0 < D' → G * c + n * D ≡ p * D + L * c → G' * c + m * D' ≡ q * D' + L' * c
@@ -376,7 +398,8 @@ eq-parts (fin s m e) nan h k = absurd k
 eq-parts (fin s m e) (inf t) h k = absurd k
 eq-parts (fin false m e) (fin false n d) h k = let o = level-same (m * up e * down d) (n * up d * down e) in
     (λ l. omega (arith, o .0 l), λ l. o .1 (omega arith))
-eq-parts (fin true m e) (fin true n d) h k = let o = level-same (m * up e * down d) (n * up d * down e) in (λ l. omega (arith, o .0 l), λ l. o .1 (omega arith))
+eq-parts (fin true m e) (fin true n d) h k = let o = level-same (m * up e * down d) (n * up d * down e) in
+    (λ l. omega (arith, o .0 l), λ l. o .1 (omega arith))
 eq-parts (fin false m e) (fin true n d) h k = let o = level-other (m * up e * down d) (n * up d * down e) in
     (λ l. omega (arith, o .0 l), λ l. o .1 (omega arith))
 eq-parts (fin true m e) (fin false n d) h k = let o = level-other (m * up e * down d) (n * up d * down e) in

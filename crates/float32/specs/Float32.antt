@@ -1,4 +1,4 @@
--- What the operations on `f32` give, over the logic's IEEE values: a finite x is ± num x / den x (lib.Ieee.Positive).
+-- What the operations on `f32` give, for the logic's IEEE values: a finite x is ± num x / den x (lib.Ieee.Positive).
 use Prim.Native.Nat.{ℕ, suc, _+_, _*_, _/_}
 use mathlib.Core.Path.{_≡_}
 use mathlib.Core.Bool.{Bool, true, false, cond, _&&_}
@@ -19,7 +19,8 @@ abs nan = nan
 abs (inf s) = inf false
 abs (fin s m e) = fin false m e
 
--- lifted (RULES 1.3), Rust's `x.max(0.0)`: NaN and negatives become 0, and so does -0.0 (Rust leaves open which zero it gives there)
+-- lifted (RULES 1.3), Rust's `x.max(0.0)`: NaN and negatives become 0, and so does -0.0 (Rust leaves open which zero it
+-- gives there)
 unfoldable pub lift : Float → Float
 lift x = cond (lt zero x) x zero
 
@@ -29,26 +30,30 @@ between lo hi x = le lo x && le x hi
 
 -- ---- Rust's `x.round()` as a whole number
 
--- |x| rounded to a whole number, a half up: (2 |x| + 1) / 2, cut off
+-- |x| rounded to a whole number, halves up: (2 |x| + 1) / 2, cut off
 unfoldable pub nearestWhole : Float → ℕ
 nearestWhole x = (2 * num x + den x) / (2 * den x)
 
--- a size with a sign; there is no negative 0
+-- an absolute value with a sign; there is no negative 0
 abbrev pub signed : Bool → ℕ → Rounded
 signed false n = Natural n
 signed true ℕ.zero = Natural 0
 signed true (suc n) = Negative (suc n)
 
--- a number, or `Beyond` where it is not judged
+-- a number, or `Beyond` if it is not rounded
 abbrev pub judged : Bool → Rounded → Rounded
 judged true r = r
 judged false r = Beyond
 
--- sizes above 2 ^ 24, infinities and NaN are not judged
-abbrev pub isJudged : Float → Bool
-isJudged x = le (abs x) (fin false 1 (pos 24))
+-- the largest absolute value that is rounded (RULES 1.8)
+abbrev pub largestRounded : Float
+largestRounded = fin false 1 (pos 24)
 
--- a half goes away from zero
+-- those above it, infinities and NaN are not rounded
+abbrev pub isJudged : Float → Bool
+isJudged x = le (abs x) largestRounded
+
+-- halves round away from zero
 unfoldable pub roundHalfAway : Float → Rounded
 unfolding abs nearestWhole
 roundHalfAway x = judged (isJudged x) (signed (lt x zero) (nearestWhole x))
@@ -57,7 +62,7 @@ roundHalfAway x = judged (isJudged x) (signed (lt x zero) (nearestWhole x))
 abbrev pub wholeOf : Float → ℤ
 wholeOf x = cond (lt x zero) (negℤ (pos (nearestWhole x))) (pos (nearestWhole x))
 
--- number and values of each case: rounding refuses nothing, and its value is the integer, none where it is not judged
+-- number and values of each case: rounding refuses nothing, and its value is the integer, none if it is not rounded
 abbrev pub numberOf : Rounded → ℕ
 numberOf (Natural n) = 0
 numberOf (Negative n) = 0

@@ -1,4 +1,5 @@
--- The number that a float is, as a signed fraction of naturals; bounds and sums of naturals that go with it.
+-- The number that a float stands for, as a signed fraction of naturals, and bounds and sums of naturals for use with
+-- it.
 use Prim.Native.Nat.{ℕ, suc, _+_, _-_, _*_, _≤_}
 use mathlib.Core.Path.{_≡_}
 use mathlib.Core.Bool.{cond}
@@ -8,7 +9,7 @@ use lib.Ieee.{Float, nan, inf, fin, up}
 use lib.Ieee.Positive.{den}
 use lib.Ieee.Scale.{finite}
 
--- ---- a finite x is (gain x - loss x) / den x, one of the two being 0
+-- ---- a finite x is (gain x - loss x) / den x, where one of the two is 0
 abbrev pub gain : Float → ℕ
 gain nan = 0
 gain (inf s) = 0
@@ -35,7 +36,7 @@ abbrev pub IsWhole : Float → ℕ → Type 0
 IsWhole x k = IsValue x k 0 1
 
 -- ---- integers and naturals
--- an integer z is plusPart z - minusPart z, one of the two being 0
+-- an integer z is plusPart z - minusPart z, where one of the two is 0
 abbrev pub plusPart : ℤ → ℕ
 plusPart (pos n) = n
 plusPart (negsuc n) = 0

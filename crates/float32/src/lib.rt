@@ -1,4 +1,4 @@
-// Operations on f32 that Rust's `std` has and Rattle's has not, or not for every value: each is total.
+// Operations on f32 that Rust's `std` has and Rattle lacks, or lacks for some values. Each is total.
 ghost use mathlib.Core.Path.{_≡_};
 ghost use lib.Ieee.{binary32, ofBits, toBits, toUnsigned};
 ghost use lib.Ieee.Scale.{finite};
@@ -20,7 +20,7 @@ pub fn is_finite(x: f32) -> bool
     false
 }
 
-// x where it is above 0, else 0.0: NaN and negatives become 0.
+// x if it is above 0, else 0.0: NaN and negatives become 0.
 pub fn lifted(x: f32) -> f32
     ensures { λ r. ⌜ r ≡ lift x ⌝ }
 {
@@ -34,7 +34,8 @@ pub fn is_between(lo: f32, hi: f32, x: f32) -> bool
     if lo <= x { x <= hi } else { false }
 }
 
-// The float of any 32 bits. `f32::from_bits` is undefined at a NaN's pattern: each of them gives the one NaN.
+// The float of any 32 bits. `f32::from_bits` is undefined for the bit pattern of a NaN; here each of them gives the one
+// NaN.
 pub fn from_bits(n: u32) -> f32
     ensures { λ r. ⌜ r ≡ ofBits binary32 n ⌝ }
 {
@@ -67,20 +68,23 @@ pub fn cut_off(x: f32) -> usize
     0
 }
 
-// A float rounded to a whole number: not negative, negative (its size), or not judged.
+// A float rounded to a whole number: not negative, negative (its absolute value), or not rounded.
 pub enum Rounded {
     Natural(usize),
     Negative(usize),
     Beyond,
 }
 
-// Rust's `x.round()`: a half goes away from zero. Above 2^24 in size, and at a NaN, `Beyond`.
+// The largest absolute value that is rounded, 2^24.
+pub const LARGEST_ROUNDED: f32 = 16777216.0;
+
+// Rust's `x.round()`: halves round away from zero. `Beyond` for a NaN and if |x| is above 2^24.
 // Twice a float is exact; x + 0.5 is not, and would round 0.49999997 to 1.
 pub fn round_half_away(x: f32) -> Rounded
     ensures { λ r. ⌜ Rounds x r ⌝ }
 {
     let a = abs(x);
-    if a <= 16777216.0 {
+    if a <= LARGEST_ROUNDED {
         let n = (cut_off(a + a) + 1) / 2;
         if x < 0.0 {
             if n == 0 {

@@ -5,6 +5,7 @@ use native.Mathlib.Numerals.{add-one}
 use mathlib.Core.Path.{_≡_, refl, sym, ap, _∙_}
 use mathlib.Core.List.{List, [], _∷_, _++_, map, map-append, append-nil}
 use lib.ListN.{length, length-append, length-map}
+use Rattle.lists.specs.Limits.{largestMap}
 use Rattle.lists.specs.Tab.{tab}
 use Rattle.lists.specs.Places.{flatMap, sumOf}
 use Rattle.lists.specs.Buffer.{placed}
@@ -18,6 +19,7 @@ use Rattle.detect.specs.declared.Peaks.{Peaks}
 use Rattle.detect.specs.declared.Peaks.the-variants.{Added, Refused}
 use Rattle.patch_corners.proofs.Changing.{placed-places}
 use Rattle.patch_corners.proofs.Centring.{both}
+use Rattle.patch_corners.proofs.RowsAlike.{sum-append}
 use Rattle.frame.specs.Internal.{Adds}
 
 module _ (cs : List Corner) (ties held : ℕ) (b : Slices) where
@@ -37,7 +39,8 @@ module _ (cs : List Corner) (ties held : ℕ) (b : Slices) where
   pub adds-none : cs ≡ [] → ties ≡ 0 → held ≤ placesOf b → Adds cs ties held b (Added 0 0) b
   adds-none e t h =
       adds 0 0 b (ap length (sym e)) (omega arith)
-      (slices-alike (placed-none held (b .xs)) (placed-none held (b .ys)) (placed-none held (b .strengths)) (placed-none held (b .neighbours))
+      (slices-alike (placed-none held (b .xs)) (placed-none held (b .ys)) (placed-none held (b .strengths))
+      (placed-none held (b .neighbours))
       ∙ ap (λ (l : List Corner). placedCorners held l b) (sym e))
       (sym t)
 
@@ -58,10 +61,11 @@ module _ (cs : List Corner) (ties held t : ℕ) (b₀ b : Slices) (a : Adds cs t
   adds-held = omega (arith, fitted .1, adds-places)
 
   module _ (ds : List Corner) (more-ties : ℕ) (answer : Peaks) (b′ : Slices) (d : Adds ds more-ties held b answer b′) where
-    adds-more : (n u : ℕ) → answer ≡ Added n u → Adds (cs ++ ds) (ties + more-ties) 0 b₀ (Added (held + n) (t + u)) b′
+    pub adds-more : (n u : ℕ) → answer ≡ Added n u → Adds (cs ++ ds) (ties + more-ties) 0 b₀ (Added (held + n) (t + u)) b′
     adds-more n u e =
         let k = d .added n u e in
-        adds (cs ++ ds) (ties + more-ties) 0 b₀ (held + n) (t + u) b′ (omega (arith, fitted .0, k .0, length-append cs ds)) (omega (arith, k .1, adds-places))
+        adds (cs ++ ds) (ties + more-ties) 0 b₀ (held + n) (t + u) b′ (omega (arith, fitted .0, k .0, length-append cs ds))
+        (omega (arith, k .1, adds-places))
         (k .2
         ∙ ap (placedCorners held ds) (fitted .2)
         ∙ slices-alike (more xOf (b₀ .xs)) (more yOf (b₀ .ys)) (more strengthOf (b₀ .strengths)) (more neighboursOf (b₀ .neighbours)))
@@ -73,14 +77,11 @@ module _ (cs : List Corner) (ties held t : ℕ) (b₀ b : Slices) (a : Adds cs t
             ∙ ap (λ (l : List A). placed 0 l s) (sym (map-append g cs ds))
 
     -- the first that does not fit, of a list that goes on
-    adds-full : (k : ℕ) → answer ≡ Refused k → (all : List Corner) (all-ties : ℕ) → length cs + length ds ≤ length all → Adds all all-ties 0 b₀ answer b′
+    pub adds-full : (k : ℕ) → answer ≡ Refused k → (all : List Corner) (all-ties : ℕ) → length cs + length ds ≤ length all
+        → Adds all all-ties 0 b₀ answer b′
     adds-full k e all all-ties l = adds-not all all-ties 0 b₀ answer k b′ e (omega (arith, d .refused k e, fitted .0, adds-places))
 
 -- ---- the lists of the first members, and the sums of a number of each
-sum-append : {A : Type 0} (X : A → ℕ) (s t : List A) → sumOf X (s ++ t) ≡ sumOf X s + sumOf X t
-sum-append X [] t = omega arith
-sum-append X (a ∷ s) t = omega (arith, sum-append X s t)
-
 sum-next : {A : Type 0} (X : A → ℕ) (g : ℕ → A) (i : ℕ) → sumOf X (tab i g) + X (g i) ≡ sumOf X (tab (i + 1) g)
 unfolding tab
 sum-next X g i = omega (arith, sum-append X (tab i g) (g i ∷ []), ap (λ (k : ℕ). sumOf X (tab k g)) (add-one i))
@@ -126,7 +127,8 @@ module _ {A : Type 0} (f : A → List Corner) (X : A → ℕ) (g : ℕ → A) (i
 
   pub turn-full : (k : ℕ) → answer ≡ Refused k → (n : ℕ) → i < n → Adds (flatMap f (tab n g)) (sumOf X (tab n g)) 0 b₀ answer b′
   turn-full k z n l =
-      adds-full (flatMap f (tab i g)) (sumOf X (tab i g)) held t b₀ b a (f s) (X s) answer b′ d k z (flatMap f (tab n g)) (sumOf X (tab n g))
+      adds-full (flatMap f (tab i g)) (sumOf X (tab i g)) held t b₀ b a (f s) (X s) answer b′ d k z (flatMap f (tab n g))
+      (sumOf X (tab n g))
       (omega (arith, flat-within f g i n l, ap (λ (r : A). length (f r)) e))
 
 -- the lists of all seeds that stand in a buffer
@@ -136,5 +138,5 @@ pub turns-all : (seeds : Slices) (f : Corner → List Corner) (X : Corner → �
 turns-all seeds f X b answer b′ i n e a = rw e at a
 
 -- ties of at most 2^24 lists, each with few, as a u64
-pub sum-fits : (t s l n : ℕ) → t ≡ s → s ≤ 18270388224 * l → (i : ℕ) → l ≡ i + 1 → i < n → n ≤ 16777216 → t ≤ 18446744073709551615
+pub sum-fits : (t s l n : ℕ) → t ≡ s → s ≤ 18270388224 * l → (i : ℕ) → l ≡ i + 1 → i < n → n ≤ largestMap → t ≤ 18446744073709551615
 sum-fits t s l n e few i is below most = omega arith

@@ -7,6 +7,7 @@ use mathlib.Core.Logic.{inl, inr}
 use mathlib.Core.List.{List, [], _∷_, map, append-nil}
 use types.Run.{OneOf}
 use denote.Enum.Declared.{tagOf}
+use Rattle.lists.specs.Limits.{largestSide}
 use Rattle.lists.specs.Places.{flatMap, sumOf}
 use Rattle.corner_list.specs.declared.Corner.{Corner}
 use Rattle.corner_list.specs.CornerList.{Slices, placesOf}
@@ -25,7 +26,8 @@ use Rattle.frame.specs.Internal.{Adds}
 use Rattle.frame.proofs.Adding.{adds-none, adds-to}
 use Rattle.frame.proofs.Patches.{boxIn}
 
-module _ (choose : Choice) (p : FrameParams) (img : List ℕ) (w h : ℕ) (k : ℕ) (s : Corner) (a : RoiAnswer) (boxed : Boxed (contextAt p img w h k) s a) where
+module _ (choose : Choice) (p : FrameParams) (img : List ℕ) (w h : ℕ) (k : ℕ) (s : Corner) (a : RoiAnswer)
+    (boxed : Boxed (contextAt p img w h k) s a) where
   -- ---- no box
   no-patch : (a : RoiAnswer) → OneOf (1 ∷ 2 ∷ []) (tagOf answer-type a) → patchOf p img w h a ≡ []
   no-patch (roi.Bounds x0 y0 x1 y1) (inl e) = absurd (omega arith)
@@ -45,18 +47,20 @@ module _ (choose : Choice) (p : FrameParams) (img : List ℕ) (w h : ℕ) (k : �
   -- ---- a box
   module _ (x0 y0 x1 y1 : ℕ) (q : a ≡ roi.Bounds x0 y0 x1 y1) where
     -- its corner lies in the image
-    pub about-corner : SoundFrame p img w h → (x0 ≤ 4096) × (y0 ≤ 4096)
+    pub about-corner : SoundFrame p img w h → (x0 ≤ largestSide) × (y0 ≤ largestSide)
     about-corner sound =
         let i = box-inside (contextAt p img w h k) s x0 y0 x1 y1 (sym (boxed .answer) ∙ q) in
         (omega (arith, i .0, i .1, sound .narrow), omega (arith, i .2, i .3, sound .low))
 
     -- the corners of its map, moved by its corner, are the seed's
     pub about-added : (held : ℕ) (b : Slices) (answer : Peaks) (b′ : Slices)
-        → Adds (map (moved x0 y0) (cornersIn p choose (boxIn p img w h x0 y0 x1 y1))) (tiesOn p choose (boxIn p img w h x0 y0 x1 y1)) held b answer b′
+        → Adds (map (moved x0 y0) (cornersIn p choose (boxIn p img w h x0 y0 x1 y1)))
+        (tiesOn p choose (boxIn p img w h x0 y0 x1 y1)) held b answer b′
         → Adds (cornersAbout p img w h choose k s) (tiesAbout p img w h choose k s) held b answer b′
     about-added held b answer b′ d =
         let v = boxIn p img w h x0 y0 x1 y1 in
         adds-to _ _ held b _ _ answer b′
         (sym (append-nil (map (moved x0 y0) (cornersIn p choose v)))
         ∙ ap (λ (r : RoiAnswer). flatMap (cornersOn p img w h choose) (patchOf p img w h r)) (sym q ∙ boxed .answer))
-        (sym (add-zero (tiesOn p choose v)) ∙ ap (λ (r : RoiAnswer). sumOf (tiesOn p choose) (patchOf p img w h r)) (sym q ∙ boxed .answer)) d
+        (sym (add-zero (tiesOn p choose v))
+        ∙ ap (λ (r : RoiAnswer). sumOf (tiesOn p choose) (patchOf p img w h r)) (sym q ∙ boxed .answer)) d

@@ -35,7 +35,8 @@ own-front {A} vs r = ap (λ (l : List A). vs ++ l) (sym (drop-at vs r (length vs
 pub corners-padded : (cs : List Corner) (b : Slices) (n : ℕ) → n ≡ length cs → cornersOf (paddedCorners cs b) n ≡ cs
 corners-padded cs b n e =
     ap (λ (s : Slices). cornersOf s n)
-    (slices-alike (own-front (map xOf cs) _) (own-front (map yOf cs) _) (own-front (map strengthOf cs) _) (own-front (map neighboursOf cs) _))
+    (slices-alike (own-front (map xOf cs) _) (own-front (map yOf cs) _) (own-front (map strengthOf cs) _)
+    (own-front (map neighboursOf cs) _))
     ∙ corners-front cs (paddedCorners cs b) n e
 
 -- a finished frame: its corners and ties, by the pass, and the buffers
@@ -53,14 +54,16 @@ module _ (choose : Choice) (p : FrameParams) (img : List ℕ) (w h : ℕ) (b : B
   not-many e =
       let before = lowest (conditions p (length img) w h (length (b .map)) (length (b .levels))) in
       let none : before ≡ 0 =
-      ⊎-elim (λ z. z) (λ l. sym (number-before choose p img w h b (λ (z : before ≡ 0). let no : ⊥ = omega arith in no)) ∙ e) (eq-zero-or-pos before) in
+      ⊎-elim (λ z. z) (λ l. sym (number-before choose p img w h b (λ (z : before ≡ 0). let no : ⊥ = omega arith in no)) ∙ e)
+      (eq-zero-or-pos before) in
       lowest-none (tooMany (framePass p img w h choose) b) 10 [] (omega arith) (sym (number-in-pass choose p img w h b none) ∙ e) .0
 
   few : refusalOf choose p img w h b ≡ 0 → length (framePass p img w h choose .corners) ≤ placesOf (b .corners)
   unfolding framePass
   few e =
       let q = framePass p img w h choose in
-      let l = ltb-false (placesOf (b .corners)) (length (q .found)) (or-neither (ltb (placesOf (b .seeds)) (length (q .seeds))) _ (not-many e) .1) in
+      let l = ltb-false (placesOf (b .corners)) (length (q .found))
+      (or-neither (ltb (placesOf (b .seeds)) (length (q .seeds))) _ (not-many e) .1) in
       omega (arith, l, result-length (p .«merge_radius») (foundOf p img w h choose (levelsIn p img w h)))
 
   pub finished-tells : (n t : ℕ) (b′ : Buffers) → FrameFound choose p img w h b (Corners n t) b′ → Finished choose p img w h b n t b′

@@ -11,7 +11,7 @@ use borrow.Author.Tests.{le-ltb, ne-eqb}
 use Rattle.lists.specs.Places.{All}
 use Rattle.lists.specs.Tab.{tab}
 use Rattle.lists.specs.Buffer.{front, wipedFrom}
-use Rattle.lists.specs.Refusals.{lowest, valuesUnless, unless}
+use Rattle.lists.specs.Refusals.{lowest, valuesUnless, unless, resultOr}
 use Rattle.float32.specs.Float32 as float32
 use Rattle.pyramid.specs.Pyramid.{above}
 use Rattle.pyramid.specs.Build.{Built}
@@ -25,6 +25,7 @@ use Rattle.corner_list.specs.declared.Corner.{Corner}
 use Rattle.corner_list.proofs.Corners.{corners-front, same-places}
 use Rattle.merge.specs.declared.Merged.{Merged}
 use Rattle.merge.specs.Merge as merge
+use Rattle.merge.specs.Table.{MergesByTable}
 use Rattle.merge_refusal.proofs.Judged.{judged-none-off, judged-none-on}
 use Rattle.merge.proofs.Result.{result-length, merges-done}
 use Rattle.patch_corners.specs.declared.FrameParams.{FrameParams}
@@ -139,7 +140,8 @@ module _ (choose : Choice) (p : FrameParams) (img : List ℕ) (w h : ℕ) (m : L
     places-kept = same-places c′ c (same′ .xs) (same′ .ys) (same′ .strengths) (same′ .neighbours)
 
     -- merging is not refused
-    pub merge-free : Admitted p (length img) w h (length m) (length levels) → All (λ z. isInside z ≡ true) (framePass p img w h choose .found)
+    pub merge-free : Admitted p (length img) w h (length m) (length levels)
+        → All (λ z. isInside z ≡ true) (framePass p img w h choose .found)
         → merge.refusalOf (p .«merge_radius») (placesOf c′) (answer .corners) c′ ≡ 0
     merge-free ad inside = of (answer .fit) refl
       where
@@ -155,9 +157,12 @@ module _ (choose : Choice) (p : FrameParams) (img : List ℕ) (w h : ℕ) (m : L
 
     -- the buffers are cleared behind what they hold, and the corners merged
     pub entry-closed : lowest (conditions p (length img) w h (length m) (length levels)) ≡ 0
-        → (m₁ : List Float) → length m₁ ≡ length m → (levels₁ : List ℕ) → levels₁ ≡ front (above img w h n) levels → length levels₁ ≡ length levels
-        → (m′ : List Float) → m′ ≡ wipedFrom 0 float32.zero m₁ → (levels′ : List ℕ) → levels′ ≡ cond (answer .fit) levels₁ (replicate (length levels₁) 0)
-        → (s″ : Slices) → s″ ≡ clearedFrom (answer .seeds) s′ → (k : ℕ) (c″ : Slices) → Merging (p .«merge_radius») (answer .corners) c′ k c″
+        → (m₁ : List Float) → length m₁ ≡ length m → (levels₁ : List ℕ) → levels₁ ≡ front (above img w h n) levels
+        → length levels₁ ≡ length levels
+        → (m′ : List Float) → m′ ≡ wipedFrom 0 float32.zero m₁ → (levels′ : List ℕ)
+        → levels′ ≡ cond (answer .fit) levels₁ (replicate (length levels₁) 0)
+        → (s″ : Slices) → s″ ≡ clearedFrom (answer .seeds) s′ → (k : ℕ) (c″ : Slices)
+        → Merging (p .«merge_radius») (answer .corners) c′ k c″
         → (r : FrameAnswer) → r ≡ cond (answer .fit) (Corners k (answer .ties)) (Refused 10)
         → FrameFound choose p img w h (buffers m levels s c) r (buffers m′ levels′ s″ c″)
     entry-closed none m₁ em levels₁ el ll m′ wm levels′ wl s″ ws k c″ merged r is = of (answer .fit) refl
@@ -182,7 +187,8 @@ module _ (choose : Choice) (p : FrameParams) (img : List ℕ) (w h : ℕ) (m : L
             let all = foundOf p img w h choose n in
             let done = cleared all (found-read e) (omega (arith, result-length (p .«merge_radius») all, q .3, q .4)) in
             let es : s″ ≡ paddedCorners seeds s = ws ∙ ap (clearedFrom (answer .seeds)) (q .2)
-            ∙ cleared-front s s (record { xs = refl; ys = refl; strengths = refl; neighbours = refl }) seeds (answer .seeds) (q .0) (q .1) in
+            ∙ cleared-front s s (record { xs = refl; ys = refl; strengths = refl; neighbours = refl }) seeds (answer .seeds)
+            (q .0) (q .1) in
             let levels-left : levels′ ≡ front (above img w h n) levels = wl ∙ rw e el in
             let answered : r ≡ Corners k (answer .ties) = is ∙ rw e in
             rw answered
@@ -207,10 +213,14 @@ module _ (choose : Choice) (p : FrameParams) (img : List ℕ) (w h : ℕ) (m : L
             (found-short choose p img w h (buffers m levels s c) none (rw (seeds-are, found-are) (q .2)) (buffers m′ levels′ s″ c″)
             (rw (wiped-map, levels-left, es, ec)))
 
--- ---- merging, where it is not refused
-module _ (radius : Float) (n : ℕ) (c : Slices) (free : merge.refusalOf radius (placesOf c) n c ≡ 0) (kept : Merged) (c′ : Slices)
-    (merges : merge.Merges radius (placesOf c) n c kept c′) where
+-- ---- merging with the map as its table, where it is not refused
+module _ (radius : Float) (n : ℕ) (c : Slices) (m : List Float) (free : merge.refusalOf radius (placesOf c) n c ≡ 0)
+    (kept : Merged) (c′ : Slices)
+    (m′ : List Float) (done : MergesByTable radius n c m kept c′ m′) where
+  pub map-cleared : m′ ≡ wipedFrom 0 float32.zero m
+  map-cleared = done .cleared ∙ ap (λ (k : ℕ). resultOr k (wipedFrom 0 float32.zero m) m) free
+
   pub merge-done : (k : ℕ) → k ≡ keptOf kept → (c″ : Slices) → c″ ≡ clearedFrom k c′ → Merging radius n c k c″
   merge-done k e c″ is =
-      let done = merges-done radius (placesOf c) n c c′ kept (cornersOf c n) refl free merges in
+      let done = merges-done radius (placesOf c) n c c′ kept (cornersOf c n) refl free (done .merges) in
       record { count = e ∙ ap keptOf (done .0); is = is ∙ ap (clearedFrom k) (done .1) }

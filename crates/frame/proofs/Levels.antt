@@ -8,6 +8,7 @@ use mathlib.Core.List.{List, [], map}
 use lib.ListN.{length}
 use lib.Dec.{ltb}
 use borrow.Author.Tests.{lt-ltb}
+use Rattle.lists.specs.Limits.{largestMap}
 use Rattle.lists.specs.Places.{flatMap, sumOf}
 use Rattle.lists.proofs.Buffer.{placed-first}
 use Rattle.lists.proofs.Tests.{or-right}
@@ -38,7 +39,8 @@ first-corners cs b =
     (placed-first (map neighboursOf cs) (b .neighbours))
 
 -- a map buffer of another length, at least as long
-pub ready-kept : (p : FrameParams) (img : List ℕ) (w h places places′ : ℕ) → Ready p img w h places → places′ ≡ places → Ready p img w h places′
+pub ready-kept : (p : FrameParams) (img : List ℕ) (w h places places′ : ℕ) → Ready p img w h places → places′ ≡ places
+    → Ready p img w h places′
 ready-kept p img w h places places′ r e = rw e r
 
 -- ---- the last of n levels, which is level k
@@ -71,10 +73,14 @@ module _ (p : FrameParams) (img : List ℕ) (w h n : ℕ) (levels : List ℕ) (b
         → SeedsAdded p img w h choose n b answer b′
     last-seeds choose b answer b′ a =
         let ties = tiesOn p choose (boxIn p last lw lh 0 0 lw lh) in
-        record { ties = ties; adds = adds-to _ ties 0 b _ ties answer b′ (rw (pixels, wide, high) (last-is p img w h choose n some k is)) refl a }
+        record {
+          ties = ties;
+          adds = adds-to _ ties 0 b _ ties answer b′ (rw (pixels, wide, high) (last-is p img w h choose n some k is)) refl a;
+        }
 
 -- fewer levels have none
-pub no-seeds : (p : FrameParams) (img : List ℕ) (w h : ℕ) (choose : Choice) (n : ℕ) → n < 2 → (b : Slices) → SeedsAdded p img w h choose n b (Added 0 0) b
+pub no-seeds : (p : FrameParams) (img : List ℕ) (w h : ℕ) (choose : Choice) (n : ℕ) → n < 2 → (b : Slices)
+    → SeedsAdded p img w h choose n b (Added 0 0) b
 unfolding seedsOf
 no-seeds p img w h choose n l b = record { ties = 0; adds = adds-none (seedsOf p img w h choose n) 0 0 b (of n l) refl (omega arith) }
   where
@@ -85,11 +91,12 @@ no-seeds p img w h choose n l b = record { ties = 0; adds = adds-none (seedsOf p
 
 -- so few seeds were added as one level of a sound image has
 pub seeds-few : (p : FrameParams) (exact : Bool) (img : List ℕ) (w h places : ℕ) → Ready p img w h places
-    → (n : ℕ) (b : Slices) (answer : Peaks) (b′ : Slices) → SeedsAdded p img w h (choiceOf p exact) n b answer b′ → addedOf answer ≤ 16777216
+    → (n : ℕ) (b : Slices) (answer : Peaks) (b′ : Slices) → SeedsAdded p img w h (choiceOf p exact) n b answer b′
+    → addedOf answer ≤ largestMap
 unfolding seedsOf
 seeds-few p exact img w h places ready n b (Added m t) b′ a = omega (arith, a .adds .added m t refl .0, few n)
   where
-    few : (n : ℕ) → length (seedsOf p img w h (choiceOf p exact) n) ≤ 16777216
+    few : (n : ℕ) → length (seedsOf p img w h (choiceOf p exact) n) ≤ largestMap
     few zero = omega arith
     few (suc zero) = omega arith
     few (suc (suc k)) = level-few p exact img w h (ready .sound) (suc k)
@@ -141,7 +148,10 @@ module _ (seeds found : List Corner) (ties : ℕ) (s c s′ c′ : Slices) where
       → Searched seeds found ties s c (listsOf (Added m u) answer) s′ c′
   listed m u p q r (Added n v) a =
       let t = a .added n v refl in
-      record { both = λ z. (p, q, r, t .0, omega (arith, t .1), t .2 ∙ first-corners found c, t .3); short = λ z. absurd (false≢true (sym z)) }
+      record {
+        both = λ z. (p, q, r, t .0, omega (arith, t .1), t .2 ∙ first-corners found c, t .3);
+        short = λ z. absurd (false≢true (sym z));
+      }
   listed m u p q r (Refused k) a =
       lists-short (rw (lt-ltb (placesOf c) (length found) (omega (arith, a .refused k refl))) (or-right (ltb (placesOf s) (length seeds))))
 

@@ -7,3 +7,4 @@ pub mod Boxes
 pub mod Levels
 pub mod Entry
 pub mod Callers
+pub mod InBands

@@ -1,5 +1,5 @@
--- The floats behind the first `held` of a slice, each replaced by a function of it, one a turn; and corners that are moved by a box's corner so, their
--- columns and then their rows. Assumes nothing.
+-- The floats behind the first `held` of a slice, each replaced by a function of it, one a turn; and corners that are moved by a box's
+-- corner so, their columns and then their rows. Assumes nothing.
 use Prim.Native.Nat.{ℕ, _+_, _<_, _≤_}
 use native.Mathlib.Omega.{arith}
 use native.Mathlib.Numerals.{add-one}
@@ -79,12 +79,14 @@ fields : {A : Type 0} (x : Corner → A) (g : A → A) (f : Corner → Corner) �
 fields x g f e [] = refl
 fields {A} x g f e (c ∷ cs) = ap₂ (λ (a : A) (l : List A). a ∷ l) (e c) (fields x g f e cs)
 
-kept : {A : Type 0} (x : Corner → A) (f : Corner → Corner) → ((c : Corner) → x c ≡ x (f c)) → (cs : List Corner) → map x cs ≡ map x (map f cs)
+kept : {A : Type 0} (x : Corner → A) (f : Corner → Corner) → ((c : Corner) → x c ≡ x (f c)) → (cs : List Corner)
+    → map x cs ≡ map x (map f cs)
 kept x f e [] = refl
 kept {A} x f e (c ∷ cs) = ap₂ (λ (a : A) (l : List A). a ∷ l) (e c) (kept x f e cs)
 
 module _ (cs : List Corner) (ties held : ℕ) (b : Slices) where
-  pub moved-fits : (answer : Peaks) (b′ : Slices) → Adds cs ties held b answer b′ → held ≤ placesOf b → (m : ℕ) → m ≡ addedOf answer → held + m ≤ placesOf b
+  pub moved-fits : (answer : Peaks) (b′ : Slices) → Adds cs ties held b answer b′ → held ≤ placesOf b → (m : ℕ)
+      → m ≡ addedOf answer → held + m ≤ placesOf b
   moved-fits (Added n t) b′ a l m e = omega (arith, a .added n t refl .1)
   moved-fits (Refused x) b′ a l m e = omega arith
 

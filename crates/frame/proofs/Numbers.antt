@@ -18,7 +18,8 @@ module _ (choose : Choice) (p : FrameParams) (img : List ℕ) (w h : ℕ) (b : B
       → refusalOf choose p img w h b ≡ lowest (conditions p (length img) w h (length (b .map)) (length (b .levels)))
   unfolding refusalOf
   number-before n =
-      lowest-some (conditions p (length img) w h (length (b .map)) (length (b .levels))) ((tooMany (framePass p img w h choose) b, 10) ∷ []) n
+      lowest-some (conditions p (length img) w h (length (b .map)) (length (b .levels)))
+      ((tooMany (framePass p img w h choose) b, 10) ∷ []) n
 
   module _ (none : lowest (conditions p (length img) w h (length (b .map)) (length (b .levels))) ≡ 0) where
     pub number-in-pass : refusalOf choose p img w h b ≡ lowest ((tooMany (framePass p img w h choose) b, 10) ∷ [])

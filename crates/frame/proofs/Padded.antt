@@ -44,4 +44,5 @@ module _ (b b′ : Slices) (same : SameLengths b b′) where
   pub cleared-none : clearedFrom 0 b′ ≡ paddedCorners [] b
   cleared-none =
       slices-alike (padded-none zero (b .xs) (b′ .xs) (same .xs)) (padded-none zero (b .ys) (b′ .ys) (same .ys))
-      (padded-none zero (b .strengths) (b′ .strengths) (same .strengths)) (padded-none 0 (b .neighbours) (b′ .neighbours) (same .neighbours))
+      (padded-none zero (b .strengths) (b′ .strengths) (same .strengths))
+      (padded-none 0 (b .neighbours) (b′ .neighbours) (same .neighbours))

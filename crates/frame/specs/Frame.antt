@@ -1,4 +1,4 @@
--- A frame: the refusals, the answer, and every buffer after it, by equations with the pass.
+-- A frame: the refusals, the answer, and every buffer after it, as equations with the pass.
 use Prim.Native.Nat.{ℕ, zero, suc, _-_}
 use mathlib.Core.Path.{_≡_}
 use mathlib.Core.Bool.{Bool, _||_, cond}
@@ -46,7 +46,8 @@ params ring threshold window least centroid radius levels minimum search =
 
 -- ---- refusals
 
--- 10: the seeds, or the corners before merging, do not fit their buffer; they are as many as their peaks (`NoneDropped` of frame_pass)
+-- 10: the seeds, or the corners before merging, do not fit their buffer; there are as many as their peaks
+-- (`NoneDropped` of frame_pass)
 abbrev pub tooMany : Pass → Buffers → Bool
 tooMany q b = ltb (placesOf (b .seeds)) (length (q .seeds)) || ltb (placesOf (b .corners)) (length (q .found))
 
@@ -58,11 +59,12 @@ passOf p img w h = framePass p img w h (computedChoice p)
 unfoldable pub refusalOf : Choice → FrameParams → List ℕ → ℕ → ℕ → Buffers → ℕ
 unfolding conditions framePass
 refusalOf choose p img w h b =
-    lowest (conditions p (length img) w h (length (b .map)) (length (b .levels)) ++ ((tooMany (framePass p img w h choose) b, 10) ∷ []))
+    lowest (conditions p (length img) w h (length (b .map)) (length (b .levels))
+    ++ ((tooMany (framePass p img w h choose) b, 10) ∷ []))
 
 -- ---- the buffers after
 
--- a list first, and zero behind it; zero in every place
+-- a list at the start, and zero after it; zero in every place
 abbrev pub padded : {A : Type 0} → A → List A → List A → List A
 padded z vs d = vs ++ replicate (length d - length vs) z
 
@@ -71,25 +73,30 @@ paddedCorners cs b =
     slices (padded float32.zero (map xOf cs) (b .xs)) (padded float32.zero (map yOf cs) (b .ys))
     (padded float32.zero (map strengthOf cs) (b .strengths)) (padded 0 (map neighboursOf cs) (b .neighbours))
 
--- finished: the map buffer zero, the levels above the base first in theirs and behind them as before, the lists first and zero behind
+-- finished: the map buffer is zero; the level buffer has the levels above the base at its start, the rest unchanged;
+-- the lists are at the start of theirs, with zero after them
 abbrev pub finished : List ℕ → Pass → Buffers → Buffers
 finished levels q b =
-    buffers (padded float32.zero [] (b .map)) (front levels (b .levels)) (paddedCorners (q .seeds) (b .seeds)) (paddedCorners (q .corners) (b .corners))
+    buffers (padded float32.zero [] (b .map)) (front levels (b .levels)) (paddedCorners (q .seeds) (b .seeds))
+    (paddedCorners (q .corners) (b .corners))
 
--- 10: all zero in their whole length
+-- 10: every buffer is zero in its whole length
 abbrev pub wiped : Buffers → Buffers
-wiped b = buffers (padded float32.zero [] (b .map)) (replicate (length (b .levels)) 0) (paddedCorners [] (b .seeds)) (paddedCorners [] (b .corners))
+wiped b =
+    buffers (padded float32.zero [] (b .map)) (replicate (length (b .levels)) 0) (paddedCorners [] (b .seeds))
+    (paddedCorners [] (b .corners))
 
--- a buffer by the call's number (RULES 9.6): as the call leaves it where there is none; cleared by 10, a list that does not fit; and by any other
--- refusal as it was
+-- a buffer by the call's number (RULES 9.6): as the call leaves it if there is none; cleared by 10, a list that does
+-- not fit; unchanged by any other refusal
 abbrev pub leftBy : {A : Type 0} → ℕ → A → A → A → A
 leftBy zero done cleared before = done
 leftBy (suc k) done cleared before = cond (eqb (suc k) 10) cleared before
 
--- so all of them
+-- the same for all buffers
 abbrev pub buffersAfter : Choice → FrameParams → List ℕ → ℕ → ℕ → Buffers → Buffers
 buffersAfter choose p img w h b =
-    leftBy (refusalOf choose p img w h b) (finished (above img w h (levelsIn p img w h)) (framePass p img w h choose) b) (wiped b) b
+    leftBy (refusalOf choose p img w h b)
+    (finished (above img w h (levelsIn p img w h)) (framePass p img w h choose) b) (wiped b) b
 
 -- ---- the promise
 
@@ -102,12 +109,16 @@ abbrev pub valuesOf : FrameAnswer → List ℕ
 valuesOf (Corners n ties) = n ∷ ties ∷ []
 valuesOf (Refused k) = []
 
--- What is promised of a frame by a choice of peaks: the answer, how many corners there are and how many ties (RULES 23.3), its number and values, and
--- the buffers after. `find_corners` promises it by computed values, `find_exact_corners` by exact ones (RULES 34.1)
-pub record FrameFound (choose : Choice) (p : FrameParams) (img : List ℕ) (w h : ℕ) (b : Buffers) (r : FrameAnswer) (b′ : Buffers) : Type 0 where
+-- What is promised about a frame with a choice of peaks: the answer (how many corners and how many ties there are,
+-- RULES 23.3), its number and values, and the buffers after. `find_corners` promises it for computed values,
+-- `find_exact_corners` for exact ones (RULES 34.1)
+pub record FrameFound (choose : Choice) (p : FrameParams) (img : List ℕ) (w h : ℕ) (b : Buffers)
+    (r : FrameAnswer) (b′ : Buffers) : Type 0 where
   pub answer : r
-      ≡ unless Refused (refusalOf choose p img w h b) (Corners (length (framePass p img w h choose .corners)) (framePass p img w h choose .ties))
+      ≡ unless Refused (refusalOf choose p img w h b)
+      (Corners (length (framePass p img w h choose .corners)) (framePass p img w h choose .ties))
   pub number : numberOf r ≡ refusalOf choose p img w h b
   pub values : valuesOf r
-      ≡ valuesUnless (refusalOf choose p img w h b) (length (framePass p img w h choose .corners) ∷ framePass p img w h choose .ties ∷ [])
+      ≡ valuesUnless (refusalOf choose p img w h b)
+      (length (framePass p img w h choose .corners) ∷ framePass p img w h choose .ties ∷ [])
   pub left : b′ ≡ buffersAfter choose p img w h b

@@ -1,8 +1,8 @@
--- The contracts of private functions: no public promise rests on them.
+-- The contracts of private functions: no public promise depends on them.
 use Prim.Native.Nat.{ℕ, zero, suc, _+_, _*_, _<_, _≤_}
 use mathlib.Core.Path.{_≡_}
 use mathlib.Core.Bool.{true, false, _||_}
-use mathlib.Core.List.{List}
+use mathlib.Core.List.{List, _++_}
 use lib.Dec.{ltb}
 use lib.ListN.{length}
 use lib.Ieee.{Float}
@@ -14,7 +14,10 @@ use Rattle.detect.specs.declared.Peaks.the-variants.{Added, Refused}
 use Rattle.patch_corners.specs.declared.FrameParams.{FrameParams}
 use Rattle.patch_corners.specs.OneMap.{Choice, cornersIn, tiesOn}
 use Rattle.clearing.specs.Clearing.{clearedFrom}
+use Rattle.lists.specs.Limits.{largestBorder}
 use Rattle.lists.specs.Places.{flatMap, sumOf}
+use Rattle.lists.specs.Tab.{grid}
+use Rattle.response.specs.Patch.{View, responseIn}
 use Rattle.frame_pass.specs.Pass.{levelView, cornersAbout, tiesAbout, seedsOf}
 use Rattle.frame_pass.specs.Theorems.{SoundFrame}
 use Rattle.merge.specs.declared.Merged.{Merged}
@@ -33,20 +36,41 @@ pub record BuiltLevels (p : FrameParams) (img : List ℕ) (w h n : ℕ) (levels 
   pub before : List ℕ
   pub complete : LevelsComplete img w h (p .levels) (p .«minimum_side») before levels n
 
+-- ---- bands
+
+-- RULES 4.1: no peak lies nearer to an edge of a map
+abbrev pub borderOf : FrameParams → ℕ
+borderOf p = p .ring + p .window + p .«centroid_radius»
+
+-- a list begins with the first j rows of the map of v, of w cells each
+pub record RowsHeld (v : View) (w j : ℕ) (m : List Float) : Type 0 where
+  pub rest : List Float
+  pub is : m ≡ grid w j (responseIn v) ++ rest
+
+-- the rows j up to e of a map of w by h: a band that is not the last ends past any border
+pub record Band (w h j e : ℕ) : Type 0 where
+  pub wide : 0 < w
+  pub some : j < e
+  pub within : e ≤ h
+  pub deep : e < h → largestBorder ≤ e
+
 -- ---- lists added
 
--- the corners cs behind the first `held` of a buffer, their number and the ties of their peaks; or a refusal where they do not fit, and then the
--- buffer holds anything of its lengths
+-- the corners cs after the first `held` of a buffer, their number and the ties of their peaks; or a refusal if they do
+-- not fit, and then only the lengths of the buffer are known
 pub record Adds (cs : List Corner) (ties held : ℕ) (b : Slices) (answer : Peaks) (b′ : Slices) : Type 0 where
-  pub added : (n t : ℕ) → answer ≡ Added n t → (n ≡ length cs) × (held + n ≤ placesOf b) × (b′ ≡ placedCorners held cs b) × (t ≡ ties)
+  pub added : (n t : ℕ) → answer ≡ Added n t
+      → (n ≡ length cs) × (held + n ≤ placesOf b) × (b′ ≡ placedCorners held cs b) × (t ≡ ties)
   pub refused : (k : ℕ) → answer ≡ Refused k → placesOf b < held + length cs
 
--- the seeds of n levels first in a buffer; their ties are of no use
-pub record SeedsAdded (p : FrameParams) (img : List ℕ) (w h : ℕ) (choose : Choice) (n : ℕ) (b : Slices) (answer : Peaks) (b′ : Slices) : Type 0 where
+-- the seeds of n levels at the start of a buffer; their ties are not used
+pub record SeedsAdded (p : FrameParams) (img : List ℕ) (w h : ℕ) (choose : Choice) (n : ℕ) (b : Slices)
+    (answer : Peaks) (b′ : Slices) : Type 0 where
   pub ties : ℕ
   pub adds : Adds (seedsOf p img w h choose n) ties 0 b answer b′
 
--- the corners before merging and their peaks' ties, by the number of levels and the seeds: `foundOf` and `tiesFound` at the seeds of the pass
+-- the corners before merging and their peaks' ties, by the number of levels and the seeds: `foundOf` and `tiesFound` at
+-- the seeds of the pass
 module _ (p : FrameParams) (img : List ℕ) (w h : ℕ) (choose : Choice) where
   abbrev pub foundBy : ℕ → List Corner → List Corner
   foundBy zero seeds = flatMap (cornersAbout p img w h choose 0) seeds
@@ -72,13 +96,17 @@ listsOf (Added m t) (Added n u) = record { fit = true; seeds = m; corners = n; t
 listsOf (Added m t) (Refused k) = noLists
 listsOf (Refused k) g = noLists
 
--- both lists stand first in their buffers, and the ties are those of the peaks behind `found`; or a list does not fit, and then both buffers hold
--- anything of their lengths
-pub record Searched (seeds found : List Corner) (ties : ℕ) (s c : Slices) (answer : Lists) (s′ c′ : Slices) : Type 0 where
+-- both lists are at the start of their buffers, and the ties are those of the peaks that `found` comes from; or a list
+-- does not fit, and then only the lengths of both buffers are known
+pub record Searched (seeds found : List Corner) (ties : ℕ) (s c : Slices) (answer : Lists)
+    (s′ c′ : Slices) : Type 0 where
   pub both : answer .fit ≡ true
       → (answer .seeds ≡ length seeds) × (answer .seeds ≤ placesOf s) × (s′ ≡ frontCorners seeds s)
-      × (answer .corners ≡ length found) × (answer .corners ≤ placesOf c) × (c′ ≡ frontCorners found c) × (answer .ties ≡ ties)
-  pub short : answer .fit ≡ false → (answer .seeds ≡ 0) × (answer .corners ≡ 0) × ((ltb (placesOf s) (length seeds) || ltb (placesOf c) (length found)) ≡ true)
+      × (answer .corners ≡ length found) × (answer .corners ≤ placesOf c) × (c′ ≡ frontCorners found c)
+      × (answer .ties ≡ ties)
+  pub short : answer .fit ≡ false
+      → (answer .seeds ≡ 0) × (answer .corners ≡ 0)
+      × ((ltb (placesOf s) (length seeds) || ltb (placesOf c) (length found)) ≡ true)
 
 -- ---- merging
 
@@ -87,7 +115,7 @@ abbrev pub keptOf : Merged → ℕ
 keptOf (Kept k) = k
 keptOf (merged.Refused x) = 0
 
--- the first n corners of a buffer merged, k of them left, and zero behind those
+-- the first n corners of a buffer merged, k of them left, and zero after those
 pub record Merging (radius : Float) (n : ℕ) (c : Slices) (k : ℕ) (c′ : Slices) : Type 0 where
   pub count : k ≡ length (resultOf radius (cornersOf c n))
   pub is : c′ ≡ clearedFrom k (frontCorners (resultOf radius (cornersOf c n)) c)

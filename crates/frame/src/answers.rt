@@ -1,10 +1,10 @@
-// An answer of a frame taken apart, for callers that hold number and values in places of their own.
+// The answer of a frame taken apart, for callers that keep its number and values in separate variables.
 ghost use mathlib.Core.Path.{_≡_};
 ghost use lib.ListN.{getD};
 ghost use Rattle.frame.specs.Frame.{numberOf, valuesOf};
 use crate::FrameAnswer;
 
-// The number of an answer, 0 where corners were found.
+// The number of an answer, 0 if corners were found.
 pub fn number_of(a: FrameAnswer) -> u8
     ensures { λ r. ⌜ r ≡ numberOf a ⌝ }
 {
@@ -14,7 +14,7 @@ pub fn number_of(a: FrameAnswer) -> u8
     }
 }
 
-// How many corners there are, or `before` where refused.
+// How many corners there are, or `before` if refused.
 pub fn count_of(a: FrameAnswer, before: usize) -> usize
     ensures { λ r. ⌜ r ≡ getD (valuesOf a) 0 before ⌝ }
 {
@@ -24,7 +24,7 @@ pub fn count_of(a: FrameAnswer, before: usize) -> usize
     }
 }
 
-// How many ties there are, or `before` where refused.
+// How many ties there are, or `before` if refused.
 pub fn ties_of(a: FrameAnswer, before: u64) -> u64
     ensures { λ r. ⌜ r ≡ getD (valuesOf a) 1 before ⌝ }
 {

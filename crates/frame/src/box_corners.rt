@@ -1,15 +1,25 @@
-// The corners of one box of an image, added to a buffer: the box's response map, and the map's corners.
+// The corners of one box of an image, added to a buffer: the box's response map, as far as it is read, and its corners.
 ghost use lib.ListN.{length};
 ghost use Rattle.ring.specs.Ring.{ringOf};
 ghost use Rattle.corner_list.specs.CornerList.{slices};
+ghost use mathlib.Core.Path.{_≡_};
 ghost use Rattle.patch_corners.specs.OneMap.{choiceOf, cornersIn, tiesOn};
+ghost use Rattle.patch_corners.specs.Internal.{marginOf};
 ghost use Rattle.frame.specs.Internal.{Ready, Adds};
 use detect::Peaks;
+use numbers::lesser;
 use patch_corners::FrameParams;
 use response::Patch;
 
-// Adds the corners of a box of an image of w by h, the columns x0 up to, not including, x1 of the rows y0 up to y1, behind the first `held` of a
-// buffer, by the box's columns and rows. The box's map stands first in the map buffer.
+// How many cells at each edge of a map are never read.
+fn margin(p: FrameParams) -> usize
+    ensures { λ r. ⌜ r ≡ marginOf p ⌝ }
+{
+    p.ring as usize + lesser(p.window as usize, p.centroid_radius as usize)
+}
+
+// Adds the corners of a box of an image of w by h, the columns x0 up to, not including, x1 of the rows y0 up to y1,
+// behind the first `held` of a buffer, by the box's columns and rows. The box's map stands first in the map buffer.
 pub(crate) fn add_patch_corners(
     img: &[u8],
     w: usize,
@@ -28,12 +38,14 @@ pub(crate) fn add_patch_corners(
     held: usize,
 ) -> Peaks
     requires { ⌜ Ready p (now img) w h (length (now map)) ⌝ }
-    ensures { λ r. ⌜ Adds (cornersIn p (choiceOf p exact) (record { img = now (img .entry); w = w; h = h; ring = ringOf (p .ring); x0 = x0; y0 = y0; x1 = x1; y1 = y1 }))
-        (tiesOn p (choiceOf p exact) (record { img = now (img .entry); w = w; h = h; ring = ringOf (p .ring); x0 = x0; y0 = y0; x1 = x1; y1 = y1 }))
+    ensures { λ r. ⌜ Adds (cornersIn p (choiceOf p exact)
+        (record { img = now (img .entry); w = w; h = h; ring = ringOf (p .ring); x0 = x0; y0 = y0; x1 = x1; y1 = y1 }))
+        (tiesOn p (choiceOf p exact) (record
+        { img = now (img .entry); w = w; h = h; ring = ringOf (p .ring); x0 = x0; y0 = y0; x1 = x1; y1 = y1 }))
         held (slices (now (xs .entry)) (now (ys .entry)) (now (strengths .entry)) (now (neighbours .entry)))
         r (slices (now (xs .exit)) (now (ys .exit)) (now (strengths .exit)) (now (neighbours .exit))) ⌝ }
 {
-    let m = response::chess_response_u8_patch(img, w, h, p.ring, x0, y0, x1, y1, map);
+    let m = response::inner_patch(img, w, h, p.ring, x0, y0, x1, y1, margin(p), map);
     let Patch::Cells { w: pw, h: ph } = m else {
         return Peaks::Refused(8);
     };

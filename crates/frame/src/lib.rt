@@ -1,5 +1,6 @@
 // The frame pass: from an image and its parameters to the list of its corners, over borrowed buffers.
 pub mod answers; // number_of, count_of, ties_of: an answer taken apart
+mod bands; // the corners of a whole image, by bands of rows
 mod box_corners; // the corners of one box
 mod closing;
 mod search;
@@ -15,16 +16,18 @@ ghost use Rattle.frame.specs.Frame.{buffers, FrameFound};
 use patch_corners::FrameParams;
 use pyramid::Pyramid;
 
-// How many corners stand in the corner buffer and how many ties the peaks found before merging have, or the number of the refusal.
+// How many corners are in the corner buffer and how many ties the peaks found before merging have, or the number of the
+// refusal.
 pub enum FrameAnswer {
     Corners(usize, u64),
     Refused(u8),
 }
 
-// Builds the levels above the base first in their buffer, and counts all of them.
+// Writes the levels above the base to the start of their buffer. Returns the number of levels, the base included.
 fn build(img: &[u8], w: usize, h: usize, p: FrameParams, levels: &mut [u8]) -> usize
     requires { ⌜ LevelsAccepted (ask (length (now img)) (length (now levels)) w h (p .levels) (p .«minimum_side»)) ⌝ }
-    ensures { λ n. ⌜ LevelsComplete (now (img .entry)) w h (p .levels) (p .«minimum_side») (now (levels .entry)) (now (levels .exit)) n ⌝ }
+    ensures { λ n. ⌜ LevelsComplete (now (img .entry)) w h (p .levels) (p .«minimum_side»)
+        (now (levels .entry)) (now (levels .exit)) n ⌝ }
 {
     let built = pyramid::build_pyramid(img, w, h, p.levels, p.minimum_side, levels);
     let Pyramid::Levels(n) = built else {
@@ -33,8 +36,9 @@ fn build(img: &[u8], w: usize, h: usize, p: FrameParams, levels: &mut [u8]) -> u
     n
 }
 
-// Finds the corners of an image of w by h pixels: they stand first in the corner buffer, the seeds of the last level first in
-// theirs, and the levels above the base first in the level buffer. With `exact` the peaks of each map are chosen by exact values, else by computed ones.
+// Finds the corners of an image of w by h pixels. They are written to the start of the corner buffer, the seeds of the
+// last level to the start of theirs, and the levels above the base to the start of the level buffer. With `exact` the
+// peaks of each map are chosen by exact values, otherwise by computed ones.
 pub fn find_corners_by(
     img: &[u8],
     w: usize,
@@ -53,9 +57,13 @@ pub fn find_corners_by(
     cn: &mut [u32],
 ) -> FrameAnswer
     ensures { λ r. ⌜ FrameFound (choiceOf p exact) p (now (img .entry)) w h
-        (buffers (now (map .entry)) (now (levels .entry)) (slices (now (sx .entry)) (now (sy .entry)) (now (ss .entry)) (now (sn .entry))) (slices (now (cx .entry)) (now (cy .entry)) (now (cs .entry)) (now (cn .entry))))
+        (buffers (now (map .entry)) (now (levels .entry))
+        (slices (now (sx .entry)) (now (sy .entry)) (now (ss .entry)) (now (sn .entry)))
+        (slices (now (cx .entry)) (now (cy .entry)) (now (cs .entry)) (now (cn .entry))))
         r
-        (buffers (now (map .exit)) (now (levels .exit)) (slices (now (sx .exit)) (now (sy .exit)) (now (ss .exit)) (now (sn .exit))) (slices (now (cx .exit)) (now (cy .exit)) (now (cs .exit)) (now (cn .exit)))) ⌝ }
+        (buffers (now (map .exit)) (now (levels .exit))
+        (slices (now (sx .exit)) (now (sy .exit)) (now (ss .exit)) (now (sn .exit)))
+        (slices (now (cx .exit)) (now (cy .exit)) (now (cs .exit)) (now (cn .exit)))) ⌝ }
 {
     let number = frame_pass::refusal(img.len(), w, h, p, map.len(), levels.len());
     if number != 0 {
@@ -83,9 +91,8 @@ pub fn find_corners_by(
         cn,
     );
     let found = search::lists_of(f, g);
-    clearing::clear(map, 0);
     closing::clear_levels(levels, found.fit);
     clearing::clear_list(sx, sy, ss, sn, found.seeds);
-    let k = closing::finish_corners(cx, cy, cs, cn, found.corners, p.merge_radius);
+    let k = closing::finish_corners(cx, cy, cs, cn, map, found.corners, p.merge_radius);
     closing::answer_of(found.fit, k, found.ties)
 }

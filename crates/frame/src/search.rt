@@ -3,11 +3,13 @@ ghost use Prim.Native.Nat.{_≤_};
 ghost use mathlib.Core.Path.{_≡_};
 ghost use mathlib.Core.List.{[]};
 ghost use lib.ListN.{length};
+ghost use Rattle.lists.specs.Limits.{largestMap, lastLevel, mostLevels};
 ghost use Rattle.corner_list.specs.CornerList.{slices, placesOf, cornersOf};
 ghost use Rattle.multiscale.specs.Promise.{Boxed};
 ghost use Rattle.patch_corners.specs.OneMap.{choiceOf};
 ghost use Rattle.frame_pass.specs.Pass.{contextAt, cornersAbout, tiesAbout};
 ghost use Rattle.frame.specs.Internal.{Ready, BuiltLevels, Adds, SeedsAdded, foundBy, tiesBy, addedOf, listsOf};
+use crate::bands;
 use crate::box_corners;
 use crate::shifting;
 use corner_list::Corner;
@@ -16,9 +18,9 @@ use multiscale::RoiAnswer;
 use multiscale::RoiContext;
 use patch_corners::FrameParams;
 
-// The box of a seed of level k.
+// The box of a seed on level k.
 fn box_of(w: usize, h: usize, p: FrameParams, k: usize, seed: Corner) -> RoiAnswer
-    requires { ⌜ k ≤ 12 ⌝ }
+    requires { ⌜ k ≤ lastLevel ⌝ }
     ensures { λ r. ⌜ Boxed (contextAt p [] w h k) seed r ⌝ }
 {
     let context = RoiContext {
@@ -33,7 +35,7 @@ fn box_of(w: usize, h: usize, p: FrameParams, k: usize, seed: Corner) -> RoiAnsw
     context.compute_roi(seed)
 }
 
-// How many corners were added, none where that was refused.
+// How many corners were added, 0 if refused.
 pub(crate) fn added(f: Peaks) -> usize
     ensures { λ n. ⌜ n ≡ addedOf f ⌝ }
 {
@@ -43,7 +45,7 @@ pub(crate) fn added(f: Peaks) -> usize
     n
 }
 
-// Adds the corners of the box of a seed of level k behind the first `held` of a buffer, moved by the box's corner.
+// Adds the corners of the box of a seed on level k after the first `held` of a buffer, moved by the box's corner.
 fn add_patch(
     img: &[u8],
     w: usize,
@@ -60,9 +62,11 @@ fn add_patch(
     held: usize,
 ) -> Peaks
     requires { ⌜ Ready p (now img) w h (length (now map)) ⌝ }
-    requires { ⌜ (held ≤ placesOf (slices (now xs) (now ys) (now strengths) (now neighbours))) × (k ≤ 12) ⌝ }
-    ensures { λ r. ⌜ Adds (cornersAbout p (now (img .entry)) w h (choiceOf p exact) k seed) (tiesAbout p (now (img .entry)) w h (choiceOf p exact) k seed)
-        held (slices (now (xs .entry)) (now (ys .entry)) (now (strengths .entry)) (now (neighbours .entry))) r (slices (now (xs .exit)) (now (ys .exit)) (now (strengths .exit)) (now (neighbours .exit))) ⌝ }
+    requires { ⌜ (held ≤ placesOf (slices (now xs) (now ys) (now strengths) (now neighbours))) × (k ≤ lastLevel) ⌝ }
+    ensures { λ r. ⌜ Adds (cornersAbout p (now (img .entry)) w h (choiceOf p exact) k seed)
+        (tiesAbout p (now (img .entry)) w h (choiceOf p exact) k seed)
+        held (slices (now (xs .entry)) (now (ys .entry)) (now (strengths .entry)) (now (neighbours .entry))) r
+        (slices (now (xs .exit)) (now (ys .exit)) (now (strengths .exit)) (now (neighbours .exit))) ⌝ }
 {
     let b = box_of(w, h, p, k, seed);
     let RoiAnswer::Bounds(x0, y0, x1, y1) = b else {
@@ -91,8 +95,8 @@ fn add_patch(
     f
 }
 
-// Puts the corners before merging first in a buffer: with one level those of the whole image, with more those of the boxes of the first m seeds, and
-// sums the ties of their peaks.
+// Writes the corners before merging to the start of a buffer: with one level those of the whole image, with more those
+// of the boxes of the first m seeds. Sums the ties of their peaks.
 pub(crate) fn add_found(
     img: &[u8],
     w: usize,
@@ -112,29 +116,16 @@ pub(crate) fn add_found(
     cn: &mut [u32],
 ) -> Peaks
     requires { ⌜ Ready p (now img) w h (length (now map)) ⌝ }
-    requires { ⌜ (n ≤ 13) × (m ≤ 16777216) ⌝ }
-    ensures { λ r. ⌜ Adds (foundBy p (now (img .entry)) w h (choiceOf p exact) n (cornersOf (slices (now (sx .entry)) (now (sy .entry)) (now (ss .entry)) (now (sn .entry))) m))
-        (tiesBy p (now (img .entry)) w h (choiceOf p exact) n (cornersOf (slices (now (sx .entry)) (now (sy .entry)) (now (ss .entry)) (now (sn .entry))) m))
-        0 (slices (now (cx .entry)) (now (cy .entry)) (now (cs .entry)) (now (cn .entry))) r (slices (now (cx .exit)) (now (cy .exit)) (now (cs .exit)) (now (cn .exit))) ⌝ }
+    requires { ⌜ (n ≤ mostLevels) × (m ≤ largestMap) ⌝ }
+    ensures { λ r. ⌜ Adds (foundBy p (now (img .entry)) w h (choiceOf p exact) n
+        (cornersOf (slices (now (sx .entry)) (now (sy .entry)) (now (ss .entry)) (now (sn .entry))) m))
+        (tiesBy p (now (img .entry)) w h (choiceOf p exact) n
+        (cornersOf (slices (now (sx .entry)) (now (sy .entry)) (now (ss .entry)) (now (sn .entry))) m))
+        0 (slices (now (cx .entry)) (now (cy .entry)) (now (cs .entry)) (now (cn .entry))) r
+        (slices (now (cx .exit)) (now (cy .exit)) (now (cs .exit)) (now (cn .exit))) ⌝ }
 {
     if n == 1 {
-        return box_corners::add_patch_corners(
-            img,
-            w,
-            h,
-            p,
-            exact,
-            0,
-            0,
-            w,
-            h,
-            map,
-            cx,
-            cy,
-            cs,
-            cn,
-            0,
-        );
+        return bands::add_image_corners(img, w, h, p, exact, map, cx, cy, cs, cn);
     }
     let k = numbers::minus(n, 1);
     let mut held = 0usize;
@@ -153,7 +144,8 @@ pub(crate) fn add_found(
     Peaks::Added(held, ties)
 }
 
-// Puts the seeds of n levels that were built first in a buffer: with more than one level, the corners of the last.
+// Writes the seeds of n levels that were built to the start of a buffer: with more than one level, the corners of the
+// last.
 pub(crate) fn add_seeds<'a>(
     img: &'a [u8],
     w: usize,
@@ -170,7 +162,8 @@ pub(crate) fn add_seeds<'a>(
 ) -> Peaks
     requires { ⌜ Ready p (now img) w h (length (now map)) ⌝ }
     requires { ⌜ BuiltLevels p (now img) w h n (now levels) ⌝ }
-    ensures { λ r. ⌜ SeedsAdded p (now (img .entry)) w h (choiceOf p exact) n (slices (now (sx .entry)) (now (sy .entry)) (now (ss .entry)) (now (sn .entry)))
+    ensures { λ r. ⌜ SeedsAdded p (now (img .entry)) w h (choiceOf p exact) n
+        (slices (now (sx .entry)) (now (sy .entry)) (now (ss .entry)) (now (sn .entry)))
         r (slices (now (sx .exit)) (now (sy .exit)) (now (ss .exit)) (now (sn .exit))) ⌝ }
 {
     if n < 2 {
@@ -180,11 +173,11 @@ pub(crate) fn add_seeds<'a>(
     let last = pyramid::level(img, levels, w, h, p.levels, p.minimum_side, k);
     let lw = w >> k;
     let lh = h >> k;
-    box_corners::add_patch_corners(last, lw, lh, p, exact, 0, 0, lw, lh, map, sx, sy, ss, sn, 0)
+    bands::add_image_corners(last, lw, lh, p, exact, map, sx, sy, ss, sn)
 }
 
-// Whether both lists fit their buffers, how many seeds and corners stand first in them, and the ties of the corners' peaks; none where a list does
-// not fit.
+// Whether both lists fit their buffers, how many seeds and corners are at their start, and the ties of the corners'
+// peaks. All are 0 if a list does not fit.
 pub(crate) struct Lists {
     pub fit: bool,
     pub seeds: usize,
@@ -192,7 +185,7 @@ pub(crate) struct Lists {
     pub ties: u64,
 }
 
-// The two lists, by the answers of adding the seeds and the corners.
+// The two lists, from the answers of adding the seeds and the corners.
 pub(crate) fn lists_of(f: Peaks, g: Peaks) -> Lists
     ensures { λ r. ⌜ r ≡ listsOf f g ⌝ }
 {

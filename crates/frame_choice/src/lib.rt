@@ -1,4 +1,5 @@
-// The frame pass by one of the two choices of peaks: as the original chooses, and by the exact values of the paper's formula.
+// The frame pass with either of the two choices of peaks: as the original chooses, or by the exact values of the
+// paper's formula.
 ghost use Rattle.corner_list.specs.CornerList.{slices};
 ghost use Rattle.patch_corners.specs.OneMap.{computedChoice, exactChoice};
 ghost use Rattle.frame.specs.Frame.{buffers, FrameFound};
@@ -23,9 +24,13 @@ pub fn find_corners(
     cn: &mut [u32],
 ) -> FrameAnswer
     ensures { λ r. ⌜ FrameFound (computedChoice p) p (now (img .entry)) w h
-        (buffers (now (map .entry)) (now (levels .entry)) (slices (now (sx .entry)) (now (sy .entry)) (now (ss .entry)) (now (sn .entry))) (slices (now (cx .entry)) (now (cy .entry)) (now (cs .entry)) (now (cn .entry))))
+        (buffers (now (map .entry)) (now (levels .entry))
+        (slices (now (sx .entry)) (now (sy .entry)) (now (ss .entry)) (now (sn .entry)))
+        (slices (now (cx .entry)) (now (cy .entry)) (now (cs .entry)) (now (cn .entry))))
         r
-        (buffers (now (map .exit)) (now (levels .exit)) (slices (now (sx .exit)) (now (sy .exit)) (now (ss .exit)) (now (sn .exit))) (slices (now (cx .exit)) (now (cy .exit)) (now (cs .exit)) (now (cn .exit)))) ⌝ }
+        (buffers (now (map .exit)) (now (levels .exit))
+        (slices (now (sx .exit)) (now (sy .exit)) (now (ss .exit)) (now (sn .exit)))
+        (slices (now (cx .exit)) (now (cy .exit)) (now (cs .exit)) (now (cn .exit)))) ⌝ }
 {
     frame::find_corners_by(
         img,
@@ -64,9 +69,13 @@ pub fn find_exact_corners(
     cn: &mut [u32],
 ) -> FrameAnswer
     ensures { λ r. ⌜ FrameFound (exactChoice p) p (now (img .entry)) w h
-        (buffers (now (map .entry)) (now (levels .entry)) (slices (now (sx .entry)) (now (sy .entry)) (now (ss .entry)) (now (sn .entry))) (slices (now (cx .entry)) (now (cy .entry)) (now (cs .entry)) (now (cn .entry))))
+        (buffers (now (map .entry)) (now (levels .entry))
+        (slices (now (sx .entry)) (now (sy .entry)) (now (ss .entry)) (now (sn .entry)))
+        (slices (now (cx .entry)) (now (cy .entry)) (now (cs .entry)) (now (cn .entry))))
         r
-        (buffers (now (map .exit)) (now (levels .exit)) (slices (now (sx .exit)) (now (sy .exit)) (now (ss .exit)) (now (sn .exit))) (slices (now (cx .exit)) (now (cy .exit)) (now (cs .exit)) (now (cn .exit)))) ⌝ }
+        (buffers (now (map .exit)) (now (levels .exit))
+        (slices (now (sx .exit)) (now (sy .exit)) (now (ss .exit)) (now (sn .exit)))
+        (slices (now (cx .exit)) (now (cy .exit)) (now (cs .exit)) (now (cn .exit)))) ⌝ }
 {
     frame::find_corners_by(
         img,

@@ -1,4 +1,5 @@
--- The corners of a frame have coordinates from 0 to 4,096: a centre of mass lies within its map, and a patch within the image. Assumes nothing.
+-- The corners of a frame have coordinates from 0 to the largest side: a centre of mass lies within its map, and a patch within the
+-- image. Assumes nothing.
 use Prim.Native.Nat.{ℕ, zero, suc, _+_, _-_, _≤_}
 use native.Mathlib.Nat.{le-trans}
 use native.Mathlib.Omega.{arith}
@@ -6,6 +7,7 @@ use mathlib.Core.Path.{_≡_, refl}
 use mathlib.Core.Bool.{true}
 use mathlib.Core.List.{List, map}
 use lib.Ieee.{Float}
+use Rattle.lists.specs.Limits.{lastLevel}
 use Rattle.lists.specs.Places.{All}
 use Rattle.lists.proofs.Members.{all-map, all-mapped, all-flat, all-of}
 use Rattle.ring.specs.Ring.{ringOf}
@@ -30,7 +32,8 @@ use Rattle.multiscale.proofs.Box.{box-inside, not-refused}
 use Rattle.patch_corners.specs.declared.FrameParams.{FrameParams}
 use Rattle.patch_corners.specs.OneMap.{Choice, searchOn, centreOrNone, moved, localized, cornersIn}
 use Rattle.patch_corners.proofs.Fine.{Fine, map-usual}
-use Rattle.frame_pass.specs.Pass.{levelsIn, levelView, contextAt, patchOf, seedPatch, cornersOn, cornersAbout, seedsOf, foundOf, framePass}
+use Rattle.frame_pass.specs.Pass.{levelsIn, levelView, contextAt, patchOf, seedPatch, cornersOn, cornersAbout, seedsOf, foundOf}
+use Rattle.frame_pass.specs.Pass.{framePass}
 use Rattle.frame_pass.specs.Theorems.{SoundFrame, CornersInside, BoxesAnswered}
 use Rattle.frame_pass.proofs.Maps.{ranges, fine-box, fine-level}
 
@@ -82,7 +85,7 @@ module _ (p : FrameParams) (v : View) (choose : Choice) where
 -- ---- the pass
 module _ (p : FrameParams) (img : List ℕ) (w h : ℕ) where
   -- no seed's box is refused for its context
-  roi-sound : SoundFrame p img w h → (k : ℕ) → k ≤ 12 → multiscale.SoundContext (contextAt p img w h k)
+  roi-sound : SoundFrame p img w h → (k : ℕ) → k ≤ lastLevel → multiscale.SoundContext (contextAt p img w h k)
   roi-sound s k l =
       let r = ranges p (s .fit) in
       record {
@@ -126,11 +129,12 @@ module _ (p : FrameParams) (img : List ℕ) (w h : ℕ) where
 
 pub corners-inside : (p : FrameParams) (img : List ℕ) (w h : ℕ) (choose : Choice) → CornersInside p img w h choose
 unfolding framePass
-corners-inside p img w h choose s = (seeds-inside p img w h s choose (levelsIn p img w h), found-inside p img w h s choose (levelsIn p img w h))
+corners-inside p img w h choose s =
+    (seeds-inside p img w h s choose (levelsIn p img w h), found-inside p img w h s choose (levelsIn p img w h))
 
 pub boxes-answered : (p : FrameParams) (img : List ℕ) (w h : ℕ) (choose : Choice) → BoxesAnswered p img w h choose
 boxes-answered p img w h choose s =
-    let k : levelsIn p img w h - 1 ≤ 12 = omega (arith, count-few w h (p .levels) (p .«minimum_side») (s .narrow)) in
+    let k : levelsIn p img w h - 1 ≤ lastLevel = omega (arith, count-few w h (p .levels) (p .«minimum_side») (s .narrow)) in
     all-map Taken (λ (c : Corner). (n : ℕ) → roiOf (contextAt p img w h (levelsIn p img w h - 1)) c ≡ roi.Refused n → ⊥)
     (λ c i. not-refused (contextAt p img w h (levelsIn p img w h - 1)) c (roi-sound p img w h s (levelsIn p img w h - 1) k) i)
     (framePass p img w h choose .seeds) (corners-inside p img w h choose s .0)

@@ -1,5 +1,5 @@
--- The maps of a frame: what the parameters' ranges are, that a sound image's levels are sound and its boxes fine to look at, and that the centroid
--- then accepts every peak. Assumes nothing.
+-- The maps of a frame: what the parameters' ranges are, that a sound image's levels are sound and its boxes fine to look at, and that the
+-- centroid then accepts every peak. Assumes nothing.
 use Prim.Native.Nat.{ℕ, zero, suc, _≤_}
 use native.Mathlib.Nat.{le-trans, mul-comm}
 use mathlib.Core.Path.{_≡_, refl, _∙_}
@@ -8,6 +8,7 @@ use mathlib.Core.List.{List}
 use lib.ListN.{length}
 use lib.Dec.{leb}
 use borrow.Author.Tests.{leb-true}
+use Rattle.lists.specs.Limits.{largestRadius, largestSearch}
 use Rattle.lists.specs.Places.{All}
 use Rattle.lists.proofs.Tests.{and-parts}
 use Rattle.lists.proofs.Members.{all-map, all-flat, all-of}
@@ -37,21 +38,21 @@ use Rattle.frame_pass.specs.Theorems.{SoundFrame, NoneDropped}
 -- ---- parameters in their ranges
 pub record Ranges (p : FrameParams) : Type 0 where
   pub ring : isRing (p .ring) ≡ true
-  pub window : p .window ≤ 16
-  pub «centroid_radius» : p .«centroid_radius» ≤ 16
-  pub «search_radius» : p .«search_radius» ≤ 255
+  pub window : p .window ≤ largestRadius
+  pub «centroid_radius» : p .«centroid_radius» ≤ largestRadius
+  pub «search_radius» : p .«search_radius» ≤ largestSearch
 
 pub ranges : (p : FrameParams) → parametersFit p ≡ true → Ranges p
 unfolding parametersFit
 ranges p e =
     let a = and-parts (isRing (p .ring)) _ e in
-    let b = and-parts (leb (p .window) 16) _ (a .1) in
-    let c = and-parts (leb (p .«centroid_radius») 16) (leb (p .«search_radius») 255) (b .1) in
+    let b = and-parts (leb (p .window) largestRadius) _ (a .1) in
+    let c = and-parts (leb (p .«centroid_radius») largestRadius) (leb (p .«search_radius») largestSearch) (b .1) in
     record {
       ring = a .0;
-      window = leb-true (p .window) 16 (b .0);
-      «centroid_radius» = leb-true (p .«centroid_radius») 16 (c .0);
-      «search_radius» = leb-true (p .«search_radius») 255 (c .1);
+      window = leb-true (p .window) largestRadius (b .0);
+      «centroid_radius» = leb-true (p .«centroid_radius») largestRadius (c .0);
+      «search_radius» = leb-true (p .«search_radius») largestSearch (c .1);
     }
 
 -- ---- a map that is fine is searched
@@ -71,10 +72,19 @@ map-clear p v f =
 -- ---- a sound image
 module _ (p : FrameParams) (img : List ℕ) (w h : ℕ) (s : SoundFrame p img w h) where
   -- any box of it is fine
-  pub fine-box : (x0 y0 x1 y1 : ℕ) → Fine p (record { img = img; w = w; h = h; ring = ringOf (p .ring); x0 = x0; y0 = y0; x1 = x1; y1 = y1 })
+  pub fine-box : (x0 y0 x1 y1 : ℕ)
+      → Fine p (record { img = img; w = w; h = h; ring = ringOf (p .ring); x0 = x0; y0 = y0; x1 = x1; y1 = y1 })
   fine-box x0 y0 x1 y1 =
       let r = ranges p (s .fit) in
-      record { ring-is = r .ring; in-window = r .window; in-radius = r .«centroid_radius»; bytes = s .bytes; ring = refl; narrow = s .narrow; low = s .low }
+      record {
+        ring-is = r .ring;
+        in-window = r .window;
+        in-radius = r .«centroid_radius»;
+        bytes = s .bytes;
+        ring = refl;
+        narrow = s .narrow;
+        low = s .low;
+      }
 
   -- each level is sound
   pub sound-level : (k : ℕ) → SoundFrame p (levelPixels img w h k) (levelSide w k) (levelSide h k)
@@ -89,7 +99,8 @@ module _ (p : FrameParams) (img : List ℕ) (w h : ℕ) (s : SoundFrame p img w 
 
 -- and fine as one box
 pub fine-level : (p : FrameParams) (img : List ℕ) (w h : ℕ) → SoundFrame p img w h → (k : ℕ) → Fine p (levelView p img w h k)
-fine-level p img w h s k = fine-box p (levelPixels img w h k) (levelSide w k) (levelSide h k) (sound-level p img w h s k) 0 0 (levelSide w k) (levelSide h k)
+fine-level p img w h s k =
+    fine-box p (levelPixels img w h k) (levelSide w k) (levelSide h k) (sound-level p img w h s k) 0 0 (levelSide w k) (levelSide h k)
 
 -- ---- each map that a frame looks at, by any choice
 module _ (p : FrameParams) (img : List ℕ) (w h : ℕ) (s : SoundFrame p img w h) where
@@ -111,7 +122,8 @@ module _ (p : FrameParams) (img : List ℕ) (w h : ℕ) (s : SoundFrame p img w 
         (all-of (λ c. All (Fine p) (seedPatch p img w h (suc k) c)) (seed-fine (suc k)) (seedsOf p img w h choose (suc (suc k)))),
   )
 
-pub looked-fine : (p : FrameParams) (img : List ℕ) (w h : ℕ) (choose : Choice) → SoundFrame p img w h → All (Fine p) (lookedAt p img w h choose)
+pub looked-fine : (p : FrameParams) (img : List ℕ) (w h : ℕ) (choose : Choice) → SoundFrame p img w h
+    → All (Fine p) (lookedAt p img w h choose)
 unfolding lookedAt
 looked-fine p img w h choose s = maps-fine p img w h s choose (levelsIn p img w h)
 

@@ -7,6 +7,7 @@ use mathlib.Core.Bool.{Bool, true, false, not, _&&_}
 use mathlib.Core.List.{List}
 use lib.ListN.{length}
 use borrow.Author.Tests.{ltb-false, not-false, lt-ltb, le-ltb, le-leb}
+use Rattle.lists.specs.Limits.{largestRadius, largestSearch}
 use Rattle.lists.specs.Places.{All}
 use Rattle.lists.specs.Refusals.{lowest}
 use Rattle.lists.specs.Internal.{Sized}
@@ -44,7 +45,8 @@ module _ (p : FrameParams) (pixels w h cells places : ℕ) where
   pub not-ten : lowest (conditions p pixels w h cells places) < 10
   unfolding conditions
   not-ten =
-      let l = lowest-le (conditions p pixels w h cells places) 9 (omega arith, (omega arith, (omega arith, (omega arith, (omega arith, (omega arith, tt)))))) in
+      let l = lowest-le (conditions p pixels w h cells places) 9
+      (omega arith, (omega arith, (omega arith, (omega arith, (omega arith, (omega arith, tt)))))) in
       omega arith
 
   pub admitted : lowest (conditions p pixels w h cells places) ≡ 0 → Admitted p pixels w h cells places
@@ -58,10 +60,15 @@ module _ (p : FrameParams) (pixels w h cells places : ℕ) where
       }
 
 -- ---- the number by the tests
-pub ring-decides : (p : FrameParams) → p .window ≤ 16 → p .«centroid_radius» ≤ 16 → p .«search_radius» ≤ 255 → isRing (p .ring) ≡ parametersFit p
+pub ring-decides : (p : FrameParams) → p .window ≤ largestRadius → p .«centroid_radius» ≤ largestRadius → p .«search_radius» ≤ largestSearch
+    → isRing (p .ring) ≡ parametersFit p
 unfolding parametersFit
 ring-decides p window centroid search =
-    rw (le-leb (p .window) 16 window, le-leb (p .«centroid_radius») 16 centroid, le-leb (p .«search_radius») 255 search) (sym (and-all (isRing (p .ring))))
+    rw (
+      le-leb (p .window) largestRadius window,
+      le-leb (p .«centroid_radius») largestRadius centroid,
+      le-leb (p .«search_radius») largestSearch search,
+    ) (sym (and-all (isRing (p .ring))))
 
 -- of an image the count of its levels' pixels, n, is exact
 module _ (p : FrameParams) (pixels w h places : ℕ) (image : Sized pixels w h) (n : ℕ)
@@ -75,6 +82,13 @@ module _ (p : FrameParams) (pixels w h places : ℕ) (image : Sized pixels w h) 
   pub enough : n ≤ places → isShort (ask pixels places w h (p .levels) (p .«minimum_side»)) ≡ false
   enough l = le-ltb places _ (rw exactly at l)
 
-pub admitted-sound : (p : FrameParams) (img : List ℕ) (w h cells places : ℕ) → Admitted p (length img) w h cells places → Bytes img → SoundFrame p img w h
+pub admitted-sound : (p : FrameParams) (img : List ℕ) (w h cells places : ℕ) → Admitted p (length img) w h cells places
+    → Bytes img → SoundFrame p img w h
 admitted-sound p img w h cells places a b =
-    record { fit = a .fit; narrow = a .accepted .image .narrow; low = a .accepted .image .low; sized = a .accepted .image .sized; bytes = b }
+    record {
+      fit = a .fit;
+      narrow = a .accepted .image .narrow;
+      low = a .accepted .image .low;
+      sized = a .accepted .image .sized;
+      bytes = b;
+    }

@@ -8,7 +8,8 @@ use Rattle.response.specs.Patch.{View}
 use Rattle.corner_list.specs.declared.Corner.{Corner}
 use Rattle.patch_corners.specs.declared.FrameParams.{FrameParams}
 use Rattle.patch_corners.specs.OneMap.{Choice, computedChoice, exactChoice, cornersIn, tiesOn}
-use Rattle.frame_pass.specs.Pass.{levelsIn, levelView, seedPatch, cornersOn, cornersAbout, seedsOf, foundOf, tiesAbout, tiesFound, framePass}
+use Rattle.frame_pass.specs.Pass.{levelsIn, levelView, seedPatch, cornersOn, cornersAbout, seedsOf, foundOf, tiesAbout, tiesFound}
+use Rattle.frame_pass.specs.Pass.{framePass}
 use Rattle.frame_pass.specs.Pass.{mapsOf, lookedAt}
 
 -- sums of two numbers of each member, alike for each
@@ -55,7 +56,8 @@ module _ (p : FrameParams) (img : List ℕ) (w h : ℕ) (a b : Choice) where
       let seeds = seedsOf p img w h b (suc (suc k)) in
       ap (flatMap (cornersAbout p img w h a (suc k))) (seeds-same (suc (suc k)) e)
       ∙ flatMap-alike (cornersAbout p img w h a (suc k)) (cornersAbout p img w h b (suc k)) seeds
-      (all-map (λ s. All Alike (seedPatch p img w h (suc k) s)) (λ s. cornersAbout p img w h a (suc k) s ≡ cornersAbout p img w h b (suc k) s)
+      (all-map (λ s. All Alike (seedPatch p img w h (suc k) s))
+      (λ s. cornersAbout p img w h a (suc k) s ≡ cornersAbout p img w h b (suc k) s)
       (about-same (suc k)) seeds
       (all-unflat Alike (seedPatch p img w h (suc k)) seeds (e .1)))
 
@@ -76,6 +78,7 @@ module _ (p : FrameParams) (img : List ℕ) (w h : ℕ) (a b : Choice) where
   choices-same e = let n = levelsIn p img w h in rw (seeds-same n e, found-same n e, sum-same n e)
 
 -- the two choices of peaks
-pub pass-same : (p : FrameParams) (img : List ℕ) (w h : ℕ) → All (λ (v : View). computedChoice p v ≡ exactChoice p v) (lookedAt p img w h (exactChoice p))
+pub pass-same : (p : FrameParams) (img : List ℕ) (w h : ℕ)
+    → All (λ (v : View). computedChoice p v ≡ exactChoice p v) (lookedAt p img w h (exactChoice p))
     → framePass p img w h (computedChoice p) ≡ framePass p img w h (exactChoice p)
 pass-same p img w h e = choices-same p img w h (computedChoice p) (exactChoice p) e

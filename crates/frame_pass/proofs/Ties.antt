@@ -5,6 +5,7 @@ use mathlib.Core.Path.{ap}
 use mathlib.Core.Bool.{Bool}
 use mathlib.Core.List.{List, [], _∷_}
 use lib.ListN.{length}
+use Rattle.lists.specs.Limits.{largestMap, mostTies}
 use Rattle.lists.specs.Places.{sumOf}
 use Rattle.response.specs.Patch.{View, mapWidth, mapHeight, cells}
 use Rattle.corner_list.specs.declared.Corner.{Corner}
@@ -35,35 +36,42 @@ module _ (p : FrameParams) (exact : Bool) (v : View) (fine : Fine p v) where
 
   can-search : Searchable (cells v) search
   can-search =
-      searchable (cells v) exact (mapWidth v) (mapHeight v) (p .ring) (p .threshold) (p .window) (p .«least_neighbours») (p .«centroid_radius»)
+      searchable (cells v) exact (mapWidth v) (mapHeight v) (p .ring) (p .threshold) (p .window) (p .«least_neighbours»)
+      (p .«centroid_radius»)
       (map-clear p v fine)
 
-  map-tied : tiesOn p (choiceOf p exact) v ≤ 18270388224
+  pub map-tied : tiesOn p (choiceOf p exact) v ≤ mostTies
   map-tied = rw (← chosen p v (fine .bytes) exact) (ties-few (cells v) search can-search)
 
-  map-few : length (cornersIn p (choiceOf p exact) v) ≤ 16777216
+  map-few : length (cornersIn p (choiceOf p exact) v) ≤ largestMap
   map-few =
       let s = search in
       let most = peaks-at-most (readIn (cells v) s) (s .w) (s .h) (s .border) (s .window) (s .«least_neighbours») in
       let same = ap length (chosen p v (fine .bytes) exact) in
-      omega (arith, corners-count p v (choiceOf p exact) fine (one-of-two p exact), same, most, inside-few s (can-search .wide) (can-search .high))
+      omega (
+        arith,
+        corners-count p v (choiceOf p exact) fine (one-of-two p exact),
+        same,
+        most,
+        inside-few s (can-search .wide) (can-search .high),
+      )
 
 -- ---- a sound image
 module _ (p : FrameParams) (exact : Bool) (img : List ℕ) (w h : ℕ) (s : SoundFrame p img w h) where
   -- the corners of a level, which are the seeds of the last
-  pub level-few : (k : ℕ) → length (cornersIn p (choiceOf p exact) (levelView p img w h k)) ≤ 16777216
+  pub level-few : (k : ℕ) → length (cornersIn p (choiceOf p exact) (levelView p img w h k)) ≤ largestMap
   level-few k = map-few p exact (levelView p img w h k) (fine-level p img w h s k)
 
   -- the ties about one seed
-  pub about-tied : (k : ℕ) (c : Corner) → tiesAbout p img w h (choiceOf p exact) k c ≤ 18270388224
+  pub about-tied : (k : ℕ) (c : Corner) → tiesAbout p img w h (choiceOf p exact) k c ≤ mostTies
   about-tied k c = of (roiOf (contextAt p img w h k) c)
     where
-      of : (a : RoiAnswer) → sumOf (tiesOn p (choiceOf p exact)) (patchOf p img w h a) ≤ 18270388224
+      of : (a : RoiAnswer) → sumOf (tiesOn p (choiceOf p exact)) (patchOf p img w h a) ≤ mostTies
       of (roi.Bounds x0 y0 x1 y1) = omega (arith, map-tied p exact _ (fine-box p img w h s x0 y0 x1 y1))
       of roi.NoRoi = omega arith
       of (roi.Refused n) = omega arith
 
   -- and about a list of them
-  pub seeds-tied : (k : ℕ) (l : List Corner) → sumOf (tiesAbout p img w h (choiceOf p exact) k) l ≤ 18270388224 * length l
+  pub seeds-tied : (k : ℕ) (l : List Corner) → sumOf (tiesAbout p img w h (choiceOf p exact) k) l ≤ mostTies * length l
   seeds-tied k [] = omega arith
   seeds-tied k (c ∷ l) = omega (arith, about-tied k c, seeds-tied k l)

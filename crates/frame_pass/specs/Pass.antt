@@ -1,4 +1,5 @@
--- The frame pass over lists, by a choice of peaks (RULES 9 and 10.2): the program's pass and the exact pass are this one definition, at two choices.
+-- The frame pass over lists, for a choice of peaks (RULES 9 and 10.2): the program's pass and the exact pass are this
+-- one definition, with two choices.
 use Prim.Native.Nat.{ℕ, zero, suc}
 use mathlib.Core.List.{List, [], _∷_, map}
 use Rattle.lists.specs.Places.{flatMap, sumOf}
@@ -15,7 +16,7 @@ use Rattle.merge.specs.Merge.{resultOf}
 use Rattle.patch_corners.specs.declared.FrameParams.{FrameParams}
 use Rattle.patch_corners.specs.OneMap.{Choice, moved, cornersIn, tiesOn}
 
--- the lists of a pass, and the ties of the peaks behind `found`
+-- the lists of a pass, and the ties of the peaks that `found` comes from
 pub record Pass : Type 0 where
   pub seeds : List Corner
   -- the corners before merging
@@ -46,9 +47,10 @@ module _ (p : FrameParams) (img : List ℕ) (w h : ℕ) where
         level = k;
       }
 
-  -- one patch, or none where there is no box
+  -- one patch, or none if there is no box
   abbrev pub patchOf : RoiAnswer → List View
-  patchOf (roi.Bounds x0 y0 x1 y1) = record { img = img; w = w; h = h; ring = ringOf (p .ring); x0 = x0; y0 = y0; x1 = x1; y1 = y1 } ∷ []
+  patchOf (roi.Bounds x0 y0 x1 y1) =
+      record { img = img; w = w; h = h; ring = ringOf (p .ring); x0 = x0; y0 = y0; x1 = x1; y1 = y1 } ∷ []
   patchOf roi.NoRoi = []
   patchOf (roi.Refused n) = []
 
@@ -71,7 +73,8 @@ module _ (p : FrameParams) (img : List ℕ) (w h : ℕ) where
     seedsOf (suc zero) = []
     seedsOf (suc (suc k)) = cornersIn p choose (levelView (suc k))
 
-    -- the corners before merging: no levels, none; one level, those of its map; more, those of each seed's box, in order
+    -- the corners before merging: with no level, none; with one level, those of its map; with more, those of each
+    -- seed's box, in order
     unfoldable pub foundOf : ℕ → List Corner
     unfolding cornersIn seedsOf
     foundOf zero = []
@@ -82,7 +85,8 @@ module _ (p : FrameParams) (img : List ℕ) (w h : ℕ) where
     abbrev pub tiesAbout : ℕ → Corner → ℕ
     tiesAbout k s = sumOf (tiesOn p choose) (seedPatch k s)
 
-    -- RULES 23.3: the ties of the peaks found before merging, in the same maps as `foundOf`; a peak of two patches counts in each, seeds in none
+    -- RULES 23.3: the ties of the peaks found before merging, in the same maps as `foundOf`; a peak of two patches
+    -- counts in each, a seed in none
     unfoldable pub tiesFound : ℕ → ℕ
     unfolding seedsOf
     tiesFound zero = 0
@@ -100,7 +104,8 @@ module _ (p : FrameParams) (img : List ℕ) (w h : ℕ) where
           ties = tiesFound levelsIn;
         }
 
-    -- "the maps a frame looks at" (RULES 10.3): the last level's whole map and, with more than one level, the patch map of each seed that has a box
+    -- "the maps a frame looks at" (RULES 10.3): the last level's whole map and, with more than one level, the patch map
+    -- of each seed that has a box
     unfoldable pub mapsOf : ℕ → List View
     unfolding seedsOf
     mapsOf zero = []

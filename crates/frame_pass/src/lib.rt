@@ -1,4 +1,5 @@
-// The refusals of a frame before its pass. The frame pass over lists is defined in specs/, and proofs/ has what is true of it.
+// The refusals of a frame before its pass. The frame pass over lists is defined in specs/, and proofs/ has what is true
+// of it.
 ghost use mathlib.Core.Path.{_≡_};
 ghost use Rattle.lists.specs.Refusals.{lowest};
 ghost use Rattle.frame_pass.specs.Refusals.{parametersFit, conditions};
@@ -8,13 +9,13 @@ use patch_corners::FrameParams;
 fn parameters_fit(p: FrameParams) -> bool
     ensures { λ r. ⌜ r ≡ parametersFit p ⌝ }
 {
-    if 16 < p.window {
+    if lists::LARGEST_RADIUS < p.window {
         return false;
     }
-    if 16 < p.centroid_radius {
+    if lists::LARGEST_RADIUS < p.centroid_radius {
         return false;
     }
-    if 255 < p.search_radius {
+    if lists::LARGEST_SEARCH < p.search_radius {
         return false;
     }
     ring::is_ring(p.ring)

@@ -1,5 +1,5 @@
--- What is not refused is what the reader accepts: of such values all conditions but that of the buffer are clear, and no others are read from a
--- stream of bytes. Assumes nothing.
+-- What is not refused is what the reader accepts: of such values all conditions but that of the buffer are clear, and no others are read
+-- from a stream of bytes. Assumes nothing.
 use Prim.Native.Nat.{ℕ, _*_, _<_}
 use native.Mathlib.Omega.{arith}
 use mathlib.Core.Path.{_≡_, subst}
@@ -54,7 +54,9 @@ module _ (h : Header) (pixels : List ℕ) (places : ℕ) where
         let good = accepted-good s h pixels e in
         let sides = lowest-none (sidesOutside (h .width) (h .height)) 1 [] (omega arith) (good .sides) in
         let outside = radiusOutside (ofBits binary32 (h .«merge_bits»)) in
-        let range = lowest-none (rangeOutside (h .ring) (h .window) (h .«centroid_radius»)) 3 ((outside, 5) ∷ []) (omega arith) (good .parameters) in
+        let range = lowest-none (rangeOutside (h .ring) (h .window) (h .«centroid_radius»)) 3 ((outside, 5) ∷ []) (omega arith)
+        (good .parameters) in
         let radius = lowest-none outside 5 [] (omega arith) (range .1) in
-        let narrow = wide-none (subst (All (λ v. v < 256)) (accepted-only s h pixels e b) (bytes-take (length (frameBytes h pixels)) s b)) in
+        let narrow = wide-none (subst (All (λ v. v < 256)) (accepted-only s h pixels e b)
+        (bytes-take (length (frameBytes h pixels)) s b)) in
         rw (sides .0, eq-eqb (length pixels) (h .width * h .height) (good .long), range .0, narrow, radius .0)

@@ -75,7 +75,8 @@ records-are zero pixels = refl
 records-are (suc n) pixels =
     let more : 33 + 33 * n ≡ 33 * suc n = omega arith in
     ap₂ (λ (s t : List ℕ). s ++ t) (record-first pixels)
-    (records-are n (drop 32 pixels) ∙ tab-ext (33 * n) (recordByte (drop 32 pixels)) (λ j. recordByte pixels (33 + j)) (λ j l. record-next pixels j))
+    (records-are n (drop 32 pixels)
+    ∙ tab-ext (33 * n) (recordByte (drop 32 pixels)) (λ j. recordByte pixels (33 + j)) (λ j l. record-next pixels j))
     ∙ sym (tab-add 33 (33 * n) (recordByte pixels))
     ∙ ap (λ (k : ℕ). tab k (recordByte pixels)) more
 

@@ -45,7 +45,8 @@ module _ (h : Header) (pixels out : List ℕ) (l : length out ≡ lengthOf (leng
       let behind : putMid 22 (last - 22) s filled ≡ front (headBytes h ++ records) out =
       put-placed 22 (last - 22) filled s (omega arith)
       ∙ rw (e, is) (front-more (headBytes h) records out 22 refl) in
-      let before-end : last ≡ length (headBytes h ++ records) = omega (arith, length-append (headBytes h) records, records-long count pixels) in
+      let before-end : last ≡ length (headBytes h ++ records) = omega
+      (arith, length-append (headBytes h) records, records-long count pixels) in
       let all : drop (length (frameBytes h pixels)) out ≡ [] =
       drop-of-length-le out {i = length (frameBytes h pixels)} (omega (arith, length-append (headBytes h ++ records) (4 ∷ []))) in
       ap (λ (t : List ℕ). set t last 4) behind

@@ -1,4 +1,5 @@
--- The frame stream written (RULES 30): what is refused, and the promise of `write_frame`. The stream itself is `frameBytes` of stream.
+-- Writing the frame stream (RULES 30): what is refused, and the promise of `write_frame`. The stream itself is
+-- `frameBytes` of stream.
 use Prim.Native.Nat.{ℕ}
 use mathlib.Core.Path.{_≡_}
 use mathlib.Core.Bool.{Bool, _||_}
@@ -15,11 +16,14 @@ use Rattle.stream.specs.RoundTrip.{frameBytes}
 use Rattle.frame_writer.specs.declared.FrameWriting.{FrameWriting}
 use Rattle.frame_writer.specs.declared.FrameWriting.the-variants.{Written, Refused}
 
--- a value too wide for its field: least, levels and search have a byte, the minimum two (RULES 30.2); the others' ranges are narrower
+-- a value too wide for its field: least, levels and search have a byte, the minimum two (RULES 30.2); the others'
+-- ranges are narrower
 abbrev pub isTooWide : Header → Bool
-isTooWide h = ltb 255 (h .«least_neighbours») || ltb 255 (h .levels) || ltb 65535 (h .«minimum_side») || ltb 255 (h .«search_radius»)
+isTooWide h =
+    ltb 255 (h .«least_neighbours») || ltb 255 (h .levels) || ltb 65535 (h .«minimum_side») || ltb 255
+    (h .«search_radius»)
 
--- where the buffer has so many places (RULES 30.2)
+-- for a buffer with a given number of places (RULES 30.2)
 unfoldable pub conditions : Header → List ℕ → ℕ → List (Bool × ℕ)
 conditions h pixels places =
     (sidesOutside (h .width) (h .height), 1)
@@ -42,7 +46,8 @@ abbrev pub valuesOf : FrameWriting → List ℕ
 valuesOf (Written n) = n ∷ []
 valuesOf (Refused k) = []
 
--- the promise of `write_frame`: the stream stands first in the buffer, which is as it was behind it, and whole where it is refused (RULES 30.3)
+-- the promise of `write_frame`: the stream is at the start of the buffer, whose rest is unchanged; if refused, all of
+-- it is unchanged (RULES 30.3)
 pub record FrameWritten (h : Header) (pixels before : List ℕ) (r : FrameWriting) (after : List ℕ) : Type 0 where
   pub answer : r ≡ unless Refused (refusalOf h pixels (length before)) (Written (length (frameBytes h pixels)))
   pub number : numberOf r ≡ refusalOf h pixels (length before)

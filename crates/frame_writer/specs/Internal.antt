@@ -10,11 +10,11 @@ use Rattle.stream.specs.RoundTrip.{sidesBytes, parametersBytes}
 use Rattle.frame_writer.specs.declared.records.Bytes16.{Bytes16}
 use Rattle.frame_writer.specs.declared.records.Bytes32.{Bytes32}
 
--- how long the stream of so many pixels is
+-- how long the stream of a given number of pixels is
 abbrev pub lengthOf : ℕ → ℕ
 lengthOf pixels = 23 + 33 * recordsFor pixels
 
--- each field has the bytes for its value
+-- each field has enough bytes for its value
 pub record Narrow (h : Header) : Type 0 where
   pub width : h .width < 65536
   pub height : h .height < 65536
@@ -37,6 +37,6 @@ halves32 n = record { low = halves16 (n % 65536); high = halves16 (n / 65536) }
 abbrev pub headBytes : Header → List ℕ
 headBytes h = (1 ∷ sidesBytes h) ++ (2 ∷ parametersBytes h)
 
--- byte j of the records of kind 3: a byte of kind before every 32 pixels, and zeros behind the last
+-- byte j of the records of kind 3: a byte with the kind before every 32 pixels, and zeros after the last
 unfoldable pub recordByte : List ℕ → ℕ → ℕ
 recordByte pixels j = cond (eqb (j % 33) 0) 3 (getD pixels (j / 33 * 32 + j % 33 - 1) 0)

@@ -5,14 +5,14 @@ ghost use Rattle.frame_writer.specs.FrameWriter.{isTooWide, refusalOf};
 use crate::records;
 use stream::Header;
 
-// Whether a side is above 96.
+// Whether a side is above the largest.
 fn is_large(width: usize, height: usize) -> bool
     ensures { λ r. ⌜ r ≡ sidesOutside width height ⌝ }
 {
-    if 96 < width {
+    if stream::LARGEST_STREAM_SIDE < width {
         return true;
     }
-    96 < height
+    stream::LARGEST_STREAM_SIDE < height
 }
 
 // Whether ring, window or centroid radius is out of range.
@@ -22,10 +22,10 @@ fn is_outside(header: Header) -> bool
     if !ring::is_ring(header.ring) {
         return true;
     }
-    if 16 < header.window {
+    if lists::LARGEST_RADIUS < header.window {
         return true;
     }
-    16 < header.centroid_radius
+    lists::LARGEST_RADIUS < header.centroid_radius
 }
 
 // Whether a value is too wide for its field: a byte, or two for the minimum size.
@@ -44,7 +44,7 @@ fn is_too_wide(header: Header) -> bool
     255 < header.search_radius
 }
 
-// The number of the refusal where the buffer has so many places, 0 for none.
+// The number of the refusal for a buffer of `places` places, 0 for none.
 pub(crate) fn refusal(header: Header, pixels: &[u8], places: usize) -> u8
     ensures { λ r. ⌜ r ≡ refusalOf header (now (pixels .entry)) places ⌝ }
 {

@@ -1,17 +1,18 @@
-// The frame stream written: the one stream of sides, parameters and pixels that the reader would accept (RULES 30).
+// Writes the frame stream: the one stream of sides, parameters and pixels that the reader would accept (RULES 30).
 mod judging; // refusal: what the reader would not accept, and a buffer that is too short
 mod records; // the bytes of the records
 
 ghost use Rattle.frame_writer.specs.FrameWriter.{FrameWritten};
 use stream::Header;
 
-// How long the stream is that stands first in the buffer, or the number of the refusal.
+// The length of the stream at the start of the buffer, or the number of the refusal.
 pub enum FrameWriting {
     Written(usize),
     Refused(u8),
 }
 
-// Writes the stream of a frame of at most 96 by 96 first in a buffer, which stays as it was behind it. A call that is refused changes nothing.
+// Writes the stream of a frame to the start of a buffer; the rest of the buffer stays. A refused call changes
+// nothing.
 pub fn write_frame(header: Header, pixels: &[u8], out: &mut [u8]) -> FrameWriting
     ensures { λ r. ⌜ FrameWritten header (now (pixels .entry)) (now (out .entry)) r (now (out .exit)) ⌝ }
 {

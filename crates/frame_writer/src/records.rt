@@ -1,9 +1,10 @@
-// The bytes of the records: numbers are little-endian, and a byte of kind stands before every 32 pixels.
+// The bytes of the records: numbers are little-endian, and a byte with the kind comes before every 32 pixels.
 ghost use mathlib.Core.Path.{_≡_};
 ghost use Prim.Native.Nat.{_<_, _≤_, _^_};
 ghost use lib.ListN.{length};
 ghost use Rattle.lists.specs.Tab.{tab};
 ghost use Rattle.stream.specs.RoundTrip.{frameBytes};
+ghost use Rattle.stream.specs.Stream.{mostPixels};
 ghost use Rattle.frame_writer.specs.Internal.{lengthOf, Narrow, halves16, halves32, headBytes, recordByte};
 use stream::Header;
 
@@ -18,15 +19,15 @@ struct Bytes32 {
     high: Bytes16,
 }
 
-// How long the stream of so many pixels is.
+// How long the stream of a given number of pixels is.
 pub(crate) fn length_of(pixels: usize) -> usize
-    requires { ⌜ pixels ≤ 9216 ⌝ }
+    requires { ⌜ pixels ≤ mostPixels ⌝ }
     ensures { λ r. ⌜ r ≡ lengthOf pixels ⌝ }
 {
     23 + 33 * ((pixels + 31) / 32)
 }
 
-// The bits of a float as they came.
+// The bits of a float as given.
 fn wide(bits: u32) -> usize
     ensures { λ r. ⌜ (r ≡ bits) × (bits < 2 ^ 32) ⌝ }
 {
@@ -90,7 +91,7 @@ fn head_of(header: Header) -> [u8; 22]
     ]
 }
 
-// Byte j of the records of kind 3: behind the last pixel a body is 0.
+// Byte j of the records of kind 3: after the last pixel a body is 0.
 fn record_byte(pixels: &[u8], j: usize) -> u8
     ensures { λ r. ⌜ r ≡ recordByte (now (pixels .entry)) j ⌝ }
 {
@@ -116,7 +117,7 @@ fn put_pixels(pixels: &[u8], out: &mut [u8])
     }
 }
 
-// Fills a buffer of just its length with the stream of a frame.
+// Fills a buffer of exactly its length with the stream of a frame.
 pub(crate) fn put_frame(header: Header, pixels: &[u8], out: &mut [u8])
     requires { ⌜ Narrow header × (length (now out) ≡ lengthOf (length (now pixels))) ⌝ }
     ensures { λ _. ⌜ now (out .exit) ≡ frameBytes header (now (pixels .entry)) ⌝ }

@@ -4,6 +4,7 @@ use mathlib.Core.Path.{_≡_, sym, _∙_}
 use mathlib.Core.Bool.{Bool, true, false, cond}
 use mathlib.Core.List.{[]}
 use borrow.Author.Tests.{le-ltb, eq-eqb}
+use Rattle.lists.specs.Limits.{largestSide}
 use Rattle.lists.specs.Refusals.{isLarge, isMisfit}
 use Rattle.lists.specs.Internal.{Sized}
 use Rattle.lists.proofs.Refusals.{sized-none}
@@ -31,4 +32,4 @@ module _ (size w h : ℕ) where
 
   -- of which the rest of the table decides
   pub passed : (rest : ℕ) → Sized size w h → before rest ≡ rest
-  passed rest s = simp (le-ltb 4096 w (s .narrow), le-ltb 4096 h (s .low), eq-eqb size (w * h) (s .sized))
+  passed rest s = simp (le-ltb largestSide w (s .narrow), le-ltb largestSide h (s .low), eq-eqb size (w * h) (s .sized))

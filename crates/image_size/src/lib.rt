@@ -1,20 +1,20 @@
-// Conditions 1 and 2, by which every image and every map is judged first.
+// Conditions 1 and 2, which are checked first for every image and every map.
 ghost use mathlib.Core.Path.{_≡_};
 ghost use Rattle.lists.specs.Refusals.{isLarge};
 ghost use Rattle.image_size.specs.ImageSize.{refusalOf};
 
-// Whether a side is above 4,096.
+// Whether a side is above the largest.
 pub fn is_large(w: usize, h: usize) -> bool
     ensures { λ r. ⌜ r ≡ isLarge w h ⌝ }
 {
-    if 4096 < w {
+    if lists::LARGEST_SIDE < w {
         return true;
     }
-    4096 < h
+    lists::LARGEST_SIDE < h
 }
 
-// Why an image or a map of w by h with so many elements is refused: 1 for a side above 4,096, 2 for a size that is not w * h, 0 for
-// neither. The product is taken only of sides up to 4,096.
+// Why an image or a map of w by h with `size` elements is refused: 1 for a side above the largest, 2 for a size that is
+// not w * h, 0 for neither. The product is computed only for sides up to the largest.
 pub fn refusal(size: usize, w: usize, h: usize) -> u8
     ensures { λ r. ⌜ r ≡ refusalOf size w h ⌝ }
 {

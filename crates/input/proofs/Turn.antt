@@ -31,7 +31,8 @@ some-brought (pos (suc k)) n = tt
 some-brought (negsuc k) n = n refl
 
 -- nothing more is wanted of what came
-pub decided : (wanted : List ℕ → ℕ) (i : Input) (s : List ℕ) → i .count ≤ length s → Brought (i .answer) → wanted (take (i .count) s) ≡ 0 → Read wanted i s
+pub decided : (wanted : List ℕ → ℕ) (i : Input) (s : List ℕ) → i .count ≤ length s → Brought (i .answer)
+    → wanted (take (i .count) s) ≡ 0 → Read wanted i s
 decided wanted i s fits b e = record { fits = fits; ends = brought-ends (i .answer) _ b e }
 
 -- a read of wanted bytes, which all have their places

@@ -20,17 +20,19 @@ cameBy (negsuc k) = 0
 abbrev pub begun : Input
 begun = record { count = 0; answer = pos 1 }
 
--- the place of the next byte, and how many bytes a read asks for where `more` are wanted
+-- the place of the next byte, and how many bytes a read asks for if `more` are needed
 abbrev pub startOf : Input → List ℕ → ℕ
 startOf i buffer = min (i .count) (length buffer)
 
 abbrev pub askedOf : Input → ℕ → List ℕ → ℕ
 askedOf i more buffer = min more (length buffer - startOf i buffer)
 
--- what a read more leaves: the bytes before and behind those asked for are as they were, and as many count as the read says
+-- what one more read leaves: the bytes before and after those asked for are unchanged, and as many bytes count as the
+-- read says
 pub record ReadOn (i : Input) (more : ℕ) (buffer : List ℕ) (r : Input) (after : List ℕ) : Type 0 where
   pub counted : r .count ≡ startOf i buffer + cameBy (r .answer)
   pub most : cameBy (r .answer) ≤ askedOf i more buffer
   pub long : length after ≡ length buffer
   pub before : take (startOf i buffer) after ≡ take (startOf i buffer) buffer
-  pub behind : drop (startOf i buffer + askedOf i more buffer) after ≡ drop (startOf i buffer + askedOf i more buffer) buffer
+  pub behind : drop (startOf i buffer + askedOf i more buffer) after
+      ≡ drop (startOf i buffer + askedOf i more buffer) buffer

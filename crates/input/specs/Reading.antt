@@ -1,5 +1,5 @@
--- What a program has read when it stops, and what it may print of that (RULES 12.5). `wanted` says how many bytes more a program wants of those that came,
--- `outputOf` what it prints of them.
+-- What a program has read when it stops, and what it may print then (RULES 12.5). Given the bytes that came, `wanted`
+-- says how many more a program needs, and `outputOf` what it prints.
 use Prim.Native.Nat.{ℕ, zero, suc, _<_, _≤_}
 use mathlib.Core.Path.{_≡_}
 use mathlib.Core.Bool.{false}
@@ -9,7 +9,8 @@ use lib.IntN.{ℤ, pos, negsuc}
 use Rattle.input.specs.declared.Input.{Input}
 use Rattle.input.specs.Input.{isBelow0}
 
--- by what the last read answered: the input ended though w bytes are wanted; or none is wanted; or a read failed though w are wanted
+-- by what the last read answered: the input ended though w more bytes are needed; or none are needed; or a read failed
+-- though w are needed
 abbrev pub Ends : ℤ → ℕ → Type 0
 Ends (pos zero) w = 0 < w
 Ends (pos (suc k)) w = w ≡ 0

@@ -1,16 +1,18 @@
-// Standard input, read as far as its reader wants. Only this crate makes an `Input`, and only by reading does one come to its end or fail.
+// Standard input, read as far as its reader needs. Only this crate makes an `Input`, and only reading can bring one to
+// its end or to a failure.
 ghost use mathlib.Core.Path.{_≡_};
 ghost use Rattle.input.specs.Input.{begun, isBelow0, ReadOn};
 
 // How far standard input was read.
 pub struct Input {
-    // So many bytes came. They stand first in the reader's buffer.
+    // How many bytes came. They are at the start of the reader's buffer.
     count: usize,
-    // What the last read answered: how many bytes it brought, 0 at the end of the input, below 0 where it failed; 1 before the first.
+    // What the last read answered: how many bytes it brought, 0 at the end of the input, below 0 if it failed; 1 before
+    // the first.
     answer: isize,
 }
 
-// Nothing was read yet.
+// Nothing has been read yet.
 pub fn begin() -> Input
     ensures { λ r. ⌜ r ≡ begun ⌝ }
 {
@@ -20,7 +22,7 @@ pub fn begin() -> Input
     }
 }
 
-// One read more, of so many bytes or as many as the buffer has places for, behind those that came.
+// One more read, of `more` bytes or as many as the buffer has places for, after those that came.
 pub fn read_on(input: Input, more: usize, buffer: &mut [u8]) -> Input
     ensures { λ r. ⌜ ReadOn input more (now (buffer .entry)) r (now (buffer .exit)) ⌝ }
 {

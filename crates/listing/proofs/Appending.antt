@@ -45,12 +45,14 @@ wrote-byte at before b h =
     record {
       fits = omega arith;
       ends = refl;
-      holds = ap (λ (k : ℕ). set before k b) n ∙ ap (λ (s : List ℕ). set s (at + 0) b) (placed-none at before) ∙ placed-set at [] before b (omega arith);
+      holds = ap (λ (k : ℕ). set before k b) n ∙ ap (λ (s : List ℕ). set s (at + 0) b) (placed-none at before)
+          ∙ placed-set at [] before b (omega arith);
     }
 
 -- ---- a word, byte by byte
 module _ (word : List ℕ) (at i : ℕ) (before out : List ℕ) (w : Wrote (take i word) at before (at + i) out) where
-  pub word-more : i < length word → at + i < length out → Wrote (take (i + 1) word) at before (at + (i + 1)) (set out (at + i) (getD word i 0))
+  pub word-more : i < length word → at + i < length out
+      → Wrote (take (i + 1) word) at before (at + (i + 1)) (set out (at + i) (getD word i 0))
   word-more h l =
       let k : take (i + 1) word ≡ take i word ++ (getD word i 0 ∷ []) = ap (λ (n : ℕ). take n word) (add-one i) ∙ take-suc word i 0 h in
       let n : at + i + 1 ≡ at + (i + 1) = omega arith in
@@ -69,14 +71,22 @@ pub record Ahead (base count n at i rest : ℕ) (before out : List ℕ) : Type 0
 
 module _ (base count n at : ℕ) (before : List ℕ) where
   pub ahead-all : at + count ≤ length before → Ahead base count n at count n before before
-  ahead-all h = record { behind = []; split = sym (append-nil (digits base count n)); long = add-zero count; fits = h; holds = placed-none (at + count) before }
+  ahead-all h =
+      record {
+        behind = [];
+        split = sym (append-nil (digits base count n));
+        long = add-zero count;
+        fits = h;
+        holds = placed-none (at + count) before;
+      }
 
   -- the next digit is written before those behind it
   module _ (i rest : ℕ) (out : List ℕ) (a : Ahead base count n at i rest before out) where
     pub ahead-length : length out ≡ length before
     ahead-length = ap length (a .holds) ∙ placed-length (at + i) (a .behind) before (omega (arith, a .long, a .fits))
 
-    pub ahead-next : 0 < i → (d : ℕ) → d ≡ digitOf (rest % base) → Ahead base count n at (i - 1) (rest / base) before (set out (at + (i - 1)) d)
+    pub ahead-next : 0 < i → (d : ℕ) → d ≡ digitOf (rest % base)
+        → Ahead base count n at (i - 1) (rest / base) before (set out (at + (i - 1)) d)
     unfolding digits
     ahead-next h d e =
         let k : i ≡ suc (i - 1) = omega arith in
@@ -85,7 +95,8 @@ module _ (base count n at : ℕ) (before : List ℕ) where
         ap (λ (k : ℕ). digits base k rest) k ∙ ap (λ (v : ℕ). digits base (i - 1) (rest / base) ++ (v ∷ [])) (sym e) in
         record {
           behind = d ∷ a .behind;
-          split = a .split ∙ ap (λ (l : List ℕ). l ++ a .behind) first ∙ append-assoc (digits base (i - 1) (rest / base)) (d ∷ []) (a .behind);
+          split = a .split ∙ ap (λ (l : List ℕ). l ++ a .behind) first
+              ∙ append-assoc (digits base (i - 1) (rest / base)) (d ∷ []) (a .behind);
           long = omega (arith, a .long);
           fits = a .fits;
           holds = ap (λ (s : List ℕ). set s (at + (i - 1)) d) (a .holds ∙ ap (λ (k : ℕ). placed k (a .behind) before) place)

@@ -41,8 +41,8 @@ pub edges :
 unfolding unitsOf roundHalfAway toBits toUnsigned ofBits mul le
 edges = (refl, refl, refl, refl, refl)
 
--- half a 256th, and the float below it, which 256 x + 0.5 would round up; one and a half; two and a half, which half to even would round down;
--- the float below 6; 4,096; the float above 65,536, where 256 x is whole
+-- half a 256th, and the float below it, which 256 x + 0.5 would round up; one and a half; two and a half, which half to even would round
+-- down; the float below 6; 4,096; the float above 65,536, where 256 x is whole
 pub nearest :
     (unitsOf (ofBits binary32 0x3b00_0000) ≡ 1)
     × (unitsOf (ofBits binary32 0x3aff_ffff) ≡ 0)

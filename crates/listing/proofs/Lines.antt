@@ -10,6 +10,7 @@ use Rattle.lists.specs.Tab.{tab}
 use Rattle.lists.specs.Places.{flatMap}
 use Rattle.lists.proofs.Members.{flatMap-append}
 use Rattle.corner_list.specs.declared.Corner.{Corner}
+use Rattle.listing.specs.Answer.{mostCorners}
 use Rattle.listing.specs.Text.{decimal, hexadecimal, unitsOf, fields, line, cornersWord, heading}
 use Rattle.listing.specs.Internal.{ended}
 use Rattle.listing.proofs.Numbers.{decimal-long, hexadecimal-long}
@@ -43,7 +44,7 @@ line-long c h =
     ))
 
 -- ---- a heading, and one line more
-pub heading-long : (n : ℕ) → n ≤ 512 → length (heading cornersWord n) ≤ 12
+pub heading-long : (n : ℕ) → n ≤ mostCorners → length (heading cornersWord n) ≤ 12
 heading-long n h = omega (arith, ended-long (decimal n) 10, decimal-long 2 n (omega arith))
 
 abbrev pub lines : List Corner → List ℕ
@@ -52,4 +53,5 @@ lines cs = flatMap (λ c. line (fields c)) cs
 pub lines-more : (f : ℕ → Corner) (i : ℕ) → lines (tab (i + 1) f) ≡ lines (tab i f) ++ line (fields (f i))
 unfolding tab
 lines-more f i =
-    rw (add-one i) (flatMap-append (λ c. line (fields c)) (tab i f) (f i ∷ []) ∙ ap (λ (l : List ℕ). lines (tab i f) ++ l) (append-nil (line (fields (f i)))))
+    rw (add-one i) (flatMap-append (λ c. line (fields c)) (tab i f) (f i ∷ [])
+    ∙ ap (λ (l : List ℕ). lines (tab i f) ++ l) (append-nil (line (fields (f i)))))

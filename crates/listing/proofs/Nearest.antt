@@ -21,7 +21,8 @@ judged-small nan h = absurd (true≢false (sym h))
 judged-small (inf s) h = absurd (true≢false (sym h))
 judged-small (fin s m e) h = whole-small (m * up e) (down e) (down-pos e) (size-within m e h)
 
-by-rounding : (a : Float) (judge negative : Bool) (n : ℕ) → (judge ≡ true → n < 2 ^ 25) → unitsBy a (judged judge (signed negative n)) < 2 ^ 64
+by-rounding : (a : Float) (judge negative : Bool) (n : ℕ) → (judge ≡ true → n < 2 ^ 25)
+    → unitsBy a (judged judge (signed negative n)) < 2 ^ 64
 by-rounding a false negative n h = toUnsigned-lt 64 a
 by-rounding a true false n h = omega (arith, h refl)
 by-rounding a true true ℕ.zero h = omega arith

@@ -11,7 +11,8 @@ use Rattle.listing.specs.Text.{digitOf, digits, places, decimal, hexadec
 pub length-digits : (base k n : ℕ) → length (digits base k n) ≡ k
 unfolding digits
 length-digits base zero n = refl
-length-digits base (suc k) n = length-append (digits base k (n / base)) (digitOf (n % base) ∷ []) ∙ omega (arith, length-digits base k (n / base))
+length-digits base (suc k) n =
+    length-append (digits base k (n / base)) (digitOf (n % base) ∷ []) ∙ omega (arith, length-digits base k (n / base))
 
 -- ---- how many decimal digits
 pub places-one : (most n : ℕ) → n < 10 → places most n ≡ 1

@@ -11,9 +11,13 @@ use Rattle.listing.specs.declared.Listing.{Listing}
 use Rattle.listing.specs.declared.Listing.the-variants.{Text, Refused}
 use Rattle.listing.specs.Text.{cornersText}
 
--- 10: the stated count exceeds the 512 places (RULES 12.3)
+-- the most corners of a listing (RULES 12.3)
+abbrev pub mostCorners : ℕ
+mostCorners = 512
+
+-- 10: the stated count exceeds that
 abbrev pub refusalOf : ℕ → ℕ
-refusalOf count = lowest ((ltb 512 count, 10) ∷ [])
+refusalOf count = lowest ((ltb mostCorners count, 10) ∷ [])
 
 -- the number (RULES 2.2) and the values of each case
 abbrev pub numberOf : Listing → ℕ
@@ -24,7 +28,8 @@ abbrev pub valuesOf : Listing → List ℕ
 valuesOf (Text n) = n ∷ []
 valuesOf (Refused k) = []
 
--- the text of the first `count` corners of a buffer stands first, and the answer is its length; where it is refused, nothing changes
+-- the text of the first `count` corners of a buffer is at the start, and the answer is its length; if refused, nothing
+-- changes
 pub record CornersWritten (b : Slices) (count : ℕ) (buffer : List ℕ) (r : Listing) (after : List ℕ) : Type 0 where
   pub answer : r ≡ unless Refused (refusalOf count) (Text (length (cornersText (cornersOf b count))))
   pub number : numberOf r ≡ refusalOf count

@@ -18,13 +18,14 @@ use Rattle.corner_list.specs.declared.Corner.{Corner}
 unfoldable pub digitOf : ℕ → ℕ
 digitOf d = cond (ltb d 10) (48 + d) (87 + d)
 
--- the last k digits of n to a base, the highest first
+-- the last k digits of n in a base, the highest first
 unfoldable pub digits : ℕ → ℕ → ℕ → List ℕ
 unfolding digitOf
 digits base zero n = []
 digits base (suc k) n = digits base k (n / base) ++ (digitOf (n % base) ∷ [])
 
--- how many decimal digits n has: one, and one more for each time that it can be divided by 10; `most` times are looked at, and n times are enough
+-- how many decimal digits n has: one, and one more for each time that it can be divided by 10; at most `most` times are
+-- counted, and n is enough
 unfoldable pub places : ℕ → ℕ → ℕ
 places zero n = 1
 places (suc most) n = cond (ltb n 10) 1 (suc (places most (n / 10)))
@@ -45,8 +46,8 @@ space = 32
 abbrev pub newline : ℕ
 newline = 10
 
--- 256 x as a natural number, by its rounding: that is it; negatives give 0; and what is not judged, above 2 ^ 24 and so whole, infinite or NaN,
--- is cut off as Rust's `as usize` does
+-- 256 x as a natural number, from its rounding: the number itself; 0 for negatives; what is not rounded (above 2 ^ 24
+-- and so whole, infinite or NaN) is cut off as by Rust's `as usize`
 abbrev pub unitsBy : Float → Rounded → ℕ
 unitsBy a (Natural n) = n
 unitsBy a (Negative n) = 0
@@ -57,7 +58,8 @@ unfoldable pub unitsOf : Float → ℕ
 unfolding roundHalfAway
 unitsOf x = let a = mul binary32 x (fin false 1 (pos 8)) in unitsBy a (roundHalfAway a)
 
--- RULES 12.1: x and y in 256ths of a pixel, x, y and strength as eight hexadecimal digits of their bits, and the neighbours (24.4)
+-- RULES 12.1: x and y in 256ths of a pixel, x, y and strength as eight hexadecimal digits of their bits, and the
+-- neighbours (24.4)
 abbrev pub fields : Corner → List (List ℕ)
 fields c =
     decimal (unitsOf (c .x))
@@ -68,7 +70,7 @@ fields c =
     ∷ decimal (c .neighbours)
     ∷ []
 
--- columns with a space between them, and a newline behind the last
+-- columns with a space between them, and a newline after the last
 abbrev pub line : List (List ℕ) → List ℕ
 line [] = newline ∷ []
 line (column ∷ []) = column ++ (newline ∷ [])

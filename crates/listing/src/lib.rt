@@ -6,12 +6,16 @@ ghost use lib.Ieee.{binary32, toBits};
 ghost use lib.ListN.{length};
 ghost use Rattle.lists.specs.Buffer.{Written};
 ghost use Rattle.corner_list.specs.CornerList.{slices, cornersOf};
-ghost use Rattle.listing.specs.Text.{digitOf, digits, places, decimal, hexadecimal, unitsOf, fields, line, heading, cornersText, refusedText};
+ghost use Rattle.listing.specs.Text.{digitOf, digits, places, decimal, hexadecimal, unitsOf, fields, line};
+ghost use Rattle.listing.specs.Text.{heading, cornersText, refusedText};
 ghost use Rattle.listing.specs.Internal.{longest, Wrote, ended};
-ghost use Rattle.listing.specs.Answer.{CornersWritten};
+ghost use Rattle.listing.specs.Answer.{mostCorners, CornersWritten};
 
-// The longest text: a heading of 12 bytes and 512 lines of 80.
-pub const LONGEST: usize = 40972;
+// The most corners of a listing.
+pub const MOST_CORNERS: usize = 512;
+
+// The longest text: a heading of 12 bytes, and a line of 80 for each corner.
+pub const LONGEST: usize = 12 + MOST_CORNERS * 80;
 
 // The number of bytes written, or the number of the refusal.
 pub enum Listing {
@@ -19,7 +23,7 @@ pub enum Listing {
     Refused(u8),
 }
 
-// ---- bytes behind each other
+// ---- bytes one after the other
 
 fn put(out: &mut [u8], at: usize, b: u8) -> usize
     requires { ⌜ at < length (now out) ⌝ }
@@ -55,7 +59,7 @@ fn digit(d: usize) -> u8
     }
 }
 
-// The last `count` digits of n to a base, from the lowest on.
+// The last `count` digits of n in a base, from the lowest on.
 fn put_digits(out: &mut [u8], at: usize, base: usize, count: usize, n: usize) -> usize
     requires { ⌜ (0 < base) × (base ≤ 16) × (at + count ≤ length (now out)) ⌝ }
     ensures { λ r. ⌜ Wrote (digits base count n) at (now (out .entry)) r (now (out .exit)) ⌝ }
@@ -105,7 +109,7 @@ fn put_bits(out: &mut [u8], at: usize, x: f32, end: u8) -> usize
 
 // ---- lines
 
-// A coordinate in 256ths of a pixel, to the nearest of them. The product is exact.
+// A coordinate in 256ths of a pixel, rounded to the nearest. The product is exact.
 fn units(x: f32) -> usize
     ensures { λ r. ⌜ r ≡ unitsOf x ⌝ }
 {
@@ -149,8 +153,10 @@ fn put_corners(
     count: usize,
     out: &mut [u8],
 ) -> usize
-    requires { ⌜ (count ≤ 512) × (length (now out) ≡ longest) ⌝ }
-    ensures { λ r. ⌜ Wrote (cornersText (cornersOf (slices (now (xs .entry)) (now (ys .entry)) (now (strengths .entry)) (now (neighbours .entry))) count))
+    requires { ⌜ (count ≤ mostCorners) × (length (now out) ≡ longest) ⌝ }
+    ensures { λ r. ⌜ Wrote (cornersText
+        (cornersOf (slices (now (xs .entry)) (now (ys .entry)) (now (strengths .entry))
+        (now (neighbours .entry))) count))
         0 (now (out .entry)) r (now (out .exit)) ⌝ }
 {
     let mut at = put_heading(out, b"corners ", count);
@@ -163,19 +169,21 @@ fn put_corners(
     at
 }
 
-// Writes the text of the first `count` corners of a buffer with 512 places; the buffer `out` has a place for the longest text.
+// Writes the text of the first `count` corners of a buffer; the buffer `out` has a place for the
+// longest text.
 pub fn write_corners(
-    xs: &[f32; 512],
-    ys: &[f32; 512],
-    strengths: &[f32; 512],
-    neighbours: &[u32; 512],
+    xs: &[f32; MOST_CORNERS],
+    ys: &[f32; MOST_CORNERS],
+    strengths: &[f32; MOST_CORNERS],
+    neighbours: &[u32; MOST_CORNERS],
     count: usize,
     out: &mut [u8; LONGEST],
 ) -> Listing
-    ensures { λ r. ⌜ CornersWritten (slices (now (xs .entry)) (now (ys .entry)) (now (strengths .entry)) (now (neighbours .entry))) count
+    ensures { λ r. ⌜ CornersWritten
+        (slices (now (xs .entry)) (now (ys .entry)) (now (strengths .entry)) (now (neighbours .entry))) count
         (now (out .entry)) r (now (out .exit)) ⌝ }
 {
-    if 512 < count {
+    if MOST_CORNERS < count {
         return Listing::Refused(10);
     }
     Listing::Text(put_corners(xs, ys, strengths, neighbours, count, out))

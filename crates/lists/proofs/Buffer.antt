@@ -1,4 +1,5 @@
--- Laws of buffers: lengths, one list behind or over another, one element stored, what is wiped behind, and buffers that were mapped. Assumes nothing.
+-- Laws of buffers: lengths, one list behind or over another, one element stored, what is wiped behind, and buffers that were mapped.
+-- Assumes nothing.
 use Prim.Native.Nat.{ℕ, zero, suc, _+_, _-_, _<_, _≤_}
 use native.Mathlib.Nat.{add-zero, zero-add}
 use native.Mathlib.Omega.{arith}
@@ -63,7 +64,8 @@ module _ {A : Type 0} where
   front-more vs us d held e =
       rw e
       (ap₂ (λ (a b : List A). a ++ us ++ b) (take-append-seam vs (drop (length vs) d))
-      (drop-append-add vs (drop (length vs) d) (length us) ∙ drop-drop (length us) (length vs) d ∙ ap (λ (n : ℕ). drop n d) (sym (length-append vs us))))
+      (drop-append-add vs (drop (length vs) d) (length us) ∙ drop-drop (length us) (length vs) d
+      ∙ ap (λ (n : ℕ). drop n d) (sym (length-append vs us))))
 
   -- nothing placed; placed before everything; and one element more behind those placed
   pub placed-none : (held : ℕ) (d : List A) → d ≡ placed held [] d
@@ -76,7 +78,8 @@ module _ {A : Type 0} where
       → set (placed held vs d) (held + length vs) v ≡ placed held (vs ++ (v ∷ [])) d
   placed-set held vs d v h =
       let n = held + length vs in
-      let l : length (take held d ++ vs) ≡ n = length-append (take held d) vs ∙ ap (λ (k : ℕ). k + length vs) (length-take-le held d (omega arith)) in
+      let l : length (take held d ++ vs) ≡ n = length-append (take held d) vs
+      ∙ ap (λ (k : ℕ). k + length vs) (length-take-le held d (omega arith)) in
       let e : suc n ≡ held + length (vs ++ (v ∷ [])) = omega (arith, length-append vs (v ∷ [])) in
       rw (drop-cons d (held + length vs) v h)
       (set-at (take held d ++ vs) _ (drop (suc n) d) v n l ∙ ap (λ (k : ℕ). take held d ++ vs ++ v ∷ drop k d) e ∙ simp append-assoc)
@@ -110,9 +113,11 @@ module _ {A : Type 0} where
   placed-length held vs d h = simp (length-append, length-take, length-drop) (omega arith)
 
   -- us behind vs, which are placed already
-  pub placed-more : (held n : ℕ) (vs us d : List A) → held ≤ length d → n ≡ held + length vs → placed n us (placed held vs d) ≡ placed held (vs ++ us) d
+  pub placed-more : (held n : ℕ) (vs us d : List A) → held ≤ length d → n ≡ held + length vs
+      → placed n us (placed held vs d) ≡ placed held (vs ++ us) d
   placed-more held n vs us d h e =
-      let l : length (take held d ++ vs) ≡ n = length-append (take held d) vs ∙ ap (λ (k : ℕ). k + length vs) (length-take-le held d h) ∙ sym e in
+      let l : length (take held d ++ vs) ≡ n = length-append (take held d) vs
+      ∙ ap (λ (k : ℕ). k + length vs) (length-take-le held d h) ∙ sym e in
       let k : held + length vs + length us ≡ held + length (vs ++ us) = omega (arith, length-append vs us) in
       let rest : drop (n + length us) (placed held vs d) ≡ drop (held + length (vs ++ us)) d =
       sym (drop-drop (length us) n (placed held vs d))
@@ -134,7 +139,8 @@ module _ {A : Type 0} where
       ∙ getD-take held d i z l
 
   -- one of vs
-  pub placed-at : (held : ℕ) (vs d : List A) (i : ℕ) (z : A) → held ≤ length d → i < length vs → getD (placed held vs d) (held + i) z ≡ getD vs i z
+  pub placed-at : (held : ℕ) (vs d : List A) (i : ℕ) (z : A) → held ≤ length d → i < length vs
+      → getD (placed held vs d) (held + i) z ≡ getD vs i z
   placed-at held vs d i z h l =
       let rest = drop (held + length vs) d in
       ap (λ (s : List A). getD s (held + i) z) (append-assoc (take held d) vs rest)

@@ -39,7 +39,8 @@ module _ {A : Type 0} where
   all-keep P f [] h = tt
   all-keep P f (a ∷ l) h = pick (f a) refl (all-keep P f l (h .1))
     where
-      pick : (b : Bool) → f a ≡ b → All (λ a. P a × (f a ≡ true)) (keep f l) → All (λ a. P a × (f a ≡ true)) (cond b (a ∷ keep f l) (keep f l))
+      pick : (b : Bool) → f a ≡ b → All (λ a. P a × (f a ≡ true)) (keep f l)
+          → All (λ a. P a × (f a ≡ true)) (cond b (a ∷ keep f l) (keep f l))
       pick true e k = ((h .0, e), k)
       pick false e k = k
 
@@ -150,12 +151,14 @@ module _ (P : Place → Type 0) where
   pub all-row : (y a b : ℕ) → ((x : ℕ) → a ≤ x → x < b → P (record { x = x; y = y })) → All P (row y a b)
   unfolding row range
   all-row y a b f =
-      all-mapped P (λ x. record { x = x; y = y }) (counted a (b - a)) (all-counted (λ x. P (record { x = x; y = y })) a (b - a) (λ k p q. f k p (omega arith)))
+      all-mapped P (λ x. record { x = x; y = y }) (counted a (b - a))
+      (all-counted (λ x. P (record { x = x; y = y })) a (b - a) (λ k p q. f k p (omega arith)))
 
   at-row : (y a b : ℕ) → All P (row y a b) → (x : ℕ) → a ≤ x → x < b → P (record { x = x; y = y })
   unfolding row range
   at-row y a b h x p q =
-      at-counted (λ x. P (record { x = x; y = y })) a (b - a) (all-unmapped P (λ x. record { x = x; y = y }) (counted a (b - a)) h) x p (omega arith)
+      at-counted (λ x. P (record { x = x; y = y })) a (b - a)
+      (all-unmapped P (λ x. record { x = x; y = y }) (counted a (b - a)) h) x p (omega arith)
 
   all-rows : (a b : ℕ) (ys : List ℕ) → All (λ y. All P (row y a b)) ys → All P (rowsFrom a b ys)
   unfolding rowsFrom
@@ -170,11 +173,13 @@ module _ (P : Place → Type 0) where
   pub all-block : (a b c d : ℕ) → ((x y : ℕ) → a ≤ x → x < b → c ≤ y → y < d → P (record { x = x; y = y })) → All P (block a b c d)
   unfolding block range
   all-block a b c d f =
-      all-rows a b (counted c (d - c)) (all-counted (λ y. All P (row y a b)) c (d - c) (λ y p q. all-row y a b (λ x s t. f x y s t p (omega arith))))
+      all-rows a b (counted c (d - c))
+      (all-counted (λ y. All P (row y a b)) c (d - c) (λ y p q. all-row y a b (λ x s t. f x y s t p (omega arith))))
 
   pub at-block : (a b c d : ℕ) → All P (block a b c d) → (x y : ℕ) → a ≤ x → x < b → c ≤ y → y < d → P (record { x = x; y = y })
   unfolding block range
-  at-block a b c d h x y s t p q = at-row y a b (at-counted (λ y. All P (row y a b)) c (d - c) (at-rows a b (counted c (d - c)) h) y p (omega arith)) x s t
+  at-block a b c d h x y s t p q =
+      at-row y a b (at-counted (λ y. All P (row y a b)) c (d - c) (at-rows a b (counted c (d - c)) h) y p (omega arith)) x s t
 
 -- ---- filters of one list by two tests
 
@@ -216,7 +221,8 @@ module _ {A : Type 0} (f g : A → Bool) where
       let r : (g a ≡ true → f a ≡ true) × (keep f l ≡ keep g l) = pick (f a) (g a) (h .0) (keep-fewer l (h .1)) e in
       (r .0, alike-only l (h .1) (r .1))
     where
-      pick : (b c : Bool) → (b ≡ true → c ≡ true) → length (keep f l) ≤ length (keep g l) → cond b (a ∷ keep f l) (keep f l) ≡ cond c (a ∷ keep g l) (keep g l)
+      pick : (b c : Bool) → (b ≡ true → c ≡ true) → length (keep f l) ≤ length (keep g l)
+          → cond b (a ∷ keep f l) (keep f l) ≡ cond c (a ∷ keep g l) (keep g l)
           → (c ≡ true → b ≡ true) × (keep f l ≡ keep g l)
       pick true true i n e = (λ _. refl, tail-eq-of-cons-eq e)
       pick true false i n e = absurd (false≢true (i refl))

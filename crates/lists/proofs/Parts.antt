@@ -45,9 +45,11 @@ pub keep-only : (g : Place → Bool) (a b c d x y : ℕ) → g (record { x = x; 
     → ((u v : ℕ) → (u ≡ x → v ≡ y → ⊥) → g (record { x = u; y = v }) ≡ false)
     → a ≤ x → x < b → c ≤ y → y < d → keep g (block a b c d) ≡ record { x = x; y = y } ∷ []
 keep-only g a b c d x y here other p q r s =
-    let above = keep-none g (block a b c y) (all-block (λ t. g t ≡ false) a b c y (λ u v _ _ _ k. other u v (λ _ e. let no : ⊥ = omega arith in no))) in
+    let above = keep-none g (block a b c y)
+    (all-block (λ t. g t ≡ false) a b c y (λ u v _ _ _ k. other u v (λ _ e. let no : ⊥ = omega arith in no))) in
     let left = keep-none g (row y a x) (all-row (λ t. g t ≡ false) y a x (λ u _ k. other u y (λ e _. let no : ⊥ = omega arith in no))) in
-    let right = keep-none g (row y (x + 1) b) (all-row (λ t. g t ≡ false) y (x + 1) b (λ u k _. other u y (λ e _. let no : ⊥ = omega arith in no))) in
+    let right = keep-none g (row y (x + 1) b)
+    (all-row (λ t. g t ≡ false) y (x + 1) b (λ u k _. other u y (λ e _. let no : ⊥ = omega arith in no))) in
     let below = keep-none g (block a b (y + 1) d)
     (all-block (λ t. g t ≡ false) a b (y + 1) d (λ u v _ _ k _. other u v (λ _ e. let no : ⊥ = omega arith in no))) in
     rw (block-split a b c y d r (omega arith), block-step a b y d s, row-split y a x b p (omega arith), row-step y x b q)

@@ -68,7 +68,8 @@ module _ {A : Type 0} (f : A → Bool) where
   keep-append [] t = refl
   keep-append (a ∷ s) t = pick (f a) (keep-append s t)
     where
-      pick : (b : Bool) → keep f (s ++ t) ≡ keep f s ++ keep f t → cond b (a ∷ keep f (s ++ t)) (keep f (s ++ t)) ≡ cond b (a ∷ keep f s) (keep f s) ++ keep f t
+      pick : (b : Bool) → keep f (s ++ t) ≡ keep f s ++ keep f t
+          → cond b (a ∷ keep f (s ++ t)) (keep f (s ++ t)) ≡ cond b (a ∷ keep f s) (keep f s) ++ keep f t
       pick true e = ap (λ (l : List A). a ∷ l) e
       pick false e = e
 

@@ -6,6 +6,7 @@ use mathlib.Core.Bool.{Bool, true, false}
 use mathlib.Core.List.{List, [], _∷_, _++_}
 use lib.Dec.{ltb, eqb}
 use borrow.Author.Tests.{ltb-false, eqb-true, not-false}
+use Rattle.lists.specs.Limits.{largestSide}
 use Rattle.lists.specs.Places.{All}
 use Rattle.lists.specs.Refusals.{lowest, isLarge, isMisfit}
 use Rattle.lists.specs.Internal.{Sized}
@@ -45,9 +46,11 @@ lowest-le [] m h = omega arith
 lowest-le ((true, n) ∷ cs) m h = h .0
 lowest-le ((false, n) ∷ cs) m h = lowest-le cs m (h .1)
 
--- ---- the first two conditions do not hold: sides up to 4,096, and a slice of width × height
-pub sides-small : (w h : ℕ) → isLarge w h ≡ false → (w ≤ 4096) × (h ≤ 4096)
-sides-small w h e = let o = or-neither (ltb 4096 w) (ltb 4096 h) e in (ltb-false 4096 w (o .0), ltb-false 4096 h (o .1))
+-- ---- the first two conditions do not hold: sides up to the largest, and a slice of width × height
+pub sides-small : (w h : ℕ) → isLarge w h ≡ false → (w ≤ largestSide) × (h ≤ largestSide)
+sides-small w h e =
+    let o = or-neither (ltb largestSide w) (ltb largestSide h) e in
+    (ltb-false largestSide w (o .0), ltb-false largestSide h (o .1))
 
 pub sized-of : (size w h : ℕ) → isLarge w h ≡ false → isMisfit size w h ≡ false → Sized size w h
 sized-of size w h p q =
@@ -55,7 +58,8 @@ sized-of size w h p q =
     record { narrow = s .0; low = s .1; sized = eqb-true size (w * h) (not-false (eqb size (w * h)) q) }
 
 -- a table that begins with them, and gives no number
-pub sized-none : (size w h : ℕ) (cs : List (Bool × ℕ)) → lowest ((isLarge w h, 1) ∷ (isMisfit size w h, 2) ∷ cs) ≡ 0 → Sized size w h × (lowest cs ≡ 0)
+pub sized-none : (size w h : ℕ) (cs : List (Bool × ℕ)) → lowest ((isLarge w h, 1) ∷ (isMisfit size w h, 2) ∷ cs) ≡ 0
+    → Sized size w h × (lowest cs ≡ 0)
 sized-none size w h cs e =
     let p = lowest-none (isLarge w h) 1 ((isMisfit size w h, 2) ∷ cs) (omega arith) e in
     let q = lowest-none (isMisfit size w h) 2 cs (omega arith) (p .1) in

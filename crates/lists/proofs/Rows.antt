@@ -36,13 +36,15 @@ module _ {A : Type 0} (m : List A) (w y : ℕ) (z : A) where
 -- ---- a test f of the cells of a block, its first row and those below
 
 module _ {A : Type 0} (f : A → Bool) (m : List A) (w : ℕ) (z : A) (a b y d : ℕ) (p : a ≤ b) (q : y < d) (h : y * w + b ≤ length m) where
-  pub block-any : any (λ t. f (cellAt m w z t)) (block a b y d) ≡ (any f (rowPart m w y a b) || any (λ t. f (cellAt m w z t)) (block a b (y + 1) d))
+  pub block-any : any (λ t. f (cellAt m w z t)) (block a b y d)
+      ≡ (any f (rowPart m w y a b) || any (λ t. f (cellAt m w z t)) (block a b (y + 1) d))
   block-any =
       let g : Place → Bool = λ t. f (cellAt m w z t) in
       ap (any g) (block-step a b y d q) ∙ any-append g (row y a b) (block a b (y + 1) d)
       ∙ ap (λ (t : Bool). t || any g (block a b (y + 1) d)) (sym (any-map f _ (row y a b)) ∙ ap (any f) (row-cells m w y z a b p h))
 
-  pub block-count : count (λ t. f (cellAt m w z t)) (block a b y d) ≡ count f (rowPart m w y a b) + count (λ t. f (cellAt m w z t)) (block a b (y + 1) d)
+  pub block-count : count (λ t. f (cellAt m w z t)) (block a b y d)
+      ≡ count f (rowPart m w y a b) + count (λ t. f (cellAt m w z t)) (block a b (y + 1) d)
   block-count =
       let g : Place → Bool = λ t. f (cellAt m w z t) in
       ap (count g) (block-step a b y d q) ∙ count-append g (row y a b) (block a b (y + 1) d)
@@ -68,7 +70,8 @@ module _ {A : Type 0} (f : A → Bool) (m : List A) (w : ℕ) (z : A) (a b c d :
   module _ (y : ℕ) (r : AnyRows f m w z a b c d y) where
     module _ (p : a ≤ b) (q : y < d) (h : y * w + b ≤ length m) (t : Bool) (e : t ≡ any f (rowPart m w y a b)) where
       from-here : (t || any (λ t. f (cellAt m w z t)) (block a b (y + 1) d)) ≡ any (λ t. f (cellAt m w z t)) (block a b c d)
-      from-here = ap (λ (k : Bool). k || any (λ t. f (cellAt m w z t)) (block a b (y + 1) d)) e ∙ sym (block-any f m w z a b y d p q h) ∙ r .same
+      from-here =
+          ap (λ (k : Bool). k || any (λ t. f (cellAt m w z t)) (block a b (y + 1) d)) e ∙ sym (block-any f m w z a b y d p q h) ∙ r .same
 
       pub any-found : t ≡ true → any (λ t. f (cellAt m w z t)) (block a b c d) ≡ true
       any-found i = sym from-here ∙ ap (λ (k : Bool). k || any (λ t. f (cellAt m w z t)) (block a b (y + 1) d)) i
@@ -80,7 +83,8 @@ module _ {A : Type 0} (f : A → Bool) (m : List A) (w : ℕ) (z : A) (a b c d :
     any-nowhere l = sym (r .same) ∙ ap (any (λ t. f (cellAt m w z t))) (block-end a b y d l)
 
   module _ (n y : ℕ) (r : CountRows f m w z a b c d n y) where
-    pub rows-next : a ≤ b → y < d → y * w + b ≤ length m → (k : ℕ) → k ≡ count f (rowPart m w y a b) → CountRows f m w z a b c d (n + k) (y + 1)
+    pub rows-next : a ≤ b → y < d → y * w + b ≤ length m → (k : ℕ) → k ≡ count f (rowPart m w y a b)
+        → CountRows f m w z a b c d (n + k) (y + 1)
     rows-next p q h k e = record { sum = omega (arith, e, block-count f m w z a b y d p q h, r .sum) }
 
     pub rows-all : d ≤ y → n ≡ count (λ t. f (cellAt m w z t)) (block a b c d)

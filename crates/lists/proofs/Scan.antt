@@ -63,7 +63,8 @@ module _ {A : Type 0} (f : A → Bool) where
   count-rest (a ∷ l) = pick (f a) (count-rest l)
     where
       pick : (b : Bool) → length (keep f l) + length (keep (λ a. not (f a)) l) ≡ length l
-          → length (cond b (a ∷ keep f l) (keep f l)) + length (cond (not b) (a ∷ keep (λ a. not (f a)) l) (keep (λ a. not (f a)) l)) ≡ suc (length l)
+          → length (cond b (a ∷ keep f l) (keep f l)) + length
+          (cond (not b) (a ∷ keep (λ a. not (f a)) l) (keep (λ a. not (f a)) l)) ≡ suc (length l)
       pick true e = omega arith
       pick false e = omega arith
 
@@ -73,7 +74,8 @@ module _ {A : Type 0} (f : A → Bool) where
   count-every (a ∷ l) i d e h = pick (f a) refl i e h (λ k. count-every l k d) (keep-le f l)
     where
       pick : (b : Bool) → f a ≡ b → (i : ℕ) → length (cond b (a ∷ keep f l) (keep f l)) ≡ suc (length l) → i < suc (length l)
-          → ((k : ℕ) → length (keep f l) ≡ length l → k < length l → f (getD l k d) ≡ true) → length (keep f l) ≤ length l → f (getD (a ∷ l) i d) ≡ true
+          → ((k : ℕ) → length (keep f l) ≡ length l → k < length l → f (getD l k d) ≡ true) → length (keep f l) ≤ length l
+          → f (getD (a ∷ l) i d) ≡ true
       pick true p zero e h r m = p
       pick true p (suc i) e h r m = r i (omega arith) (le-of-suc-le-suc h)
       pick false p i e h r m = absurd (let no : ⊥ = omega arith in no)
@@ -84,7 +86,8 @@ module _ {A : Type 0} (f : A → Bool) where
   any-kept g i [] = refl
   any-kept g i (a ∷ l) = pick (g a) (i a) (any-kept g i l)
     where
-      pick : (b : Bool) → (b ≡ false → f a ≡ false) → any f (keep g l) ≡ any f l → any f (cond b (a ∷ keep g l) (keep g l)) ≡ (f a || any f l)
+      pick : (b : Bool) → (b ≡ false → f a ≡ false) → any f (keep g l) ≡ any f l
+          → any f (cond b (a ∷ keep g l) (keep g l)) ≡ (f a || any f l)
       pick true j e = ap (λ (t : Bool). f a || t) e
       pick false j e = rw (j refl) e
 
@@ -102,7 +105,8 @@ module _ {A : Type 0} (f : A → Bool) where
   count-kept g (a ∷ l) = pick (g a) (count-kept g l)
     where
       pick : (b : Bool) → count f l ≡ count f (keep g l) + count f (keep (λ a. not (g a)) l)
-          → count f (a ∷ l) ≡ count f (cond b (a ∷ keep g l) (keep g l)) + count f (cond (not b) (a ∷ keep (λ a. not (g a)) l) (keep (λ a. not (g a)) l))
+          → count f (a ∷ l) ≡ count f (cond b (a ∷ keep g l) (keep g l)) + count f
+          (cond (not b) (a ∷ keep (λ a. not (g a)) l) (keep (λ a. not (g a)) l))
       pick true e = omega (arith, count-cons a l, count-cons a (keep g l))
       pick false e = omega (arith, count-cons a l, count-cons a (keep (λ a. not (g a)) l))
 

@@ -113,7 +113,8 @@ module _ {A : Type 0} where
       let l : length (grid w j f) ≡ a = length-grid w j f ∙ sym e in
       rw (k, p, take-at (grid w j f) (drop a d) a l, drop-at (grid w j f) (drop a d) a l, drop-drop, q, m, add-one, append-assoc)
 
-  pub grid-all : (w j h a : ℕ) (f : ℕ → ℕ → A) (d s : List A) → s ≡ grid w j f ++ drop a d → a ≡ j * w → j ≡ h → s ≡ grid w h f ++ drop (h * w) d
+  pub grid-all : (w j h a : ℕ) (f : ℕ → ℕ → A) (d s : List A) → s ≡ grid w j f ++ drop a d → a ≡ j * w → j ≡ h
+      → s ≡ grid w h f ++ drop (h * w) d
   grid-all w j h a f d s p e q = rw (p, e, q)
 
 -- ---- a list that is filled from the front
@@ -168,7 +169,8 @@ module _ {A : Type 0} (len : ℕ) (f : ℕ → A) (a n : ℕ) (s : List A) (p : 
             ∙ take-at (tab a f) (tab (n - a) (λ i. f (a + i))) a (length-tab a f);
       }
 
-  pub prefix-over : (e m : ℕ) (ys : List A) → a ≤ e → e ≤ len → ys ≡ tab m (λ i. f (a + i)) → m ≡ e - a → Prefix len f e (putMid a (e - a) s ys)
+  pub prefix-over : (e m : ℕ) (ys : List A) → a ≤ e → e ≤ len → ys ≡ tab m (λ i. f (a + i)) → m ≡ e - a
+      → Prefix len f e (putMid a (e - a) s ys)
   prefix-over e m ys b h q r =
       let k : a + (e - a) ≡ e = omega arith in
       subst (λ (z : ℕ). Prefix len f z (putMid a (z - a) s ys)) k (prefix-put len f a (e - a) m s ys prefix-less (omega arith) q r)

@@ -1,3 +1,4 @@
+pub mod Limits
 pub mod Tab
 pub mod Places
 pub mod Buffer

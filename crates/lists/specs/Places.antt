@@ -1,4 +1,4 @@
--- Places of a map in row order, and what is asked of a list of them.
+-- Places of a map in row order, and questions about a list of them.
 use Prim.Native.Nat.{ℕ, zero, suc, _+_, _-_}
 use mathlib.Core.Bool.{Bool, false, cond, _||_}
 use mathlib.Core.List.{List, [], _∷_, _++_, map}
@@ -26,12 +26,12 @@ unfoldable pub rowsFrom : ℕ → ℕ → List ℕ → List Place
 rowsFrom a b [] = []
 rowsFrom a b (y ∷ ys) = row y a b ++ rowsFrom a b ys
 
--- columns a to b of rows c to d, the ends b and d left out, in row order
+-- columns a to b of rows c to d, without b and d, in row order
 unfoldable pub block : ℕ → ℕ → ℕ → ℕ → List Place
 block a b c d = rowsFrom a b (range c d)
 
 module _ {A : Type 0} (f : A → Bool) where
-  -- whether one passes the test
+  -- whether a member passes the test
   abbrev pub any : List A → Bool
   any [] = false
   any (a ∷ l) = f a || any l
@@ -45,17 +45,17 @@ module _ {A : Type 0} (f : A → Bool) where
   unfoldable pub count : List A → ℕ
   count l = length (keep l)
 
--- the lists of each member, one behind the other
+-- the lists of all members, one after the other
 abbrev pub flatMap : {A B : Type 0} → (A → List B) → List A → List B
 flatMap f [] = []
 flatMap f (a ∷ l) = f a ++ flatMap f l
 
--- the sum of a number of each member
+-- the sum of a number for each member
 abbrev pub sumOf : {A : Type 0} → (A → ℕ) → List A → ℕ
 sumOf X [] = 0
 sumOf X (a ∷ l) = X a + sumOf X l
 
--- a fact of each member
+-- a fact about each member
 abbrev pub All : {A : Type 0} → (A → Type 0) → List A → Type 0
 All P [] = Unit
 All P (a ∷ l) = P a × All P l

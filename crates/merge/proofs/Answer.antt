@@ -6,7 +6,9 @@ use mathlib.Core.Bool.{Bool, true, false}
 use mathlib.Core.List.{List, [], _∷_}
 use lib.ListN.{length}
 use lib.Ieee.{Float}
+use Rattle.lists.specs.Buffer.{wipedFrom}
 use Rattle.lists.specs.Refusals.{valuesUnless, unless, resultOr}
+use Rattle.float32.specs.Float32 as float32
 use Rattle.corner_list.specs.declared.Corner.{Corner}
 use Rattle.corner_list.specs.CornerList.{Slices, slices, placesOf, cornersOf, frontCorners}
 use Rattle.corner_list.proofs.Corners.{corners-length, corners-same}
@@ -16,7 +18,8 @@ use Rattle.merge.specs.declared.Merged.the-variants.{Kept, Refused}
 use Rattle.merge_radius.specs.MergeRadius.{isOff}
 use Rattle.merge_grid.specs.Grid.{gridOf, joins}
 use Rattle.merge_settle.specs.Settle.{merged, given, Left, Settles}
-use Rattle.merge.specs.Merge.{resultOf, valuesOf, Leaves, Merges}
+use Rattle.merge.specs.Merge.{refusalOf, resultOf, valuesOf, Leaves, Merges}
+use Rattle.merge.specs.Table.{MergesByTable}
 
 -- ---- what is left of a list: all of it, as it came, or what merging leaves
 -- the list is of the first n corners of b, and stands first in d
@@ -36,7 +39,8 @@ module _ (radius : Float) (b : Slices) (n : ℕ) (d : Slices) (k : ℕ) (d′ : 
       same = unfold resultOf in (rw (e, is (b .strengths) (b .neighbours)))
 
 -- a list that the buffer has places for is settled whole
-pub left-settled : (g : Grid) (apart : Bool) (own : Slices) (n : ℕ) (b : Slices) (k : ℕ) (b′ : Slices) → n ≤ placesOf b → Settles g apart own n b k b′
+pub left-settled : (g : Grid) (apart : Bool) (own : Slices) (n : ℕ) (b : Slices) (k : ℕ) (b′ : Slices) → n ≤ placesOf b
+    → Settles g apart own n b k b′
     → Left (merged (joins g) [] (cornersOf (given apart own b) n)) b k b′
 left-settled g apart own n b k b′ h l =
     let all : min n (placesOf b) ≡ n = omega arith in
@@ -79,3 +83,30 @@ pub merges-whole : (radius : Float) (count : ℕ) (b : Slices) (answer : Merged)
 merges-whole radius count b answer b′ m =
     let e : min (length (b .xs)) (placesOf b) ≡ placesOf b = omega arith in
     subst (λ (n : ℕ). Merges radius n count b answer b′) e m
+
+-- by a table: refused, or merged and the table cleared
+module _ (radius : Float) (count : ℕ) (b : Slices) (table : List Float) (k : ℕ)
+    (e : k ≡ refusalOf radius (min (length (b .xs)) (placesOf b)) count b) where
+  by-places : k ≡ refusalOf radius (placesOf b) count b
+  by-places = let all : min (length (b .xs)) (placesOf b) ≡ placesOf b = omega arith in e ∙ ap (λ (n : ℕ). refusalOf radius n count b) all
+
+  by-number : (n : ℕ) → n ≡ k → resultOr n (wipedFrom 0 float32.zero table) table
+      ≡ resultOr (refusalOf radius (placesOf b) count b) (wipedFrom 0 float32.zero table) table
+  by-number n is = ap (λ (m : ℕ). resultOr m (wipedFrom 0 float32.zero table) table) (is ∙ by-places)
+
+  pub by-table-refused : (k ≡ 0 → ⊥) → MergesByTable radius count b table (Refused k) b table
+  by-table-refused h = record {
+    merges = leaves-refused (refusalOf radius (placesOf b) count b) (resultOf radius (cornersOf b count)) b k by-places h;
+    cleared = as-it-was k refl;
+  }
+    where
+      as-it-was : (n : ℕ) → n ≡ k → table ≡ resultOr (refusalOf radius (placesOf b) count b) (wipedFrom 0 float32.zero table) table
+      as-it-was zero is = absurd (h (sym is))
+      as-it-was (suc n) is = by-number (suc n) is
+
+  pub by-table-kept : k ≡ 0 → (n : ℕ) (b′ : Slices) → Left (resultOf radius (cornersOf b count)) b n b′ → (table′ : List Float)
+      → table′ ≡ wipedFrom 0 float32.zero table → MergesByTable radius count b table (Kept n) b′ table′
+  by-table-kept z n b′ l table′ c = record {
+    merges = leaves-kept (refusalOf radius (placesOf b) count b) (resultOf radius (cornersOf b count)) b k n b′ by-places z l;
+    cleared = c ∙ by-number 0 (sym z);
+  }

@@ -1,5 +1,5 @@
--- The worked case of merging (RULES 14), by computation: with radius 1 the corners (1 - 2^-24, 0), (2, 0) and (0, 100) all stay, though the first two
--- are as near as the radius: the cell numbers 0 and 2 keep them apart. By distance alone two would be left. Assumes nothing.
+-- The worked case of merging (RULES 14), by computation: with radius 1 the corners (1 - 2^-24, 0), (2, 0) and (0, 100) all stay, though the
+-- first two are as near as the radius: the cell numbers 0 and 2 keep them apart. By distance alone two would be left. Assumes nothing.
 use Prim.Native.Nat.{ℕ}
 use mathlib.Core.Path.{_≡_, refl}
 use mathlib.Core.Bool.{Bool, true, false, cond}

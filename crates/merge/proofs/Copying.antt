@@ -40,12 +40,14 @@ module _ (b : Slices) (i : ℕ) (d₀ d : Slices) (at : Copied b i d₀ d) where
   copied-neighbours = ap (λ (s : Slices). length (s .neighbours)) (at .is) ∙ front-neighbours Done d₀ i many (at .fits)
 
   -- the next corner is copied
-  pub copied-more : (n : ℕ) → n ≤ placesOf d₀ → i < n → (c : Corner) → c ≡ cornerAt b i → (d′ : Slices) → d′ ≡ withCorner i c d → Copied b (i + 1) d₀ d′
+  pub copied-more : (n : ℕ) → n ≤ placesOf d₀ → i < n → (c : Corner) → c ≡ cornerAt b i → (d′ : Slices) → d′ ≡ withCorner i c d
+      → Copied b (i + 1) d₀ d′
   unfolding tab
   copied-more n fit h c read d′ put = record {
     fits = omega arith;
     is =
-        put ∙ ap (withCorner i c) (at .is) ∙ corners-next Done d₀ i c many (omega arith) ∙ ap (λ (o : Corner). frontCorners (Done ++ (o ∷ [])) d₀) read
+        put ∙ ap (withCorner i c) (at .is) ∙ corners-next Done d₀ i c many (omega arith)
+        ∙ ap (λ (o : Corner). frontCorners (Done ++ (o ∷ [])) d₀) read
         ∙ ap (λ (m : ℕ). frontCorners (cornersOf b m) d₀) (sym (add-one i));
   }
 

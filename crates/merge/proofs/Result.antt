@@ -1,4 +1,5 @@
--- What callers use of merging: how long the list is that is left, what its corners are, and the answer where nothing is refused. Assumes nothing.
+-- What callers use of merging: how long the list is that is left, what its corners are, and the answer where nothing is refused. Assumes
+-- nothing.
 use Prim.Native.Nat.{ℕ, _+_, _≤_}
 use native.Mathlib.Omega.{arith}
 use mathlib.Core.Path.{_≡_, ap, _∙_}
@@ -28,7 +29,8 @@ pub result-length : (radius : Float) (cs : List Corner) → length (resultOf rad
 unfolding resultOf
 result-length radius cs = pick (isOff radius) (omega (arith, merged-length (joins (gridOf radius cs)) [] cs))
   where
-    pick : (b : Bool) → length (merged (joins (gridOf radius cs)) [] cs) ≤ length cs → length (cond b cs (merged (joins (gridOf radius cs)) [] cs)) ≤ length cs
+    pick : (b : Bool) → length (merged (joins (gridOf radius cs)) [] cs) ≤ length cs
+        → length (cond b cs (merged (joins (gridOf radius cs)) [] cs)) ≤ length cs
     pick true h = omega arith
     pick false h = h
 
@@ -62,14 +64,19 @@ module _ (P : Corner → Type 0) where
       pick false r = r
 
 -- ---- where nothing is refused (proofs/Judged.antt) the answer is the number of corners left, which stand first in the buffer
-pub leaves-done : (number : ℕ) (left : List Corner) (b : Slices) (answer : Merged) (b′ : Slices) → number ≡ 0 → Leaves number left b answer b′
+pub leaves-done : (number : ℕ) (left : List Corner) (b : Slices) (answer : Merged) (b′ : Slices) → number ≡ 0
+    → Leaves number left b answer b′
     → (answer ≡ Kept (length left)) × (b′ ≡ frontCorners left b)
-leaves-done number left b answer b′ none m =
-    (m .answer ∙ ap (λ (k : ℕ). unless Refused k (Kept (length left))) none, m .buffer ∙ ap (λ (k : ℕ). resultOr k (frontCorners left b) b) none)
+leaves-done number left b answer b′ none m = (
+  m .answer ∙ ap (λ (k : ℕ). unless Refused k (Kept (length left))) none,
+  m .buffer ∙ ap (λ (k : ℕ). resultOr k (frontCorners left b) b) none,
+)
 
 pub merges-done : (radius : Float) (places count : ℕ) (b b′ : Slices) (answer : Merged) (cs : List Corner) → cornersOf b count ≡ cs
     → refusalOf radius places count b ≡ 0 → Merges radius places count b answer b′
     → (answer ≡ Kept (length (resultOf radius cs))) × (b′ ≡ frontCorners (resultOf radius cs) b)
 merges-done radius places count b b′ answer cs is none m =
-    let done = leaves-done (refusalOf radius places count b) (resultOf radius (cornersOf b count)) b answer b′ none m in
-    (done .0 ∙ ap (λ (l : List Corner). Kept (length (resultOf radius l))) is, done .1 ∙ ap (λ (l : List Corner). frontCorners (resultOf radius l) b) is)
+    let done = leaves-done (refusalOf radius places count b) (resultOf radius (cornersOf b count)) b answer b′ none m in (
+      done .0 ∙ ap (λ (l : List Corner). Kept (length (resultOf radius l))) is,
+      done .1 ∙ ap (λ (l : List Corner). frontCorners (resultOf radius l) b) is,
+    )

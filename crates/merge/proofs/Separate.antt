@@ -40,7 +40,8 @@ pub apart-number : (radius : Float) (places count : ℕ) (b : Slices)
     → refusalApart radius places count b ≡ orElse (refusalOf radius (placesOf b) count b) (cond (ltb places count) 10 0)
 unfolding refusalApart refusalOf
 apart-number radius places count b =
-    more-reasons (not (isOff radius) && any isOutside (cornersOf b (min count (placesOf b)))) (radiusOutside radius) (ltb (placesOf b) count) (ltb places count)
+    more-reasons (not (isOff radius) && any isOutside (cornersOf b (min count (placesOf b)))) (radiusOutside radius)
+    (ltb (placesOf b) count) (ltb places count)
 
 or-else-first : (k m : ℕ) → (k ≡ 0 → ⊥) → orElse k m ≡ k
 or-else-first zero m h = absurd (h refl)
@@ -61,10 +62,13 @@ module _ (radius : Float) (places count : ℕ) (b : Slices) where
     is-own = own ∙ ap (λ (n : ℕ). refusalOf radius n count b) all
 
     pub apart-refused : (k ≡ 0 → ⊥) → k ≡ refusalApart radius places count b
-    apart-refused h = sym (apart-number radius places count b ∙ ap (λ (n : ℕ). orElse n (cond (ltb places count) 10 0)) (sym is-own) ∙ or-else-first k _ h)
+    apart-refused h =
+        sym (apart-number radius places count b ∙ ap (λ (n : ℕ). orElse n (cond (ltb places count) 10 0)) (sym is-own)
+        ∙ or-else-first k _ h)
 
     pub apart-passed : (m : ℕ) → k ≡ 0 → m ≡ cond (ltb places count) 10 0 → m ≡ refusalApart radius places count b
-    apart-passed m z e = e ∙ sym (apart-number radius places count b ∙ ap (λ (n : ℕ). orElse n (cond (ltb places count) 10 0)) (sym is-own ∙ z))
+    apart-passed m z e =
+        e ∙ sym (apart-number radius places count b ∙ ap (λ (n : ℕ). orElse n (cond (ltb places count) 10 0)) (sym is-own ∙ z))
 
   -- by another name for the places
   pub apart-held : (held k : ℕ) → k ≡ refusalApart radius held count b → held ≡ places → k ≡ refusalApart radius places count b
@@ -83,11 +87,14 @@ module _ (radius : Float) (places count : ℕ) (b : Slices) where
   -- a count that fits the separate buffer is judged as in place, and one that does not is refused
   pub apart-as-own : count ≤ places → refusalApart radius places count b ≡ refusalOf radius (placesOf b) count b
   apart-as-own h =
-      apart-number radius places count b ∙ ap (λ (t : Bool). orElse (refusalOf radius (placesOf b) count b) (cond t 10 0)) (le-ltb places count h)
+      apart-number radius places count b
+      ∙ ap (λ (t : Bool). orElse (refusalOf radius (placesOf b) count b) (cond t 10 0)) (le-ltb places count h)
       ∙ or-else-none _
 
   pub apart-crowded : places < count → refusalApart radius places count b ≡ orElse (refusalOf radius (placesOf b) count b) 10
-  apart-crowded h = apart-number radius places count b ∙ ap (λ (t : Bool). orElse (refusalOf radius (placesOf b) count b) (cond t 10 0)) (lt-ltb places count h)
+  apart-crowded h =
+      apart-number radius places count b
+      ∙ ap (λ (t : Bool). orElse (refusalOf radius (placesOf b) count b) (cond t 10 0)) (lt-ltb places count h)
 
 -- ---- a call of `merge_apart`
 module _ (radius : Float) (count : ℕ) (b d : Slices) (r : Merged) (d′ : Slices) (apart : MergedApart radius count b d r d′) where
@@ -95,19 +102,23 @@ module _ (radius : Float) (count : ℕ) (b d : Slices) (r : Merged) (d′ : Slic
   left = resultOf radius (cornersOf b count)
 
   -- behind the list the separate buffer is as it was
-  behind-by : (k n : ℕ) → unless Refused k (Kept (length left)) ≡ Kept n → (i : ℕ) → n ≤ i → cornerAt (resultOr k (frontCorners left d) d) i ≡ cornerAt d i
+  behind-by : (k n : ℕ) → unless Refused k (Kept (length left)) ≡ Kept n → (i : ℕ) → n ≤ i
+      → cornerAt (resultOr k (frontCorners left d) d) i ≡ cornerAt d i
   behind-by zero n e i h = let many : n ≡ length left = cc in corners-behind left d i (omega arith)
   behind-by (suc k) n e i h = refl
 
   pub same-behind : (n : ℕ) → r ≡ Kept n → (i : ℕ) → n ≤ i → cornerAt d′ i ≡ cornerAt d i
   same-behind n e i h =
-      ap (λ (s : Slices). cornerAt s i) (apart .buffer) ∙ behind-by (refusalApart radius (placesOf d) count b) n (sym (apart .answer) ∙ e) i h
+      ap (λ (s : Slices). cornerAt s i) (apart .buffer)
+      ∙ behind-by (refusalApart radius (placesOf d) count b) n (sym (apart .answer) ∙ e) i h
 
   -- ---- and one of `merge_corners_simple` on the same corners, with the same count and radius
   module _ (m : Merged) (b′ : Slices) (own : Merges radius (placesOf b) count b m b′) where
     -- the count fits the separate buffer: the same answer
     pub same-answer : count ≤ placesOf d → r ≡ m
-    same-answer h = apart .answer ∙ ap (λ (k : ℕ). unless Refused k (Kept (length left))) (apart-as-own radius (placesOf d) count b h) ∙ sym (own .answer)
+    same-answer h =
+        apart .answer ∙ ap (λ (k : ℕ). unless Refused k (Kept (length left))) (apart-as-own radius (placesOf d) count b h)
+        ∙ sym (own .answer)
 
     -- and the same list
     list-by : (k n : ℕ) → unless Refused k (Kept (length left)) ≡ Kept n

@@ -1,4 +1,5 @@
--- Merging apart (RULES 25): the list that merging a buffer would leave, written into a separate buffer. The buffer that it is made of is only read.
+-- Merging apart (RULES 25): the list that merging a buffer would leave, written to a separate buffer. The buffer that
+-- it comes from is only read.
 use Prim.Native.Nat.{ℕ, min}
 use mathlib.Core.Bool.{_||_}
 use lib.Dec.{ltb}
@@ -9,14 +10,16 @@ use Rattle.merge.specs.Merge.{resultOf, Leaves}
 use Rattle.merge.specs.declared.Merged.{Merged}
 use Rattle.merge_refusal.specs.Refusals.{conditions}
 
--- the number (RULES 2.2), 0 for none, of merging the first `count` corners of a buffer b into a separate buffer of so many places: 4 of the counted
--- corners that b has, however short the separate buffer; 10 where either has fewer places than the stated count, however many corners would be left
+-- the number (RULES 2.2), 0 for none, for merging the first `count` corners of a buffer b into a separate buffer with a
+-- given number of places: 4 is checked for all counted corners that b has, however short the separate buffer; 10 is
+-- given if either has fewer places than the stated count, however many corners would be left
 unfoldable pub refusalApart : Float → ℕ → ℕ → Slices → ℕ
 refusalApart radius places count b =
     lowest (conditions radius (cornersOf b (min count (placesOf b))) (ltb (placesOf b) count || ltb places count))
 
--- What merging the first `count` corners of a buffer b apart promises of the answer, its number and values, and of the separate buffer d after: the
--- list that is left of b's corners first, and behind it as it was; where refused, as it was. Of b it has nothing to promise: it is not written to,
--- by its type (`&`).
+-- What merging the first `count` corners of a buffer b apart promises about the answer, its number and values, and
+-- about the separate buffer d after: the list that is left of b's corners at the start, the rest unchanged; if refused,
+-- all of it unchanged. About b it has nothing to promise: its type (`&`) says that it is not written to.
 abbrev pub MergedApart : Float → ℕ → Slices → Slices → Merged → Slices → Type 0
-MergedApart radius count b d r d′ = Leaves (refusalApart radius (placesOf d) count b) (resultOf radius (cornersOf b count)) d r d′
+MergedApart radius count b d r d′ =
+    Leaves (refusalApart radius (placesOf d) count b) (resultOf radius (cornersOf b count)) d r d′

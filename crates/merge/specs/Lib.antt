@@ -1,2 +1,3 @@
 pub mod Merge
+pub mod Table
 pub mod Apart

@@ -17,7 +17,7 @@ use Rattle.merge.specs.declared.Merged.the-variants.{Kept, Refused}
 
 -- ---- the list that is left
 
--- what is left of a list of corners; an off radius leaves it as it came
+-- what is left of a list of corners; an off radius leaves it unchanged
 unfoldable pub resultOf : Float → List Corner → List Corner
 resultOf radius cs = cond (isOff radius) cs (merged (joins (gridOf radius cs)) [] cs)
 
@@ -32,14 +32,16 @@ abbrev pub valuesOf : Merged → List ℕ
 valuesOf (Kept n) = n ∷ []
 valuesOf (Refused k) = []
 
--- What a call promises that leaves the corners `left`, or is refused by the number k: of the answer, how many are left, its number and values, and the
--- buffer after: what is left first, and behind it as it was; where refused, as it was
+-- What a call promises that leaves the corners `left`, or is refused with the number k: the answer (how many are left),
+-- its number and values, and the buffer after: what is left at the start, the rest unchanged; if refused, all of it
+-- unchanged
 pub record Leaves (k : ℕ) (left : List Corner) (b : Slices) (r : Merged) (b′ : Slices) : Type 0 where
   pub answer : r ≡ unless Refused k (Kept (length left))
   pub number : numberOf r ≡ k
   pub values : valuesOf r ≡ valuesUnless k (length left ∷ [])
   pub buffer : b′ ≡ resultOr k (frontCorners left b) b
 
--- merging the first `count` corners of a buffer of so many places
+-- merging the first `count` corners of a buffer with a given number of places
 abbrev pub Merges : Float → ℕ → ℕ → Slices → Merged → Slices → Type 0
-Merges radius places count b r b′ = Leaves (refusalOf radius places count b) (resultOf radius (cornersOf b count)) b r b′
+Merges radius places count b r b′ =
+    Leaves (refusalOf radius places count b) (resultOf radius (cornersOf b count)) b r b′

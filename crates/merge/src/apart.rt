@@ -1,5 +1,5 @@
-// The list that merging a buffer would leave, written into a separate buffer: what is merged is only read. Behind the list the separate buffer stays
-// as it was, so no corner is put there that does not stay.
+// The list that merging a buffer would leave, written to a separate buffer. The merged buffer is only read. After the
+// list, the separate buffer stays as it was, so a corner is written only when it is kept.
 ghost use mathlib.Core.Path.{_≡_};
 ghost use Prim.Native.Nat.{_≤_};
 ghost use Rattle.corner_list.specs.CornerList.{slices, cornersOf, placesOf, frontCorners};
@@ -22,7 +22,8 @@ fn copy_list(
 )
     requires { ⌜ n ≤ placesOf (slices (now mx) (now my) (now ms) (now mn)) ⌝ }
     ensures { λ _. ⌜ slices (now (mx .exit)) (now (my .exit)) (now (ms .exit)) (now (mn .exit))
-        ≡ frontCorners (cornersOf (slices (now (xs .entry)) (now (ys .entry)) (now (strengths .entry)) (now (neighbours .entry))) n)
+        ≡ frontCorners (cornersOf (slices (now (xs .entry)) (now (ys .entry)) (now (strengths .entry))
+        (now (neighbours .entry))) n)
         (slices (now (mx .entry)) (now (my .entry)) (now (ms .entry)) (now (mn .entry))) ⌝ }
 {
     for i in 0..n {
@@ -31,7 +32,7 @@ fn copy_list(
     }
 }
 
-// Merges the first n corners of a buffer into another, and returns how many are left. It judges nothing.
+// Merges the first n corners of a buffer into another, and returns how many are left. It checks nothing.
 fn merge_into(
     xs: &[f32],
     ys: &[f32],
@@ -45,7 +46,8 @@ fn merge_into(
     mn: &mut [u32],
 ) -> usize
     requires { ⌜ n ≤ placesOf (slices (now mx) (now my) (now ms) (now mn)) ⌝ }
-    ensures { λ k. ⌜ Left (resultOf radius (cornersOf (slices (now (xs .entry)) (now (ys .entry)) (now (strengths .entry)) (now (neighbours .entry))) n))
+    ensures { λ k. ⌜ Left (resultOf radius
+        (cornersOf (slices (now (xs .entry)) (now (ys .entry)) (now (strengths .entry)) (now (neighbours .entry))) n))
         (slices (now (mx .entry)) (now (my .entry)) (now (ms .entry)) (now (mn .entry))) k
         (slices (now (mx .exit)) (now (my .exit)) (now (ms .exit)) (now (mn .exit))) ⌝ }
 {
@@ -54,10 +56,25 @@ fn merge_into(
         return n;
     }
     let g = merge_grid::grid_of(xs, ys, n, radius);
-    merge_settle::settle_list(xs, ys, strengths, neighbours, true, mx, my, ms, mn, g, n)
+    let mut none: [f32; 0] = [0.0; 0];
+    merge_settle::settle_list(
+        xs,
+        ys,
+        strengths,
+        neighbours,
+        true,
+        mx,
+        my,
+        ms,
+        mn,
+        &mut none,
+        g,
+        n,
+    )
 }
 
-// The number of the refusal of merging the first `count` corners of a buffer into a separate one of so many places, 0 for none.
+// The number of the refusal of merging the first `count` corners of a buffer into a separate one with a given number of
+// places, 0 for none.
 fn refusal_apart(
     xs: &[f32],
     ys: &[f32],
@@ -67,7 +84,8 @@ fn refusal_apart(
     count: usize,
     radius: f32,
 ) -> u8
-    ensures { λ r. ⌜ r ≡ refusalApart radius places count (slices (now (xs .entry)) (now (ys .entry)) (now (strengths .entry)) (now (neighbours .entry))) ⌝ }
+    ensures { λ r. ⌜ r ≡ refusalApart radius places count
+        (slices (now (xs .entry)) (now (ys .entry)) (now (strengths .entry)) (now (neighbours .entry))) ⌝ }
 {
     let number = merge_refusal::refusal(xs, ys, strengths, neighbours, xs.len(), count, radius);
     if number != 0 {
@@ -76,7 +94,7 @@ fn refusal_apart(
     if places < count { 10 } else { 0 }
 }
 
-// Leaves in a separate buffer what merging the first `count` corners of a buffer in place would leave there.
+// Writes to a separate buffer what merging the first `count` corners of a buffer in place would leave there.
 pub fn merge_apart(
     xs: &[f32],
     ys: &[f32],
@@ -89,7 +107,8 @@ pub fn merge_apart(
     ms: &mut [f32],
     mn: &mut [u32],
 ) -> Merged
-    ensures { λ r. ⌜ MergedApart radius count (slices (now (xs .entry)) (now (ys .entry)) (now (strengths .entry)) (now (neighbours .entry)))
+    ensures { λ r. ⌜ MergedApart radius count
+        (slices (now (xs .entry)) (now (ys .entry)) (now (strengths .entry)) (now (neighbours .entry)))
         (slices (now (mx .entry)) (now (my .entry)) (now (ms .entry)) (now (mn .entry))) r
         (slices (now (mx .exit)) (now (my .exit)) (now (ms .exit)) (now (mn .exit))) ⌝ }
 {

@@ -1,10 +1,16 @@
-// Merging corners. Each corner of a list, in its order, looks among those kept so far whose cells, of a grid as wide as the radius, differ from
-// its own by at most one each way, for the lowest place with a corner at most the radius away. It replaces that corner, in its place and with
-// its own neighbours, if it is strictly stronger, and is dropped if not; where there is none it is kept behind the others. So two corners nearer
-// than the radius may both stay, and the strongest of several need not: the grid decides who is looked at, and the list's order who is joined.
+// Merging corners. The corners of a list are taken in order. Each is compared with the corners kept so far whose cells,
+// in a grid of cells as wide as the radius, differ from its own by at most one each way. It joins the one at the lowest
+// place that is at most the radius away. It replaces that corner, in its place and with its own neighbours, if it is
+// strictly stronger, and is dropped if not. If it joins none, it is kept after the others. So two corners nearer than
+// the radius may both stay, and the strongest of several need not: the grid decides which corners are compared, and the
+// list's order which one is joined.
 pub mod apart; // merge_apart: the list that merging would leave, in a separate buffer
+pub mod table; // merge_by_table: merging in place with a borrowed table
 
+ghost use mathlib.Core.Path.{_≡_};
 ghost use Prim.Native.Nat.{_≤_, min};
+ghost use Rattle.lists.specs.Buffer.{wipedFrom};
+ghost use Rattle.float32.specs.Float32.{zero};
 ghost use Rattle.corner_list.specs.CornerList.{slices, cornersOf, placesOf};
 ghost use Rattle.merge_settle.specs.Settle.{Left};
 ghost use Rattle.merge.specs.Merge.{resultOf, Merges};
@@ -15,21 +21,26 @@ pub enum Merged {
     Refused(u8),
 }
 
-// Merges the first n corners of a buffer in place, and returns how many are left. It refuses nothing.
-fn merge_list(
+// Merges the first n corners of a buffer in place, with a borrowed table, and returns how many are left. It refuses
+// nothing.
+pub(crate) fn merge_list(
     xs: &mut [f32],
     ys: &mut [f32],
     strengths: &mut [f32],
     neighbours: &mut [u32],
+    table: &mut [f32],
     n: usize,
     radius: f32,
 ) -> usize
     requires { ⌜ n ≤ placesOf (slices (now xs) (now ys) (now strengths) (now neighbours)) ⌝ }
-    ensures { λ k. ⌜ Left (resultOf radius (cornersOf (slices (now (xs .entry)) (now (ys .entry)) (now (strengths .entry)) (now (neighbours .entry))) n))
+    ensures { λ k. ⌜ Left (resultOf radius
+        (cornersOf (slices (now (xs .entry)) (now (ys .entry)) (now (strengths .entry)) (now (neighbours .entry))) n))
         (slices (now (xs .entry)) (now (ys .entry)) (now (strengths .entry)) (now (neighbours .entry))) k
         (slices (now (xs .exit)) (now (ys .exit)) (now (strengths .exit)) (now (neighbours .exit))) ⌝ }
+    ensures { λ _. ⌜ now (table .exit) ≡ wipedFrom 0 zero (now (table .entry)) ⌝ }
 {
     if merge_radius::is_off(radius) {
+        clearing::clear(table, 0);
         return n;
     }
     let g = merge_grid::grid_of(xs, ys, n, radius);
@@ -45,6 +56,7 @@ fn merge_list(
         ys,
         strengths,
         neighbours,
+        table,
         g,
         n,
     )
@@ -60,7 +72,9 @@ pub fn merge_within(
     count: usize,
     radius: f32,
 ) -> Merged
-    ensures { λ r. ⌜ Merges radius (min places (placesOf (slices (now (xs .entry)) (now (ys .entry)) (now (strengths .entry)) (now (neighbours .entry))))) count
+    ensures { λ r. ⌜ Merges radius (min places
+        (placesOf (slices (now (xs .entry)) (now (ys .entry)) (now (strengths .entry))
+        (now (neighbours .entry))))) count
         (slices (now (xs .entry)) (now (ys .entry)) (now (strengths .entry)) (now (neighbours .entry))) r
         (slices (now (xs .exit)) (now (ys .exit)) (now (strengths .exit)) (now (neighbours .exit))) ⌝ }
 {
@@ -68,7 +82,8 @@ pub fn merge_within(
     if number != 0 {
         return Merged::Refused(number);
     }
-    Merged::Kept(merge_list(xs, ys, strengths, neighbours, count, radius))
+    let mut none: [f32; 0] = [0.0; 0];
+    Merged::Kept(merge_list(xs, ys, strengths, neighbours, &mut none, count, radius))
 }
 
 // Merges the first `count` corners of a buffer in place, as the Rust's `merge_corners_simple`.
@@ -80,7 +95,8 @@ pub fn merge_corners_simple(
     count: usize,
     radius: f32,
 ) -> Merged
-    ensures { λ r. ⌜ Merges radius (placesOf (slices (now (xs .entry)) (now (ys .entry)) (now (strengths .entry)) (now (neighbours .entry)))) count
+    ensures { λ r. ⌜ Merges radius (placesOf
+        (slices (now (xs .entry)) (now (ys .entry)) (now (strengths .entry)) (now (neighbours .entry)))) count
         (slices (now (xs .entry)) (now (ys .entry)) (now (strengths .entry)) (now (neighbours .entry))) r
         (slices (now (xs .exit)) (now (ys .exit)) (now (strengths .exit)) (now (neighbours .exit))) ⌝ }
 {

@@ -1,5 +1,5 @@
--- The two merges on one buffer: the same number always, and, at multiples of 1/64 with a radius that is a power of two, the same answer and buffer.
--- Assumes nothing.
+-- The two merges on one buffer: the same number always, and, at multiples of 1/64 with a radius that is a power of two, the same answer and
+-- buffer. Assumes nothing.
 use Prim.Native.Nat.{ℕ, min, zero, suc}
 use native.Mathlib.Omega.{arith}
 use mathlib.Core.Path.{_≡_, refl, sym, ap, _∙_}
@@ -24,7 +24,8 @@ use Rattle.merge_alike.proofs.Lists.{merged-alike}
 use Rattle.lists.specs.Refusals.{unless, resultOr}
 
 -- ---- two calls with one number, that leave the same where it is 0
-module _ (k : ℕ) (left left′ : List Corner) (b : Slices) (r s : Merged) (b₁ b₂ : Slices) (p : Leaves k left b r b₁) (q : Leaves k left′ b s b₂) where
+module _ (k : ℕ) (left left′ : List Corner) (b : Slices) (r s : Merged) (b₁ b₂ : Slices) (p : Leaves k left b r b₁)
+    (q : Leaves k left′ b s b₂) where
   leaves-alike : (k ≡ 0 → left ≡ left′) → (r ≡ s) × (b₁ ≡ b₂)
   leaves-alike h = (
     p .answer ∙ by-number k (λ m l. unless Refused m (Kept (length l))) (λ m l l′. refl) h ∙ sym (q .answer),
@@ -32,7 +33,8 @@ module _ (k : ℕ) (left left′ : List Corner) (b : Slices) (r s : Merged) (b�
   )
     where
       -- where refused, whatever would be left
-      by-number : {A : Type 0} (k : ℕ) (f : ℕ → List Corner → A) → ((m : ℕ) (l l′ : List Corner) → f (suc m) l ≡ f (suc m) l′) → (k ≡ 0 → left ≡ left′)
+      by-number : {A : Type 0} (k : ℕ) (f : ℕ → List Corner → A) → ((m : ℕ) (l l′ : List Corner) → f (suc m) l ≡ f (suc m) l′)
+          → (k ≡ 0 → left ≡ left′)
           → f k left ≡ f k left′
       by-number zero f z h = ap (f zero) (h refl)
       by-number (suc m) f z h = z m left left′

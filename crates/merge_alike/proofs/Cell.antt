@@ -1,5 +1,5 @@
--- The cell number of a multiple of 1/64, for a radius that is a power of two: a quotient of whole numbers, since nothing is rounded. So two that
--- differ by at most the radius lie in adjacent cells. Assumes nothing.
+-- The cell number of a multiple of 1/64, for a radius that is a power of two: a quotient of whole numbers, since nothing is rounded. So two
+-- that differ by at most the radius lie in adjacent cells. Assumes nothing.
 use Prim.Native.Nat.{ℕ, _+_, _-_, _*_, _/_, _^_, _≤_, _<_}
 use native.Mathlib.Nat.{le-refl, lt-of-le-of-lt, mul-zero, add-zero, zero-add, mul-pos, mul-le-mul-right, div-le-self, div-lt-iff-lt-mul}
 use native.Mathlib.Omega.{arith}
@@ -47,7 +47,8 @@ module _ (r : Float) (power : IsPower r) where
       subst (λ (z : Float). IsValue z 64 0 R)
       (sym (div-round binary32 one r 64 R 64 (lit< tt) (pow-pos j) (refl, refl)
       (subst (λ (n : ℕ). HasValue r false n 64) (none R) (plus-of-above r R 0 64 (pow-pos j) (power .value)))))
-      (round-exact-at binary32 false 64 R 64 0 j (pow-pos j) refl (record { under = omega arith; over = omega arith; fine = omega (arith, J) }))
+      (round-exact-at binary32 false 64 R 64 0 j (pow-pos j) refl
+      (record { under = omega arith; over = omega arith; fine = omega (arith, J) }))
     where
       none : (n : ℕ) → n - 0 ≡ n
       none n = omega arith
@@ -62,7 +63,8 @@ module _ (r : Float) (power : IsPower r) where
         let k = u .count in
         let few = u .few in
         let J = power .at-most in
-        let d = sub-exact binary32 x least k 0 m 0 6 (u .value) low (record { under = omega arith; over = omega arith; fine = omega arith }) in
+        let d = sub-exact binary32 x least k 0 m 0 6 (u .value) low
+        (record { under = omega arith; over = omega arith; fine = omega arith }) in
         frac-exact binary32 product ((k + 0) * 64 + (0 + m) * 0) ((k + 0) * 0 + (0 + m) * 64) (64 * R) k m (power .exponent)
         (mul-pos (lit< tt) (pow-pos (power .exponent)))
         (mul-frac binary32 (sub binary32 x least) (div binary32 one r) (k + 0) (0 + m) 64 64 0 R d inverse) (turn k R)
@@ -77,11 +79,13 @@ module _ (r : Float) (power : IsPower r) where
         let s = sized product k m R scaled in
         let size : dist k m ≡ k - m = omega arith in
         let none : s .sign ≡ true → k - m < R = λ e. let z : k - m ≡ 0 = omega (arith, s .minus e) in rw z (pow-pos (power .exponent)) in
-        cut-value 64 product (s .sign) (k - m) R (pow-pos (power .exponent)) none (lt-of-le-of-lt (div-le-self (k - m) R) (omega (arith, u .few)))
+        cut-value 64 product (s .sign) (k - m) R (pow-pos (power .exponent)) none
+        (lt-of-le-of-lt (div-le-self (k - m) R) (omega (arith, u .few)))
         (subst (λ (n : ℕ). HasValue product (s .sign) n R) size (s .value))
 
   -- ---- two that differ by at most the radius
-  pub cells-adjacent : (x y least : Float) (u : Sixtyfourths x) (v : Sixtyfourths y) (m : ℕ) → IsValue least m 0 64 → m ≤ u .count → m ≤ v .count
+  pub cells-adjacent : (x y least : Float) (u : Sixtyfourths x) (v : Sixtyfourths y) (m : ℕ) → IsValue least m 0 64 → m ≤ u .count
+      → m ≤ v .count
       → apart x y u v ≤ R → adjacent (cellOf least (div binary32 one r) x) (cellOf least (div binary32 one r) y) ≡ true
   cells-adjacent x y least u v m low a b d =
       let K = pow-pos (power .exponent) in

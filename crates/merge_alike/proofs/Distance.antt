@@ -1,5 +1,5 @@
--- Two positions at multiples of 1/64 that are near each other: their columns differ by at most the radius, and so do their rows. The squares are
--- rounded, and so is their sum, by at most half a unit in the last of 24 digits: too little to hide a 64th. Assumes nothing.
+-- Two positions at multiples of 1/64 that are near each other: their columns differ by at most the radius, and so do their rows. The
+-- squares are rounded, and so is their sum, by at most half a unit in the last of 24 digits: too little to hide a 64th. Assumes nothing.
 use Prim.Native.Nat.{ℕ, suc, _+_, _-_, _*_, _^_, _≤_, _<_}
 use native.Mathlib.Nat.{le-trans, mul-assoc, mul-le-mul, mul-le-mul-right, le-of-mul-le-mul-right, eq-zero-or-pos}
 use native.Mathlib.Omega.{arith}
@@ -26,7 +26,7 @@ use Rattle.merge_alike.proofs.Multiples.{Sixtyfourths}
 abbrev U : ℕ
 U = 2 ^ 137
 
--- the square of 4,096 in these, and so of every coordinate and radius
+-- the square of the largest coordinate in these, and so of every coordinate and radius
 abbrev most : ℕ
 most = 68719476736
 
@@ -96,13 +96,16 @@ module _ (x y : Float) (u : Sixtyfourths x) (v : Sixtyfourths y) where
       let exact = sub-exact binary32 x y k 0 l 0 6 (u .value) (v .value)
       (record { under = omega (arith, u .few); over = omega (arith, v .few); fine = omega arith }) in
       let s = sized (sub binary32 x y) (k + 0) (0 + l) 64 exact in
-      square-units (sub binary32 x y) apart apart-few (s .sign) (subst (λ (n : ℕ). HasValue (sub binary32 x y) (s .sign) n 64) (same k l) (s .value))
+      square-units (sub binary32 x y) apart apart-few (s .sign)
+      (subst (λ (n : ℕ). HasValue (sub binary32 x y) (s .sign) n 64) (same k l) (s .value))
     where
       same : (a b : ℕ) → dist (a + 0) (0 + b) ≡ dist a b
       same a b = omega arith
 
   gap-most : rounded binary32 (apart * apart * U) ≤ 2 * most * U
-  gap-most = over (apart * apart) (rounded binary32 (apart * apart * U)) U (square-most apart apart-few) (units-near binary32 (apart * apart * U) .0)
+  gap-most =
+      over (apart * apart) (rounded binary32 (apart * apart * U)) U (square-most apart apart-few)
+      (units-near binary32 (apart * apart * U) .0)
     where
       over : (n g U : ℕ) → n ≤ most → g * 8388608 * 2 ≤ n * U * 8388608 * 2 + n * U → g ≤ 2 * most * U
       over n g U h k = let m : n * U ≤ most * U = mul-le-mul-right U h in omega arith
@@ -135,7 +138,8 @@ module _ (r : Float) (R : ℕ) (small : R ≤ 262144) (v : IsValue r R 0 64) (p 
       let square = square-units r R small (s .sign) (subst (λ (n : ℕ). HasValue r (s .sign) n 64) (whole R) (s .value)) in
       let sum = add-units binary32 (squared (sub binary32 (p .x) (q .x))) (squared (sub binary32 (p .y) (q .y))) A B
       (gap-square (p .x) (q .x) px qx) (gap-square (p .y) (q .y) py qy) both-small in
-      let h = value-le _ (squared r) (rounded binary32 (A + B)) (rounded binary32 (R * R * U)) (2 ^ low binary32) (pow-pos 149) sum square (to-T e) in (
+      let h = value-le _ (squared r) (rounded binary32 (A + B)) (rounded binary32 (R * R * U)) (2 ^ low binary32)
+      (pow-pos 149) sum square (to-T e) in (
         side-near across R B small h,
         side-near down R A small (subst (λ (n : ℕ). rounded binary32 n ≤ rounded binary32 (R * R * U)) (swap A B) h),
       )

@@ -69,4 +69,9 @@ least-of x l h =
     let k = h .0 .count in
     let r = least-from x k (h .0 .value) l (h .1) in
     subst (λ (b : Bool). Least (leastFrom (cond b x (inf false)) l) k (x ∷ l)) (sym (below-inf x k (h .0 .value)))
-    (record { count = r .count; value = r .value; first = r .first; each = ((λ i w. omega (arith, r .first, only-count x k i (h .0 .value) w)), r .each) })
+    (record {
+      count = r .count;
+      value = r .value;
+      first = r .first;
+      each = ((λ i w. omega (arith, r .first, only-count x k i (h .0 .value) w)), r .each);
+    })

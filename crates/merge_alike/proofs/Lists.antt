@@ -46,7 +46,8 @@ module _ (r : Float) (power : IsPower r) where
   radius-few : 2 ^ power .exponent ≤ 262144
   radius-few = le-trans (pow-mono (power .at-most)) (lit≤ tt)
 
-  near-joins : (g : Grid) → g .inverse ≡ div binary32 one r → g .square ≡ squared r → (m n : ℕ) → IsValue (g .left) m 0 64 → IsValue (g .top) n 0 64
+  near-joins : (g : Grid) → g .inverse ≡ div binary32 one r → g .square ≡ squared r → (m n : ℕ) → IsValue (g .left) m 0 64
+      → IsValue (g .top) n 0 64
       → (c o : Corner) → Above m n c → Above m n o → nearBy (squared r) c o ≡ joins g c o
   unfolding neighbours
   near-joins g inverse square m n left top c o p q = rw square (pick (nearBy (squared r) c o) refl)
@@ -73,8 +74,10 @@ module _ (r : Float) (power : IsPower r) where
   unfolding gridOf
   merged-alike [] h = refl
   merged-alike (c ∷ cs) h =
-      let x = least-of (c .x) (map xOf cs) (all-mapped Sixtyfourths xOf (c ∷ cs) (all-map Placed (λ c. Sixtyfourths (c .x)) (λ c t. t .column) (c ∷ cs) h)) in
-      let y = least-of (c .y) (map yOf cs) (all-mapped Sixtyfourths yOf (c ∷ cs) (all-map Placed (λ c. Sixtyfourths (c .y)) (λ c t. t .row) (c ∷ cs) h)) in
+      let x = least-of (c .x) (map xOf cs)
+      (all-mapped Sixtyfourths xOf (c ∷ cs) (all-map Placed (λ c. Sixtyfourths (c .x)) (λ c t. t .column) (c ∷ cs) h)) in
+      let y = least-of (c .y) (map yOf cs)
+      (all-mapped Sixtyfourths yOf (c ∷ cs) (all-map Placed (λ c. Sixtyfourths (c .y)) (λ c t. t .row) (c ∷ cs) h)) in
       merged-same (Above (x .count) (y .count)) (nearBy (squared r)) (joins (gridOf r (c ∷ cs)))
       (near-joins (gridOf r (c ∷ cs)) refl refl (x .count) (y .count) (x .value) (y .value)) [] (c ∷ cs) tt
       (all-above (x .count) (y .count) (c ∷ cs) h (x .each) (y .each))

@@ -1,4 +1,4 @@
--- The lists and the radii for which merging by distance alone and merging by cells leave the same (RULES 31.4).
+-- The lists and the radii for which merging by distance alone and merging by cells leave the same list (RULES 31.4).
 use Prim.Native.Nat.{ℕ, _^_, _≤_}
 use lib.Ieee.{Float}
 use Rattle.float32.specs.Value.{IsValue}
@@ -10,7 +10,7 @@ pub record IsMultiple (x : Float) : Type 0 where
   pub minus : ℕ
   pub value : IsValue x plus minus 64
 
--- a power of two from 1/64 to 4,096: 2 ^ exponent / 64
+-- a power of two from the least merge radius to the largest: 2 ^ exponent / 64
 pub record IsPower (radius : Float) : Type 0 where
   pub exponent : ℕ
   pub at-most : exponent ≤ 18

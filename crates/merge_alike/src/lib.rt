@@ -1,1 +1,1 @@
-// No code: where merging by distance alone and merging by cells leave the same. See specs/ and proofs/.
+// No code: when merging by distance alone and merging by cells leave the same list. See specs/ and proofs/.

@@ -54,7 +54,8 @@ module _ (b : Slices) (count : ℕ) (before : List ℕ) (r : Listing) (after : L
   text = cornersText (cornersOf b count)
 
   written : (end ≡ length text) × (after ≡ front text before)
-  written = let l = listed b count before end after (subst (λ (a : Listing). CornersWritten b count before a after) e w) in (l .ends, l .text)
+  written = let l = listed b count before end after (subst (λ (a : Listing). CornersWritten b count before a after) e w) in
+      (l .ends, l .text)
 
   pub text-fits : end ≤ length after
   text-fits = omega (arith, written .0, ap length (written .1) ∙ length-append text (drop (length text) before))

@@ -1,4 +1,4 @@
--- A definition of private functions: how many corners an answer counts.
+-- A definition for private functions: how many corners an answer counts.
 use Prim.Native.Nat.{ℕ}
 use Rattle.merge.specs.declared.Merged.{Merged}
 use Rattle.merge.specs.declared.Merged.the-variants.{Kept, Refused}

@@ -1,8 +1,10 @@
-// The program `merge_case`: prints what two merges leave of the corners (1 - 2^-24, 0), (2, 0) and (0, 100) with radius 1, as listings. By distance
-// alone two are left, and by cells, as the frame merges, all three. A line on standard error says so where it cannot write.
+// The program `merge_case`: prints what two merges leave of the corners (1 - 2^-24, 0), (2, 0) and (0, 100) with radius
+// 1, as listings. By distance alone two are left; by cells, as the frame merges, all three. If it cannot write, it says
+// so in a line on standard error.
 use corner_list::Corner;
 use listing::LONGEST;
 use listing::Listing;
+use listing::MOST_CORNERS;
 use merge::Merged;
 ghost use mathlib.Core.Path.{_≡_};
 ghost use mathlib.Core.Bool.{cond, false};
@@ -12,7 +14,7 @@ ghost use Rattle.listing.specs.Text.{cornersText};
 ghost use Rattle.merge_naive.specs.Case.{corner, three, two};
 ghost use Rattle.merge_case.specs.Internal.{keptOf};
 
-// A corner of strength 1 and without neighbours.
+// A corner of strength 1 without neighbours.
 fn unit_corner(x: f32, y: f32) -> Corner
     ensures { λ c. ⌜ c ≡ corner x y ⌝ }
 {
@@ -24,10 +26,11 @@ fn unit_corner(x: f32, y: f32) -> Corner
     }
 }
 
-// Puts the three corners first in a buffer.
+// Puts the three corners at the start of a buffer.
 fn put_case(xs: &mut [f32], ys: &mut [f32], strengths: &mut [f32], neighbours: &mut [u32])
     requires { ⌜ 3 ≤ placesOf (slices (now xs) (now ys) (now strengths) (now neighbours)) ⌝ }
-    ensures { λ _. ⌜ cornersOf (slices (now (xs .exit)) (now (ys .exit)) (now (strengths .exit)) (now (neighbours .exit))) 3 ≡ three ⌝ }
+    ensures { λ _. ⌜ cornersOf (slices (now (xs .exit)) (now (ys .exit)) (now (strengths .exit))
+        (now (neighbours .exit))) 3 ≡ three ⌝ }
 {
     let below_one = 0.99999994; // 1 - 2^-24
     corner_list::put_corner(
@@ -62,7 +65,8 @@ fn merge_case(
 ) -> usize
     requires { ⌜ 3 ≤ placesOf (slices (now xs) (now ys) (now strengths) (now neighbours)) ⌝ }
     requires { ⌜ cornersOf (slices (now xs) (now ys) (now strengths) (now neighbours)) 3 ≡ three ⌝ }
-    ensures { λ r. ⌜ cornersOf (slices (now (xs .exit)) (now (ys .exit)) (now (strengths .exit)) (now (neighbours .exit))) r ≡ cond cells three two ⌝ }
+    ensures { λ r. ⌜ cornersOf (slices (now (xs .exit)) (now (ys .exit)) (now (strengths .exit))
+        (now (neighbours .exit))) r ≡ cond cells three two ⌝ }
 {
     if cells {
         return kept_of(merge::merge_corners_simple(xs, ys, strengths, neighbours, 3, 1.0));
@@ -90,10 +94,10 @@ fn report(written: bool)
 
 // Prints the first `count` corners of a buffer, which are what is left.
 fn print_corners(
-    xs: &[f32; 512],
-    ys: &[f32; 512],
-    strengths: &[f32; 512],
-    neighbours: &[u32; 512],
+    xs: &[f32; MOST_CORNERS],
+    ys: &[f32; MOST_CORNERS],
+    strengths: &[f32; MOST_CORNERS],
+    neighbours: &[u32; MOST_CORNERS],
     count: usize,
     cells: bool,
 )
@@ -109,10 +113,10 @@ fn print_corners(
 
 // Prints what a merge leaves of the three corners.
 fn print_case(cells: bool) {
-    let mut xs = [0.0f32; 512];
-    let mut ys = [0.0f32; 512];
-    let mut strengths = [0.0f32; 512];
-    let mut neighbours = [0u32; 512];
+    let mut xs = [0.0f32; MOST_CORNERS];
+    let mut ys = [0.0f32; MOST_CORNERS];
+    let mut strengths = [0.0f32; MOST_CORNERS];
+    let mut neighbours = [0u32; MOST_CORNERS];
     put_case(&mut xs, &mut ys, &mut strengths, &mut neighbours);
     let count = merge_case(&mut xs, &mut ys, &mut strengths, &mut neighbours, cells);
     print_corners(&xs, &ys, &strengths, &neighbours, count, cells);

@@ -62,11 +62,13 @@ module _ (vs : List Float) where
       ∙ sym (least-append (inf false) (numbers vs i) (getD vs i nan ∷ []))
       ∙ ap (λ (k : ℕ). leastFrom (inf false) (numbers vs k)) (sym (add-one i))
 
-  pub least-all : (i n : ℕ) (m : Float) → i ≡ min n (length vs) → m ≡ leastFrom (inf false) (numbers vs i) → m ≡ leastFrom (inf false) (numbers vs n)
+  pub least-all : (i n : ℕ) (m : Float) → i ≡ min n (length vs) → m ≡ leastFrom (inf false) (numbers vs i)
+      → m ≡ leastFrom (inf false) (numbers vs n)
   least-all i n m q e =
       let past : leastFrom (leastFrom (inf false) (numbers vs i)) (tab (n - i)
       (λ k. getD vs (i + k) nan)) ≡ leastFrom (inf false) (numbers vs i) =
-      least-nan (leastFrom (inf false) (numbers vs i)) (λ k. getD vs (i + k) nan) (n - i) (λ k l. List·getD-eq-default vs nan {n = i + k} (omega arith)) in
+      least-nan (leastFrom (inf false) (numbers vs i)) (λ k. getD vs (i + k) nan) (n - i)
+      (λ k l. List·getD-eq-default vs nan {n = i + k} (omega arith)) in
       let upto : i + (n - i) ≡ n = omega arith in
       e ∙ sym past
       ∙ sym (least-append (inf false) (numbers vs i) (tab (n - i) (λ k. getD vs (i + k) nan)))
@@ -75,6 +77,7 @@ module _ (vs : List Float) where
 -- ---- the grid, by its fields
 pub grid-is : (b : Slices) (n : ℕ) (radius left top : Float) → left ≡ leastFrom (inf false) (numbers (b .xs) n)
     → top ≡ leastFrom (inf false) (numbers (b .ys) n)
-    → record { left = left; top = top; inverse = div binary32 (fin false 1 (pos 0)) radius; square = squared radius } ≡ gridOf radius (cornersOf b n)
+    → record { left = left; top = top; inverse = div binary32 (fin false 1 (pos 0)) radius; square = squared radius }
+    ≡ gridOf radius (cornersOf b n)
 unfolding gridOf
 grid-is b n radius left top p q = rw (p, q, map-tab xOf (cornerAt b) n, map-tab yOf (cornerAt b) n)

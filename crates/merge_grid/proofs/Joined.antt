@@ -22,5 +22,6 @@ beside a b e =
 pub joined-cells : (g : Grid) (p q : Position) → meets g p q ≡ true → Beside (columnOf g p) (columnOf g q) × Beside (rowOf g p) (rowOf g q)
 unfolding neighbours
 joined-cells g p q e =
-    let w = and-parts (adjacent (columnOf g p) (columnOf g q)) (adjacent (rowOf g p) (rowOf g q)) (and-parts (near (g .square) p q) (neighbours g p q) e .1) in
+    let w = and-parts (adjacent (columnOf g p) (columnOf g q)) (adjacent (rowOf g p) (rowOf g q))
+    (and-parts (near (g .square) p q) (neighbours g p q) e .1) in
     (beside (columnOf g p) (columnOf g q) (w .0), beside (rowOf g p) (rowOf g q) (w .1))

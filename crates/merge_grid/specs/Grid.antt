@@ -1,4 +1,5 @@
--- Which corners join (merge.rs), by the grid: the least coordinates of the list as given, 1 / radius, and the radius squared.
+-- Which corners join (merge.rs), by the grid: the least coordinates of the list as given, 1 / radius, and the radius
+-- squared.
 use Prim.Native.Nat.{ℕ, _+_}
 use mathlib.Core.Bool.{Bool, false, cond, _&&_}
 use mathlib.Core.List.{List, [], _∷_, map}
@@ -18,8 +19,8 @@ positionOf c = record { x = c .x; y = c .y }
 abbrev pub positionAt : List Float → List Float → ℕ → Position
 positionAt xs ys i = record { x = getD xs i nan; y = getD ys i nan }
 
--- a coordinate's cell number: (coordinate - least) × (1 / radius) in f32, cut off as the Rust's `as usize` does. The Rust's cap by the
--- grid's last cell never shows (`CellsAsPublished` of published)
+-- a coordinate's cell number: (coordinate - least) × (1 / radius) in f32, cut off as by Rust's `as usize`. The Rust
+-- caps it at the grid's last cell, which never changes it (`CellsAsPublished` of published)
 abbrev pub cellOf : Float → Float → Float → ℕ
 cellOf least inverse v = toUnsigned 64 (mul binary32 (sub binary32 v least) inverse)
 

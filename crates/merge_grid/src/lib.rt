@@ -1,5 +1,5 @@
-// Which corners join when a list is merged: those near each other whose grid cells differ by at most one each way. No grid is
-// stored; the cell numbers decide. Only where a corner is counts, not its strength.
+// Which corners join when a list is merged: those near each other whose grid cells differ by at most one each way. No
+// grid is stored; the cell numbers decide. Only a corner's position counts, not its strength.
 ghost use mathlib.Core.Path.{_≡_};
 ghost use mathlib.Core.Bool.{false};
 ghost use mathlib.Core.List.{List, [], _∷_};
@@ -8,7 +8,8 @@ ghost use lib.ListN.{getD};
 ghost use lib.Ieee.{Float, nan, inf};
 ghost use Rattle.lists.specs.Tab.{tab};
 ghost use Rattle.corner_list.specs.CornerList.{slices, cornersOf};
-ghost use Rattle.merge_grid.specs.Grid.{positionOf, positionAt, cellOf, columnOf, rowOf, adjacent, neighbours, near, meets, leastFrom, gridOf};
+ghost use Rattle.merge_grid.specs.Grid.{positionOf, positionAt, cellOf, columnOf, rowOf, adjacent, neighbours};
+ghost use Rattle.merge_grid.specs.Grid.{near, meets, leastFrom, gridOf};
 use corner_list::Corner;
 
 // Where a corner is, in pixels.
@@ -32,7 +33,7 @@ pub fn position_of(c: Corner) -> Position
     Position { x: c.x, y: c.y }
 }
 
-// The coordinate at a place of a slice, and NaN past its end.
+// The coordinate at a place of a slice, or NaN past its end.
 fn coordinate_at(vs: &[f32], at: usize) -> f32
     ensures { λ v. ⌜ v ≡ getD (now (vs .entry)) at nan ⌝ }
 {
@@ -59,7 +60,8 @@ fn lower(v: f32, m: f32) -> f32
     if v < m { v } else { m }
 }
 
-// The least of the first n numbers of a slice, and infinity if there is none; where the slice is shorter, of all of them.
+// The least of the first n numbers of a slice, or infinity if there is none. If the slice is shorter, the least of all
+// of them.
 fn least(vs: &[f32], n: usize) -> f32
     ensures { λ r. ⌜ r ≡ leastFrom (inf false) (tab n (λ i. getD (now (vs .entry)) i nan)) ⌝ }
 {

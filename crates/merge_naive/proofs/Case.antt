@@ -1,4 +1,5 @@
--- The case by both merges: of a buffer that has its three corners first, two are left by distance alone, and three by cells. Assumes nothing.
+-- The case by both merges: of a buffer that has its three corners first, two are left by distance alone, and three by cells. Assumes
+-- nothing.
 use Prim.Native.Nat.{ℕ, _≤_}
 use mathlib.Core.Path.{_≡_, refl, sym, ap, _∙_}
 use mathlib.Core.Bool.{true, false}

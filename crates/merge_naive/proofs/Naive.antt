@@ -32,12 +32,14 @@ module _ (radius : Float) where
   pub left-off : (b : Slices) (n : ℕ) → isOff radius ≡ true → n ≤ placesOf b → Left (naiveOf radius (cornersOf b n)) b n b
   left-off b n e h = subst (λ (cs : List Corner). Left cs b n b) (naive-off (cornersOf b n) e) (left-all b n h)
 
-  pub left-on : (b : Slices) (n k : ℕ) (b′ : Slices) → isOff radius ≡ false → Left (merged (nearBy (squared radius)) [] (cornersOf b n)) b k b′
+  pub left-on : (b : Slices) (n k : ℕ) (b′ : Slices) → isOff radius ≡ false
+      → Left (merged (nearBy (squared radius)) [] (cornersOf b n)) b k b′
       → Left (naiveOf radius (cornersOf b n)) b k b′
   left-on b n k b′ e l = subst (λ (cs : List Corner). Left cs b k b′) (naive-on (cornersOf b n) e) l
 
   -- ---- the call with a radius that is off, where the buffer has the list
-  pub off-returns : (b : Slices) (n : ℕ) → isOff radius ≡ true → n ≤ placesOf b → (answer : Merged) (b′ : Slices) → MergesNaive radius n b answer b′
+  pub off-returns : (b : Slices) (n : ℕ) → isOff radius ≡ true → n ≤ placesOf b → (answer : Merged) (b′ : Slices)
+      → MergesNaive radius n b answer b′
       → (answer ≡ Kept n) × (b′ ≡ b)
   off-returns b n e h answer b′ m =
       let same = sym (naive-off (cornersOf b n) e) in

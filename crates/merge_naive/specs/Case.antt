@@ -1,5 +1,5 @@
--- The case that tells the two merges apart (RULES 31.5): (1 - 2^-24, 0), (2, 0) and (0, 100) with radius 1, each of strength 1 and without
--- neighbours. The first two are as near as the radius; their cell numbers are 0 and 2.
+-- The case that tells the two merges apart (RULES 31.5): (1 - 2^-24, 0), (2, 0) and (0, 100) with radius 1, each of
+-- strength 1 and without neighbours. The first two are exactly the radius apart in f32; their cell numbers are 0 and 2.
 use mathlib.Core.Bool.{false}
 use mathlib.Core.List.{List, [], _∷_}
 use lib.IntN.{pos, negsuc}

@@ -1,7 +1,8 @@
-// Merging corners by distance alone, without cells. Each corner of a list, in its order, looks among those kept so far for the lowest place with
-// a corner at most the radius away. It replaces that corner, in its place and with its own neighbours, if it is strictly stronger, and is dropped
-// if not; where there is none it is kept behind the others. The time of a call grows with the list times what is kept of it: the frame merges by
-// cells (`merge`).
+// Merging corners by distance alone, without cells. Each corner of a list, in its order, looks among those kept so far
+// for the lowest place with a corner at most the radius away. If it is strictly stronger, it replaces that corner, in
+// its place and with its own neighbours; otherwise it is dropped. If there is no such place, it is kept after the
+// others. The time of a call grows with the length of the list times that of the kept list; the frame merges by cells
+// (`merge`).
 ghost use mathlib.Core.Path.{_≡_};
 ghost use Prim.Native.Nat.{_<_, _≤_};
 ghost use Rattle.corner_list.specs.CornerList.{slices, placesOf, cornersOf};
@@ -13,7 +14,7 @@ use corner_list::Corner;
 use merge::Merged;
 use merge_grid::Position;
 
-// What stands for no place: no buffer has it.
+// Means "no place": no buffer is this long.
 const NOWHERE: usize = 18446744073709551615;
 
 // The lowest of the first k places of a buffer whose corner is near a position, or k.
@@ -28,8 +29,8 @@ fn first_near(xs: &[f32], ys: &[f32], square: f32, k: usize, p: Position) -> usi
     k
 }
 
-// The place that c takes among the first k of a buffer: that of the first that it is near, if it is stronger; k, if it is near none; and
-// NOWHERE, if it is dropped.
+// The place for c among the first k of a buffer: that of the first corner that it is near, if c is stronger; k, if it
+// is near none; NOWHERE, if it is dropped.
 fn place_for(
     xs: &[f32],
     ys: &[f32],
@@ -40,7 +41,8 @@ fn place_for(
     c: Corner,
 ) -> usize
     requires { ⌜ k < placesOf (slices (now xs) (now ys) (now strengths) (now neighbours)) ⌝ }
-    ensures { λ r. ⌜ Takes (nearBy square) k c (slices (now (xs .entry)) (now (ys .entry)) (now (strengths .entry)) (now (neighbours .entry))) r ⌝ }
+    ensures { λ r. ⌜ Takes (nearBy square) k c
+        (slices (now (xs .entry)) (now (ys .entry)) (now (strengths .entry)) (now (neighbours .entry))) r ⌝ }
 {
     let i = first_near(xs, ys, square, k, merge_grid::position_of(c));
     if k <= i {
@@ -64,7 +66,8 @@ fn settle_corner(
     c: Corner,
 ) -> usize
     requires { ⌜ k < placesOf (slices (now xs) (now ys) (now strengths) (now neighbours)) ⌝ }
-    ensures { λ n. ⌜ Settled (nearBy square) k c (slices (now (xs .entry)) (now (ys .entry)) (now (strengths .entry)) (now (neighbours .entry)))
+    ensures { λ n. ⌜ Settled (nearBy square) k c
+        (slices (now (xs .entry)) (now (ys .entry)) (now (strengths .entry)) (now (neighbours .entry)))
         n (slices (now (xs .exit)) (now (ys .exit)) (now (strengths .exit)) (now (neighbours .exit))) ⌝ }
 {
     let at = place_for(xs, ys, strengths, neighbours, square, k, c);
@@ -72,7 +75,7 @@ fn settle_corner(
     if at == k { k + 1 } else { k }
 }
 
-// Merges the first n corners of a buffer in place, and returns how many are left. It judges nothing.
+// Merges the first n corners of a buffer in place, and returns how many are left. It checks nothing.
 fn merge_list(
     xs: &mut [f32],
     ys: &mut [f32],
@@ -82,7 +85,8 @@ fn merge_list(
     radius: f32,
 ) -> usize
     requires { ⌜ n ≤ placesOf (slices (now xs) (now ys) (now strengths) (now neighbours)) ⌝ }
-    ensures { λ k. ⌜ Left (naiveOf radius (cornersOf (slices (now (xs .entry)) (now (ys .entry)) (now (strengths .entry)) (now (neighbours .entry))) n))
+    ensures { λ k. ⌜ Left (naiveOf radius
+        (cornersOf (slices (now (xs .entry)) (now (ys .entry)) (now (strengths .entry)) (now (neighbours .entry))) n))
         (slices (now (xs .entry)) (now (ys .entry)) (now (strengths .entry)) (now (neighbours .entry))) k
         (slices (now (xs .exit)) (now (ys .exit)) (now (strengths .exit)) (now (neighbours .exit))) ⌝ }
 {
@@ -98,7 +102,8 @@ fn merge_list(
     k
 }
 
-// Merges the first `count` corners of a buffer in place, as the Rust's `merge_corners_naive`. It refuses what `merge_corners_simple` refuses.
+// Merges the first `count` corners of a buffer in place, like the Rust's `merge_corners_naive`. It refuses what
+// `merge_corners_simple` refuses.
 pub fn merge_corners_naive(
     xs: &mut [f32],
     ys: &mut [f32],
@@ -107,7 +112,8 @@ pub fn merge_corners_naive(
     count: usize,
     radius: f32,
 ) -> Merged
-    ensures { λ r. ⌜ MergesNaive radius count (slices (now (xs .entry)) (now (ys .entry)) (now (strengths .entry)) (now (neighbours .entry))) r
+    ensures { λ r. ⌜ MergesNaive radius count
+        (slices (now (xs .entry)) (now (ys .entry)) (now (strengths .entry)) (now (neighbours .entry))) r
         (slices (now (xs .exit)) (now (ys .exit)) (now (strengths .exit)) (now (neighbours .exit))) ⌝ }
 {
     let number = merge_refusal::refusal(xs, ys, strengths, neighbours, xs.len(), count, radius);

@@ -13,11 +13,17 @@ pub fn is_off(radius: f32) -> bool
     }
 }
 
-// Whether a radius is from 1/64 to 4,096.
+// The least radius, 1/64.
+const LEAST: f32 = 0.015625;
+
+// The largest radius.
+const LARGEST: f32 = 4096.0;
+
+// Whether a radius is from the least to the largest.
 pub fn is_sized(radius: f32) -> bool
     ensures { λ r. ⌜ r ≡ isSized radius ⌝ }
 {
-    float32::is_between(0.015625, 4096.0, radius)
+    float32::is_between(LEAST, LARGEST, radius)
 }
 
 // Whether a radius is neither off nor in its range.

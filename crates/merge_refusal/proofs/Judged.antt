@@ -65,8 +65,10 @@ module _ (radius : Float) (places count : ℕ) (b : Slices) where
   judged-allowed e on =
       let tests = tests-none e in
       let all : min count places ≡ count = omega (arith, judged-fits e) in
-      let none : any isOutside (cornersOf b count) ≡ false = rw (on, all) at (tests .0) in
-      (not-false (isSized radius) (rw on at (tests .1)), all-map _ _ inside (cornersOf b count) (any-none isOutside (cornersOf b count) none))
+      let none : any isOutside (cornersOf b count) ≡ false = rw (on, all) at (tests .0) in (
+        not-false (isSized radius) (rw on at (tests .1)),
+        all-map _ _ inside (cornersOf b count) (any-none isOutside (cornersOf b count) none),
+      )
     where
       inside : (c : Corner) → (isOutside c ≡ true → ⊥) → isInside c ≡ true
       inside c n = not-false (isInside c) (is-false (isOutside c) n)
@@ -79,7 +81,8 @@ module _ (radius : Float) (places count : ℕ) (b : Slices) where
     pub judged-none-off : isOff radius ≡ true → refusalOf radius places count b ≡ 0
     judged-none-off off = sym (judged-off off) ∙ none
 
-    pub judged-none-on : isOff radius ≡ false → isSized radius ≡ true → All (λ c. isInside c ≡ true) (cornersOf b count) → refusalOf radius places count b ≡ 0
+    pub judged-none-on : isOff radius ≡ false → isSized radius ≡ true → All (λ c. isInside c ≡ true) (cornersOf b count)
+        → refusalOf radius places count b ≡ 0
     judged-none-on on sized inside =
         let few : min count places ≡ count = omega arith in
         let each : any isOutside (cornersOf b count) ≡ false = none-any isOutside (cornersOf b count)

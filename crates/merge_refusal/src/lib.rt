@@ -9,7 +9,9 @@ ghost use Rattle.merge_refusal.specs.Refusals.{isOutside, refusalOf};
 
 // Whether one of the first n corners of a buffer is not inside.
 fn has_outside(xs: &[f32], ys: &[f32], strengths: &[f32], neighbours: &[u32], n: usize) -> bool
-    ensures { λ r. ⌜ r ≡ any isOutside (cornersOf (slices (now (xs .entry)) (now (ys .entry)) (now (strengths .entry)) (now (neighbours .entry))) n) ⌝ }
+    ensures { λ r. ⌜ r ≡ any isOutside
+        (cornersOf (slices (now (xs .entry)) (now (ys .entry)) (now (strengths .entry))
+        (now (neighbours .entry))) n) ⌝ }
 {
     for i in 0..n {
         if !corner_list::is_inside(corner_list::corner_at(xs, ys, strengths, neighbours, i)) {
@@ -26,7 +28,7 @@ fn crowding(places: usize, count: usize) -> u8
     if places < count { 10 } else { 0 }
 }
 
-// The number of the refusal where so many places count, 0 for none.
+// The number of the refusal if only `places` places of the buffer count, 0 for none.
 fn refusal_at(
     xs: &[f32],
     ys: &[f32],
@@ -36,7 +38,8 @@ fn refusal_at(
     count: usize,
     radius: f32,
 ) -> u8
-    ensures { λ r. ⌜ r ≡ refusalOf radius places count (slices (now (xs .entry)) (now (ys .entry)) (now (strengths .entry)) (now (neighbours .entry))) ⌝ }
+    ensures { λ r. ⌜ r ≡ refusalOf radius places count
+        (slices (now (xs .entry)) (now (ys .entry)) (now (strengths .entry)) (now (neighbours .entry))) ⌝ }
 {
     if merge_radius::is_off(radius) {
         return crowding(places, count);
@@ -56,7 +59,7 @@ fn refusal_at(
     5
 }
 
-// The number of the refusal of merging the first `count` corners of a buffer of at most `places` places, 0 for none.
+// The number of the refusal for merging the first `count` corners of a buffer of at most `places` places, 0 for none.
 pub fn refusal(
     xs: &[f32],
     ys: &[f32],
@@ -67,7 +70,8 @@ pub fn refusal(
     radius: f32,
 ) -> u8
     ensures { λ r. ⌜ r ≡ refusalOf radius
-        (min places (placesOf (slices (now (xs .entry)) (now (ys .entry)) (now (strengths .entry)) (now (neighbours .entry))))) count
+        (min places (placesOf (slices (now (xs .entry)) (now (ys .entry)) (now (strengths .entry))
+        (now (neighbours .entry))))) count
         (slices (now (xs .entry)) (now (ys .entry)) (now (strengths .entry)) (now (neighbours .entry))) ⌝ }
 {
     let held = numbers::lesser(

@@ -1,5 +1,5 @@
--- Searches of the kept corners: the first number that passes a test, and the lowest of those looked at, one slot or one search after another.
--- Assumes nothing.
+-- Searches of the kept corners: the first number that passes a test, and the lowest of those looked at, one slot or one search after
+-- another. Assumes nothing.
 use Prim.Native.Nat.{ℕ, _+_, _<_, _≤_}
 use native.Mathlib.Nat.{eq-or-lt-of-le}
 use native.Mathlib.Decide.{decLt}
@@ -36,7 +36,8 @@ module _ (f : ℕ → Bool) where
   }
 
   -- two homes, by other names
-  pub lowers-two : (table : List ℕ) (g h g′ h′ n r s : ℕ) → g ≡ g′ → h ≡ h′ → Lowers f (PlaceListed table g) n r → Lowers f (PlaceListed table h) r s
+  pub lowers-two : (table : List ℕ) (g h g′ h′ n r s : ℕ) → g ≡ g′ → h ≡ h′ → Lowers f (PlaceListed table g) n r
+      → Lowers f (PlaceListed table h) r s
       → Lowers f (λ i. PlaceListed table g′ i ⊎ PlaceListed table h′ i) n s
   lowers-two table g h g′ h′ n r s d e p q =
       lowers-then (PlaceListed table g′) (PlaceListed table h′) n r s (subst (λ (m : ℕ). Lowers f (PlaceListed table m) n r) d p)
@@ -59,10 +60,11 @@ module _ (f : ℕ → Bool) where
       pub before : (q : ℕ) → q < p → home ≤ q → getD table q 0 < low → f (getD table q 0) ≡ true → ⊥
 
     pub looking-none : Looking most home
-    looking-none = record { from = omega arith; at-most = omega arith; passes = inl refl; before = λ q l h. absurd (let no : ⊥ = omega arith in no) }
+    looking-none =
+        record { from = omega arith; at-most = omega arith; passes = inl refl; before = λ q l h. absurd (let no : ⊥ = omega arith in no) }
 
     module _ (low p : ℕ) (at : Looking low p) where
-      pub looking-turn : (low′ : ℕ) → low′ ≡ cond (ltb (getD table p 0) low && f (getD table p 0)) (getD table p 0) low → Looking low′ (p + 1)
+      looking-turn : (low′ : ℕ) → low′ ≡ cond (ltb (getD table p 0) low && f (getD table p 0)) (getD table p 0) low → Looking low′ (p + 1)
       looking-turn low′ e = go (ltb (getD table p 0) low) (f (getD table p 0)) refl refl e
         where
           i : ℕ
@@ -81,10 +83,15 @@ module _ (f : ℕ → Bool) where
             from = omega (arith, at .from);
             at-most = omega (arith, at .at-most, ltb-true i low x);
             passes = inr (ap f e ∙ y);
-            before = below-more _ p (λ q l m n. at .before q l m (omega (arith, ltb-true i low x))) (λ m n. absurd (let no : ⊥ = omega arith in no));
+            before = below-more _ p (λ q l m n. at .before q l m (omega (arith, ltb-true i low x)))
+                (λ m n. absurd (let no : ⊥ = omega arith in no));
           }
           go true false x y e = kept (λ l t. false≢true (sym y ∙ t)) e
           go false b x y e = kept (λ l. absurd (let no : ⊥ = omega (arith, ltb-false i low x) in no)) e
+
+      -- by what was read at slot p
+      pub looking-read : (i : ℕ) → getD table p 0 ≡ i → (low′ : ℕ) → low′ ≡ cond (ltb i low && f i) i low → Looking low′ (p + 1)
+      looking-read i is low′ e = looking-turn low′ (e ∙ ap (λ (n : ℕ). cond (ltb n low && f n) n low) (sym is))
 
       -- slot p is empty
       pub looking-empty : getD table p 0 ≡ empty → p < length table → most ≤ empty → Lowers f (PlaceListed table home) most low
@@ -99,7 +106,9 @@ module _ (f : ℕ → Bool) where
                     (λ (o : length table ≤ d .slot). let no : ⊥ = omega arith in no)
                     (λ (g : getD table (d .slot) 0 ≡ i).
                     ⊎-elim
-                    (λ (o : d .slot ≡ p). let z : i ≡ empty = sym g ∙ ap (λ (q : ℕ). getD table q 0) o ∙ e in let no : ⊥ = omega (arith, at .at-most) in no)
+                    (λ (o : d .slot ≡ p). let z : i ≡ empty = sym g ∙ ap (λ (q : ℕ). getD table q 0) o ∙ e in
+                    let no : ⊥ = omega (arith, at .at-most) in
+                    no)
                     (λ (o : d .slot < p). at .before (d .slot) o (d .from) (omega arith) (ap f g ∙ t))
                     (eq-or-lt-of-le (omega arith)))
                     (d .here)

@@ -1,5 +1,5 @@
--- The kept corners stay indexed when one is put and listed, in the place of one of them or behind them; and the index made anew, corner by corner.
--- Assumes nothing.
+-- The kept corners stay indexed when one is put and listed, in the place of one of them or behind them; and the index made anew, corner by
+-- corner. Assumes nothing.
 use Prim.Native.Nat.{ℕ, _+_, _<_, _≤_}
 use native.Mathlib.Nat.{eq-or-lt-of-le}
 use native.Mathlib.Decide.{ℕ-discrete}
@@ -18,26 +18,29 @@ use Rattle.corner_list.proofs.Corners.{with-here, with-there}
 use Rattle.merge_grid.specs.declared.Grid.{Grid}
 use Rattle.merge_grid.specs.declared.Position.{Position}
 use Rattle.merge_grid.specs.Grid.{positionOf, positionAt, rowOf}
-use Rattle.merge_settle.specs.Internal.{countWith, empty, homeAt, PlaceListed, ListsPlace, InIndex, Indexed}
+use Rattle.merge_settle.specs.Internal.{countWith, empty, homeAt, PlaceListed, ListsAt, InIndex, Indexed}
 
 pub indexed-none : (g : Grid) (floor : ℕ) (table : List ℕ) (xs ys : List Float) → 0 < length table → Indexed g floor table xs ys 0
 indexed-none g floor table xs ys h = record { some = h; each = λ i l. absurd (let no : ⊥ = omega arith in no) }
 
 module _ (g : Grid) (floor : ℕ) where
   -- a table with a place more: what was in the index still is, and the place is too
-  module _ (table : List ℕ) (p : Position) (at : ℕ) (table′ : List ℕ) (lists : ListsPlace table (homeAt g (length table) p) at table′) where
+  module _ (table : List ℕ) (p : Position) (at : ℕ) (table′ : List ℕ) (lists : ListsAt g p at table table′) where
     again : (q : Position) (i : ℕ) → i < empty → InIndex g floor table q i → InIndex g floor table′ q i
     again q i small =
-        ⊎-elim inl (λ d. inr (subst (λ (m : ℕ). PlaceListed table′ (homeAt g m q) i) (sym (lists .long)) (lists .still (homeAt g (length table) q) i small d)))
+        ⊎-elim inl (λ d. inr (subst (λ (m : ℕ). PlaceListed table′ (homeAt g m q) i) (sym (lists .long))
+        (lists .still (homeAt g (length table) q) i small d)))
 
     listed : (q : Position) → p ≡ q → at < empty → InIndex g floor table′ q at
     listed q e small = inr (subst (λ (h : ℕ). PlaceListed table′ h at) (ap₂ (homeAt g) (sym (lists .long)) e) (lists .listed small))
 
   -- a corner put in the place that it takes, and listed
-  pub indexed-put : (table : List ℕ) (b : Slices) (k : ℕ) → Indexed g floor table (b .xs) (b .ys) k → (at : ℕ) (c : Corner) → (at < placesOf b) ⊎ (empty ≤ at)
-      → (table′ : List ℕ) (b′ : Slices) → b′ ≡ withCorner at c b → (p : Position) → p ≡ positionOf c → ListsPlace table (homeAt g (length table) p) at table′
+  pub indexed-put : (table : List ℕ) (b : Slices) (k : ℕ) → Indexed g floor table (b .xs) (b .ys) k → (at : ℕ) (c : Corner)
+      → (at < placesOf b) ⊎ (empty ≤ at)
+      → (table′ : List ℕ) (b′ : Slices) → b′ ≡ withCorner at c b → (p : Position) → p ≡ positionOf c → ListsAt g p at table table′
       → (n : ℕ) → n ≡ countWith k at → Indexed g floor table′ (b′ .xs) (b′ .ys) n
-  indexed-put table b k index at c known table′ b′ put p is lists n e = record { some = omega (arith, lists .long, index .some); each = each }
+  indexed-put table b k index at c known table′ b′ put p is lists n e =
+      record { some = omega (arith, lists .long, index .some); each = each }
     where
       old : (i : ℕ) → i < n → (i ≡ at → ⊥) → i < k
       old i l d =
@@ -67,8 +70,9 @@ module _ (g : Grid) (floor : ℕ) where
           ]
 
   -- ---- the index made anew, corner by corner
-  module _ (table : List ℕ) (xs ys : List Float) (k : ℕ) (index : Indexed g floor table xs ys k) (p : Position) (is : p ≡ positionAt xs ys k) where
-    listed-too : (table′ : List ℕ) → ListsPlace table (homeAt g (length table) p) k table′ → Indexed g floor table′ xs ys (k + 1)
+  module _ (table : List ℕ) (xs ys : List Float) (k : ℕ) (index : Indexed g floor table xs ys k) (p : Position)
+      (is : p ≡ positionAt xs ys k) where
+    listed-too : (table′ : List ℕ) → ListsAt g p k table table′ → Indexed g floor table′ xs ys (k + 1)
     listed-too table′ lists = record {
       some = omega (arith, lists .long, index .some);
       each =
@@ -83,10 +87,11 @@ module _ (g : Grid) (floor : ℕ) where
       each = below-more _ k (index .each) (λ small. inl (subst (λ (q : Position). rowOf g q + 1 < floor) is h));
     }
 
-    pub indexed-turn : (table′ : List ℕ) → ((rowOf g p + 1 < floor) × (table′ ≡ table)) ⊎ ListsPlace table (homeAt g (length table) p) k table′
+    pub indexed-turn : (table′ : List ℕ) → ((rowOf g p + 1 < floor) × (table′ ≡ table)) ⊎ ListsAt g p k table table′
         → Indexed g floor table′ xs ys (k + 1)
     indexed-turn table′ =
         ⊎-elim (λ w. subst (λ (t : List ℕ). Indexed g floor t xs ys (k + 1)) (sym (w .1)) (left-out (w .0))) (listed-too table′)
 
-  pub indexed-fewer : (table : List ℕ) (xs ys : List Float) (k n : ℕ) → Indexed g floor table xs ys k → n ≤ k → Indexed g floor table xs ys n
+  pub indexed-fewer : (table : List ℕ) (xs ys : List Float) (k n : ℕ) → Indexed g floor table xs ys k → n ≤ k
+      → Indexed g floor table xs ys n
   indexed-fewer table xs ys k n index h = record { some = index .some; each = λ i l. index .each i (omega arith) }

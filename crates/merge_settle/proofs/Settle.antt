@@ -20,7 +20,8 @@ use Rattle.merge_settle.specs.Internal.{IsFirst, countWith, Settled, Tak
 -- ---- lists
 
 module _ (j : Corner → Corner → Bool) (c d : Corner) where
-  by-test : (o : Corner) (kept : List Corner) (t : Bool) → j c o ≡ t → settle j (o ∷ kept) c ≡ cond t (stronger c o ∷ kept) (o ∷ settle j kept c)
+  by-test : (o : Corner) (kept : List Corner) (t : Bool) → j c o ≡ t
+      → settle j (o ∷ kept) c ≡ cond t (stronger c o ∷ kept) (o ∷ settle j kept c)
   by-test o kept t e = ap (λ (b : Bool). cond b (stronger c o ∷ kept) (o ∷ settle j kept c)) e
 
   -- a corner that joins none comes last
@@ -31,7 +32,8 @@ module _ (j : Corner → Corner → Bool) (c d : Corner) where
       ∙ ap (λ (l : List Corner). o ∷ l) (settle-none kept (λ i l. h (suc i) (omega arith)))
 
   -- one that joins takes the place of the first that it joins, if it is stronger
-  pub settle-some : (kept : List Corner) (i : ℕ) → i < length kept → ((m : ℕ) → m < i → j c (getD kept m d) ≡ true → ⊥) → j c (getD kept i d) ≡ true
+  pub settle-some : (kept : List Corner) (i : ℕ) → i < length kept → ((m : ℕ) → m < i → j c (getD kept m d) ≡ true → ⊥)
+      → j c (getD kept i d) ≡ true
       → settle j kept c ≡ set kept i (stronger c (getD kept i d))
   settle-some [] i l h t = absurd (not-suc-le-zero l)
   settle-some (o ∷ kept) zero l h t = by-test o kept true t
@@ -45,7 +47,8 @@ module _ (j : Corner → Corner → Bool) (c : Corner) where
   settle-longer [] = omega arith
   settle-longer (o ∷ kept) = pick (j c o) (settle-longer kept)
     where
-      pick : (b : Bool) → length kept ≤ length (settle j kept c) → suc (length kept) ≤ length (cond b (stronger c o ∷ kept) (o ∷ settle j kept c))
+      pick : (b : Bool) → length kept ≤ length (settle j kept c)
+          → suc (length kept) ≤ length (cond b (stronger c o ∷ kept) (o ∷ settle j kept c))
       pick true h = omega arith
       pick false h = omega arith
 
@@ -53,13 +56,15 @@ module _ (j : Corner → Corner → Bool) (c : Corner) where
   settle-one [] = omega arith
   settle-one (o ∷ kept) = pick (j c o) (settle-one kept)
     where
-      pick : (b : Bool) → length (settle j kept c) ≤ suc (length kept) → length (cond b (stronger c o ∷ kept) (o ∷ settle j kept c)) ≤ suc (suc (length kept))
+      pick : (b : Bool) → length (settle j kept c) ≤ suc (length kept)
+          → length (cond b (stronger c o ∷ kept) (o ∷ settle j kept c)) ≤ suc (suc (length kept))
       pick true h = omega arith
       pick false h = omega arith
 
 -- ---- the buffer b, whose first k corners are the kept ones; i is the first place that c joins
 
-module _ (j : Corner → Corner → Bool) (k : ℕ) (c : Corner) (b : Slices) (fit : k < placesOf b) (i : ℕ) (first : IsFirst (λ m. j c (cornerAt b m)) k i) where
+module _ (j : Corner → Corner → Bool) (k : ℕ) (c : Corner) (b : Slices) (fit : k < placesOf b) (i : ℕ)
+    (first : IsFirst (λ m. j c (cornerAt b m)) k i) where
   abbrev Kept : List Corner
   Kept = cornersOf b k
 
@@ -78,7 +83,8 @@ module _ (j : Corner → Corner → Bool) (k : ℕ) (c : Corner) (b : Slices) (f
       let e : settle j Kept c ≡ Kept ++ (c ∷ []) = settle-none j c c Kept (λ m l. none m (omega (arith, many))) in
       record {
         settled = record {
-          count = ap (λ (t : Bool). cond t (k + 1) k) (eq-eqb k k refl) ∙ sym (ap length e ∙ length-append Kept (c ∷ []) ∙ ap (λ (n : ℕ). n + 1) many);
+          count = ap (λ (t : Bool). cond t (k + 1) k) (eq-eqb k k refl)
+              ∙ sym (ap length e ∙ length-append Kept (c ∷ []) ∙ ap (λ (n : ℕ). n + 1) many);
           buffer = ap (withCorner k c) starts ∙ corners-next Kept b k c (sym many) fit ∙ ap (λ (l : List Corner). frontCorners l b) (sym e);
         };
         known = inl fit;
@@ -104,7 +110,8 @@ module _ (j : Corner → Corner → Bool) (k : ℕ) (c : Corner) (b : Slices) (f
         record {
           settled = record {
             count = as-many i (λ (q : i ≡ k). let no : ⊥ = omega arith in no) ∙ sym (ap length e ∙ length-set Kept i c);
-            buffer = ap (withCorner i c) starts ∙ corners-set Kept b i c (omega (arith, many)) ∙ ap (λ (l : List Corner). frontCorners l b) (sym e);
+            buffer = ap (withCorner i c) starts ∙ corners-set Kept b i c (omega (arith, many))
+                ∙ ap (λ (l : List Corner). frontCorners l b) (sym e);
           };
           known = inl (omega arith);
         }
@@ -122,6 +129,7 @@ module _ (j : Corner → Corner → Bool) (k : ℕ) (c : Corner) (b : Slices) (f
         }
 
 -- ---- the corner put in the place that it takes
-pub settled-put : (j : Corner → Corner → Bool) (k : ℕ) (c : Corner) (b : Slices) (r n : ℕ) (b′ : Slices) → Takes j k c b r → n ≡ countWith k r
+pub settled-put : (j : Corner → Corner → Bool) (k : ℕ) (c : Corner) (b : Slices) (r n : ℕ) (b′ : Slices) → Takes j k c b r
+    → n ≡ countWith k r
     → b′ ≡ withCorner r c b → Settled j k c b n b′
 settled-put j k c b r n b′ t e put = record { count = e ∙ t .settled .count; buffer = put ∙ t .settled .buffer }

@@ -1,13 +1,54 @@
--- The slots of the index: homes are among them, and a place is listed with no other lost. Assumes nothing.
-use Prim.Native.Nat.{ℕ, _*_, _/_, _%_, _<_, _≤_}
-use native.Mathlib.Nat.{mod-lt}
+-- The slots of the index: what a table of floats holds, homes are among the slots, and a place is listed with no other lost. Assumes
+-- nothing.
+use Prim.Native.Nat.{ℕ, zero, suc, _-_, _*_, _/_, _%_, _<_, _≤_}
+use native.Mathlib.Nat.{mod-lt, le-of-suc-le-suc}
 use native.Mathlib.Omega.{arith}
 use mathlib.Core.Path.{_≡_, refl, sym, ap, _∙_, subst}
 use mathlib.Core.Logic.{inl, inr, ⊎-elim}
-use mathlib.Core.List.{List}
-use lib.ListN.{length, getD, set, length-set}
+use mathlib.Core.Bool.{Bool, not}
+use mathlib.Core.List.{List, [], _∷_}
+use lib.Dec.{T}
+use lib.ListN.{length, getD, set, replicate, length-set, length-map}
 use lib.Seq.{getD-set-same, getD-set-other, set-getD}
-use Rattle.merge_settle.specs.Internal.{empty, mixOf, homeOf, PlaceListed, SlotFor, ListsPlace}
+use lib.Ieee.{Float, nan, binary32, ofBits, toBits}
+use lib.Ieee.Bits.{nanBits-is, toBits-ofBits}
+use Rattle.lists.specs.Buffer.{wipedFrom}
+use Rattle.float32.proofs.Classes.{no-nan-pattern}
+use Rattle.merge_grid.specs.declared.Grid.{Grid}
+use Rattle.merge_grid.specs.declared.Position.{Position}
+use Rattle.merge_settle.specs.Internal.{slotsOf, empty, mixOf, homeOf, homeAt, PlaceListed, SlotFor, ListsPlace, ListsAt}
+
+-- ---- what a table of floats holds
+pub slots-long : (t : List Float) → length (slotsOf t) ≡ length t
+slots-long t = length-map t (toBits binary32)
+
+pub some-slots : (t : List Float) → 0 < length t → 0 < length (slotsOf t)
+some-slots t h = omega (arith, slots-long t)
+
+pub some-floats : (t : List Float) → 0 < length (slotsOf t) → 0 < length t
+some-floats t h = omega (arith, slots-long t)
+
+pub slot-is : (t : List Float) (p i : ℕ) → p < length t → i ≡ toBits binary32 (getD t p nan) → getD (slotsOf t) p 0 ≡ i
+slot-is [] p i h e = absurd (let no : ⊥ = omega arith in no)
+slot-is (x ∷ t) zero i h e = sym e
+slot-is (x ∷ t) (suc p) i h e = slot-is t p i (le-of-suc-le-suc h) e
+
+slots-set : (t : List Float) (p : ℕ) (v : Float) → slotsOf (set t p v) ≡ set (slotsOf t) p (toBits binary32 v)
+slots-set [] p v = refl
+slots-set (x ∷ t) zero v = refl
+slots-set (x ∷ t) (suc p) v = ap (λ (l : List ℕ). toBits binary32 x ∷ l) (slots-set t p v)
+
+-- a place is read as it was stored
+place-back : (place : ℕ) → place < empty → toBits binary32 (ofBits binary32 place) ≡ place
+place-back place h =
+    toBits-ofBits binary32 place (omega arith)
+    (subst (λ (b : Bool). T (not b)) (nanBits-is binary32 place) (no-nan-pattern place (omega arith)))
+
+-- a table that is cleared: what it held does not count
+pub wiped-same : (z : Float) (t t′ : List Float) → length t′ ≡ length t → wipedFrom 0 z t′ ≡ wipedFrom 0 z t
+wiped-same z t t′ e = ap (λ (n : ℕ). replicate (n - 0) z) e
+
+-- ---- homes
 
 home-below : (slots x y : ℕ) → 0 < slots → homeOf slots x y < slots
 unfolding homeOf
@@ -15,6 +56,10 @@ home-below slots x y h = mod-lt (mixOf x y % 4294967296 * (mixOf x y % 429496729
 
 pub home-in : (slots x y home : ℕ) → 0 < slots → home ≡ homeOf slots x y → home ≤ slots
 home-in slots x y home h e = omega (arith, home-below slots x y h)
+
+-- so many slots as the table has floats
+pub home-slots : (t : List Float) (x y home : ℕ) → home ≡ homeOf (length t) x y → home ≡ homeOf (length (slotsOf t)) x y
+home-slots t x y home e = e ∙ ap (λ (n : ℕ). homeOf n x y) (sym (slots-long t))
 
 -- ---- a place listed
 
@@ -63,10 +108,26 @@ module _ (table : List ℕ) (home place : ℕ) where
           (λ w.
           ⊎-elim
           (λ (free : getD table p 0 ≡ empty). still-listed table p place free h′ i l d)
-          (λ (same : getD table p 0 ≡ place). subst (λ (t : List ℕ). PlaceListed t h′ i) (sym (ap (set table p) (sym same) ∙ set-getD table p 0)) d)
+          (λ (same : getD table p 0 ≡ place). subst (λ (t : List ℕ). PlaceListed t h′ i)
+          (sym (ap (set table p) (sym same) ∙ set-getD table p 0)) d)
           w)
           (s .here);
     }
 
-pub lists-home : (table : List ℕ) (h home place : ℕ) (table′ : List ℕ) → h ≡ home → ListsPlace table h place table′ → ListsPlace table home place table′
-lists-home table h home place table′ e l = subst (λ (n : ℕ). ListsPlace table n place table′) e l
+-- in a table of floats, for a corner at p whose home is found
+module _ (g : Grid) (p : Position) (t : List Float) (home place : ℕ) (is : home ≡ homeAt g (length t) p) where
+  listed-home : (table′ : List ℕ) → ListsPlace (slotsOf t) home place table′ → ListsAt g p place (slotsOf t) table′
+  listed-home table′ l = subst (λ (n : ℕ). ListsPlace (slotsOf t) n place table′) (home-slots t _ _ home is) l
+
+  module _ (slot : ℕ) (s : SlotFor (slotsOf t) home place slot) where
+    pub lists-past : length t ≤ slot → ListsAt g p place (slotsOf t) (slotsOf t)
+    lists-past h = listed-home (slotsOf t) (lists-end (slotsOf t) home place slot s (omega (arith, slots-long t)))
+
+    pub lists-stored : slot < length t → place < empty → (v : Float) → v ≡ ofBits binary32 place
+        → ListsAt g p place (slotsOf t) (slotsOf (set t slot v))
+    lists-stored h small v e =
+        let stored : toBits binary32 v ≡ place = ap (toBits binary32) e ∙ place-back place small in
+        let after : set (slotsOf t) slot place ≡ slotsOf (set t slot v) = ap (set (slotsOf t) slot) (sym stored)
+        ∙ sym (slots-set t slot v) in
+        listed-home (slotsOf (set t slot v))
+        (subst (ListsPlace (slotsOf t) home place) after (lists-at (slotsOf t) home place slot s (omega (arith, slots-long t))))

@@ -33,7 +33,8 @@ module _ (n : ℕ) where
   by-places : (b : Slices) (i : ℕ) → i ≤ n → unsettled b n i ≡ tab (n - i) (λ m. cornerAt b (i + m))
   by-places b i h =
       let all : n ≡ i + (n - i) = omega arith in
-      ap (λ (m : ℕ). unsettled b m i) all ∙ ap (drop i) (tab-add i (n - i) (cornerAt b)) ∙ drop-at (cornersOf b i) _ i (length-tab i (cornerAt b))
+      ap (λ (m : ℕ). unsettled b m i) all ∙ ap (drop i) (tab-add i (n - i) (cornerAt b))
+      ∙ drop-at (cornersOf b i) _ i (length-tab i (cornerAt b))
 
   -- they are as they were where others took at most the first i places
   unsettled-same : (b : Slices) (l : List Corner) (i : ℕ) → i ≤ n → length l ≤ i → unsettled (frontCorners l b) n i ≡ unsettled b n i
@@ -45,11 +46,14 @@ module _ (n : ℕ) where
   unsettled-first b i h =
       rw (add-one, drop-cons (cornersOf b n) i (cornerAt b i) (omega (arith, corners-length b n)), corners-at b n i (cornerAt b i) h)
 
-  -- and the others, once it is settled: those of a list in a buffer of its own stand as they did, and those of one that is merged in place too
-  unsettled-next : (apart : Bool) (own b b′ : Slices) (l : List Corner) (i : ℕ) (c : Corner) → b′ ≡ frontCorners l b → length l ≤ i + 1 → i < n
+  -- and the others, once it is settled: those of a list in a buffer of its own stand as they did, and those of one that is merged in place
+  -- too
+  unsettled-next : (apart : Bool) (own b b′ : Slices) (l : List Corner) (i : ℕ) (c : Corner) → b′ ≡ frontCorners l b
+      → length l ≤ i + 1 → i < n
       → c ≡ cornerAt (given apart own b) i → unsettled (given apart own b) n i ≡ c ∷ unsettled (given apart own b′) n (i + 1)
   unsettled-next apart own b b′ l i c put short h is =
-      unsettled-first list i h ∙ ap (λ (o : Corner). o ∷ unsettled list n (i + 1)) (sym is) ∙ ap (λ (r : List Corner). c ∷ r) (sym (same apart))
+      unsettled-first list i h ∙ ap (λ (o : Corner). o ∷ unsettled list n (i + 1)) (sym is)
+      ∙ ap (λ (r : List Corner). c ∷ r) (sym (same apart))
     where
       list : Slices
       list = given apart own b
@@ -108,10 +112,12 @@ module _ (j : Corner → Corner → Bool) where
         comes-ys = ap (λ (d : Slices). length (d .ys)) (at .goes .buffer) ∙ front-ys Kept b₀ (s .kept) (sym many) kept-fit
 
         pub comes-strengths : length (b .strengths) ≡ length (b₀ .strengths)
-        comes-strengths = ap (λ (d : Slices). length (d .strengths)) (at .goes .buffer) ∙ front-strengths Kept b₀ (s .kept) (sym many) kept-fit
+        comes-strengths =
+            ap (λ (d : Slices). length (d .strengths)) (at .goes .buffer) ∙ front-strengths Kept b₀ (s .kept) (sym many) kept-fit
 
         pub comes-neighbours : length (b .neighbours) ≡ length (b₀ .neighbours)
-        comes-neighbours = ap (λ (d : Slices). length (d .neighbours)) (at .goes .buffer) ∙ front-neighbours Kept b₀ (s .kept) (sym many) kept-fit
+        comes-neighbours =
+            ap (λ (d : Slices). length (d .neighbours)) (at .goes .buffer) ∙ front-neighbours Kept b₀ (s .kept) (sym many) kept-fit
 
         pub comes-places : n ≤ placesOf b
         comes-places = omega (arith, same-places b b₀ comes-xs comes-ys comes-strengths comes-neighbours)
@@ -121,7 +127,8 @@ module _ (j : Corner → Corner → Bool) where
         comes-fits h = omega (arith, at .is-step .few, comes-places)
 
       -- the next corner of the list is settled
-      pub comes-turn : s .done < n → (c : Corner) → c ≡ cornerAt (given apart own b) (s .done) → (k : ℕ) (b′ : Slices) → Settled j (s .kept) c b k b′
+      pub comes-turn : s .done < n → (c : Corner) → c ≡ cornerAt (given apart own b) (s .done) → (k : ℕ) (b′ : Slices)
+          → Settled j (s .kept) c b k b′
           → Comes j apart own n b₀ s₀ b′ (step (s .done + 1) k)
       comes-turn h c is k b′ t =
           let i : ℕ = s .done + 1 in
@@ -138,7 +145,8 @@ module _ (j : Corner → Corner → Bool) where
           }
 
     -- ---- parts of the list: at its end, for fewer kept corners, and one after another
-    pub reaches-end : (b : Slices) (i k most : ℕ) → Comes j apart own n b₀ s₀ b (step i k) → n ≤ i → Reaches j apart own most n b₀ s₀ b (step n k)
+    pub reaches-end : (b : Slices) (i k most : ℕ) → Comes j apart own n b₀ s₀ b (step i k) → n ≤ i
+        → Reaches j apart own most n b₀ s₀ b (step n k)
     reaches-end b i k most at h =
         let end : i ≡ n = omega (arith, at .is-step .upto) in
         record { comes = subst (λ (m : ℕ). Comes j apart own n b₀ s₀ b (step m k)) end at; far = inl refl }
@@ -154,7 +162,8 @@ module _ (j : Corner → Corner → Bool) where
       pub reaches-less : (most : ℕ) → most ≤ m → Reaches j apart own most n b₀ s₀ b s
       reaches-less most h = record { comes = p .comes; far = ⊎-elim inl (λ f. inr (omega arith)) (p .far) }
 
-      pub reaches-on : (most m′ : ℕ) (b′ : Slices) (s′ : Step) → Reaches j apart own m′ n b s b′ s′ → most ≤ m′ → Reaches j apart own most n b₀ s₀ b′ s′
+      pub reaches-on : (most m′ : ℕ) (b′ : Slices) (s′ : Step) → Reaches j apart own m′ n b s b′ s′ → most ≤ m′
+          → Reaches j apart own most n b₀ s₀ b′ s′
       reaches-on most m′ b′ s′ q h = record {
         comes = record { is-step = q .comes .is-step; goes = goes-on _ _ _ _ _ _ _ _ _ (p .comes .goes) (q .comes .goes) };
         far = ⊎-elim inl (λ f. inr (omega arith)) (q .far);
@@ -167,7 +176,8 @@ module _ (j : Corner → Corner → Bool) where
   reaches-all apart own n b b′ s p =
       let done : n ≤ s .done = ⊎-elim (λ (e : s .done ≡ n). omega arith) (λ f. omega (arith, p .comes .is-step .few)) (p .far) in
       let last : Slices = given apart own b′ in
-      let none : unsettled last n (s .done) ≡ [] = drop-of-length-le (cornersOf last n) {i = s .done} (omega (arith, corners-length last n)) in
+      let none : unsettled last n (s .done) ≡ [] = drop-of-length-le (cornersOf last n) {i = s .done}
+      (omega (arith, corners-length last n)) in
       let all : cornersOf b′ (s .kept) ≡ merged j [] (cornersOf (given apart own b) n)
       = ap (merged j (cornersOf b′ (s .kept))) (sym none) ∙ p .comes .goes .leaves in
       record {

@@ -7,15 +7,16 @@ ghost use lib.ListN.{length};
 ghost use lib.Dec.{ltb};
 ghost use Rattle.corner_list.specs.CornerList.{slices, placesOf};
 ghost use Rattle.merge_grid.specs.Grid.{joins};
-ghost use Rattle.merge_settle.specs.Internal.{joinsAt, IsFirst, Lowers, Takes, empty, homeOf, PlaceListed, Indexed};
+ghost use Rattle.merge_settle.specs.Internal.{joinsAt, IsFirst, Lowers, Takes, empty, slotsOf, PlaceListed};
+ghost use Rattle.merge_settle.specs.Internal.{ListedAt, Indexed};
 use corner_list::Corner;
 use merge_grid::Grid;
 use merge_grid::Position;
 
-// What stands for no place: no buffer has it, and no slot holds it.
+// The value for no place: no buffer has such a place, and no slot holds it.
 const NOWHERE: usize = 18446744073709551615;
 
-// The lowest of the first k places of a buffer whose corner a corner at p joins, or k: looks at each.
+// The lowest of the first k places of a buffer whose corner a corner at p joins, or k. Looks at each place.
 fn first_joined(xs: &[f32], ys: &[f32], g: Grid, k: usize, p: Position) -> usize
     ensures { λ r. ⌜ IsFirst (joinsAt g p (now (xs .entry)) (now (ys .entry))) k r ⌝ }
 {
@@ -27,7 +28,7 @@ fn first_joined(xs: &[f32], ys: &[f32], g: Grid, k: usize, p: Position) -> usize
     k
 }
 
-// Place i if it is below `low` and a corner at p joins its corner, else `low`.
+// Place i if it is below `low` and a corner at p joins its corner, otherwise `low`.
 fn lower_of(xs: &[f32], ys: &[f32], g: Grid, i: usize, low: usize, p: Position) -> usize
     ensures { λ r. ⌜ r ≡ cond (ltb i low && joinsAt g p (now (xs .entry)) (now (ys .entry)) i) i low ⌝ }
 {
@@ -39,22 +40,23 @@ fn lower_of(xs: &[f32], ys: &[f32], g: Grid, i: usize, low: usize, p: Position) 
     low
 }
 
-// The lowest place below `most` whose corner a corner at p joins, of those listed from `home` on, or `most`.
+// The lowest place below `most`, among those listed from `home` on, whose corner a corner at p joins; or `most`.
 fn lowest_from(
     xs: &[f32],
     ys: &[f32],
-    table: &[u32],
+    table: &[f32],
     g: Grid,
     home: usize,
     most: usize,
     p: Position,
 ) -> usize
     requires { ⌜ (home ≤ length (now table)) × (most ≤ empty) ⌝ }
-    ensures { λ r. ⌜ Lowers (joinsAt g p (now (xs .entry)) (now (ys .entry))) (PlaceListed (now (table .entry)) home) most r ⌝ }
+    ensures { λ r. ⌜ Lowers (joinsAt g p (now (xs .entry)) (now (ys .entry)))
+        (PlaceListed (slotsOf (now (table .entry))) home) most r ⌝ }
 {
     let mut low = most;
     for slot in home..table.len() {
-        let i = table[slot];
+        let i = float32::to_bits(table[slot]);
         if i == crate::index::EMPTY {
             return low;
         }
@@ -63,11 +65,11 @@ fn lowest_from(
     first_joined(xs, ys, g, low, p)
 }
 
-// The same of those listed from the homes of two pairs side by side, x and x + 1 across.
+// The same for those listed from the homes of two adjacent pairs on, x and x + 1 across.
 fn lowest_of_two(
     xs: &[f32],
     ys: &[f32],
-    table: &[u32],
+    table: &[f32],
     g: Grid,
     x: usize,
     y: usize,
@@ -76,7 +78,8 @@ fn lowest_of_two(
 ) -> usize
     requires { ⌜ (0 < length (now table)) × (most ≤ empty) × (x + 1 < 2 ^ 64) ⌝ }
     ensures { λ r. ⌜ Lowers (joinsAt g p (now (xs .entry)) (now (ys .entry)))
-        (λ i. PlaceListed (now (table .entry)) (homeOf (length (now (table .entry))) x y) i ⊎ PlaceListed (now (table .entry)) (homeOf (length (now (table .entry))) (x + 1) y) i) most r ⌝ }
+        (λ i. ListedAt (slotsOf (now (table .entry))) x y i
+        ⊎ ListedAt (slotsOf (now (table .entry))) (x + 1) y i) most r ⌝ }
 {
     let slots = table.len();
     let home = crate::index::home_of(slots, x, y);
@@ -85,7 +88,7 @@ fn lowest_of_two(
     lowest_from(xs, ys, table, g, home, low, p)
 }
 
-// Whether the index holds for corners of a row and for the first k places.
+// Whether the index can be used for corners in a row and for the first k places.
 fn index_holds(floor: usize, row: usize, k: usize) -> bool
     ensures { λ r. ⌜ (r ≡ true → (floor ≤ row) × (k ≤ empty)) ⌝ }
 {
@@ -96,17 +99,18 @@ fn index_holds(floor: usize, row: usize, k: usize) -> bool
     }
 }
 
-// The lowest of the first k places of a buffer whose corner a corner at p joins, or k: looks at those that the index lists near p.
+// The lowest of the first k places of a buffer whose corner a corner at p joins, or k. Looks at those that the index
+// lists near p.
 fn find_joined(
     xs: &[f32],
     ys: &[f32],
-    table: &[u32],
+    table: &[f32],
     g: Grid,
     floor: usize,
     k: usize,
     p: Position,
 ) -> usize
-    requires { ⌜ Indexed g floor (now table) (now xs) (now ys) k ⌝ }
+    requires { ⌜ Indexed g floor (slotsOf (now table)) (now xs) (now ys) k ⌝ }
     ensures { λ r. ⌜ IsFirst (joinsAt g p (now (xs .entry)) (now (ys .entry))) k r ⌝ }
 {
     let row = merge_grid::row_of(g, p);
@@ -119,22 +123,23 @@ fn find_joined(
     first_joined(xs, ys, g, k, p)
 }
 
-// The place that c takes among the first k of a buffer: that of the first that it joins, if it is stronger; k, if it joins none;
-// and NOWHERE, if it is dropped.
+// The place that c takes among the first k of a buffer: that of the first that it joins, if it is stronger; k, if it
+// joins none; and NOWHERE, if it is dropped.
 pub(crate) fn place_for(
     xs: &[f32],
     ys: &[f32],
     strengths: &[f32],
     neighbours: &[u32],
-    table: &[u32],
+    table: &[f32],
     g: Grid,
     floor: usize,
     k: usize,
     c: Corner,
 ) -> usize
     requires { ⌜ k < placesOf (slices (now xs) (now ys) (now strengths) (now neighbours)) ⌝ }
-    requires { ⌜ Indexed g floor (now table) (now xs) (now ys) k ⌝ }
-    ensures { λ r. ⌜ Takes (joins g) k c (slices (now (xs .entry)) (now (ys .entry)) (now (strengths .entry)) (now (neighbours .entry))) r ⌝ }
+    requires { ⌜ Indexed g floor (slotsOf (now table)) (now xs) (now ys) k ⌝ }
+    ensures { λ r. ⌜ Takes (joins g) k c
+        (slices (now (xs .entry)) (now (ys .entry)) (now (strengths .entry)) (now (neighbours .entry))) r ⌝ }
 {
     let i = find_joined(xs, ys, table, g, floor, k, merge_grid::position_of(c));
     if k <= i {

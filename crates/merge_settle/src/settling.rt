@@ -1,23 +1,25 @@
-// The kept corners stand first in a buffer, xs to ns, and each corner of the list is settled among them. The list is in that buffer too, where it is
-// merged in place; where it is merged apart it is in a buffer of its own, lx to ln. The index of the kept corners is a table on the stack, whose size
-// goes by how many are kept: merging begins with a small table, and goes on with a larger one where they outgrow it.
+// The kept corners are at the start of a buffer, xs to ns, and each corner of the list is settled among them. If the
+// list is merged in place, it is in that buffer too; if it is merged apart, it is in a buffer of its own, lx to ln. The
+// index of the kept corners is a borrowed table, or one on the stack, whose size depends on how many are kept: merging
+// begins with a small table, and goes on with a larger one when they outgrow it.
 ghost use mathlib.Core.Path.{_≡_};
+ghost use mathlib.Core.Bool.{true};
 ghost use Prim.Native.Nat.{_+_, _^_, _<_, _≤_};
 ghost use lib.ListN.{length};
 ghost use Rattle.corner_list.specs.CornerList.{slices, cornerAt, placesOf};
 ghost use Rattle.merge_grid.specs.Grid.{joins};
 ghost use Rattle.merge_settle.specs.Settle.{given};
-ghost use Rattle.merge_settle.specs.Internal.{Indexed, countWith, Settled, start, IsStep, Reaches};
+ghost use Rattle.merge_settle.specs.Internal.{slotsOf, Indexed, countWith, Settled, start, IsStep, Reaches};
 use corner_list::Corner;
 use merge_grid::Grid;
 
-// How far merging a list has come: so many of its corners are settled, and so many of these are kept.
+// How far merging a list has come: how many of its corners are settled, and how many of these are kept.
 pub(crate) struct Step {
     pub(crate) done: usize,
     pub(crate) kept: usize,
 }
 
-// How many corners are kept when one takes a place among the first k, or right behind them, or none.
+// How many corners are kept after one takes a place among the first k, or the place right after them, or none.
 fn count_with(k: usize, at: usize) -> usize
     requires { ⌜ k + 1 < 2 ^ 64 ⌝ }
     ensures { λ r. ⌜ r ≡ countWith k at ⌝ }
@@ -25,23 +27,24 @@ fn count_with(k: usize, at: usize) -> usize
     if at == k { k + 1 } else { k }
 }
 
-// Settles c among the first k corners of a buffer, lists its place, and returns how many are kept then.
+// Settles c among the first k corners of a buffer, lists its place, and returns how many are then kept.
 fn settle_corner(
     xs: &mut [f32],
     ys: &mut [f32],
     strengths: &mut [f32],
     neighbours: &mut [u32],
-    table: &mut [u32],
+    table: &mut [f32],
     g: Grid,
     floor: usize,
     k: usize,
     c: Corner,
 ) -> usize
     requires { ⌜ k < placesOf (slices (now xs) (now ys) (now strengths) (now neighbours)) ⌝ }
-    requires { ⌜ Indexed g floor (now table) (now xs) (now ys) k ⌝ }
-    ensures { λ n. ⌜ Settled (joins g) k c (slices (now (xs .entry)) (now (ys .entry)) (now (strengths .entry)) (now (neighbours .entry)))
+    requires { ⌜ Indexed g floor (slotsOf (now table)) (now xs) (now ys) k ⌝ }
+    ensures { λ n. ⌜ Settled (joins g) k c
+        (slices (now (xs .entry)) (now (ys .entry)) (now (strengths .entry)) (now (neighbours .entry)))
         n (slices (now (xs .exit)) (now (ys .exit)) (now (strengths .exit)) (now (neighbours .exit))) ⌝ }
-    ensures { λ n. ⌜ Indexed g floor (now (table .exit)) (now (xs .exit)) (now (ys .exit)) n ⌝ }
+    ensures { λ n. ⌜ Indexed g floor (slotsOf (now (table .exit))) (now (xs .exit)) (now (ys .exit)) n ⌝ }
 {
     let at = crate::search::place_for(xs, ys, strengths, neighbours, table, g, floor, k, c);
     corner_list::put_corner(xs, ys, strengths, neighbours, at, c);
@@ -62,7 +65,8 @@ fn given_at(
     ns: &[u32],
     at: usize,
 ) -> Corner
-    ensures { λ r. ⌜ r ≡ cornerAt (given apart (slices (now (lx .entry)) (now (ly .entry)) (now (ls .entry)) (now (ln .entry)))
+    ensures { λ r. ⌜ r ≡ cornerAt (given apart
+        (slices (now (lx .entry)) (now (ly .entry)) (now (ls .entry)) (now (ln .entry)))
         (slices (now (xs .entry)) (now (ys .entry)) (now (ss .entry)) (now (ns .entry)))) at ⌝ }
 {
     if apart {
@@ -71,22 +75,23 @@ fn given_at(
     corner_list::corner_at(xs, ys, ss, ns, at)
 }
 
-// What `floor_at` is for the list.
+// The result of `floor_at` for the list.
 fn floor_of(
     lx: &[f32],
     ly: &[f32],
     apart: bool,
     xs: &[f32],
     ys: &[f32],
+    slots: usize,
     g: Grid,
     low: usize,
     i: usize,
     n: usize,
 ) -> usize {
     if apart {
-        return crate::index::floor_at(lx, ly, g, low, i, n);
+        return crate::index::floor_at(lx, ly, slots, g, low, i, n);
     }
-    crate::index::floor_at(xs, ys, g, low, i, n)
+    crate::index::floor_at(xs, ys, slots, g, low, i, n)
 }
 
 // Merges on from a step, with a table for the index: to the end of a list of n corners, or until `most` are kept.
@@ -100,7 +105,7 @@ fn merge_with(
     ys: &mut [f32],
     ss: &mut [f32],
     ns: &mut [u32],
-    table: &mut [u32],
+    table: &mut [f32],
     g: Grid,
     n: usize,
     s: Step,
@@ -109,7 +114,8 @@ fn merge_with(
     requires { ⌜ n ≤ placesOf (slices (now xs) (now ys) (now ss) (now ns)) ⌝ }
     requires { ⌜ 0 < length (now table) ⌝ }
     requires { ⌜ IsStep n s ⌝ }
-    ensures { λ r. ⌜ Reaches (joins g) apart (slices (now (lx .entry)) (now (ly .entry)) (now (ls .entry)) (now (ln .entry))) most n
+    ensures { λ r. ⌜ Reaches (joins g) apart
+        (slices (now (lx .entry)) (now (ly .entry)) (now (ls .entry)) (now (ln .entry))) most n
         (slices (now (xs .entry)) (now (ys .entry)) (now (ss .entry)) (now (ns .entry))) s
         (slices (now (xs .exit)) (now (ys .exit)) (now (ss .exit)) (now (ns .exit))) r ⌝ }
 {
@@ -122,12 +128,71 @@ fn merge_with(
         if most <= k {
             return Step { done: i, kept: k };
         }
-        low = floor_of(lx, ly, apart, xs, ys, g, low, i, n);
+        low = floor_of(lx, ly, apart, xs, ys, table.len(), g, low, i, n);
         floor = crate::index::refresh(xs, ys, table, g, floor, low, k, i);
         let c = given_at(lx, ly, ls, ln, apart, xs, ys, ss, ns, i);
         k = settle_corner(xs, ys, ss, ns, table, g, floor, k, c);
     }
     Step { done: n, kept: k }
+}
+
+// Whether a borrowed table has enough slots for a list of n corners: more than two for each, or as many as the largest
+// on the stack.
+fn is_enough(slots: usize, n: usize) -> bool
+    ensures { λ r. ⌜ (r ≡ true → 0 < slots) ⌝ }
+{
+    if n < slots / 2 { true } else { 131072 <= slots }
+}
+
+// How many of its slots are used: four for each corner and four more, or all.
+fn slots_for(slots: usize, n: usize) -> usize
+    requires { ⌜ 0 < slots ⌝ }
+    ensures { λ r. ⌜ (0 < r) × (r ≤ slots) ⌝ }
+{
+    if n < slots / 4 { n * 4 + 4 } else { slots }
+}
+
+// Merges a list of n corners with a borrowed table.
+fn merge_by(
+    lx: &[f32],
+    ly: &[f32],
+    ls: &[f32],
+    ln: &[u32],
+    apart: bool,
+    xs: &mut [f32],
+    ys: &mut [f32],
+    ss: &mut [f32],
+    ns: &mut [u32],
+    table: &mut [f32],
+    g: Grid,
+    n: usize,
+) -> Step
+    requires { ⌜ n ≤ placesOf (slices (now xs) (now ys) (now ss) (now ns)) ⌝ }
+    requires { ⌜ 0 < length (now table) ⌝ }
+    ensures { λ r. ⌜ Reaches (joins g) apart
+        (slices (now (lx .entry)) (now (ly .entry)) (now (ls .entry)) (now (ln .entry))) n n
+        (slices (now (xs .entry)) (now (ys .entry)) (now (ss .entry)) (now (ns .entry))) start
+        (slices (now (xs .exit)) (now (ys .exit)) (now (ss .exit)) (now (ns .exit))) r ⌝ }
+{
+    let s = Step { done: 0, kept: 0 };
+    let slots = slots_for(table.len(), n);
+    crate::index::clear(&mut table[..slots]);
+    merge_with(
+        lx,
+        ly,
+        ls,
+        ln,
+        apart,
+        xs,
+        ys,
+        ss,
+        ns,
+        &mut table[..slots],
+        g,
+        n,
+        s,
+        n,
+    )
 }
 
 // Merges with a table of 8 KB, until 512 corners are kept.
@@ -145,12 +210,13 @@ fn merge_few(
     n: usize,
 ) -> Step
     requires { ⌜ n ≤ placesOf (slices (now xs) (now ys) (now ss) (now ns)) ⌝ }
-    ensures { λ r. ⌜ Reaches (joins g) apart (slices (now (lx .entry)) (now (ly .entry)) (now (ls .entry)) (now (ln .entry))) 512 n
+    ensures { λ r. ⌜ Reaches (joins g) apart
+        (slices (now (lx .entry)) (now (ly .entry)) (now (ls .entry)) (now (ln .entry))) 512 n
         (slices (now (xs .entry)) (now (ys .entry)) (now (ss .entry)) (now (ns .entry))) start
         (slices (now (xs .exit)) (now (ys .exit)) (now (ss .exit)) (now (ns .exit))) r ⌝ }
 {
     let s = Step { done: 0, kept: 0 };
-    let mut t = [crate::index::EMPTY; 2048];
+    let mut t = [1.0; 2048];
     merge_with(lx, ly, ls, ln, apart, xs, ys, ss, ns, &mut t, g, n, s, 512)
 }
 
@@ -171,11 +237,12 @@ fn merge_more(
 ) -> Step
     requires { ⌜ n ≤ placesOf (slices (now xs) (now ys) (now ss) (now ns)) ⌝ }
     requires { ⌜ IsStep n s ⌝ }
-    ensures { λ r. ⌜ Reaches (joins g) apart (slices (now (lx .entry)) (now (ly .entry)) (now (ls .entry)) (now (ln .entry))) 8192 n
+    ensures { λ r. ⌜ Reaches (joins g) apart
+        (slices (now (lx .entry)) (now (ly .entry)) (now (ls .entry)) (now (ln .entry))) 8192 n
         (slices (now (xs .entry)) (now (ys .entry)) (now (ss .entry)) (now (ns .entry))) s
         (slices (now (xs .exit)) (now (ys .exit)) (now (ss .exit)) (now (ns .exit))) r ⌝ }
 {
-    let mut t = [crate::index::EMPTY; 32768];
+    let mut t = [1.0; 32768];
     merge_with(lx, ly, ls, ln, apart, xs, ys, ss, ns, &mut t, g, n, s, 8192)
 }
 
@@ -196,17 +263,19 @@ fn merge_most(
 ) -> Step
     requires { ⌜ n ≤ placesOf (slices (now xs) (now ys) (now ss) (now ns)) ⌝ }
     requires { ⌜ IsStep n s ⌝ }
-    ensures { λ r. ⌜ Reaches (joins g) apart (slices (now (lx .entry)) (now (ly .entry)) (now (ls .entry)) (now (ln .entry))) n n
+    ensures { λ r. ⌜ Reaches (joins g) apart
+        (slices (now (lx .entry)) (now (ly .entry)) (now (ls .entry)) (now (ln .entry))) n n
         (slices (now (xs .entry)) (now (ys .entry)) (now (ss .entry)) (now (ns .entry))) s
         (slices (now (xs .exit)) (now (ys .exit)) (now (ss .exit)) (now (ns .exit))) r ⌝ }
 {
-    let mut t = [crate::index::EMPTY; 131072];
+    let mut t = [1.0; 131072];
     merge_with(lx, ly, ls, ln, apart, xs, ys, ss, ns, &mut t, g, n, s, n)
 }
 
-// Merges to the end of a list of n corners, or until `most` are kept: with smaller tables first, as far as they go. A compiler does not put
-// a function with a table into one that calls itself: so a table takes stack only while it is used.
-pub(crate) fn merge_up_to(
+// Merges to the end of a list of n corners, or until `most` are kept: with smaller tables first, as far as they go.
+// Recursive only so that LLVM does not inline the functions with the tables: so a table takes stack only while it is
+// used.
+fn merge_up_to(
     lx: &[f32],
     ly: &[f32],
     ls: &[f32],
@@ -222,7 +291,8 @@ pub(crate) fn merge_up_to(
 ) -> Step
     requires { ⌜ n ≤ placesOf (slices (now xs) (now ys) (now ss) (now ns)) ⌝ }
     requires { ⌜ most ≤ n ⌝ }
-    ensures { λ r. ⌜ Reaches (joins g) apart (slices (now (lx .entry)) (now (ly .entry)) (now (ls .entry)) (now (ln .entry))) most n
+    ensures { λ r. ⌜ Reaches (joins g) apart
+        (slices (now (lx .entry)) (now (ly .entry)) (now (ls .entry)) (now (ln .entry))) most n
         (slices (now (xs .entry)) (now (ys .entry)) (now (ss .entry)) (now (ns .entry))) start
         (slices (now (xs .exit)) (now (ys .exit)) (now (ss .exit)) (now (ns .exit))) r ⌝ }
 {
@@ -237,4 +307,31 @@ pub(crate) fn merge_up_to(
         return merge_more(lx, ly, ls, ln, apart, xs, ys, ss, ns, g, n, s);
     }
     merge_most(lx, ly, ls, ln, apart, xs, ys, ss, ns, g, n, s)
+}
+
+// Merges a list of n corners: with the borrowed table, or with those on the stack.
+pub(crate) fn merge_all(
+    lx: &[f32],
+    ly: &[f32],
+    ls: &[f32],
+    ln: &[u32],
+    apart: bool,
+    xs: &mut [f32],
+    ys: &mut [f32],
+    ss: &mut [f32],
+    ns: &mut [u32],
+    table: &mut [f32],
+    g: Grid,
+    n: usize,
+) -> Step
+    requires { ⌜ n ≤ placesOf (slices (now xs) (now ys) (now ss) (now ns)) ⌝ }
+    ensures { λ r. ⌜ Reaches (joins g) apart
+        (slices (now (lx .entry)) (now (ly .entry)) (now (ls .entry)) (now (ln .entry))) n n
+        (slices (now (xs .entry)) (now (ys .entry)) (now (ss .entry)) (now (ns .entry))) start
+        (slices (now (xs .exit)) (now (ys .exit)) (now (ss .exit)) (now (ns .exit))) r ⌝ }
+{
+    if is_enough(table.len(), n) {
+        return merge_by(lx, ly, ls, ln, apart, xs, ys, ss, ns, table, g, n);
+    }
+    merge_up_to(lx, ly, ls, ln, apart, xs, ys, ss, ns, g, n, n)
 }

@@ -1,4 +1,5 @@
--- The answers and refusals of merging in one slice are those of merging in four that hold the same corners, if the scratch is long enough. Assumes nothing.
+-- The answers and refusals of merging in one slice are those of merging in four that hold the same corners, if the scratch is long enough.
+-- Assumes nothing.
 use Prim.Native.Nat.{ℕ, zero, suc, _<_, _≤_, min}
 use native.Mathlib.Omega.{arith}
 use mathlib.Core.Path.{_≡_, refl, sym, ap, _∙_}
@@ -31,7 +32,13 @@ columns-corners cs n h =
     corners-at (columns cs) n i nowhere k ∙ here i ∙ sym (getD-take n cs i nowhere k))
   where
     here : (i : ℕ) → cornerAt (columns cs) i ≡ getD cs i nowhere
-    here i = rw (List·getD-map xOf cs i nowhere, List·getD-map yOf cs i nowhere, List·getD-map strengthOf cs i nowhere, List·getD-map neighboursOf cs i nowhere)
+    here i =
+        rw (
+          List·getD-map xOf cs i nowhere,
+          List·getD-map yOf cs i nowhere,
+          List·getD-map strengthOf cs i nowhere,
+          List·getD-map neighboursOf cs i nowhere,
+        )
 
 columns-front : (us cs : List Corner) → frontCorners us (columns cs) ≡ columns (front us cs)
 columns-front us cs = slices-alike (map-front xOf us cs) (map-front yOf us cs) (map-front strengthOf us cs) (map-front neighboursOf us cs)
@@ -68,7 +75,8 @@ module _ (radius : Float) (count : ℕ) (cs : List Corner) where
   -- where nothing is refused, the first corners of the slice
   same-result : number ≡ 0 → left ≡ left-four
   same-result e =
-      ap (resultOf radius) (sym (columns-corners cs count (omega (arith, columns-places cs, judged-fits radius (placesOf (columns cs)) count (columns cs) e))))
+      ap (resultOf radius) (sym (columns-corners cs count
+      (omega (arith, columns-places cs, judged-fits radius (placesOf (columns cs)) count (columns cs) e))))
 
   same-answer : (k : ℕ) → number ≡ k → unless Refused k (Kept (length left)) ≡ unless Refused k (Kept (length left-four))
   same-answer zero e = ap (λ (l : List Corner). unless Refused 0 (Kept (length l))) (same-result e)
@@ -78,12 +86,14 @@ module _ (radius : Float) (count : ℕ) (cs : List Corner) where
   same-values zero e = ap (λ (l : List Corner). length l ∷ []) (same-result e)
   same-values (suc k) e = refl
 
-  same-buffer : (k : ℕ) → number ≡ k → columns (resultOr k (front left cs) cs) ≡ resultOr k (frontCorners left-four (columns cs)) (columns cs)
+  same-buffer : (k : ℕ) → number ≡ k
+      → columns (resultOr k (front left cs) cs) ≡ resultOr k (frontCorners left-four (columns cs)) (columns cs)
   same-buffer zero e = sym (columns-front left cs) ∙ ap (λ (l : List Corner). frontCorners l (columns cs)) (same-result e)
   same-buffer (suc k) e = refl
 
   pub as-core : (scratch scratch′ : Slices) (answer : Merged) (cs′ : List Corner) → length cs ≤ placesOf scratch
-      → MergesSlice radius count cs scratch answer cs′ scratch′ → Merges radius (placesOf (columns cs)) count (columns cs) answer (columns cs′)
+      → MergesSlice radius count cs scratch answer cs′ scratch′
+      → Merges radius (placesOf (columns cs)) count (columns cs) answer (columns cs′)
   as-core scratch scratch′ answer cs′ h m =
       let same = same-number scratch h in record {
         answer = m .answer ∙ ap (λ (k : ℕ). unless Refused k (Kept (length left))) same ∙ same-answer number refl;

@@ -1,5 +1,5 @@
--- Merging in one slice is merging in four: exchanged, merged and exchanged again, the corners are what the core leaves of them, and the scratch is as it
--- was. Number 4 is judged of all that are counted, before the core's number. Assumes nothing.
+-- Merging in one slice is merging in four: exchanged, merged and exchanged again, the corners are what the core leaves of them, and the
+-- scratch is as it was. Number 4 is judged of all that are counted, before the core's number. Assumes nothing.
 use Prim.Native.Nat.{ℕ, zero, suc, _≤_, min}
 use native.Mathlib.Decide.{decLt}
 use native.Mathlib.Omega.{arith}
@@ -33,8 +33,10 @@ use Rattle.merge_slice.specs.MergeSlice.{sharedPlaces, refusalFor, Merge
 use Rattle.lists.specs.Refusals.{unless, resultOr}
 
 -- ---- corners over more of them that stand first
-corners-over : (us cs : List Corner) (b : Slices) → length us ≤ length cs → frontCorners us (frontCorners cs b) ≡ frontCorners (front us cs) b
-corners-over us cs b h = slices-alike (over xOf (b .xs)) (over yOf (b .ys)) (over strengthOf (b .strengths)) (over neighboursOf (b .neighbours))
+corners-over : (us cs : List Corner) (b : Slices) → length us ≤ length cs
+    → frontCorners us (frontCorners cs b) ≡ frontCorners (front us cs) b
+corners-over us cs b h =
+    slices-alike (over xOf (b .xs)) (over yOf (b .ys)) (over strengthOf (b .strengths)) (over neighboursOf (b .neighbours))
   where
     over : {A : Type 0} (g : Corner → A) (d : List A) → front (map g us) (front (map g cs) d) ≡ front (map g (front us cs)) d
     over {A} g d =
@@ -117,7 +119,8 @@ module _ (radius : Float) (count : ℕ) (cs : List Corner) (scratch : Slices) (n
 
   inside-places : placesOf inside ≡ placesOf scratch
   inside-places =
-      same-places inside scratch (front-xs (take n cs) scratch n (sym taken) in-scratch) (front-ys (take n cs) scratch n (sym taken) in-scratch)
+      same-places inside scratch (front-xs (take n cs) scratch n (sym taken) in-scratch)
+      (front-ys (take n cs) scratch n (sym taken) in-scratch)
       (front-strengths (take n cs) scratch n (sym taken) in-scratch) (front-neighbours (take n cs) scratch n (sym taken) in-scratch)
 
   -- the core judges the corners in the scratch
@@ -130,14 +133,16 @@ module _ (radius : Float) (count : ℕ) (cs : List Corner) (scratch : Slices) (n
   same-number true e = rw e
   same-number false e =
       let fewer = any-first isOutside n count cs (omega arith) in
-      let none : refused (take n cs) ≡ false = and-fewer (not (isOff radius)) (any isOutside (take count cs)) (any isOutside (take n cs)) fewer e in
+      let none : refused (take n cs) ≡ false = and-fewer (not (isOff radius)) (any isOutside (take count cs))
+      (any isOutside (take n cs)) fewer e in
       rw (seen, none, few-test count (sharedPlaces cs scratch) n is, e)
 
   -- the core lets through only what it has seen whole
   core-seen : core ≡ 0 → outside ≡ false
   unfolding refusalOf
   core-seen e =
-      let seen-inside = lowest-none (refused (cornersOf inside (min count n))) 4 ((radiusOutside radius, 5) ∷ (ltb n count, 10) ∷ []) (omega arith) e .0 in
+      let seen-inside = lowest-none (refused (cornersOf inside (min count n))) 4
+      ((radiusOutside radius, 5) ∷ (ltb n count, 10) ∷ []) (omega arith) e .0 in
       let fits = judged-fits radius n count inside e in
       subst (λ (k : ℕ). refused (take k cs) ≡ false) (few-fit count n n (omega arith) fits) (ap refused (sym seen) ∙ seen-inside)
 
@@ -178,17 +183,21 @@ module _ (radius : Float) (count : ℕ) (cs : List Corner) (scratch : Slices) (n
   same-answer (suc k) e = refl
 
   same-buffer : (k : ℕ) → number ≡ k → resultOr k (frontCorners core-left inside) inside ≡ frontCorners (after k) scratch
-  same-buffer zero e = ap (λ (l : List Corner). frontCorners (resultOf radius l) inside) (same-corners e) ∙ corners-over left (take n cs) scratch (left-fits e)
+  same-buffer zero e =
+      ap (λ (l : List Corner). frontCorners (resultOf radius l) inside) (same-corners e)
+      ∙ corners-over left (take n cs) scratch (left-fits e)
   same-buffer (suc k) e = refl
 
   -- and by whether 4 comes first
-  answer-judged : (t : Bool) → outside ≡ t → cond t (Refused 4) (unless Refused core (Kept (length core-left))) ≡ unless Refused number (Kept (length left))
+  answer-judged : (t : Bool) → outside ≡ t
+      → cond t (Refused 4) (unless Refused core (Kept (length core-left))) ≡ unless Refused number (Kept (length left))
   answer-judged true e = ap (λ (k : ℕ). unless Refused k (Kept (length left))) (same-number true e)
   answer-judged false e = ap (λ (k : ℕ). unless Refused k (Kept (length core-left))) (same-number false e) ∙ same-answer number refl
 
   buffer-judged : (t : Bool) → outside ≡ t → resultOr core (frontCorners core-left inside) inside ≡ frontCorners (after number) scratch
   buffer-judged true e =
-      untouched core core-left inside (λ z. true≢false (sym e ∙ core-seen z)) ∙ ap (λ (k : ℕ). frontCorners (after k) scratch) (same-number true e)
+      untouched core core-left inside (λ z. true≢false (sym e ∙ core-seen z))
+      ∙ ap (λ (k : ℕ). frontCorners (after k) scratch) (same-number true e)
   buffer-judged false e = ap (λ (k : ℕ). resultOr k (frontCorners core-left inside) inside) (same-number false e) ∙ same-buffer number refl
 
   -- judged, exchanged, merged, and exchanged again
@@ -209,11 +218,13 @@ module _ (radius : Float) (count : ℕ) (cs : List Corner) (scratch : Slices) (n
     where
       own : Merges radius n count inside core-answer b₂
       own =
-          subst (λ (k : ℕ). Merges radius k count inside core-answer b₂) (few count (length cs) (placesOf scratch) (placesOf inside) n is inside-places)
+          subst (λ (k : ℕ). Merges radius k count inside core-answer b₂)
+          (few count (length cs) (placesOf scratch) (placesOf inside) n is inside-places)
           (subst (λ (b : Slices). Merges radius (min n (placesOf b)) count b core-answer b₂) (e .1) m)
 
       answered : r ≡ unless Refused number (Kept (length left))
-      answered = g ∙ ap₂ (λ (t : Bool) (a : Merged). cond (not (isOff radius) && t) (Refused 4) a) d (own .answer) ∙ answer-judged outside refl
+      answered =
+          g ∙ ap₂ (λ (t : Bool) (a : Merged). cond (not (isOff radius) && t) (Refused 4) a) d (own .answer) ∙ answer-judged outside refl
 
       buffer : b₂ ≡ frontCorners (after number) scratch
       buffer = own .buffer ∙ buffer-judged outside refl

@@ -1,5 +1,5 @@
--- Laws of the two loops over a slice of corners. The exchange: after the first i places each list is as long as it was, its place i is as it was, and one turn
--- is one place more. The judging: one turn is one corner more. Assumes nothing.
+-- Laws of the two loops over a slice of corners. The exchange: after the first i places each list is as long as it was, its place i is as
+-- it was, and one turn is one place more. The judging: one turn is one corner more. Assumes nothing.
 use Prim.Native.Nat.{ℕ, _+_, _<_, _≤_, min}
 use native.Mathlib.Numerals.{add-one}
 use native.Mathlib.Omega.{arith}
@@ -33,9 +33,11 @@ module _ (cs : List Corner) (b : Slices) (i : ℕ) where
   pub corners-ahead : getD (cornersUpto cs b i) i nowhere ≡ getD cs i nowhere
   corners-ahead = front-behind (cornersOf b i) cs i nowhere (omega (arith, corners-length b i))
 
-  pub corners-turn : i < length cs → i ≤ length cs → set (cornersUpto cs b i) i (cornerAt (frontCorners (take i cs) b) i) ≡ cornersUpto cs b (i + 1)
+  pub corners-turn : i < length cs → i ≤ length cs
+      → set (cornersUpto cs b i) i (cornerAt (frontCorners (take i cs) b) i) ≡ cornersUpto cs b (i + 1)
   corners-turn l h =
-      ap (set (cornersUpto cs b i) i) (corners-behind (take i cs) b i (omega (arith, length-take-le i cs h))) ∙ front-tab (cornerAt b) cs i l
+      ap (set (cornersUpto cs b i) i) (corners-behind (take i cs) b i (omega (arith, length-take-le i cs h)))
+      ∙ front-tab (cornerAt b) cs i l
 
 -- ---- a slice of the buffer after i places; g is the field that it takes
 abbrev pub fieldsUpto : {A : Type 0} → (Corner → A) → List Corner → List A → ℕ → List A

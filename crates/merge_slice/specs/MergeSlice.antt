@@ -14,20 +14,22 @@ use Rattle.merge.specs.Merge.{resultOf, numberOf, valuesOf}
 use Rattle.merge.specs.declared.Merged.the-variants.{Kept, Refused}
 use Rattle.merge_refusal.specs.Refusals.{conditions}
 
--- how many corners there is a place for: in the slice of corners and in each of the scratch
+-- for how many corners there is a place in the slice of corners and in each scratch slice
 abbrev pub sharedPlaces : List Corner → Slices → ℕ
 sharedPlaces cs scratch = min (length cs) (placesOf scratch)
 
--- the number (RULES 8.6), 0 for none, of merging the first `count` corners of a slice: 4 of the counted corners that the slice has; 10 where it, or
--- the scratch, has fewer places than the stated count
+-- the number (RULES 8.6), 0 for none, for merging the first `count` corners of a slice: 4 is checked for the counted
+-- corners that the slice has; 10 is given if the slice or the scratch has fewer places than the stated count
 unfoldable pub refusalFor : Float → ℕ → List Corner → Slices → ℕ
 refusalFor radius count cs scratch = lowest (conditions radius (take count cs) (ltb (sharedPlaces cs scratch) count))
 
--- What merging the first `count` corners of a slice promises of the answer, its number and values, of the corners after, what is left first and behind
--- it as it was, or as they were, and of the scratch after
-pub record MergesSlice (radius : Float) (count : ℕ) (cs : List Corner) (scratch : Slices) (r : Merged) (cs′ : List Corner) (scratch′ : Slices) : Type 0 where
+-- What merging the first `count` corners of a slice promises about the answer, its number and values; about the corners
+-- after, what is left at the start and the rest unchanged, or all unchanged if refused; and about the scratch after
+pub record MergesSlice (radius : Float) (count : ℕ) (cs : List Corner) (scratch : Slices) (r : Merged)
+    (cs′ : List Corner) (scratch′ : Slices) : Type 0 where
   pub answer : r ≡ unless Refused (refusalFor radius count cs scratch) (Kept (length (resultOf radius (take count cs))))
   pub number : numberOf r ≡ refusalFor radius count cs scratch
-  pub values : valuesOf r ≡ valuesUnless (refusalFor radius count cs scratch) (length (resultOf radius (take count cs)) ∷ [])
+  pub values : valuesOf r ≡ valuesUnless (refusalFor radius count cs scratch)
+      (length (resultOf radius (take count cs)) ∷ [])
   pub corners : cs′ ≡ resultOr (refusalFor radius count cs scratch) (front (resultOf radius (take count cs)) cs) cs
   pub given-back : scratch′ ≡ scratch

@@ -1,5 +1,5 @@
-// Merging corners that lie in one slice. The core works on four slices, one for each field, so the corners change places with the elements of
-// four borrowed slices, are merged there, and change places again.
+// Merging corners that lie in one slice. The core works on four slices, one for each field. So the corners are swapped
+// with the elements of four borrowed slices, merged there, and swapped back.
 ghost use mathlib.Core.Path.{_≡_};
 ghost use mathlib.Core.Bool.{cond, not, _&&_, _||_};
 ghost use Prim.Native.Nat.{_≤_, min};
@@ -31,7 +31,7 @@ fn shared_places(
     )
 }
 
-// Whether a corner is outside, or one before it was.
+// Whether this corner or one before it is outside.
 fn either_outside(before: bool, c: Corner) -> bool
     ensures { λ r. ⌜ r ≡ (before || isOutside c) ⌝ }
 {
@@ -41,7 +41,7 @@ fn either_outside(before: bool, c: Corner) -> bool
     !corner_list::is_inside(c)
 }
 
-// Whether one of the first `count` corners of a slice is outside, of those that it has.
+// Whether one of the first `count` corners of a slice is outside; those past its end do not count.
 fn has_outside(corners: &[Corner], count: usize) -> bool
     ensures { λ r. ⌜ r ≡ any isOutside (take count (now (corners .entry))) ⌝ }
 {
@@ -52,7 +52,7 @@ fn has_outside(corners: &[Corner], count: usize) -> bool
     outside
 }
 
-// The first n corners and the first n places of a buffer change places.
+// Swaps the first n corners with the first n places of a buffer.
 fn exchange(
     corners: &mut [Corner],
     xs: &mut [f32],
@@ -61,9 +61,11 @@ fn exchange(
     neighbours: &mut [u32],
     n: usize,
 )
-    requires { ⌜ (n ≤ length (now corners)) × (n ≤ placesOf (slices (now xs) (now ys) (now strengths) (now neighbours))) ⌝ }
+    requires { ⌜ (n ≤ length (now corners))
+        × (n ≤ placesOf (slices (now xs) (now ys) (now strengths) (now neighbours))) ⌝ }
     ensures { λ _. ⌜ (now (corners .exit)
-        ≡ front (cornersOf (slices (now (xs .entry)) (now (ys .entry)) (now (strengths .entry)) (now (neighbours .entry))) n) (now (corners .entry)))
+        ≡ front (cornersOf (slices (now (xs .entry)) (now (ys .entry)) (now (strengths .entry))
+        (now (neighbours .entry))) n) (now (corners .entry)))
         × (slices (now (xs .exit)) (now (ys .exit)) (now (strengths .exit)) (now (neighbours .exit))
         ≡ frontCorners (take n (now (corners .entry)))
         (slices (now (xs .entry)) (now (ys .entry)) (now (strengths .entry)) (now (neighbours .entry)))) ⌝ }
@@ -83,7 +85,8 @@ fn exchange(
     }
 }
 
-// The core's answer, or 4 where a counted corner is outside: the core sees only the corners for which the scratch has a place.
+// The core's answer, or 4 if a counted corner is outside: the core gets only the corners for which the scratch slices
+// have a place.
 fn judged(outside: bool, radius: f32, answer: Merged) -> Merged
     ensures { λ r. ⌜ r ≡ cond (not (isOff radius) && outside) (Refused 4) answer ⌝ }
 {
@@ -96,8 +99,8 @@ fn judged(outside: bool, radius: f32, answer: Merged) -> Merged
     answer
 }
 
-// Merges the first `count` corners of a slice in place, as `merge_corners_simple` does for four slices. The other slices are scratch: they
-// have what they held again at the end.
+// Merges the first `count` corners of a slice in place, as `merge_corners_simple` does for four slices. The other
+// slices are scratch space: at the end they hold what they held before.
 pub fn merge_corner_slice(
     corners: &mut [Corner],
     xs: &mut [f32],
@@ -109,7 +112,8 @@ pub fn merge_corner_slice(
 ) -> Merged
     ensures { λ r. ⌜ MergesSlice radius count (now (corners .entry))
         (slices (now (xs .entry)) (now (ys .entry)) (now (strengths .entry)) (now (neighbours .entry)))
-        r (now (corners .exit)) (slices (now (xs .exit)) (now (ys .exit)) (now (strengths .exit)) (now (neighbours .exit))) ⌝ }
+        r (now (corners .exit)) (slices (now (xs .exit)) (now (ys .exit)) (now (strengths .exit))
+        (now (neighbours .exit))) ⌝ }
 {
     let outside = has_outside(corners, count);
     let n = shared_places(

@@ -33,11 +33,23 @@ module _ (b r side c : ℕ) where
   module _ (low high : ℕ) (p : low ≡ lowEnd b r c) (q : high ≡ highEnd b r side c) (h : b + 1 ≤ c) (k : c + (b + 1) < side) where
     pub narrow : high - low ≤ 2 * b → Nothing ≡ spanAbout b r side c
     unfolding spanAbout
-    narrow n = rw (le-ltb c (b + 1) h, lt-leb (side - (b + 1)) c (omega arith), le-leb (highEnd b r side c - lowEnd b r c) (2 * b) (rw (p, q) at n))
+    narrow n =
+        rw (
+          le-ltb c (b + 1) h,
+          lt-leb (side - (b + 1)) c (omega arith),
+          le-leb (highEnd b r side c - lowEnd b r c) (2 * b) (rw (p, q) at n),
+        )
 
     pub wide : 2 * b < high - low → Ends low high ≡ spanAbout b r side c
     unfolding spanAbout
-    wide n = rw (p, q, le-ltb c (b + 1) h, lt-leb (side - (b + 1)) c (omega arith), lt-leb (highEnd b r side c - lowEnd b r c) (2 * b) (rw (p, q) at n))
+    wide n =
+        rw (
+          p,
+          q,
+          le-ltb c (b + 1) h,
+          lt-leb (side - (b + 1)) c (omega arith),
+          lt-leb (highEnd b r side c - lowEnd b r c) (2 * b) (rw (p, q) at n),
+        )
 
 -- ---- where the ends lie: between the borders, and more than two borders apart
 pub record Between (b side low high : ℕ) : Type 0 where
@@ -47,7 +59,8 @@ pub record Between (b side low high : ℕ) : Type 0 where
 
 pub ends-between : (b r side c low high : ℕ) → spanAbout b r side c ≡ Ends low high → Between b side low high
 unfolding spanAbout
-ends-between b r side c low high e = go (ltb c (b + 1)) (leb (side - (b + 1)) c) (leb (highEnd b r side c - lowEnd b r c) (2 * b)) refl refl refl e
+ends-between b r side c low high e =
+    go (ltb c (b + 1)) (leb (side - (b + 1)) c) (leb (highEnd b r side c - lowEnd b r c) (2 * b)) refl refl refl e
   where
     go : (p q s : Bool) → ltb c (b + 1) ≡ p → leb (side - (b + 1)) c ≡ q → leb (highEnd b r side c - lowEnd b r c) (2 * b) ≡ s
         → cond (p || (q || s)) Nothing (Ends (lowEnd b r c) (highEnd b r side c)) ≡ Ends low high → Between b side low high
@@ -95,6 +108,7 @@ module _ (c : RoiContext) (side : ℕ) (x : Float) (n : ℕ) (e : n ≡ 2 ^ c .l
       go (Negative p) h = refl
       go Beyond h = refl
 
-  pub about-centre : (p r b : ℕ) (s : Span) → o ≡ Natural p → r ≡ roiRadius c → b ≡ border c → s ≡ spanAbout b r side p → s ≡ spanOn c side x
+  pub about-centre : (p r b : ℕ) (s : Span) → o ≡ Natural p → r ≡ roiRadius c → b ≡ border c → s ≡ spanAbout b r side p
+      → s ≡ spanOn c side x
   unfolding spanOn
   about-centre p r b s k i j q = rw (← centred, k, ← i, ← j) q

@@ -1,4 +1,5 @@
--- Contexts: what the tests say of the table of refusals, what holds of a context that is not refused, and that a sound one never is. Assumes nothing.
+-- Contexts: what the tests say of the table of refusals, what holds of a context that is not refused, and that a sound one never is.
+-- Assumes nothing.
 use mathlib.Core.Path.{_≡_, sym, _∙_}
 use mathlib.Core.Bool.{true, false}
 use Prim.Native.Nat.{_*_, _%_, _^_, _≤_}
@@ -7,6 +8,7 @@ use native.Mathlib.Omega.{arith}
 use lib.Dec.{T, leb, lit<, le→leb}
 use lib.Pow.{pow-mono, shl-exact}
 use borrow.Author.Tests.{le-ltb, le-leb, leb-true, not-false}
+use Rattle.lists.specs.Limits.{largestSide, largestRadius, largestSearch, lastLevel, largestBorder}
 use Rattle.lists.specs.Refusals.{isLarge}
 use Rattle.lists.proofs.Tests.{and-parts}
 use Rattle.lists.proofs.Refusals.{all-clear, sides-small}
@@ -19,13 +21,13 @@ use Rattle.multiscale.specs.Internal.{SoundContext}
 
 -- ---- the sizes of a sound context are small
 module _ (c : RoiContext) (s : SoundContext c) where
-  pub border-small : border c ≤ 42
+  pub border-small : border c ≤ largestBorder
   border-small = omega (arith, ring-small (c .ring) (ring-fits (c .ring) (s .ring)), s .window, s .«centroid_radius»)
 
-  search-small : c .«search_radius» * 2 ^ c .level ≤ 255 * 4096
-  search-small = mul-le-mul (s .«search_radius») (pow-mono {j = 12} (s .level))
+  search-small : c .«search_radius» * 2 ^ c .level ≤ largestSearch * largestSide
+  search-small = mul-le-mul (s .«search_radius») (pow-mono {j = lastLevel} (s .level))
 
-  pub radius-small : roiRadius c ≤ 2000000
+  pub radius-small : roiRadius c ≤ largestSearch * largestSide
   unfolding roiRadius
   radius-small = omega (arith, search-small, border-small)
 
@@ -44,10 +46,10 @@ module _ (c : RoiContext) (s : SoundContext c) where
   unfolding parametersFit
   sound-fits =
       rw (
-        le-leb (c .window) 16 (s .window),
-        le-leb (c .«centroid_radius») 16 (s .«centroid_radius»),
-        le-leb (c .«search_radius») 255 (s .«search_radius»),
-        le-leb (c .level) 12 (s .level),
+        le-leb (c .window) largestRadius (s .window),
+        le-leb (c .«centroid_radius») largestRadius (s .«centroid_radius»),
+        le-leb (c .«search_radius») largestSearch (s .«search_radius»),
+        le-leb (c .level) lastLevel (s .level),
       ) (ring-fits (c .ring) (s .ring))
 
 -- ---- the table, by the tests
@@ -75,18 +77,18 @@ module _ (c : RoiContext) (s : Corner) where
   sound e =
       let clear = all-clear (conditions c s) (lit< tt, (lit< tt, (lit< tt, tt))) e in
       let sides = sides-small (c .width) (c .height) (clear .0) in
-      let p = and-parts (leb (c .window) 16) _ (not-false (parametersFit c) (clear .1 .0)) in
-      let q = and-parts (leb (c .«centroid_radius») 16) _ (p .1) in
-      let r = and-parts (leb (c .«search_radius») 255) _ (q .1) in
-      let t = and-parts (leb (c .level) 12) _ (r .1) in
+      let p = and-parts (leb (c .window) largestRadius) _ (not-false (parametersFit c) (clear .1 .0)) in
+      let q = and-parts (leb (c .«centroid_radius») largestRadius) _ (p .1) in
+      let r = and-parts (leb (c .«search_radius») largestSearch) _ (q .1) in
+      let t = and-parts (leb (c .level) lastLevel) _ (r .1) in
       record {
         width = sides .0;
         height = sides .1;
         ring = ring-is (c .ring) (t .1);
-        window = leb-true (c .window) 16 (p .0);
-        «centroid_radius» = leb-true (c .«centroid_radius») 16 (q .0);
-        «search_radius» = leb-true (c .«search_radius») 255 (r .0);
-        level = leb-true (c .level) 12 (t .0);
+        window = leb-true (c .window) largestRadius (p .0);
+        «centroid_radius» = leb-true (c .«centroid_radius») largestRadius (q .0);
+        «search_radius» = leb-true (c .«search_radius») largestSearch (r .0);
+        level = leb-true (c .level) lastLevel (t .0);
       }
 
   -- a sound context refuses no seed that is inside

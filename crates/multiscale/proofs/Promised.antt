@@ -25,7 +25,8 @@ module _ (c : RoiContext) (s : Corner) where
       go zero = bounds-number (spanOn c (c .width) (s .x)) (spanOn c (c .height) (s .y))
       go (suc k) = refl
 
-  values-are : valuesOf (roiOf c s) ≡ valuesUnless (refusalOf c s) (valuesOf (bounds (spanOn c (c .width) (s .x)) (spanOn c (c .height) (s .y))))
+  values-are : valuesOf (roiOf c s) ≡ valuesUnless (refusalOf c s)
+      (valuesOf (bounds (spanOn c (c .width) (s .x)) (spanOn c (c .height) (s .y))))
   unfolding roiOf
   values-are = go (refusalOf c s)
     where

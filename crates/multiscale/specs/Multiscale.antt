@@ -1,9 +1,11 @@
--- The box of the base image in which a seed of a coarser level is looked for again (`RoiContext::compute_roi` and `make_roi_context`).
+-- The box of the base image in which a seed of a coarser level is looked for again (`RoiContext::compute_roi` and
+-- `make_roi_context`).
 use Prim.Native.Nat.{ℕ, _+_, _-_, _*_, _^_, min, max}
 use mathlib.Core.Bool.{Bool, cond, not, _&&_, _||_}
 use mathlib.Core.List.{List, [], _∷_}
 use lib.Dec.{leb, ltb}
 use lib.Ieee.{Float, binary32, mul}
+use Rattle.lists.specs.Limits.{largestRadius, largestSearch, lastLevel}
 use Rattle.lists.specs.Refusals.{unless, lowest, isLarge}
 use Rattle.float32.specs.Float32.{roundHalfAway, floatOf}
 use Rattle.float32.specs.declared.Rounded.{Rounded}
@@ -18,9 +20,11 @@ use Rattle.multiscale.specs.declared.Span.{Span}
 use Rattle.multiscale.specs.declared.Span.the-variants.{Ends, Nothing}
 
 -- ---- refusals
--- window and centroid radius at most 16, search radius at most 255, level at most 12, and a ring of 5 or 10
+-- window, centroid and search radius at most the largest, a level up to the last, and a ring of 5 or 10
 unfoldable pub parametersFit : RoiContext → Bool
-parametersFit c = leb (c .window) 16 && (leb (c .«centroid_radius») 16 && (leb (c .«search_radius») 255 && (leb (c .level) 12 && isRing (c .ring))))
+parametersFit c =
+    leb (c .window) largestRadius && (leb (c .«centroid_radius») largestRadius
+    && (leb (c .«search_radius») largestSearch && (leb (c .level) lastLevel && isRing (c .ring))))
 
 -- the conditions and their numbers
 abbrev pub conditions : RoiContext → Corner → List (Bool × ℕ)
@@ -50,17 +54,18 @@ unfoldable pub centreOf : ℕ → Float → Rounded
 unfolding roundHalfAway
 centreOf level x = roundHalfAway (mul binary32 x (floatOf (2 ^ level)))
 
--- r pixels both ways of a centre c, clipped to the border b
+-- r pixels both ways from a centre c, clipped to the border b
 abbrev pub lowEnd : ℕ → ℕ → ℕ → ℕ
 lowEnd b r c = max b (c - r)
 
 abbrev pub highEnd : ℕ → ℕ → ℕ → ℕ → ℕ
 highEnd b r side c = min (c + r + 1) (side - b)
 
--- nothing about a centre below the border and one pixel more, or not below the side less as much; and nothing that is at most as wide as two borders
+-- none if centre < border + 1, centre ≥ side − (border + 1), or the span is at most 2·border wide
 unfoldable pub spanAbout : ℕ → ℕ → ℕ → ℕ → Span
 spanAbout b r side c =
-    cond (ltb c (b + 1) || (leb (side - (b + 1)) c || leb (highEnd b r side c - lowEnd b r c) (2 * b))) Nothing (Ends (lowEnd b r c) (highEnd b r side c))
+    cond (ltb c (b + 1) || (leb (side - (b + 1)) c || leb (highEnd b r side c - lowEnd b r c) (2 * b)))
+    Nothing (Ends (lowEnd b r c) (highEnd b r side c))
 
 abbrev pub spanAt : ℕ → ℕ → ℕ → Rounded → Span
 spanAt b r side (Natural c) = spanAbout b r side c
@@ -81,7 +86,8 @@ unfoldable pub roiOf : RoiContext → Corner → RoiAnswer
 unfolding refusalOf spanOn
 roiOf c s = unless Refused (refusalOf c s) (bounds (spanOn c (c .width) (s .x)) (spanOn c (c .height) (s .y)))
 
--- ---- the number and the values of each case (RULES 7.3): 0 for no refusal, and the box's ends, none where there is no box
+-- ---- the number and the values of each case (RULES 7.3): 0 for no refusal, and the box's ends, none if there is no
+-- box
 abbrev pub numberOf : RoiAnswer → ℕ
 numberOf (Bounds x0 y0 x1 y1) = 0
 numberOf NoRoi = 0

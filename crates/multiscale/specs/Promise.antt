@@ -9,4 +9,5 @@ use Rattle.multiscale.specs.Multiscale.{refusalOf, spanOn, bounds, roiOf
 pub record Boxed (c : RoiContext) (s : Corner) (a : RoiAnswer) : Type 0 where
   pub answer : a ≡ roiOf c s
   pub number : numberOf a ≡ refusalOf c s
-  pub values : valuesOf a ≡ valuesUnless (refusalOf c s) (valuesOf (bounds (spanOn c (c .width) (s .x)) (spanOn c (c .height) (s .y))))
+  pub values : valuesOf a ≡ valuesUnless (refusalOf c s)
+      (valuesOf (bounds (spanOn c (c .width) (s .x)) (spanOn c (c .height) (s .y))))

@@ -1,7 +1,10 @@
-// The box of the base image in which a corner of a coarser level, the seed, is looked for again: its region of interest (ROI).
+// The box of the base image in which a corner of a coarser level, the seed, is looked for again: its region of interest
+// (ROI).
 ghost use mathlib.Core.Path.{_≡_};
-ghost use Prim.Native.Nat.{_≤_};
-ghost use Rattle.multiscale.specs.Multiscale.{parametersFit, refusalOf, border as borderOf, roiRadius, spanAbout, spanOn};
+ghost use Prim.Native.Nat.{_*_, _≤_};
+ghost use Rattle.lists.specs.Limits.{largestSearch, largestSide, largestBorder};
+ghost use Rattle.multiscale.specs.Multiscale.{parametersFit, refusalOf, border as borderOf, roiRadius, spanAbout};
+ghost use Rattle.multiscale.specs.Multiscale.{spanOn};
 ghost use Rattle.multiscale.specs.Promise.{Boxed};
 ghost use Rattle.multiscale.specs.Internal.{SoundContext};
 use corner_list::Corner;
@@ -30,9 +33,9 @@ enum Span {
     Nothing,
 }
 
-// The box about a centre on one axis: r pixels both ways, clipped to the border b.
+// The box around a centre on one axis: r pixels both ways, clipped to the border b.
 fn span_about(c: usize, r: usize, b: usize, side: usize) -> Span
-    requires { ⌜ (r ≤ 2000000) × (b ≤ 42) × (side ≤ 4096) ⌝ }
+    requires { ⌜ (r ≤ largestSearch * largestSide) × (b ≤ largestBorder) × (side ≤ largestSide) ⌝ }
     ensures { λ s. ⌜ s ≡ spanAbout b r side c ⌝ }
 {
     if c < b + 1 {
@@ -60,16 +63,16 @@ impl RoiContext {
     fn parameters_fit(self) -> bool
         ensures { λ r. ⌜ r ≡ parametersFit self ⌝ }
     {
-        if 16 < self.window {
+        if lists::LARGEST_RADIUS < self.window {
             return false;
         }
-        if 16 < self.centroid_radius {
+        if lists::LARGEST_RADIUS < self.centroid_radius {
             return false;
         }
-        if 255 < self.search_radius {
+        if lists::LARGEST_SEARCH < self.search_radius {
             return false;
         }
-        if 12 < self.level {
+        if lists::LAST_LEVEL < self.level {
             return false;
         }
         ring::is_ring(self.ring)
@@ -98,7 +101,7 @@ impl RoiContext {
         (self.ring + self.window + self.centroid_radius) as usize
     }
 
-    // The box's radius about its centre.
+    // The box's radius around its centre.
     fn roi_radius(self) -> usize
         requires { ⌜ SoundContext self ⌝ }
         ensures { λ r. ⌜ r ≡ roiRadius self ⌝ }
@@ -110,7 +113,7 @@ impl RoiContext {
 
     // The box's ends on the axis of a side, for a seed's coordinate.
     fn span_on(self, side: usize, x: f32) -> Span
-        requires { ⌜ SoundContext self × (side ≤ 4096) ⌝ }
+        requires { ⌜ SoundContext self × (side ≤ largestSide) ⌝ }
         ensures { λ s. ⌜ s ≡ spanOn self side x ⌝ }
     {
         let scale = (1u32 << self.level) as f32;

@@ -16,7 +16,7 @@ pub fn greater(a: usize, b: usize) -> usize
     if a < b { b } else { a }
 }
 
-// a - b, and 0 where that is negative.
+// a - b, or 0 if that is negative.
 pub fn minus(a: usize, b: usize) -> usize
     ensures { λ r. ⌜ r ≡ a - b ⌝ }
 {

@@ -1,4 +1,5 @@
--- The centroid accepts each peak of a map, by either choice: its cell is above 0, and lies the centroid's radius and more from the edges. Assumes nothing.
+-- The centroid accepts each peak of a map, by either choice: its cell is above 0, and lies the centroid's radius and more from the edges.
+-- Assumes nothing.
 use Prim.Native.Nat.{zero, suc, _*_}
 use native.Mathlib.Nat.{le-trans, mul-comm, zero-mul}
 use native.Mathlib.Omega.{arith}
@@ -46,7 +47,8 @@ not-nan (fin s m e) h = tt
 -- what is above a threshold is above 0
 fifths-positive : (t : Float) (E : ℤ) → fifthsAbove t E ≡ true → pos 0 <ℤ E
 unfolding fifthsAbove
-fifths-positive t (pos zero) e = absurd (let no : ⊥ = omega (arith, ltb-true (5 * num t) (0 * den t) (and-parts (finite t) _ e .1), zero-mul (den t)) in no)
+fifths-positive t (pos zero) e =
+    absurd (let no : ⊥ = omega (arith, ltb-true (5 * num t) (0 * den t) (and-parts (finite t) _ e .1), zero-mul (den t)) in no)
 fifths-positive t (pos (suc k)) e = record { lt = lt→ltb 0 (suc k) (omega arith) }
 fifths-positive t (negsuc k) e = absurd (false≢true e)
 
@@ -76,7 +78,8 @@ module _ (p : FrameParams) (v : View) where
     accurate : (q : Place) → Inner q → Accurate (valueAt (cells v) (mapWidth v) q) (fifthsIn v (q .x) (q .y))
     accurate q i = map-accurate v (f .bytes) (q .x) (q .y) nan (omega (arith, i .right)) (omega (arith, i .bottom))
 
-    chosen-by : (u : CellTests) → ((q : Place) → PeakBy u q → T (lt float32.zero (valueAt (cells v) (mapWidth v) q))) → All Chosen (peaksBy u (searchOn p v))
+    chosen-by : (u : CellTests) → ((q : Place) → PeakBy u q → T (lt float32.zero (valueAt (cells v) (mapWidth v) q)))
+        → All Chosen (peaksBy u (searchOn p v))
     chosen-by u g =
         all-map (PeakBy u) Chosen (λ q k. record { inside = k .0; above = g q k })
         (peaksBy u (searchOn p v)) (peaks-are u (mapWidth v) (mapHeight v) (searchOn p v .border) (p .window) (p .«least_neighbours»))
@@ -112,14 +115,17 @@ module _ (p : FrameParams) (v : View) where
 
 -- the corners of a map are its peaks, each at its centre of mass
 pub corners-centred : (p : FrameParams) (v : View) (choose : Choice) → Fine p v → IsChoice p choose
-    → cornersIn p choose v ≡ map (centred (p .«centroid_radius») (cells v) (mapWidth v) (mapHeight v)) (map (startAt (cells v) (searchOn p v)) (choose v))
+    → cornersIn p choose v ≡ map (centred (p .«centroid_radius») (cells v) (mapWidth v) (mapHeight v))
+    (map (startAt (cells v) (searchOn p v)) (choose v))
 unfolding cornersIn
 corners-centred p v choose f c =
     flatMap-single (localized p v) (Centre p v) (map (Start p v) (choose v))
     (all-mapped (λ s. localized p v s ≡ Centre p v s ∷ []) (Start p v) (choose v)
-    (all-map (Chosen p v) (λ q. localized p v (Start p v q) ≡ Centre p v (Start p v q) ∷ []) (accepted p v f) (choose v) (chosen p v f choose c)))
+    (all-map (Chosen p v) (λ q. localized p v (Start p v q) ≡ Centre p v (Start p v q) ∷ []) (accepted p v f) (choose v)
+    (chosen p v f choose c)))
 
 -- so there are as many corners as peaks
-pub corners-count : (p : FrameParams) (v : View) (choose : Choice) → Fine p v → IsChoice p choose → length (cornersIn p choose v) ≡ length (choose v)
+pub corners-count : (p : FrameParams) (v : View) (choose : Choice) → Fine p v → IsChoice p choose
+    → length (cornersIn p choose v) ≡ length (choose v)
 corners-count p v choose f c =
     ap length (corners-centred p v choose f c) ∙ length-map (map (Start p v) (choose v)) (Centre p v) ∙ length-map (choose v) (Start p v)

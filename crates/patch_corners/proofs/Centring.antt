@@ -41,7 +41,8 @@ module _ (f : Corner → Corner) (conds : List (Bool × ℕ)) (cs : List Corner)
   module _ (clear : lowest conds ≡ 0 → Clear conds) (n t : ℕ) (e : answer ≡ Added n t) where
     fitted : Fitted cs ties held b n t b′
     fitted =
-        added-tells conds (clear (unrefused conds cs ties held b n t b′ (subst (λ (r : Peaks). PeaksAdded conds cs ties held b r b′) e found))) cs ties
+        added-tells conds (clear (unrefused conds cs ties held b n t b′
+        (subst (λ (r : Peaks). PeaksAdded conds cs ties held b r b′) e found))) cs ties
         held b answer b′ found n t e
 
     pub found-fits : held + n ≤ placesOf b′

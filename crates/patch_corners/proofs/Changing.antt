@@ -38,7 +38,8 @@ module _ {A : Type 0} (held : ℕ) (vs d : List A) (h : held ≤ length d) where
       let rest = drop (held + length vs) d in
       ap₂ (λ (a b : List A). a ++ us ++ b)
       (ap (take held) (append-assoc (take held d) vs rest) ∙ take-at (take held d) (vs ++ rest) held (length-take-le held d h))
-      (drop-at (take held d ++ vs) rest (held + length us) (begin-length ∙ ap (λ (k : ℕ). held + k) (sym e)) ∙ ap (λ (k : ℕ). drop (held + k) d) (sym e))
+      (drop-at (take held d ++ vs) rest (held + length us) (begin-length ∙ ap (λ (k : ℕ). held + k) (sym e))
+      ∙ ap (λ (k : ℕ). drop (held + k) d) (sym e))
 
 module _ (held : ℕ) (cs : List Corner) (b : Slices) (h : held ≤ placesOf b) where
   corner-behind : (i : ℕ) → held + length cs ≤ i → cornerAt (placedCorners held cs b) i ≡ cornerAt b i
@@ -61,7 +62,8 @@ module _ (held : ℕ) (cs : List Corner) (b : Slices) (h : held ≤ placesOf b) 
       (over strengthOf (b .strengths) (omega arith))
       (over neighboursOf (b .neighbours) (omega arith))
     where
-      over : {A : Type 0} (g : Corner → A) (d : List A) → held ≤ length d → placed held (map g ds) (placed held (map g cs) d) ≡ placed held (map g ds) d
+      over : {A : Type 0} (g : Corner → A) (d : List A) → held ≤ length d
+          → placed held (map g ds) (placed held (map g cs) d) ≡ placed held (map g ds) d
       over g d q = placed-again held (map g cs) d q (map g ds) (length-map ds g ∙ e ∙ sym (length-map cs g))
 
 -- ---- i of the n corners of a buffer b, which was b₀, are replaced
@@ -74,7 +76,8 @@ module _ (f : Corner → Corner) (held n : ℕ) (b₀ : Slices) where
   unfolding tab
   changing-none = record {
     upto = omega arith;
-    is = slices-alike (placed-none held (b₀ .xs)) (placed-none held (b₀ .ys)) (placed-none held (b₀ .strengths)) (placed-none held (b₀ .neighbours));
+    is = slices-alike (placed-none held (b₀ .xs)) (placed-none held (b₀ .ys)) (placed-none held (b₀ .strengths))
+        (placed-none held (b₀ .neighbours));
   }
 
   module _ (fits : held + n ≤ placesOf b₀) (i : ℕ) (b : Slices) (at : Changing f held n i b₀ b) where
@@ -129,7 +132,8 @@ module _ (f : Corner → Corner) (held n : ℕ) (b₀ : Slices) where
 
     -- all
     pub changing-all : n ≤ i → Changed f held n b₀ b
-    changing-all l = let e : i ≡ n = omega (arith, at .upto) in record { is = at .is ∙ ap (λ (k : ℕ). placedCorners held (tab k read) b₀) e }
+    changing-all l = let e : i ≡ n = omega (arith, at .upto) in
+        record { is = at .is ∙ ap (λ (k : ℕ). placedCorners held (tab k read) b₀) e }
 
 -- ---- corners that were placed, each then replaced by a function of it
 -- the buffer has as many places as before
@@ -149,7 +153,8 @@ module _ (f : Corner → Corner) (cs : List Corner) (held : ℕ) (b b′ : Slice
     (is : b′ ≡ placedCorners held cs b) where
   -- they have their places in the buffer as it is now
   pub changed-fits : held + n ≤ placesOf b′
-  changed-fits = let h : held + length cs ≤ placesOf b = omega (arith, e, fits) in omega (arith, fits, ap placesOf is, placed-places cs held b h)
+  changed-fits = let h : held + length cs ≤ placesOf b = omega (arith, e, fits) in
+      omega (arith, fits, ap placesOf is, placed-places cs held b h)
 
   pub changed-placed : (b″ : Slices) → Changed f held n b′ b″ → b″ ≡ placedCorners held (map f cs) b
   changed-placed b″ c =

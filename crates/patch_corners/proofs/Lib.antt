@@ -5,3 +5,7 @@ pub mod Landing
 pub mod Centring
 pub mod Choices
 pub mod Made
+pub mod Margin
+pub mod PartOfRows
+pub mod OfRows
+pub mod RowsAlike

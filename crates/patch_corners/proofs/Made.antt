@@ -16,7 +16,8 @@ module _ (p : FrameParams) (v : View) (f : Fine p v) (exact : Bool) where
   -- none is dropped in a frame, and none stays where it stands here: every centre is accepted
   pub made-corners : centresIn p exact (cells v) (mapWidth v) (mapHeight v) ≡ cornersIn p (choiceOf p exact) v
   made-corners =
-      ap (λ (l : List Place). map (centred (p .«centroid_radius») (cells v) (mapWidth v) (mapHeight v)) (map (startAt (cells v) (searchOn p v)) l))
+      ap (λ (l : List Place). map (centred (p .«centroid_radius») (cells v) (mapWidth v) (mapHeight v))
+      (map (startAt (cells v) (searchOn p v)) l))
       (chosen p v (f .bytes) exact)
       ∙ sym (corners-centred p v (choiceOf p exact) f (one-of-two p exact))
 

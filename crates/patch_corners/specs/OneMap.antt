@@ -1,4 +1,5 @@
--- The corners of one map of a frame, by a choice of its peaks (RULES 9.2): the program's choice (4) and the exact one (10.1) are two of them.
+-- The corners of one map of a frame, for a choice of its peaks (RULES 9.2): the program's choice (4) and the exact one
+-- (10.1) are two of them.
 use Prim.Native.Nat.{ℕ}
 use mathlib.Core.Path.{_≡_}
 use mathlib.Core.Bool.{Bool, true, false}
@@ -26,7 +27,8 @@ Choice = View → List Place
 abbrev pub atPlace : Float → Float → Corner → Corner
 atPlace x y c = record { x = x; y = y; strength = c .strength; neighbours = c .neighbours }
 
--- a corner by the outcome about it, as the Rust has it: an accepted one goes to its centre of mass, any other is dropped
+-- a corner, given the outcome around it, as in the Rust: an accepted one moves to its centre of mass, any other is
+-- dropped
 abbrev pub centreOrNone : Outcome → Corner → List Corner
 centreOrNone (Accepted x y mass) c = atPlace x y c ∷ []
 centreOrNone (Rejected x y) c = []
@@ -42,7 +44,9 @@ moved x0 y0 c = atPlace (add binary32 (c .x) (floatOf x0)) (add binary32 (c .y) 
 module _ (p : FrameParams) where
   -- what it is searched with (RULES 4.1)
   abbrev pub searchOn : View → Search
-  searchOn v = searchOf (mapWidth v) (mapHeight v) (p .ring) (p .threshold) (p .window) (p .«least_neighbours») (p .«centroid_radius»)
+  searchOn v =
+      searchOf (mapWidth v) (mapHeight v) (p .ring) (p .threshold) (p .window) (p .«least_neighbours»)
+      (p .«centroid_radius»)
 
   -- the choice by computed values: what peak finding adds to its buffer (RULES 4.3)
   abbrev pub computedChoice : Choice
@@ -57,18 +61,19 @@ module _ (p : FrameParams) where
   choiceOf false = computedChoice
   choiceOf true = exactChoice
 
-  -- by one of the two
+  -- one of the two
   abbrev pub IsChoice : Choice → Type 0
   IsChoice choose = (choose ≡ computedChoice) ⊎ (choose ≡ exactChoice)
 
-  -- the ties of a map's peaks (RULES 23.3), by its computed values whatever the choice
+  -- the ties of a map's peaks (RULES 23.3), counted in its computed values whatever the choice
   abbrev pub tiesOn : Choice → View → ℕ
   tiesOn choose v = sumOf (tiesAt (cells v) (searchOn v)) (choose v)
 
   -- a peak's corner at the centre of mass
   abbrev pub localized : View → Corner → List Corner
-  localized v c = centreOrNone (refined (p .«centroid_radius») (c .x) (c .y) true (cells v) (mapWidth v) (mapHeight v)) c
+  localized v c =
+      centreOrNone (refined (p .«centroid_radius») (c .x) (c .y) true (cells v) (mapWidth v) (mapHeight v)) c
 
-  -- the corners of a map (RULES 9.2), by its own columns and rows
+  -- the corners of a map (RULES 9.2), in its own columns and rows
   unfoldable pub cornersIn : Choice → View → List Corner
   cornersIn choose v = flatMap (localized v) (map (startAt (cells v) (searchOn v)) (choose v))

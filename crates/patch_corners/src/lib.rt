@@ -1,13 +1,16 @@
-// The corners of a map that is given, added to a buffer: the map's peaks, each at its centre of mass. The corners of one map of a frame, by any
-// choice of its peaks, are defined in specs/OneMap.antt.
+// The corners of a given map, added to a buffer: the map's peaks, each at its centre of mass. The corners of one map of
+// a frame, for any choice of its peaks, are defined in specs/OneMap.antt.
 mod localizing; // corners put at their centres of mass
 
 ghost use Rattle.corner_list.specs.CornerList.{slices};
-ghost use Rattle.patch_corners.specs.MapCorners.{CornersAdded};
+ghost use Rattle.patch_corners.specs.MapCorners.{CornersAdded, RowCornersAdded};
 use detect::Peaks;
+use numbers::lesser;
+use numbers::minus;
 
-// The parameters of a frame (RULES 1.7): the ring's radius, the threshold of a peak, the radius of its window and the least number of positive
-// neighbours, the centroid's radius, the merge radius, the level count and the minimum size of a level, and the search radius of a seed.
+// The parameters of a frame (RULES 1.7): the ring's radius, the threshold of a peak, the radius of its window and the
+// least number of positive neighbours, the centroid's radius, the merge radius, the level count and the minimum size of
+// a level, and the search radius of a seed.
 pub struct FrameParams {
     pub ring: u32,
     pub threshold: f32,
@@ -20,12 +23,15 @@ pub struct FrameParams {
     pub search_radius: u32,
 }
 
-// Adds the peaks of a map of w by h, by computed or by exact values, behind the first `held` of a buffer, each at its centre of mass where that is
-// accepted, else where it stands.
-pub fn add_map_corners(
+// Adds the peaks in the rows a up to, not including, b of a map of w by h, by computed or by exact values, after the
+// first `held` of a buffer: each at its centre of mass if that is accepted, otherwise at the peak itself. The search
+// takes these rows, with a border around them, as a map of its own.
+pub fn add_row_corners(
     map: &[f32],
     w: usize,
     h: usize,
+    a: usize,
+    b: usize,
     p: FrameParams,
     exact: bool,
     xs: &mut [f32],
@@ -34,13 +40,21 @@ pub fn add_map_corners(
     neighbours: &mut [u32],
     held: usize,
 ) -> Peaks
-    ensures { λ r. ⌜ CornersAdded p exact (now (map .entry)) w h held (slices (now (xs .entry)) (now (ys .entry)) (now (strengths .entry)) (now (neighbours .entry)))
+    ensures { λ r. ⌜ RowCornersAdded p exact (now (map .entry)) w h a b held
+        (slices (now (xs .entry)) (now (ys .entry)) (now (strengths .entry)) (now (neighbours .entry)))
         r (slices (now (xs .exit)) (now (ys .exit)) (now (strengths .exit)) (now (neighbours .exit))) ⌝ }
 {
+    let no = detect::refusal(map.len(), w, h, p.ring, p.window, p.centroid_radius);
+    if no != 0 {
+        return Peaks::Refused(no);
+    }
+    let border = p.ring as usize + p.window as usize + p.centroid_radius as usize;
+    let end = lesser(lesser(b, h) + border, h);
+    let top = lesser(minus(a, border), end);
     let f = detect::find_peaks(
-        map,
+        &map[top * w..end * w],
         w,
-        h,
+        end - top,
         p.ring,
         p.threshold,
         p.window,
@@ -61,6 +75,7 @@ pub fn add_map_corners(
         w,
         h,
         p.centroid_radius,
+        top,
         xs,
         ys,
         strengths,
@@ -69,4 +84,37 @@ pub fn add_map_corners(
         n,
     );
     Peaks::Added(n, sum)
+}
+
+// The same for all rows.
+pub fn add_map_corners(
+    map: &[f32],
+    w: usize,
+    h: usize,
+    p: FrameParams,
+    exact: bool,
+    xs: &mut [f32],
+    ys: &mut [f32],
+    strengths: &mut [f32],
+    neighbours: &mut [u32],
+    held: usize,
+) -> Peaks
+    ensures { λ r. ⌜ CornersAdded p exact (now (map .entry)) w h held
+        (slices (now (xs .entry)) (now (ys .entry)) (now (strengths .entry)) (now (neighbours .entry)))
+        r (slices (now (xs .exit)) (now (ys .exit)) (now (strengths .exit)) (now (neighbours .exit))) ⌝ }
+{
+    add_row_corners(
+        map,
+        w,
+        h,
+        0,
+        h,
+        p,
+        exact,
+        xs,
+        ys,
+        strengths,
+        neighbours,
+        held,
+    )
 }

@@ -12,8 +12,10 @@ use lib.Seq.{length-take-le, take-append-le, drop-append-le}
 use Rattle.lists.specs.Places.{All}
 use Rattle.lists.proofs.Tests.{and-parts}
 use Rattle.lists.proofs.Members.{all-map}
-use Rattle.pgm.specs.Header.{Character, isSpace, isDigit, inComment, bare, begins, leading, trailing, numberFrom, Field, fieldOf, placeBehind}
-use Rattle.pgm.specs.Header.{hasMagic, widthField, heightField, maxvalField, widthOf, heightOf, maxvalOf, hasSides, hasHeader, rasterAt}
+use Rattle.pgm.specs.Header.{Character, isSpace, isDigit, inComment, bare, begins, leading, trailing, numberFrom, Field, fieldOf}
+use Rattle.pgm.specs.Header.{placeBehind}
+use Rattle.pgm.specs.Header.{hasMagic, widthField, heightField, maxvalField, widthOf, heightOf, maxvalOf, hasSides, hasHeader}
+use Rattle.pgm.specs.Header.{rasterAt}
 use Rattle.pgm.specs.Pgm.{refusalOf, pixelsIn}
 use Rattle.pgm.proofs.Fields.{Within, all-trailing, all-rest, bare-within}
 use Rattle.pgm.proofs.Judging.{accepted, accepts, raster-inside}
@@ -72,7 +74,8 @@ module _ (k : ℕ) (xs ys : List Character) (far : All (λ (c : Character). k �
       (λ (s : Stops isSpace (a .first ∷ a .more)). ⊎-elim
       (λ (d : Stops isDigit (s .first ∷ s .more)). inl (record {
         there = rw (a .left, a .right)
-            (ap (λ (b : Bool). isSpace (a .first .code) && b) (ap (begins isDigit) (s .behind xs) ∙ sym (ap (begins isDigit) (s .behind ys))));
+            (ap (λ (b : Bool). isSpace (a .first .code) && b)
+            (ap (begins isDigit) (s .behind xs) ∙ sym (ap (begins isDigit) (s .behind ys))));
         number = rw (a .left, a .right)
             (ap (numberFrom 0)
             (ap (leading isDigit) (s .behind xs) ∙ d .before xs ∙ sym (d .before ys) ∙ sym (ap (leading isDigit) (s .behind ys))));
@@ -83,10 +86,12 @@ module _ (k : ℕ) (xs ys : List Character) (far : All (λ (c : Character). k �
           right = rw (a .right) (ap (trailing isDigit) (s .behind ys) ∙ d .behind ys);
         };
       }))
-      (λ (r : Runs isDigit (s .first ∷ s .more)). inr (rw (a .left, s .behind xs, r xs) (all-trailing (λ (c : Character). k ≤ c .place) isDigit xs far)))
+      (λ (r : Runs isDigit (s .first ∷ s .more)). inr
+      (rw (a .left, s .behind xs, r xs) (all-trailing (λ (c : Character). k ≤ c .place) isDigit xs far)))
       (tested isDigit (s .first ∷ s .more)))
       (λ (r : Runs isSpace (a .first ∷ a .more)). inr (rw (a .left, r xs)
-      (all-trailing (λ (c : Character). k ≤ c .place) isDigit (trailing isSpace xs) (all-trailing (λ (c : Character). k ≤ c .place) isSpace xs far))))
+      (all-trailing (λ (c : Character). k ≤ c .place) isDigit (trailing isSpace xs)
+      (all-trailing (λ (c : Character). k ≤ c .place) isSpace xs far))))
       (tested isSpace (a .first ∷ a .more))
 
 -- ---- the characters of two lists of bytes, one behind the other
@@ -94,7 +99,8 @@ after : Bool → List ℕ → Bool
 after inside [] = inside
 after inside (c ∷ s) = after (inComment inside c) s
 
-bare-append : (inside : Bool) (at : ℕ) (s t : List ℕ) → bare inside at (s ++ t) ≡ bare inside at s ++ bare (after inside s) (at + length s) t
+bare-append : (inside : Bool) (at : ℕ) (s t : List ℕ)
+    → bare inside at (s ++ t) ≡ bare inside at s ++ bare (after inside s) (at + length s) t
 unfolding bare after
 bare-append inside at [] t = rw add-zero
 bare-append inside at (c ∷ s) t =
@@ -127,7 +133,8 @@ module _ (a t t′ : List ℕ) (header : hasHeader (a ++ t) ≡ true) (raster : 
 
   long : 2 < length a
   long =
-      let start = all-map (Within 2 (2 + length (drop 2 u))) (far-off 2) (λ c h. h .0) (bare false 2 (drop 2 u)) (bare-within false 2 (drop 2 u)) in
+      let start = all-map (Within 2 (2 + length (drop 2 u))) (far-off 2) (λ c h. h .0) (bare false 2 (drop 2 u))
+      (bare-within false 2 (drop 2 u)) in
       let rest = all-rest (far-off 2) in
       let all = rest (heightField u .rest) (rest (widthField u .rest) (rest (bare false 2 (drop 2 u)) start)) in
       omega (arith, raster, from-place 2 (maxvalField u .rest) all space)
@@ -144,7 +151,8 @@ module _ (a t t′ : List ℕ) (header : hasHeader (a ++ t) ≡ true) (raster : 
   far : All (far-off (length a)) (behind t)
   far =
       let k : length a ≡ 2 + length (drop 2 a) = omega (arith, long, length-drop 2 a) in
-      rw k (all-map (Within (2 + length (drop 2 a)) (2 + length (drop 2 a) + length t)) (far-off (2 + length (drop 2 a))) (λ c h. h .0) (behind t)
+      rw k (all-map (Within (2 + length (drop 2 a)) (2 + length (drop 2 a) + length t)) (far-off (2 + length (drop 2 a)))
+      (λ c h. h .0) (behind t)
       (bare-within (after false (drop 2 a)) (2 + length (drop 2 a)) t))
 
   -- no header ends behind a
@@ -197,8 +205,10 @@ module _ (a t t′ : List ℕ) (header : hasHeader (a ++ t) ≡ true) (raster : 
   header-same =
       let last = fields-same .2 .rest in
       let one : begins isSpace (maxvalField v .rest) ≡ begins isSpace (maxvalField u .rest) = rw (last .left, last .right) in
-      let first : (more : List ℕ) (i : ℕ) → i < 2 → getD (a ++ more) i 0 ≡ getD a i 0 = λ more i l. List·getD-append a more 0 i (omega (arith, long)) in
-      let magic : hasMagic v ≡ hasMagic u = rw (first t 0 (omega arith), first t 1 (omega arith), first t′ 0 (omega arith), first t′ 1 (omega arith)) in
+      let first : (more : List ℕ) (i : ℕ) → i < 2 → getD (a ++ more) i 0 ≡ getD a i 0 = λ more i l. List·getD-append a more 0 i
+      (omega (arith, long)) in
+      let magic : hasMagic v ≡ hasMagic u = rw
+      (first t 0 (omega arith), first t 1 (omega arith), first t′ 0 (omega arith), first t′ 1 (omega arith)) in
       rw (magic, ← fields-same .0 .there, ← fields-same .1 .there, ← fields-same .2 .there, one) header
 
 -- ---- an upload that is accepted, cut off behind its pixels, and anything behind them
@@ -258,7 +268,8 @@ module _ (upload : List ℕ) (none : refusalOf upload ≡ 0) where
           header = header-same kept rest more header-kept raster-kept;
           narrow = rw same-width (a .narrow);
           low = rw same-height (a .low);
-          enough = rw (same-width, same-height, same-raster) (omega (arith, length-drop (rasterAt upload) other, length-append kept more, kept-long));
+          enough = rw (same-width, same-height, same-raster)
+              (omega (arith, length-drop (rasterAt upload) other, length-append kept more, kept-long));
           full = maxval-same kept rest more header-kept raster-kept ∙ ap maxvalOf (sym whole) ∙ a .full;
         })
 

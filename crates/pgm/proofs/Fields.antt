@@ -10,7 +10,8 @@ use Rattle.lists.specs.Places.{All}
 use Rattle.lists.proofs.Members.{all-map}
 use Rattle.pgm.specs.declared.header.Scanned.{Scanned}
 use Rattle.pgm.specs.declared.header.Digits.{Digits}
-use Rattle.pgm.specs.Header.{Character, inComment, bare, isSpace, isDigit, begins, leading, trailing, numberFrom, fieldOf, placeBehind}
+use Rattle.pgm.specs.Header.{Character, inComment, bare, isSpace, isDigit, begins, leading, trailing, numberFrom, fieldOf}
+use Rattle.pgm.specs.Header.{placeBehind}
 use Rattle.pgm.specs.Header.{widthField, heightField}
 use Rattle.pgm.specs.Internal.{capped, bareFrom, Reaches, Skipped, DigitsRead, FieldRead, FieldsRead}
 
@@ -33,7 +34,8 @@ module _ (upload : List ℕ) where
   field-from cs at r e = subst (λ (l : List Character). FieldRead upload (fieldOf l) r) e
 
   -- all three, one behind the other
-  pub fields-read : (start : ℕ) → Skipped upload 2 start → (width height maxval : Scanned) → FieldRead upload (fieldOf (bareFrom upload start)) width
+  pub fields-read : (start : ℕ) → Skipped upload 2 start → (width height maxval : Scanned)
+      → FieldRead upload (fieldOf (bareFrom upload start)) width
       → FieldRead upload (fieldOf (bareFrom upload (width .end))) height → FieldRead upload (fieldOf (bareFrom upload (height .end))) maxval
       → FieldsRead upload width height maxval
   fields-read start s width height maxval w h m =

@@ -10,6 +10,7 @@ use lib.Dec.{ltb, eqb}
 use lib.ListN.{length, take, drop, length-drop}
 use lib.Seq.{length-take-le}
 use borrow.Author.Tests.{ltb-false, le-ltb, eqb-true, eq-eqb, ne-eqb, not-false}
+use Rattle.lists.specs.Limits.{largestSide, largestMap}
 use Rattle.lists.specs.Refusals.{lowest, unless, isLarge}
 use Rattle.lists.proofs.Tests.{and-parts, and-none, or-neither}
 use Rattle.lists.proofs.Refusals.{lowest-none, sides-small}
@@ -31,7 +32,8 @@ module _ (w h : ℕ) where
 
   module _ (maxval left left′ : ℕ) where
     pub judged-same : (sides header : Bool) → (header ≡ true → sides ≡ true) → (header ≡ true → left′ ≡ left)
-        → lowest (conditionsBy sides header (capped w) (capped h) (capped maxval) left′) ≡ lowest (conditionsBy sides header w h maxval left)
+        → lowest (conditionsBy sides header (capped w) (capped h) (capped maxval) left′)
+        ≡ lowest (conditionsBy sides header w h maxval left)
     judged-same false true s l = absurd (let no : _≡_ {A = Bool} false true = s refl in let z : _≡_ {A = ℕ} 0 1 = cc in omega arith)
     judged-same false false s l = refl
     judged-same true header s l = rw isLarge-capped (go (isLarge w h) refl header l)
@@ -50,8 +52,8 @@ module _ (w h : ℕ) where
 -- ---- an upload that is accepted
 pub record Accepted (upload : List ℕ) : Type 0 where
   pub header : hasHeader upload ≡ true
-  pub narrow : widthOf upload ≤ 4096
-  pub low : heightOf upload ≤ 4096
+  pub narrow : widthOf upload ≤ largestSide
+  pub low : heightOf upload ≤ largestSide
   pub enough : widthOf upload * heightOf upload ≤ length (drop (rasterAt upload) upload)
   pub full : maxvalOf upload ≡ 255
 
@@ -84,8 +86,8 @@ accepts upload a =
     rw (
       a .header,
       and-parts (hasSides upload) _ (a .header) .0,
-      le-ltb 4096 (widthOf upload) (a .narrow),
-      le-ltb 4096 (heightOf upload) (a .low),
+      le-ltb largestSide (widthOf upload) (a .narrow),
+      le-ltb largestSide (heightOf upload) (a .low),
       le-ltb (length (drop (rasterAt upload) upload)) (widthOf upload * heightOf upload) (a .enough),
       eq-eqb (maxvalOf upload) 255 (a .full),
     )
@@ -105,14 +107,17 @@ module _ (upload : List ℕ) (width height maxval : Scanned) (fields : FieldsRea
   delimiter : hasHeader upload ≡ true → (rasterAt upload ≡ maxval .end + 1) × (maxval .end < length upload)
   delimiter e =
       let field = and-parts (hasSides upload) (maxvalField upload .there && begins isSpace rest) e .1 in
-      first-at upload isSpace rest (maxval .end) (fields .maxval-read .end) (and-parts (maxvalField upload .there) (begins isSpace rest) field .1)
+      first-at upload isSpace rest (maxval .end) (fields .maxval-read .end)
+      (and-parts (maxvalField upload .there) (begins isSpace rest) field .1)
 
-  module _ (magic pair sides : Bool) (m : magic ≡ hasMagic upload) (p : pair ≡ (width .there && height .there)) (s : sides ≡ (magic && pair)) where
+  module _ (magic pair sides : Bool) (m : magic ≡ hasMagic upload) (p : pair ≡ (width .there && height .there))
+      (s : sides ≡ (magic && pair)) where
     sides-are : sides ≡ hasSides upload
     sides-are =
         s ∙ ap₂ (λ (a b : Bool). a && b) m (p ∙ ap₂ (λ (a b : Bool). a && b) (fields .width-read .there) (fields .height-read .there))
 
-    module _ (space delimited : Bool) (b : space ≡ begins isSpace (bareFrom upload (maxval .end))) (d : delimited ≡ (maxval .there && space))
+    module _ (space delimited : Bool) (b : space ≡ begins isSpace (bareFrom upload (maxval .end)))
+        (d : delimited ≡ (maxval .there && space))
         (whole : Bool) (w : whole ≡ (sides && delimited)) where
       whole-is : whole ≡ hasHeader upload
       whole-is =
@@ -125,7 +130,8 @@ module _ (upload : List ℕ) (width height maxval : Scanned) (fields : FieldsRea
       judged left l n e =
           e
           ∙ rw (sides-are, whole-is, fields .width-read .number, fields .height-read .number, fields .maxval-read .number)
-          (judged-same (widthOf upload) (heightOf upload) (maxvalOf upload) (length (drop (rasterAt upload) upload)) left (hasSides upload) (hasHeader upload)
+          (judged-same (widthOf upload) (heightOf upload) (maxvalOf upload) (length (drop (rasterAt upload) upload)) left
+          (hasSides upload) (hasHeader upload)
           (λ h. and-parts (hasSides upload) (maxvalField upload .there && begins isSpace rest) h .0) (λ h. same (delimiter h .0)))
         where
           same : rasterAt upload ≡ maxval .end + 1 → left ≡ length (drop (rasterAt upload) upload)
@@ -157,7 +163,7 @@ pub record Located (upload : List ℕ) (at w h : ℕ) : Type 0 where
   pub place : at ≡ rasterAt upload
   pub width : w ≡ widthOf upload
   pub height : h ≡ heightOf upload
-  pub small : w * h ≤ 16777216
+  pub small : w * h ≤ largestMap
   pub inside : at + w * h ≤ length upload
 
 module _ (upload : List ℕ) where
@@ -210,7 +216,8 @@ module _ (upload : List ℕ) where
   unfolding pixelsIn
   refused-pixels a r n is = go (refusalOf upload) refl (sym is ∙ r .answer)
     where
-      go : (k : ℕ) → refusalOf upload ≡ k → Refused n ≡ unless Refused k (Pixels (rasterAt upload) (widthOf upload) (heightOf upload)) → [] ≡ pixelsIn upload
+      go : (k : ℕ) → refusalOf upload ≡ k
+          → Refused n ≡ unless Refused k (Pixels (rasterAt upload) (widthOf upload) (heightOf upload)) → [] ≡ pixelsIn upload
       go zero e same = absurd (let z : _≡_ {A = ℕ} 0 1 = cc in let no : ⊥ = omega arith in no)
       go (suc k) e same = rw (e, ne-eqb (suc k) 0 (λ z. let no : ⊥ = omega arith in no))
 

@@ -8,9 +8,11 @@ use mathlib.Core.List.{List, [], _∷_}
 use lib.Dec.{ltb, eqb}
 use lib.ListN.{length, getD}
 use borrow.Author.Tests.{lt-ltb, le-ltb, ne-eqb}
+use Rattle.lists.specs.Limits.{largestSide}
 use Rattle.pgm.specs.Header.{Character, isDigit, leading, numberFrom}
-use Rattle.pgm.specs.Internal.{capped, bareFrom, Plain, Skipped, DigitsRead}
-use Rattle.pgm.proofs.Scanning.{Passing, passing-none, passing-next, passing-stops, passing-ends, leading-past, leading-stops, leading-end}
+use Rattle.pgm.specs.Internal.{largestKept, capped, bareFrom, Plain, Skipped, DigitsRead}
+use Rattle.pgm.proofs.Scanning.{Passing, passing-none, passing-next, passing-stops, passing-ends, leading-past, leading-stops}
+use Rattle.pgm.proofs.Scanning.{leading-end}
 
 -- one digit more
 capped-more : (n d : ℕ) → capped (10 * capped n + d) ≡ capped (10 * n + d)
@@ -26,16 +28,16 @@ capped-from n (c ∷ cs) =
     ∙ capped-from (10 * n + d) cs
 
 -- tests that do not see the difference
-pub large-capped : (n : ℕ) → ltb 4096 (capped n) ≡ ltb 4096 n
+pub large-capped : (n : ℕ) → ltb largestSide (capped n) ≡ ltb largestSide n
 large-capped n =
-    elim (decLt 4096 n) [
-      | yes l ↦ lt-ltb 4096 (capped n) (omega arith) ∙ sym (lt-ltb 4096 n l)
-      | no g ↦ le-ltb 4096 (capped n) (omega arith) ∙ sym (le-ltb 4096 n (omega arith))
+    elim (decLt largestSide n) [
+      | yes l ↦ lt-ltb largestSide (capped n) (omega arith) ∙ sym (lt-ltb largestSide n l)
+      | no g ↦ le-ltb largestSide (capped n) (omega arith) ∙ sym (le-ltb largestSide n (omega arith))
     ]
 
 pub maxval-capped : (n : ℕ) → eqb (capped n) 255 ≡ eqb n 255
 maxval-capped n =
-    elim (decLt n 65536) [
+    elim (decLt n largestKept) [
       | yes l ↦ let same : capped n ≡ n = omega arith in rw same
       | no g ↦ ne-eqb (capped n) 255 (λ e. let no : ⊥ = omega arith in no) ∙ sym (ne-eqb n 255 (λ e. let no : ⊥ = omega arith in no))
     ]
@@ -44,8 +46,9 @@ maxval-capped n =
 module _ (upload : List ℕ) where
   pub record Reading (from number at : ℕ) : Type 0 where
     pub passing : Passing upload isDigit from at
-    pub few : number ≤ 65536
-    pub same : capped (numberFrom number (leading isDigit (bareFrom upload at))) ≡ capped (numberFrom 0 (leading isDigit (bareFrom upload from)))
+    pub few : number ≤ largestKept
+    pub same : capped (numberFrom number (leading isDigit (bareFrom upload at)))
+        ≡ capped (numberFrom 0 (leading isDigit (bareFrom upload from)))
 
   pub reading-none : (from : ℕ) → Plain upload from → Reading from 0 from
   reading-none from plain = record { passing = passing-none upload isDigit from plain; few = omega arith; same = refl }
@@ -66,8 +69,10 @@ module _ (upload : List ℕ) where
             same =
                 rw n
                 (capped-from (10 * number + (getD upload at 0 - 48)) (leading isDigit (bareFrom upload next))
-                ∙ ap (λ (cs : List Character). capped (numberFrom (10 * number + (getD upload at 0 - 48)) (leading isDigit cs))) (skipped .reaches .same)
-                ∙ ap (λ (cs : List Character). capped (numberFrom number cs)) (sym (leading-past upload isDigit at some (r .passing .plain) pass is e))
+                ∙ ap (λ (cs : List Character). capped (numberFrom (10 * number + (getD upload at 0 - 48)) (leading isDigit cs)))
+                (skipped .reaches .same)
+                ∙ ap (λ (cs : List Character). capped (numberFrom number cs))
+                (sym (leading-past upload isDigit at some (r .passing .plain) pass is e))
                 ∙ r .same);
           }
 

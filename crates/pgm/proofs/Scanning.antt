@@ -43,7 +43,8 @@ module _ (upload : List ℕ) where
 
   module _ (from at : ℕ) (inside : Bool) (s : Skipping from at inside) where
     module _ (ignored : Bool) (is : ignored ≡ (inside || eqb (codeAt at) 35)) where
-      pub skipping-next : at < length upload → ignored ≡ true → (inside′ : Bool) → inside′ ≡ inComment inside (codeAt at) → Skipping from (at + 1) inside′
+      pub skipping-next : at < length upload → ignored ≡ true → (inside′ : Bool) → inside′ ≡ inComment inside (codeAt at)
+          → Skipping from (at + 1) inside′
       skipping-next some e inside′ goes =
           record { further = omega (arith, s .further); same = rw goes (sym (bare-ignored at some inside (sym is ∙ e)) ∙ s .same) }
 
@@ -110,7 +111,10 @@ module _ (upload : List ℕ) where
       pub passing-next : (some : at < length upload) (pass : Bool) → pass ≡ f (codeAt at) → pass ≡ true
           → (next : ℕ) → Skipped upload (at + 1) next → Passing from next
       passing-next some pass is e next r =
-          record { same = ap (trailing f) (r .reaches .same) ∙ sym (trailing-past at some (p .plain) pass is e) ∙ p .same; plain = r .reaches .plain }
+          record {
+            same = ap (trailing f) (r .reaches .same) ∙ sym (trailing-past at some (p .plain) pass is e) ∙ p .same;
+            plain = r .reaches .plain;
+          }
 
       pub passing-stops : (some : at < length upload) (pass : Bool) → pass ≡ f (codeAt at) → pass ≡ false
           → Reaches upload (trailing f (bareFrom upload from)) at
@@ -120,7 +124,8 @@ module _ (upload : List ℕ) where
       passing-ends l = record { same = sym (trailing-end at l) ∙ p .same; plain = p .plain }
 
     -- the first of some characters stands where they begin
-    pub first-at : (cs : List Character) (at : ℕ) → Reaches upload cs at → begins f cs ≡ true → (placeBehind cs ≡ at + 1) × (at < length upload)
+    pub first-at : (cs : List Character) (at : ℕ) → Reaches upload cs at → begins f cs ≡ true
+        → (placeBehind cs ≡ at + 1) × (at < length upload)
     first-at cs at r e =
         elim (decLt at (length upload)) [
           | yes l ↦ (ap placeBehind (sym (r .same) ∙ bare-first at l (r .plain)) ∙ sym (add-one at), l)

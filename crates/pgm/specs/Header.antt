@@ -1,4 +1,5 @@
--- The header of a binary PGM photograph (RULES 20), by Netpbm's description: pgm(5), and pbm(5) on comments. The quotations are its words.
+-- The header of a binary PGM photograph (RULES 20), by Netpbm's description: pgm(5), and pbm(5) for comments. The
+-- quotations are from there.
 use Prim.Native.Nat.{ℕ, suc, _+_, _-_, _*_}
 use mathlib.Core.Bool.{Bool, true, false, cond, not, _&&_, _||_}
 use mathlib.Core.List.{List, [], _∷_}
@@ -16,26 +17,27 @@ isSpace c = any (eqb c) (32 ∷ 13 ∷ 10 ∷ 9 ∷ 11 ∷ 12 ∷ [])
 abbrev pub isDigit : ℕ → Bool
 isDigit c = leb 48 c && leb c 57
 
--- ---- comments: "any characters from a "#" through the next carriage return or newline character, is a comment and is ignored"
+-- ---- comments: "any characters from a "#" through the next carriage return or newline character, is a comment and is
+-- ignored"
 
 -- a character of the upload, and its place there
 pub record Character : Type 0 where
   pub code : ℕ
   pub place : ℕ
 
--- whether a comment goes on behind a character, which is inside one or not
+-- whether a comment goes on after a character, which is inside one or not
 abbrev pub inComment : Bool → ℕ → Bool
 inComment true c = not (eqb c 13 || eqb c 10)
 inComment false c = eqb c 35
 
--- the bytes from the place `at` on, which begin inside a comment or not, with the comments gone
+-- the bytes from the place `at` on, which begin inside a comment or not, with the comments removed
 unfoldable pub bare : Bool → ℕ → List ℕ → List Character
 bare inside at [] = []
 bare inside at (c ∷ cs) =
     let more = bare (inComment inside c) (suc at) cs in
     cond (inside || eqb c 35) more (record { code = c; place = at } ∷ more)
 
--- ---- a list by a test of its characters
+-- ---- a list of characters split by a test
 module _ (f : ℕ → Bool) where
   -- whether there is a first one, and it passes
   abbrev pub begins : List Character → Bool
@@ -53,7 +55,7 @@ module _ (f : ℕ → Bool) where
 
 -- ---- a field: "Whitespace." and a number "in ASCII decimal"
 
--- the number of digits behind the number n
+-- the number that n gives with these digits appended
 abbrev pub numberFrom : ℕ → List Character → ℕ
 numberFrom n [] = n
 numberFrom n (c ∷ cs) = numberFrom (10 * n + (c .code - 48)) cs
@@ -106,7 +108,7 @@ module _ (upload : List ℕ) where
   abbrev pub hasHeader : Bool
   hasHeader = hasSides && (maxvalField .there && begins isSpace (maxvalField .rest))
 
--- "A raster": behind the whitespace character, with which these begin
+-- "A raster": after the whitespace character with which these begin
 abbrev pub placeBehind : List Character → ℕ
 placeBehind [] = 0
 placeBehind (c ∷ cs) = suc (c .place)

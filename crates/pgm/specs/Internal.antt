@@ -1,4 +1,5 @@
--- What the private functions that scan a header ask and promise. A place of the upload stands for the characters from it on, comments gone.
+-- What the private functions that scan a header require and promise. A place of the upload stands for the characters
+-- from there on, comments removed.
 use Prim.Native.Nat.{ℕ, _*_, _<_, _≤_, min}
 use mathlib.Core.Path.{_≡_}
 use mathlib.Core.Bool.{Bool, false, not, _&&_, _||_}
@@ -8,18 +9,22 @@ use lib.ListN.{length, getD, drop}
 use Rattle.lists.specs.Refusals.{isLarge}
 use Rattle.pgm.specs.declared.header.Scanned.{Scanned}
 use Rattle.pgm.specs.declared.header.Digits.{Digits}
-use Rattle.pgm.specs.Header.{Character, bare, isDigit, leading, trailing, numberFrom, Field, widthField, heightField, maxvalField}
+use Rattle.pgm.specs.Header.{Character, bare, isDigit, leading, trailing, numberFrom, Field, widthField}
+use Rattle.pgm.specs.Header.{heightField, maxvalField}
 
--- the conditions of an upload by what is known of it, with so many bytes behind its header
+-- the conditions on an upload by what is known about it, with a given number of bytes after its header
 abbrev pub conditionsBy : Bool → Bool → ℕ → ℕ → ℕ → ℕ → List (Bool × ℕ)
 conditionsBy sides header w h maxval left =
     (sides && isLarge w h, 1) ∷ (not header || ltb left (w * h), 12) ∷ (not (eqb maxval 255), 13) ∷ []
 
--- numbers are kept up to 65,536: a larger one is 65,536
-abbrev pub capped : ℕ → ℕ
-capped n = min n 65536
+-- the largest number that is kept: a larger one is kept as this
+abbrev pub largestKept : ℕ
+largestKept = 65536
 
--- the characters from a place on, which is in no comment
+abbrev pub capped : ℕ → ℕ
+capped n = min n largestKept
+
+-- the characters from a place on that is in no comment
 abbrev pub bareFrom : List ℕ → ℕ → List Character
 bareFrom upload at = bare false at (drop at upload)
 
@@ -27,7 +32,7 @@ bareFrom upload at = bare false at (drop at upload)
 abbrev pub Plain : List ℕ → ℕ → Type 0
 Plain upload at = at < length upload → getD upload at 0 ≡ 35 → ⊥
 
--- no comment begins at a place, from which on come the characters cs
+-- no comment begins at this place, and the characters cs follow from it on
 pub record Reaches (upload : List ℕ) (cs : List Character) (at : ℕ) : Type 0 where
   pub same : bareFrom upload at ≡ cs
   pub plain : Plain upload at
@@ -37,7 +42,7 @@ pub record Skipped (upload : List ℕ) (from at : ℕ) : Type 0 where
   pub further : from ≤ at
   pub reaches : Reaches upload (bareFrom upload from) at
 
--- the digits of cs: their number, and the place behind them
+-- the digits of cs: their number, and the place after them
 pub record DigitsRead (upload : List ℕ) (cs : List Character) (r : Digits) : Type 0 where
   pub number : r .number ≡ capped (numberFrom 0 (leading isDigit cs))
   pub end : Reaches upload (trailing isDigit cs) (r .end)

@@ -1,4 +1,5 @@
--- What is read of an uploaded photograph (RULES 20): the refusals, the answer, and the pixels as a part of the upload.
+-- What is read from an uploaded photograph (RULES 20): the refusals, the answer, and the pixels as a part of the
+-- upload.
 use Prim.Native.Nat.{ℕ, _*_}
 use mathlib.Core.Path.{_≡_}
 use mathlib.Core.Bool.{Bool, cond, not, _&&_, _||_}
@@ -10,8 +11,8 @@ use Rattle.pgm.specs.declared.PgmImage.{PgmImage}
 use Rattle.pgm.specs.declared.PgmImage.the-variants.{Pixels, Refused}
 use Rattle.pgm.specs.Header.{hasSides, hasHeader, widthOf, heightOf, maxvalOf, rasterAt}
 
--- 1: "where both sides can be read behind a right P5 and its whitespace" and one is above 4,096; 12: "header not of that form or fewer bytes than
--- width × height behind it"; 13: "maxval any number but 255"
+-- 1: "where both sides can be read behind a right P5 and its whitespace" and one is above the largest; 12: "header not
+-- of that form or fewer bytes than width × height behind it"; 13: "maxval any number but 255"
 unfoldable pub conditions : List ℕ → List (Bool × ℕ)
 conditions upload =
     (hasSides upload && isLarge (widthOf upload) (heightOf upload), 1)
@@ -24,10 +25,11 @@ unfoldable pub refusalOf : List ℕ → ℕ
 unfolding conditions
 refusalOf upload = lowest (conditions upload)
 
--- "the image's pixels as a part of the uploaded bytes": none where the upload is refused
+-- "the image's pixels as a part of the uploaded bytes": none if the upload is refused
 unfoldable pub pixelsIn : List ℕ → List ℕ
 unfolding refusalOf
-pixelsIn upload = cond (eqb (refusalOf upload) 0) (take (widthOf upload * heightOf upload) (drop (rasterAt upload) upload)) []
+pixelsIn upload =
+    cond (eqb (refusalOf upload) 0) (take (widthOf upload * heightOf upload) (drop (rasterAt upload) upload)) []
 
 -- ---- the promise of `read_pgm`
 

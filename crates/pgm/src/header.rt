@@ -1,18 +1,20 @@
-// The header of a PGM photograph, scanned from place to place: a place where no comment begins stands for the characters from it on.
+// The header of a PGM photograph, scanned from place to place. A place where no comment begins stands for the
+// characters from there on.
 ghost use mathlib.Core.Path.{_≡_};
 ghost use mathlib.Core.Bool.{_&&_, _||_};
 ghost use Prim.Native.Nat.{_+_, _-_, _*_, _≤_};
 ghost use lib.Dec.{eqb};
 ghost use Rattle.pgm.specs.Header.{isSpace, isDigit, inComment, begins, trailing, fieldOf};
-ghost use Rattle.pgm.specs.Internal.{capped, bareFrom, Plain, Reaches, Skipped, DigitsRead, FieldRead};
+ghost use Rattle.pgm.specs.Internal.{largestKept, capped, bareFrom, Plain, Reaches, Skipped, DigitsRead};
+ghost use Rattle.pgm.specs.Internal.{FieldRead};
 
-// The number of some digits, up to 65,536, and the place behind them.
+// The number that some digits give, up to 65,536, and the place after them.
 pub(crate) struct Digits {
     pub number: usize,
     pub end: usize,
 }
 
-// A field: whether its whitespace and its number are there, the number up to 65,536, and the place behind it.
+// A field: whether its whitespace and its number are there, the number up to 65,536, and the place after it.
 pub(crate) struct Scanned {
     pub there: bool,
     pub number: usize,
@@ -55,7 +57,7 @@ fn is_ignored(inside: bool, c: u8) -> bool
     if inside { true } else { c == b'#' }
 }
 
-// Whether a comment goes on behind a byte.
+// Whether a comment goes on after a byte.
 fn goes_on(inside: bool, c: u8) -> bool
     ensures { λ r. ⌜ r ≡ inComment inside c ⌝ }
 {
@@ -70,7 +72,7 @@ fn goes_on(inside: bool, c: u8) -> bool
 
 // ---- places
 
-// The place behind the comments that begin at a place.
+// The place after the comments that begin at a place.
 pub(crate) fn skip_comments(upload: &[u8], from: usize) -> usize
     ensures { λ at. ⌜ Skipped (now (upload .entry)) from at ⌝ }
 {
@@ -87,7 +89,7 @@ pub(crate) fn skip_comments(upload: &[u8], from: usize) -> usize
     at
 }
 
-// Whether a whitespace character stands at a place.
+// Whether there is a whitespace character at a place.
 pub(crate) fn begins_space(upload: &[u8], at: usize) -> bool
     requires { ⌜ Plain (now upload) at ⌝ }
     ensures { λ r. ⌜ r ≡ begins isSpace (bareFrom (now (upload .entry)) at) ⌝ }
@@ -98,7 +100,7 @@ pub(crate) fn begins_space(upload: &[u8], at: usize) -> bool
     is_space(upload[at])
 }
 
-// Whether a digit does.
+// Whether there is a digit at a place.
 fn begins_digit(upload: &[u8], at: usize) -> bool
     requires { ⌜ Plain (now upload) at ⌝ }
     ensures { λ r. ⌜ r ≡ begins isDigit (bareFrom (now (upload .entry)) at) ⌝ }
@@ -109,7 +111,7 @@ fn begins_digit(upload: &[u8], at: usize) -> bool
     is_digit(upload[at])
 }
 
-// The place behind the whitespace at a place.
+// The place after the whitespace at a place.
 fn skip_space(upload: &[u8], from: usize) -> usize
     requires { ⌜ Plain (now upload) from ⌝ }
     ensures { λ at. ⌜ Reaches (now (upload .entry)) (trailing isSpace (bareFrom (now (upload .entry)) from)) at ⌝ }
@@ -126,15 +128,18 @@ fn skip_space(upload: &[u8], from: usize) -> usize
 
 // ---- numbers
 
-// A digit behind a number, the sum kept up to 65,536.
+// The largest number that is kept: a larger one is kept as this.
+const LARGEST_KEPT: usize = 65536;
+
+// A number with one more digit.
 fn appended(number: usize, c: u8) -> usize
-    requires { ⌜ (number ≤ 65536) × (48 ≤ c) ⌝ }
+    requires { ⌜ (number ≤ largestKept) × (48 ≤ c) ⌝ }
     ensures { λ r. ⌜ r ≡ capped (10 * number + (c - 48)) ⌝ }
 {
-    numbers::lesser(10 * number + (c - 48) as usize, 65536)
+    numbers::lesser(10 * number + (c - 48) as usize, LARGEST_KEPT)
 }
 
-// The number of the digits at a place.
+// The number that the digits at a place give.
 fn read_digits(upload: &[u8], from: usize) -> Digits
     requires { ⌜ Plain (now upload) from ⌝ }
     ensures { λ r. ⌜ DigitsRead (now (upload .entry)) (bareFrom (now (upload .entry)) from) r ⌝ }

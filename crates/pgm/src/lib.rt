@@ -7,7 +7,7 @@ ghost use Prim.Native.Nat.{_≤_};
 ghost use Rattle.lists.specs.Refusals.{lowest, isLarge};
 ghost use Rattle.pgm.specs.Header.{hasMagic};
 ghost use Rattle.pgm.specs.Pgm.{refusalOf, pixelsIn, PgmRead};
-ghost use Rattle.pgm.specs.Internal.{conditionsBy, FieldsRead};
+ghost use Rattle.pgm.specs.Internal.{largestKept, conditionsBy, FieldsRead};
 use header::Scanned;
 
 // Where the pixels begin in the upload and both sides, or the number of the refusal.
@@ -39,9 +39,10 @@ fn is_large(sides: bool, w: usize, h: usize) -> bool
     image_size::is_large(w, h)
 }
 
-// The number of the refusal, 0 for none: of a header whose sides can be read or not, and which is whole or not, with so many bytes behind it.
+// The number of the refusal, 0 for none. `sides` says whether the sides can be read, `whole` whether the header is
+// complete.
 fn refusal(sides: bool, whole: bool, w: usize, h: usize, maxval: usize, left: usize) -> u8
-    requires { ⌜ (w ≤ 65536) × (h ≤ 65536) ⌝ }
+    requires { ⌜ (w ≤ largestKept) × (h ≤ largestKept) ⌝ }
     ensures { λ r. ⌜ r ≡ lowest (conditionsBy sides whole w h maxval left) ⌝ }
 {
     if is_large(sides, w, h) {
@@ -59,7 +60,7 @@ fn refusal(sides: bool, whole: bool, w: usize, h: usize, maxval: usize, left: us
     0
 }
 
-// The number of the refusal of an upload whose fields were read.
+// The number of the refusal for an upload whose fields were read.
 fn judge(upload: &[u8], width: Scanned, height: Scanned, maxval: Scanned) -> u8
     requires { ⌜ FieldsRead (now upload) width height maxval ⌝ }
     ensures { λ r. ⌜ r ≡ refusalOf (now (upload .entry)) ⌝ }
@@ -99,7 +100,7 @@ pub fn read_pgm(upload: &[u8]) -> PgmImage
     }
 }
 
-// The pixels of an upload: a part of it, and an empty part where it is refused.
+// The pixels of an upload: a part of it, empty if it is refused.
 pub fn pgm_pixels<'a>(upload: &'a [u8]) -> &'a [u8]
     ensures { λ r. ⌜ now r ≡ pixelsIn (now (upload .entry)) ⌝ }
 {

@@ -22,10 +22,12 @@ module _ (choose : Choice) (p : FrameParams) (bytes : List ℕ) (b : Buffers) (i
   unfolding refusalOf
   photograph-refused n e = go (upload.refusalOf bytes) refl (sym e ∙ read .answer)
     where
-      go : (k : ℕ) → upload.refusalOf bytes ≡ k → pgm.Refused n ≡ unless pgm.Refused k (pgm.Pixels (rasterAt bytes) (widthOf bytes) (heightOf bytes))
+      go : (k : ℕ) → upload.refusalOf bytes ≡ k
+          → pgm.Refused n ≡ unless pgm.Refused k (pgm.Pixels (rasterAt bytes) (widthOf bytes) (heightOf bytes))
           → PhotographFound choose p bytes b (Refused n) b
       go zero is same = absurd (let z : _≡_ {A = ℕ} 0 1 = cc in let no : ⊥ = omega arith in no)
-      go (suc k) is same = let number : n ≡ suc k = cc in record { answer = rw (is, number); number = rw is number; values = rw is; left = rw is }
+      go (suc k) is same = let number : n ≡ suc k = cc in
+          record { answer = rw (is, number); number = rw is number; values = rw is; left = rw is }
 
   pub photograph-found : (at w h : ℕ) → image ≡ pgm.Pixels at w h → (img : List ℕ) → img ≡ pixelsIn bytes
       → (answer : FrameAnswer) (b′ : Buffers) → FrameFound choose p img w h b answer b′ → PhotographFound choose p bytes b answer b′

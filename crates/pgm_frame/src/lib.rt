@@ -8,7 +8,7 @@ use frame::find_corners_by;
 use patch_corners::FrameParams;
 use pgm::PgmImage;
 
-// Finds the corners of a binary PGM photograph, as `find_corners_by` does of its pixels.
+// Finds the corners of a binary PGM photograph, as `find_corners_by` does for its pixels.
 pub fn find_pgm_corners_by(
     upload: &[u8],
     p: FrameParams,
@@ -25,9 +25,13 @@ pub fn find_pgm_corners_by(
     cn: &mut [u32],
 ) -> FrameAnswer
     ensures { λ r. ⌜ PhotographFound (choiceOf p exact) p (now (upload .entry))
-        (buffers (now (map .entry)) (now (levels .entry)) (slices (now (sx .entry)) (now (sy .entry)) (now (ss .entry)) (now (sn .entry))) (slices (now (cx .entry)) (now (cy .entry)) (now (cs .entry)) (now (cn .entry))))
+        (buffers (now (map .entry)) (now (levels .entry))
+        (slices (now (sx .entry)) (now (sy .entry)) (now (ss .entry)) (now (sn .entry)))
+        (slices (now (cx .entry)) (now (cy .entry)) (now (cs .entry)) (now (cn .entry))))
         r
-        (buffers (now (map .exit)) (now (levels .exit)) (slices (now (sx .exit)) (now (sy .exit)) (now (ss .exit)) (now (sn .exit))) (slices (now (cx .exit)) (now (cy .exit)) (now (cs .exit)) (now (cn .exit)))) ⌝ }
+        (buffers (now (map .exit)) (now (levels .exit))
+        (slices (now (sx .exit)) (now (sy .exit)) (now (ss .exit)) (now (sn .exit)))
+        (slices (now (cx .exit)) (now (cy .exit)) (now (cs .exit)) (now (cn .exit)))) ⌝ }
 {
     let image = pgm::read_pgm(upload);
     match image {
@@ -71,9 +75,13 @@ pub fn find_pgm_corners(
     cn: &mut [u32],
 ) -> FrameAnswer
     ensures { λ r. ⌜ PhotographFound (computedChoice p) p (now (upload .entry))
-        (buffers (now (map .entry)) (now (levels .entry)) (slices (now (sx .entry)) (now (sy .entry)) (now (ss .entry)) (now (sn .entry))) (slices (now (cx .entry)) (now (cy .entry)) (now (cs .entry)) (now (cn .entry))))
+        (buffers (now (map .entry)) (now (levels .entry))
+        (slices (now (sx .entry)) (now (sy .entry)) (now (ss .entry)) (now (sn .entry)))
+        (slices (now (cx .entry)) (now (cy .entry)) (now (cs .entry)) (now (cn .entry))))
         r
-        (buffers (now (map .exit)) (now (levels .exit)) (slices (now (sx .exit)) (now (sy .exit)) (now (ss .exit)) (now (sn .exit))) (slices (now (cx .exit)) (now (cy .exit)) (now (cs .exit)) (now (cn .exit)))) ⌝ }
+        (buffers (now (map .exit)) (now (levels .exit))
+        (slices (now (sx .exit)) (now (sy .exit)) (now (ss .exit)) (now (sn .exit)))
+        (slices (now (cx .exit)) (now (cy .exit)) (now (cs .exit)) (now (cn .exit)))) ⌝ }
 {
     find_pgm_corners_by(
         upload,
@@ -108,9 +116,13 @@ pub fn find_exact_pgm_corners(
     cn: &mut [u32],
 ) -> FrameAnswer
     ensures { λ r. ⌜ PhotographFound (exactChoice p) p (now (upload .entry))
-        (buffers (now (map .entry)) (now (levels .entry)) (slices (now (sx .entry)) (now (sy .entry)) (now (ss .entry)) (now (sn .entry))) (slices (now (cx .entry)) (now (cy .entry)) (now (cs .entry)) (now (cn .entry))))
+        (buffers (now (map .entry)) (now (levels .entry))
+        (slices (now (sx .entry)) (now (sy .entry)) (now (ss .entry)) (now (sn .entry)))
+        (slices (now (cx .entry)) (now (cy .entry)) (now (cs .entry)) (now (cn .entry))))
         r
-        (buffers (now (map .exit)) (now (levels .exit)) (slices (now (sx .exit)) (now (sy .exit)) (now (ss .exit)) (now (sn .exit))) (slices (now (cx .exit)) (now (cy .exit)) (now (cs .exit)) (now (cn .exit)))) ⌝ }
+        (buffers (now (map .exit)) (now (levels .exit))
+        (slices (now (sx .exit)) (now (sy .exit)) (now (ss .exit)) (now (sn .exit)))
+        (slices (now (cx .exit)) (now (cy .exit)) (now (cs .exit)) (now (cn .exit)))) ⌝ }
 {
     find_pgm_corners_by(upload, p, true, map, levels, sx, sy, ss, sn, cx, cy, cs, cn)
 }

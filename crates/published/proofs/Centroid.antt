@@ -1,5 +1,5 @@
--- The centre of mass is the published one: the window of a seed that is not out of bounds lies in the map, so that no cell of it is clamped, and the
--- sums do not show which zero a weight is. Assumes nothing.
+-- The centre of mass is the published one: the window of a seed that is not out of bounds lies in the map, so that no cell of it is
+-- clamped, and the sums do not show which zero a weight is. Assumes nothing.
 use mathlib.Core.Path.{_≡_, refl, sym, ap, ap₂, _∙_}
 use mathlib.Core.Bool.{Bool, true, false, cond, _&&_, _||_, true≢false}
 use mathlib.Core.List.{List, [], _∷_}
@@ -14,11 +14,12 @@ use lib.Ieee.Fits.{down-pos}
 use lib.Ieee.Order.{le-of-values}
 use lib.Ieee.Exact.{HasValue}
 use borrow.Author.Tests.{ltb-false, leb-false, not-false}
+use Rattle.lists.specs.Limits.{largestSide, largestRadius}
 use Rattle.lists.specs.Places.{Place, range, flatMap, All}
 use Rattle.lists.proofs.Tests.{to-T, from-T, or-neither, and-parts}
 use Rattle.lists.proofs.Refusals.{all-clear}
 use Rattle.lists.proofs.Members.{all-block, all-map, all-of}
-use Rattle.float32.specs.Float32.{zero as zero32, abs, signed, nearestWhole, roundHalfAway}
+use Rattle.float32.specs.Float32.{zero as zero32, abs, signed, nearestWhole, largestRounded, roundHalfAway}
 use Rattle.float32.specs.declared.Rounded.{Rounded}
 use Rattle.float32.specs.declared.Rounded.the-variants.{Natural, Negative, Beyond}
 use Rattle.float32.proofs.Values.{ofInt-value}
@@ -26,7 +27,7 @@ use Rattle.float32.proofs.Bounds.{value-le, whole-over}
 use Rattle.float32.proofs.Running.{summed}
 use Rattle.center_of_mass.specs.declared.Outcome.{Outcome}
 use Rattle.center_of_mass.specs.declared.Outcome.the-variants.{OutOfBounds}
-use Rattle.center_of_mass.specs.CenterOfMass.{cellsAbout, weightAt, seedFits, conditions, refusalOf, outcomeOf, refined}
+use Rattle.center_of_mass.specs.CenterOfMass.{cellsAbout, weightAt, furthestSeed, seedFits, conditions, refusalOf, outcomeOf, refined}
 use Rattle.center_of_mass.proofs.Weights.{term}
 use Rattle.center_of_mass.proofs.Judgement.{radius-small, map-fits}
 use Rattle.center_of_mass.proofs.Told.{isOut, meanBy, outcome-out, outcome-in}
@@ -88,7 +89,8 @@ nothing : Sum zero32
 unfolding fits
 nothing = record { stands = tt; fitting = tt }
 
-module _ (m : List Float) (w : ℕ) (weight : Place → Float) (max : (p : Place) → IsMax (getD m (p .y * w + p .x) nan) zero32 (weight p)) where
+module _ (m : List Float) (w : ℕ) (weight : Place → Float)
+    (max : (p : Place) → IsMax (getD m (p .y * w + p .x) nan) zero32 (weight p)) where
   alike : (p : Place) → Alike (weightAt m w p) (weight p)
   alike p = weight-alike (getD m (p .y * w + p .x) nan) (weight p) (max-lifts (getD m (p .y * w + p .x) nan) (weight p) (max p))
 
@@ -110,14 +112,16 @@ module _ (m : List Float) (w : ℕ) (weight : Place → Float) (max : (p : Place
       both p v = (product-alike _ _ _ (co p) v (alike p), product-upright _ _ (co p) v (weight-upright _))
 
 -- ---- the rounded seed
-seed-small : (x : Float) → seedFits x ≡ true → le (abs x) (fin false 1 (pos 24)) ≡ true
+seed-small : (x : Float) → seedFits x ≡ true → le (abs x) largestRounded ≡ true
 unfolding seedFits abs le ofInt
 seed-small nan h = absurd (true≢false (sym h))
 seed-small (inf s) h = absurd (true≢false (sym h))
 seed-small (fin s m e) h =
-    let million = whole-over (ofInt binary32 (pos 1000000)) 1000000 (down e) (ofInt-value binary32 1000000 (lit< tt)) in
-    let l = value-le (fin false m e) (ofInt binary32 (pos 1000000)) (m * up e) (1000000 * down e) (down e) (down-pos e) (refl, refl) million (to-T h) in
-    from-T _ (le-of-values (fin false m e) (fin false 1 (pos 24)) (m * up e) (down e) (2 ^ 24) 1 (down-pos e) (lit< tt) (refl, refl) (refl, refl) (omega arith))
+    let million = whole-over (ofInt binary32 (pos furthestSeed)) furthestSeed (down e) (ofInt-value binary32 furthestSeed (lit< tt)) in
+    let l = value-le (fin false m e) (ofInt binary32 (pos furthestSeed)) (m * up e) (furthestSeed * down e) (down e) (down-pos e)
+    (refl, refl) million (to-T h) in
+    from-T _ (le-of-values (fin false m e) largestRounded (m * up e) (down e) (2 ^ 24) 1 (down-pos e) (lit< tt) (refl, refl)
+    (refl, refl) (omega arith))
 
 -- the seed's tests on one axis
 abbrev isOutRs : ℕ → ℕ → ℤ → Bool
@@ -141,7 +145,7 @@ natural r side (Natural p) e = (p, refl)
 natural r side (Negative n) e = absurd (true≢false e)
 natural r side Beyond e = absurd (true≢false e)
 
-rounded-is : (x : Float) → le (abs x) (fin false 1 (pos 24)) ≡ true → roundHalfAway x ≡ signed (lt x zero32) (nearestWhole x)
+rounded-is : (x : Float) → le (abs x) largestRounded ≡ true → roundHalfAway x ≡ signed (lt x zero32) (nearestWhole x)
 unfolding roundHalfAway
 rounded-is x h = rw h
 
@@ -161,7 +165,7 @@ module _ (r : ℕ) (x y : Float) (m : List Float) (w h : ℕ) (weight : Place �
       cond (ltZ cx (pos r) || ltZ cy (pos r) || leZ (pos w -ℤ pos r) cx || leZ (pos h -ℤ pos r) cy) (OutOfBounds x y)
       (meanRs (cellsRs r w h cx cy))
 
-  module _ (small : r ≤ 16) (narrow : w ≤ 4096) (low : h ≤ 4096) where
+  module _ (small : r ≤ largestRadius) (narrow : w ≤ largestSide) (low : h ≤ largestSide) where
     weighed-is : (p q : ℕ) → isOut r w (Natural p) ≡ false → isOut r h (Natural q) ≡ false
         → meanRs (cellsRs r w h (pos p) (pos q))
         ≡ meanBy x y (summed (term m w (λ c. c .x)) zero32 (cellsAbout r p q)) (summed (term m w (λ c. c .y)) zero32 (cellsAbout r p q))
@@ -175,19 +179,25 @@ module _ (r : ℕ) (x y : Float) (m : List Float) (w h : ℕ) (weight : Place �
         let rows = all-block (λ c. c .y < 2 ^ 24) (p - r) (p + r + 1) (q - r) (q + r + 1) (λ u v _ _ _ k. omega arith) in
         let cells = cellsAbout r p q in
         rw (cells-are r w h p q (ltb-false p r (i .0)) right (ltb-false q r (j .0)) below)
-        (rw (mass-is m w weight max cells, moment-is m w weight max (λ c. c .x) cells columns, moment-is m w weight max (λ c. c .y) cells rows))
+        (rw (
+          mass-is m w weight max cells,
+          moment-is m w weight max (λ c. c .x) cells columns,
+          moment-is m w weight max (λ c. c .y) cells rows,
+        ))
 
-    outcome-is : le (abs x) (fin false 1 (pos 24)) ≡ true → le (abs y) (fin false 1 (pos 24)) ≡ true
+    outcome-is : le (abs x) largestRounded ≡ true → le (abs y) largestRounded ≡ true
         → outcomeRs (integerOf (roundHalfAway x)) (integerOf (roundHalfAway y)) ≡ outcomeOf r x y m w h
     outcome-is f g =
         rw (four (ltZ (integerOf (roundHalfAway x)) (pos r)) (ltZ (integerOf (roundHalfAway y)) (pos r)) _ _, axis w x f, axis h y g)
         (go (isOut r w (roundHalfAway x)) (isOut r h (roundHalfAway y)) refl refl)
       where
-        axis : (side : ℕ) (x : Float) → le (abs x) (fin false 1 (pos 24)) ≡ true → isOutRs r side (integerOf (roundHalfAway x)) ≡ isOut r side (roundHalfAway x)
+        axis : (side : ℕ) (x : Float) → le (abs x) largestRounded ≡ true
+            → isOutRs r side (integerOf (roundHalfAway x)) ≡ isOut r side (roundHalfAway x)
         axis side x f = rw (rounded-is x f) (axis-is r side (lt x zero32) (nearestWhole x))
 
         go : (a b : Bool) → isOut r w (roundHalfAway x) ≡ a → isOut r h (roundHalfAway y) ≡ b
-            → cond (a || b) (OutOfBounds x y) (meanRs (cellsRs r w h (integerOf (roundHalfAway x)) (integerOf (roundHalfAway y)))) ≡ outcomeOf r x y m w h
+            → cond (a || b) (OutOfBounds x y) (meanRs (cellsRs r w h (integerOf (roundHalfAway x)) (integerOf (roundHalfAway y))))
+            ≡ outcomeOf r x y m w h
         go true b p q = sym (outcome-out r x y m w h (rw p))
         go false true p q = sym (outcome-out r x y m w h (rw (p, q)))
         go false false p q =
@@ -197,7 +207,8 @@ module _ (r : ℕ) (x y : Float) (m : List Float) (w h : ℕ) (weight : Place �
             let b : isOut r h (Natural (v .0)) ≡ false = rw (v .1) at q in
             rw (u .1, v .1) (weighed-is (u .0) (v .0) a b ∙ sym (outcome-in r x y m w h (u .0) (v .0) (u .1) (v .1) a b))
 
-seeds-fit : (r : ℕ) (x y : Float) (has-map : Bool) (cells w h : ℕ) → refusalOf r x y has-map cells w h ≡ 0 → (seedFits x ≡ true) × (seedFits y ≡ true)
+seeds-fit : (r : ℕ) (x y : Float) (has-map : Bool) (cells w h : ℕ) → refusalOf r x y has-map cells w h ≡ 0
+    → (seedFits x ≡ true) × (seedFits y ≡ true)
 unfolding refusalOf
 seeds-fit r x y has-map cells w h e =
     let clear = all-clear (conditions r x y has-map cells w h) (lit< tt, (lit< tt, (lit< tt, (lit< tt, tt)))) e in
@@ -211,4 +222,5 @@ refine-as-published r x y true m w h weight e max =
     let fit = seeds-fit r x y true (length m) w h e in
     let f = seed-small x (fit .0) in
     let g = seed-small y (fit .1) in
-    rw (e, round-is x f, round-is y g) (outcome-is r x y m w h weight max (radius-small r x y (length m) w h true e) (sized .narrow) (sized .low) f g)
+    rw (e, round-is x f, round-is y g)
+    (outcome-is r x y m w h weight max (radius-small r x y (length m) w h true e) (sized .narrow) (sized .low) f g)

@@ -32,7 +32,8 @@ shared x y p q = (
 )
 
 pub crossed : (x y : Float) → Plain x → Plain y → T (le x y) ↔ (num x * den y ≤ num y * den x)
-crossed x y p q = let s = shared x y p q in order x y (num x * den y) (num y * den x) (den x * den y) (mul-pos (den-pos x) (den-pos y)) (s .0) (s .1)
+crossed x y p q = let s = shared x y p q in
+    order x y (num x * den y) (num y * den x) (den x * den y) (mul-pos (den-pos x) (den-pos y)) (s .0) (s .1)
 
 le-trans : (x y z : Float) → Plain x → Plain y → Plain z → T (le x y) → T (le y z) → T (le x z)
 le-trans x y z p q r a b =
@@ -139,7 +140,8 @@ from-inf nan p = absurd (p .bounded)
 from-inf (inf s) p = absurd (p .bounded)
 from-inf (fin s m e) p = (refl, refl)
 
-pub extremes : (v : Float) (l : List Float) → All Plain (v ∷ l) → Extremes (v ∷ l) (leastFrom (inf false) (v ∷ l)) (greatestFrom (inf true) (v ∷ l))
+pub extremes : (v : Float) (l : List Float) → All Plain (v ∷ l)
+    → Extremes (v ∷ l) (leastFrom (inf false) (v ∷ l)) (greatestFrom (inf true) (v ∷ l))
 extremes v l a =
     let i = from-inf v (a .0) in
     let s = least-ahead v l (a .0) (a .1) in

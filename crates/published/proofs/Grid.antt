@@ -1,4 +1,5 @@
--- The lists of a grid: each kept corner's index at the number of its cell and nowhere else, while corners are kept and replaced. Assumes nothing.
+-- The lists of a grid: each kept corner's index at the number of its cell and nowhere else, while corners are kept and replaced. Assumes
+-- nothing.
 use mathlib.Core.Path.{_≡_, refl, sym, ap, _∙_}
 use mathlib.Core.Logic.{_⊎_, inl, inr, ⊎-elim}
 use mathlib.Core.Bool.{true, not}
@@ -75,12 +76,14 @@ module _ (ix : Corner → ℕ) (P : Corner → Type 0) where
     pub push-holds : Holds longer pushed
     push-holds = record {
       good = λ i l. ⊎-elim (λ m. rw (early i m) (h .good i m)) (λ (e : i ≡ length out). rw (e, last) p) (at-last i l);
-      listed = λ i l. ⊎-elim (λ m. rw (early i m) (still i (ix (outAt out i)) (h .listed i m))) (λ (e : i ≡ length out). rw (e, last) new) (at-last i l);
+      listed = λ i l. ⊎-elim (λ m. rw (early i m) (still i (ix (outAt out i)) (h .listed i m)))
+          (λ (e : i ≡ length out). rw (e, last) new) (at-last i l);
       only = only-pushed;
     }
       where
         new : In (length out) (pushed (ix c))
-        new = rw (put-here (ix c) (grid (ix c) ++ (length out ∷ [])) grid) (in-right (length out) (grid (ix c)) (length out ∷ []) (inl refl))
+        new =
+            rw (put-here (ix c) (grid (ix c) ++ (length out ∷ [])) grid) (in-right (length out) (grid (ix c)) (length out ∷ []) (inl refl))
 
     -- ---- the corner at place r replaced
     module _ (r : ℕ) (l : r < length out) where
@@ -156,14 +159,19 @@ module _ (ix : Corner → ℕ) (P : Corner → Type 0) where
       moved-holds = record {
         good = all-good;
         listed = λ i m. elim (ℕ-discrete i r) [
-          | yes q ↦ rw (q, here) (rw (put-here (ix c) (without (ix c) ++ (r ∷ [])) without) (in-right r (without (ix c)) (r ∷ []) (inl refl)))
+          | yes q ↦ rw (
+            q,
+            here,
+          ) (rw (put-here (ix c) (without (ix c) ++ (r ∷ [])) without) (in-right r (without (ix c)) (r ∷ []) (inl refl)))
           | no n ↦ rw (there i n) (in-moved i (ix (outAt out i)) (in-without i (ix (outAt out i)) n (h .listed i (omega (arith, as-long)))))
         ];
         only = only-moved;
       }
         where
           before : (i j : ℕ) → In i (without j) → (i < length changed) × (ix (outAt changed i) ≡ j)
-          before i j k = let w = without-in i j k in let o = h .only i j (w .0) in (omega (arith, o .0, as-long), rw (there i (w .1)) (o .1))
+          before i j k = let w = without-in i j k in
+              let o = h .only i j (w .0) in
+              (omega (arith, o .0, as-long), rw (there i (w .1)) (o .1))
 
           only-moved : (i j : ℕ) → In i (moved j) → (i < length changed) × (ix (outAt changed i) ≡ j)
           only-moved i j k = elim (ℕ-discrete j (ix c)) [

@@ -42,7 +42,8 @@ module _ (i : ℕ) where
   pub kept-in : (f : ℕ → Bool) (l : List ℕ) → In i (keep f l) → In i l × (f i ≡ true)
   kept-in f (a ∷ l) h = go (f a) refl h (kept-in f l)
     where
-      go : (b : Bool) → f a ≡ b → In i (cond b (a ∷ keep f l) (keep f l)) → (In i (keep f l) → In i l × (f i ≡ true)) → In i (a ∷ l) × (f i ≡ true)
+      go : (b : Bool) → f a ≡ b → In i (cond b (a ∷ keep f l) (keep f l)) → (In i (keep f l) → In i l × (f i ≡ true))
+          → In i (a ∷ l) × (f i ≡ true)
       go true e (inl q) r = (inl q, ap f q ∙ e)
       go true e (inr k) r = (inr (r k .0), r k .1)
       go false e k r = (inr (r k .0), r k .1)
@@ -82,7 +83,8 @@ module _ (i : ℕ) (f : ℕ → List ℕ) where
 
   pub in-range : (a b : ℕ) → In i (flatMap f (range a b)) → Came i f a b
   unfolding range
-  in-range a b h = let c = in-counted (b - a) a h in record { k = c .k; from = c .from; below = omega (arith, c .from, c .below); here = c .here }
+  in-range a b h = let c = in-counted (b - a) a h in
+      record { k = c .k; from = c .from; below = omega (arith, c .from, c .below); here = c .here }
 
 -- ---- the least that passes a test
 pub record Best (close : ℕ → Bool) (best : ℕ) (l : List ℕ) (r : ℕ) : Type 0 where

@@ -16,12 +16,14 @@ module _ {A B : Type 0} where
 
 module _ {B : Type 0} where
   -- two loops of n turns that gather the same
-  pub counted-alike : (f g : ℕ → List B) (n a b : ℕ) → ((k : ℕ) → k < n → f (a + k) ≡ g (b + k)) → flatMap f (counted a n) ≡ flatMap g (counted b n)
+  pub counted-alike : (f g : ℕ → List B) (n a b : ℕ) → ((k : ℕ) → k < n → f (a + k) ≡ g (b + k))
+      → flatMap f (counted a n) ≡ flatMap g (counted b n)
   unfolding counted
   counted-alike f g zero a b h = refl
   counted-alike f g (suc n) a b h =
       let first : f a ≡ g b = ap f (omega arith) ∙ h 0 (omega arith) ∙ ap g (omega arith) in
-      ap₂ (λ (s t : List B). s ++ t) first (counted-alike f g n (suc a) (suc b) (λ k l. ap f (omega arith) ∙ h (suc k) (omega arith) ∙ ap g (omega arith)))
+      ap₂ (λ (s t : List B). s ++ t) first
+      (counted-alike f g n (suc a) (suc b) (λ k l. ap f (omega arith) ∙ h (suc k) (omega arith) ∙ ap g (omega arith)))
 
   pub counted-none : (f : ℕ → List B) (n a : ℕ) → ((k : ℕ) → k < n → f (a + k) ≡ []) → flatMap f (counted a n) ≡ []
   unfolding counted
@@ -31,10 +33,13 @@ module _ {B : Type 0} where
       rw (first, counted-none f n (suc a) (λ k l. ap f (omega arith) ∙ h (suc k) (omega arith)))
 
   -- n turns from place a on, all the others give nothing: the loop from b on
-  pub part-only : (f g : ℕ → List B) (before n behind b : ℕ) → ((i : ℕ) → i < before → f i ≡ []) → ((k : ℕ) → k < n → f (before + k) ≡ g (b + k))
-      → ((i : ℕ) → before + n ≤ i → i < before + n + behind → f i ≡ []) → flatMap f (counted 0 (before + n + behind)) ≡ flatMap g (counted b n)
+  pub part-only : (f g : ℕ → List B) (before n behind b : ℕ) → ((i : ℕ) → i < before → f i ≡ [])
+      → ((k : ℕ) → k < n → f (before + k) ≡ g (b + k))
+      → ((i : ℕ) → before + n ≤ i → i < before + n + behind → f i ≡ [])
+      → flatMap f (counted 0 (before + n + behind)) ≡ flatMap g (counted b n)
   part-only f g before n behind b low here high =
-      ap (flatMap f) (counted-add 0 (before + n) behind ∙ ap (λ (l : List ℕ). l ++ counted (0 + (before + n)) behind) (counted-add 0 before n))
+      ap (flatMap f) (counted-add 0 (before + n) behind
+      ∙ ap (λ (l : List ℕ). l ++ counted (0 + (before + n)) behind) (counted-add 0 before n))
       ∙ flatMap-append f (counted 0 before ++ counted (0 + before) n) (counted (0 + (before + n)) behind)
       ∙ ap₂ (λ (s t : List B). s ++ t) (flatMap-append f (counted 0 before) (counted (0 + before) n))
       (counted-none f behind (0 + (before + n)) (λ k l. high _ (omega arith) (omega arith)))
@@ -60,7 +65,8 @@ module _ (r x w : ℕ) where
   turn-is k = omega arith
 
   pub clipped : {B : Type 0} (f g : ℕ → List B) → ((i : ℕ) → x + i < r → f i ≡ []) → ((i : ℕ) → i < 2 * r + 1 → w + r ≤ x + i → f i ≡ [])
-      → ((i : ℕ) → r ≤ x + i → x + i < w + r → f i ≡ g (x + i - r)) → flatMap f (range 0 (2 * r + 1)) ≡ flatMap g (range (x - r) (min (x + r + 1) w))
+      → ((i : ℕ) → r ≤ x + i → x + i < w + r → f i ≡ g (x + i - r))
+      → flatMap f (range 0 (2 * r + 1)) ≡ flatMap g (range (x - r) (min (x + r + 1) w))
   unfolding range
   clipped f g low high here =
       ap (λ (k : ℕ). flatMap f (counted 0 k)) all-turns

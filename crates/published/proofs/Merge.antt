@@ -46,7 +46,8 @@ nothing ix P = record {
 }
 
 -- ---- a list of corners, and a radius that is on
-module _ (radius : Float) (c : Corner) (l : List Corner) (sized : isSized radius ≡ true) (inside : All (λ c. isInside c ≡ true) (c ∷ l)) where
+module _ (radius : Float) (c : Corner) (l : List Corner) (sized : isSized radius ≡ true)
+    (inside : All (λ c. isInside c ≡ true) (c ∷ l)) where
   abbrev cs : List Corner
   cs = c ∷ l
 
@@ -64,7 +65,8 @@ module _ (radius : Float) (c : Corner) (l : List Corner) (sized : isSized radius
   unfolding mergeRs isOff
   merge-on few off =
       rw (eqb·suc-zero (length l), off, all-finite)
-      (loop-is g (gridOf radius cs) (square radius cs) (record { out = []; grid = λ i. [] }) cs (nothing (indexRs g) (Placed g (gridOf radius cs)))
+      (loop-is g (gridOf radius cs) (square radius cs) (record { out = []; grid = λ i. [] }) cs
+      (nothing (indexRs g) (Placed g (gridOf radius cs)))
       (cells-as-published radius cs sized inside) (omega arith))
 
 merge-none : (radius : Float) → mergeRs [] radius ≡ []
@@ -75,7 +77,8 @@ merge-off : (radius : Float) (c : Corner) (l : List Corner) → isOff radius ≡
 unfolding mergeRs isOff
 merge-off radius c l e = rw (eqb·suc-zero (length l), e)
 
-merge-whole : (radius : Float) (cs : List Corner) → length cs < noHit → (isOff radius ≡ false → (isSized radius ≡ true) × All (λ c. isInside c ≡ true) cs)
+merge-whole : (radius : Float) (cs : List Corner) → length cs < noHit
+    → (isOff radius ≡ false → (isSized radius ≡ true) × All (λ c. isInside c ≡ true) cs)
     → mergeRs cs radius ≡ resultOf radius cs
 unfolding resultOf
 merge-whole radius [] few h = merge-none radius ∙ same (isOff radius)

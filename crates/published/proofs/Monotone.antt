@@ -3,7 +3,8 @@ use mathlib.Core.Path.{_≡_, refl, sym, ap}
 use mathlib.Core.Logic.{_↔_, inl, inr}
 use mathlib.Core.Bool.{Bool, true, false, true≢false}
 use Prim.Native.Nat.{ℕ, _+_, _-_, _*_, _/_, _^_, _≤_, _<_}
-use native.Mathlib.Nat.{zero-mul, mul-zero, mul-pos, mul-le-mul-right, le-of-mul-le-mul-right, eq-zero-or-pos, zero-div, div-eq-of-lt, lt-of-le-of-lt}
+use native.Mathlib.Nat.{zero-mul, mul-zero, mul-pos, mul-le-mul-right, le-of-mul-le-mul-right, eq-zero-or-pos, zero-div, div-eq-of-lt}
+use native.Mathlib.Nat.{lt-of-le-of-lt}
 use native.Mathlib.Omega.{arith}
 use lib.Dec.{T, lit<, le→leb}
 use lib.IntN.{ℤ, pos}
@@ -100,7 +101,8 @@ pub rounds-most : (x : Float) (n d k : ℕ) → 0 < d → n ≤ k * d → Rounds
 rounds-most x n d k D l r = rounds-le x (wholeFloat false k) n d k 1 D (lit< tt) r whole (omega arith)
   where
     whole : Rounds (wholeFloat false k) k 1
-    whole = record { sign = false; top = k; bottom = 1; bottom-pos = lit< tt; is = refl; none = λ e. absurd (true≢false (sym e)); frac = refl }
+    whole =
+        record { sign = false; top = k; bottom = 1; bottom-pos = lit< tt; is = refl; none = λ e. absurd (true≢false (sym e)); frac = refl }
 
 pub finite-below : (x y : Float) → T (le zero32 x) → T (le x y) → T (finite y) → T (finite x)
 unfolding le
@@ -113,7 +115,8 @@ finite-below (fin s m e) y p q f = tt
 
 no-minus : (m : ℕ) (e : ℤ) → T (le zero32 (fin true m e)) → m * up e ≡ 0
 no-minus m e p =
-    let l = le-value zero32 (fin true m e) 0 0 0 (m * up e) (down e) (down-pos e) (at-zero zero32 (down e) refl) (own (fin true m e) tt) .0 p in
+    let l = le-value zero32 (fin true m e) 0 0 0 (m * up e) (down e) (down-pos e) (at-zero zero32 (down e) refl)
+    (own (fin true m e) tt) .0 p in
     omega arith
 
 pub own-is : (x : Float) → T (le zero32 x) → T (finite x) → Is x (num x) (den x)
@@ -132,7 +135,8 @@ pub mul-rounds : (x y : Float) (a c b d : ℕ) → 0 < c → 0 < d → Is x a c 
 mul-rounds x y a c b d p q h k =
     let all : a * b + 0 * 0 - (a * 0 + 0 * b) ≡ a * b = omega (arith, mul-zero a, zero-mul b) in
     let least : a * 0 + 0 * b ≤ a * b + 0 * 0 = omega (arith, mul-zero a, zero-mul b) in
-    rw all at (rounds-of (mul binary32 x y) (a * b + 0 * 0) (a * 0 + 0 * b) (c * d) (mul-pos p q) least (mul-frac binary32 x y a 0 c b 0 d h k))
+    rw all at (rounds-of (mul binary32 x y) (a * b + 0 * 0) (a * 0 + 0 * b) (c * d) (mul-pos p q) least
+    (mul-frac binary32 x y a 0 c b 0 d h k))
 
 -- ---- whole parts
 pub cut-is : (x : Float) → T (le zero32 x) → T (finite x) → num x / den x < 2 ^ 64 → cutUsize x ≡ num x / den x

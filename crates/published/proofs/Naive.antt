@@ -29,7 +29,8 @@ module _ (r2 : Float) (c : Corner) where
       later false l = refl
 
       pick : (b : Bool) (s : ScannedRs) → turned c s ≡ settle (nearBy r2) behind c
-          → turned c (cond b (record { out = stronger c o ∷ behind; continued = true }) (record { out = o ∷ s .out; continued = s .continued }))
+          → turned c (cond b (record { out = stronger c o ∷ behind; continued = true })
+          (record { out = o ∷ s .out; continued = s .continued }))
           ≡ cond b (stronger c o ∷ behind) (o ∷ settle (nearBy r2) behind c)
       pick true s e = refl
       pick false s e = later (s .continued) (s .out) ∙ ap (λ (l : List Corner). o ∷ l) e

@@ -53,7 +53,8 @@ module _ (m : List Float) (w h ring : ℕ) (threshold thr : Float) (nms least re
       go false false true s = refl
       go false false false s = refl
 
-  loops-are : (b : ℕ) → flatMap (λ y. flatMap (λ x. peakRs m w h thr nms least (record { x = x; y = y })) (range b (w - b))) (range b (h - b))
+  loops-are : (b : ℕ) → flatMap (λ y. flatMap (λ x. peakRs m w h thr nms least (record { x = x; y = y })) (range b (w - b)))
+      (range b (h - b))
       ≡ map start (keep peak (block b (w - b) b (h - b)))
   loops-are b =
       let cells = block b (w - b) b (h - b) in

@@ -1,5 +1,5 @@
--- The pyramid is the published one: halving again and again is dividing by a power of two, a box's mean is a byte, and so is 2^-k the scale of
--- level k. Assumes nothing.
+-- The pyramid is the published one: halving again and again is dividing by a power of two, a box's mean is a byte, and so is 2^-k the scale
+-- of level k. Assumes nothing.
 use mathlib.Core.Path.{_≡_, refl, sym, ap, ap₂, _∙_}
 use mathlib.Core.Bool.{Bool, true, false, cond, _||_}
 use mathlib.Core.List.{List, [], _∷_}
@@ -13,6 +13,7 @@ use lib.IntN.{negsuc}
 use lib.Pow.{pow-mono, pow-pos}
 use lib.Ieee.{fin, binary32, mul, round, fits}
 use borrow.Author.Tests.{eqb-false, le-leb, lt-ltb}
+use Rattle.lists.specs.Limits.{largestSide, lastLevel}
 use Rattle.lists.specs.Tab.{tab}
 use Rattle.lists.proofs.Tests.{or-neither}
 use Rattle.lists.proofs.Tab.{tab-add, tab-ext, grid-ext}
@@ -35,10 +36,11 @@ power-fits k l =
 pub scale-next : (k : ℕ) → k < 149 → mul binary32 (scaleOf k) half32 ≡ scaleOf (suc k)
 unfolding mul
 scale-next zero l = unfold round in refl
-scale-next (suc k) l = ap (λ (d : ℕ). round binary32 false 1 d) (sym (pow-suc 2 (suc k))) ∙ round-own false 1 (negsuc (suc k)) (power-fits (suc k) l)
+scale-next (suc k) l =
+    ap (λ (d : ℕ). round binary32 false 1 d) (sym (pow-suc 2 (suc k))) ∙ round-own false 1 (negsuc (suc k)) (power-fits (suc k) l)
 
--- a side of at most 4,096 can be halved twelve times
-few : (w k : ℕ) → w ≤ 4096 → 0 < w / 2 ^ k → k ≤ 12
+-- the largest side can be halved as often as there are levels above the base
+few : (w k : ℕ) → w ≤ largestSide → 0 < w / 2 ^ k → k ≤ lastLevel
 few w k l h = elim (decLt 12 k) [
   | no g ↦ omega arith
   | yes m ↦ absurd (let none : w / 2 ^ k ≡ 0 = div-eq-of-lt (lt-of-lt-of-le (omega arith) (pow-mono {j = k} m)) in omega arith)
@@ -53,14 +55,15 @@ unfolding halfPixel
 half-is img w x y bytes = box-is _ _ _ _ (bytes _) (bytes _) (bytes _) (bytes _) ∙ rw (mul-comm y 2, mul-comm x 2, row-below w (2 * y))
 
 -- ---- levels
-module _ (base : List ℕ) (w h least : ℕ) (bytes : Bytes base) (narrow : w ≤ 4096) where
+module _ (base : List ℕ) (w h least : ℕ) (bytes : Bytes base) (narrow : w ≤ largestSide) where
   abbrev level : ℕ → LevelRs
   level = levelOf base w h
 
   next-is : (k : ℕ) → k < 149 → nextRs (level k) ≡ level (suc k)
   unfolding nextRs levelPixels halved
   next-is k l =
-      rw (grid-ext (levelSide w k / 2) (levelSide h k / 2) _ _ (λ x y _ _. half-is (levelPixels base w h k) (levelSide w k) x y (level-bytes base w h bytes k)))
+      rw (grid-ext (levelSide w k / 2) (levelSide h k / 2) _ _
+      (λ x y _ _. half-is (levelPixels base w h k) (levelSide w k) x y (level-bytes base w h bytes k)))
       (rw (scale-next k l, side-next w k (levelSide w k) refl, side-next h k (levelSide h k) refl))
 
   small-is : (a b : ℕ) → (eqb a 0 || eqb b 0 || ltb a least || ltb b least) ≡ isTooSmall a b least
@@ -83,10 +86,12 @@ module _ (base : List ℕ) (w h least : ℕ) (bytes : Bytes base) (narrow : w �
   unfolding loopRs halvings
   loop-is zero k = unfold tab in refl
   loop-is (suc n) k =
-      rw (small-is (levelSide w k / 2) (levelSide h k / 2)) (go (isTooSmall (levelSide w k / 2) (levelSide h k / 2) least) refl (loop-is n (suc k)))
+      rw (small-is (levelSide w k / 2) (levelSide h k / 2))
+      (go (isTooSmall (levelSide w k / 2) (levelSide h k / 2) least) refl (loop-is n (suc k)))
     where
       go : (b : Bool) → isTooSmall (levelSide w k / 2) (levelSide h k / 2) least ≡ b
-          → loopRs n least (level (suc k)) ≡ tab (halvings n (levelSide w (suc k)) (levelSide h (suc k)) least) (λ i. level (suc (suc k) + i))
+          → loopRs n least (level (suc k))
+          ≡ tab (halvings n (levelSide w (suc k)) (levelSide h (suc k)) least) (λ i. level (suc (suc k) + i))
           → cond b [] (nextRs (level k) ∷ loopRs n least (nextRs (level k)))
           ≡ tab (cond b 0 (suc (halvings n (levelSide w k / 2) (levelSide h k / 2) least))) (λ i. level (suc k + i))
       go true e again = unfold tab in refl
@@ -118,6 +123,7 @@ pyramid-as-published base w h (suc n) least bytes narrow =
     let turns : suc n - 1 ≡ n = omega arith in
     rw (eqb·suc-zero n, base-is base w h least bytes narrow, turns, all-is base w h least bytes narrow n) (go (isBelow w h least))
   where
-    go : (b : Bool) → cond b [] (tab (suc (halvings n w h least)) (levelOf base w h)) ≡ tab (cond b 0 (suc (halvings n w h least))) (levelOf base w h)
+    go : (b : Bool) → cond b [] (tab (suc (halvings n w h least)) (levelOf base w h))
+        ≡ tab (cond b 0 (suc (halvings n w h least))) (levelOf base w h)
     go true = unfold tab in refl
     go false = refl

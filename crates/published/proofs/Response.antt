@@ -1,5 +1,5 @@
--- The response of a cell and the map of a box are the published ones: offsets from the centre and differences are integers there, the cross is
--- summed in floats, and a row is cut where the ring leaves the image. Assumes nothing.
+-- The response of a cell and the map of a box are the published ones: offsets from the centre and differences are integers there, the cross
+-- is summed in floats, and a row is cut where the ring leaves the image. Assumes nothing.
 use mathlib.Core.Path.{_≡_, refl, sym, ap₂, _∙_}
 use mathlib.Core.Bool.{Bool, true, false, cond, _&&_, _||_}
 use mathlib.Core.List.{List, []}
@@ -11,6 +11,7 @@ use lib.IntN.{pos, natAbs, subℕ, _+ℤ_, _-ℤ_}
 use lib.ListN.{length, getD, length-map, List·getD-map}
 use lib.Ieee.{Float, binary32, add}
 use borrow.Author.Tests.{lt-ltb, le-ltb, le-leb, lt-leb, eq-eqb, ne-eqb, eqb-true}
+use Rattle.lists.specs.Limits.{largestSide}
 use Rattle.lists.specs.Tab.{grid, pixel}
 use Rattle.lists.proofs.Tests.{and-none}
 use Rattle.lists.proofs.Tab.{getD-any, getD-tab, grid-ext}
@@ -27,7 +28,8 @@ use Rattle.accuracy.specs.Accurate.{Bytes}
 use Rattle.accuracy.proofs.Error.{whole}
 use Rattle.published.specs.Rust.{asUsize, lessUsize}
 use Rattle.published.specs.RingRs.{ringOffsets, ringRadius, fromCentre, offsetsOf}
-use Rattle.published.specs.ResponseRs.{MapRs, sampleRs, srRs, drRs, sumRs, responseRs, cellRs, patchRs, ResponseAsPublished, PatchAsPublished}
+use Rattle.published.specs.ResponseRs.{MapRs, sampleRs, srRs, drRs, sumRs, responseRs, cellRs, patchRs, ResponseAsPublished}
+use Rattle.published.specs.ResponseRs.{PatchAsPublished}
 use Rattle.published.proofs.Integers.{sub-high, minus-is, abs-is, plus-is}
 use Rattle.published.proofs.Ring.{ring-as-published}
 
@@ -70,7 +72,9 @@ module _ (img : List ℕ) (w : ℕ) (t : Ring) (x y : ℕ) (is : IsRing t) (left
   two j k p q = ap₂ (λ (a b : ℕ). a + b) (sample j p) (sample k q)
 
   sr : srRs s ≡ srOf (samples img w t x y)
-  sr = total-alike _ _ 4 (λ k l. difference _ _ _ _ (two k (k + 8) (omega arith) (omega arith)) (two (k + 4) (k + 12) (omega arith) (omega arith)))
+  sr =
+      total-alike _ _ 4 (λ k l. difference _ _ _ _ (two k (k + 8) (omega arith) (omega arith))
+      (two (k + 4) (k + 12) (omega arith) (omega arith)))
 
   dr : drRs s ≡ drOf (samples img w t x y)
   dr = total-alike _ _ 8 (λ k l. difference _ _ _ _ (sample k (omega arith)) (sample (k + 8) (omega arith)))
@@ -83,7 +87,8 @@ plus : (a b : ℕ) → a + b ≤ 1275 → add binary32 (floatOf a) (floatOf b) �
 plus a b h = add-whole binary32 (floatOf a) (floatOf b) a b (whole a (omega arith)) (whole b (omega arith))
 
 five-bytes : (c n s e w : ℕ) → c < 256 → n < 256 → s < 256 → e < 256 → w < 256
-    → add binary32 (add binary32 (add binary32 (add binary32 (floatOf c) (floatOf n)) (floatOf s)) (floatOf e)) (floatOf w) ≡ floatOf (c + n + s + e + w)
+    → add binary32 (add binary32 (add binary32 (add binary32 (floatOf c) (floatOf n)) (floatOf s)) (floatOf e)) (floatOf w)
+    ≡ floatOf (c + n + s + e + w)
 five-bytes c n s e w C N S E W =
     rw (plus c n (omega arith), plus (c + n) s (omega arith), plus (c + n + s) e (omega arith)) (plus (c + n + s + e) w (omega arith))
 
@@ -99,7 +104,8 @@ response-as-published img w t x y is left above bytes =
     (rw (sub-high x 1 (omega arith), sub-high y 1 (omega arith), in-floats))
 
 -- ---- any cell of a patch
-module _ (img : List ℕ) (w h radius x0 x1 y0 : ℕ) (bytes : Bytes img) (narrow : w ≤ 4096) (low : h ≤ 4096) (ends : x1 ≤ w) where
+module _ (img : List ℕ) (w h radius x0 x1 y0 : ℕ) (bytes : Bytes img) (narrow : w ≤ largestSide) (low : h ≤ largestSide)
+    (ends : x1 ≤ w) where
   abbrev t : Ring
   t = ringOf radius
 
@@ -115,7 +121,9 @@ module _ (img : List ℕ) (w h radius x0 x1 y0 : ℕ) (bytes : Bytes img) (narro
 
     too-high : y0 + py < r → Cell
     unfolding cellRs
-    too-high l = rw (lt-ltb (y0 + py) r l) (sym (at-outside w h t (x0 + px) (y0 + py) img (out-above w h t (x0 + px) (y0 + py) (omega (arith, r-is)))))
+    too-high l =
+        rw (lt-ltb (y0 + py) r l) (sym (at-outside w h t (x0 + px) (y0 + py) img
+        (out-above w h t (x0 + px) (y0 + py) (omega (arith, r-is)))))
 
     too-low : r ≤ y0 + py → h ≤ y0 + py + r → Cell
     unfolding cellRs
@@ -144,7 +152,8 @@ module _ (img : List ℕ) (w h radius x0 x1 y0 : ℕ) (bytes : Bytes img) (narro
       too-left : x0 + px < r → Cell
       too-left l =
           row-is ∙ rw (lt-leb (first - x0) px (omega arith))
-          (none (leb past first) ∙ sym (at-outside w h t (x0 + px) (y0 + py) img (out-left w h t (x0 + px) (y0 + py) (omega (arith, r-is)))))
+          (none (leb past first) ∙ sym (at-outside w h t (x0 + px) (y0 + py) img
+          (out-left w h t (x0 + px) (y0 + py) (omega (arith, r-is)))))
 
       module _ (left : r ≤ x0 + px) where
         usual : lessUsize w r ≡ w - r
@@ -154,13 +163,19 @@ module _ (img : List ℕ) (w h radius x0 x1 y0 : ℕ) (bytes : Bytes img) (narro
         too-right l =
             let past-row : past - x0 ≤ px = rw usual (omega arith) in
             row-is ∙ rw (le-ltb px (past - x0) past-row, and-none (leb (first - x0) px))
-            (none (leb past first) ∙ sym (at-outside w h t (x0 + px) (y0 + py) img (out-right w h t (x0 + px) (y0 + py) (omega (arith, r-is)))))
+            (none (leb past first) ∙ sym (at-outside w h t (x0 + px) (y0 + py) img
+            (out-right w h t (x0 + px) (y0 + py) (omega (arith, r-is)))))
 
         inner : x0 + px + r < w → Cell
         inner l =
             let here : x0 + px < past = rw usual (omega arith) in
             let of-ring : ringOffsets radius ≡ offsetsOf t = ring-as-published radius .0 in
-            row-is ∙ rw (lt-leb past first (omega arith), le-leb (first - x0) px (omega arith), lt-ltb px (past - x0) (omega arith), of-ring)
+            row-is ∙ rw (
+              lt-leb past first (omega arith),
+              le-leb (first - x0) px (omega arith),
+              lt-ltb px (past - x0) (omega arith),
+              of-ring,
+            )
             (response-as-published img w t (x0 + px) (y0 + py) (ringOf-is radius) (omega (arith, r-is)) (omega (arith, r-is)) bytes
             ∙ sym (at-inside w h t (x0 + px) (y0 + py) img r (sym r-is) (record { left = left; right = l; above = top; below = bottom })))
 

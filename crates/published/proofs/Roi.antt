@@ -1,5 +1,5 @@
--- The box of a seed is the published one: 1 / 2^-k is 2^k, a search radius over 2^-k is whole, and the tests of integers are those of natural numbers.
--- Assumes nothing.
+-- The box of a seed is the published one: 1 / 2^-k is 2^k, a search radius over 2^-k is whole, and the tests of integers are those of
+-- natural numbers. Assumes nothing.
 use mathlib.Core.Path.{_≡_, refl, sym, ap, ap₂, _∙_}
 use mathlib.Core.Bool.{Bool, true, false, cond, _||_, true≢false}
 use Prim.Native.Nat.{ℕ, zero, suc, _+_, _-_, _*_, _/_, _^_, _≤_, _<_, max}
@@ -17,7 +17,7 @@ use lib.Ieee.Exact.{HasValue}
 use borrow.Author.Tests.{lt-ltb, le-ltb, leb-false, not-false}
 use Rattle.lists.proofs.Tests.{from-T, or-right}
 use Rattle.lists.proofs.Refusals.{all-clear}
-use Rattle.float32.specs.Float32.{zero as zero32, abs, nearestWhole, signed, judged, roundHalfAway}
+use Rattle.float32.specs.Float32.{zero as zero32, abs, nearestWhole, signed, largestRounded, judged, roundHalfAway}
 use Rattle.float32.specs.declared.Rounded.the-variants.{Natural}
 use Rattle.float32.proofs.Values.{ofInt-value}
 use Rattle.float32.proofs.Bounds.{div-round, whole-over}
@@ -65,7 +65,8 @@ ceil-whole (fin false m e) n h = ap (wholeFloat false) (whole-up (m * up e) (dow
         rw (e, mul-add-div-right p n (d - 1), none) (omega arith)
 
 -- "ceil(search / scale)": the search radius in the base's pixels
-pub search-is : (search k : ℕ) → search ≤ 255 → k ≤ 12 → cutI32 (ceilF (div binary32 (ofInt binary32 (pos search)) (scaleOf k))) ≡ pos (search * 2 ^ k)
+pub search-is : (search k : ℕ) → search ≤ 255 → k ≤ 12
+    → cutI32 (ceilF (div binary32 (ofInt binary32 (pos search)) (scaleOf k))) ≡ pos (search * 2 ^ k)
 search-is search k l h =
     let small : search * 2 ^ k ≤ 2 ^ 24 = le-trans (mul-le-mul l (pow-mono {j = 12} h)) (lit≤ tt) in
     let over = over-scale (ofInt binary32 (pos search)) search k (ofInt-value binary32 search (lt-of-le-of-lt l (lit< tt))) in
@@ -91,7 +92,8 @@ context c =
     }
 
 context-is : (c : RoiContext) → SoundContext c
-    → contextRs (c .width) (c .height) (scaleOf (c .level)) (borderRs (c .ring) (c .window)) (pos (c .«centroid_radius»)) (c .«search_radius») ≡ context c
+    → contextRs (c .width) (c .height) (scaleOf (c .level)) (borderRs (c .ring) (c .window)) (pos (c .«centroid_radius»))
+    (c .«search_radius») ≡ context c
 unfolding contextRs roiRadius
 context-is c s =
     rw (le-ltb (c .ring + c .window) 0 (omega arith), le-ltb (c .ring + c .window + c .«centroid_radius») 0 (omega arith))
@@ -111,12 +113,12 @@ context-is c s =
         }
 
 -- ---- the centre
-judged-small : (v : Float) (p : ℕ) → roundHalfAway v ≡ Natural p → le (abs v) (fin false 1 (pos 24)) ≡ true
+judged-small : (v : Float) (p : ℕ) → roundHalfAway v ≡ Natural p → le (abs v) largestRounded ≡ true
 unfolding roundHalfAway
-judged-small v p e = go (le (abs v) (fin false 1 (pos 24))) refl e
+judged-small v p e = go (le (abs v) largestRounded) refl e
   where
-    go : (b : Bool) → le (abs v) (fin false 1 (pos 24)) ≡ b → judged b (signed (lt v zero32) (nearestWhole v)) ≡ Natural p
-        → le (abs v) (fin false 1 (pos 24)) ≡ true
+    go : (b : Bool) → le (abs v) largestRounded ≡ b → judged b (signed (lt v zero32) (nearestWhole v)) ≡ Natural p
+        → le (abs v) largestRounded ≡ true
     go true q e = q
     go false q e = absurd (let z : _≡_ {A = ℕ} 0 1 = cc in omega arith)
 
@@ -170,9 +172,11 @@ module _ (c : RoiContext) (p q : ℕ) where
       let y0 = lowRs (context c) (pos q) in
       let x1 = highRs (context c) (pos (c .width)) (pos p) in
       let y1 = highRs (context c) (pos (c .height)) (pos q) in
-      cond (leZ (x1 -ℤ x0) (pos (2 * border c)) || leZ (y1 -ℤ y0) (pos (2 * border c))) NoRoi (Bounds (asUsize x0) (asUsize y0) (asUsize x1) (asUsize y1))
+      cond (leZ (x1 -ℤ x0) (pos (2 * border c)) || leZ (y1 -ℤ y0) (pos (2 * border c))) NoRoi
+      (Bounds (asUsize x0) (asUsize y0) (asUsize x1) (asUsize y1))
 
-  sized-is : p + (border c + 1) < c .width → q + (border c + 1) < c .height → sized ≡ cond (narrow (c .width) p || narrow (c .height) q) NoRoi box
+  sized-is : p + (border c + 1) < c .width → q + (border c + 1) < c .height
+      → sized ≡ cond (narrow (c .width) p || narrow (c .height) q) NoRoi box
   sized-is k l =
       rw (low-is c (c .width) p, low-is c (c .height) q, high-is c (c .width) p k, high-is c (c .height) q l)
       (rw (difference (high (c .width) p) (low p) (2 * border c), difference (high (c .height) q) (low q) (2 * border c)))
@@ -180,19 +184,22 @@ module _ (c : RoiContext) (p q : ℕ) where
   abbrev margin : ℕ
   margin = border c + 1
 
-  tests-are : cond (ltb p margin || ltb q margin || leZ (pos (c .width) -ℤ pos margin) (pos p) || leZ (pos (c .height) -ℤ pos margin) (pos q)) NoRoi sized
+  tests-are : cond (ltb p margin || ltb q margin || leZ (pos (c .width) -ℤ pos margin) (pos p) || leZ
+      (pos (c .height) -ℤ pos margin) (pos q)) NoRoi sized
       ≡ cond (isOff (border c) (roiRadius c) (c .width) p || isOff (border c) (roiRadius c) (c .height) q) NoRoi box
   tests-are =
       rw (difference (c .width) margin p, difference (c .height) margin q)
       (go (ltb p margin) (ltb q margin) (leb (c .width - margin) p) (leb (c .height - margin) q) refl refl)
     where
       go : (a a′ d d′ : Bool) → leb (c .width - margin) p ≡ d → leb (c .height - margin) q ≡ d′
-          → cond (a || a′ || d || d′) NoRoi sized ≡ cond ((a || (d || narrow (c .width) p)) || (a′ || (d′ || narrow (c .height) q))) NoRoi box
+          → cond (a || a′ || d || d′) NoRoi sized
+          ≡ cond ((a || (d || narrow (c .width) p)) || (a′ || (d′ || narrow (c .height) q))) NoRoi box
       go true a′ d d′ s t = refl
       go false true d d′ s t = rw (or-right (d || narrow (c .width) p))
       go false false true d′ s t = refl
       go false false false true s t = rw (or-right (narrow (c .width) p))
-      go false false false false s t = sized-is (omega (arith, leb-false (c .width - margin) p s)) (omega (arith, leb-false (c .height - margin) q t))
+      go false false false false s t =
+          sized-is (omega (arith, leb-false (c .width - margin) p s)) (omega (arith, leb-false (c .height - margin) q t))
 
 seed-inside : (c : RoiContext) (s : Corner) → refusalOf c s ≡ 0 → isInside s ≡ true
 unfolding refusalOf

@@ -12,7 +12,7 @@ use lib.Ieee.Back.{positive-back, negative-back}
 use lib.Ieee.Fits.{down-pos}
 use lib.Ieee.Positive.{num, den}
 use borrow.Author.Tests.{lt-ltb, le-ltb}
-use Rattle.float32.specs.Float32.{zero as zero32, abs, nearestWhole, signed, roundHalfAway}
+use Rattle.float32.specs.Float32.{zero as zero32, abs, nearestWhole, signed, largestRounded, roundHalfAway}
 use Rattle.float32.specs.declared.Rounded.{Rounded}
 use Rattle.float32.specs.declared.Rounded.the-variants.{Natural, Negative, Beyond}
 use Rattle.float32.proofs.HalfAway.{size-within}
@@ -57,7 +57,7 @@ sign-told true m e = elim (eq-zero-or-pos (m * up e)) [
   | inr p ↦ inl (lt-ltb 0 (m * up e * 1 + 0 * 1 * down e) (omega arith))
 ]
 
-pub round-is : (x : Float) → le (abs x) (fin false 1 (pos 24)) ≡ true → cutI32 (roundF x) ≡ integerOf (roundHalfAway x)
+pub round-is : (x : Float) → le (abs x) largestRounded ≡ true → cutI32 (roundF x) ≡ integerOf (roundHalfAway x)
 unfolding roundF roundHalfAway abs le
 round-is nan h = absurd (true≢false (sym h))
 round-is (inf s) h = absurd (true≢false (sym h))

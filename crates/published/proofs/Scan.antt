@@ -1,5 +1,5 @@
--- The indices that are scanned for a corner are those of the kept corners in neighbouring cells, as long as the grid lists each at its cell.
--- Assumes nothing.
+-- The indices that are scanned for a corner are those of the kept corners in neighbouring cells, as long as the grid lists each at its
+-- cell. Assumes nothing.
 use mathlib.Core.Path.{_≡_, sym, ap, _∙_}
 use mathlib.Core.Bool.{true, _&&_}
 use mathlib.Core.List.{List}
@@ -41,7 +41,8 @@ near-by a b side l e =
 by-near : (a b side : ℕ) → a - 1 ≤ b → b < min (a + 1) (side - 1) + 1 → adjacent a b ≡ true
 by-near a b side p q = rw (le-leb a (b + 1) (omega arith), le-leb b (a + 1) (omega arith))
 
-module _ (g : GridRs) (G : Grid) (out : List Corner) (grid : ℕ → List ℕ) (h : Holds (indexRs g) (Placed g G) out grid) (c : Corner) (at : Placed g G c) where
+module _ (g : GridRs) (G : Grid) (out : List Corner) (grid : ℕ → List ℕ) (h : Holds (indexRs g) (Placed g G) out grid)
+    (c : Corner) (at : Placed g G c) where
   neighbours-are : (o : Corner) → Placed g G o
       → neighbours G (positionOf c) (positionOf o) ≡ (adjacent (columnRs g c) (columnRs g o) && adjacent (rowRs g c) (rowRs g o))
   unfolding neighbours
@@ -55,20 +56,25 @@ module _ (g : GridRs) (G : Grid) (out : List Corner) (grid : ℕ → List ℕ) (
   unfolding scannedRs
   near-scanned i l e =
       let o = outAt out i in
-      let p = and-parts (adjacent (columnRs g c) (columnRs g o)) (adjacent (rowRs g c) (rowRs g o)) (sym (neighbours-are o (h .good i l)) ∙ e) in
+      let p = and-parts (adjacent (columnRs g c) (columnRs g o)) (adjacent (rowRs g c) (rowRs g o))
+      (sym (neighbours-are o (h .good i l)) ∙ e) in
       let x = near-by (columnRs g c) (columnRs g o) (widthRs g) (omega arith) (p .0) in
       let y = near-by (rowRs g c) (rowRs g o) (heightRs g) (omega arith) (p .1) in
       range-in i line (rowRs g c - 1) _ (rowRs g o) (y .0) (y .1)
       (range-in i (λ nx. grid (rowRs g o * widthRs g + nx)) (columnRs g c - 1) _ (columnRs g o) (x .0) (x .1) (h .listed i l))
 
-  pub scanned-near : (i : ℕ) → In i (scannedRs g grid c) → (i < length out) × (neighbours G (positionOf c) (positionOf (outAt out i)) ≡ true)
+  pub scanned-near : (i : ℕ) → In i (scannedRs g grid c)
+      → (i < length out) × (neighbours G (positionOf c) (positionOf (outAt out i)) ≡ true)
   unfolding scannedRs
   scanned-near i k =
       let row = in-range i line (rowRs g c - 1) (min (rowRs g c + 1) (heightRs g - 1) + 1) k in
-      let column = in-range i (λ nx. grid (row .k * widthRs g + nx)) (columnRs g c - 1) (min (columnRs g c + 1) (widthRs g - 1) + 1) (row .here) in
+      let column = in-range i (λ nx. grid (row .k * widthRs g + nx)) (columnRs g c - 1)
+      (min (columnRs g c + 1) (widthRs g - 1) + 1) (row .here) in
       let is = h .only i (row .k * widthRs g + column .k) (column .here) in
       let o = outAt out i in
-      let cell = same-cell (widthRs g) (columnRs g o) (rowRs g o) (column .k) (row .k) (omega arith) (omega (arith, column .below)) (is .1) in
-      let x : adjacent (columnRs g c) (columnRs g o) ≡ true = rw (cell .0) (by-near (columnRs g c) (column .k) (widthRs g) (column .from) (column .below)) in
+      let cell = same-cell (widthRs g) (columnRs g o) (rowRs g o) (column .k) (row .k) (omega arith)
+      (omega (arith, column .below)) (is .1) in
+      let x : adjacent (columnRs g c) (columnRs g o) ≡ true = rw (cell .0)
+      (by-near (columnRs g c) (column .k) (widthRs g) (column .from) (column .below)) in
       let y : adjacent (rowRs g c) (rowRs g o) ≡ true = rw (cell .1) (by-near (rowRs g c) (row .k) (heightRs g) (row .from) (row .below)) in
       (is .0, neighbours-are o (h .good i (is .0)) ∙ rw (x, y))

@@ -64,7 +64,8 @@ unmoved (fin false m e) (fin t n d) h k =
   where
     own : round binary32 false (m * up e * down d) (down e * down d) ≡ fin false m e
     own =
-        round-same binary32 false (m * up e * down d) (down e * down d) (m * up e) (down e) (mul-pos (down-pos e) (down-pos d)) (down-pos e) (simp poly)
+        round-same binary32 false (m * up e * down d) (down e * down d) (m * up e) (down e) (mul-pos (down-pos e) (down-pos d))
+        (down-pos e) (simp poly)
         ∙ round-own false m e (from-T _ (h .fitting))
 
     go : (t : Bool) → sum binary32 false (m * up e * down d) t 0 (down e * down d) ≡ fin false m e
@@ -86,7 +87,8 @@ sum-more s t h k = record { stands = go s t (h .stands) k; fitting = add-fits bi
     go (fin false m e) (inf true) h k = absurd k
     go (fin false m e) (inf false) h k = unfold add in tt
     go (fin false m e) (fin true n d) h k = absurd k
-    go (fin false m e) (fin false n d) h k = unfold add sum in round-upright binary32 (m * up e * down d + n * up d * down e) (down e * down d)
+    go (fin false m e) (fin false n d) h k = unfold add sum in
+        round-upright binary32 (m * up e * down d + n * up d * down e) (down e * down d)
 
 -- ---- terms that are the same, or both zeros
 abbrev pub Alike : Float → Float → Type 0
@@ -96,12 +98,14 @@ add-alike : (s t t′ : Float) → Sum s → Alike t t′ → add binary32 s t�
 add-alike s t t′ h (inl e) = ap (add binary32 s) e
 add-alike s t t′ h (inr (z′, z)) = unmoved s t′ h z′ ∙ sym (unmoved s t h z)
 
-pub sums-alike : {A : Type 0} (term term′ : A → Float) (s : Float) (ps : List A) → Sum s → All (λ p. Alike (term p) (term′ p) × T (upright (term p))) ps
+pub sums-alike : {A : Type 0} (term term′ : A → Float) (s : Float) (ps : List A) → Sum s
+    → All (λ p. Alike (term p) (term′ p) × T (upright (term p))) ps
     → summed term′ s ps ≡ summed term s ps
 unfolding summed
 sums-alike term term′ s [] h k = refl
 sums-alike term term′ s (p ∷ ps) h k =
-    rw (add-alike s (term p) (term′ p) h (k .0 .0)) (sums-alike term term′ (add binary32 s (term p)) ps (sum-more s (term p) h (k .0 .1)) (k .1))
+    rw (add-alike s (term p) (term′ p) h (k .0 .0))
+    (sums-alike term term′ (add binary32 s (term p)) ps (sum-more s (term p) h (k .0 .1)) (k .1))
 
 -- ---- weights, and their products with a coordinate
 pub weight-alike : (v r : Float) → Lifted v r → Alike (lift v) r

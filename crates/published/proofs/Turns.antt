@@ -1,4 +1,5 @@
--- Each turn of the published loop settles a corner among the kept ones and keeps the grid's lists, so that the loop merges. Assumes nothing.
+-- Each turn of the published loop settles a corner among the kept ones and keeps the grid's lists, so that the loop merges. Assumes
+-- nothing.
 use mathlib.Core.Path.{_≡_, refl, sym, ap, ap₂, _∙_}
 use mathlib.Core.Logic.{_⊎_, ⊎-elim}
 use mathlib.Core.Bool.{Bool, true, false, cond, _&&_}
@@ -46,7 +47,8 @@ module _ (g : GridRs) (G : Grid) (square : g .r2 ≡ G .square) where
     -- none that c joins stands before the hit
     before : (i : ℕ) → i < length (s .out) → joins G c (outAt (s .out) i) ≡ true → hit ≤ i
     before i l e =
-        let p = and-parts (near (G .square) (positionOf c) (positionOf (outAt (s .out) i))) (neighbours G (positionOf c) (positionOf (outAt (s .out) i))) e in
+        let p = and-parts (near (G .square) (positionOf c) (positionOf (outAt (s .out) i)))
+        (neighbours G (positionOf c) (positionOf (outAt (s .out) i))) e in
         best .before i (near-scanned g G (s .out) (s .grid) h c at i l (p .1)) (close-is c (outAt (s .out) i) ∙ p .0)
 
     -- and a hit is one that it joins
@@ -77,7 +79,8 @@ module _ (g : GridRs) (G : Grid) (square : g .r2 ≡ G .square) where
       at-hit : settle (joins G) (s .out) c ≡ set (s .out) hit (stronger c (outAt (s .out) hit))
       at-hit =
           let f = found n in
-          settle-some (joins G) c nowhere (s .out) hit (f .0) (λ m l j. let no : ⊥ = omega (arith, before m (omega (arith, f .0)) j) in no) (f .1)
+          settle-some (joins G) c nowhere (s .out) hit (f .0)
+          (λ m l j. let no : ⊥ = omega (arith, before m (omega (arith, f .0)) j) in no) (f .1)
 
       cell-same : (eqb (columnRs g (outAt (s .out) hit)) (columnRs g c) && eqb (rowRs g (outAt (s .out) hit)) (rowRs g c)) ≡ true
           → indexRs g (outAt (s .out) hit) ≡ indexRs g c
@@ -92,7 +95,8 @@ module _ (g : GridRs) (G : Grid) (square : g .r2 ≡ G .square) where
       }
         where
           go : (b : Bool) → (eqb (columnRs g (outAt (s .out) hit)) (columnRs g c) && eqb (rowRs g (outAt (s .out) hit)) (rowRs g c)) ≡ b
-              → Holds (indexRs g) (Placed g G) (set (s .out) hit c) (cond b (s .grid) (movedRs hit (indexRs g (outAt (s .out) hit)) (indexRs g c) (s .grid)))
+              → Holds (indexRs g) (Placed g G) (set (s .out) hit c)
+              (cond b (s .grid) (movedRs hit (indexRs g (outAt (s .out) hit)) (indexRs g c) (s .grid)))
           go true q = same-holds (indexRs g) (Placed g G) (s .out) (s .grid) h c at hit (found n .0) (cell-same q)
           go false q = moved-holds (indexRs g) (Placed g G) (s .out) (s .grid) h c at hit (found n .0)
 

@@ -60,7 +60,8 @@ module _ (img : List ℕ) (w h radius : ℕ) (bytes : Bytes img) (x y : ℕ) whe
       let s = and-parts (leb (t .radius) y) (ltb (y + t .radius) h) (q .1) in
       at-is (leb-true (t .radius) x (p .0)) (leb-true (t .radius) y (s .0))
 
-  cell-is : (r : ℕ) → r ≡ t .radius → cond (leb r y && ltb y (h - r)) (cond (leb r x && ltb x (w - r)) at zero32) zero32 ≡ responseAt img w h t x y
+  cell-is : (r : ℕ) → r ≡ t .radius
+      → cond (leb r y && ltb y (h - r)) (cond (leb r x && ltb x (w - r)) at zero32) zero32 ≡ responseAt img w h t x y
   unfolding responseAt
   cell-is r e =
       in-one (leb r y) (ltb y (h - r)) (leb r x) (ltb x (w - r)) at zero32
@@ -80,5 +81,6 @@ whole-as-published img (suc n) h radius bytes high wide =
     let some = radius-pos (ringOf radius) (ringOf-is radius) in
     let r = ring-as-published radius .1 in
     rw (whole-cols img w h (ringOf radius) (omega arith), whole-rows img w h (ringOf radius) (omega arith))
-    (grid-ext w h _ _ (λ x y _ _. cell-is img w h radius bytes x y (ringRadius radius) r ∙ ap₂ (responseAt img w h (ringOf radius)) (omega arith)
+    (grid-ext w h _ _ (λ x y _ _. cell-is img w h radius bytes x y (ringRadius radius) r
+    ∙ ap₂ (responseAt img w h (ringOf radius)) (omega arith)
     (omega arith)))

@@ -66,13 +66,15 @@ module _ (w h r : ℕ) (p : Place) where
       ∙ rw (le-ltb (x + i) r a, le-ltb (y + j) r c, lt-leb (w + r) (x + i) b, lt-leb (h + r) (y + j) d)
       (rw (centre x i a, centre y j c) (turned (same (record { x = x + i - r; y = y + j - r }) p)))
     where
-      turned : (b : Bool) → found b false (record { x = x + i - r; y = y + j - r }) ≡ cond (not b) (record { x = x + i - r; y = y + j - r } ∷ []) []
+      turned : (b : Bool) → found b false (record { x = x + i - r; y = y + j - r })
+          ≡ cond (not b) (record { x = x + i - r; y = y + j - r } ∷ []) []
       turned true = refl
       turned false = refl
 
   -- one row
   line : (j : ℕ) → r ≤ y + j → y + j < h + r
-      → flatMap (turnRs w h p (subℕ j r)) (around r) ≡ flatMap (λ u. kept (record { x = u; y = y + j - r })) (range (x - r) (min (x + r + 1) w))
+      → flatMap (turnRs w h p (subℕ j r)) (around r)
+      ≡ flatMap (λ u. kept (record { x = u; y = y + j - r })) (range (x - r) (min (x + r + 1) w))
   unfolding around
   line j c d =
       flat-map (turnRs w h p (subℕ j r)) (λ (i : ℕ). subℕ i r) (range 0 (2 * r + 1))

@@ -1,5 +1,5 @@
--- merge.rs: `merge_corners_simple` and `merge_corners_naive`. No test of them reads the neighbours: they go with the corner that is pushed, or that
--- replaces another.
+-- merge.rs: `merge_corners_simple` and `merge_corners_naive`. None of their tests reads the neighbours; these stay with
+-- the corner that is pushed or replaces another.
 use Prim.Native.Nat.{ℕ, _+_, _-_, _*_, _%_, _^_, _<_, min}
 use mathlib.Core.Path.{_≡_}
 use mathlib.Core.Bool.{Bool, true, false, cond, not, _&&_, _||_}
@@ -22,7 +22,7 @@ use Rattle.published.specs.PyramidRs.{one32}
 
 -- ---- the grid
 
--- `if c.x > max_x { max_x = c.x; }` for each; `leastFrom` is the like of `min_x`
+-- `if c.x > max_x { max_x = c.x; }` for each; `leastFrom` is the same for `min_x`
 abbrev pub greatestFrom : Float → List Float → Float
 greatestFrom m [] = m
 greatestFrom m (v ∷ l) = greatestFrom (cond (lt m v) v m) l
@@ -66,7 +66,7 @@ columnRs g c = cellRs (g .min-x) (g .inv-cell) (widthRs g) (c .x)
 abbrev pub rowRs : GridRs → Corner → ℕ
 rowRs g c = cellRs (g .min-y) (g .inv-cell) (heightRs g) (c .y)
 
--- of corners and a radius that are not refused: `.min(grid_w - 1)` never shows
+-- for corners and a radius that are not refused: `.min(grid_w - 1)` never changes the result
 abbrev pub CellsAsPublished : Type 0
 CellsAsPublished =
     (radius : Float) (cs : List Corner) → isSized radius ≡ true → All (λ c. isInside c ≡ true) cs
@@ -75,7 +75,7 @@ CellsAsPublished =
 
 -- ---- the loop
 
--- `out`, and `grid` as the list of indices that each number of a cell has
+-- `out`, and `grid` as the list of indices for each cell number
 pub record StateRs : Type 0 where
   pub out : List Corner
   pub grid : ℕ → List ℕ
@@ -96,7 +96,8 @@ aroundRs a side = range (a - 1) (min (a + 1) (side - 1) + 1)
 -- the indices that are scanned for c, in their order
 unfoldable pub scannedRs : GridRs → (ℕ → List ℕ) → Corner → List ℕ
 scannedRs g grid c =
-    flatMap (λ ny. flatMap (λ nx. grid (ny * widthRs g + nx)) (aroundRs (columnRs g c) (widthRs g))) (aroundRs (rowRs g c) (heightRs g))
+    flatMap (λ ny. flatMap (λ nx. grid (ny * widthRs g + nx)) (aroundRs (columnRs g c) (widthRs g)))
+    (aroundRs (rowRs g c) (heightRs g))
 
 abbrev pub closeRs : Float → Corner → Corner → Bool
 closeRs r2 c o =
@@ -134,10 +135,11 @@ replaceRs g c i s =
     let o = outAt (s .out) i in
     record {
       out = set (s .out) i c;
-      grid = cond (eqb (columnRs g o) (columnRs g c) && eqb (rowRs g o) (rowRs g c)) (s .grid) (movedRs i (indexRs g o) (indexRs g c) (s .grid));
+      grid = cond (eqb (columnRs g o) (columnRs g c) && eqb (rowRs g o) (rowRs g c)) (s .grid)
+          (movedRs i (indexRs g o) (indexRs g c) (s .grid));
     }
 
--- one turn
+-- one iteration
 unfoldable pub turnRs : GridRs → Corner → StateRs → StateRs
 turnRs g c s =
     let i = bestRs (λ i. closeRs (g .r2) c (outAt (s .out) i)) noHit (scannedRs g (s .grid) c) in
@@ -154,7 +156,7 @@ pub record ScannedRs : Type 0 where
   pub out : List Corner
   pub continued : Bool
 
--- `for o in &mut out`: the first that is close is `*o = c` where c is stronger, and none is looked at behind it
+-- `for o in &mut out`: for the first that is close, `*o = c` if c is stronger, and none after it is looked at
 unfoldable pub scanRs : Float → Corner → List Corner → ScannedRs
 scanRs r2 c [] = record { out = []; continued = false }
 scanRs r2 c (o ∷ behind) =
@@ -162,7 +164,7 @@ scanRs r2 c (o ∷ behind) =
     cond (closeRs r2 c o) (record { out = cond (lt (o .strength) (c .strength)) c o ∷ behind; continued = true })
     (record { out = o ∷ s .out; continued = s .continued })
 
--- `for c in corners.drain(..)`: `out.push(c)` where the inner loop came to its end
+-- `for c in corners.drain(..)`: `out.push(c)` if the inner loop came to its end
 unfoldable pub naiveLoopRs : Float → List Corner → List Corner → List Corner
 naiveLoopRs r2 out [] = out
 naiveLoopRs r2 out (c ∷ cs) =
@@ -172,9 +174,11 @@ naiveLoopRs r2 out (c ∷ cs) =
 abbrev pub naiveRs : List Corner → Float → List Corner
 naiveRs cs r2 = naiveLoopRs r2 [] cs
 
--- of corners and radii of any kind, where the radius is on: the square is the one that `merge_corners_simple` hands it
+-- for any corners and radii, if the radius is on: the square is the one that `merge_corners_simple` passes
 abbrev pub NaiveAsPublished : Type 0
-NaiveAsPublished = (radius : Float) (cs : List Corner) → isOff radius ≡ false → naiveRs cs (mul binary32 radius radius) ≡ naiveOf radius cs
+NaiveAsPublished =
+    (radius : Float) (cs : List Corner) → isOff radius ≡ false
+    → naiveRs cs (mul binary32 radius radius) ≡ naiveOf radius cs
 
 -- ---- the whole of `merge_corners_simple`
 unfoldable pub mergeRs : List Corner → Float → List Corner
@@ -185,7 +189,7 @@ mergeRs cs radius =
     (cond (not (finite (g .min-x) && finite (g .min-y) && finite (g .max-x) && finite (g .max-y))) (naiveRs cs (g .r2))
     (loopRs g (record { out = []; grid = λ i. [] }) cs .out)))
 
--- a call that is not refused, of fewer corners than an index can tell
+-- a call that is not refused, with fewer corners than an index can count
 abbrev pub MergeAsPublished : Type 0
 MergeAsPublished =
     (radius : Float) (places count : ℕ) (b : Slices) → refusalOf radius places count b ≡ 0 → count < noHit

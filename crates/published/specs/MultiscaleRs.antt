@@ -66,11 +66,13 @@ roiRs c s =
     let y1 = highRs c (c .base-h) cy in
     let two-borders = pos 2 *ℤ c .border in
     cond (ltZ cx margin || ltZ cy margin || leZ (c .base-w -ℤ margin) cx || leZ (c .base-h -ℤ margin) cy) NoRoi
-    (cond (leZ (x1 -ℤ x0) two-borders || leZ (y1 -ℤ y0) two-borders) NoRoi (Bounds (asUsize x0) (asUsize y0) (asUsize x1) (asUsize y1)))
+    (cond (leZ (x1 -ℤ x0) two-borders || leZ (y1 -ℤ y0) two-borders) NoRoi
+    (Bounds (asUsize x0) (asUsize y0) (asUsize x1) (asUsize y1)))
 
 -- a seed that is not refused, at the scale of its level; its coordinates are of type f32
 abbrev pub RoiAsPublished : Type 0
 RoiAsPublished =
     (c : RoiContext) (s : Corner) → T (fits binary32 (s .x)) → T (fits binary32 (s .y)) → refusalOf c s ≡ 0
-    → roiRs (contextRs (c .width) (c .height) (scaleOf (c .level)) (borderRs (c .ring) (c .window)) (pos (c .«centroid_radius»))
+    → roiRs (contextRs (c .width) (c .height) (scaleOf (c .level)) (borderRs (c .ring) (c .window))
+    (pos (c .«centroid_radius»))
     (c .«search_radius»)) s ≡ roiOf c s

@@ -11,7 +11,7 @@ use Rattle.float32.specs.Float32.{zero}
 use Rattle.detect.specs.Peaks.{valueAt, window}
 use Rattle.published.specs.Rust.{asUsize, eqZ, around}
 
--- one turn of their loops: the cell that is looked at, if any
+-- one iteration of their loops: the cell that is looked at, if any
 abbrev pub turnRs : ℕ → ℕ → Place → ℤ → ℤ → List Place
 turnRs w h p dy dx =
     let xx = pos (p .x) +ℤ dx in
@@ -24,7 +24,7 @@ turnRs w h p dy dx =
 unfoldable pub lookedRs : ℕ → ℕ → ℕ → Place → List Place
 lookedRs w h r p = flatMap (λ dy. flatMap (turnRs w h p dy) (around r)) (around r)
 
--- `is_local_max` of a cell with the value v
+-- `is_local_max` for a cell with the value v
 abbrev pub isLocalMaxRs : List Float → ℕ → ℕ → Place → ℕ → Float → Bool
 isLocalMaxRs m w h p r v = not (any (λ q. lt v (valueAt m w q)) (lookedRs w h r p))
 

@@ -7,6 +7,7 @@ use lib.Dec.{ltb, eqb}
 use lib.IntN.{pos, negsuc, negℤ}
 use lib.ListN.{getD}
 use lib.Ieee.{Float, fin, binary32, mul}
+use Rattle.lists.specs.Limits.{largestSide}
 use Rattle.lists.specs.Tab.{tab, grid}
 use Rattle.pyramid_levels.specs.Levels.{levelSide, levelCount}
 use Rattle.pyramid.specs.Pyramid.{levelPixels}
@@ -29,7 +30,8 @@ halfRs src w x y =
     let row0 = y * 2 * w in
     let row1 = row0 + w in
     let sx = x * 2 in
-    boxRs (getD src (row0 + sx) 0) (getD src (row0 + (sx + 1)) 0) (getD src (row1 + sx) 0) (getD src (row1 + (sx + 1)) 0)
+    boxRs (getD src (row0 + sx) 0) (getD src (row0 + (sx + 1)) 0) (getD src (row1 + sx) 0)
+    (getD src (row1 + (sx + 1)) 0)
 
 -- 1.0 and 0.5
 abbrev pub one32 : Float
@@ -38,14 +40,14 @@ one32 = fin false 1 (pos 0)
 abbrev pub half32 : Float
 half32 = fin false 1 (negsuc 0)
 
--- one turn of the loop over `level_idx`: the next level
+-- one iteration of the loop over `level_idx`: the next level
 unfoldable pub nextRs : LevelRs → LevelRs
 nextRs l =
     let w2 = l .w / 2 in
     let h2 = l .h / 2 in
     record { w = w2; h = h2; pixels = grid w2 h2 (halfRs (l .pixels) (l .w)); scale = mul binary32 (l .scale) half32 }
 
--- at most n turns from a level on
+-- at most n iterations from a level on
 unfoldable pub loopRs : ℕ → ℕ → LevelRs → List LevelRs
 loopRs zero least l = []
 loopRs (suc n) least l =
@@ -68,4 +70,5 @@ levelOf base w h k = record { w = levelSide w k; h = levelSide h k; pixels = lev
 
 abbrev pub PyramidAsPublished : Type 0
 PyramidAsPublished =
-    (base : List ℕ) (w h count least : ℕ) → Bytes base → w ≤ 4096 → pyramidRs base w h count least ≡ tab (levelCount w h count least) (levelOf base w h)
+    (base : List ℕ) (w h count least : ℕ) → Bytes base → w ≤ largestSide
+    → pyramidRs base w h count least ≡ tab (levelCount w h count least) (levelOf base w h)

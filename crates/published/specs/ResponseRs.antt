@@ -7,6 +7,7 @@ use lib.Dec.{leb, ltb}
 use lib.IntN.{ℤ, pos, natAbs, _+ℤ_, _-ℤ_}
 use lib.ListN.{getD}
 use lib.Ieee.{Float, binary32, add, sub, mul, div}
+use Rattle.lists.specs.Limits.{largestSide}
 use Rattle.lists.specs.Tab.{grid}
 use Rattle.float32.specs.Float32.{zero, abs, floatOf}
 use Rattle.float32.specs.Value.{total}
@@ -51,7 +52,7 @@ responseRs img w x y ring =
     let mr = abs (sub binary32 mu-n mu-l) in
     sub binary32 (sub binary32 (floatOf sr) (floatOf dr)) (mul binary32 sixteen mr)
 
--- by any ring table, of a cell whose ring does not leave the image on the left or above
+-- with any ring table, for a cell whose ring does not leave the image on the left or at the top
 abbrev pub ResponseAsPublished : Type 0
 ResponseAsPublished =
     (img : List ℕ) (w : ℕ) (t : Ring) (x y : ℕ) → IsRing t → t .radius ≤ x → t .radius ≤ y → Bytes img
@@ -65,7 +66,7 @@ pub record MapRs : Type 0 where
   pub h : ℕ
   pub cells : List Float
 
--- what stands in column px and row py of the patch of columns x0 up to x1 from row y0 on, all of them in the image
+-- the value in column px and row py of the patch of columns x0 up to x1 from row y0 on, all of them in the image
 unfoldable pub cellRs : List ℕ → ℕ → ℕ → ℕ → ℕ → ℕ → ℕ → ℕ → ℕ → Float
 cellRs img w h radius x0 x1 y0 px py =
     let r = ringRadius radius in
@@ -76,7 +77,8 @@ cellRs img w h radius x0 x1 y0 px py =
     let row-gx1 = min x1 gx1 in
     cond (ltb gy r || leb gy1 gy) zero
     (cond (leb row-gx1 row-gx0) zero
-    (cond (leb (row-gx0 - x0) px && ltb px (row-gx1 - x0)) (responseRs img w (pos (x0 + px)) (pos gy) (ringOffsets radius)) zero))
+    (cond (leb (row-gx0 - x0) px && ltb px (row-gx1 - x0))
+    (responseRs img w (pos (x0 + px)) (pos gy) (ringOffsets radius)) zero))
 
 unfoldable pub patchRs : List ℕ → ℕ → ℕ → ℕ → ℕ → ℕ → ℕ → ℕ → MapRs
 patchRs img w h radius roi-x0 roi-y0 roi-x1 roi-y1 =
@@ -88,14 +90,14 @@ patchRs img w h radius roi-x0 roi-y0 roi-x1 roi-y1 =
     (record { w = 0; h = 0; cells = [] })
     (record { w = x1 - x0; h = y1 - y0; cells = grid (x1 - x0) (y1 - y0) (cellRs img w h radius x0 x1 y0) })
 
--- the map of a box as the definitions have it
+-- the map of a box by the definitions
 abbrev pub mapOf : View → MapRs
 mapOf v = record { w = mapWidth v; h = mapHeight v; cells = cells v }
 
 -- for sides that are not refused, thinner than the ring or not
 abbrev pub PatchAsPublished : Type 0
 PatchAsPublished =
-    (img : List ℕ) (w h radius x0 y0 x1 y1 : ℕ) → Bytes img → w ≤ 4096 → h ≤ 4096
+    (img : List ℕ) (w h radius x0 y0 x1 y1 : ℕ) → Bytes img → w ≤ largestSide → h ≤ largestSide
     → patchRs img w h radius x0 y0 x1 y1
     ≡ mapOf (record { img = img; w = w; h = h; ring = ringOf radius; x0 = x0; y0 = y0; x1 = x1; y1 = y1 })
 
@@ -106,12 +108,14 @@ wholeRs img w h radius =
     let x1 = w - r in
     let y1 = h - r in
     grid w h (λ x y.
-    cond (leb r y && ltb y y1) (cond (leb r x && ltb x x1) (responseRs img w (pos x) (pos y) (ringOffsets radius)) zero) zero)
+    cond (leb r y && ltb y y1) (cond (leb r x && ltb x x1)
+    (responseRs img w (pos x) (pos y) (ringOffsets radius)) zero) zero)
 
--- "The whole image is one box", wherever the Rust has an answer. It panics with fewer rows than the radius, and where it cuts a row that is narrower
--- than twice the radius; it cuts none unless there are more rows than that, and then w - r, which may be below 0, is not used. (A build with overflow
--- checks panics there too.)
+-- "The whole image is one box", wherever the Rust has an answer. It panics with fewer rows than the radius, and when it
+-- cuts a row narrower than twice the radius. It cuts rows only if there are more than twice the radius; otherwise
+-- w - r, which may be below 0, is not used. (A build with overflow checks panics there too.)
 abbrev pub WholeAsPublished : Type 0
 WholeAsPublished =
-    (img : List ℕ) (w h radius : ℕ) → Bytes img → ringRadius radius ≤ h → (2 * ringRadius radius < h → 2 * ringRadius radius ≤ w)
+    (img : List ℕ) (w h radius : ℕ) → Bytes img → ringRadius radius ≤ h
+    → (2 * ringRadius radius < h → 2 * ringRadius radius ≤ w)
     → wholeRs img w h radius ≡ cells (whole img w h (ringOf radius))

@@ -1,4 +1,4 @@
--- ring.rs: the two tables as they stand there, and `ring_offsets`.
+-- ring.rs: the two tables as written there, and `ring_offsets`.
 use Prim.Native.Nat.{ℕ}
 use mathlib.Core.Path.{_≡_}
 use mathlib.Core.Bool.{cond}
@@ -62,7 +62,7 @@ ringOffsets radius = cond (eqb radius 10) table10 table5
 abbrev pub ringRadius : ℕ → ℕ
 ringRadius radius = cond (eqb radius 10) 10 5
 
--- a place of the ring's square from its centre, and a ring's places so
+-- a place of the ring's square relative to its centre, and all places of a ring in this way
 abbrev pub fromCentre : ℕ → ℕ × ℕ → Offset
 fromCentre radius p = (subℕ (p .0) radius, subℕ (p .1) radius)
 
@@ -70,4 +70,5 @@ abbrev pub offsetsOf : Ring → List Offset
 offsetsOf t = map (fromCentre (t .radius)) (t .places)
 
 abbrev pub RingAsPublished : Type 0
-RingAsPublished = (radius : ℕ) → (ringOffsets radius ≡ offsetsOf (ringOf radius)) × (ringRadius radius ≡ ringOf radius .radius)
+RingAsPublished =
+    (radius : ℕ) → (ringOffsets radius ≡ offsetsOf (ringOf radius)) × (ringRadius radius ≡ ringOf radius .radius)

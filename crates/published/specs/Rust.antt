@@ -1,5 +1,5 @@
--- Rust's operators, where the original's text uses them. An `i32` is an integer: of arguments that are not refused no sum reaches 2^26 in size.
--- A `usize` is a natural number.
+-- Rust's operators, as the original's text uses them. An `i32` is an integer: for arguments that are not refused, no
+-- sum reaches 2^26 in absolute value. A `usize` is a natural number.
 use Prim.Native.Nat.{ℕ, suc, _+_, _-_, _*_, _/_, _^_}
 use mathlib.Core.Path.{_≡_}
 use mathlib.Core.Logic.{_⊎_}
@@ -50,7 +50,7 @@ cutI32 x = toSigned 31 x
 abbrev pub wholeFloat : Bool → ℕ → Float
 wholeFloat s n = round binary32 s n 1
 
--- a / c, up to the next whole number
+-- a / c, rounded up to a whole number
 abbrev pub upTo : ℕ → ℕ → ℕ
 upTo a c = (a + (c - 1)) / c
 
@@ -72,7 +72,8 @@ ceilF nan = nan
 ceilF (inf s) = inf s
 ceilF (fin s m e) = wholeFloat s (cond s (m * up e / down e) (upTo (m * up e) (down e)))
 
--- r is what `x.max(y)` may give: one of the two, below neither, and a NaN only where both are. Which one of two zeros is left open
+-- r is what `x.max(y)` may give: one of the two, below neither, and NaN only if both are. For two zeros it may be
+-- either
 pub record IsMax (x y r : Float) : Type 0 where
   pub either : (r ≡ x) ⊎ (r ≡ y)
   pub not-below : (lt r x ≡ false) × (lt r y ≡ false)

@@ -1,1 +1,2 @@
-// No code: the original's functions line by line, and that the definitions give the same. See specs/ and proofs/.
+// No code: the original's functions line by line, and that the definitions give the same values. See specs/ and
+// proofs/.

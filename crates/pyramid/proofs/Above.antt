@@ -30,7 +30,8 @@ unfolding above
 part-built img d w h k zero l = absurd (not-suc-le-zero l)
 part-built img d w h k (suc zero) l = absurd (let no : ⊥ = omega arith in no)
 part-built img d w h k (suc (suc m)) l =
-    ap (λ (s : List ℕ). take (levelCells w h (suc k)) (drop (cellsAbove w h (suc k)) s)) (append-assoc (above img w h (suc m)) (levelPixels img w h (suc m)) d)
+    ap (λ (s : List ℕ). take (levelCells w h (suc k)) (drop (cellsAbove w h (suc k)) s))
+    (append-assoc (above img w h (suc m)) (levelPixels img w h (suc m)) d)
     ∙ ⊎-elim
     (λ (e : k ≡ m).
     rw e

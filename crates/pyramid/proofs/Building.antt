@@ -32,9 +32,11 @@ pub record Reached (base d : List ℕ) (w h n k a b from to : ℕ) (s : List ℕ
 
 pub reach-base : (base d : List ℕ) (w h n : ℕ) → Reached base d w h n 0 w h 0 0 d
 unfolding cellsAbove above
-reach-base base d w h n = record { long = refl; last = omega arith; cols = side-base w; rows = side-base h; begins = refl; ends = refl; holds = refl }
+reach-base base d w h n =
+    record { long = refl; last = omega arith; cols = side-base w; rows = side-base h; begins = refl; ends = refl; holds = refl }
 
-pub reach-all : (base d : List ℕ) (w h n k a b from to : ℕ) (s : List ℕ) → Reached base d w h n k a b from to s → n ≤ k + 1 → Filled base w h n d s
+pub reach-all : (base d : List ℕ) (w h n k a b from to : ℕ) (s : List ℕ) → Reached base d w h n k a b from to s → n ≤ k + 1
+    → Filled base w h n d s
 reach-all base d w h n k a b from to s r l = record { is = r .holds ∙ ap (λ (v : List ℕ). front v d) (above-last base w h n k l (r .last)) }
 
 module _ (base d : List ℕ) (w h n k a b from to : ℕ) (s : List ℕ) (sized : length base ≡ w * h) (fits : cellsAbove w h n ≤ length d)

@@ -1,5 +1,5 @@
--- Laws of halving a level that may lie in the buffer that is written: what is read stands before what is written, so it is as it was; a block
--- of a row, a row and a level are each placed behind what is done. Assumes nothing.
+-- Laws of halving a level that may lie in the buffer that is written: what is read stands before what is written, so it is as it was; a
+-- block of a row, a row and a level are each placed behind what is done. Assumes nothing.
 use Prim.Native.Nat.{ℕ, zero, suc, _+_, _-_, _*_, _/_, _<_, _≤_}
 use native.Mathlib.Nat.{mul-le-mul-right, suc-mul}
 use native.Mathlib.Numerals.{add-one}
@@ -77,11 +77,13 @@ module _ (base d : List ℕ) (k from w to : ℕ) (ok : Halving base d k from w 2
   rowOf x = halfPixel (drop from (holderOf base d k)) w x 0
 
   -- what is read of the buffer as it is by then
-  block-read : (vs : List ℕ) (a b : ℕ) → a ≡ b → b < from + w * 2 → getD (holderOf base (placed to vs d) k) a 0 ≡ getD (holderOf base d k) b 0
+  block-read : (vs : List ℕ) (a b : ℕ) → a ≡ b → b < from + w * 2
+      → getD (holderOf base (placed to vs d) k) a 0 ≡ getD (holderOf base d k) b 0
   block-read vs a b e l = kept base d vs k to a b (omega (arith, ok .fits)) e (λ z. omega (arith, ok .behind z))
 
   -- by the column sums
-  block-pixel : (x m : ℕ) (vs sums : List ℕ) → x + m ≤ w / 2 → Summed (holderOf base (placed to vs d) k) (from + 2 * x) (from + 2 * x + w) (2 * m) sums
+  block-pixel : (x m : ℕ) (vs sums : List ℕ) → x + m ≤ w / 2
+      → Summed (holderOf base (placed to vs d) k) (from + 2 * x) (from + 2 * x + w) (2 * m) sums
       → (i : ℕ) → i < m → (getD sums (2 * i) 0 + getD sums (2 * i + 1) 0 + 2) / 4 ≡ rowOf (x + i)
   block-pixel x m vs sums p q i l = ap (λ (n : ℕ). n / 4) four ∙ sym (half-at (holderOf base d k) from w (x + i))
     where
@@ -163,7 +165,8 @@ module _ (base d : List ℕ) (k from w h to : ℕ) (ok : Halving base d k from w
       ∙ sym (getD-drop from (holderOf base d k) (2 * y * w + i) 0)
 
   -- the row behind the rows before it
-  pub row-more : (s′ : List ℕ) → LevelHalved base d k from w to y s → RowHalved base s k a w at (w / 2) s′ → LevelHalved base d k from w to (y + 1) s′
+  pub row-more : (s′ : List ℕ) → LevelHalved base d k from w to y s → RowHalved base s k a w at (w / 2) s′
+      → LevelHalved base d k from w to (y + 1) s′
   unfolding grid
   row-more s′ e r =
       record {

@@ -5,6 +5,7 @@ use native.Mathlib.Omega.{arith}
 use mathlib.Core.Path.{_≡_, refl, sym, ap, _∙_}
 use mathlib.Core.List.{List}
 use lib.ListN.{length, getD}
+use Rattle.lists.specs.Limits.{largestSide, mostLevels}
 use Rattle.lists.specs.Buffer.{front}
 use Rattle.lists.specs.Refusals.{unless}
 use Rattle.lists.proofs.Answers.{refused-keeps}
@@ -37,11 +38,13 @@ refused-is : (n k m : ℕ) → unless Refused k (Levels n) ≡ Refused m → (k 
 refused-is n zero m e = let z : _≡_ {A = ℕ} 0 1 = cc in absurd (omega arith)
 refused-is n (suc k) m e = let q : suc k ≡ m = cc in (q, omega arith)
 
-module _ (base : List ℕ) (w h count minimumSide : ℕ) (d : List ℕ) (r : Pyramid) (e : List ℕ) (b : Built base w h count minimumSide d r e) where
+module _ (base : List ℕ) (w h count minimumSide : ℕ) (d : List ℕ) (r : Pyramid) (e : List ℕ)
+    (b : Built base w h count minimumSide d r e) where
   -- a pyramid was built
   pub built : (n : ℕ) → r ≡ Levels n → LevelsComplete base w h count minimumSide d e n
   built n c =
-      let q = levels-is (levelCount w h count minimumSide) (buildRefusalOf (ask (length base) (length d) w h count minimumSide)) n (sym (b .answer) ∙ c) in
+      let q = levels-is (levelCount w h count minimumSide) (buildRefusalOf (ask (length base) (length d) w h count minimumSide)) n
+      (sym (b .answer) ∙ c) in
       let a = accepted _ (q .0) in
       let f : e ≡ front (above base w h n) d = b .buffer ∙ rw (q .0, q .1) in
       record {
@@ -54,9 +57,11 @@ module _ (base : List ℕ) (w h count minimumSide : ℕ) (d : List ℕ) (r : Pyr
   -- or refused, and the level buffer is as it was
   pub refused : (n : ℕ) → r ≡ Refused n → (buildRefusalOf (ask (length base) (length d) w h count minimumSide) ≡ n) × (e ≡ d)
   refused n c =
-      let q = refused-is (levelCount w h count minimumSide) (buildRefusalOf (ask (length base) (length d) w h count minimumSide)) n (sym (b .answer) ∙ c) in
+      let q = refused-is (levelCount w h count minimumSide)
+      (buildRefusalOf (ask (length base) (length d) w h count minimumSide)) n (sym (b .answer) ∙ c) in
       let kept =
-      refused-keeps (buildRefusalOf (ask (length base) (length d) w h count minimumSide)) (front (above base w h (levelCount w h count minimumSide)) d) d
+      refused-keeps (buildRefusalOf (ask (length base) (length d) w h count minimumSide))
+      (front (above base w h (levelCount w h count minimumSide)) d) d
       (rw (q .0) (q .1)) in
       (q .0, b .buffer ∙ kept)
 
@@ -64,13 +69,15 @@ module _ (base : List ℕ) (w h count minimumSide : ℕ) (d : List ℕ) (r : Pyr
   pub builds : LevelsAccepted (ask (length base) (length d) w h count minimumSide) → r ≡ Levels (levelCount w h count minimumSide)
   builds a = b .answer ∙ ap (λ (k : ℕ). unless Refused k (Levels (levelCount w h count minimumSide))) (accepts _ a)
 
--- ---- how many levels: at most 13
-pub levels-few : (base : List ℕ) (w h count minimumSide : ℕ) (d e : List ℕ) (n : ℕ) → LevelsComplete base w h count minimumSide d e n → n ≤ 13
+-- ---- how many levels
+pub levels-few : (base : List ℕ) (w h count minimumSide : ℕ) (d e : List ℕ) (n : ℕ)
+    → LevelsComplete base w h count minimumSide d e n → n ≤ mostLevels
 levels-few base w h count minimumSide d e n c = rw (c .counted) (count-few w h count minimumSide (c .allowed .image .narrow))
 
 -- ---- the lookup of what was built
 
-module _ (base : List ℕ) (w h count minimumSide : ℕ) (d e : List ℕ) (n : ℕ) (c : LevelsComplete base w h count minimumSide d e n) (k : ℕ) (l : k < n) where
+module _ (base : List ℕ) (w h count minimumSide : ℕ) (d e : List ℕ) (n : ℕ) (c : LevelsComplete base w h count minimumSide d e n)
+    (k : ℕ) (l : k < n) where
   still : LevelsAccepted (ask (length base) (length e) w h count minimumSide)
   still = rw (c .long) (c .allowed)
 
@@ -78,7 +85,8 @@ module _ (base : List ℕ) (w h count minimumSide : ℕ) (d e : List ℕ) (n : �
   free = level-accepts _ k still (rw (c .counted) at l)
 
   -- `level_at` says where level k lies
-  pub level-place : levelAnswer (ask (length base) (length e) w h count minimumSide) k ≡ Level (cellsAbove w h k) (levelSide w k) (levelSide h k)
+  pub level-place : levelAnswer (ask (length base) (length e) w h count minimumSide) k
+      ≡ Level (cellsAbove w h k) (levelSide w k) (levelSide h k)
   level-place = sym (answers.level-found _ _ _ free refl .answer)
 
   -- `level` hands out the base, halved k times
@@ -86,11 +94,11 @@ module _ (base : List ℕ) (w h count minimumSide : ℕ) (d e : List ℕ) (n : �
   unfolding levelIn
   level-found = rw (level-place, c .fills) (level-built base d w h n k l)
 
-  -- width × height pixels, and sides up to 4,096: what number 2 and number 1 ask
+  -- width × height pixels, and sides up to the largest: what number 2 and number 1 ask
   pub level-long : length (levelIn base e w h count minimumSide k) ≡ levelSide w k * levelSide h k
   level-long = ap length level-found ∙ length-level base w h k (c .allowed .image .sized)
 
-  pub level-small : (levelSide w k ≤ 4096) × (levelSide h k ≤ 4096)
+  pub level-small : (levelSide w k ≤ largestSide) × (levelSide h k ≤ largestSide)
   level-small = (omega (arith, side-le w k, c .allowed .image .narrow), omega (arith, side-le h k, c .allowed .image .low))
 
 -- ---- bytes
@@ -100,7 +108,8 @@ box-byte p q r s a b c d = omega arith
 
 halved-bytes : (img : List ℕ) (w h : ℕ) → ((i : ℕ) → getD img i 0 < 256) → (i : ℕ) → getD (halved img w h) i 0 < 256
 unfolding halved halfPixel
-halved-bytes img w h b i = getD-grid-any (λ (v : ℕ). v < 256) 0 (omega arith) _ (λ x y. box-byte _ _ _ _ (b _) (b _) (b _) (b _)) (w / 2) (h / 2) i
+halved-bytes img w h b i =
+    getD-grid-any (λ (v : ℕ). v < 256) 0 (omega arith) _ (λ x y. box-byte _ _ _ _ (b _) (b _) (b _) (b _)) (w / 2) (h / 2) i
 
 -- every pixel of a level is below 256 if the base's are
 pub level-bytes : (base : List ℕ) (w h : ℕ) → ((i : ℕ) → getD base i 0 < 256) → (k i : ℕ) → getD (levelPixels base w h k) i 0 < 256

@@ -18,7 +18,8 @@ part-base : (base levels : List ℕ) (w h k : ℕ) → k ≡ 0 → base ≡ leve
 part-base base levels w h zero z = refl
 part-base base levels w h (suc k) z = absurd (let no : ⊥ = omega arith in no)
 
-part-higher : (base levels : List ℕ) (w h k : ℕ) → (k ≡ 0 → ⊥) → take (levelCells w h k) (drop (cellsAbove w h k) levels) ≡ levelPart base levels w h k
+part-higher : (base levels : List ℕ) (w h k : ℕ) → (k ≡ 0 → ⊥)
+    → take (levelCells w h k) (drop (cellsAbove w h k) levels) ≡ levelPart base levels w h k
 part-higher base levels w h zero z = absurd (z refl)
 part-higher base levels w h (suc k) z = refl
 
@@ -43,7 +44,8 @@ module _ (base levels : List ℕ) (w h count minimumSide k : ℕ) where
     pub level-base : k ≡ 0 → base ≡ levelIn base levels w h count minimumSide k
     level-base z = part-base base levels w h k z ∙ level-part
 
-    pub level-between : (from end : ℕ) → (k ≡ 0 → ⊥) → from ≡ capped (cellsAbove w h k) → end ≡ capped (cellsAbove w h (k + 1)) → Between levels w h k from end
+    pub level-between : (from end : ℕ) → (k ≡ 0 → ⊥) → from ≡ capped (cellsAbove w h k) → end ≡ capped (cellsAbove w h (k + 1))
+        → Between levels w h k from end
     level-between from end z p q =
         let a = level-accepted _ k free in
         let i = a .0 .image in

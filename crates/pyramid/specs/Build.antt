@@ -20,11 +20,14 @@ abbrev pub valuesOf : Pyramid → List ℕ
 valuesOf (Levels n) = n ∷ []
 valuesOf (Refused k) = []
 
--- the promise of `build_pyramid`: r is the answer, and the level buffer d becomes e, the levels above the base first and the rest as it was, or
--- all as it was
+-- the promise of `build_pyramid`: r is the answer, and the level buffer d becomes e: the levels above the base at the
+-- start and the rest unchanged, or all of it unchanged if refused
 pub record Built (base : List ℕ) (w h count minimumSide : ℕ) (d : List ℕ) (r : Pyramid) (e : List ℕ) : Type 0 where
-  pub answer : r ≡ unless Refused (buildRefusalOf (ask (length base) (length d) w h count minimumSide)) (Levels (levelCount w h count minimumSide))
+  pub answer : r ≡ unless Refused (buildRefusalOf (ask (length base) (length d) w h count minimumSide))
+      (Levels (levelCount w h count minimumSide))
   pub number : numberOf r ≡ buildRefusalOf (ask (length base) (length d) w h count minimumSide)
-  pub values : valuesOf r ≡ valuesUnless (buildRefusalOf (ask (length base) (length d) w h count minimumSide)) (levelCount w h count minimumSide ∷ [])
+  pub values : valuesOf r ≡ valuesUnless (buildRefusalOf (ask (length base) (length d) w h count minimumSide))
+      (levelCount w h count minimumSide ∷ [])
   pub buffer : e
-      ≡ resultOr (buildRefusalOf (ask (length base) (length d) w h count minimumSide)) (front (above base w h (levelCount w h count minimumSide)) d) d
+      ≡ resultOr (buildRefusalOf (ask (length base) (length d) w h count minimumSide))
+      (front (above base w h (levelCount w h count minimumSide)) d) d

@@ -1,4 +1,5 @@
--- What the private functions that halve a level ask and promise: source and result may both lie in the level buffer.
+-- What the private functions that halve a level require and promise: source and result may both lie in the level
+-- buffer.
 use Prim.Native.Nat.{ℕ, zero, suc, _+_, _*_, _/_, _<_, _≤_}
 use mathlib.Core.Path.{_≡_}
 use mathlib.Core.List.{List}
@@ -10,20 +11,25 @@ use Rattle.pyramid_levels.specs.Refusals.{ask}
 use Rattle.pyramid_levels.specs.Internal.{LevelsAccepted}
 use Rattle.pyramid.specs.Pyramid.{halfPixel, above}
 
--- the slice that level k lies in
+-- the slice that has level k
 abbrev pub holderOf : List ℕ → List ℕ → ℕ → List ℕ
 holderOf base levels zero = base
 holderOf base levels (suc k) = levels
 
--- level k, of w by h, begins at `from`, and there is a place for it at half size from `to` on, behind it where one slice holds both
+-- level k, of w by h, begins at `from`, and there is a place for it at half size from `to` on, after it if one slice
+-- has both
 pub record Halving (base levels : List ℕ) (k from w h to : ℕ) : Type 0 where
   pub inside : from + w * h ≤ length (holderOf base levels k)
   pub behind : (k ≡ 0 → ⊥) → from + w * h ≤ to
   pub fits : to + w / 2 * (h / 2) ≤ length levels
 
--- the sums of n columns of two rows, which begin at `top` and at `low`, first among 128
+-- how many columns of two rows are added up at a time
+abbrev pub columnsAtOnce : ℕ
+columnsAtOnce = 128
+
+-- the sums of n columns of two rows, which begin at `top` and at `low`, at the start of the list for them
 pub record Summed (pixels : List ℕ) (top low n : ℕ) (sums : List ℕ) : Type 0 where
-  pub long : length sums ≡ 128
+  pub long : length sums ≡ columnsAtOnce
   pub each : (i : ℕ) → i < n → getD sums i 0 ≡ getD pixels (top + i) 0 + getD pixels (low + i) 0
   pub small : (i : ℕ) → i < n → getD sums i 0 ≤ 510
 
@@ -35,11 +41,11 @@ pub record RowHalved (base levels : List ℕ) (k from w to n : ℕ) (levels′ :
 pub record LevelHalved (base levels : List ℕ) (k from w to n : ℕ) (levels′ : List ℕ) : Type 0 where
   pub is : levels′ ≡ placed to (grid (w / 2) n (halfPixel (drop from (holderOf base levels k)) w)) levels
 
--- levels 1 .. n - 1 of the pyramid over a base of w by h, first in the buffer
+-- levels 1 .. n - 1 of the pyramid over a base of w by h, at the start of the buffer
 pub record Filled (base : List ℕ) (w h n : ℕ) (levels levels′ : List ℕ) : Type 0 where
   pub is : levels′ ≡ front (above base w h n) levels
 
--- ---- what a caller says of it
+-- ---- for callers
 
 -- the level buffer d after a pyramid of n levels was built over a base of w by h
 pub record LevelsComplete (base : List ℕ) (w h count minimumSide : ℕ) (d e : List ℕ) (n : ℕ) : Type 0 where

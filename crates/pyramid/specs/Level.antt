@@ -1,4 +1,4 @@
--- What `level` hands back: the pixels of level k.
+-- What `level` returns: the pixels of level k.
 use Prim.Native.Nat.{ℕ, zero, suc}
 use mathlib.Core.Bool.{cond}
 use mathlib.Core.List.{List, []}
@@ -13,8 +13,9 @@ abbrev pub levelPart : List ℕ → List ℕ → ℕ → ℕ → ℕ → List �
 levelPart base levels w h zero = base
 levelPart base levels w h (suc k) = take (levelCells w h (suc k)) (drop (cellsAbove w h (suc k)) levels)
 
--- the promise of `level`: level k, and nothing where `level_at` refuses it
+-- the promise of `level`: level k, and nothing if `level_at` refuses it
 unfoldable pub levelIn : List ℕ → List ℕ → ℕ → ℕ → ℕ → ℕ → ℕ → List ℕ
 unfolding levelAnswer
 levelIn base levels w h count minimumSide k =
-    cond (eqb (numberOf (levelAnswer (ask (length base) (length levels) w h count minimumSide) k)) 0) (levelPart base levels w h k) []
+    cond (eqb (numberOf (levelAnswer (ask (length base) (length levels) w h count minimumSide) k)) 0)
+    (levelPart base levels w h k) []

@@ -27,7 +27,7 @@ unfolding halved
 levelPixels img w h zero = img
 levelPixels img w h (suc k) = halved (levelPixels img w h k) (levelSide w k) (levelSide h k)
 
--- the levels above the base, one behind the other: the pixels of levels 1 .. n - 1
+-- the levels above the base, one after the other: the pixels of levels 1 .. n - 1
 unfoldable pub above : List ℕ → ℕ → ℕ → ℕ → List ℕ
 unfolding levelPixels
 above img w h zero = []

@@ -1,12 +1,19 @@
-// Halving: a level at half size, written behind the levels before it. A level above the first is read from the buffer that is written.
+// Halving: a level at half size, written after the levels before it. A level above the first is read from the buffer
+// that is written.
 ghost use mathlib.Core.Path.{_≡_};
 ghost use Prim.Native.Nat.{ℕ, _+_, _*_, _/_, _<_, _≤_};
 ghost use lib.ListN.{length, getD};
 ghost use Rattle.lists.specs.Tab.{tab};
 ghost use Rattle.pyramid_levels.specs.Levels.{cellsAbove};
-ghost use Rattle.pyramid.specs.Internal.{holderOf, Halving, Summed, RowHalved, LevelHalved, Filled};
+ghost use Rattle.pyramid.specs.Internal.{columnsAtOnce, holderOf, Halving, Summed, RowHalved, LevelHalved};
+ghost use Rattle.pyramid.specs.Internal.{Filled};
 
-// The slice that level k lies in.
+// How many columns of two rows are added up at a time, and how many pixels of half size they give.
+const COLUMNS: usize = 128;
+
+const PIXELS: usize = COLUMNS / 2;
+
+// The slice that has level k.
 fn holder<'a>(base: &'a [u8], levels: &'a [u8], k: usize) -> &'a [u8]
     ensures { λ r. ⌜ now r ≡ holderOf (now (base .entry)) (now (levels .entry)) k ⌝ }
 {
@@ -16,9 +23,10 @@ fn holder<'a>(base: &'a [u8], levels: &'a [u8], k: usize) -> &'a [u8]
     levels
 }
 
-// The sums of up to 128 columns of two rows, which begin at top and at low.
-fn column_sums(pixels: &[u8], top: usize, low: usize, n: usize, sums: &mut [u16; 128])
-    requires { ⌜ (n ≤ 128) × (top + n ≤ length (now pixels)) × (low + n ≤ length (now pixels)) × (length (now sums) ≡ 128) ⌝ }
+// The sums of n columns of two rows, which begin at top and at low.
+fn column_sums(pixels: &[u8], top: usize, low: usize, n: usize, sums: &mut [u16; COLUMNS])
+    requires { ⌜ (n ≤ columnsAtOnce) × (top + n ≤ length (now pixels)) × (low + n ≤ length (now pixels))
+        × (length (now sums) ≡ columnsAtOnce) ⌝ }
     ensures { λ _. ⌜ Summed (now (pixels .entry)) top low n (now (sums .exit)) ⌝ }
 {
     let mut i = 0usize;
@@ -30,11 +38,13 @@ fn column_sums(pixels: &[u8], top: usize, low: usize, n: usize, sums: &mut [u16;
     }
 }
 
-// The half-size pixels of pairs of columns, by their sums.
-fn pair_means(sums: &[u16; 128], out: &mut [u8])
-    requires { ⌜ length (now out) ≤ 64 ⌝ }
+// The half-size pixels of pairs of columns, from their sums.
+fn pair_means(sums: &[u16; COLUMNS], out: &mut [u8])
+    requires { ⌜ length (now out) ≤ columnsAtOnce / 2 ⌝ }
     requires { ⌜ ((i : ℕ) → i < 2 * length (now out) → getD (now sums) i 0 ≤ 510) ⌝ }
-    ensures { λ _. ⌜ now (out .exit) ≡ tab (length (now (out .entry))) (λ i. (getD (now (sums .entry)) (2 * i) 0 + getD (now (sums .entry)) (2 * i + 1) 0 + 2) / 4) ⌝ }
+    ensures { λ _. ⌜ now (out .exit)
+        ≡ tab (length (now (out .entry)))
+        (λ i. (getD (now (sums .entry)) (2 * i) 0 + getD (now (sums .entry)) (2 * i + 1) 0 + 2) / 4) ⌝ }
 {
     let n = out.len();
     let mut i = 0usize;
@@ -46,18 +56,18 @@ fn pair_means(sums: &[u16; 128], out: &mut [u8])
     }
 }
 
-// Two rows of level k, which begin at `from`, at half size from `to` on, up to 64 pixels at a time. The sums of the columns come first, and
-// then the means of pairs: each loop runs on as many columns at once as the machine's vectors hold, and what the buffer holds is read
-// before it is written.
+// Two rows of level k, which begin at `from`, at half size from `to` on, up to PIXELS at a time. First come the sums of
+// the columns, then the means of pairs: each loop handles as many columns at once as a vector register holds, and what
+// the buffer holds is read before it is written.
 fn halve_rows(base: &[u8], k: usize, from: usize, w: usize, levels: &mut [u8], to: usize)
     requires { ⌜ Halving (now base) (now levels) k from w 2 to ⌝ }
     ensures { λ _. ⌜ RowHalved (now (base .entry)) (now (levels .entry)) k from w to (w / 2) (now (levels .exit)) ⌝ }
 {
     let n = w / 2;
-    let mut sums = [0u16; 128];
+    let mut sums = [0u16; COLUMNS];
     let mut x = 0usize;
     while x < n {
-        let m = numbers::lesser(64, n - x);
+        let m = numbers::lesser(PIXELS, n - x);
         let top = from + 2 * x;
         column_sums(holder(base, levels, k), top, top + w, 2 * m, &mut sums);
         let a = to + x;
@@ -83,7 +93,7 @@ fn halve(base: &[u8], k: usize, from: usize, w: usize, h: usize, levels: &mut [u
     }
 }
 
-// Levels 1 .. n - 1, one behind the other, at the front of the level buffer.
+// Levels 1 .. n - 1, one after the other, at the start of the level buffer.
 pub(crate) fn fill_levels(base: &[u8], width: usize, height: usize, n: usize, levels: &mut [u8])
     requires { ⌜ (length (now base) ≡ width * height) × (cellsAbove width height n ≤ length (now levels)) ⌝ }
     ensures { λ _. ⌜ Filled (now (base .entry)) width height n (now (levels .entry)) (now (levels .exit)) ⌝ }

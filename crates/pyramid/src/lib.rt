@@ -1,4 +1,5 @@
-// The box-filter image pyramid: the levels above the base in a buffer, one behind the other, and a level of them.
+// The box-filter image pyramid: builds the levels above the base in a buffer, one after the other, and returns one of
+// them.
 mod halve; // halve.rt: the levels themselves
 
 ghost use mathlib.Core.Path.{_≡_};
@@ -15,8 +16,8 @@ pub enum Pyramid {
     Refused(u8),
 }
 
-// Builds the levels above the base into the level buffer, one behind the other. Behind them the buffer stays as it was, and a refusal leaves
-// all of it as it was.
+// Writes the levels above the base to the level buffer, one after the other. The rest of the buffer stays, and a
+// refusal leaves all of it unchanged.
 pub fn build_pyramid(
     base: &[u8],
     width: usize,
@@ -25,7 +26,8 @@ pub fn build_pyramid(
     min_size: usize,
     levels: &mut [u8],
 ) -> Pyramid
-    ensures { λ r. ⌜ Built (now (base .entry)) width height «num_levels» «min_size» (now (levels .entry)) r (now (levels .exit)) ⌝ }
+    ensures { λ r. ⌜ Built (now (base .entry)) width height «num_levels» «min_size» (now (levels .entry)) r
+        (now (levels .exit)) ⌝ }
 {
     let no = build_refusal(
         base.len(),
@@ -43,7 +45,7 @@ pub fn build_pyramid(
     Pyramid::Levels(n)
 }
 
-// Level k: the base or a part of the level buffer, and an empty part where it is refused.
+// Level k: the base or a part of the level buffer, empty if it is refused.
 pub fn level<'a>(
     base: &'a [u8],
     levels: &'a [u8],
@@ -53,7 +55,8 @@ pub fn level<'a>(
     min_size: usize,
     k: usize,
 ) -> &'a [u8]
-    ensures { λ r. ⌜ now r ≡ levelIn (now (base .entry)) (now (levels .entry)) width height «num_levels» «min_size» k ⌝ }
+    ensures { λ r. ⌜ now r ≡ levelIn (now (base .entry))
+        (now (levels .entry)) width height «num_levels» «min_size» k ⌝ }
 {
     let no = level_refusal(
         base.len(),

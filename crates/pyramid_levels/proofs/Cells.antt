@@ -4,13 +4,15 @@ use native.Mathlib.Nat.{zero-mul, mul-le-mul, eq-or-lt-of-le, le-of-suc-le-suc, 
 use native.Mathlib.Omega.{arith}
 use mathlib.Core.Path.{_≡_, refl, ap, ap₂, _∙_}
 use mathlib.Core.Logic.{⊎-elim}
+use Rattle.lists.specs.Limits.{largestSide}
 use Rattle.pyramid_levels.specs.Levels.{levelSide, levelCells, cellsAbove, capped}
 use Rattle.pyramid_levels.proofs.Sides.{side-base, side-next, side-few}
 
 -- ---- where a loop over the levels begins, goes on and ends
 
 -- levels 1 .. k, and one level more, of a by b
-pub cells-next : (w h k a b : ℕ) → a ≡ levelSide w (suc k) → b ≡ levelSide h (suc k) → cellsAbove w h (suc k) + a * b ≡ cellsAbove w h (suc (suc k))
+pub cells-next : (w h k a b : ℕ) → a ≡ levelSide w (suc k) → b ≡ levelSide h (suc k)
+    → cellsAbove w h (suc k) + a * b ≡ cellsAbove w h (suc (suc k))
 unfolding cellsAbove
 cells-next w h k a b p q = rw (p, q)
 
@@ -48,7 +50,8 @@ cells-mono w h k (suc n) l =
 cells-fall : (w h k n : ℕ) → k ≤ n → levelCells w h n ≤ levelCells w h k
 cells-fall w h k zero l = let z : k ≡ 0 = omega arith in rw z (omega arith)
 cells-fall w h k (suc n) l =
-    ⊎-elim (λ (e : k ≡ suc n). rw e (omega arith)) (λ (m : k < suc n). le-trans (down n) (cells-fall w h k n (le-of-suc-le-suc m))) (eq-or-lt-of-le l)
+    ⊎-elim (λ (e : k ≡ suc n). rw e (omega arith))
+    (λ (m : k < suc n). le-trans (down n) (cells-fall w h k n (le-of-suc-le-suc m))) (eq-or-lt-of-le l)
   where
     down : (n : ℕ) → levelCells w h (suc n) ≤ levelCells w h n
     down n = mul-le-mul (omega (arith, side-next w n (levelSide w n) refl)) (omega (arith, side-next h n (levelSide h n) refl))
@@ -71,7 +74,11 @@ third : (w h k : ℕ) → 3 * cellsAbove w h (suc k) + levelCells w h k ≤ w * 
 unfolding cellsAbove
 third w h zero = omega (arith, cells-base w h)
 third w h (suc k) =
-    omega (arith, third w h k, rw (side-next w k (levelSide w k) refl, side-next h k (levelSide h k) refl) at (quarter (levelSide w k) (levelSide h k)))
+    omega (
+      arith,
+      third w h k,
+      rw (side-next w k (levelSide w k) refl, side-next h k (levelSide h k) refl) at (quarter (levelSide w k) (levelSide h k)),
+    )
 
 pub cells-le : (w h n : ℕ) → 3 * cellsAbove w h n ≤ w * h
 unfolding cellsAbove
@@ -87,7 +94,8 @@ pub capped-next : (w h k a b s t r : ℕ) → a ≡ levelSide w (suc k) → b �
 capped-next w h k a b s t r p q i j e = omega (arith, cells-next w h k a b p q)
 
 -- or the level has none, and neither has one above it; a level that has some is one of the first 64
-pub capped-stop : (w h k n a b s t : ℕ) → a ≡ levelSide w (suc k) → b ≡ levelSide h (suc k) → s ≡ capped (cellsAbove w h (suc k)) → t ≡ capped (a * b)
+pub capped-stop : (w h k n a b s t : ℕ) → a ≡ levelSide w (suc k) → b ≡ levelSide h (suc k) → s ≡ capped (cellsAbove w h (suc k))
+    → t ≡ capped (a * b)
     → t ≡ 0 → suc k ≤ n → s ≡ capped (cellsAbove w h n)
 capped-stop w h k n a b s t p q i j z l =
     let none : levelCells w h (suc k) ≡ 0 = rw (← p, ← q) (omega arith) in
@@ -96,6 +104,6 @@ capped-stop w h k n a b s t p q i j z l =
 pub cells-few : (w k a b t : ℕ) → w < 2 ^ 64 → a ≡ levelSide w k → t ≡ capped (a * b) → (t ≡ 0 → ⊥) → k < 64
 cells-few w k a b t l p j z = side-few w 64 k l (rw (← p) (pos-of-ne-zero (λ (e : a ≡ 0). z (j ∙ rw e (omega (arith, zero-mul b))))))
 
--- up to sides of 4,096 no count is cut off
-pub cells-exact : (w h n : ℕ) → w ≤ 4096 → h ≤ 4096 → capped (cellsAbove w h n) ≡ cellsAbove w h n
+-- up to the largest side no count is cut off
+pub cells-exact : (w h n : ℕ) → w ≤ largestSide → h ≤ largestSide → capped (cellsAbove w h n) ≡ cellsAbove w h n
 cells-exact w h n p q = omega (arith, cells-le w h n, mul-le-mul p q)

@@ -4,6 +4,7 @@ use native.Mathlib.Omega.{arith}
 use mathlib.Core.Path.{_≡_, sym, _∙_}
 use mathlib.Core.List.{[], _∷_}
 use borrow.Author.Tests.{lt-ltb, le-ltb, le-leb, lt-leb, ltb-false, leb-false}
+use Rattle.lists.specs.Limits.{mostLevels}
 use Rattle.lists.specs.Internal.{Sized}
 use Rattle.lists.proofs.Refusals.{lowest-none, sized-none}
 use Rattle.image_size.proofs.Judged.{passed}
@@ -61,8 +62,8 @@ module _ (a : Ask) where
         let r = lowest-none (isAbsent a k) 3 ((isShort a, 9) ∷ []) (omega arith) (q .1) in
         (record { image = q .0; fits = ltb-false _ _ (lowest-none (isShort a) 9 [] (omega arith) (r .1) .0) }, leb-false _ _ (r .0))
 
-    -- there are at most 13 levels
-    pub level-few : levelRefusalOf a k ≡ 0 → k < 13
+    -- there are at most so many levels
+    pub level-few : levelRefusalOf a k ≡ 0 → k < mostLevels
     level-few e =
         let f = level-accepted e in
         omega (arith, f .1, count-few (a .w) (a .h) (a .count) (a .minimumSide) (f .0 .image .narrow))

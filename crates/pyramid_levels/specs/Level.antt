@@ -20,10 +20,12 @@ valuesOf (Refused n) = []
 -- the answer for level k: where it begins, in the base or in the level buffer, and its sides
 unfoldable pub levelAnswer : Ask → ℕ → LevelAnswer
 unfolding levelRefusalOf
-levelAnswer a k = unless Refused (levelRefusalOf a k) (Level (cellsAbove (a .w) (a .h) k) (levelSide (a .w) k) (levelSide (a .h) k))
+levelAnswer a k =
+    unless Refused (levelRefusalOf a k) (Level (cellsAbove (a .w) (a .h) k) (levelSide (a .w) k) (levelSide (a .h) k))
 
 -- the promise of `level_at`
 pub record LevelFound (a : Ask) (k : ℕ) (r : LevelAnswer) : Type 0 where
   pub answer : r ≡ levelAnswer a k
   pub number : numberOf r ≡ levelRefusalOf a k
-  pub values : valuesOf r ≡ valuesUnless (levelRefusalOf a k) (cellsAbove (a .w) (a .h) k ∷ levelSide (a .w) k ∷ levelSide (a .h) k ∷ [])
+  pub values : valuesOf r ≡ valuesUnless (levelRefusalOf a k)
+      (cellsAbove (a .w) (a .h) k ∷ levelSide (a .w) k ∷ levelSide (a .h) k ∷ [])

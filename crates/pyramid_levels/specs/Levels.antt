@@ -17,12 +17,15 @@ isBelow w h minimumSide = ltb w minimumSide || ltb h minimumSide
 abbrev pub isTooSmall : ℕ → ℕ → ℕ → Bool
 isTooSmall w h minimumSide = eqb w 0 || eqb h 0 || isBelow w h minimumSide
 
--- how many levels stand above one of w by h, at most n: halving goes on until the count is reached or a new level is too small
+-- how many levels there are above one of w by h, at most n: halving goes on until the count is reached or a new level
+-- is too small
 unfoldable pub halvings : ℕ → ℕ → ℕ → ℕ → ℕ
 halvings zero w h minimumSide = 0
-halvings (suc n) w h minimumSide = cond (isTooSmall (w / 2) (h / 2) minimumSide) 0 (suc (halvings n (w / 2) (h / 2) minimumSide))
+halvings (suc n) w h minimumSide =
+    cond (isTooSmall (w / 2) (h / 2) minimumSide) 0 (suc (halvings n (w / 2) (h / 2) minimumSide))
 
--- no levels if the level count is 0 or a base side is below the minimum size; otherwise the base is level 0, with those above it
+-- no levels if the level count is 0 or a base side is below the minimum size; otherwise the base is level 0, with those
+-- above it
 unfoldable pub levelCount : ℕ → ℕ → ℕ → ℕ → ℕ
 unfolding halvings
 levelCount w h zero minimumSide = 0
@@ -34,12 +37,12 @@ levelCount w h (suc n) minimumSide = cond (isBelow w h minimumSide) 0 (suc (halv
 abbrev pub levelCells : ℕ → ℕ → ℕ → ℕ
 levelCells w h k = levelSide w k * levelSide h k
 
--- how many pixels levels 1 .. n - 1 have; level n begins behind them
+-- how many pixels levels 1 .. n - 1 have; level n begins after them
 unfoldable pub cellsAbove : ℕ → ℕ → ℕ → ℕ
 cellsAbove w h zero = 0
 cellsAbove w h (suc zero) = 0
 cellsAbove w h (suc (suc k)) = cellsAbove w h (suc k) + levelCells w h (suc k)
 
--- a number as a usize holds it: the largest one where it is larger
+-- a number as a usize holds it: the largest one if it is larger
 abbrev pub capped : ℕ → ℕ
 capped n = min n (2 ^ 64 - 1)

@@ -1,4 +1,4 @@
--- Why a pyramid is not built and a level not handed out: numbers 1, 2, 3 and 9 (RULES 2.2, 6.5).
+-- Why a pyramid is not built or a level is refused: numbers 1, 2, 3 and 9 (RULES 2.2, 6.5).
 use Prim.Native.Nat.{ℕ}
 use mathlib.Core.Bool.{Bool}
 use mathlib.Core.List.{[], _∷_}
@@ -7,7 +7,8 @@ use Rattle.lists.specs.Refusals.{lowest}
 pub use Rattle.lists.specs.Refusals.{isLarge, isMisfit}
 use Rattle.pyramid_levels.specs.Levels.{levelCount, cellsAbove}
 
--- what is judged: a base of so many pixels, with its sides, a level buffer of so many places, how many levels are asked for and their least side
+-- what is checked: the number of pixels of a base, with its sides, the number of places of a level buffer, how many
+-- levels are asked for and their least side
 pub record Ask : Type 0 where
   pub pixels : ℕ
   pub places : ℕ
@@ -28,7 +29,7 @@ levelsOf a = levelCount (a .w) (a .h) (a .count) (a .minimumSide)
 abbrev pub isAbsent : Ask → ℕ → Bool
 isAbsent a k = leb (levelsOf a) k
 
--- 9: the level buffer is below the pixels of the levels above the base
+-- 9: the level buffer is shorter than the pixels of the levels above the base
 abbrev pub isShort : Ask → Bool
 isShort a = ltb (a .places) (cellsAbove (a .w) (a .h) (levelsOf a))
 
@@ -39,4 +40,5 @@ buildRefusalOf a = lowest ((isLarge (a .w) (a .h), 1) ∷ (isMisfit (a .pixels) 
 -- the lowest number that refuses level k, 0 for none
 unfoldable pub levelRefusalOf : Ask → ℕ → ℕ
 levelRefusalOf a k =
-    lowest ((isLarge (a .w) (a .h), 1) ∷ (isMisfit (a .pixels) (a .w) (a .h), 2) ∷ (isAbsent a k, 3) ∷ (isShort a, 9) ∷ [])
+    lowest ((isLarge (a .w) (a .h), 1) ∷ (isMisfit (a .pixels) (a .w) (a .h), 2) ∷ (isAbsent a k, 3)
+    ∷ (isShort a, 9) ∷ [])

@@ -1,4 +1,4 @@
-// Which levels are built by their sides, and sums and products that stop at the largest usize.
+// Which levels are built, by their sides, and sums and products that stop at the largest usize.
 ghost use mathlib.Core.Path.{_≡_};
 ghost use Prim.Native.Nat.{_+_, _*_};
 ghost use Rattle.pyramid_levels.specs.Levels.{isBelow, isTooSmall, capped};

@@ -16,7 +16,8 @@ pub enum LevelAnswer {
     Refused(u8),
 }
 
-// How many levels a pyramid over a base of these sides has: at most num_levels, the base included, and none with a side below min_size.
+// How many levels a pyramid over a base of these sides has: at most num_levels, the base included, and none with a side
+// below min_size.
 pub fn level_count(width: usize, height: usize, num_levels: u32, min_size: usize) -> usize
     ensures { λ r. ⌜ r ≡ levelCount width height «num_levels» «min_size» ⌝ }
 {
@@ -41,8 +42,8 @@ pub fn level_count(width: usize, height: usize, num_levels: u32, min_size: usize
     n
 }
 
-// How many pixels levels 1 .. n - 1 have, behind which level n begins; the largest usize where there are more. Above a level without pixels no
-// level has any, so at most 64 are looked at.
+// How many pixels levels 1 .. n - 1 have, after which level n begins; the largest usize if there are more. Above a
+// level without pixels no level has any, so at most 64 are looked at.
 pub fn cells_before(width: usize, height: usize, n: usize) -> usize
     ensures { λ r. ⌜ r ≡ capped (cellsAbove width height n) ⌝ }
 {
@@ -63,7 +64,8 @@ pub fn cells_before(width: usize, height: usize, n: usize) -> usize
     sum
 }
 
-// How many pixels the levels above the base have, which is what the level buffer must hold; the largest usize where there are more.
+// How many pixels the levels above the base have: the size that the level buffer needs; the largest usize if there are
+// more.
 pub fn cells_above(width: usize, height: usize, num_levels: u32, min_size: usize) -> usize
     ensures { λ r. ⌜ r ≡ capped (cellsAbove width height (levelCount width height «num_levels» «min_size»)) ⌝ }
 {
@@ -74,7 +76,7 @@ pub fn cells_above(width: usize, height: usize, num_levels: u32, min_size: usize
     )
 }
 
-// Why no pyramid is built over a base of so many pixels into a level buffer of so many places, or 0.
+// Why no pyramid is built over a base of `pixels` pixels in a level buffer of `places` places, or 0.
 pub fn build_refusal(
     pixels: usize,
     places: usize,
@@ -95,7 +97,7 @@ pub fn build_refusal(
     0
 }
 
-// Why level k over such a base is not handed out, or 0.
+// Why level k over such a base is refused, or 0.
 pub fn level_refusal(
     pixels: usize,
     places: usize,
@@ -114,7 +116,7 @@ pub fn level_refusal(
     if no != 0 { no } else { 3 }
 }
 
-// Where level k lies and its sides, for a base of so many pixels and a level buffer of so many places.
+// Where level k lies and its sides, for a base of `pixels` pixels and a level buffer of `places` places.
 pub fn level_at(
     pixels: usize,
     places: usize,

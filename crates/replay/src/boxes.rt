@@ -13,7 +13,7 @@ pub(crate) fn replay(body: &[u8]) -> bool {
     due_box(body, answer(body)) == body.len()
 }
 
-// The box of the seed that the body gives.
+// The box of the seed in the body.
 fn answer(body: &[u8]) -> RoiAnswer {
     let seed = Corner {
         x: float(body, 7),

@@ -1,4 +1,5 @@
-// What a buffer holds before a call, and whether it holds afterwards what is due.
+// What a buffer holds before a call, and whether it holds afterwards what the sample expects. In names, `due` means
+// expected.
 use crate::fields::and;
 use crate::fields::byte_at;
 use crate::fields::bytes_at;
@@ -35,7 +36,7 @@ pub(crate) fn fill_bytes(d: &mut [u8]) {
     }
 }
 
-// Word i of a field, and another where the field has fewer.
+// Word i of a field, or `other` if the field has fewer.
 fn word_or(field: &[u8], i: usize, other: u32) -> u32 {
     if i < field.len() / 4 {
         return word_at(field, 4 * i);
@@ -43,7 +44,7 @@ fn word_or(field: &[u8], i: usize, other: u32) -> u32 {
     other
 }
 
-// Fills a float buffer with the floats of a field, and by the rule behind them.
+// Fills a float buffer with the floats of a field, and by the rule after them.
 pub(crate) fn read_floats(field: &[u8], d: &mut [f32]) {
     let mut i = 0;
     while i < d.len() {
@@ -52,7 +53,7 @@ pub(crate) fn read_floats(field: &[u8], d: &mut [f32]) {
     }
 }
 
-// The same of a buffer of numbers.
+// The same for a buffer of numbers.
 pub(crate) fn read_counts(field: &[u8], d: &mut [u32]) {
     let mut i = 0;
     while i < d.len() {
@@ -63,7 +64,7 @@ pub(crate) fn read_counts(field: &[u8], d: &mut [u32]) {
 
 // ---- after the call
 
-// What is due at place i: the field's word, and behind it 0 or, where the rest is kept, what was there before.
+// What is expected at place i: the field's word; after the field, 0 or, if the rest is kept, what was there before.
 fn due_or(field: &[u8], is_kept: bool, i: usize, before: u32) -> u32 {
     if is_kept {
         return word_or(field, i, before);
@@ -71,7 +72,7 @@ fn due_or(field: &[u8], is_kept: bool, i: usize, before: u32) -> u32 {
     word_or(field, i, 0)
 }
 
-// Whether a float buffer that was filled with the floats of `given` holds what is due.
+// Whether a float buffer that was filled with the floats of `given` holds what is expected.
 fn are_floats_due(field: &[u8], is_kept: bool, given: &[u8], after: &[f32]) -> bool {
     let mut i = 0;
     while i < after.len() {
@@ -84,7 +85,7 @@ fn are_floats_due(field: &[u8], is_kept: bool, given: &[u8], after: &[f32]) -> b
     true
 }
 
-// The same of a buffer of numbers.
+// The same for a buffer of numbers.
 fn are_counts_due(field: &[u8], is_kept: bool, given: &[u8], after: &[u32]) -> bool {
     let mut i = 0;
     while i < after.len() {
@@ -97,7 +98,7 @@ fn are_counts_due(field: &[u8], is_kept: bool, given: &[u8], after: &[u32]) -> b
     true
 }
 
-// The byte that is due at place i of a byte buffer that was filled by the rule, likewise.
+// The byte expected at place i of a byte buffer that was filled by the rule, likewise.
 fn due_byte(field: &[u8], is_kept: bool, i: usize) -> u32 {
     if i < field.len() {
         return byte_at(field, i);
@@ -108,7 +109,7 @@ fn due_byte(field: &[u8], is_kept: bool, i: usize) -> u32 {
     0
 }
 
-// Whether a byte buffer holds what is due, and the field has no more.
+// Whether a byte buffer holds what is expected, and the field has no more.
 fn are_bytes_due(field: &[u8], is_kept: bool, after: &[u8]) -> bool {
     let mut i = 0;
     while i < after.len() {
@@ -133,9 +134,9 @@ pub(crate) fn are_zero(s: &[u8]) -> bool {
     are_bytes_due(part(s, 0, 0), false, s)
 }
 
-// ---- past what is due in a buffer; first stands whether what is behind the field is kept (1) or 0 (0)
+// ---- past what is expected in a buffer. Its first byte says what follows the field: 1 unchanged, 0 cleared.
 
-// Past it, whatever it is; bad where the words are more than a limit.
+// Past it, whatever it is; bad if it has more words than a limit.
 pub(crate) fn past_buffer(body: &[u8], at: usize, limit: usize) -> usize {
     past_words(body, past(body, and(at, byte_at(body, at) <= 1), 1), limit)
 }
@@ -145,14 +146,14 @@ fn buffer_at(body: &[u8], at: usize) -> &[u8] {
     words_at(body, past(body, at, 1))
 }
 
-// In a float buffer that was filled with the floats of a given field, and by the rule behind them.
+// In a float buffer that was filled with the floats of a given field, and by the rule after them.
 pub(crate) fn due_floats(body: &[u8], at: usize, given: &[u8], after: &[f32]) -> usize {
     let is_kept = byte_at(body, at) == 1;
     let is_due = are_floats_due(buffer_at(body, at), is_kept, given, after);
     and(past_buffer(body, at, after.len()), is_due)
 }
 
-// The same of a buffer of numbers.
+// The same for a buffer of numbers.
 pub(crate) fn due_counts(body: &[u8], at: usize, given: &[u8], after: &[u32]) -> usize {
     let is_kept = byte_at(body, at) == 1;
     let is_due = are_counts_due(buffer_at(body, at), is_kept, given, after);
@@ -167,7 +168,7 @@ pub(crate) fn due_bytes(body: &[u8], at: usize, after: &[u8]) -> usize {
     and(past_bytes(body, bytes), is_due)
 }
 
-// At the front of a byte buffer, behind which all is kept: no byte says so.
+// At the start of a byte buffer whose rest is kept: no byte says so.
 pub(crate) fn due_front(body: &[u8], at: usize, after: &[u8]) -> usize {
     and(
         past_bytes(body, at),
@@ -175,7 +176,7 @@ pub(crate) fn due_front(body: &[u8], at: usize, after: &[u8]) -> usize {
     )
 }
 
-// The first n floats, or all where there are fewer.
+// The first n floats, or all if there are fewer.
 pub(crate) fn front(s: &[f32], n: usize) -> &[f32] {
     if n <= s.len() {
         return &s[0..n];

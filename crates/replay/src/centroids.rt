@@ -23,7 +23,7 @@ pub(crate) fn replay(body: &[u8]) -> bool {
     is_due(body, refine(body, &map[0..n]))
 }
 
-// The outcome on a map for the seed that the body gives.
+// The outcome on a map for the seed in the body.
 fn refine(body: &[u8], map: &[f32]) -> Outcome {
     let refiner = CenterOfMassRefiner {
         radius: word(body, 0),

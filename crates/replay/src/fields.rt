@@ -1,10 +1,12 @@
-// A record's body, field by field from the front: little-endian numbers, bytes and floats. A place is where a field begins.
+// A record's body, field by field from the start: little-endian numbers, bytes and floats. A place is where a field
+// begins.
 ghost use Prim.Native.Nat.{_≤_};
 
-// The place behind a field that is not there, or not as the answer is: past the end of every body, and so is all behind it.
+// The place after a field that is missing or differs from the answer: past the end of every body, and so is everything
+// after it.
 pub(crate) const BAD: usize = 18446744073709551615;
 
-// ---- bytes of a slice: 0, or empty, where they are not there
+// ---- bytes of a slice: 0, or empty, if they are missing
 
 fn wide(b: u8) -> u32
     ensures { λ r. ⌜ r ≤ 255 ⌝ }
@@ -48,7 +50,7 @@ pub(crate) fn part(s: &[u8], start: usize, length: usize) -> &[u8] {
     &s[..0]
 }
 
-// ---- the numbers that stand first in a body, by their order
+// ---- the numbers at the start of a body, by their order
 
 pub(crate) fn word(body: &[u8], k: u8) -> u32 {
     word_at(body, 4 * (k as usize))
@@ -64,7 +66,7 @@ pub(crate) fn float(body: &[u8], k: u8) -> f32 {
 
 // ---- places
 
-// Past n bytes; bad where the body has fewer.
+// Past n bytes; bad if the body has fewer.
 pub(crate) fn past(body: &[u8], at: usize, n: usize) -> usize {
     if at <= body.len() {
         if n <= body.len() - at {
@@ -74,7 +76,7 @@ pub(crate) fn past(body: &[u8], at: usize, n: usize) -> usize {
     BAD
 }
 
-// The same place where `holds` is true.
+// The same place if `holds` is true, otherwise bad.
 pub(crate) fn and(at: usize, holds: bool) -> usize {
     if holds {
         return at;
@@ -84,7 +86,7 @@ pub(crate) fn and(at: usize, holds: bool) -> usize {
 
 // ---- fields that are given
 
-// A buffer's length, or a count of words, cut down to a limit.
+// A buffer's length, or a count of words, capped at a limit.
 pub(crate) fn length_at(body: &[u8], at: usize, limit: usize) -> usize
     ensures { λ r. ⌜ r ≤ limit ⌝ }
 {
@@ -95,27 +97,27 @@ pub(crate) fn length_at(body: &[u8], at: usize, limit: usize) -> usize
     n
 }
 
-// Past such a length; bad where it is above the limit.
+// Past such a length; bad if it is above the limit.
 pub(crate) fn past_length(body: &[u8], at: usize, limit: usize) -> usize {
     and(past(body, at, 4), count_at(body, at) <= limit)
 }
 
-// The bytes behind a count.
+// The bytes after a count.
 pub(crate) fn bytes_at(body: &[u8], at: usize) -> &[u8] {
     part(body, past(body, at, 4), count_at(body, at))
 }
 
-// Past a count, and as many bytes.
+// Past a count, and that many bytes.
 pub(crate) fn past_bytes(body: &[u8], at: usize) -> usize {
     past(body, past(body, at, 4), count_at(body, at))
 }
 
-// The bytes of the words behind a count: floats, or numbers.
+// The bytes of the words after a count: floats, or numbers.
 pub(crate) fn words_at(body: &[u8], at: usize) -> &[u8] {
     part(body, past(body, at, 4), 4 * (word_at(body, at) as usize))
 }
 
-// Past a count, and as many words; bad where they are more than a limit.
+// Past a count, and that many words; bad if there are more than a limit.
 pub(crate) fn past_words(body: &[u8], at: usize, limit: usize) -> usize {
     past(
         body,
@@ -124,7 +126,7 @@ pub(crate) fn past_words(body: &[u8], at: usize, limit: usize) -> usize {
     )
 }
 
-// ---- fields that are due
+// ---- fields that are expected
 
 pub(crate) fn due_byte(body: &[u8], at: usize, b: u8) -> usize {
     and(past(body, at, 1), byte_at(body, at) == (b as u32))

@@ -44,7 +44,7 @@ pub(crate) fn replay_building(body: &[u8]) -> bool {
     is_due(body, n, answer, &levels)
 }
 
-// Whether the answer and the first n places of the level buffer are what is due.
+// Whether the answer and the first n places of the level buffer are as expected.
 fn is_due(body: &[u8], n: usize, answer: Pyramid, levels: &[u8; PLACES]) -> bool {
     let at = past_length(body, past_bytes(body, 16), PLACES);
     due_bytes(body, due_pyramid(body, at, answer), part(levels, 0, n)) == body.len()
@@ -57,7 +57,8 @@ fn due_pyramid(body: &[u8], at: usize, answer: Pyramid) -> usize {
     }
 }
 
-// ---- kind 8: the base's sides, the level count, the minimum size, the level's number, and the lengths of base and level buffer
+// ---- kind 8: the base's sides, the level count, the minimum size, the level's number, and the lengths of base and
+// level buffer
 
 pub(crate) fn replay_place(body: &[u8]) -> bool {
     match place(body) {
@@ -87,26 +88,26 @@ fn is_place_due(body: &[u8], refusal: u8, source: u8, from: usize, w: usize, h: 
     false
 }
 
-// Past the two lengths, and the number of levels that is due.
+// Past the two lengths, and the expected number of levels.
 fn due_built(body: &[u8]) -> usize {
     let at = past_length(body, past_length(body, 20, PIXELS), PLACES);
     due_count(body, at, built(body))
 }
 
-// How many levels there are; 0 where a side is above 4,096.
+// How many levels there are; 0 if a side is above the largest.
 fn built(body: &[u8]) -> usize {
     let width = count(body, 0);
     let height = count(body, 1);
-    if 4096 < width {
+    if lists::LARGEST_SIDE < width {
         return 0;
     }
-    if 4096 < height {
+    if lists::LARGEST_SIDE < height {
         return 0;
     }
     pyramid_levels::level_count(width, height, word(body, 2), count(body, 3))
 }
 
-// Where the level lies, for a base and a level buffer of these lengths.
+// Where the level is, for a base and a level buffer of these lengths.
 fn place(body: &[u8]) -> LevelAnswer {
     pyramid_levels::level_at(
         count(body, 5),
@@ -119,8 +120,8 @@ fn place(body: &[u8]) -> LevelAnswer {
     )
 }
 
-// Whether the level is the w by h bytes from a place of its source on. The base is 0 here, and the level buffer filled by the
-// rule, in which no byte is 0: so a level's bytes tell where they lie.
+// Whether the level is the w by h bytes from a place of its source on. Here the base is 0, and the level buffer is
+// filled by the rule, which gives no 0: so a level's bytes show where they are.
 fn lies(body: &[u8], from: usize, w: usize, h: usize) -> bool {
     let pixels = length_at(body, 20, PIXELS);
     let places = length_at(body, 24, PLACES);
@@ -156,7 +157,7 @@ fn lies_in<'a>(
     false
 }
 
-// The slice that the level lies in.
+// The slice that has the level.
 fn source_of<'a>(body: &[u8], base: &'a [u8], levels: &'a [u8]) -> &'a [u8] {
     if source(body) == 0 {
         return base;

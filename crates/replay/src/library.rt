@@ -1,5 +1,5 @@
-// Kind 2: a frame of the library. The buffers are made one kind after the other, each with its lengths; what is due in them is compared where
-// they were made.
+// Kind 2: a frame of the library. The buffers are made one kind after the other, each with its lengths, and each is
+// compared where it was made.
 use crate::buffers::due_bytes;
 use crate::buffers::due_floats;
 use crate::buffers::fill_bytes;
@@ -52,7 +52,7 @@ pub(crate) fn replay(body: &[u8]) -> bool {
     are_maps_due(body, next, n, m, &map, &levels)
 }
 
-// Whether the first n places of the map and the first m of the level buffer hold what is due.
+// Whether the first n places of the map and the first m of the level buffer hold what is expected.
 fn are_maps_due(
     body: &[u8],
     at: usize,
@@ -65,7 +65,7 @@ fn are_maps_due(
     due_bytes(body, next, part(levels, 0, m)) != BAD
 }
 
-// With a seed buffer too: the place of what is due in the map.
+// With a seed buffer too: the place of what is expected in the map.
 fn with_seeds(body: &[u8], lengths: usize, map: &mut [f32], levels: &mut [u8]) -> usize {
     let nx = list_length(body, lengths, 0);
     let ny = list_length(body, lengths, 1);
@@ -148,7 +148,8 @@ fn due_frame(body: &[u8], at: usize, answer: FrameAnswer) -> usize {
     }
 }
 
-// The place of what is due in the map, where the corner buffer holds what is due in it, with which the body ends.
+// The place of what is expected in the map, if the corner buffer holds what is expected in it, with which the body
+// ends.
 fn due_corners(
     body: &[u8],
     at: usize,
@@ -163,7 +164,7 @@ fn due_corners(
     and(at, end == body.len())
 }
 
-// The same where the seed buffer holds what is due in it.
+// The same if the seed buffer holds what is expected in it.
 fn due_seeds(
     body: &[u8],
     at: usize,
@@ -178,7 +179,7 @@ fn due_seeds(
     and(at, end != BAD)
 }
 
-// Past what is due in the map and in the level buffer.
+// Past what is expected in the map and in the level buffer.
 fn past_maps(body: &[u8], at: usize) -> usize {
     let levels = past_buffer(body, at, CELLS);
     past_bytes(body, past(body, levels, 1))

@@ -1,4 +1,4 @@
-// A corner buffer: four slices, each the front of an array.
+// A corner buffer: four slices, each the start of an array.
 use crate::buffers::due_counts;
 use crate::buffers::due_floats;
 use crate::buffers::front;
@@ -16,7 +16,7 @@ ghost use Prim.Native.Nat.{_≤_};
 // The most places that a slice has: as many as a listing has corners.
 pub(crate) const LIST: usize = 512;
 
-// ---- a slice, filled with the words that stand at a place of the body, and by the rule behind them; at BAD there are none
+// ---- a slice, filled with the words at a place of the body, and by the rule after them; at BAD there are none
 
 pub(crate) fn floats(body: &[u8], given: usize) -> [f32; LIST] {
     let mut d = [0.0f32; LIST];
@@ -30,7 +30,7 @@ pub(crate) fn counts(body: &[u8], given: usize) -> [u32; LIST] {
     d
 }
 
-// Past what is due in the first n places of such a slice.
+// Past what is expected in the first n places of such a slice.
 pub(crate) fn due_slice(body: &[u8], at: usize, given: usize, n: usize, d: &[f32]) -> usize {
     due_floats(body, at, words_at(body, given), front(d, n))
 }
@@ -39,7 +39,7 @@ pub(crate) fn due_neighbours(body: &[u8], at: usize, given: usize, n: usize, d: 
     due_counts(body, at, words_at(body, given), front_counts(d, n))
 }
 
-// ---- four slices, filled by the rule: their lengths stand at a place of the body
+// ---- four slices, filled by the rule: their lengths are at a place of the body
 
 // The length of slice k.
 pub(crate) fn list_length(body: &[u8], lengths: usize, k: u8) -> usize
@@ -48,18 +48,18 @@ pub(crate) fn list_length(body: &[u8], lengths: usize, k: u8) -> usize
     length_at(body, past(body, lengths, 4 * (k as usize)), LIST)
 }
 
-// Past the lengths; bad where one is above LIST.
+// Past the lengths; bad if one is above LIST.
 pub(crate) fn past_lengths(body: &[u8], lengths: usize) -> usize {
     let strengths = past_length(body, past_length(body, lengths, LIST), LIST);
     past_length(body, past_length(body, strengths, LIST), LIST)
 }
 
-// Past what is due in slice k.
+// Past what is expected in slice k.
 fn due_float_slice(body: &[u8], at: usize, lengths: usize, k: u8, d: &[f32]) -> usize {
     due_slice(body, at, BAD, list_length(body, lengths, k), d)
 }
 
-// Past what is due in the slices.
+// Past what is expected in the slices.
 pub(crate) fn due_list(
     body: &[u8],
     at: usize,
@@ -75,7 +75,7 @@ pub(crate) fn due_list(
     due_neighbours(body, end, BAD, list_length(body, lengths, 3), neighbours)
 }
 
-// Past as much, whatever it is.
+// The same, whatever it is.
 pub(crate) fn past_list(body: &[u8], at: usize) -> usize {
     let strengths = past_buffer(body, past_buffer(body, at, LIST), LIST);
     past_buffer(body, past_buffer(body, strengths, LIST), LIST)

@@ -17,7 +17,7 @@ pub(crate) fn replay(body: &[u8]) -> bool {
     is_due(body, ys, strengths, neighbours)
 }
 
-// Whether the text of the corners whose slices stand at these places is due.
+// Whether the text of the corners whose slices are at these places is as expected.
 fn is_due(body: &[u8], ys: usize, strengths: usize, neighbours: usize) -> bool {
     let x = floats(body, 0);
     let y = floats(body, ys);
@@ -36,7 +36,7 @@ fn is_due(body: &[u8], ys: usize, strengths: usize, neighbours: usize) -> bool {
     is_listing_due(body, past_words(body, neighbours, LIST), &text, answer)
 }
 
-// Whether the text of an answer is due.
+// Whether the text of an answer is as expected.
 fn is_listing_due(body: &[u8], at: usize, text: &[u8; LONGEST], answer: Listing) -> bool {
     let Listing::Text(length) = answer else {
         return false;
@@ -44,7 +44,7 @@ fn is_listing_due(body: &[u8], at: usize, text: &[u8; LONGEST], answer: Listing)
     is_text_due(body, at, text, length)
 }
 
-// Whether a text is the last that is due: the first n bytes of a buffer that was filled by the rule.
+// Whether a text is the last one expected: the first n bytes of a buffer that was filled by the rule.
 pub(crate) fn is_text_due(body: &[u8], at: usize, text: &[u8; LONGEST], n: usize) -> bool {
     due_front(body, and(at, count_at(body, at) == n), text) == body.len()
 }

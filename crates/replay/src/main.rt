@@ -1,6 +1,7 @@
-// Replays the oracle's sample (oracle/SAMPLE.md) on the finder's crates, from whole frames to single functions: each record's call
-// is made anew, and its answer and every buffer that it borrows are compared bit for bit, NaN matching NaN. The folder `data` holds
-// the sample of seed 1, and the file `stdout` how many records each of its files has and that none differs.
+// Replays the oracle's sample (oracle/SAMPLE.md) on the finder's crates, from whole frames to single functions: each
+// record's call is made again, and its answer and every buffer that it borrows are compared bit for bit, NaN matching
+// NaN. The folder `data` holds the sample of seed 1. The file `stdout` says how many records each of its files has, and
+// that none differs.
 mod boxes;
 mod buffers;
 mod centroids;
@@ -26,7 +27,7 @@ use tally::with;
 // The longest body.
 const LONGEST: usize = 25027;
 
-// What stands next in a file.
+// What comes next in a file.
 enum Next {
     // A record: whether the answer is the same.
     Record(bool),
@@ -36,7 +37,7 @@ enum Next {
     Short,
 }
 
-// Whether a record's answer is the same. One of an unknown kind, or whose fields do not fit its length, is not.
+// Whether a record's answer is the same. It is not if the kind is unknown or the fields do not fit its length.
 fn is_same(kind: u8, body: &[u8]) -> bool {
     match kind {
         1 => frames::replay(body),
@@ -109,7 +110,7 @@ fn rest(fd: i32) -> u64 {
     ended(t, false)
 }
 
-// Replays a file and prints its line. The tally with it.
+// Replays a file and prints its line. Returns the tally with it.
 fn replay(name: &[u8], before: u64) -> u64 {
     let fd = os::open_read(name);
     let t = rest(fd);

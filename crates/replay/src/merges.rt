@@ -34,7 +34,7 @@ pub(crate) fn replay(body: &[u8]) -> bool {
     is_due(body, answer, &xs, &ys, &strengths, &neighbours)
 }
 
-// Whether the answer and the slices are what is due.
+// Whether the answer and the slices are as expected.
 fn is_due(
     body: &[u8],
     answer: Merged,
@@ -54,7 +54,7 @@ fn is_due(
     due_neighbours(body, neighbours_due, neighbours_at, n, neighbours) == body.len()
 }
 
-// Past what is due in a slice whose floats stand at a place of the body.
+// Past what is expected in a slice whose floats are at a place of the body.
 fn due_given(body: &[u8], at: usize, given: usize, d: &[f32]) -> usize {
     due_slice(body, at, given, length_at(body, given, LIST), d)
 }

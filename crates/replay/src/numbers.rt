@@ -10,7 +10,7 @@ use crate::fields::past;
 use crate::fields::word;
 use float32::Rounded;
 
-// Of the roundings only the one half away from zero is compared: floor and ceil have no function here.
+// Of the roundings, only half away from zero is compared: floor and ceil have no function here.
 pub(crate) fn replay_float(body: &[u8]) -> bool {
     let x = float(body, 0);
     let finite = due_float(body, 4, float32::abs(x));
@@ -24,7 +24,7 @@ fn due_round(body: &[u8], at: usize, x: f32) -> usize {
     and(past(body, at, 8), is_rounded(x, long_at(body, at)))
 }
 
-// Whether n is x rounded, as an i64. What is not judged is not compared.
+// Whether n is x rounded, as an i64. What is not rounded is not compared.
 fn is_rounded(x: f32, n: u64) -> bool {
     match float32::round_half_away(x) {
         Rounded::Natural(k) => n == (k as u64),
@@ -33,9 +33,9 @@ fn is_rounded(x: f32, n: u64) -> bool {
     }
 }
 
-// Whether a float is not judged: a NaN, or above 2^24 in size.
+// Whether a float is not rounded: a NaN, or above 2^24 in absolute value.
 fn is_beyond(x: f32) -> bool {
-    if float32::abs(x) <= 16777216.0 {
+    if float32::abs(x) <= float32::LARGEST_ROUNDED {
         return false;
     }
     true
@@ -49,7 +49,7 @@ pub(crate) fn replay_ring(body: &[u8]) -> bool {
     due_offsets(body, due_offsets(body, at, columns), rows) == body.len()
 }
 
-// A count, and as many offsets.
+// A count, and that many offsets.
 fn due_offsets(body: &[u8], at: usize, offsets: [u8; 16]) -> usize {
     let mut next = due_word(body, at, 16);
     for i in 0..16 {

@@ -27,7 +27,7 @@ pub(crate) fn replay(body: &[u8]) -> bool {
     with_list(body, past_words(body, 28, CELLS), &map[0..n])
 }
 
-// With a corner buffer, whose lengths stand next in the body, and behind them how many corners it holds.
+// With a corner buffer: its lengths come next in the body, and after them how many corners it holds.
 fn with_list(body: &[u8], lengths: usize, map: &[f32]) -> bool {
     let nx = list_length(body, lengths, 0);
     let ny = list_length(body, lengths, 1);

@@ -40,7 +40,7 @@ fn filled(body: &[u8]) -> [f32; CELLS] {
     map
 }
 
-// Whether the answer and the first n places of the map are what is due.
+// Whether the answer and the first n places of the map are as expected.
 fn is_due(body: &[u8], n: usize, answer: Patch, map: &[f32; CELLS]) -> bool {
     let at = past_length(body, past_bytes(body, 28), CELLS);
     let next = due_patch(body, at, answer);

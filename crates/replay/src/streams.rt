@@ -13,13 +13,13 @@ use stream::FrameStream;
 use stream::Header;
 
 pub(crate) fn replay(body: &[u8]) -> bool {
-    let mut pixels = [0u8; 9216];
+    let mut pixels = [0u8; stream::MOST_PIXELS];
     fill_bytes(&mut pixels);
     let answer = stream::read_frame(bytes_at(body, 0), &mut pixels);
     are_pixels_due(body, due_frame(body, answer), &pixels)
 }
 
-fn are_pixels_due(body: &[u8], at: usize, pixels: &[u8; 9216]) -> bool {
+fn are_pixels_due(body: &[u8], at: usize, pixels: &[u8; stream::MOST_PIXELS]) -> bool {
     due_front(body, at, pixels) == body.len()
 }
 

@@ -1,16 +1,17 @@
-// Counts of records. A tally is one number that holds three counts, each below 2^24: the records that were compared, those of them
-// that differ, from 2^24 on, and the files that were not read to their end, from 2^48 on. A file has at most a million records.
+// Counts of records. A tally is one number that holds three counts, each below 2^24: the records that were compared;
+// those of them that differ, from 2^24 on; and the files that were not read to their end, from 2^48 on. A file has at
+// most a million records.
 
 const DIFFERS: u64 = 16777216;
 
 const CUT_SHORT: u64 = 281474976710656;
 
-// Of two tallies.
+// The sum of two tallies.
 pub(crate) fn sum(t: u64, u: u64) -> u64 {
     std::num::wrapping_add_u64(t, u)
 }
 
-// With a record more.
+// With one more record.
 pub(crate) fn with(t: u64, is_same: bool) -> u64 {
     if is_same {
         return sum(t, 1);
@@ -18,7 +19,7 @@ pub(crate) fn with(t: u64, is_same: bool) -> u64 {
     sum(t, DIFFERS + 1)
 }
 
-// Where reading ended, at the file's end or not.
+// After reading ended, at the file's end or not.
 pub(crate) fn ended(t: u64, is_whole: bool) -> u64 {
     if is_whole {
         return t;

@@ -34,7 +34,8 @@ module _ {A : Type 0} (d : A) (at : ℕ) (g : ℕ → A) (s : List A) where
   pub written-none : Written d at 0 g s s
   written-none = record { long = refl; within = λ i p. absurd (omega arith); before = λ i p. refl; behind = λ i p. refl }
 
-  pub written-set : (i : ℕ) (t : List A) (v : A) → Written d at i g s t → at + i < length s → v ≡ g i → Written d at (i + 1) g s (set t (at + i) v)
+  pub written-set : (i : ℕ) (t : List A) (v : A) → Written d at i g s t → at + i < length s → v ≡ g i
+      → Written d at (i + 1) g s (set t (at + i) v)
   written-set i t v w l e =
       record {
         long = length-set t (at + i) v ∙ w .long;
@@ -115,7 +116,8 @@ module _ {A : Type 0} (d : A) (w h : ℕ) (f : ℕ → ℕ → A) where
 
   -- all of a map: the rows above and below, what lies left and right between them, and what is inside, in the order of the steps
   pub five : (from to top end : ℕ) (s s₁ s₂ s₃ s₄ t : List A) → Filled d w h f 0 w 0 top s s₁ → Filled d w h f 0 from top end s₁ s₂
-      → Filled d w h f to w top end s₂ s₃ → Filled d w h f 0 w end h s₃ s₄ → Filled d w h f from to top end s₄ t → Filled d w h f 0 w 0 h s t
+      → Filled d w h f to w top end s₂ s₃ → Filled d w h f 0 w end h s₃ s₄ → Filled d w h f from to top end s₄ t
+      → Filled d w h f 0 w 0 h s t
   five from to top end s s₁ s₂ s₃ s₄ t above left right under inner =
       let lower : Filled d w h f 0 w end h s₃ t = first 0 w end h from to top end s₃ s₄ t under inner in
       let middle : Filled d w h f from to top end s₃ t = second 0 w end h from to top end s₃ s₄ t under inner in
@@ -128,13 +130,15 @@ module _ {A : Type 0} (d : A) (w h : ℕ) (f : ℕ → ℕ → A) where
       then-below 0 w 0 top h s s₁ t above rows
 
   -- n places written in row k from column c on
-  module _ (at n c b k : ℕ) (g : ℕ → A) (s t : List A) (wr : Written d at n g s t) (is : at ≡ k * w + c) (end : b ≡ c + n) (fits : b ≤ w) (lies : k < h)
+  module _ (at n c b k : ℕ) (g : ℕ → A) (s t : List A) (wr : Written d at n g s t) (is : at ≡ k * w + c) (end : b ≡ c + n)
+      (fits : b ≤ w) (lies : k < h)
       (right : (i : ℕ) → i < n → g i ≡ f (c + i) k) where
     here : (i j : ℕ) → c ≤ i → i < c + n → j ≡ k → getD t (j * w + i) d ≡ f i j
     here i j l r e =
         let col : c + (i - c) ≡ i = omega arith in
         let place : j * w + i ≡ at + (i - c) = omega (arith, ap (λ (v : ℕ). v * w) e) in
-        ap (λ (v : ℕ). getD t v d) place ∙ wr .within (i - c) (omega arith) ∙ right (i - c) (omega arith) ∙ ap (λ (v : ℕ). f v k) col ∙ ap (f i) (sym e)
+        ap (λ (v : ℕ). getD t v d) place ∙ wr .within (i - c) (omega arith) ∙ right (i - c) (omega arith)
+        ∙ ap (λ (v : ℕ). f v k) col ∙ ap (f i) (sym e)
 
     still : (i j : ℕ) → i < w → j < h → getD s (j * w + i) d ≡ f i j → getD t (j * w + i) d ≡ f i j
     still i j p q e =
@@ -173,7 +177,8 @@ module _ {A : Type 0} (d : A) (w h : ℕ) (f : ℕ → ℕ → A) where
 
   -- all places: the grid, and what stood behind it
   pub all-filled : (s t : List A) → Filled d w h f 0 w 0 h s t → h * w ≤ length s → t ≡ grid w h f ++ drop (h * w) s
-  all-filled s t p room = ext-getD d t (grid w h f ++ drop (h * w) s) (simp (length-append, length-grid, length-drop, p .long) (omega arith)) each
+  all-filled s t p room =
+      ext-getD d t (grid w h f ++ drop (h * w) s) (simp (length-append, length-grid, length-drop, p .long) (omega arith)) each
     where
       each : (i : ℕ) → i < length t → getD t i d ≡ getD (grid w h f ++ drop (h * w) s) i d
       each i l =

@@ -1,6 +1,7 @@
--- Where a cell's ring lies in the image, what the response of a cell is there and elsewhere, and which cells of a row those are. Assumes nothing.
+-- Where a cell's ring lies in the image, what the response of a cell is there and elsewhere, and which cells of a row those are. Assumes
+-- nothing.
 use mathlib.Core.Path.{_≡_}
-use mathlib.Core.Bool.{false}
+use mathlib.Core.Bool.{true, false}
 use mathlib.Core.List.{List}
 use Prim.Native.Nat.{ℕ, _+_, _-_, _<_, _≤_, min, max}
 use native.Mathlib.Nat.{le-refl}
@@ -9,21 +10,37 @@ use borrow.Author.Tests.{lt-ltb, le-ltb, le-leb, lt-leb}
 use Rattle.lists.proofs.Tests.{and-none}
 use Rattle.float32.specs.Float32.{zero}
 use Rattle.ring.specs.Ring.{Ring}
-use Rattle.response.specs.Response.{inside, response, responseAt}
+use Rattle.response.specs.Response.{isWithin, inside, response, responseAt}
 use Rattle.response.specs.Internal.{Inner, Span}
+
+module _ (r w h x y : ℕ) where
+  pub near-left : x < r → isWithin r w h x y ≡ false
+  near-left l = rw (lt-leb _ _ l)
+
+  pub near-right : w ≤ x + r → isWithin r w h x y ≡ false
+  near-right l = rw (le-ltb _ _ l, and-none)
+
+  pub near-above : y < r → isWithin r w h x y ≡ false
+  near-above l = rw (lt-leb _ _ l, and-none, and-none)
+
+  pub near-below : h ≤ y + r → isWithin r w h x y ≡ false
+  near-below l = rw (le-ltb _ _ l, and-none, and-none, and-none)
+
+  pub far-off : r ≤ x → x + r < w → r ≤ y → y + r < h → isWithin r w h x y ≡ true
+  far-off a b c d = rw (le-leb _ _ a, lt-ltb _ _ b, le-leb _ _ c, lt-ltb _ _ d)
 
 module _ (w h : ℕ) (t : Ring) (x y : ℕ) where
   pub out-left : x < t .radius → inside w h t x y ≡ false
-  out-left l = rw (lt-leb _ _ l)
+  out-left = near-left (t .radius) w h x y
 
   pub out-right : w ≤ x + t .radius → inside w h t x y ≡ false
-  out-right l = rw (le-ltb _ _ l, and-none)
+  out-right = near-right (t .radius) w h x y
 
   pub out-above : y < t .radius → inside w h t x y ≡ false
-  out-above l = rw (lt-leb _ _ l, and-none, and-none)
+  out-above = near-above (t .radius) w h x y
 
   pub out-below : h ≤ y + t .radius → inside w h t x y ≡ false
-  out-below l = rw (le-ltb _ _ l, and-none, and-none, and-none)
+  out-below = near-below (t .radius) w h x y
 
   pub at-outside : (img : List ℕ) → inside w h t x y ≡ false → responseAt img w h t x y ≡ zero
   unfolding responseAt
@@ -61,7 +78,8 @@ module _ (w h : ℕ) (t : Ring) (radius x0 y n : ℕ) (e : t .radius ≡ radius)
   span-below l = span-none (λ i. out-below w h t (x0 + i) y (rw e l))
 
   -- else those that lie the radius and more from either end, as the code finds them
-  pub span-row : (l a r s m b : ℕ) → radius ≤ y → y + radius < h → l ≡ radius - x0 → a ≡ min n l → r ≡ w - radius → s ≡ r - x0 → m ≡ min n s → b ≡ max a m
+  pub span-row : (l a r s m b : ℕ) → radius ≤ y → y + radius < h → l ≡ radius - x0 → a ≡ min n l → r ≡ w - radius → s ≡ r - x0
+      → m ≡ min n s → b ≡ max a m
       → Span w h t radius x0 y n a b
   span-row l a r s m b above below el ea er es em eb =
       record {

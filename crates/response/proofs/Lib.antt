@@ -1,4 +1,5 @@
 pub mod OnePass
+pub mod Floats
 pub mod Indices
 pub mod Samples
 pub mod Inside

@@ -12,24 +12,31 @@ use Rattle.lists.specs.Buffer.{front}
 use Rattle.lists.proofs.Tab.{length-grid, getD-grid}
 use Rattle.lists.proofs.Places.{in-map}
 use Rattle.lists.proofs.Members.{all-grid}
-use Rattle.lists.proofs.Buffer.{front-length, front-take, front-drop}
+use Rattle.lists.proofs.Buffer.{front-length, front-take}
 use Rattle.ring.specs.Ring.{Ring}
-use Rattle.response.specs.Patch.{View, whole, sideOf, mapWidth, mapHeight, left, top, responseIn, cells, refusalOf, Patched}
+use Rattle.response.specs.Patch.{View, whole, sideOf, mapWidth, mapHeight, left, top, responseIn, cells, innerIn, innerCells}
+use Rattle.response.specs.Patch.{refusalOf, MapMade}
 use Rattle.response.specs.declared.Patch.{Patch}
 use Rattle.response.specs.declared.Patch.the-variants.{Cells, Refused}
+use Rattle.response.proofs.Inside.{far-off}
 use Rattle.response.proofs.Outcome.{number-of, taken}
 use Rattle.lists.specs.Refusals.{unless}
 use Rattle.lists.proofs.Answers.{refused-keeps}
 
--- the buffer d after a map of pw by ph was made
-pub record Filled (v : View) (d e : List Float) (pw ph : ℕ) : Type 0 where
+-- the buffer d after a map of pw by ph with the cells cs was made
+pub record Made (v : View) (cs d e : List Float) (pw ph : ℕ) : Type 0 where
   pub cols-are : pw ≡ mapWidth v
   pub rows-are : ph ≡ mapHeight v
   pub enough : ph * pw ≤ length d
-  pub fills : e ≡ front (cells v) d
+  pub fills : e ≡ front cs d
+
+-- with all of its cells
+abbrev pub Filled : View → List Float → List Float → ℕ → ℕ → Type 0
+Filled v = Made v (cells v)
 
 -- ---- the answer
-cells-is : (v : View) (n pw ph : ℕ) → unless Refused n (Cells (mapWidth v) (mapHeight v)) ≡ Cells pw ph → (n ≡ 0) × (pw ≡ mapWidth v) × (ph ≡ mapHeight v)
+cells-is : (v : View) (n pw ph : ℕ) → unless Refused n (Cells (mapWidth v) (mapHeight v)) ≡ Cells pw ph
+    → (n ≡ 0) × (pw ≡ mapWidth v) × (ph ≡ mapHeight v)
 cells-is v zero pw ph e = (refl, (cc), (cc))
 cells-is v (suc n) pw ph e = let z : _≡_ {A = ℕ} 0 1 = cc in absurd (omega arith)
 
@@ -37,9 +44,9 @@ refused-is : (v : View) (n m : ℕ) → unless Refused n (Cells (mapWidth v) (ma
 refused-is v zero m e = let z : _≡_ {A = ℕ} 0 1 = cc in absurd (omega arith)
 refused-is v (suc n) m e = let q : suc n ≡ m = cc in (q, omega arith)
 
-module _ (v : View) (radius : ℕ) (d e : List Float) (r : Patch) (p : Patched v radius d r e) where
+module _ (v : View) {cs : List Float} (radius : ℕ) (d e : List Float) (r : Patch) (p : MapMade v cs radius d r e) where
   -- a map was made
-  pub filled : (pw ph : ℕ) → r ≡ Cells pw ph → Filled v d e pw ph
+  pub filled : (pw ph : ℕ) → r ≡ Cells pw ph → Made v cs d e pw ph
   filled pw ph c =
       let q = cells-is v (refusalOf v radius (length d)) pw ph (sym (p .answer) ∙ c) in
       record {
@@ -53,7 +60,7 @@ module _ (v : View) (radius : ℕ) (d e : List Float) (r : Patch) (p : Patched v
   pub refused : (n : ℕ) → r ≡ Refused n → (refusalOf v radius (length d) ≡ n) × (e ≡ d)
   refused n c =
       let q = refused-is v (refusalOf v radius (length d)) n (sym (p .answer) ∙ c) in
-      (q .0, p .buffer ∙ refused-keeps (refusalOf v radius (length d)) (front (cells v) d) d (rw (q .0) (q .1)))
+      (q .0, p .buffer ∙ refused-keeps (refusalOf v radius (length d)) (front cs d) d (rw (q .0) (q .1)))
 
   -- where nothing refuses, a map is made
   module _ (none : refusalOf v radius (length d) ≡ 0) where
@@ -69,7 +76,8 @@ unfolding cells
 cells-length v = length-grid (mapWidth v) (mapHeight v) (responseIn v)
 
 -- the cell of column i and row j
-pub cells-at : (v : View) (i j : ℕ) (x : Float) → i < mapWidth v → j < mapHeight v → getD (cells v) (j * mapWidth v + i) x ≡ responseIn v i j
+pub cells-at : (v : View) (i j : ℕ) (x : Float) → i < mapWidth v → j < mapHeight v
+    → getD (cells v) (j * mapWidth v + i) x ≡ responseIn v i j
 unfolding cells
 cells-at v i j x p q = getD-grid (mapWidth v) (mapHeight v) (responseIn v) i j x p q
 
@@ -78,19 +86,38 @@ pub cells-all : (P : Float → Type 0) (v : View) → ((i j : ℕ) → i < mapWi
 unfolding cells
 cells-all P v h = all-grid P (mapWidth v) (mapHeight v) (responseIn v) h
 
+-- those inside a margin
+pub inner-length : (v : View) (margin : ℕ) → length (innerCells v margin) ≡ mapHeight v * mapWidth v
+unfolding innerCells
+inner-length v margin = length-grid (mapWidth v) (mapHeight v) (innerIn v margin)
+
+pub inner-at : (v : View) (margin i j : ℕ) (x : Float) → margin ≤ i → i + margin < mapWidth v → margin ≤ j → j + margin < mapHeight v
+    → getD (innerCells v margin) (j * mapWidth v + i) x ≡ getD (cells v) (j * mapWidth v + i) x
+unfolding innerCells
+inner-at v margin i j x a b c d =
+    let p : i < mapWidth v = omega arith in
+    let q : j < mapHeight v = omega arith in
+    getD-grid (mapWidth v) (mapHeight v) (innerIn v margin) i j x p q
+    ∙ rw (far-off margin (mapWidth v) (mapHeight v) i j a b c d) (sym (cells-at v i j x p q))
+
+-- ---- the buffer, of any cells that fill the map
+module _ (v : View) {cs : List Float} (long : length cs ≡ mapHeight v * mapWidth v) (d e : List Float) (pw ph : ℕ)
+    (f : Made v cs d e pw ph) where
+  area : ph * pw ≡ length cs
+  area = rw (f .cols-are, f .rows-are) (sym long)
+
+  pub made-length : length e ≡ length d
+  made-length = rw (f .fills) (front-length cs d (rw (← area) (f .enough)))
+
+  pub made-front : take (ph * pw) e ≡ cs
+  made-front = rw (f .fills) (front-take cs d (ph * pw) area)
+
 module _ (v : View) (d e : List Float) (pw ph : ℕ) (f : Filled v d e pw ph) where
-  area : ph * pw ≡ length (cells v)
-  area = rw (f .cols-are, f .rows-are) (sym (cells-length v))
-
   pub same-length : length e ≡ length d
-  same-length = rw (f .fills) (front-length (cells v) d (rw (← area) (f .enough)))
+  same-length = made-length v (cells-length v) d e pw ph f
 
-  -- the buffer's front and the rest
   pub front-is : take (ph * pw) e ≡ cells v
-  front-is = rw (f .fills) (front-take (cells v) d (ph * pw) area)
-
-  pub rest-is : drop (ph * pw) e ≡ drop (ph * pw) d
-  rest-is = rw (f .fills) (front-drop (cells v) d (ph * pw) area)
+  front-is = made-front v (cells-length v) d e pw ph f
 
   pub place-in : (i j : ℕ) → i < pw → j < ph → j * pw + i < length e
   place-in i j p q = omega (arith, same-length, f .enough, in-map pw ph i j p q, mul-comm pw ph)
@@ -98,7 +125,8 @@ module _ (v : View) (d e : List Float) (pw ph : ℕ) (f : Filled v d e pw ph) wh
   pub cell-at : (i j : ℕ) (x : Float) → i < pw → j < ph → getD e (j * pw + i) x ≡ responseIn v i j
   cell-at i j x p q =
       rw (f .fills)
-      (List·getD-append (cells v) (drop (length (cells v)) d) x (j * pw + i) (omega (arith, area, in-map pw ph i j p q, mul-comm pw ph))
+      (List·getD-append (cells v) (drop (length (cells v)) d) x (j * pw + i)
+      (omega (arith, area v (cells-length v) d e pw ph f, in-map pw ph i j p q, mul-comm pw ph))
       ∙ rw (f .cols-are) (cells-at v i j x (omega (arith, f .cols-are)) (omega (arith, f .rows-are))))
 
 -- ---- a box inside the image keeps its sides and its corner; and the whole image

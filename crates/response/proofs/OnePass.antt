@@ -19,7 +19,7 @@ use Rattle.float32.specs.Value.{dist, total}
 use Rattle.response.specs.declared.Held.{Held}
 use Rattle.response.specs.Response.{srOf, ringSumOf}
 use Rattle.response.specs.OnePass.{noPairs, withPair, passedAfter}
-use Rattle.response.specs.Internal.{Small, RingSumsOf}
+use Rattle.response.specs.Internal.{Bytes, Small, RingSumsOf}
 use Rattle.response.proofs.Filling.{set-all}
 
 -- ---- two numbers below 2^15, compared as i16
@@ -97,6 +97,14 @@ passed-next s k h r e f = rw (add-one k) (f ∙ ap (withPair k (getD s k 0) (get
 
 pub passed-end : (s : List ℕ) (k n : ℕ) (h : Held) → h ≡ passedAfter s k → k ≡ n → h ≡ passedAfter s n
 passed-end s k n h e l = e ∙ ap (passedAfter s) l
+
+-- what is held of bytes is small
+pub passed-small : (s : List ℕ) → Bytes s → (n : ℕ) → Small n (passedAfter s n)
+unfolding passedAfter
+passed-small s b zero = small-none
+passed-small s b (suc n) =
+    subst (λ (k : ℕ). Small k (passedAfter s (suc n))) (add-one n)
+    (small-next n (getD s n 0) (getD s (n + 8) 0) (passedAfter s n) (b n) (b (n + 8)) (passed-small s b n))
 
 -- ---- after each pair
 pub passed-dr : (s : List ℕ) (n : ℕ) → passedAfter s n .dr ≡ total (λ k. dist (getD s k 0) (getD s (k + 8) 0)) n

@@ -18,7 +18,7 @@ debit dr sum cross = 5 * dr + dist (5 * sum) (16 * cross)
 abbrev pub fifths : ℕ → ℕ → ℕ → ℕ → ℤ
 fifths sr dr sum cross = subℕ (credit sr) (debit dr sum cross)
 
--- that of any cell: 0 within a ring radius of the edge
+-- the exact value of any cell: 0 within a ring radius of the edge
 unfoldable pub fifthsAt : List ℕ → ℕ → ℕ → Ring → ℕ → ℕ → ℤ
 unfolding samples
 fifthsAt img w h t x y =

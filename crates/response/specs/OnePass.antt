@@ -8,12 +8,12 @@ use lib.ListN.{getD, set, replicate}
 use Rattle.float32.specs.Value.{dist}
 use Rattle.response.specs.declared.Held.{Held}
 
--- what is held before the first pair: nothing is added up, and no pair's sum is kept
+-- what is held before the first pair: all sums are 0, and no pair's sum is kept
 abbrev pub noPairs : Held
 noPairs = record { sr = 0; dr = 0; sum = 0; first = replicate 4 0 }
 
--- what is held with pair k more, its samples being a and b. The sums of the pairs 0 to 3 are kept; each later one is set against that of the
--- pair four before, a quarter turn back, as it was kept
+-- what is held with one more pair k, whose samples are a and b. The sums of pairs 0 to 3 are kept; each later one is
+-- compared with the kept sum of the pair four before, a quarter turn back
 unfoldable pub withPair : ℕ → ℕ → ℕ → Held → Held
 withPair k a b h = record {
   sr = h .sr + cond (ltb k 4) 0 (dist (getD (h .first) (k - 4) 0) (a + b));
@@ -28,6 +28,7 @@ unfolding withPair
 passedAfter s zero = noPairs
 passedAfter s (suc n) = withPair n (getD s n 0) (getD s (n + 8) 0) (passedAfter s n)
 
--- the promise of `ring_sums`, of sixteen samples and a number of pairs: what is held after so many, and after all eight where n is above 8
+-- the promise of `ring_sums` for sixteen samples and a number n of pairs: what is held after n pairs, or after all
+-- eight if n is above 8
 abbrev pub RingPassed : List ℕ → ℕ → Held → Type 0
 RingPassed s n r = r ≡ passedAfter s (min n 8)

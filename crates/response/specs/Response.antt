@@ -1,4 +1,5 @@
--- The ChESS response of a cell, from the ChESS paper's SR, DR and means, in the f32 operations of `chess_response_at_u8` and in their order.
+-- The ChESS response of a cell, from the ChESS paper's SR, DR and means, in the f32 operations of
+-- `chess_response_at_u8` and in their order.
 use Prim.Native.Nat.{ℕ, _+_, _*_, _-_}
 use mathlib.Core.Bool.{Bool, false, cond, _&&_}
 use mathlib.Core.List.{List}
@@ -11,7 +12,7 @@ use Rattle.float32.specs.Value.{dist, total}
 use Rattle.lists.specs.Tab.{tab, pixel}
 use Rattle.ring.specs.Ring.{Ring, dx, dy}
 
--- ---- whole numbers, of sixteen samples s
+-- ---- whole numbers, from sixteen samples s
 
 -- SR: the sum over k = 0..3 of |s(k) + s(k+8) - s(k+4) - s(k+12)|
 abbrev pub srOf : List ℕ → ℕ
@@ -25,15 +26,16 @@ drOf s = total (λ k. dist (getD s k 0) (getD s (k + 8) 0)) 8
 abbrev pub ringSumOf : List ℕ → ℕ
 ringSumOf s = total (λ k. getD s k 0) 16
 
--- ---- of a cell of an image w wide
+-- ---- for a cell of an image w wide
 
--- the samples of the ring about a cell
+-- the samples of the ring around a cell
 unfoldable pub samples : List ℕ → ℕ → Ring → ℕ → ℕ → List ℕ
 samples img w t x y = tab 16 (λ k. pixel img w (x - t .radius + dx t k) (y - t .radius + dy t k))
 
 -- the sum of the cross: the cell and its neighbours above, below, right and left
 abbrev pub crossOf : List ℕ → ℕ → ℕ → ℕ → ℕ
-crossOf img w x y = pixel img w x y + pixel img w x (y - 1) + pixel img w x (y + 1) + pixel img w (x + 1) y + pixel img w (x - 1) y
+crossOf img w x y =
+    pixel img w x y + pixel img w x (y - 1) + pixel img w x (y + 1) + pixel img w (x + 1) y + pixel img w (x - 1) y
 
 -- ---- floats
 
@@ -53,16 +55,21 @@ crossMean cross = div binary32 (floatOf cross) five
 -- SR - DR - 16 |ring mean - cross mean|
 unfoldable pub responseOf : ℕ → ℕ → ℕ → ℕ → Float
 responseOf sr dr sum cross =
-    sub binary32 (sub binary32 (floatOf sr) (floatOf dr)) (mul binary32 sixteen (abs (sub binary32 (ringMean sum) (crossMean cross))))
+    sub binary32 (sub binary32 (floatOf sr) (floatOf dr))
+    (mul binary32 sixteen (abs (sub binary32 (ringMean sum) (crossMean cross))))
 
 -- the response of a cell whose ring lies in the image
 unfoldable pub response : List ℕ → ℕ → Ring → ℕ → ℕ → Float
 unfolding samples responseOf
 response img w t x y = let s = samples img w t x y in responseOf (srOf s) (drOf s) (ringSumOf s) (crossOf img w x y)
 
--- the cell is not within a ring radius of the image's edge: the ring's square about it lies in the image
+-- column x and row y lie at least r from each edge of w by h
+abbrev pub isWithin : ℕ → ℕ → ℕ → ℕ → ℕ → Bool
+isWithin r w h x y = leb r x && (ltb (x + r) w && (leb r y && ltb (y + r) h))
+
+-- the cell is not within a ring radius of the image's edge: the ring's square around it lies in the image
 abbrev pub inside : ℕ → ℕ → Ring → ℕ → ℕ → Bool
-inside w h t x y = leb (t .radius) x && (ltb (x + t .radius) w && (leb (t .radius) y && ltb (y + t .radius) h))
+inside w h t x y = isWithin (t .radius) w h x y
 
 -- the response of any cell: 0 within a ring radius of the edge
 unfoldable pub responseAt : List ℕ → ℕ → ℕ → Ring → ℕ → ℕ → Float

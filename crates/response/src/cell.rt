@@ -1,7 +1,7 @@
-// The response of one cell: the sums of its sixteen samples and of its cross, and the float that they give.
+// The response of one cell: the sums over its sixteen samples and its cross, and the float computed from them.
 ghost use mathlib.Core.Path.{_≡_};
 ghost use Prim.Native.Nat.{ℕ, _+_, _-_, _<_, _≤_, max};
-ghost use lib.ListN.{getD};
+ghost use lib.ListN.{length, getD};
 ghost use Rattle.float32.specs.Value.{dist};
 ghost use Rattle.lists.specs.Tab.{tab};
 ghost use Rattle.ring.specs.Ring.{ringOf};
@@ -11,7 +11,7 @@ ghost use Rattle.response.specs.Internal.{Bytes, Framed, Inner, Small, C
 use crate::Held;
 use numbers::lesser;
 
-// The greater of two numbers. They are compared as i16: the machine's vectors have that comparison, and none of u16.
+// The greater of two numbers. They are compared as i16: the machine's vector instructions can compare i16, but not u16.
 fn most(a: u16, b: u16) -> u16
     requires { ⌜ (a < 32768) × (b < 32768) ⌝ }
     ensures { λ r. ⌜ r ≡ max a b ⌝ }
@@ -19,7 +19,7 @@ fn most(a: u16, b: u16) -> u16
     if (a as i16) < (b as i16) { b } else { a }
 }
 
-// |a - b|, as twice the greater less the sum: the terms of a cell share the sums, and the compiler adds those up once.
+// |a - b|, as twice the greater minus the sum: the terms of a cell share the sums, and the compiler adds those up once.
 fn gap(a: u16, b: u16) -> u16
     requires { ⌜ (a < 1024) × (b < 1024) ⌝ }
     ensures { λ r. ⌜ r ≡ dist a b ⌝ }
@@ -28,7 +28,8 @@ fn gap(a: u16, b: u16) -> u16
     m + m - (a + b)
 }
 
-// With pair k more, whose samples are a and b: from the fifth on its sum is set against that of the pair a quarter turn back.
+// Adds pair k, whose samples are a and b. From the fifth pair on, its sum is compared with that of the pair a quarter
+// turn before.
 fn with_pair(h: Held, k: usize, a: u16, b: u16) -> Held
     requires { ⌜ (k < 8) × Small k h × (a < 256) × (b < 256) ⌝ }
     ensures { λ r. ⌜ (r ≡ withPair k a b h) × Small (k + 1) r ⌝ }
@@ -54,8 +55,9 @@ fn with_pair(h: Held, k: usize, a: u16, b: u16) -> Held
     }
 }
 
-// SR, DR and the sum of sixteen samples after the first n pairs, in one pass over them: after all eight where n is 8 or more.
-fn ring_sums(s: [u16; 16], n: usize) -> Held
+// SR, DR and the sum of sixteen samples after the first n pairs, in one pass over them: after all eight if n is 8 or
+// more.
+pub(crate) fn ring_sums(s: [u16; 16], n: usize) -> Held
     requires { ⌜ Bytes s ⌝ }
     ensures { λ r. ⌜ RingPassed s n r ⌝ }
 {
@@ -74,9 +76,9 @@ fn ring_sums(s: [u16; 16], n: usize) -> Held
     h
 }
 
-// The pixels at the offsets behind base.
-fn gather(tile: &[u16; 5328], base: usize, off: [usize; 16]) -> [u16; 16]
-    requires { ⌜ ((k : ℕ) → k < 16 → base + getD off k 0 < 5328) ⌝ }
+// The pixels at the given offsets from `base`.
+fn gather(tile: &[u16], base: usize, off: [usize; 16]) -> [u16; 16]
+    requires { ⌜ ((k : ℕ) → k < 16 → base + getD off k 0 < length (now tile)) × (length (now tile) ≤ 16777216) ⌝ }
     ensures { λ r. ⌜ r ≡ tab 16 (λ k. getD (now (tile .entry)) (base + getD off k 0) 0) ⌝ }
 {
     let mut s = [0u16; 16];
@@ -89,48 +91,52 @@ fn gather(tile: &[u16; 5328], base: usize, off: [usize; 16]) -> [u16; 16]
     s
 }
 
-// The sum of the cross about the pixel at mid.
-fn cross(tile: &[u16; 5328], mid: usize) -> u16
-    requires { ⌜ Bytes (now tile) × (148 ≤ mid) × (mid + 148 < 5328) ⌝ }
-    ensures { λ r. ⌜ r ≡ getD (now (tile .entry)) mid 0 + getD (now (tile .entry)) (mid - 148) 0 + getD (now (tile .entry)) (mid + 148) 0 + getD (now (tile .entry)) (mid + 1) 0 + getD (now (tile .entry)) (mid - 1) 0 ⌝ }
+// The sum of the cross around the pixel at `mid`, in rows of s places.
+fn cross(tile: &[u16], s: usize, mid: usize) -> u16
+    requires { ⌜ Bytes (now tile) × (s ≤ mid) × (1 ≤ mid) × (mid + s < length (now tile))
+        × (mid + 1 < length (now tile)) × (length (now tile) ≤ 16777216) ⌝ }
+    ensures { λ r. ⌜ r ≡ getD (now (tile .entry)) mid 0 + getD (now (tile .entry)) (mid - s) 0 + getD
+        (now (tile .entry)) (mid + s) 0 + getD (now (tile .entry)) (mid + 1) 0 + getD (now (tile .entry))
+        (mid - 1) 0 ⌝ }
 {
-    tile[mid] + tile[mid - 148] + tile[mid + 148] + tile[mid + 1] + tile[mid - 1]
+    tile[mid] + tile[mid - s] + tile[mid + s] + tile[mid + 1] + tile[mid - 1]
 }
 
-// The whole numbers of a cell's response.
+// The whole numbers of a cell's response: SR - DR, plus 4096 so that it is not negative, the sum of the ring, and the
+// sum of the cross.
 pub(crate) struct CellSums {
-    pub(crate) sr: u16,
-    pub(crate) dr: u16,
+    pub(crate) balance: u16,
     pub(crate) sum: u16,
     pub(crate) cross: u16,
 }
 
-// The sums of a cell of a tile, whose ring lies in the tile.
+// The sums of a cell of a tile with rows of s places. Its ring lies in the tile.
 pub(crate) fn cell_sums(
-    tile: &[u16; 5328],
+    tile: &[u16],
+    s: usize,
     radius: usize,
     off: [usize; 16],
     x: usize,
     y: usize,
 ) -> CellSums
-    requires { ⌜ Bytes (now tile) × Framed (now tile) 148 36 (ringOf radius) radius off × Inner 148 36 radius x y ⌝ }
-    ensures { λ r. ⌜ CellSumsOf (now (tile .entry)) 148 (ringOf radius) x y (r .sr) (r .dr) (r .sum) (r .cross) ⌝ }
+    requires { ⌜ Bytes (now tile) × Framed (now tile) s 36 (ringOf radius) radius off × Inner s 36 radius x y ⌝ }
+    ensures { λ r. ⌜ CellSumsOf (now (tile .entry)) s (ringOf radius) x y (r .balance) (r .sum) (r .cross) ⌝ }
 {
-    let base = (y - radius) * 148 + (x - radius);
+    let base = (y - radius) * s + (x - radius);
     let ring = ring_sums(gather(tile, base, off), 8);
     CellSums {
-        sr: ring.sr,
-        dr: ring.dr,
+        balance: ring.sr + 4096 - ring.dr,
         sum: ring.sum,
-        cross: cross(tile, y * 148 + x),
+        cross: cross(tile, s, y * s + x),
     }
 }
 
-// SR - DR - 16 |ring mean - cross mean|, by the operations of `chess_response_at_u8` in their order.
-pub(crate) fn value(sr: u16, dr: u16, sum: u16, cross: u16) -> f32
-    ensures { λ r. ⌜ r ≡ responseOf sr dr sum cross ⌝ }
+// SR - DR - 16 |ring mean - cross mean|, by the operations of `chess_response_at_u8` in their order. SR - DR is
+// computed as the balance minus 4096: as a float, the difference of two whole numbers depends only on its value.
+pub(crate) fn value(balance: u16, sum: u16, cross: u16) -> f32
+    ensures { λ r. ⌜ r ≡ responseOf balance 4096 sum cross ⌝ }
 {
     let mu_n = (sum as f32) / 16.0;
     let mu_l = (cross as f32) / 5.0;
-    (sr as f32) - (dr as f32) - 16.0 * float32::abs(mu_n - mu_l)
+    (balance as f32) - 4096.0 - 16.0 * float32::abs(mu_n - mu_l)
 }

@@ -1,24 +1,30 @@
-// A map: its cells at the image's edges, which are 0, and the others, block by block.
+// A map: its cells, computed block by block. Cells near the image's edges, and cells nearer to the map's own edges than
+// a margin, are 0.
 ghost use mathlib.Core.Path.{_≡_};
+ghost use mathlib.Core.Bool.{cond};
 ghost use mathlib.Core.List.{_++_};
 ghost use Prim.Native.Nat.{_+_, _*_, _<_, _≤_};
 ghost use lib.ListN.{length, drop};
+ghost use Rattle.lists.specs.Limits.{largestMap};
 ghost use Rattle.float32.specs.Float32.{zero};
 ghost use Rattle.lists.specs.Tab.{tab, grid};
 ghost use Rattle.lists.specs.Internal.{Sized};
 ghost use Rattle.ring.specs.Ring.{ringOf};
-ghost use Rattle.response.specs.Response.{responseAt};
-ghost use Rattle.response.specs.Internal.{IsTile, Filled, Written, Cleared, Stretched, Placed, Part, responses, offsetAt};
+ghost use Rattle.response.specs.Response.{isWithin, responseAt};
+ghost use Rattle.response.specs.Internal.{IsTile, Filled, Written, Cleared, Stretched, Placed, Part, responses};
+ghost use Rattle.response.specs.Internal.{offsetAt, eightsOf};
+use crate::alone::alone;
 use crate::runs::eights;
 use crate::runs::sums;
 use crate::runs::values;
 use crate::tile::offsets;
+use crate::tile::offsets_in;
 use crate::tile::widen;
 use numbers::greater;
 use numbers::lesser;
 use numbers::minus;
 
-// A map of pw by ph cells of an image of w by h, by a ring of that radius: its first cell is the image's cell (x, y).
+// A map of pw by ph cells of an image of w by h, with a ring of that radius. Its first cell is the image's cell (x, y).
 struct Field {
     w: usize,
     h: usize,
@@ -29,7 +35,7 @@ struct Field {
     ph: usize,
 }
 
-// 0 in n places from `at` on.
+// Writes 0 to n places from `at` on.
 fn clear(map: &mut [f32], at: usize, n: usize)
     requires { ⌜ at + n ≤ length (now map) ⌝ }
     ensures { λ _. ⌜ Written zero at n (λ _. zero) (now (map .entry)) (now (map .exit)) ⌝ }
@@ -41,9 +47,9 @@ fn clear(map: &mut [f32], at: usize, n: usize)
     }
 }
 
-// 0 in the cells of the columns a up to b of the rows c up to e, in rows of w cells.
+// Writes 0 to the cells in columns a up to b and rows c up to e, in rows of w cells.
 fn clear_part(map: &mut [f32], w: usize, a: usize, b: usize, c: usize, e: usize)
-    requires { ⌜ (a ≤ b) × (b ≤ w) × (c ≤ e) × (e * w ≤ length (now map)) × (e * w ≤ 16777216) ⌝ }
+    requires { ⌜ (a ≤ b) × (b ≤ w) × (c ≤ e) × (e * w ≤ length (now map)) × (e * w ≤ largestMap) ⌝ }
     ensures { λ _. ⌜ Cleared w a b c e (now (map .entry)) (now (map .exit)) ⌝ }
 {
     let mut j = c;
@@ -53,7 +59,8 @@ fn clear_part(map: &mut [f32], w: usize, a: usize, b: usize, c: usize, e: usize)
     }
 }
 
-// The responses of n by m cells from the map's column i and row j on: all of them have their ring in the image.
+// Computes the responses of n by m cells from the map's column i and row j on, using a tile with rows of s places. All
+// these cells have their ring in the image.
 fn block(
     img: &[u8],
     f: Field,
@@ -62,12 +69,15 @@ fn block(
     j: usize,
     n: usize,
     m: usize,
-    tile: &mut [u16; 5328],
+    tile: &mut [u16],
+    s: usize,
     map: &mut [f32],
 )
     requires { ⌜ Placed (length (now img)) f (length (now map)) × Part f i (i + n) j (j + m) ⌝ }
-    requires { ⌜ (off ≡ tab 16 (offsetAt (ringOf (f .radius)) 148)) × (0 < n) × (n ≤ 128) × (0 < m) × (m ≤ 16) × IsTile (now tile) ⌝ }
-    ensures { λ _. ⌜ Filled zero (f .pw) (f .ph) (responses (now (img .entry)) f) i (i + n) j (j + m) (now (map .entry)) (now (map .exit)) × IsTile (now (tile .exit)) ⌝ }
+    requires { ⌜ (off ≡ tab 16 (offsetAt (ringOf (f .radius)) s)) × (0 < n) × (n ≤ 128) × (0 < m) × (m ≤ 16)
+        × IsTile s (now tile) × (eightsOf n + 20 ≤ s) ⌝ }
+    ensures { λ _. ⌜ Filled zero (f .pw) (f .ph) (responses (now (img .entry)) f) i (i + n) j (j + m)
+        (now (map .entry)) (now (map .exit)) × IsTile s (now (tile .exit)) ⌝ }
 {
     let r = f.radius;
     widen(
@@ -78,30 +88,30 @@ fn block(
         n + r + r,
         m + r + r,
         tile,
+        s,
     );
-    let mut sr = [0u16; 128];
-    let mut dr = [0u16; 128];
+    let mut balance = [0u16; 128];
     let mut sum = [0u16; 128];
     let mut cross = [0u16; 128];
     let mut k = 0usize;
     while k < m {
         sums(
             tile,
+            s,
             r,
             off,
             r + k,
             eights(n),
-            &mut sr,
-            &mut dr,
+            &mut balance,
             &mut sum,
             &mut cross,
         );
-        values(&sr, &dr, &sum, &cross, n, map, (j + k) * f.pw + i);
+        values(&balance, &sum, &cross, n, map, (j + k) * f.pw + i);
         k += 1;
     }
 }
 
-// The responses of the columns a up to b of m rows from the map's row j on.
+// Computes the responses in columns a up to b of m rows from the map's row j on.
 fn band(
     img: &[u8],
     f: Field,
@@ -110,22 +120,71 @@ fn band(
     b: usize,
     j: usize,
     m: usize,
-    tile: &mut [u16; 5328],
+    tile: &mut [u16],
     map: &mut [f32],
 )
     requires { ⌜ Placed (length (now img)) f (length (now map)) × Part f a b j (j + m) × (a ≤ b) ⌝ }
-    requires { ⌜ (off ≡ tab 16 (offsetAt (ringOf (f .radius)) 148)) × (0 < m) × (m ≤ 16) × IsTile (now tile) ⌝ }
-    ensures { λ _. ⌜ Filled zero (f .pw) (f .ph) (responses (now (img .entry)) f) a b j (j + m) (now (map .entry)) (now (map .exit)) × IsTile (now (tile .exit)) ⌝ }
+    requires { ⌜ (off ≡ tab 16 (offsetAt (ringOf (f .radius)) 148)) × (0 < m) × (m ≤ 16) × IsTile 148 (now tile) ⌝ }
+    ensures { λ _. ⌜ Filled zero (f .pw) (f .ph) (responses (now (img .entry)) f) a b j (j + m)
+        (now (map .entry)) (now (map .exit)) × IsTile 148 (now (tile .exit)) ⌝ }
 {
     let mut i = a;
     while i < b {
         let n = lesser(128, b - i);
-        block(img, f, off, i, j, n, m, tile, map);
+        block(img, f, off, i, j, n, m, tile, 148, map);
         i += n;
     }
 }
 
-// The responses of the columns a up to b of the rows c up to e.
+// Computes the responses in columns a up to b and rows c up to e, of which there may be many.
+fn large(
+    img: &[u8],
+    f: Field,
+    off: [usize; 16],
+    a: usize,
+    b: usize,
+    c: usize,
+    e: usize,
+    map: &mut [f32],
+)
+    requires { ⌜ Placed (length (now img)) f (length (now map)) × Part f a b c e × (a ≤ b) × (c ≤ e) ⌝ }
+    requires { ⌜ off ≡ tab 16 (offsetAt (ringOf (f .radius)) 148) ⌝ }
+    ensures { λ _. ⌜ Filled zero (f .pw) (f .ph) (responses (now (img .entry)) f) a b c e (now (map .entry))
+        (now (map .exit)) ⌝ }
+{
+    let mut tile = [0u16; 5328];
+    let mut j = c;
+    while j < e {
+        let m = lesser(16, e - j);
+        band(img, f, off, a, b, j, m, &mut tile, map);
+        j += m;
+    }
+}
+
+// Computes the responses of up to 16 by 16 cells from the map's column i and row j on. A small tile takes less time to
+// fill.
+fn small(img: &[u8], f: Field, i: usize, j: usize, n: usize, m: usize, map: &mut [f32])
+    requires { ⌜ Placed (length (now img)) f (length (now map)) × Part f i (i + n) j (j + m) ⌝ }
+    requires { ⌜ (0 < n) × (n ≤ 16) × (0 < m) × (m ≤ 16) ⌝ }
+    ensures { λ _. ⌜ Filled zero (f .pw) (f .ph) (responses (now (img .entry)) f) i (i + n) j (j + m)
+        (now (map .entry)) (now (map .exit)) ⌝ }
+{
+    let mut tile = [0u16; 1296];
+    let off = offsets_in(f.radius as u32, 36);
+    block(img, f, off, i, j, n, m, &mut tile, 36, map);
+}
+
+// Computes the response of the cell in the map's column i and row j.
+fn single(img: &[u8], f: Field, i: usize, j: usize, map: &mut [f32])
+    requires { ⌜ Placed (length (now img)) f (length (now map)) × Part f i (i + 1) j (j + 1) ⌝ }
+    ensures { λ _. ⌜ Filled zero (f .pw) (f .ph) (responses (now (img .entry)) f) i (i + 1) j (j + 1)
+        (now (map .entry)) (now (map .exit)) ⌝ }
+{
+    let off = offsets_in(f.radius as u32, f.w);
+    map[j * f.pw + i] = alone(img, f.w, f.h, f.radius, off, f.x + i, f.y + j);
+}
+
+// Computes the responses in columns a up to b and rows c up to e.
 fn inner(
     img: &[u8],
     f: Field,
@@ -138,15 +197,24 @@ fn inner(
 )
     requires { ⌜ Placed (length (now img)) f (length (now map)) × Part f a b c e × (a ≤ b) × (c ≤ e) ⌝ }
     requires { ⌜ off ≡ tab 16 (offsetAt (ringOf (f .radius)) 148) ⌝ }
-    ensures { λ _. ⌜ Filled zero (f .pw) (f .ph) (responses (now (img .entry)) f) a b c e (now (map .entry)) (now (map .exit)) ⌝ }
+    ensures { λ _. ⌜ Filled zero (f .pw) (f .ph) (responses (now (img .entry)) f) a b c e (now (map .entry))
+        (now (map .exit)) ⌝ }
 {
-    let mut tile = [0u16; 5328];
-    let mut j = c;
-    while j < e {
-        let m = lesser(16, e - j);
-        band(img, f, off, a, b, j, m, &mut tile, map);
-        j += m;
+    let n = b - a;
+    let m = e - c;
+    let most = greater(n, m);
+    if lesser(n, m) == 0 {
+        return;
     }
+    if most == 1 {
+        single(img, f, a, c, map);
+        return;
+    }
+    if most <= 16 {
+        small(img, f, a, c, n, m, map);
+        return;
+    }
+    large(img, f, off, a, b, c, e, map);
 }
 
 // A part of a row or of a column of cells, from one place up to another.
@@ -155,16 +223,18 @@ struct Stretch {
     to: usize,
 }
 
-// Which of n cells from place x on lie the radius and more from either end of w places.
-fn reach(w: usize, radius: usize, x: usize, n: usize) -> Stretch
-    ensures { λ r. ⌜ Stretched w radius x n (r .from) (r .to) ⌝ }
+// Which of n cells from place x on lie at least the radius from either end of w places, and at least the margin from
+// either end of the n cells.
+fn reach(w: usize, radius: usize, x: usize, n: usize, margin: usize) -> Stretch
+    ensures { λ r. ⌜ Stretched w radius x n margin (r .from) (r .to) ⌝ }
 {
-    let from = lesser(n, minus(radius, x));
-    let to = greater(from, lesser(n, minus(minus(w, radius), x)));
+    let from = lesser(n, greater(margin, minus(radius, x)));
+    let to = greater(from, lesser(minus(n, margin), minus(minus(w, radius), x)));
     Stretch { from, to }
 }
 
-// The responses of pw by ph cells from column x and row y on, at the front of the buffer.
+// Writes the responses of pw by ph cells from column x and row y on to the start of the buffer, with 0 in the cells
+// that are nearer to an edge than the margin.
 pub(crate) fn fill(
     img: &[u8],
     w: usize,
@@ -174,19 +244,18 @@ pub(crate) fn fill(
     y: usize,
     pw: usize,
     ph: usize,
+    margin: usize,
     map: &mut [f32],
 )
     requires { ⌜ Sized (length (now img)) w h × (ringOf ring .radius ≡ ring) ⌝ }
     requires { ⌜ (x + pw ≤ w) × (y + ph ≤ h) × (ph * pw ≤ length (now map)) ⌝ }
-    ensures { λ _. ⌜ now (map .exit) ≡ grid pw ph (λ i j. responseAt (now (img .entry)) w h (ringOf ring) (x + i) (y + j)) ++ drop (ph * pw) (now (map .entry)) ⌝ }
+    ensures { λ _. ⌜ now (map .exit)
+        ≡ grid pw ph (λ i j. cond (isWithin margin pw ph i j)
+        (responseAt (now (img .entry)) w h (ringOf ring) (x + i) (y + j)) zero) ++ drop (ph * pw) (now (map .entry)) ⌝ }
 {
     let radius = ring as usize;
-    let columns = reach(w, radius, x, pw);
-    let rows = reach(h, radius, y, ph);
-    clear_part(map, pw, 0, pw, 0, rows.from);
-    clear_part(map, pw, 0, columns.from, rows.from, rows.to);
-    clear_part(map, pw, columns.to, pw, rows.from, rows.to);
-    clear_part(map, pw, 0, pw, rows.to, ph);
+    let columns = reach(w, radius, x, pw, margin);
+    let rows = reach(h, radius, y, ph, margin);
     let f = Field {
         w,
         h,
@@ -206,4 +275,8 @@ pub(crate) fn fill(
         rows.to,
         map,
     );
+    clear_part(map, pw, 0, pw, 0, rows.from);
+    clear_part(map, pw, 0, columns.from, rows.from, rows.to);
+    clear_part(map, pw, columns.to, pw, rows.from, rows.to);
+    clear_part(map, pw, 0, pw, rows.to, ph);
 }

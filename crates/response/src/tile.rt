@@ -1,22 +1,26 @@
-// A tile: the pixels of a block of up to 128 by 16 cells, with up to 10 more about them, in 36 rows of 148 places.
-// They are copied once as u16, so that no loop over cells has to widen them.
+// A tile: the pixels of a block of cells and up to 10 more on each side, in 36 rows. The rows have 148 places for up to
+// 128 by 16 cells, and 36 for up to 16 by 16. The pixels are copied once as u16, so that no loop over cells has to
+// widen them.
 ghost use mathlib.Core.Path.{_≡_};
 ghost use Prim.Native.Nat.{_+_, _*_, _<_, _≤_};
 ghost use lib.ListN.{length, getD};
+ghost use Rattle.lists.specs.Limits.{largestSide, largestMap};
 ghost use Rattle.lists.specs.Tab.{tab, pixel};
 ghost use Rattle.ring.specs.Ring.{ringOf};
-ghost use Rattle.response.specs.Internal.{IsTile, Filled, Written, offsetAt};
+ghost use Rattle.response.specs.Internal.{Bytes, IsTile, Filled, Written, offsetAt};
 
-// How far so many rows and columns are in a tile.
-fn offset(rows: u8, columns: u8) -> usize
-    ensures { λ r. ⌜ r ≡ rows * 148 + columns ⌝ }
+// The distance in places of a number of rows and columns, in rows of w places.
+fn offset(rows: u8, columns: u8, w: usize) -> usize
+    requires { ⌜ w ≤ largestSide ⌝ }
+    ensures { λ r. ⌜ r ≡ rows * w + columns ⌝ }
 {
-    (rows as usize) * 148 + (columns as usize)
+    (rows as usize) * w + (columns as usize)
 }
 
-// How far each place of the ring lies behind the corner of the ring's square.
-pub(crate) fn offsets(ring: u32) -> [usize; 16]
-    ensures { λ r. ⌜ r ≡ tab 16 (offsetAt (ringOf ring) 148) ⌝ }
+// The offset of each place of the ring from the corner of the ring's square, in rows of w places.
+pub(crate) fn offsets_in(ring: u32, w: usize) -> [usize; 16]
+    requires { ⌜ w ≤ largestSide ⌝ }
+    ensures { λ r. ⌜ r ≡ tab 16 (offsetAt (ringOf ring) w) ⌝ }
 {
     let t = ring::ring_offsets(ring);
     let columns = t.columns;
@@ -24,23 +28,31 @@ pub(crate) fn offsets(ring: u32) -> [usize; 16]
     let mut off = [0usize; 16];
     let mut k = 0usize;
     while k < 16 {
-        off[k] = offset(rows[k], columns[k]);
+        off[k] = offset(rows[k], columns[k], w);
         k += 1;
     }
     off
 }
 
-// A byte as a wider number.
-fn wide(b: u8) -> u16
+// The same for the tile of a large block.
+pub(crate) fn offsets(ring: u32) -> [usize; 16]
+    ensures { λ r. ⌜ r ≡ tab 16 (offsetAt (ringOf ring) 148) ⌝ }
+{
+    offsets_in(ring, 148)
+}
+
+// A byte as a u16.
+pub(crate) fn wide(b: u8) -> u16
     ensures { λ r. ⌜ (r ≡ b) × (r < 256) ⌝ }
 {
     b as u16
 }
 
-// Puts n pixels, from place `from` of the image on, into the places from `at` on.
-fn widen_row(img: &[u8], from: usize, n: usize, tile: &mut [u16; 5328], at: usize)
-    requires { ⌜ (from + n ≤ length (now img)) × (at + n ≤ 5328) × IsTile (now tile) ⌝ }
-    ensures { λ _. ⌜ Written 0 at n (λ i. getD (now (img .entry)) (from + i) 0) (now (tile .entry)) (now (tile .exit)) × IsTile (now (tile .exit)) ⌝ }
+// Copies n pixels, from place `from` of the image on, to the places from `at` on.
+fn widen_row(img: &[u8], from: usize, n: usize, tile: &mut [u16], at: usize)
+    requires { ⌜ (from + n ≤ length (now img)) × (at + n ≤ length (now tile)) × Bytes (now tile) ⌝ }
+    ensures { λ _. ⌜ Written 0 at n (λ i. getD (now (img .entry)) (from + i) 0) (now (tile .entry))
+        (now (tile .exit)) × Bytes (now (tile .exit)) ⌝ }
 {
     let mut i = 0usize;
     while i < n {
@@ -49,7 +61,7 @@ fn widen_row(img: &[u8], from: usize, n: usize, tile: &mut [u16; 5328], at: usiz
     }
 }
 
-// Puts the pixels of n columns from column x on and of m rows from row y on into a tile.
+// Copies the pixels in n columns from column x on and m rows from row y on into a tile with rows of s places.
 pub(crate) fn widen(
     img: &[u8],
     w: usize,
@@ -57,14 +69,17 @@ pub(crate) fn widen(
     y: usize,
     n: usize,
     m: usize,
-    tile: &mut [u16; 5328],
+    tile: &mut [u16],
+    s: usize,
 )
-    requires { ⌜ (x + n ≤ w) × ((y + m) * w ≤ length (now img)) × (length (now img) ≤ 16777216) × (y + m ≤ 4096) × (n ≤ 148) × (m ≤ 36) × IsTile (now tile) ⌝ }
-    ensures { λ _. ⌜ Filled 0 148 36 (λ i j. pixel (now (img .entry)) w (x + i) (y + j)) 0 n 0 m (now (tile .entry)) (now (tile .exit)) × IsTile (now (tile .exit)) ⌝ }
+    requires { ⌜ (x + n ≤ w) × ((y + m) * w ≤ length (now img)) × (length (now img) ≤ largestMap)
+        × (y + m ≤ largestSide) × (n ≤ s) × (m ≤ 36) × IsTile s (now tile) ⌝ }
+    ensures { λ _. ⌜ Filled 0 s 36 (λ i j. pixel (now (img .entry)) w (x + i) (y + j)) 0 n 0 m
+        (now (tile .entry)) (now (tile .exit)) × IsTile s (now (tile .exit)) ⌝ }
 {
     let mut j = 0usize;
     while j < m {
-        widen_row(img, (y + j) * w + x, n, tile, j * 148);
+        widen_row(img, (y + j) * w + x, n, tile, j * s);
         j += 1;
     }
 }

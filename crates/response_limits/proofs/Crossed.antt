@@ -26,7 +26,8 @@ module _ (low high : List ℕ) where
   compared-none = record { none = λ e j l. absurd (let no : ⊥ = omega arith in no); some = λ l. absurd (let no : ⊥ = omega arith in no) }
 
   module _ (most i : ℕ) (c : Compared low high most i) where
-    pub compared-next : i < length low → (d most′ : ℕ) → d ≡ getD low i 0 - getD high i 0 → most′ ≡ max most d → Compared low high most′ (i + 1)
+    pub compared-next : i < length low → (d most′ : ℕ) → d ≡ getD low i 0 - getD high i 0 → most′ ≡ max most d
+        → Compared low high most′ (i + 1)
     compared-next l d most′ e f =
         record {
           none = λ z j k.
@@ -34,7 +35,8 @@ module _ (low high : List ℕ) where
               ⊎-elim (λ (same : j ≡ i). rw same (omega arith)) (λ (before : j < i). c .none (omega arith) j before) (eq-or-lt-of-le up);
           some = λ p.
               ⊎-elim
-              (λ (z : most ≡ 0). any-tab-hit crossed (rangeAt low high) (length low) i l (lt-ltb (getD high i 0) (getD low i 0) (omega arith)))
+              (λ (z : most ≡ 0). any-tab-hit crossed (rangeAt low high) (length low) i l
+              (lt-ltb (getD high i 0) (getD low i 0) (omega arith)))
               (λ (q : 0 < most). c .some q)
               (eq-zero-or-pos most);
         }

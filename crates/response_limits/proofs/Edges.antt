@@ -38,7 +38,8 @@ module _ (from to : ℕ) (s ys : List ℤ) (k : ℕ) (l : from ≤ to) (r : to �
       → EdgesCleared from to (length s) (putMid to (length s - to) first zs)
   edges-cleared zs b =
       let rest : drop (length s - to) (drop to first) ≡ [] =
-      drop-drop (length s - to) to first ∙ drop-of-length-le first (let l : length first ≤ to + (length s - to) = omega (arith, first-long) in l) in
+      drop-drop (length s - to) to first
+      ∙ drop-of-length-le first (let l : length first ≤ to + (length s - to) = omega (arith, first-long) in l) in
       let front : length (take to first) ≡ to = length-take-le to first (omega (arith, first-long)) in
       record {
         long = rw (rest, append-nil) (omega (arith, length-append (take to first) zs, front, ap length b ∙ length-tab _ _ ∙ behind-long));
@@ -61,7 +62,8 @@ module _ (from to w : ℕ) (s : List ℤ) (c : EdgesCleared from to w s) (l : fr
       let first : take from s ≡ tab from f = c .before ∙ tab-ext from _ f (λ i p. sym (left i p)) in
       let last : postOf from (to - from) s ≡ tab (w - to) (λ i. f (from + ((to - from) + i))) =
       post-is from to s l ∙ c .behind
-      ∙ tab-ext (w - to) _ _ (λ i p. let q : from + ((to - from) + i) ≡ to + i = omega arith in sym (rw q (right (to + i) (omega arith) (omega arith)))) in
+      ∙ tab-ext (w - to) _ _ (λ i p. let q : from + ((to - from) + i) ≡ to + i = omega arith in sym
+      (rw q (right (to + i) (omega arith) (omega arith)))) in
       let long : from + ((to - from) + (w - to)) ≡ w = omega arith in
       rw (first, last, e, k)
       (ap (λ (t : List ℤ). tab from f ++ t) (sym (tab-add (to - from) (w - to) (λ i. f (from + i))))
@@ -87,20 +89,24 @@ module _ (low high : List ℕ) (w h : ℕ) (t : Ring) (y : ℕ) where
     outside : (i : ℕ) → inside w h t (0 + i) y ≡ false → inside w h t i y ≡ false
     outside i e = ap (λ (x : ℕ). inside w h t x y) (sym (zero-add i)) ∙ e
 
-    row-put : (f : ℕ → ℤ) → ((i : ℕ) → inside w h t i y ≡ false → f i ≡ pos 0) → ys ≡ tab m (λ i. f (from + i)) → putMid from (to - from) s ys ≡ tab w f
+    row-put : (f : ℕ → ℤ) → ((i : ℕ) → inside w h t i y ≡ false → f i ≡ pos 0) → ys ≡ tab m (λ i. f (from + i))
+        → putMid from (to - from) s ys ≡ tab w f
     row-put f z e =
         middle-put from to w s c (b .ordered) (b .ends) f
         (λ i l. z i (outside i (b .outer-left i l)))
         (λ i l r. z i (outside i (b .outer-right i l r)))
         ys m e k
 
-    pub lows-put : ys ≡ tab m (λ i. lowAt low high w h t (from + i) y) → putMid from (to - from) s ys ≡ tab w (λ i. lowAt low high w h t i y)
+    pub lows-put : ys ≡ tab m (λ i. lowAt low high w h t (from + i) y)
+        → putMid from (to - from) s ys ≡ tab w (λ i. lowAt low high w h t i y)
     lows-put = row-put (λ i. lowAt low high w h t i y) (λ i e. unfold lowAt in (rw e))
 
-    pub highs-put : ys ≡ tab m (λ i. highAt low high w h t (from + i) y) → putMid from (to - from) s ys ≡ tab w (λ i. highAt low high w h t i y)
+    pub highs-put : ys ≡ tab m (λ i. highAt low high w h t (from + i) y)
+        → putMid from (to - from) s ys ≡ tab w (λ i. highAt low high w h t i y)
     highs-put = row-put (λ i. highAt low high w h t i y) (λ i e. unfold highAt in (rw e))
 
 -- a cell between the edges
-pub span-inner : (w h : ℕ) (t : Ring) (radius y from to : ℕ) → Span w h t radius 0 y w from to → (i : ℕ) → i < to - from → Inner w h radius (from + i) y
+pub span-inner : (w h : ℕ) (t : Ring) (radius y from to : ℕ) → Span w h t radius 0 y w from to → (i : ℕ) → i < to - from
+    → Inner w h radius (from + i) y
 span-inner w h t radius y from to b i l =
     subst (λ (x : ℕ). Inner w h radius x y) (zero-add (from + i)) (b .inner (from + i) (omega arith) (omega arith))

@@ -59,7 +59,8 @@ given low high w h ring lows highs e =
 
 -- ---- what a call answers and leaves
 module _ (low high : List ℕ) (w h ring : ℕ) (d e : List ℤ) where
-  pub when-refused : (n : ℕ) → n ≡ refusalOf low high w h ring (length d) (length e) → (n ≡ 0 → ⊥) → LimitsWritten low high w h ring d e (Refused n) d e
+  pub when-refused : (n : ℕ) → n ≡ refusalOf low high w h ring (length d) (length e) → (n ≡ 0 → ⊥)
+      → LimitsWritten low high w h ring d e (Refused n) d e
   when-refused zero q z = absurd (z refl)
   when-refused (suc n) q z = record { answer = rw (← q); number = q; values = refl; lows-are = rw (← q); highs-are = rw (← q) }
 

@@ -1,4 +1,4 @@
--- What the private functions ask of their arguments and give back: no public promise rests on it.
+-- What the private functions require of their arguments and return: no public promise depends on it.
 use Prim.Native.Nat.{ℕ, _+_, _-_, _*_, _≤_}
 use mathlib.Core.Path.{_≡_}
 use mathlib.Core.List.{List}
@@ -26,15 +26,16 @@ pub record SamplesOf (img : List ℕ) (w radius x y : ℕ) (r : CellSamples) : T
   pub cross-is : r .cross ≡ crossOf img w x y
   pub cross-small : r .cross ≤ 1275
 
--- ---- the two naturals of a limit, of samples p and crosses c of one image and q and d of the other. What they are at their least by the two
--- images, they are at their greatest with the images exchanged
+-- ---- the two naturals of a limit, for samples p and crosses c of one image and q and d of the other. With the images
+-- swapped, what was least is greatest
 abbrev pub gainOf : List ℕ → List ℕ → ℕ
 gainOf p q = 5 * srLeast (rangeAt p q)
 
 abbrev pub costOf : List ℕ → List ℕ → ℕ → ℕ → ℕ
-costOf p q c d = 5 * drLeast (rangeAt p q) + leastDist (times 5 (ringRange (rangeAt p q))) (times 16 (record { low = c; high = d }))
+costOf p q c d =
+    5 * drLeast (rangeAt p q) + leastDist (times 5 (ringRange (rangeAt p q))) (times 16 (record { low = c; high = d }))
 
--- the limits' naturals, of a cell's samples in the low and in the high image
+-- the limits' naturals, from a cell's samples in the low and in the high image
 abbrev pub limitsOf : CellSamples → CellSamples → CellLimits
 limitsOf low high =
     record {

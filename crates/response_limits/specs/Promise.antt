@@ -19,8 +19,9 @@ use Rattle.response_limits.specs.declared.Limits.the-variants.{Written, 
 abbrev pub isCrossed : List ℕ → List ℕ → Bool
 isCrossed low high = any (λ r. ltb (r .high) (r .low)) (tab (length low) (rangeAt low high))
 
--- of two images and two buffers of so many places, in this order. 1: a side above 4096; 2: not w * h pixels in either image; 15, directly behind 2;
--- 3: a ring that is not 5 or 10; 8: fewer places than cells in either buffer
+-- for two images and two buffers with a given number of places, in this order. 1: a side above the largest; 2: not
+-- w * h pixels in either image; 15, directly after 2; 3: a ring that is not 5 or 10; 8: fewer places than cells in
+-- either buffer
 abbrev pub conditions : List ℕ → List ℕ → ℕ → ℕ → ℕ → ℕ → ℕ → List (Bool × ℕ)
 conditions low high w h ring lows highs =
     (isLarge w h, 1)
@@ -35,7 +36,7 @@ conditions low high w h ring lows highs =
 unfoldable pub refusalOf : List ℕ → List ℕ → ℕ → ℕ → ℕ → ℕ → ℕ → ℕ
 refusalOf low high w h ring lows highs = lowest (conditions low high w h ring lows highs)
 
--- number and values of each case: what is found stands in the buffers, so the answer itself has no values
+-- number and values of each case: the results are in the buffers, so the answer itself has no values
 abbrev pub numberOf : Limits → ℕ
 numberOf Written = 0
 numberOf (Refused n) = n
@@ -44,10 +45,14 @@ abbrev pub valuesOf : Limits → List ℕ
 valuesOf Written = []
 valuesOf (Refused n) = []
 
--- the promise of `response_limits`, for the images `low` and `high` of w by h: the buffers d and e become `lows` and `highs`
-pub record LimitsWritten (low high : List ℕ) (w h ring : ℕ) (d e : List ℤ) (r : Limits) (lows highs : List ℤ) : Type 0 where
+-- the promise of `response_limits`, for the images `low` and `high` of w by h: the buffers d and e become `lows` and
+-- `highs`
+pub record LimitsWritten (low high : List ℕ) (w h ring : ℕ) (d e : List ℤ) (r : Limits)
+    (lows highs : List ℤ) : Type 0 where
   pub answer : r ≡ unless Refused (refusalOf low high w h ring (length d) (length e)) Written
   pub number : numberOf r ≡ refusalOf low high w h ring (length d) (length e)
   pub values : valuesOf r ≡ []
-  pub lows-are : lows ≡ resultOr (refusalOf low high w h ring (length d) (length e)) (front (lowMap low high w h (ringOf ring)) d) d
-  pub highs-are : highs ≡ resultOr (refusalOf low high w h ring (length d) (length e)) (front (highMap low high w h (ringOf ring)) e) e
+  pub lows-are : lows ≡ resultOr (refusalOf low high w h ring (length d) (length e))
+      (front (lowMap low high w h (ringOf ring)) d) d
+  pub highs-are : highs ≡ resultOr (refusalOf low high w h ring (length d) (length e))
+      (front (highMap low high w h (ringOf ring)) e) e

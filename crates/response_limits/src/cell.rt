@@ -1,15 +1,18 @@
-// What the exact response of one cell can be: its samples in two images, and the naturals whose differences are the two limits.
+// What the exact response of one cell can be: its samples in two images, and the naturals whose differences are the two
+// limits.
 ghost use mathlib.Core.Path.{_≡_};
 ghost use Prim.Native.Nat.{ℕ, _+_, _-_, _*_, _<_, _≤_, max};
 ghost use lib.ListN.{length, getD};
 ghost use lib.IntN.{subℕ};
+ghost use Rattle.lists.specs.Limits.{largestSide};
 ghost use Rattle.lists.specs.Tab.{tab, pixel};
 ghost use Rattle.response.specs.Internal.{Inner};
 ghost use Rattle.response_limits.specs.Limits.{rangeAt, leastDist, srLeast, drLeast, ringRange};
 ghost use Rattle.response_limits.specs.Internal.{Framed, SamplesOf, gainOf, costOf, limitsOf};
 use ring::RingOffsets;
 
-// ---- of bytes, sixteen of which fill a vector, and of wider numbers: a - b, 0 where that is negative; and the greater of two
+// ---- for bytes, sixteen of which fill a vector register, and for wider numbers: a - b, or 0 if that is negative; and
+// the greater of two
 pub(crate) fn byte_minus(a: u8, b: u8) -> u8
     ensures { λ r. ⌜ r ≡ a - b ⌝ }
 {
@@ -34,7 +37,8 @@ fn greater(a: u16, b: u16) -> u16
     if a < b { b } else { a }
 }
 
-// The least that |A - B| can be, with A from a up to c and B from b up to d. With (a, b) and (c, d) exchanged it is the greatest.
+// The least that |A - B| can be, with A from a up to c and B from b up to d. With (a, b) and (c, d) swapped it is the
+// greatest.
 fn byte_apart(a: u8, b: u8, c: u8, d: u8) -> u16
     ensures { λ r. ⌜ (r ≡ leastDist (record { low = a; high = c }) (record { low = b; high = d })) × (r < 256) ⌝ }
 {
@@ -103,8 +107,8 @@ fn ring_sum(p: [u8; 16]) -> u16
     sum
 }
 
-// The natural from which a limit takes another away, and that other, of samples p and q and of crosses c and d: SR, DR and the means' distance at
-// their least. With the two images exchanged they are at their greatest.
+// The natural from which a limit subtracts another, and that other, for samples p and q and crosses c and d: SR, DR and
+// the distance of the means at their least. With the two images swapped they are at their greatest.
 fn gain(p: [u8; 16], q: [u8; 16]) -> u16
     ensures { λ r. ⌜ r ≡ gainOf p q ⌝ }
 {
@@ -133,17 +137,17 @@ pub(crate) struct CellLimits {
     pub(crate) high_cost: u16,
 }
 
-// Where the pixel so many columns and rows behind column x and row y lies, in an image w wide.
+// The place of the pixel `column` columns and `row` rows after column x and row y, in an image w wide.
 fn place(w: usize, x: usize, y: usize, column: u8, row: u8) -> usize
-    requires { ⌜ (w ≤ 4096) × (x ≤ 4096) × (y ≤ 4096) ⌝ }
+    requires { ⌜ (w ≤ largestSide) × (x ≤ largestSide) × (y ≤ largestSide) ⌝ }
     ensures { λ r. ⌜ r ≡ (y + row) * w + (x + column) ⌝ }
 {
     (y + (row as usize)) * w + (x + (column as usize))
 }
 
-// The pixels at a ring's places, of which the square begins at column x and row y.
+// The pixels at the places of a ring whose square begins at column x and row y.
 fn gather(img: &[u8], w: usize, x: usize, y: usize, columns: [u8; 16], rows: [u8; 16]) -> [u8; 16]
-    requires { ⌜ (w ≤ 4096) × (x ≤ 4096) × (y ≤ 4096) ⌝ }
+    requires { ⌜ (w ≤ largestSide) × (x ≤ largestSide) × (y ≤ largestSide) ⌝ }
     requires { ⌜ ((k : ℕ) → k < 16 → (y + getD rows k 0) * w + (x + getD columns k 0) < length (now img)) ⌝ }
     ensures { λ r. ⌜ r ≡ tab 16 (λ k. pixel (now (img .entry)) w (x + getD columns k 0) (y + getD rows k 0)) ⌝ }
 {
@@ -156,10 +160,12 @@ fn gather(img: &[u8], w: usize, x: usize, y: usize, columns: [u8; 16], rows: [u8
     s
 }
 
-// The sum of the cross about the pixel at mid.
+// The sum of the cross around the pixel at mid.
 fn cross(img: &[u8], w: usize, mid: usize) -> u16
     requires { ⌜ (w ≤ mid) × (1 ≤ mid) × (mid + w < length (now img)) × (mid + 1 < length (now img)) ⌝ }
-    ensures { λ r. ⌜ (r ≡ getD (now (img .entry)) mid 0 + getD (now (img .entry)) (mid - w) 0 + getD (now (img .entry)) (mid + w) 0 + getD (now (img .entry)) (mid + 1) 0 + getD (now (img .entry)) (mid - 1) 0) × (r ≤ 1275) ⌝ }
+    ensures { λ r. ⌜ (r ≡ getD (now (img .entry)) mid 0 + getD (now (img .entry)) (mid - w) 0 + getD
+        (now (img .entry)) (mid + w) 0 + getD (now (img .entry)) (mid + 1) 0 + getD (now (img .entry))
+        (mid - 1) 0) × (r ≤ 1275) ⌝ }
 {
     let centre = wide(img[mid]);
     let down = pair(img[mid - w], img[mid + w]);
@@ -189,7 +195,7 @@ pub(crate) fn samples(
     }
 }
 
-// The limits of a cell, of its samples in the low and in the high image.
+// The limits of a cell, from its samples in the low and in the high image.
 pub(crate) fn limits(low: CellSamples, high: CellSamples) -> CellLimits
     requires { ⌜ (low .cross ≤ 1275) × (high .cross ≤ 1275) ⌝ }
     ensures { λ r. ⌜ r ≡ limitsOf low high ⌝ }

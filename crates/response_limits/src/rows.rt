@@ -18,8 +18,8 @@ use numbers::lesser;
 use numbers::minus;
 use ring::RingOffsets;
 
-// The limits of up to 32 cells of row y from column x on, all with their ring in the image. The naturals of all of them come first, and then
-// the differences: each loop then runs on as many cells at a time as the machine's vectors hold.
+// The limits of up to 32 cells of row y from column x on, all with their ring in the image. First come the naturals of
+// all of them, then the differences, so that each loop handles as many cells at a time as a vector register holds.
 fn run(
     low: &[u8],
     high: &[u8],
@@ -35,8 +35,12 @@ fn run(
     requires { ⌜ Framed (now low) w h radius t × Framed (now high) w h radius t ⌝ }
     requires { ⌜ (length (now lows) ≤ 32) × (length (now highs) ≡ length (now lows)) × (x + length (now lows) ≤ w) ⌝ }
     requires { ⌜ ((i : ℕ) → i < length (now lows) → Inner w h radius (x + i) y) ⌝ }
-    ensures { λ _. ⌜ now (lows .exit) ≡ tab (length (now (lows .entry))) (λ i. lowAt (now (low .entry)) (now (high .entry)) w h (ringOf radius) (x + i) y) ⌝ }
-    ensures { λ _. ⌜ now (highs .exit) ≡ tab (length (now (highs .entry))) (λ i. highAt (now (low .entry)) (now (high .entry)) w h (ringOf radius) (x + i) y) ⌝ }
+    ensures { λ _. ⌜ now (lows .exit)
+        ≡ tab (length (now (lows .entry)))
+        (λ i. lowAt (now (low .entry)) (now (high .entry)) w h (ringOf radius) (x + i) y) ⌝ }
+    ensures { λ _. ⌜ now (highs .exit)
+        ≡ tab (length (now (highs .entry)))
+        (λ i. highAt (now (low .entry)) (now (high .entry)) w h (ringOf radius) (x + i) y) ⌝ }
 {
     let n = lows.len();
     let mut a = [0u16; 32];
@@ -78,8 +82,12 @@ fn inner(
     requires { ⌜ Framed (now low) w h radius t × Framed (now high) w h radius t ⌝ }
     requires { ⌜ (length (now highs) ≡ length (now lows)) × (x + length (now lows) ≤ w) ⌝ }
     requires { ⌜ ((i : ℕ) → i < length (now lows) → Inner w h radius (x + i) y) ⌝ }
-    ensures { λ _. ⌜ now (lows .exit) ≡ tab (length (now (lows .entry))) (λ i. lowAt (now (low .entry)) (now (high .entry)) w h (ringOf radius) (x + i) y) ⌝ }
-    ensures { λ _. ⌜ now (highs .exit) ≡ tab (length (now (highs .entry))) (λ i. highAt (now (low .entry)) (now (high .entry)) w h (ringOf radius) (x + i) y) ⌝ }
+    ensures { λ _. ⌜ now (lows .exit)
+        ≡ tab (length (now (lows .entry)))
+        (λ i. lowAt (now (low .entry)) (now (high .entry)) w h (ringOf radius) (x + i) y) ⌝ }
+    ensures { λ _. ⌜ now (highs .exit)
+        ≡ tab (length (now (highs .entry)))
+        (λ i. highAt (now (low .entry)) (now (high .entry)) w h (ringOf radius) (x + i) y) ⌝ }
 {
     let n = lows.len();
     let mut i = 0usize;
@@ -160,8 +168,10 @@ fn row(
 )
     requires { ⌜ Framed (now low) w h radius t × Framed (now high) w h radius t ⌝ }
     requires { ⌜ (length (now lows) ≡ w) × (length (now highs) ≡ w) × (y < h) ⌝ }
-    ensures { λ _. ⌜ now (lows .exit) ≡ tab w (λ i. lowAt (now (low .entry)) (now (high .entry)) w h (ringOf radius) i y) ⌝ }
-    ensures { λ _. ⌜ now (highs .exit) ≡ tab w (λ i. highAt (now (low .entry)) (now (high .entry)) w h (ringOf radius) i y) ⌝ }
+    ensures { λ _. ⌜ now (lows .exit)
+        ≡ tab w (λ i. lowAt (now (low .entry)) (now (high .entry)) w h (ringOf radius) i y) ⌝ }
+    ensures { λ _. ⌜ now (highs .exit)
+        ≡ tab w (λ i. highAt (now (low .entry)) (now (high .entry)) w h (ringOf radius) i y) ⌝ }
 {
     let s = reach(w, h, radius, y);
     let from = s.from;
@@ -182,7 +192,7 @@ fn row(
     );
 }
 
-// Both maps, at the front of their buffers.
+// Both maps, at the start of their buffers.
 pub(crate) fn fill(
     low: &[u8],
     high: &[u8],
@@ -194,8 +204,10 @@ pub(crate) fn fill(
 )
     requires { ⌜ Sized (length (now low)) w h × Sized (length (now high)) w h × (ringOf ring .radius ≡ ring) ⌝ }
     requires { ⌜ (h * w ≤ length (now lows)) × (h * w ≤ length (now highs)) ⌝ }
-    ensures { λ _. ⌜ now (lows .exit) ≡ lowMap (now (low .entry)) (now (high .entry)) w h (ringOf ring) ++ drop (h * w) (now (lows .entry)) ⌝ }
-    ensures { λ _. ⌜ now (highs .exit) ≡ highMap (now (low .entry)) (now (high .entry)) w h (ringOf ring) ++ drop (h * w) (now (highs .entry)) ⌝ }
+    ensures { λ _. ⌜ now (lows .exit) ≡ lowMap (now (low .entry)) (now (high .entry)) w h (ringOf ring)
+        ++ drop (h * w) (now (lows .entry)) ⌝ }
+    ensures { λ _. ⌜ now (highs .exit) ≡ highMap (now (low .entry)) (now (high .entry)) w h (ringOf ring)
+        ++ drop (h * w) (now (highs .entry)) ⌝ }
 {
     let t = ring::ring_offsets(ring);
     let radius = ring as usize;

@@ -1,5 +1,5 @@
-// The program `retained`: prints which items of the stream that it reads from standard input are held, of which it reads no byte more than
-// decides the letters. A line on standard error says so where it cannot read or write.
+// The program `retained`: prints which items of the stream that it reads from standard input are held. It reads no more
+// bytes than decide the letters. If it cannot read or write, it says so in a line on standard error.
 mod writing;
 
 use input::Input;
@@ -11,13 +11,14 @@ ghost use lib.ListN.{length};
 ghost use Rattle.input.specs.Input.{isBelow0};
 ghost use Rattle.input.specs.Reading.{Read};
 ghost use Rattle.retention.specs.Wanted.{wanted};
+ghost use Rattle.retention.specs.Stream.{longestInput};
 
 // No more is read: the time and 65,536 records.
-const LONGEST_STREAM: usize = 589832;
+const LONGEST_STREAM: usize = 8 + 9 * retention::MOST_RECORDS;
 
-// Reads as many bytes as are wanted, again and again, until none is or none comes.
+// Reads as many bytes as are needed, again and again, until none are needed or none come.
 fn read_stream(stream: &mut [u8]) -> Input
-    requires { ⌜ length (now stream) ≡ 589832 ⌝ }
+    requires { ⌜ length (now stream) ≡ longestInput ⌝ }
     ensures { λ r. ⌜ Read wanted r (now (stream .exit)) ⌝ }
 {
     let mut input = input::begin();

@@ -60,7 +60,8 @@ module _ (s t : List ℕ) where
     start-same : at + 9 ≤ length s → secondAt (s ++ t) at ≡ secondAt s at
     start-same l =
         ap littleEndian
-        (ap (take 8) (drop-append-le (at + 1) s t (omega arith)) ∙ take-append-le 8 (drop (at + 1) s) t (omega (arith, length-drop (at + 1) s)))
+        (ap (take 8) (drop-append-le (at + 1) s t (omega arith))
+        ∙ take-append-le 8 (drop (at + 1) s) t (omega (arith, length-drop (at + 1) s)))
 
     module _ (w : Settled s at) where
       pub fault-same : recordFault (s ++ t) at ≡ recordFault s at
@@ -69,7 +70,8 @@ module _ (s t : List ℕ) where
         where
           go : (b : Bool) → known (kindAt s at) ≡ b → recordFault (s ++ t) at ≡ recordFault s at
           go false k =
-              fault-kind (s ++ t) at (omega (arith, w .some, longer)) (ap known (kind-same (w .some)) ∙ k) ∙ sym (fault-kind s at (w .some) k)
+              fault-kind (s ++ t) at (omega (arith, w .some, longer)) (ap known (kind-same (w .some)) ∙ k)
+              ∙ sym (fault-kind s at (w .some) k)
           go true k =
               rw (
                 kind-same (w .some),

@@ -9,7 +9,7 @@ use lib.ListN.{length}
 use borrow.Author.Tests.{le-leb, lt-leb, ne-eqb}
 use Rattle.listing.specs.Text.{refusedText}
 use Rattle.retention.specs.Retention.{known}
-use Rattle.retention.specs.Stream.{timeFault, kindAt, recordFault, placeOf, linesFrom, outputOf}
+use Rattle.retention.specs.Stream.{mostRecords, longestInput, timeFault, kindAt, recordFault, placeOf, linesFrom, outputOf}
 use Rattle.retention.specs.Wanted.{wantedRecord, wantedFrom, wanted}
 use Rattle.retention.proofs.Records.{timed, whole}
 use Rattle.retention.proofs.Texts.{refuses, line-refused, line-letter}
@@ -66,9 +66,9 @@ module _ (s t : List ℕ) (long : 8 ≤ length s) where
 module _ (s : List ℕ) where
   pub refused-time : (timeFault s ≡ 0 → ⊥) → outputOf s ≡ refusedText (timeFault s)
   unfolding outputOf
-  refused-time h = refuses (timeFault s) (linesFrom s 65536 0) h
+  refused-time h = refuses (timeFault s) (linesFrom s mostRecords 0) h
 
-  pub listed-time : timeFault s ≡ 0 → outputOf s ≡ linesFrom s 65536 0
+  pub listed-time : timeFault s ≡ 0 → outputOf s ≡ linesFrom s mostRecords 0
   unfolding outputOf
   listed-time e = rw e
 
@@ -77,13 +77,13 @@ decided s t w =
     elim (decLt 0 (timeFault s)) [
       | yes p ↦
           let h : timeFault s ≡ 0 → ⊥ = λ z. omega arith in
-          let same = time-fault-same s t (omega (arith, time-here s 65536 h, w)) in
+          let same = time-fault-same s t (omega (arith, time-here s mostRecords h, w)) in
           refused-time (s ++ t) (λ z. h (sym same ∙ z)) ∙ ap refusedText same ∙ sym (refused-time s h)
       | no g ↦
           let z : timeFault s ≡ 0 = omega arith in
           let long = timed s z .long in
           listed-time (s ++ t) (time-fault-same s t long ∙ z)
-          ∙ lines-same s t long 65536 0 (sym (time-past s 65536 z) ∙ w)
+          ∙ lines-same s t long mostRecords 0 (sym (time-past s mostRecords z) ∙ w)
           ∙ sym (listed-time s z)
     ]
 
@@ -116,14 +116,14 @@ module _ (s : List ℕ) where
             omega (arith, lines-most n (suc k) more (rw is at p), is)
       ]
 
-  pub most : 0 < wanted s → length s + wanted s ≤ 589832
+  pub most : 0 < wanted s → length s + wanted s ≤ longestInput
   most p =
       elim (decLt 0 (timeFault s)) [
         | yes f ↦
             let h : timeFault s ≡ 0 → ⊥ = λ z. omega arith in
-            omega (arith, time-here s 65536 h)
+            omega (arith, time-here s mostRecords h)
         | no g ↦
             let z : timeFault s ≡ 0 = omega arith in
-            let is = time-past s 65536 z in
-            omega (arith, lines-most 65536 0 (timed s z .long) (rw is at p), is)
+            let is = time-past s mostRecords z in
+            omega (arith, lines-most mostRecords 0 (timed s z .long) (rw is at p), is)
       ]

@@ -34,7 +34,8 @@ G = 71
 
 -- ---- what is printed
 
--- at second 7,776,000, which begins day 90: a file, photographs of days 0 and 1, tokens about a week old, items to come, then 2^40 and above
+-- at second 7,776,000, which begins day 90: a file, photographs of days 0 and 1, tokens about a week old, items to come, then 2^40 and
+-- above
 abbrev day90 : List ℕ
 day90 =
     bytes8 7776000

@@ -35,7 +35,8 @@ module _ (bytes : List ℕ) where
         let first : drop (i - 1) bytes ≡ b ∷ drop i bytes =
         drop-cons bytes (i - 1) 0 (omega (arith, a .rest)) ∙ rw (next, e) in
         record {
-          is = (let sum : 256 * n + b ≡ b + 256 * n = omega arith in sum) ∙ ap (λ (k : ℕ). b + 256 * k) (a .is) ∙ sym (ap littleEndian first);
+          is = (let sum : 256 * n + b ≡ b + 256 * n = omega arith in sum) ∙ ap (λ (k : ℕ). b + 256 * k) (a .is)
+              ∙ sym (ap littleEndian first);
           count = suc (a .count);
           rest = omega (arith, a .rest);
           small = below;

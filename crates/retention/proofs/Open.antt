@@ -1,4 +1,5 @@
--- With fewer bytes than are wanted it is open what is printed: zeros behind them, or an unknown kind, make it another text. Assumes nothing.
+-- With fewer bytes than are wanted it is open what is printed: zeros behind them, or an unknown kind, make it another text. Assumes
+-- nothing.
 use Prim.Native.Nat.{ℕ, zero, suc, _+_, _-_, _^_, _<_, _≤_}
 use native.Mathlib.Decide.{decLt}
 use native.Mathlib.Omega.{arith}
@@ -11,9 +12,10 @@ use borrow.Author.Tests.{le-leb, lt-leb}
 use Rattle.lists.specs.Places.{All}
 use Rattle.listing.specs.Text.{decimal, refusedText}
 use Rattle.retention.specs.Retention.{known}
-use Rattle.retention.specs.Stream.{timeOf, timeFault, kindAt, secondAt, recordFault, placeOf, linesFrom, outputOf}
+use Rattle.retention.specs.Stream.{mostRecords, timeOf, timeFault, kindAt, secondAt, recordFault, placeOf, linesFrom, outputOf}
 use Rattle.retention.specs.Wanted.{wantedRecord, wantedFrom, wanted}
-use Rattle.retention.proofs.Records.{timed, time-cut, time-late, time-none, whole, fault-end, fault-kind, fault-cut, fault-late, fault-none}
+use Rattle.retention.proofs.Records.{timed, time-cut, time-late, time-none, whole, fault-end, fault-kind, fault-cut, fault-late}
+use Rattle.retention.proofs.Records.{fault-none}
 use Rattle.retention.proofs.Texts.{line-refused, line-letter, lines-end}
 use Rattle.retention.proofs.Append.{settled-whole, longer, time-fault-same, kind-same, fault-same, item-same}
 use Rattle.retention.proofs.Decided.{time-past, time-here, wanted-past, wanted-here, wanted-none, refused-time, listed-time}
@@ -66,7 +68,7 @@ module _ (s : List ℕ) (cut : length s < 8) where
               digits-differ (sym (refused-time filled (λ z. let no : ⊥ = omega (arith, is) in no) ∙ ap refusedText is) ∙ e ∙ text-cut)
           | no g ↦
               let is = time-none filled (record { long = omega (arith, filled-long); early = omega arith }) in
-              let nothing : outputOf filled ≡ [] = listed-time filled is ∙ lines-end filled 65536 0 (omega (arith, filled-long)) in
+              let nothing : outputOf filled ≡ [] = listed-time filled is ∙ lines-end filled mostRecords 0 (omega (arith, filled-long)) in
               second-differs [] 0 refl (λ z. let no : ⊥ = omega arith in no) 7 (sym nothing ∙ e ∙ text-cut)
         ];
   }
@@ -165,11 +167,11 @@ module _ (s : List ℕ) where
       elim (decLt 0 (timeFault s)) [
         | yes f ↦
             let h : timeFault s ≡ 0 → ⊥ = λ z. omega arith in
-            time-open s (omega (arith, time-here s 65536 h))
+            time-open s (omega (arith, time-here s mostRecords h))
         | no g ↦
             let z : timeFault s ≡ 0 = omega arith in
             let long = timed s z .long in
-            let o = lines-open 65536 0 long (rw (time-past s 65536 z) at p) in
+            let o = lines-open mostRecords 0 long (rw (time-past s mostRecords z) at p) in
             record {
               more = o .more;
               bytes = o .bytes;
@@ -202,7 +204,10 @@ module _ (s t : List ℕ) where
           let here : at < length (s ++ t) = omega (arith, longer s t) in
           let same = ap known (kind-same s t at some) ∙ kind in
           let is = fault-cut (s ++ t) at here same (omega (arith, longer s t)) in
-          record { faulty = λ z. let no : ⊥ = omega (arith, is) in no; some = rw (lt-leb (length (s ++ t)) at here, same) (omega (arith, longer s t)) }
+          record {
+            faulty = λ z. let no : ⊥ = omega (arith, is) in no;
+            some = rw (lt-leb (length (s ++ t)) at here, same) (omega (arith, longer s t));
+          }
 
   lines-fewer : (n k : ℕ) → length t < wantedFrom s n (suc k) → 0 < wantedFrom (s ++ t) n (suc k)
   lines-fewer zero k l = absurd (let no : ⊥ = omega (arith, wanted-none s (suc k)) in no)
@@ -220,10 +225,10 @@ module _ (s t : List ℕ) where
   fewer l =
       elim (decLt 0 (timeFault s)) [
         | yes f ↦
-            let few = rw (time-here s 65536 (λ z. let no : ⊥ = omega arith in no)) at l in
+            let few = rw (time-here s mostRecords (λ z. let no : ⊥ = omega arith in no)) at l in
             let is = time-cut (s ++ t) (omega (arith, longer s t, few)) in
-            rw (time-here (s ++ t) 65536 (λ z. let no : ⊥ = omega (arith, is) in no)) (omega (arith, longer s t, few))
+            rw (time-here (s ++ t) mostRecords (λ z. let no : ⊥ = omega (arith, is) in no)) (omega (arith, longer s t, few))
         | no g ↦
             let z : timeFault s ≡ 0 = omega arith in
-            rw (time-past (s ++ t) 65536 (item-same s t 0 z)) (lines-fewer 65536 0 (rw (time-past s 65536 z) at l))
+            rw (time-past (s ++ t) mostRecords (item-same s t 0 z)) (lines-fewer mostRecords 0 (rw (time-past s mostRecords z) at l))
       ]

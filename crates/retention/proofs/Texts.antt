@@ -18,7 +18,7 @@ use Rattle.listing.proofs.Lines.{ended-long}
 use Rattle.listing.proofs.Texts.{wrote-first}
 use Rattle.listing.proofs.Appending.{wrote-length, wrote-more, wrote-as, wrote-none, wrote-byte}
 use Rattle.retention.specs.Retention.{letterOf}
-use Rattle.retention.specs.Stream.{timeFault, recordFault, stateAt, placeOf, linesFrom, outputOf}
+use Rattle.retention.specs.Stream.{mostRecords, longestInput, timeFault, recordFault, stateAt, placeOf, linesFrom, outputOf}
 use Rattle.retention.specs.Internal.{longest}
 
 -- ---- a refusal
@@ -29,7 +29,8 @@ unfolding refusedText
 refusal-long n h = omega (arith, ended-long (decimal n) newline, decimal-long 1 n (omega arith))
 
 -- it was written into a text of its own, and is copied from there
-module _ (number : ℕ) (small : number ≤ 20) (before : List ℕ) (n : ℕ) (after : List ℕ) (w : Written (refusedText number) before n after) where
+module _ (number : ℕ) (small : number ≤ 20) (before : List ℕ) (n : ℕ) (after : List ℕ)
+    (w : Written (refusedText number) before n after) where
   pub text-fits : n ≤ length after
   text-fits = omega (arith, w .ends, ap length (w .holds) ∙ length-append (refusedText number) (drop (length (refusedText number)) before))
 
@@ -41,7 +42,8 @@ module _ (number : ℕ) (small : number ≤ 20) (before : List ℕ) (n : ℕ) (a
 
   module _ (out : List ℕ) (at : ℕ) (ample : at + 11 ≤ length out) where
     part-long : length (midOf at (at + n - at) out) ≡ n
-    part-long = let k : at + n - at ≡ n = omega arith in rw k (length-take-le n (drop at out) (omega (arith, length-drop at out, text-short)))
+    part-long = let k : at + n - at ≡ n = omega arith in
+        rw k (length-take-le n (drop at out) (omega (arith, length-drop at out, text-short)))
 
     pub part-holds : length (take n after) ≤ length (midOf at (at + n - at) out)
     part-holds = omega (arith, part-long, length-take-le n after text-fits)
@@ -103,11 +105,11 @@ module _ (s : List ℕ) where
   pub record Listed (before : List ℕ) (at end : ℕ) (out : List ℕ) : Type 0 where
     pub passed : ℕ
     pub place : at ≡ placeOf passed
-    pub few : passed ≤ 65536
+    pub few : passed ≤ mostRecords
     pub text : List ℕ
     pub long : length text ≡ 2 * passed
     pub wrote : Wrote text 0 before end out
-    pub rest : linesFrom s 65536 0 ≡ text ++ linesFrom s (65536 - passed) passed
+    pub rest : linesFrom s mostRecords 0 ≡ text ++ linesFrom s (mostRecords - passed) passed
 
   pub listed-none : (before : List ℕ) → Listed before 8 0 before
   listed-none before = record {
@@ -128,21 +130,21 @@ module _ (s : List ℕ) where
     listed-end = omega (arith, l .wrote .ends, l .long)
 
     -- all is written: the stream ends, or 65,536 records are read
-    pub listed-all : min (length s) 589832 ≤ at → Wrote (linesFrom s 65536 0) 0 before end out
+    pub listed-all : min (length s) longestInput ≤ at → Wrote (linesFrom s mostRecords 0) 0 before end out
     listed-all h = wrote-as (sym (l .rest ∙ ap (λ (t : List ℕ). l .text ++ t) none ∙ append-nil (l .text))) (l .wrote)
       where
-        none : linesFrom s (65536 - k) k ≡ []
+        none : linesFrom s (mostRecords - k) k ≡ []
         none =
             elim (decLt (placeOf k) (length s)) [
-              | yes some ↦ let all : 65536 - k ≡ 0 = omega (arith, l .place) in ap (λ (n : ℕ). linesFrom s n k) all ∙ lines-none k
-              | no end ↦ lines-end (65536 - k) k (omega arith)
+              | yes some ↦ let all : mostRecords - k ≡ 0 = omega (arith, l .place) in ap (λ (n : ℕ). linesFrom s n k) all ∙ lines-none k
+              | no end ↦ lines-end (mostRecords - k) k (omega arith)
             ]
 
-    module _ (some : at < min (length s) 589832) (ample : length before ≡ longest) where
+    module _ (some : at < min (length s) longestInput) (ample : length before ≡ longest) where
       abbrev left : ℕ
-      left = 65536 - suc k
+      left = mostRecords - suc k
 
-      one : 65536 - k ≡ suc left
+      one : mostRecords - k ≡ suc left
       one = omega (arith, l .place)
 
       here : placeOf k < length s
@@ -152,7 +154,7 @@ module _ (s : List ℕ) where
       listed-ample = omega (arith, listed-end, l .place, wrote-length (l .wrote), ample)
 
       pub listed-refused : (fault end′ : ℕ) (out′ : List ℕ) → fault ≡ recordFault s at → (fault ≡ 0 → ⊥)
-          → Wrote (refusedText fault) end out end′ out′ → Wrote (linesFrom s 65536 0) 0 before end′ out′
+          → Wrote (refusedText fault) end out end′ out′ → Wrote (linesFrom s mostRecords 0) 0 before end′ out′
       listed-refused fault end′ out′ e h w =
           let last = ap (λ (n : ℕ). linesFrom s n k) one ∙ line-refused left k here fault (e ∙ ap (recordFault s) (l .place)) h in
           wrote-as (sym (l .rest ∙ ap (λ (t : List ℕ). l .text ++ t) last)) (wrote-more (l .wrote) w)
@@ -177,10 +179,11 @@ module _ (s : List ℕ) where
 
 -- ---- the promise of `list_holdings`
 module _ (s before : List ℕ) (end : ℕ) (after : List ℕ) where
-  pub time-refused : (k : ℕ) → k ≡ timeFault s → (k ≡ 0 → ⊥) → Wrote (refusedText k) 0 before end after → Written (outputOf s) before end after
+  pub time-refused : (k : ℕ) → k ≡ timeFault s → (k ≡ 0 → ⊥) → Wrote (refusedText k) 0 before end after
+      → Written (outputOf s) before end after
   unfolding outputOf
-  time-refused k e h w = rw (← e, refuses k (linesFrom s 65536 0) h) (wrote-first w)
+  time-refused k e h w = rw (← e, refuses k (linesFrom s mostRecords 0) h) (wrote-first w)
 
-  pub lines-written : timeFault s ≡ 0 → Wrote (linesFrom s 65536 0) 0 before end after → Written (outputOf s) before end after
+  pub lines-written : timeFault s ≡ 0 → Wrote (linesFrom s mostRecords 0) 0 before end after → Written (outputOf s) before end after
   unfolding outputOf
   lines-written e w = rw e (wrote-first w)

@@ -1,6 +1,7 @@
--- The contracts of private functions: no public promise rests on them.
-use Prim.Native.Nat.{ℕ, _+_, _*_}
+-- The contracts of private functions: no public promise depends on them.
+use Prim.Native.Nat.{ℕ, _+_, _-_, _*_}
+use Rattle.retention.specs.Stream.{mostRecords}
 
--- the longest text: 65,535 letters, each with a newline, and "refused 20" with its newline
+-- the longest text: a letter for each record but the last, with a newline, and "refused 20" with its newline
 abbrev pub longest : ℕ
-longest = 2 * 65535 + 11
+longest = 2 * (mostRecords - 1) + 11

@@ -15,12 +15,13 @@ known kind = leb 1 kind && leb kind 3
 abbrev pub dayOf : ℕ → ℕ
 dayOf second = second / 86400
 
--- whether an item that has come is not gone (RULES 32.2): a file always; a photograph received on day d on the days d to d + 89;
--- a token issued at second t from t up to, not including, t + 604,800
+-- whether an item that was received or issued is still held (RULES 32.2): a file always; a photograph received on day d
+-- on days d to d + 89; a token issued at second t from t up to, not including, t + 604,800
 unfoldable pub stays : ℕ → ℕ → ℕ → Bool
-stays kind start time = cond (eqb kind 1) true (cond (eqb kind 2) (leb (dayOf time) (dayOf start + 89)) (ltb time (start + 604800)))
+stays kind start time =
+    cond (eqb kind 1) true (cond (eqb kind 2) (leb (dayOf time) (dayOf start + 89)) (ltb time (start + 604800)))
 
--- before its second an item is not yet, a photograph on its own day too (RULES 32.2)
+-- before its second an item is not held yet, even a photograph on its own day (RULES 32.2)
 unfoldable pub stateOf : ℕ → ℕ → ℕ → Holding
 stateOf kind start time = cond (ltb time start) NotYet (cond (stays kind start time) Held Gone)
 

@@ -1,4 +1,4 @@
--- The stream of items (RULES 32.4) over a list of bytes, and what is printed of it.
+-- The stream of items (RULES 32.4) as a list of bytes, and what is printed for it.
 use Prim.Native.Nat.{ℕ, zero, suc, _+_, _*_}
 use mathlib.Core.Bool.{cond, not}
 use mathlib.Core.List.{List, [], _∷_}
@@ -24,7 +24,7 @@ timeOf s = littleEndian (take 8 s)
 unfoldable pub timeFault : List ℕ → ℕ
 timeFault s = lowest ((ltb (length s) 8, 7) ∷ (isLate (timeOf s), 20) ∷ [])
 
--- ---- the record at a place: a byte of kind, and eight bytes of the start (RULES 32.4)
+-- ---- the record at a place: one byte for the kind, and eight for the start (RULES 32.4)
 abbrev pub kindAt : List ℕ → ℕ → ℕ
 kindAt s at = getD s at 0
 
@@ -47,18 +47,25 @@ stateAt s at = stateOf (kindAt s at) (secondAt s at) (timeOf s)
 
 -- ---- what is printed
 
--- record k, the first being record 0, stands behind the time and k records of nine bytes
+-- record k, the first being record 0, comes after the time and k records of nine bytes
 abbrev pub placeOf : ℕ → ℕ
 placeOf k = 8 + 9 * k
 
--- the lines of at most n records from record k on, in their order: the letter of each item; at a faulty record a line `refused N` with its number
--- ends the output (RULES 32.5); the stream may end behind any record (RULES 32.4)
+-- the lines of at most n records from record k on, in their order: the letter of each item; at a faulty record a line
+-- `refused N` with its number ends the output (RULES 32.5); the stream may end after any record (RULES 32.4)
 unfoldable pub linesFrom : List ℕ → ℕ → ℕ → List ℕ
 linesFrom s zero k = []
 linesFrom s (suc n) k =
     let lines = letterOf (stateAt s (placeOf k)) ∷ newline ∷ linesFrom s n (suc k) in
     cond (leb (length s) (placeOf k)) [] (unless refusedText (recordFault s (placeOf k)) lines)
 
--- at most 65,536 records are read, and what follows is not (RULES 32.4); of a faulty time the line `refused N` is all (RULES 32.5)
+-- the most records that are read, and where they end (RULES 32.4)
+abbrev pub mostRecords : ℕ
+mostRecords = 65536
+
+abbrev pub longestInput : ℕ
+longestInput = placeOf mostRecords
+
+-- what follows them is not read; for a faulty time the line `refused N` is all (RULES 32.5)
 unfoldable pub outputOf : List ℕ → List ℕ
-outputOf s = unless refusedText (timeFault s) (linesFrom s 65536 0)
+outputOf s = unless refusedText (timeFault s) (linesFrom s mostRecords 0)

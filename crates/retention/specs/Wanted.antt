@@ -1,4 +1,5 @@
--- How many bytes of a stream can be read before what is printed may be decided: fewer do not decide it, and 0 says that it is decided.
+-- How many bytes of a stream must still arrive before the output can be decided: fewer do not decide it, and 0 means
+-- that it is decided.
 use Prim.Native.Nat.{ℕ, zero, suc, _+_, _-_}
 use mathlib.Core.Path.{_≡_}
 use mathlib.Core.Bool.{cond}
@@ -7,14 +8,14 @@ use lib.ListN.{length}
 use lib.Dec.{eqb, leb}
 use Rattle.retention.specs.declared.reading.Standing.{Standing}
 use Rattle.retention.specs.Retention.{known}
-use Rattle.retention.specs.Stream.{timeFault, kindAt, recordFault, placeOf}
+use Rattle.retention.specs.Stream.{mostRecords, timeFault, kindAt, recordFault, placeOf}
 
--- ---- an item: item 0 is the time, and record k item k + 1
+-- ---- an item: item 0 is the time, and item k + 1 is record k
 abbrev pub itemFault : List ℕ → ℕ → ℕ
 itemFault s zero = timeFault s
 itemFault s (suc k) = recordFault s (placeOf k)
 
--- of a record that is faulty or cut short: its kind, and of a known kind the rest of its body
+-- of a record that is faulty or cut short: its kind and, if the kind is known, the rest of its body
 unfoldable pub wantedRecord : List ℕ → ℕ → ℕ
 wantedRecord s at = cond (leb (length s) at) 1 (cond (known (kindAt s at)) (at + 9 - length s) 0)
 
@@ -23,21 +24,21 @@ abbrev pub wantedItem : List ℕ → ℕ → ℕ
 wantedItem s zero = 8 - length s
 wantedItem s (suc k) = wantedRecord s (placeOf k)
 
--- ---- from item k on, of which at most n are looked at
+-- ---- from item k on, looking at no more than n items
 
 -- the first item that is faulty or cut short
 unfoldable pub passedFrom : List ℕ → ℕ → ℕ → ℕ
 passedFrom s zero k = k
 passedFrom s (suc n) k = cond (eqb (itemFault s k) 0) (passedFrom s n (suc k)) k
 
--- the bytes of it that are wanted
+-- the bytes of it that are needed
 unfoldable pub wantedFrom : List ℕ → ℕ → ℕ → ℕ
 wantedFrom s zero k = 0
 wantedFrom s (suc n) k = cond (eqb (itemFault s k) 0) (wantedFrom s n (suc k)) (wantedItem s k)
 
--- ---- of a stream: the time and 65,536 records
+-- ---- for a stream: the time and its records
 abbrev pub items : ℕ
-items = 65537
+items = mostRecords + 1
 
 abbrev pub wanted : List ℕ → ℕ
 wanted s = wantedFrom s items 0

@@ -7,7 +7,7 @@ ghost use Rattle.retention.specs.Retention.{stateOf, refusalOf};
 ghost use Rattle.retention.specs.Retention.{stays as staysOf};
 ghost use Rattle.retention.specs.Answer.{Told};
 
-// Whether an item that has come is not gone.
+// Whether an item that was received or issued is still held.
 fn stays(kind: u8, start: u64, time: u64) -> bool
     requires { ⌜ start ≤ 2 ^ 40 ⌝ }
     ensures { λ r. ⌜ r ≡ staysOf kind start time ⌝ }

@@ -1,8 +1,8 @@
-// What may be deleted: whether an item is held at a time, and the list of a stream of items. A stream is eight bytes of time and then records, each
-// a byte of kind and eight bytes of the second of receipt or issue.
+// What may be deleted: whether an item is held at a time, and the list for a stream of items. A stream is eight bytes
+// of time and then records, each one byte for the kind and eight bytes for the second of receipt or issue.
 pub mod item; // holding: whether an item is held
-mod list; // list_holdings: what is printed of a stream
-mod reading; // wanted: how much of a stream is to be read
+mod list; // list_holdings: what is printed for a stream
+mod reading; // wanted: how much of a stream must be read
 
 pub use list::LONGEST;
 pub use list::list_holdings;
@@ -13,6 +13,9 @@ ghost use Prim.Native.Nat.{_+_, _≤_};
 ghost use lib.ListN.{length};
 ghost use Rattle.retention.specs.Retention.{known};
 ghost use Rattle.retention.specs.Stream.{littleEndian, timeFault, secondAt, recordFault};
+
+// The most records of a stream that are read.
+pub const MOST_RECORDS: usize = 65536;
 
 // The latest second: 2^40.
 const LATEST: u64 = 1099511627776;
@@ -68,7 +71,7 @@ fn time_fault(input: &[u8]) -> u8
     0
 }
 
-// The second of the record at a place, of which no byte is missing.
+// The second in the record at a place, which is complete.
 fn start_at(input: &[u8], at: usize) -> u64
     requires { ⌜ at + 9 ≤ length (now input) ⌝ }
     ensures { λ r. ⌜ r ≡ secondAt (now (input .entry)) at ⌝ }

@@ -1,4 +1,4 @@
-// What is printed of a stream of items.
+// What is printed for a stream of items.
 use crate::Holding;
 ghost use mathlib.Core.Path.{_≡_};
 ghost use mathlib.Core.List.{[], _∷_};
@@ -8,14 +8,14 @@ ghost use Rattle.lists.specs.Buffer.{Written};
 ghost use Rattle.listing.specs.Text.{newline, refusedText};
 ghost use Rattle.listing.specs.Internal.{Wrote};
 ghost use Rattle.retention.specs.Retention.{letterOf};
-ghost use Rattle.retention.specs.Stream.{timeOf, recordFault, stateAt, linesFrom, outputOf};
+ghost use Rattle.retention.specs.Stream.{mostRecords, timeOf, recordFault, stateAt, linesFrom, outputOf};
 ghost use Rattle.retention.specs.Internal.{longest};
 
-// The longest text: 65,535 letters, each with a newline, and `refused 20`.
-pub const LONGEST: usize = 131081;
+// The longest text: a letter for each record but the last, with a newline, and `refused 20` with its newline.
+pub const LONGEST: usize = 2 * (crate::MOST_RECORDS - 1) + 11;
 
-// Where 65,536 records end.
-const LAST: usize = 589832;
+// Where the last record ends.
+const LAST: usize = 8 + 9 * crate::MOST_RECORDS;
 
 // ---- lines
 
@@ -65,7 +65,7 @@ fn letter_at(input: &[u8], at: usize, time: u64) -> u8
 // Writes the lines of a stream whose time has no fault.
 fn list_records(input: &[u8], time: u64, out: &mut [u8]) -> usize
     requires { ⌜ (time ≡ timeOf (now input)) × (time ≤ 2 ^ 40) × (length (now out) ≡ longest) ⌝ }
-    ensures { λ r. ⌜ Wrote (linesFrom (now (input .entry)) 65536 0) 0 (now (out .entry)) r (now (out .exit)) ⌝ }
+    ensures { λ r. ⌜ Wrote (linesFrom (now (input .entry)) mostRecords 0) 0 (now (out .entry)) r (now (out .exit)) ⌝ }
 {
     let stop = numbers::lesser(input.len(), LAST);
     let mut at = 8;
@@ -81,7 +81,7 @@ fn list_records(input: &[u8], time: u64, out: &mut [u8]) -> usize
     end
 }
 
-// Writes what is printed of a stream first in a buffer, and returns how long it is.
+// Writes what is printed for a stream to the start of a buffer, and returns how long it is.
 pub fn list_holdings(input: &[u8], out: &mut [u8; LONGEST]) -> usize
     ensures { λ r. ⌜ Written (outputOf (now (input .entry))) (now (out .entry)) r (now (out .exit)) ⌝ }
 {

@@ -1,12 +1,13 @@
-// How much of a stream of items is to be read.
+// How much of a stream of items must be read.
 ghost use mathlib.Core.Path.{_≡_};
 ghost use Prim.Native.Nat.{_<_};
-ghost use Rattle.retention.specs.Wanted.{itemFault, wantedRecord, wantedItem, Stands};
+ghost use Rattle.retention.specs.Stream.{longestInput};
+ghost use Rattle.retention.specs.Wanted.{items, itemFault, wantedRecord, wantedItem, Stands};
 
-// The time and 65,536 records.
-const ITEMS: usize = 65537;
+// The time and the records.
+const ITEMS: usize = crate::MOST_RECORDS + 1;
 
-// So many items are whole and without fault, and so many bytes of the next are wanted.
+// How many items are complete and without fault, and how many bytes of the next are needed.
 pub struct Standing {
     pub passed: usize,
     pub bytes: usize,
@@ -14,7 +15,7 @@ pub struct Standing {
 
 // The fault of an item: item 0 is the time.
 fn item_fault(input: &[u8], k: usize) -> u8
-    requires { ⌜ k < 65537 ⌝ }
+    requires { ⌜ k < items ⌝ }
     ensures { λ r. ⌜ r ≡ itemFault (now (input .entry)) k ⌝ }
 {
     if k == 0 {
@@ -23,9 +24,9 @@ fn item_fault(input: &[u8], k: usize) -> u8
     crate::record_fault(input, 9 * k - 1)
 }
 
-// Bytes of the record at a place that are wanted, where it is faulty or cut short.
+// How many bytes of the record at a place are needed, if it is faulty or cut short.
 fn wanted_record(input: &[u8], at: usize) -> usize
-    requires { ⌜ at < 589832 ⌝ }
+    requires { ⌜ at < longestInput ⌝ }
     ensures { λ r. ⌜ r ≡ wantedRecord (now (input .entry)) at ⌝ }
 {
     if input.len() <= at {
@@ -38,7 +39,7 @@ fn wanted_record(input: &[u8], at: usize) -> usize
 }
 
 fn wanted_item(input: &[u8], k: usize) -> usize
-    requires { ⌜ k < 65537 ⌝ }
+    requires { ⌜ k < items ⌝ }
     ensures { λ r. ⌜ r ≡ wantedItem (now (input .entry)) k ⌝ }
 {
     if k == 0 {
@@ -47,8 +48,9 @@ fn wanted_item(input: &[u8], k: usize) -> usize
     wanted_record(input, 9 * k - 1)
 }
 
-// From item k on: those that are whole and without fault are passed. Of the next so many bytes can be read before what is printed may be decided;
-// 0 once it is, whatever follows. Whoever reads so many at a time reads none that is not needed.
+// From item k on: how many items are complete and without fault, and how many bytes of the next must still arrive
+// before the output can be decided; 0 once it is. A program that reads this many at a time reads no byte that is not
+// needed.
 pub fn wanted(input: &[u8], k: usize) -> Standing
     ensures { λ r. ⌜ Stands (now (input .entry)) k r ⌝ }
 {

@@ -14,7 +14,8 @@ module _ {A : Type 0} where
   count-none f (a ∷ l) h = rw (h a) (count-none f l h)
 
   -- by either of two tests
-  pub count-either : (f g : A → Bool) (l : List A) → ((a : A) → f a ≡ true → g a ≡ true → ⊥) → count (λ a. f a || g a) l ≡ count f l + count g l
+  pub count-either : (f g : A → Bool) (l : List A) → ((a : A) → f a ≡ true → g a ≡ true → ⊥)
+      → count (λ a. f a || g a) l ≡ count f l + count g l
   unfolding count
   count-either f g [] h = refl
   count-either f g (a ∷ l) h = pick (f a) (g a) (h a) (count-either f g l h)

@@ -1,4 +1,5 @@
--- A cell that is not touched keeps its response and its exact value, so the map that was the image's own is so again, for any ring. Assumes nothing.
+-- A cell that is not touched keeps its response and its exact value, so the map that was the image's own is so again, for any ring. Assumes
+-- nothing.
 use mathlib.Core.Path.{_≡_, refl, sym, ap₂, _∙_}
 use mathlib.Core.Bool.{Bool, true, false, cond, _&&_}
 use mathlib.Core.List.{List}
@@ -19,7 +20,8 @@ use Rattle.retouch.proofs.Sampling.{samples-apart, samples-many}
 use Rattle.retouch.proofs.Touching.{within, touched-by-all, count-few}
 use Rattle.retouch.proofs.Pixels.{samples-kept, cross-kept, neither}
 
-module _ (img : List ℕ) (w h : ℕ) (sized : length img ≡ w * h) (t : Ring) (is : IsRing t) (q : Place) (across : q .x < w) (down : q .y < h) (v : ℕ) where
+module _ (img : List ℕ) (w h : ℕ) (sized : length img ≡ w * h) (t : Ring) (is : IsRing t) (q : Place) (across : q .x < w)
+    (down : q .y < h) (v : ℕ) where
   module _ (c : Place) where
     -- the pixels of a cell that has its ring in the image, and is not touched
     same-pixels : inside w h t (c .x) (c .y) ≡ true → any (isAt t q c) (samplePlaces t) ≡ false
@@ -53,7 +55,8 @@ whole-cells img w h t p r =
     rw (whole-cols img w h t r, whole-rows img w h t p)
     (grid-ext w h (responseIn (whole img w h t)) (responseAt img w h t) (λ i j a b. ap₂ (responseAt img w h t) (omega arith) (omega arith)))
 
-module _ (img : List ℕ) (w h : ℕ) (sized : length img ≡ w * h) (t : Ring) (is : IsRing t) (q : Place) (across : q .x < w) (down : q .y < h) (v : ℕ) where
+module _ (img : List ℕ) (w h : ℕ) (sized : length img ≡ w * h) (t : Ring) (is : IsRing t) (q : Place) (across : q .x < w)
+    (down : q .y < h) (v : ℕ) where
   -- redone from the image's own map, it is the changed image's own
   pub fresh-map : redone (changed img w q v) w h t q (cells (whole img w h t)) ≡ cells (whole (changed img w q v) w h t)
   fresh-map =
@@ -66,7 +69,8 @@ module _ (img : List ℕ) (w h : ℕ) (sized : length img ≡ w * h) (t : Ring) 
           ≡ responseAt (changed img w q v) w h t i j
       go i j a b true e = refl
       go i j a b false e =
-          getD-grid w h (responseAt img w h t) i j zero a b ∙ sym (response-kept img w h sized t is q across down v (record { x = i; y = j }) e)
+          getD-grid w h (responseAt img w h t) i j zero a b
+          ∙ sym (response-kept img w h sized t is q across down v (record { x = i; y = j }) e)
 
 -- ---- at most twenty-one
 pub few-touched : (w h : ℕ) (t : Ring) → IsRing t → (q : Place) → touchedCount w h t q ≤ 21

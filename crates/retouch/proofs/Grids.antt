@@ -21,7 +21,8 @@ same-cell w x y u v p q e =
 -- a list that has a place has a column
 wide : (w h i : ℕ) → i < h * w → 0 < w
 wide w h i l =
-    ⊎-elim (λ (z : w ≡ 0). let n : h * w ≡ 0 = ap (λ (k : ℕ). h * k) z ∙ mul-zero h in absurd (let no : ⊥ = omega arith in no)) (λ (g : 0 < w). g)
+    ⊎-elim (λ (z : w ≡ 0). let n : h * w ≡ 0 = ap (λ (k : ℕ). h * k) z ∙ mul-zero h in absurd (let no : ⊥ = omega arith in no))
+    (λ (g : 0 < w). g)
     (eq-zero-or-pos w)
 
 -- two lists that agree in each column of each row

@@ -8,6 +8,7 @@ use lib.Dec.{leb}
 use lib.ListN.{length, length-set}
 use lib.Ieee.{Float}
 use borrow.Author.Tests.{le-ltb, eq-eqb, leb-false, not-false}
+use Rattle.lists.specs.Limits.{largestSide}
 use Rattle.lists.specs.Places.{Place}
 use Rattle.lists.specs.Refusals.{lowest, isLarge, isMisfit}
 use Rattle.lists.specs.Internal.{Sized}
@@ -38,8 +39,8 @@ module _ (pixels cells w h ring : ℕ) (q : Place) where
     pub by-map : (n : ℕ) → n ≡ image_size.refusalOf cells w h → (n ≡ 0 → ⊥) → n ≡ refusalOf pixels cells w h ring q
     unfolding refusalOf image_size.refusalOf
     by-map n e z =
-        simp (le-ltb 4096 w (s .narrow), le-ltb 4096 h (s .low), eq-eqb pixels (w * h) (s .sized))
-        (go (isMisfit cells w h) _ (simp (le-ltb 4096 w (s .narrow), le-ltb 4096 h (s .low)) at e))
+        simp (le-ltb largestSide w (s .narrow), le-ltb largestSide h (s .low), eq-eqb pixels (w * h) (s .sized))
+        (go (isMisfit cells w h) _ (simp (le-ltb largestSide w (s .narrow), le-ltb largestSide h (s .low)) at e))
       where
         go : (c : Bool) (rest : ℕ) → n ≡ cond c 2 0 → n ≡ cond c 2 rest
         go true rest e = e
@@ -48,10 +49,17 @@ module _ (pixels cells w h ring : ℕ) (q : Place) where
     -- else the rest of the table
     pub by-rest : Sized cells w h → refusalOf pixels cells w h ring q ≡ lowest ((not (isRing ring), 3) ∷ (isOutside w h q, 14) ∷ [])
     unfolding refusalOf
-    by-rest u = simp (le-ltb 4096 w (s .narrow), le-ltb 4096 h (s .low), eq-eqb pixels (w * h) (s .sized), eq-eqb cells (w * h) (u .sized))
+    by-rest u =
+        simp (
+          le-ltb largestSide w (s .narrow),
+          le-ltb largestSide h (s .low),
+          eq-eqb pixels (w * h) (s .sized),
+          eq-eqb cells (w * h) (u .sized),
+        )
 
 -- ---- no refusal
-pub ready : (img : List ℕ) (w h ring : ℕ) (q : Place) (m : List Float) → refusalOf (length img) (length m) w h ring q ≡ 0 → Ready img w h ring q m
+pub ready : (img : List ℕ) (w h ring : ℕ) (q : Place) (m : List Float) → refusalOf (length img) (length m) w h ring q ≡ 0
+    → Ready img w h ring q m
 unfolding refusalOf
 ready img w h ring q m e =
     let c = all-clear (conditions (length img) (length m) w h ring q) (omega arith, (omega arith, (omega arith, (omega arith, tt)))) e in
@@ -66,7 +74,8 @@ ready img w h ring q m e =
     }
 
 -- and the image with the pixel changed is as long
-pub ready-changed : (img : List ℕ) (w h ring : ℕ) (q : Place) (m : List Float) (value : ℕ) → Ready img w h ring q m → Ready (changed img w q value) w h ring q m
+pub ready-changed : (img : List ℕ) (w h ring : ℕ) (q : Place) (m : List Float) (value : ℕ) → Ready img w h ring q m
+    → Ready (changed img w q value) w h ring q m
 ready-changed img w h ring q m value r =
     record {
       image = record { narrow = r .image .narrow; low = r .image .low; sized = length-set img (q .y * w + q .x) value ∙ r .image .sized };
@@ -78,12 +87,15 @@ ready-changed img w h ring q m value r =
 
 -- ---- what a call answers and leaves
 module _ (w h ring : ℕ) (q : Place) (value : ℕ) (img : List ℕ) (m : List Float) where
-  pub when-refused : (n : ℕ) → n ≡ refusalOf (length img) (length m) w h ring q → (n ≡ 0 → ⊥) → Retouches w h ring q value img m (Refused n) img m
+  pub when-refused : (n : ℕ) → n ≡ refusalOf (length img) (length m) w h ring q → (n ≡ 0 → ⊥)
+      → Retouches w h ring q value img m (Refused n) img m
   when-refused zero e z = absurd (z refl)
   when-refused (suc n) e z =
       record { answer = rw (← e); number = e; values = rw (← e); image = rw (← e); map = rw (← e) }
 
-  pub when-redone : (n cells : ℕ) (img′ : List ℕ) (m′ : List Float) → n ≡ refusalOf (length img) (length m) w h ring q → n ≡ 0 → img′ ≡ changed img w q value
-      → cells ≡ touchedCount w h (ringOf ring) q → m′ ≡ redone img′ w h (ringOf ring) q m → Retouches w h ring q value img m (Redone cells) img′ m′
+  pub when-redone : (n cells : ℕ) (img′ : List ℕ) (m′ : List Float) → n ≡ refusalOf (length img) (length m) w h ring q → n ≡ 0
+      → img′ ≡ changed img w q value
+      → cells ≡ touchedCount w h (ringOf ring) q → m′ ≡ redone img′ w h (ringOf ring) q m
+      → Retouches w h ring q value img m (Redone cells) img′ m′
   when-redone n cells img′ m′ e z i c d =
       record { answer = rw (← e, z, c); number = sym z ∙ e; values = rw (← e, z, c); image = rw (← e, z) i; map = rw (← e, z) (d ∙ rw i) }

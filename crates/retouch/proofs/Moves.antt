@@ -19,7 +19,8 @@ use Rattle.response.specs.Exact.{credit, debit, fifths, fifthsAt}
 use Rattle.retouch.specs.Retouch.{crossPlaces, isAt, onRing, inCross, changed}
 use Rattle.retouch.proofs.Sampling.{Differ, Apart, nth, places-apart, cross-apart, ring-off-cross}
 use Rattle.retouch.proofs.Touching.{Within, within, at-place, none-beside}
-use Rattle.retouch.proofs.Pixels.{pixelAt, InSquare, sample-at, cross-sum, in-square, cross-in-square, kept, by-levels, samples-kept, cross-kept}
+use Rattle.retouch.proofs.Pixels.{pixelAt, InSquare, sample-at, cross-sum, in-square, cross-in-square, kept, by-levels, samples-kept}
+use Rattle.retouch.proofs.Pixels.{cross-kept}
 use Rattle.retouch.proofs.Near.{Near, near-gap, near-same, near-wide, near-add, near-dist, near-total, near-sum, near-difference}
 use Rattle.retouch.proofs.Near.{total-alike, sum-one, total-nth}
 
@@ -66,7 +67,10 @@ exact-near sr dr sum cross sr′ dr′ sum′ cross′ D C p q r s =
     let gains = times 5 sr sr′ D p in
     let losses = near-add _ _ _ _ _ _ (times 5 dr dr′ D q) (near-dist _ _ _ _ _ _ (times 5 sum sum′ D r) (times 16 cross cross′ C s)) in
     near-difference (credit sr) (debit dr sum cross) (credit sr′) (debit dr′ sum′ cross′) (15 * D + 16 * C)
-    (record { most = omega (arith, gains .most, losses .«least_neighbours»); «least_neighbours» = omega (arith, gains .«least_neighbours», losses .most) })
+    (record {
+      most = omega (arith, gains .most, losses .«least_neighbours»);
+      «least_neighbours» = omega (arith, gains .«least_neighbours», losses .most);
+    })
 
 -- ---- a cell
 module _ (img : List ℕ) (w h : ℕ) (sized : length img ≡ w * h) (t : Ring) (is : IsRing t) (q : Place) (across : q .x < w) (down : q .y < h)
@@ -88,13 +92,15 @@ module _ (img : List ℕ) (w h : ℕ) (sized : length img ≡ w * h) (t : Ring) 
       where
         go : (b : Bool) → isAt t q c p ≡ b → (p .0 ≡ q .x - (c .x - t .radius)) × (p .1 ≡ q .y - (c .y - t .radius))
         go true e = let a = at-place t q c p e in (omega (arith, a .0), omega (arith, a .1))
-        go false e = absurd (let same = kept img w h sized t q across down v c n p l (λ z. false≢true (sym e ∙ z)) in let no : ⊥ = omega arith in no)
+        go false e =
+            absurd (let same = kept img w h sized t q across down v c n p l (λ z. false≢true (sym e ∙ z)) in let no : ⊥ = omega arith in no)
 
     few : (l : List (ℕ × ℕ)) → Apart l → All (InSquare t) l → sumOf moved l ≤ levels
     few l a s =
         sum-one moved levels (q .x - (c .x - t .radius)) (q .y - (c .y - t .radius)) l a
         (all-map (InSquare t) (λ p. moved p ≤ levels) (λ p f. by-levels img w h sized t q across down v c n p (f .0)) l s)
-        (all-map (InSquare t) (λ p. 0 < moved p → (p .0 ≡ q .x - (c .x - t .radius)) × (p .1 ≡ q .y - (c .y - t .radius))) (λ p f. found p (f .0)) l s)
+        (all-map (InSquare t) (λ p. 0 < moved p → (p .0 ≡ q .x - (c .x - t .radius)) × (p .1 ≡ q .y - (c .y - t .radius)))
+        (λ p f. found p (f .0)) l s)
 
     abbrev ring-moves : ℕ
     ring-moves = total (gap (samples after w t (c .x) (c .y)) (samples img w t (c .x) (c .y))) 16
@@ -117,11 +123,13 @@ module _ (img : List ℕ) (w h : ℕ) (sized : length img ≡ w * h) (t : Ring) 
     abbrev E : List ℕ → ℤ
     E i = let s = samples i w t (c .x) (c .y) in fifths (srOf s) (drOf s) (ringSumOf s) (crossOf i w (c .x) (c .y))
 
-    moves : (D C : ℕ) → ring-moves ≤ D → Near (crossOf after w (c .x) (c .y)) (crossOf img w (c .x) (c .y)) C → natAbs (E after -ℤ E img) ≤ 15 * D + 16 * C
+    moves : (D C : ℕ) → ring-moves ≤ D → Near (crossOf after w (c .x) (c .y)) (crossOf img w (c .x) (c .y)) C
+        → natAbs (E after -ℤ E img) ≤ 15 * D + 16 * C
     moves D C l m =
         let s = samples after w t (c .x) (c .y) in
         let u = samples img w t (c .x) (c .y) in
-        exact-near _ _ _ _ _ _ _ _ D C (near-wide _ _ _ D (sr-near s u) l) (near-wide _ _ _ D (dr-near s u) l) (near-wide _ _ _ D (sum-near s u) l) m
+        exact-near _ _ _ _ _ _ _ _ D C (near-wide _ _ _ D (sr-near s u) l) (near-wide _ _ _ D (dr-near s u) l)
+        (near-wide _ _ _ D (sum-near s u) l) m
 
   -- no cell has the pixel in its ring and in its cross
   not-both : inCross t q c ≡ true → onRing t q c ≡ false

@@ -42,7 +42,8 @@ near-dist a b d a′ b′ d′ n m =
 pub near-total : (f g e : ℕ → ℕ) (n : ℕ) → ((k : ℕ) → k < n → Near (f k) (g k) (e k)) → Near (total f n) (total g n) (total e n)
 unfolding total
 near-total f g e zero h = record { most = omega arith; «least_neighbours» = omega arith }
-near-total f g e (suc n) h = near-add (total f n) (total g n) (total e n) (f n) (g n) (e n) (near-total f g e n (λ k l. h k (omega arith))) (h n (omega arith))
+near-total f g e (suc n) h =
+    near-add (total f n) (total g n) (total e n) (f n) (g n) (e n) (near-total f g e n (λ k l. h k (omega arith))) (h n (omega arith))
 
 pub total-alike : (f g : ℕ → ℕ) (n : ℕ) → ((k : ℕ) → k < n → f k ≡ g k) → total f n ≡ total g n
 unfolding total
@@ -63,7 +64,8 @@ module _ (X : ℕ × ℕ → ℕ) (d u v : ℕ) where
       → All (λ o. X o ≡ 0) l
   nothing-else p a b [] h s = tt
   nothing-else p a b (o ∷ l) h s = (
-    ⊎-elim (λ (z : X o ≡ 0). z) (λ (g : 0 < X o). let e = s .0 g in absurd (h .0 (omega (arith, e .0)) (omega (arith, e .1)))) (eq-zero-or-pos (X o)),
+    ⊎-elim (λ (z : X o ≡ 0). z) (λ (g : 0 < X o). let e = s .0 g in absurd (h .0 (omega (arith, e .0)) (omega (arith, e .1))))
+        (eq-zero-or-pos (X o)),
     nothing-else p a b l (h .1) (s .1),
   )
 
@@ -94,7 +96,8 @@ abs-sub a b k p q = go (ltb a b) (ltb→lt a b) (nltb→le a b)
     go true l r = let x = l tt in omega arith
     go false l r = let x = r tt in omega arith
 
-parts-near : (z y : ℤ) (k : ℕ) → plusPart z + minusPart y ≤ plusPart y + minusPart z + k → plusPart y + minusPart z ≤ plusPart z + minusPart y + k
+parts-near : (z y : ℤ) (k : ℕ) → plusPart z + minusPart y ≤ plusPart y + minusPart z + k
+    → plusPart y + minusPart z ≤ plusPart z + minusPart y + k
     → natAbs (z -ℤ y) ≤ k
 parts-near (pos a) (pos zero) k p q = omega arith
 parts-near (pos a) (pos (suc b)) k p q = abs-sub a (suc b) k (omega arith) (omega arith)

@@ -39,7 +39,8 @@ put-one a m ys v l e =
     rw (k, e) (put-placed a 1 (v ∷ []) m refl ∙ append-assoc (take a m) (v ∷ []) (drop (a + 1) m) ∙ rw add-one (sym (set-split m a v l)))
 
 -- ---- the response of a box of one pixel
-module _ (img : List ℕ) (w h ring : ℕ) (image : Sized (length img) w h) (known : (ring ≡ 5) ⊎ (ring ≡ 10)) (i j : ℕ) (across : i < w) (down : j < h) where
+module _ (img : List ℕ) (w h ring : ℕ) (image : Sized (length img) w h) (known : (ring ≡ 5) ⊎ (ring ≡ 10)) (i j : ℕ)
+    (across : i < w) (down : j < h) where
   abbrev box : View
   box = record { img = img; w = w; h = h; ring = ringOf ring; x0 = i; y0 = j; x1 = i + 1; y1 = j + 1 }
 
@@ -52,7 +53,10 @@ module _ (img : List ℕ) (w h ring : ℕ) (image : Sized (length img) w h) (kno
         sized = image .sized;
         known = known;
         enough =
-            rw (box-rows box (omega arith) (omega arith) (omega arith) (omega arith), box-cols box (omega arith) (omega arith) (omega arith) (omega arith))
+            rw (
+              box-rows box (omega arith) (omega arith) (omega arith) (omega arith),
+              box-cols box (omega arith) (omega arith) (omega arith) (omega arith),
+            )
             (let one : i + 1 - i ≡ 1 = omega arith in let two : j + 1 - j ≡ 1 = omega arith in rw (one, two) (omega arith));
       })
 
@@ -66,7 +70,8 @@ module _ (img : List ℕ) (w h ring : ℕ) (image : Sized (length img) w h) (kno
       let high = box-rows box (omega arith) (omega arith) (omega arith) (omega arith) in
       single e zero (same-length box d e _ _ f ∙ l)
       ∙ ap (λ (v : Float). v ∷ [])
-      (first-cell d e _ _ f (rw wide (omega arith)) (rw high (omega arith)) ∙ ap₂ (responseAt img w h (ringOf ring)) (omega arith) (omega arith))
+      (first-cell d e _ _ f (rw wide (omega arith)) (rw high (omega arith))
+      ∙ ap₂ (responseAt img w h (ringOf ring)) (omega arith) (omega arith))
 
 -- ---- what the code leaves, by the place p: the map m becomes m′, and it answers n
 abbrev Leaves : List ℕ → ℕ → ℕ → ℕ → Place → List Float → ℕ × ℕ → List Float → ℕ → Type 0
@@ -82,7 +87,8 @@ module _ (img : List ℕ) (w h ring : ℕ) (q : Place) (m : List Float) (g : Rea
   -- no cell
   module _ (none : (c : Place) → touchedBy (p ∷ []) w h (ringOf ring) q c ≡ false) where
     left-alone : Leaves img w h ring q m p m 0
-    left-alone = (sym (redone-none img w h (ringOf ring) q m long (p ∷ []) none), (sym (count-nowhere w h (ringOf ring) q p none), omega arith))
+    left-alone =
+        (sym (redone-none img w h (ringOf ring) q m long (p ∷ []) none), (sym (count-nowhere w h (ringOf ring) q p none), omega arith))
 
   pub alone-across : fits w ring (q .x) (p .0) ≡ false → Leaves img w h ring q m p m 0
   alone-across e = left-alone (none-across w h (ringOf ring) q p (rw own e))

@@ -62,5 +62,6 @@ module _ (img : List ℕ) (w h : ℕ) (t : Ring) (is : IsRing t) (q : Place) (m�
               ∙ sym (touched-by-all w h t q),
         )
 
-pub ready-map : (img : List ℕ) (w h ring : ℕ) (q : Place) (m m′ : List Float) → Ready img w h ring q m → length m′ ≡ w * h → Ready img w h ring q m′
+pub ready-map : (img : List ℕ) (w h ring : ℕ) (q : Place) (m m′ : List Float) → Ready img w h ring q m → length m′ ≡ w * h
+    → Ready img w h ring q m′
 ready-map img w h ring q m m′ r e = record { image = r .image; cells = e; known = r .known; column = r .column; row = r .row }

@@ -30,7 +30,8 @@ module _ (img : List ℕ) (w : ℕ) (t : Ring) (c : Place) where
   sample-at k l =
       getD-tab 16 (λ k. getD img ((c .y - t .radius + dy t k) * w + (c .x - t .radius + dx t k)) 0) k 0 l ∙ rw (dx-nth t k, dy-nth t k)
 
-  pub cross-sum : 1 ≤ t .radius → t .radius ≤ c .x → t .radius ≤ c .y → crossOf img w (c .x) (c .y) ≡ sumOf (pixelAt img w t c) (crossPlaces t)
+  pub cross-sum : 1 ≤ t .radius → t .radius ≤ c .x → t .radius ≤ c .y
+      → crossOf img w (c .x) (c .y) ≡ sumOf (pixelAt img w t c) (crossPlaces t)
   cross-sum one left above =
       let x : c .x - t .radius + t .radius ≡ c .x = omega arith in
       let y : c .y - t .radius + t .radius ≡ c .y = omega arith in

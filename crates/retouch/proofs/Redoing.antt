@@ -97,6 +97,7 @@ redone-more img w h t q m ps qs =
     ∙ sym (redone-at img w h t q m (ps ++ qs) x y a b))
 
 -- and by all of the ring and the cross
-pub redone-by-all : (img : List ℕ) (w h : ℕ) (t : Ring) (q : Place) (m : List Float) → redoneBy (samplePlaces t) img w h t q m ≡ redone img w h t q m
+pub redone-by-all : (img : List ℕ) (w h : ℕ) (t : Ring) (q : Place) (m : List Float)
+    → redoneBy (samplePlaces t) img w h t q m ≡ redone img w h t q m
 unfolding redoneBy redone
 redone-by-all img w h t q m = refl

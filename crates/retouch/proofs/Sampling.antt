@@ -28,7 +28,8 @@ pub all-nth : (P : ℕ × ℕ → Type 0) (l : List (ℕ × ℕ)) → ((k : ℕ)
 all-nth P [] f = tt
 all-nth P (p ∷ l) f = (f 0 (omega arith), all-nth P l (λ k h. f (suc k) (omega arith)))
 
-apart-nth : (l : List (ℕ × ℕ)) → ((j k : ℕ) → j < length l → k < length l → nth l j .0 ≡ nth l k .0 → nth l j .1 ≡ nth l k .1 → j ≡ k) → Apart l
+apart-nth : (l : List (ℕ × ℕ)) → ((j k : ℕ) → j < length l → k < length l → nth l j .0 ≡ nth l k .0 → nth l j .1 ≡ nth l k .1
+    → j ≡ k) → Apart l
 apart-nth [] f = tt
 apart-nth (p ∷ l) f = (
   all-nth (Differ p) l (λ k h x y. let e : zero ≡ suc k = f 0 (suc k) (omega arith) (omega arith) x y in let no : ⊥ = omega arith in no),
@@ -63,7 +64,10 @@ module _ (t : Ring) (is : IsRing t) where
           (differs r r r (r + 1) (omega arith), (differs r r (r + 1) r (omega arith), (differs r r (r - 1) r (omega arith), tt))),
         ),
         (
-          (differs r (r - 1) r (r + 1) (omega arith), (differs r (r - 1) (r + 1) r (omega arith), (differs r (r - 1) (r - 1) r (omega arith), tt))),
+          (
+            differs r (r - 1) r (r + 1) (omega arith),
+            (differs r (r - 1) (r + 1) r (omega arith), (differs r (r - 1) (r - 1) r (omega arith), tt)),
+          ),
           (
             (differs r (r + 1) (r + 1) r (omega arith), (differs r (r + 1) (r - 1) r (omega arith), tt)),
             ((differs (r + 1) r (r - 1) r (omega arith), tt), (tt, tt)),
@@ -86,12 +90,14 @@ module _ (t : Ring) (is : IsRing t) where
   places-apart =
       apart-nth (t .places)
       (λ j k hj hk x y.
-      is .different j k (omega (arith, is .sixteen)) (omega (arith, is .sixteen)) (dx-nth t j ∙ x ∙ sym (dx-nth t k)) (dy-nth t j ∙ y ∙ sym (dy-nth t k)))
+      is .different j k (omega (arith, is .sixteen)) (omega (arith, is .sixteen)) (dx-nth t j ∙ x ∙ sym (dx-nth t k))
+      (dy-nth t j ∙ y ∙ sym (dy-nth t k)))
 
   pub ring-off-cross : All (λ p. All (Differ p) (crossPlaces t)) (t .places)
   ring-off-cross =
       all-nth (λ p. All (Differ p) (crossPlaces t)) (t .places)
-      (λ k h. off (nth (t .places) k .0) (nth (t .places) k .1) (rw (← dx-nth t k, ← dy-nth t k) (is .off-cross k (omega (arith, is .sixteen)))))
+      (λ k h. off (nth (t .places) k .0) (nth (t .places) k .1)
+      (rw (← dx-nth t k, ← dy-nth t k) (is .off-cross k (omega (arith, is .sixteen)))))
 
   pub samples-apart : Apart (samplePlaces t)
   samples-apart = apart-append (t .places) (crossPlaces t) places-apart cross-apart ring-off-cross

@@ -38,7 +38,8 @@ module _ (w h : ℕ) (t : Ring) (c : Place) where
   is-inside : Within w h t c → inside w h t (c .x) (c .y) ≡ true
   is-inside n = rw (le-leb _ _ (n .left), lt-ltb _ _ (n .right), le-leb _ _ (n .above), lt-ltb _ _ (n .below))
 
-pub at-place : (t : Ring) (q c : Place) (p : ℕ × ℕ) → isAt t q c p ≡ true → (c .x - t .radius + p .0 ≡ q .x) × (c .y - t .radius + p .1 ≡ q .y)
+pub at-place : (t : Ring) (q c : Place) (p : ℕ × ℕ) → isAt t q c p ≡ true
+    → (c .x - t .radius + p .0 ≡ q .x) × (c .y - t .radius + p .1 ≡ q .y)
 at-place t q c p e =
     let b = and-parts (eqb (c .x - t .radius + p .0) (q .x)) (eqb (c .y - t .radius + p .1) (q .y)) e in
     (eqb-true _ _ (b .0), eqb-true _ _ (b .1))
@@ -47,7 +48,8 @@ pub is-at : (t : Ring) (q c : Place) (p : ℕ × ℕ) → c .x - t .radius + p .
 is-at t q c p x y = rw (eq-eqb _ _ x, eq-eqb _ _ y)
 
 -- where it stands at p, it does not at places that differ from p
-pub none-beside : (t : Ring) (q c : Place) (p : ℕ × ℕ) (ps : List (ℕ × ℕ)) → All (Differ p) ps → isAt t q c p ≡ true → any (isAt t q c) ps ≡ false
+pub none-beside : (t : Ring) (q c : Place) (p : ℕ × ℕ) (ps : List (ℕ × ℕ)) → All (Differ p) ps → isAt t q c p ≡ true
+    → any (isAt t q c) ps ≡ false
 none-beside t q c p ps d e =
     let here = at-place t q c p e in
     none-any (isAt t q c) ps
@@ -70,10 +72,16 @@ module _ (w h : ℕ) (t : Ring) (q : Place) (p : ℕ × ℕ) where
   fitting d e =
       let a = and-parts (leb (p .0) (q .x)) (ltb (q .x - p .0 + 2 * t .radius) w) d in
       let b = and-parts (leb (p .1) (q .y)) (ltb (q .y - p .1 + 2 * t .radius) h) e in
-      record { from-left = leb-true _ _ (a .0); to-right = ltb-true _ _ (a .1); from-above = leb-true _ _ (b .0); to-below = ltb-true _ _ (b .1) }
+      record {
+        from-left = leb-true _ _ (a .0);
+        to-right = ltb-true _ _ (a .1);
+        from-above = leb-true _ _ (b .0);
+        to-below = ltb-true _ _ (b .1);
+      }
 
   -- a cell that is touched by p alone
-  touched-parts : (c : Place) → touchedBy (p ∷ []) w h t q c ≡ true → Within w h t c × (c .x - t .radius + p .0 ≡ q .x) × (c .y - t .radius + p .1 ≡ q .y)
+  touched-parts : (c : Place) → touchedBy (p ∷ []) w h t q c ≡ true
+      → Within w h t c × (c .x - t .radius + p .0 ≡ q .x) × (c .y - t .radius + p .1 ≡ q .y)
   touched-parts c e =
       let a = and-parts (inside w h t (c .x) (c .y)) (isAt t q c p || false) e in
       let b : isAt t q c p ≡ true = elim (or-either (isAt t q c p) false (a .1)) [ inl x ↦ x | inr z ↦ absurd (false≢true z) ] in
@@ -86,14 +94,20 @@ module _ (w h : ℕ) (t : Ring) (q : Place) (p : ℕ × ℕ) where
       is-false _ (λ z.
       let n = touched-parts c z in
       let i = n .0 in
-      false≢true (sym e ∙ rw (le-leb (p .0) (q .x) (omega (arith, n .1)), lt-ltb (q .x - p .0 + 2 * t .radius) w (omega (arith, n .1, i .left, i .right)))))
+      false≢true (sym e ∙ rw (
+        le-leb (p .0) (q .x) (omega (arith, n .1)),
+        lt-ltb (q .x - p .0 + 2 * t .radius) w (omega (arith, n .1, i .left, i .right)),
+      )))
 
   pub none-down : fits h (t .radius) (q .y) (p .1) ≡ false → (c : Place) → touchedBy (p ∷ []) w h t q c ≡ false
   none-down e c =
       is-false _ (λ z.
       let n = touched-parts c z in
       let i = n .0 in
-      false≢true (sym e ∙ rw (le-leb (p .1) (q .y) (omega (arith, n .2)), lt-ltb (q .y - p .1 + 2 * t .radius) h (omega (arith, n .2, i .above, i .below)))))
+      false≢true (sym e ∙ rw (
+        le-leb (p .1) (q .y) (omega (arith, n .2)),
+        lt-ltb (q .y - p .1 + 2 * t .radius) h (omega (arith, n .2, i .above, i .below)),
+      )))
 
   -- else that cell and no other
   module _ (f : Fitting) where
@@ -119,7 +133,8 @@ module _ (w h : ℕ) (t : Ring) (q : Place) (p : ℕ × ℕ) where
     unfolding countBy count
     count-here =
         ap length
-        (keep-only (touchedBy (p ∷ []) w h t q) 0 w 0 h (cellOf .x) (cellOf .y) touched-here touched-only (omega arith) cell-across (omega arith) cell-down)
+        (keep-only (touchedBy (p ∷ []) w h t q) 0 w 0 h (cellOf .x) (cellOf .y) touched-here touched-only
+        (omega arith) cell-across (omega arith) cell-down)
 
   pub count-nowhere : ((c : Place) → touchedBy (p ∷ []) w h t q c ≡ false) → countBy (p ∷ []) w h t q ≡ 0
   unfolding countBy
@@ -128,7 +143,8 @@ module _ (w h : ℕ) (t : Ring) (q : Place) (p : ℕ × ℕ) where
   count-one : countBy (p ∷ []) w h t q ≤ 1
   count-one = go (fits w (t .radius) (q .x) (p .0)) refl (fits h (t .radius) (q .y) (p .1)) refl
     where
-      go : (a : Bool) → fits w (t .radius) (q .x) (p .0) ≡ a → (b : Bool) → fits h (t .radius) (q .y) (p .1) ≡ b → countBy (p ∷ []) w h t q ≤ 1
+      go : (a : Bool) → fits w (t .radius) (q .x) (p .0) ≡ a → (b : Bool) → fits h (t .radius) (q .y) (p .1) ≡ b
+          → countBy (p ∷ []) w h t q ≤ 1
       go true d true e = omega (arith, count-here (fitting d e))
       go true d false e = omega (arith, count-nowhere (none-down e))
       go false d b e = omega (arith, count-nowhere (none-across d))
@@ -147,11 +163,14 @@ module _ (w h : ℕ) (t : Ring) (q : Place) where
   pub touched-none : (c : Place) → touchedBy [] w h t q c ≡ false
   touched-none c = and-none (inside w h t (c .x) (c .y))
 
-  pub touched-append : (ps qs : List (ℕ × ℕ)) (c : Place) → touchedBy (ps ++ qs) w h t q c ≡ (touchedBy ps w h t q c || touchedBy qs w h t q c)
-  touched-append ps qs c = rw (any-append (isAt t q c) ps qs) (either-list (inside w h t (c .x) (c .y)) (any (isAt t q c) ps) (any (isAt t q c) qs))
+  pub touched-append : (ps qs : List (ℕ × ℕ)) (c : Place)
+      → touchedBy (ps ++ qs) w h t q c ≡ (touchedBy ps w h t q c || touchedBy qs w h t q c)
+  touched-append ps qs c =
+      rw (any-append (isAt t q c) ps qs) (either-list (inside w h t (c .x) (c .y)) (any (isAt t q c) ps) (any (isAt t q c) qs))
 
   -- no cell is touched by two places that differ
-  not-both : (p : ℕ × ℕ) (ps : List (ℕ × ℕ)) → All (Differ p) ps → (c : Place) → touchedBy (p ∷ []) w h t q c ≡ true → touchedBy ps w h t q c ≡ true → ⊥
+  not-both : (p : ℕ × ℕ) (ps : List (ℕ × ℕ)) → All (Differ p) ps → (c : Place) → touchedBy (p ∷ []) w h t q c ≡ true
+      → touchedBy ps w h t q c ≡ true → ⊥
   not-both p ps d c e f =
       let here = touched-parts w h t q p c e in
       let there = and-parts (inside w h t (c .x) (c .y)) (any (isAt t q c) ps) f in
@@ -162,7 +181,8 @@ module _ (w h : ℕ) (t : Ring) (q : Place) where
   unfolding countBy
   count-apart [] a = count-none (touchedBy [] w h t q) (block 0 w 0 h) touched-none
   count-apart (p ∷ ps) a =
-      let split : count (touchedBy (p ∷ ps) w h t q) (block 0 w 0 h) ≡ count (λ c. touchedBy (p ∷ []) w h t q c || touchedBy ps w h t q c) (block 0 w 0 h) =
+      let split : count (touchedBy (p ∷ ps) w h t q) (block 0 w 0 h) ≡ count (λ c. touchedBy
+      (p ∷ []) w h t q c || touchedBy ps w h t q c) (block 0 w 0 h) =
       unfold count in
       ap length
       (keep-alike (touchedBy (p ∷ ps) w h t q) (λ c. touchedBy (p ∷ []) w h t q c || touchedBy ps w h t q c) (block 0 w 0 h)

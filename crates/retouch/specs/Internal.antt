@@ -1,4 +1,4 @@
--- What the private functions ask of their arguments and give back.
+-- What the private functions require of their arguments and return.
 use Prim.Native.Nat.{ℕ, _+_, _*_, _-_, _<_}
 use mathlib.Core.Path.{_≡_}
 use mathlib.Core.Logic.{_⊎_}
@@ -23,11 +23,11 @@ pub record Ready (img : List ℕ) (w h ring : ℕ) (q : Place) (m : List Float) 
   pub column : q .x < w
   pub row : q .y < h
 
--- along one side: the pixel at `at` stands at a place of a square of this radius that lies in the image
+-- along one side: the pixel at `at` is at a place of a square of this radius that lies in the image
 abbrev pub fits : ℕ → ℕ → ℕ → ℕ → Bool
 fits side radius at place = leb place at && ltb (at - place + 2 * radius) side
 
--- `touched`, `touchedCount` and `redone` by some places alone
+-- `touched`, `touchedCount` and `redone` for some of the places only
 abbrev pub touchedBy : List (ℕ × ℕ) → ℕ → ℕ → Ring → Place → Place → Bool
 touchedBy ps w h t q c = inside w h t (c .x) (c .y) && any (isAt t q c) ps
 
@@ -36,4 +36,5 @@ countBy ps w h t q = count (touchedBy ps w h t q) (block 0 w 0 h)
 
 unfoldable pub redoneBy : List (ℕ × ℕ) → List ℕ → ℕ → ℕ → Ring → Place → List Float → List Float
 redoneBy ps img w h t q m =
-    grid w h (λ i j. cond (touchedBy ps w h t q (record { x = i; y = j })) (responseAt img w h t i j) (getD m (j * w + i) zero))
+    grid w h (λ i j. cond (touchedBy ps w h t q (record { x = i; y = j })) (responseAt img w h t i j)
+    (getD m (j * w + i) zero))

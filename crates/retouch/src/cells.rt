@@ -1,13 +1,14 @@
-// The cells that a pixel touches, computed anew.
+// Recomputes the cells that depend on a pixel.
 ghost use mathlib.Core.Path.{_≡_};
 ghost use mathlib.Core.List.{[], _∷_};
 ghost use Prim.Native.Nat.{_+_, _*_, _<_, _≤_};
 ghost use lib.ListN.{getD};
+ghost use Rattle.lists.specs.Limits.{largestSide, largestRing};
 ghost use Rattle.ring.specs.Ring.{ringOf};
 ghost use Rattle.retouch.specs.Retouch.{samplePlaces, touchedCount, redone};
 ghost use Rattle.retouch.specs.Internal.{Ready, fits, countBy, redoneBy};
 
-// A place of the square about a cell, counted from the square's corner.
+// A place of the square around a cell, counted from the square's corner.
 struct SquarePlace {
     column: usize,
     row: usize,
@@ -50,9 +51,9 @@ fn sample_place(ring: u32, k: usize) -> SquarePlace
     }
 }
 
-// Whether, along one side, a pixel stands at a place of a square that lies in the image.
+// Whether, along one side, a pixel is at a place of a square that lies in the image.
 fn is_fit(side: usize, radius: usize, at: usize, place: usize) -> bool
-    requires { ⌜ (radius ≤ 10) × (at < 4096) ⌝ }
+    requires { ⌜ (radius ≤ largestRing) × (at < largestSide) ⌝ }
     ensures { λ r. ⌜ r ≡ fits side radius at place ⌝ }
 {
     if at < place {
@@ -61,8 +62,8 @@ fn is_fit(side: usize, radius: usize, at: usize, place: usize) -> bool
     at - place + 2 * radius < side
 }
 
-// Computes the cell anew at whose place (column, row) the pixel (x, y) stands, unless it is within a ring radius of the edge. Answers how
-// many cells that is.
+// Recomputes the cell that has the pixel (x, y) at the place (column, row) of its square, unless the cell is within a
+// ring radius of the edge. Returns how many cells that is.
 fn redo(
     img: &[u8],
     w: usize,
@@ -75,7 +76,9 @@ fn redo(
     map: &mut [f32],
 ) -> usize
     requires { ⌜ Ready (now img) w h ring (record { x = x; y = y }) (now map) ⌝ }
-    ensures { λ r. ⌜ now (map .exit) ≡ redoneBy ((column, row) ∷ []) (now (img .entry)) w h (ringOf ring) (record { x = x; y = y }) (now (map .entry)) ⌝ }
+    ensures { λ r. ⌜ now (map .exit)
+        ≡ redoneBy ((column, row) ∷ []) (now (img .entry)) w h (ringOf ring) (record { x = x; y = y })
+        (now (map .entry)) ⌝ }
     ensures { λ r. ⌜ (r ≡ countBy ((column, row) ∷ []) w h (ringOf ring) (record { x = x; y = y })) × (r ≤ 1) ⌝ }
 {
     let radius = ring as usize;
@@ -93,7 +96,7 @@ fn redo(
     1
 }
 
-// Computes every cell anew that the pixel (x, y) touches, and answers how many they are.
+// Recomputes every cell that depends on the pixel (x, y), and returns how many there are.
 pub(crate) fn redo_touched(
     img: &[u8],
     w: usize,
@@ -104,7 +107,8 @@ pub(crate) fn redo_touched(
     map: &mut [f32],
 ) -> usize
     requires { ⌜ Ready (now img) w h ring (record { x = x; y = y }) (now map) ⌝ }
-    ensures { λ r. ⌜ now (map .exit) ≡ redone (now (img .entry)) w h (ringOf ring) (record { x = x; y = y }) (now (map .entry)) ⌝ }
+    ensures { λ r. ⌜ now (map .exit)
+        ≡ redone (now (img .entry)) w h (ringOf ring) (record { x = x; y = y }) (now (map .entry)) ⌝ }
     ensures { λ r. ⌜ r ≡ touchedCount w h (ringOf ring) (record { x = x; y = y }) ⌝ }
 {
     let mut n = 0usize;

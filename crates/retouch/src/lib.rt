@@ -1,11 +1,11 @@
-// A pixel of an image changed, and the cells of its map that the pixel touches computed anew.
+// Changes a pixel of an image, and recomputes the cells of its map that depend on the pixel.
 mod cells; // cells.rt: the touched cells
 
 ghost use mathlib.Core.Path.{_≡_};
 ghost use Rattle.retouch.specs.Promise.{isOutside, refusalOf, Retouches};
 use crate::cells::redo_touched;
 
-// How many cells were computed anew, or the number of a refusal, which leaves image and map as they were.
+// How many cells were recomputed, or the number of a refusal, which leaves image and map unchanged.
 pub enum Retouched {
     Redone(usize),
     Refused(u8),
@@ -42,8 +42,8 @@ fn refusal(pixels: usize, cells: usize, w: usize, h: usize, ring: u32, x: usize,
     0
 }
 
-// Changes the pixel (x, y) of an image of w by h to `value`, and computes those cells of its map anew that are not within a ring radius of
-// the edge and whose sixteen or five samples contain the pixel. The ring's radius is 5 or 10.
+// Changes the pixel (x, y) of an image of w by h to `value`, and recomputes the cells of its map that are not within a
+// ring radius of the edge and whose sixteen or five samples contain the pixel. The ring's radius is 5 or 10.
 pub fn retouch(
     img: &mut [u8],
     w: usize,
@@ -54,7 +54,8 @@ pub fn retouch(
     y: usize,
     value: u8,
 ) -> Retouched
-    ensures { λ r. ⌜ Retouches w h ring (record { x = x; y = y }) value (now (img .entry)) (now (map .entry)) r (now (img .exit)) (now (map .exit)) ⌝ }
+    ensures { λ r. ⌜ Retouches w h ring (record { x = x; y = y }) value (now (img .entry))
+        (now (map .entry)) r (now (img .exit)) (now (map .exit)) ⌝ }
 {
     let no = refusal(img.len(), map.len(), w, h, ring, x, y);
     if no != 0 {

@@ -9,6 +9,7 @@ use native.Mathlib.Decide.{decLt}
 use borrow.Author.Tests.{eqb-true, eq-eqb, ne-eqb}
 use lib.Dec.{eqb, lit≤}
 use lib.ListN.{length, getD, length-map, List·getD-eq-default}
+use Rattle.lists.specs.Limits.{largestRing}
 use Rattle.lists.proofs.Tests.{or-either, or-right}
 use Rattle.ring.specs.Ring.{Ring, ring5, ring10, ringOf, isRing, dx, dy, IsRing}
 
@@ -19,10 +20,12 @@ past s f k h = List·getD-eq-default (map f s) 0 {n = k} (rw (length-map s f) h)
 module _ (t : Ring) (is : IsRing t) where
   -- any place's column and row lie in the ring's square
   pub dx-le : (k : ℕ) → dx t k ≤ 2 * t .radius
-  dx-le k = elim (decLt k 16) [ yes l ↦ is .across k l | no g ↦ rw (past (t .places) (λ p. p .0) k (omega (arith, is .sixteen))) (omega arith) ]
+  dx-le k =
+      elim (decLt k 16) [ yes l ↦ is .across k l | no g ↦ rw (past (t .places) (λ p. p .0) k (omega (arith, is .sixteen))) (omega arith) ]
 
   pub dy-le : (k : ℕ) → dy t k ≤ 2 * t .radius
-  dy-le k = elim (decLt k 16) [ yes l ↦ is .down k l | no g ↦ rw (past (t .places) (λ p. p .1) k (omega (arith, is .sixteen))) (omega arith) ]
+  dy-le k =
+      elim (decLt k 16) [ yes l ↦ is .down k l | no g ↦ rw (past (t .places) (λ p. p .1) k (omega (arith, is .sixteen))) (omega arith) ]
 
   -- there is a place off the cross, so the square holds more than its centre
   pub radius-pos : 1 ≤ t .radius
@@ -37,11 +40,11 @@ pub selects-first : (n : ℕ) → (n ≡ 10 → ⊥) → ringOf n ≡ ring5
 unfolding ringOf
 selects-first n e = rw (ne-eqb _ _ e)
 
-pub radius-small : (n : ℕ) → ringOf n .radius ≤ 10
+pub radius-small : (n : ℕ) → ringOf n .radius ≤ largestRing
 unfolding ringOf ring5 ring10
 radius-small n = pick (eqb n 10)
   where
-    pick : (b : Bool) → cond b ring10 ring5 .radius ≤ 10
+    pick : (b : Bool) → cond b ring10 ring5 .radius ≤ largestRing
     pick true = lit≤ tt
     pick false = lit≤ tt
 
@@ -57,5 +60,5 @@ pub ring-fits : (n : ℕ) → (n ≡ 5) ⊎ (n ≡ 10) → isRing n ≡ true
 ring-fits n (inl e) = rw (eq-eqb n 5 e)
 ring-fits n (inr e) = rw (eq-eqb n 10 e) (or-right (eqb n 5))
 
-pub ring-small : (n : ℕ) → isRing n ≡ true → n ≤ 10
+pub ring-small : (n : ℕ) → isRing n ≡ true → n ≤ largestRing
 ring-small n e = elim (ring-is n e) [ inl p ↦ omega arith | inr p ↦ omega arith ]

@@ -62,7 +62,8 @@ module _ (t : Ring) (e : ringTest t ≡ true) where
         different =
             λ j k hj hk x y.
             eqb-true j k
-            (equal-or-other (eqb j k) (same t j k) (every-at 16 (λ i. eqb j i || not (same t j i)) (place j hj .0) k hk) (rw (eq-eqb _ _ x, eq-eqb _ _ y)));
+            (equal-or-other (eqb j k) (same t j k) (every-at 16 (λ i. eqb j i || not (same t j i)) (place j hj .0) k hk)
+            (rw (eq-eqb _ _ x, eq-eqb _ _ y)));
         off-cross = λ k h. ltb-true _ _ (off k h .0);
         across = λ k h. leb-true _ _ (square k h .0);
         down = λ k h. leb-true _ _ (square k h .1);

@@ -1,4 +1,4 @@
--- A ring as the program holds it.
+-- A ring as the program stores it.
 use Rattle.ring.specs.Ring.{Ring, columns, rows}
 use Rattle.ring.specs.declared.RingOffsets.{RingOffsets}
 

@@ -6,7 +6,7 @@ use mathlib.Core.List.{List, [], _∷_, map}
 use lib.Dec.{eqb}
 use lib.ListN.{length, getD}
 
--- A ring about a centre, clockwise from the top. A place (a, b) lies a - radius columns to the right of the centre and
+-- A ring around a centre, clockwise from the top. A place (a, b) lies a - radius columns to the right of the centre and
 -- b - radius rows below it: both are counted from the corner of the ring's square, so that neither is negative.
 pub record Ring : Type 0 where
   pub radius : ℕ
@@ -17,7 +17,9 @@ unfoldable pub ring5 : Ring
 ring5 =
     record {
       radius = 5;
-      places = (5, 0) ∷ (7, 0) ∷ (8, 2) ∷ (10, 3) ∷ (10, 5) ∷ (10, 7) ∷ (8, 8) ∷ (7, 10) ∷ (5, 10) ∷ (3, 10) ∷ (2, 8) ∷ (0, 7) ∷ (0, 5)
+      places =
+          (5, 0) ∷ (7, 0) ∷ (8, 2) ∷ (10, 3) ∷ (10, 5) ∷ (10, 7) ∷ (8, 8) ∷ (7, 10) ∷ (5, 10) ∷ (3, 10) ∷ (2, 8)
+          ∷ (0, 7) ∷ (0, 5)
           ∷ (0, 3) ∷ (2, 2) ∷ (3, 0) ∷ [];
     }
 
@@ -26,7 +28,9 @@ unfoldable pub ring10 : Ring
 ring10 =
     record {
       radius = 10;
-      places = (10, 0) ∷ (14, 0) ∷ (16, 4) ∷ (20, 6) ∷ (20, 10) ∷ (20, 14) ∷ (16, 16) ∷ (14, 20) ∷ (10, 20) ∷ (6, 20) ∷ (4, 16) ∷ (0, 14)
+      places =
+          (10, 0) ∷ (14, 0) ∷ (16, 4) ∷ (20, 6) ∷ (20, 10) ∷ (20, 14) ∷ (16, 16) ∷ (14, 20) ∷ (10, 20) ∷ (6, 20)
+          ∷ (4, 16) ∷ (0, 14)
           ∷ (0, 10) ∷ (0, 6) ∷ (4, 4) ∷ (6, 0) ∷ [];
     }
 
@@ -35,7 +39,7 @@ unfoldable pub ringOf : ℕ → Ring
 unfolding ring5 ring10
 ringOf n = cond (eqb n 10) ring10 ring5
 
--- the radii that a parameter set may say (RULES 1.7)
+-- the radii that a parameter set may have (RULES 1.7)
 abbrev pub isRing : ℕ → Bool
 isRing radius = eqb radius 5 || eqb radius 10
 
@@ -56,7 +60,8 @@ dy t k = getD (rows t) k 0
 abbrev pub steps : Ring → ℕ → ℕ
 steps t k = (dx t k - t .radius) + (t .radius - dx t k) + ((dy t k - t .radius) + (t .radius - dy t k))
 
--- any ring table of sixteen different places, none in the cross (the centre and its four neighbours) and none beyond its radius either way
+-- any ring table of sixteen different places, none in the cross (the centre and its four neighbours) and none beyond
+-- its radius either way
 pub record IsRing (t : Ring) : Type 0 where
   pub sixteen : length (t .places) ≡ 16
   pub different : (j k : ℕ) → j < 16 → k < 16 → dx t j ≡ dx t k → dy t j ≡ dy t k → j ≡ k

@@ -1,11 +1,11 @@
-// The two rings of sixteen sampling places about a centre.
+// The two rings of sixteen sampling places around a centre.
 ghost use mathlib.Core.Path.{_≡_};
 ghost use Rattle.ring.specs.Ring.{ringOf, isRing};
 ghost use Rattle.ring.specs.Offsets.{offsetsOf};
 
-// A ring's radius, and the columns and rows of its places in order, clockwise from the top. Both are counted from the corner of
-// the ring's square, so that none is negative: the place that lies dx columns to the right of the centre and dy rows below it
-// has column dx + radius and row dy + radius.
+// A ring's radius, and the columns and rows of its places in order, clockwise from the top. Both are counted from the
+// corner of the ring's square, so that none is negative: the place that lies dx columns to the right of the centre and
+// dy rows below it has column dx + radius and row dy + radius.
 pub struct RingOffsets {
     pub radius: u32,
     pub columns: [u8; 16],
@@ -38,7 +38,7 @@ pub fn ring_offsets(radius: u32) -> RingOffsets
     }
 }
 
-// Whether a parameter set may say this radius: 5 or 10.
+// Whether a parameter set may have this radius: 5 or 10.
 pub fn is_ring(radius: u32) -> bool
     ensures { λ r. ⌜ r ≡ isRing radius ⌝ }
 {

@@ -1,5 +1,5 @@
--- What an accepted stream is: sides and parameters without fault, as many pixels as the sides say, and the one stream that is written for them,
--- whatever stands behind it. Assumes nothing.
+-- What an accepted stream is: sides and parameters without fault, as many pixels as the sides say, and the one stream that is written for
+-- them, whatever stands behind it. Assumes nothing.
 use Prim.Native.Nat.{ℕ, zero, suc, _+_, _-_, _*_, _/_, _%_, _<_, _≤_}
 use native.Mathlib.Decide.{decLt}
 use native.Mathlib.Omega.{arith}
@@ -107,7 +107,8 @@ module _ (sides parameters : List ℕ) where
   parameters-only b l =
       let s = u8 parameters in
       let at = byte-at parameters b in
-      ap (λ (t : List ℕ). (s 0 ∷ t) ++ (s 5 ∷ s 6 ∷ s 7 ∷ bytes32 (u32 parameters 8)) ++ (s 12 ∷ bytes16 (u16 parameters 13)) ++ (s 15 ∷ []))
+      ap (λ (t : List ℕ). (s 0 ∷ t) ++ (s 5 ∷ s 6 ∷ s 7 ∷ bytes32 (u32 parameters 8)) ++ (s 12 ∷ bytes16 (u16 parameters 13))
+      ++ (s 15 ∷ []))
       (word32 (s 1) (s 2) (s 3) (s 4) (at 1) (at 2) (at 3))
       ∙ ap₂ (λ (m n : List ℕ). (s 0 ∷ s 1 ∷ s 2 ∷ s 3 ∷ s 4 ∷ []) ++ (s 5 ∷ s 6 ∷ s 7 ∷ m) ++ (s 12 ∷ n) ++ (s 15 ∷ []))
       (word32 (s 8) (s 9) (s 10) (s 11) (at 8) (at 9) (at 10)) (word16 (s 13) (s 14) (at 13))
@@ -156,7 +157,8 @@ module _ (left : ℕ) (body more : List ℕ) (l : length body ≡ 32) (f : bodyF
       let n : 32 - length all ≡ 32 - left = omega (arith, all-long) in
       record {
         first =
-            ap₂ (λ (s t : List ℕ). s ++ t) (take-all 32 all (omega (arith, all-long)) ∙ part) (ap (λ (k : ℕ). replicate k 0) n ∙ sym padding)
+            ap₂ (λ (s t : List ℕ). s ++ t) (take-all 32 all (omega (arith, all-long)) ∙ part)
+            (ap (λ (k : ℕ). replicate k 0) n ∙ sym padding)
             ∙ take-append-drop left body;
         behind = drop-of-length-le all {i = 32} (omega (arith, all-long)) ∙ sym none;
       }
@@ -228,7 +230,9 @@ module _ (s : List ℕ) (h : Header) (pixels : List ℕ) (e : readFrame s ≡ ac
   said = headerOf (bodyOf 1 s) (bodyOf 2 (behind 1 s))
 
   third : Pixels said (recordsFor (said .width * said .height)) (said .width * said .height) [] (behind 2 (behind 1 s)) h pixels
-  third = pixels-only said (recordsFor (said .width * said .height)) (said .width * said .height) [] (behind 2 (behind 1 s)) h pixels refl (second .goes-on)
+  third =
+      pixels-only said (recordsFor (said .width * said .height)) (said .width * said .height) []
+      (behind 2 (behind 1 s)) h pixels refl (second .goes-on)
 
   pub accepted-good : Accepted h pixels
   unfolding bodyFault

@@ -8,7 +8,7 @@ use Rattle.lists.specs.Tab.{tab}
 use Rattle.lists.specs.Buffer.{front}
 use Rattle.stream.specs.declared.Header.{Header}
 use Rattle.stream.specs.declared.FrameStream.the-variants.{Frame, Refused}
-use Rattle.stream.specs.Stream.{Reading, accepted, refused, readFrame}
+use Rattle.stream.specs.Stream.{mostPixels, Reading, accepted, refused, readFrame}
 use Rattle.stream.specs.Answer.{answerOf, numberOf, valuesOf, bufferAfter, FrameRead}
 use Rattle.stream.specs.Internal.{headerAt, pixelCount, pixelByte, Small, Judged}
 use Rattle.stream.proofs.Order.{unless-faulty}
@@ -17,7 +17,7 @@ pub pixels-are : (s : List ℕ) (header : Header) → header ≡ headerAt s → 
 unfolding headerAt pixelCount
 pixels-are s header e = rw e
 
-pub pixels-fit : (s : List ℕ) → Small s → pixelCount s ≤ 9216
+pub pixels-fit : (s : List ℕ) → Small s → pixelCount s ≤ mostPixels
 unfolding pixelCount
 pixels-fit s p = omega (arith, mul-le-mul (p .width) (p .height))
 
@@ -35,4 +35,5 @@ module _ (s d : List ℕ) where
     pub frame-read : n ≡ 0 → (header : Header) (k : ℕ) (after : List ℕ) → header ≡ headerAt s → k ≡ pixelCount s
         → after ≡ front (tab k (pixelByte s)) d → FrameRead s d (Frame header) after
     frame-read z header k after e q r =
-        told (accepted header (tab (pixelCount s) (pixelByte s))) after (j .reading ∙ rw (z, e)) (r ∙ ap (λ (k : ℕ). front (tab k (pixelByte s)) d) q)
+        told (accepted header (tab (pixelCount s) (pixelByte s))) after (j .reading ∙ rw (z, e))
+        (r ∙ ap (λ (k : ℕ). front (tab k (pixelByte s)) d) q)

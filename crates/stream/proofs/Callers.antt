@@ -10,7 +10,7 @@ use Rattle.lists.proofs.Buffer.{front-take}
 use Rattle.stream.specs.declared.Header.{Header}
 use Rattle.stream.specs.declared.FrameStream.{FrameStream}
 use Rattle.stream.specs.declared.FrameStream.the-variants.{Frame, Refused}
-use Rattle.stream.specs.Stream.{Reading, accepted, refused, readFrame}
+use Rattle.stream.specs.Stream.{largestStreamSide, mostPixels, Reading, accepted, refused, readFrame}
 use Rattle.stream.specs.Answer.{answerOf, bufferAfter, FrameRead}
 use Rattle.stream.proofs.Order.{small-sides}
 use Rattle.stream.specs.RoundTrip.{Accepted}
@@ -22,7 +22,8 @@ readingOf (Frame header) buffer = accepted header (take (header .width * header 
 readingOf (Refused n) buffer = refused n
 
 -- and it says what is read of it
-pub reading-is : (s buffer : List ℕ) (answer : FrameStream) (after : List ℕ) → FrameRead s buffer answer after → readingOf answer after ≡ readFrame s
+pub reading-is : (s buffer : List ℕ) (answer : FrameStream) (after : List ℕ) → FrameRead s buffer answer after
+    → readingOf answer after ≡ readFrame s
 reading-is s buffer answer after r = rw (r .answer, r .pixels) (said (readFrame s) refl)
   where
     said : (k : Reading) → readFrame s ≡ k → readingOf (answerOf k) (bufferAfter k buffer) ≡ k
@@ -33,9 +34,9 @@ reading-is s buffer answer after r = rw (r .answer, r .pixels) (said (readFrame 
 pub record FrameStands (s buffer : List ℕ) (h : Header) (after : List ℕ) : Type 0 where
   pub reading : readFrame s ≡ accepted h (take (h .width * h .height) after)
   pub good : Accepted h (take (h .width * h .height) after)
-  pub width : h .width ≤ 96
-  pub height : h .height ≤ 96
-  pub fits : h .width * h .height ≤ 9216
+  pub width : h .width ≤ largestStreamSide
+  pub height : h .height ≤ largestStreamSide
+  pub fits : h .width * h .height ≤ mostPixels
   pub buffer-is : after ≡ front (take (h .width * h .height) after) buffer
 
 pub frame-found : (s buffer : List ℕ) (h : Header) (after : List ℕ) → FrameRead s buffer (Frame h) after → FrameStands s buffer h after
@@ -53,7 +54,8 @@ frame-found s buffer h after r =
     }
 
 -- a refusal: its number, and the buffer as it was
-pub refusal-found : (s buffer : List ℕ) (n : ℕ) (after : List ℕ) → FrameRead s buffer (Refused n) after → (readFrame s ≡ refused n) × (after ≡ buffer)
+pub refusal-found : (s buffer : List ℕ) (n : ℕ) (after : List ℕ) → FrameRead s buffer (Refused n) after
+    → (readFrame s ≡ refused n) × (after ≡ buffer)
 refusal-found s buffer n after r =
     let is : readFrame s ≡ refused n = sym (reading-is s buffer (Refused n) after r) in
     (is, r .pixels ∙ ap (λ k. bufferAfter k buffer) is)

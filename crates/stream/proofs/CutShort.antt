@@ -15,7 +15,7 @@ use Rattle.lists.specs.Refusals.{lowest}
 use Rattle.lists.proofs.Places.{any-append}
 use Rattle.lists.proofs.Refusals.{lowest-le}
 use Rattle.merge_radius.specs.MergeRadius.{radiusOutside}
-use Rattle.stream.specs.Stream.{u8, u16, u32, known, bodyLength, Reading, refused, readRecord}
+use Rattle.stream.specs.Stream.{largestStreamSide, u8, u16, u32, known, bodyLength, Reading, refused, readRecord}
 use Rattle.stream.specs.Stream.{sidesFault, rangeOutside, parametersFault, paddingFault, bodyFault, recordFault}
 use Rattle.stream.specs.Wanted.{wantedBody}
 use Rattle.stream.proofs.Meaning.{Open}
@@ -27,7 +27,8 @@ use Rattle.stream.proofs.RoundTrip.{record-back}
 abbrev nonzero : List ℕ → Bool
 nonzero s = any (λ v. not (eqb v 0)) s
 
-padding-parts : (left : ℕ) (came t : List ℕ) → nonzero (drop left (came ++ t)) ≡ (nonzero (drop left came) || nonzero (drop (left - length came) t))
+padding-parts : (left : ℕ) (came t : List ℕ)
+    → nonzero (drop left (came ++ t)) ≡ (nonzero (drop left came) || nonzero (drop (left - length came) t))
 padding-parts zero [] t = refl
 padding-parts (suc left) [] t = let all : suc left ≡ suc left - 0 = omega arith in ap (λ (n : ℕ). nonzero (drop n t)) all
 padding-parts zero (v ∷ came) t =
@@ -65,7 +66,8 @@ module _ (left : ℕ) (came : List ℕ) where
       let n = 32 - length came in
       let long : 32 ≡ length came + n = omega arith in
       let taken : take 32 (came ++ t) ≡ came ++ take n t = ap (λ (k : ℕ). take k (came ++ t)) long ∙ take-append-add came t n in
-      ap (paddingFault left) taken ∙ fault-parts (take n t) _ refl ∙ pick (nonzero (drop left came)) (nonzero (drop (left - length came) (take n t))) h
+      ap (paddingFault left) taken ∙ fault-parts (take n t) _ refl
+      ∙ pick (nonzero (drop left came)) (nonzero (drop (left - length came) (take n t))) h
     where
       pick : (a b : Bool) → (lowest ((a, 7) ∷ []) ≡ 0 → ⊥) → lowest ((a || b, 7) ∷ []) ≡ 7
       pick true b h = refl
@@ -102,18 +104,20 @@ few false false false x y z p q r = omega arith
 body-few : (due left : ℕ) (body : List ℕ) → (eqb due 3 ≡ true → paddingFault left body ≡ 0) → bodyFault due left body < 7
 unfolding bodyFault sidesFault parametersFault
 body-few due left body h =
-    let sides = lowest-le ((ltb 96 (u16 body 0) || ltb 96 (u16 body 2), 1) ∷ []) 6 (omega arith, tt) in
+    let sides = lowest-le ((ltb largestStreamSide (u16 body 0) || ltb largestStreamSide (u16 body 2), 1) ∷ []) 6 (omega arith, tt) in
     let range = rangeOutside (u8 body 0) (u8 body 5) (u8 body 7) in
     let radius = radiusOutside (ofBits binary32 (u32 body 8)) in
     let parameters = lowest-le ((range, 3) ∷ (radius, 5) ∷ []) 6 (omega arith, (omega arith, tt)) in
-    few (eqb due 1) (eqb due 2) (eqb due 3) (sidesFault (u16 body 0) (u16 body 2)) (parametersFault (u8 body 0) (u8 body 5) (u8 body 7) (u32 body 8))
+    few (eqb due 1) (eqb due 2) (eqb due 3) (sidesFault (u16 body 0) (u16 body 2))
+    (parametersFault (u8 body 0) (u8 body 5) (u8 body 7) (u32 body 8))
     (paddingFault left body)
     (omega (arith, sides))
     (omega (arith, parameters))
     h
 
 -- ---- a body that is cut short is open: zeros and an unknown kind behind it give another refusal
-module _ (due left : ℕ) (k : known due ≡ true) (next : List ℕ → List ℕ → Reading) (unknown : (body : List ℕ) → next body (0 ∷ []) ≡ refused 6)
+module _ (due left : ℕ) (k : known due ≡ true) (next : List ℕ → List ℕ → Reading)
+    (unknown : (body : List ℕ) → next body (0 ∷ []) ≡ refused 6)
     (came : List ℕ) (short : length came < bodyLength due) (zeros : eqb due 3 ≡ true → paddingFault left came ≡ 0) where
   abbrev rest : ℕ
   rest = bodyLength due - length came
@@ -235,7 +239,8 @@ module _ (due left : ℕ) (came : List ℕ) where
             | yes m ↦ pixels-only left (came ++ t) (omega (arith, length-append came t))
             | no g ↦
                 let none : [] ≡ t = take-all 0 t (omega arith) in
-                ap (λ (t : List ℕ). paddingFault left (came ++ t)) (sym none) ∙ ap (paddingFault left) (append-nil came) ∙ eqb-true (paddingFault left came) 0 e
+                ap (λ (t : List ℕ). paddingFault left (came ++ t)) (sym none) ∙ ap (paddingFault left) (append-nil came)
+                ∙ eqb-true (paddingFault left came) 0 e
           ]
 
   -- where it wants none it is whole, or its padding is not 0
@@ -248,7 +253,8 @@ module _ (due left : ℕ) (came : List ℕ) where
   body-total = omega (arith, wanted-is, at-most missing untilPadding (eqb due 3) isZero)
 
   -- and then what follows does not change its fault
-  pub body-still : known due ≡ true → wantedBody due left came ≡ 0 → (t : List ℕ) → recordFault due left (due ∷ (came ++ t)) ≡ recordFault due left (due ∷ came)
+  pub body-still : known due ≡ true → wantedBody due left came ≡ 0 → (t : List ℕ)
+      → recordFault due left (due ∷ (came ++ t)) ≡ recordFault due left (due ∷ came)
   body-still k e t =
       elim (decLt (length came) (bodyLength due)) [
         | yes l ↦ let p = body-decided e l in rw (p .0) (padded-same left came t (rw (p .0) at l) (p .1))

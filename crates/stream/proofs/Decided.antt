@@ -11,7 +11,7 @@ use lib.Seq.{drop-append-le}
 use lib.Dec.{eqb}
 use borrow.Author.Tests.{ne-eqb, eqb-true, eqb-false}
 use Rattle.stream.specs.declared.Header.{Header}
-use Rattle.stream.specs.Stream.{u16, known, bodyLength, bodyOf, behind, headerOf, bodyFault, recordFault}
+use Rattle.stream.specs.Stream.{mostPixels, longestStream, u16, known, bodyLength, bodyOf, behind, headerOf, bodyFault, recordFault}
 use Rattle.stream.specs.Stream.{Reading, accepted, refused, readRecord, recordsFor, readPixels, readParameters, readFrame}
 use Rattle.stream.specs.Wanted.{wantedBody, wantedHere, wantedRecord, wantedPixels, wantedParameters, wanted}
 use Rattle.stream.proofs.Meaning.{Open, Wanted}
@@ -51,7 +51,8 @@ module _ (due left : ℕ) (k : known due ≡ true) (next : List ℕ → List ℕ
       let is = eqb-true kind due e in
       rw is (record {
         decided = λ z t. same-fault (due ∷ came) (due ∷ (came ++ t)) (body-still due left came k z t) (rw is at h);
-        fewer = λ t l. let c = body-cut due left came t l in cut-open due left k next (unknown (omega (arith, c .short))) (came ++ t) (c .short) (c .zeros);
+        fewer = λ t l. let c = body-cut due left came t l in
+            cut-open due left k next (unknown (omega (arith, c .short))) (came ++ t) (c .short) (c .zeros);
         total = λ p. omega (arith, body-total due left came);
       })
   kind-came kind came h false e =
@@ -116,7 +117,11 @@ pixels-wants : (n : ℕ) (h : Header) (left : ℕ) (done s : List ℕ) → Wante
 unfolding readPixels wantedPixels bodyLength
 pixels-wants zero h left done s =
     record-wants 4 left refl (λ body rest. accepted h done) (λ p. absurd (let no : ⊥ = omega arith in no)) 0 (λ body rest. 0) s
-    (λ e. record { decided = λ z t. refl; fewer = λ t l. absurd (let no : ⊥ = omega arith in no); total = λ p. absurd (let no : ⊥ = omega arith in no) })
+    (λ e. record {
+      decided = λ z t. refl;
+      fewer = λ t l. absurd (let no : ⊥ = omega arith in no);
+      total = λ p. absurd (let no : ⊥ = omega arith in no);
+    })
 pixels-wants (suc n) h left done s =
     within (33 * suc n + 1) (omega arith)
     (record-wants 3 left refl (λ body rest. readPixels n h (left - 32) (done ++ take left body) rest)
@@ -124,7 +129,7 @@ pixels-wants (suc n) h left done s =
     (λ body rest. wantedPixels n (left - 32) rest) s
     (λ e. pixels-wants n h (left - 32) (done ++ take left (bodyOf 3 s)) (behind 3 s)))
 
-module _ (sides : List ℕ) (small : u16 sides 0 * u16 sides 2 ≤ 9216) where
+module _ (sides : List ℕ) (small : u16 sides 0 * u16 sides 2 ≤ mostPixels) where
   abbrev count : ℕ
   count = u16 sides 0 * u16 sides 2
 
@@ -137,7 +142,7 @@ module _ (sides : List ℕ) (small : u16 sides 0 * u16 sides 2 ≤ 9216) where
       (λ parameters rest. wantedPixels (recordsFor count) count rest) s
       (λ e. pixels-wants (recordsFor count) (headerOf sides (bodyOf 2 s)) count [] (behind 2 s)))
 
-pub frame-wants : (s : List ℕ) → Wanted readFrame 9527 s (wanted s)
+pub frame-wants : (s : List ℕ) → Wanted readFrame longestStream s (wanted s)
 unfolding readFrame readParameters wanted bodyLength bodyFault
 frame-wants s =
     record-wants 1 0 refl readParameters (λ p sides. refl) 9522 wantedParameters s

@@ -55,7 +55,8 @@ wants = refl
 abbrev cut : List ℕ → List ℕ
 cut came = sides 1 1 ++ good ++ (3 ∷ came)
 
-pub padding-wants : map wanted (map cut ([] ∷ (9 ∷ []) ∷ (9 ∷ 0 ∷ []) ∷ (9 ∷ 0 ∷ 1 ∷ []) ∷ (9 ∷ replicate 31 0 ++ (4 ∷ 8 ∷ [])) ∷ [])) ≡ 2 ∷ 1 ∷ 1 ∷ 0 ∷ 0 ∷ []
+pub padding-wants : map wanted (map cut
+    ([] ∷ (9 ∷ []) ∷ (9 ∷ 0 ∷ []) ∷ (9 ∷ 0 ∷ 1 ∷ []) ∷ (9 ∷ replicate 31 0 ++ (4 ∷ 8 ∷ [])) ∷ [])) ≡ 2 ∷ 1 ∷ 1 ∷ 0 ∷ 0 ∷ []
 unfolding wanted bodyLength ofBits lt le isOff isSized
 padding-wants = refl
 

@@ -16,7 +16,8 @@ use Rattle.lists.specs.Refusals.{unless}
 use Rattle.lists.proofs.Tests.{or-neither}
 use Rattle.lists.proofs.Refusals.{lowest-none}
 use Rattle.stream.specs.declared.Header.{Header}
-use Rattle.stream.specs.Stream.{u16, bodyLength, bodyOf, behind, headerOf, recordsFor, sidesFault, bodyFault, recordFault}
+use Rattle.stream.specs.Stream.{largestStreamSide, u16, bodyLength, bodyOf, behind, headerOf, recordsFor, sidesFault, bodyFault}
+use Rattle.stream.specs.Stream.{recordFault}
 use Rattle.stream.specs.Stream.{Reading, accepted, refused, readRecord, readPixels, readParameters, readFrame}
 use Rattle.stream.specs.Wanted.{wantedHere, wantedRecord, wantedPixels, wantedParameters, wanted}
 use Rattle.stream.specs.Internal.{due, headerAt, pixelCount, pixelByte, leftAfter, Small, Judged, Stopped}
@@ -78,7 +79,8 @@ leftBehind s i = pixelCount s - 32 * i
 
 unfoldable pub readBehind : List ℕ → ℕ → Reading
 readBehind s i =
-    readPixels (recordsFor (leftBehind s i)) (headerAt s) (leftBehind s i) (tab (pixelCount s - leftBehind s i) (pixelByte s)) (drop (22 + 33 * i) s)
+    readPixels (recordsFor (leftBehind s i)) (headerAt s) (leftBehind s i) (tab (pixelCount s - leftBehind s i) (pixelByte s))
+    (drop (22 + 33 * i) s)
 
 unfoldable pub wantedBehind : List ℕ → ℕ → ℕ
 wantedBehind s i = wantedPixels (recordsFor (leftBehind s i)) (leftBehind s i) (drop (22 + 33 * i) s)
@@ -142,11 +144,12 @@ module _ {s : List ℕ} where
   due-end : (i : ℕ) (p : Passed s i) → leftBehind s i ≡ 0 → dueAt (pixels i p) ≡ 4
   due-end i p z = due-pixels i p ∙ rw z
 
-pub small-sides : (width height : ℕ) → sidesFault width height ≡ 0 → (width ≤ 96) × (height ≤ 96)
+pub small-sides : (width height : ℕ) → sidesFault width height ≡ 0 → (width ≤ largestStreamSide) × (height ≤ largestStreamSide)
 unfolding sidesFault
 small-sides width height e =
-    let p = or-neither (ltb 96 width) (ltb 96 height) (lowest-none (ltb 96 width || ltb 96 height) 1 [] (omega arith) e .0) in
-    (ltb-false 96 width (p .0), ltb-false 96 height (p .1))
+    let p = or-neither (ltb largestStreamSide width) (ltb largestStreamSide height)
+    (lowest-none (ltb largestStreamSide width || ltb largestStreamSide height) 1 [] (omega arith) e .0) in
+    (ltb-false largestStreamSide width (p .0), ltb-false largestStreamSide height (p .1))
 
 reading-alike : {n n′ : ℕ} {px px′ t t′ : List ℕ} (h : Header) → n ≡ n′ → px ≡ px′ → t ≡ t′
     → readPixels (recordsFor n) h n px t ≡ readPixels (recordsFor n′) h n′ px′ t′
@@ -184,7 +187,10 @@ module _ (s : List ℕ) (p : Sided s) where
   parameters-faulty : (recordFault 2 0 (drop 5 s) ≡ 0 → ⊥) → Faulty s 2 0 5
   unfolding readParameters wantedParameters pixelCount
   parameters-faulty h =
-      record { reading = p .reading ∙ read-faulty 2 0 (drop 5 s) readRest h; wanting = p .wanting ∙ wanted-faulty 2 0 (drop 5 s) wantedRest h }
+      record {
+        reading = p .reading ∙ read-faulty 2 0 (drop 5 s) readRest h;
+        wanting = p .wanting ∙ wanted-faulty 2 0 (drop 5 s) wantedRest h;
+      }
 
   parameters-sound : recordFault 2 0 (drop 5 s) ≡ 0 → Passed s 0
   unfolding readParameters wantedParameters bodyLength pixelCount headerAt readBehind wantedBehind tab
@@ -232,7 +238,10 @@ module _ (s : List ℕ) (i : ℕ) (p : Passed s i) where
 
     pixels-faulty : (recordFault 3 left here ≡ 0 → ⊥) → Faulty s 3 left (22 + 33 * i)
     pixels-faulty h =
-        record { reading = pixels-due ∙ read-faulty 3 left here readNext h; wanting = pixels-wanted ∙ wanted-faulty 3 left here wantedNext h }
+        record {
+          reading = pixels-due ∙ read-faulty 3 left here readNext h;
+          wanting = pixels-wanted ∙ wanted-faulty 3 left here wantedNext h;
+        }
 
     pixels-sound : recordFault 3 left here ≡ 0 → Passed s (suc i)
     unfolding bodyLength readBehind wantedBehind
@@ -272,7 +281,10 @@ module _ (s : List ℕ) (i : ℕ) (p : Passed s i) where
 
     end-faulty : (recordFault 4 left here ≡ 0 → ⊥) → Faulty s 4 left (22 + 33 * i)
     end-faulty h =
-        record { reading = end-due ∙ read-faulty 4 left here readNone h; wanting = end-wanted ∙ wanted-faulty 4 left here (λ body rest. 0) h }
+        record {
+          reading = end-due ∙ read-faulty 4 left here readNone h;
+          wanting = end-wanted ∙ wanted-faulty 4 left here (λ body rest. 0) h;
+        }
 
     end-none : recordFault 4 left here ≡ 0 → wanted s ≡ 0
     end-none e = end-wanted ∙ wanted-sound 4 left here (λ body rest. 0) e
@@ -304,7 +316,8 @@ module _ {s : List ℕ} where
   abbrev Next : Stage s → ℕ → Type 0
   Next st due = Standing s due (placeAt st + 1 + bodyLength due) (leftAfter s due (leftAt st))
 
-  next-pixels : (i : ℕ) (p : Passed s i) → 0 < leftBehind s i → recordFault 3 (leftBehind s i) (drop (22 + 33 * i) s) ≡ 0 → Next (pixels i p) 3
+  next-pixels : (i : ℕ) (p : Passed s i) → 0 < leftBehind s i → recordFault 3 (leftBehind s i) (drop (22 + 33 * i) s) ≡ 0
+      → Next (pixels i p) 3
   unfolding bodyLength leftAfter
   next-pixels i p l e =
       let place : 22 + 33 * i + 1 + 32 ≡ 22 + 33 * suc i = omega arith in
@@ -318,7 +331,12 @@ module _ {s : List ℕ} where
   unfolding due bodyLength leftAfter
   stage-next start m e = record { stage = sides (sides-sound s e); kind-is = refl; at-is = refl; left-is = refl }
   stage-next (sides p) m e =
-      record { stage = pixels 0 (parameters-sound s p (sym (left-aside (pixelCount s) (drop 5 s)) ∙ e)); kind-is = refl; at-is = refl; left-is = omega arith }
+      record {
+        stage = pixels 0 (parameters-sound s p (sym (left-aside (pixelCount s) (drop 5 s)) ∙ e));
+        kind-is = refl;
+        at-is = refl;
+        left-is = omega arith;
+      }
   stage-next (pixels i p) m e =
       ⊎-elim
       (λ z. rw (due-end i p z) (next-end i p z (rw (due-end i p z) at e)))

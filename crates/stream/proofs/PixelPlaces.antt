@@ -25,7 +25,8 @@ module _ (s : List ℕ) (i left : ℕ) (h : 22 + 33 * i + 33 ≤ length s) where
       let body = drop 1 (drop (22 + 33 * i) s) in
       let new : ℕ → ℕ = λ j. pixelByte s (32 * i + j) in
       let long : length (take left (take 32 body)) ≡ min left 32 =
-      length-take left (take 32 body) ∙ omega (arith, length-take 32 body, length-drop 1 (drop (22 + 33 * i) s), length-drop (22 + 33 * i) s) in
+      length-take left (take 32 body)
+      ∙ omega (arith, length-take 32 body, length-drop 1 (drop (22 + 33 * i) s), length-drop (22 + 33 * i) s) in
       ext-getD 0 (take left (take 32 body)) (tab (min left 32) new) (long ∙ sym (length-tab (min left 32) new))
       (λ j l.
       let k : j < min left 32 = rw long at l in

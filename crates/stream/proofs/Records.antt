@@ -35,7 +35,8 @@ module _ (due left : ℕ) (s : List ℕ) (at : ℕ) where
     unfolding recordFault kindFault
     fault-kind k =
         rw (drop-cons s at 0 h)
-        (lowest-some ((not (known (getD s at 0)), 6) ∷ (not (eqb (getD s at 0) due), 11) ∷ []) (bodyConditions due left (drop (suc at) s)) k)
+        (lowest-some ((not (known (getD s at 0)), 6) ∷ (not (eqb (getD s at 0) due), 11) ∷ [])
+        (bodyConditions due left (drop (suc at) s)) k)
 
     module _ (k : kindFault (getD s at 0) due ≡ 0) where
       fault-behind : recordFault due left (drop at s) ≡ lowest (bodyConditions due left (drop (suc at) s))
@@ -47,8 +48,10 @@ module _ (due left : ℕ) (s : List ℕ) (at : ℕ) where
       pub fault-cut : length s - (at + 1) < bodyLength due → recordFault due left (drop at s) ≡ 7
       fault-cut c = fault-behind ∙ rw (lt-ltb (length (drop (suc at) s)) (bodyLength due) (omega (arith, length-drop (suc at) s)))
 
-      pub fault-body : (n : ℕ) → n ≡ bodyLength due → n ≤ length s - (at + 1) → recordFault due left (drop at s) ≡ bodyFault due left (take n (drop (at + 1) s))
-      fault-body n e c = fault-behind ∙ rw (le-ltb (length (drop (suc at) s)) (bodyLength due) (omega (arith, length-drop (suc at) s)), e, add-one)
+      pub fault-body : (n : ℕ) → n ≡ bodyLength due → n ≤ length s - (at + 1)
+          → recordFault due left (drop at s) ≡ bodyFault due left (take n (drop (at + 1) s))
+      fault-body n e c =
+          fault-behind ∙ rw (le-ltb (length (drop (suc at) s)) (bodyLength due) (omega (arith, length-drop (suc at) s)), e, add-one)
 
 -- ---- a record without fault: its kind is the one due, it is whole, and its body has no fault
 pub record Sound (due left : ℕ) (s : List ℕ) : Type 0 where
@@ -60,7 +63,8 @@ pub sound : (due left : ℕ) (s : List ℕ) → recordFault due left s ≡ 0 →
 unfolding recordFault
 sound due left [] e = absurd (let no : ⊥ = omega arith in no)
 sound due left (kind ∷ rest) e =
-    let p = parts (not (known kind)) (not (eqb kind due)) (ltb (length rest) (bodyLength due)) (bodyFault due left (take (bodyLength due) rest)) e in
+    let p = parts (not (known kind)) (not (eqb kind due)) (ltb (length rest) (bodyLength due))
+    (bodyFault due left (take (bodyLength due) rest)) e in
     record {
       kind = ap (λ (k : ℕ). k ∷ rest) (eqb-true kind due (not-false (eqb kind due) (p .0)));
       long = omega (arith, ltb-false (length rest) (bodyLength due) (p .1));
@@ -80,7 +84,11 @@ fault-same due left [] t l = absurd (let no : ⊥ = omega arith in no)
 fault-same due left (kind ∷ rest) t l =
     let enough : bodyLength due ≤ length rest = omega arith in
     let more : bodyLength due ≤ length (rest ++ t) = omega (arith, length-append rest t) in
-    rw (take-append-le (bodyLength due) rest t enough, le-ltb (length rest) (bodyLength due) enough, le-ltb (length (rest ++ t)) (bodyLength due) more)
+    rw (
+      take-append-le (bodyLength due) rest t enough,
+      le-ltb (length rest) (bodyLength due) enough,
+      le-ltb (length (rest ++ t)) (bodyLength due) more,
+    )
 
 pub body-same : (due : ℕ) (s t : List ℕ) → 1 + bodyLength due ≤ length s → bodyOf due (s ++ t) ≡ bodyOf due s
 body-same due s t l =

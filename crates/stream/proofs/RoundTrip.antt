@@ -6,7 +6,8 @@ use native.Mathlib.Omega.{arith}
 use mathlib.Core.Path.{_≡_, refl, sym, ap, ap₂, _∙_}
 use mathlib.Core.Bool.{true, false, not}
 use mathlib.Core.List.{List, [], _∷_, _++_, append-assoc, append-nil}
-use lib.ListN.{length, take, drop, replicate, length-append, length-take, length-drop, length-replicate, take-append-drop, drop-of-length-le}
+use lib.ListN.{length, take, drop, replicate, length-append, length-take, length-drop, length-replicate, take-append-drop}
+use lib.ListN.{drop-of-length-le}
 use lib.Seq.{take-at, drop-at, take-all}
 use lib.Dec.{eqb}
 use borrow.Author.Tests.{eq-eqb, le-ltb}
@@ -47,7 +48,8 @@ module _ (h : Header) where
   unfolding bodyFault
   sides-good e = simp number16 e
 
-  pub parameters-good : parametersFault (h .ring) (h .window) (h .«centroid_radius») (h .«merge_bits») ≡ 0 → bodyFault 2 0 (parametersBytes h) ≡ 0
+  pub parameters-good : parametersFault (h .ring) (h .window) (h .«centroid_radius») (h .«merge_bits») ≡ 0
+      → bodyFault 2 0 (parametersBytes h) ≡ 0
   unfolding bodyFault
   parameters-good e = simp (number16, number32) e
 
@@ -72,7 +74,8 @@ module _ (pixels : List ℕ) where
   whole-body h =
       let none : 32 - length pixels ≡ 0 = omega arith in
       record {
-        taken = take-all (length pixels) body (omega (arith, body-long)) ∙ ap (λ (k : ℕ). take 32 pixels ++ replicate k 0) none ∙ append-nil (take 32 pixels);
+        taken = take-all (length pixels) body (omega (arith, body-long)) ∙ ap (λ (k : ℕ). take 32 pixels ++ replicate k 0) none
+            ∙ append-nil (take 32 pixels);
         padding = drop-of-length-le body {i = length pixels} (omega (arith, body-long)) ∙ ap (λ (k : ℕ). replicate k 0) (sym none);
       }
 
@@ -108,7 +111,8 @@ pixels-back h (suc n) left done pixels rest e q =
     refl
     (body-long pixels)
     (pixels-good pixels)
-    ∙ ap (λ (l : List ℕ). readPixels n h (length pixels - 32) (done ++ l) (pixelBytes n (drop 32 pixels) ++ (4 ∷ rest))) (split pixels .taken)
+    ∙ ap (λ (l : List ℕ). readPixels n h (length pixels - 32) (done ++ l) (pixelBytes n (drop 32 pixels) ++ (4 ∷ rest)))
+    (split pixels .taken)
     ∙ pixels-back h n (length pixels - 32) (done ++ take 32 pixels) (drop 32 pixels) rest (omega arith) (sym (length-drop 32 pixels))
     ∙ ap (accepted h) (append-assoc done (take 32 pixels) (drop 32 pixels) ∙ ap (λ (l : List ℕ). done ++ l) (take-append-drop 32 pixels)))
 

@@ -12,7 +12,8 @@ abbrev pub answerOf : Reading → FrameStream
 answerOf (accepted header pixels) = Frame header
 answerOf (refused n) = Refused n
 
--- the number and the values of each case: 0 for no refusal, and sides and parameters in the order of the stream (RULES 11.1)
+-- the number and the values of each case: 0 for no refusal, and sides and parameters in the order of the stream (RULES
+-- 11.1)
 abbrev pub numberOf : FrameStream → ℕ
 numberOf (Frame h) = 0
 numberOf (Refused n) = n
@@ -20,12 +21,13 @@ numberOf (Refused n) = n
 abbrev pub valuesOf : FrameStream → List ℕ
 valuesOf (Frame h) =
     h .width ∷ h .height
-    ∷ h .ring ∷ h .«threshold_bits» ∷ h .window ∷ h .«least_neighbours» ∷ h .«centroid_radius» ∷ h .«merge_bits» ∷ h .levels
+    ∷ h .ring ∷ h .«threshold_bits» ∷ h .window ∷ h .«least_neighbours» ∷ h .«centroid_radius»
+    ∷ h .«merge_bits» ∷ h .levels
     ∷ h .«minimum_side» ∷ h .«search_radius»
     ∷ []
 valuesOf (Refused n) = []
 
--- the buffer after it: the pixels first; unchanged where the stream is refused
+-- the buffer after it: the pixels at the start; unchanged if the stream is refused
 abbrev pub bufferAfter : Reading → List ℕ → List ℕ
 bufferAfter (accepted header pixels) buffer = front pixels buffer
 bufferAfter (refused n) buffer = buffer

@@ -11,18 +11,19 @@ use Rattle.lists.specs.Refusals.{lowest, unless}
 use Rattle.merge_radius.specs.MergeRadius.{radiusOutside}
 use Rattle.stream.specs.declared.Header.{Header}
 use Rattle.stream.specs.declared.judging.Stop.{Stop}
-use Rattle.stream.specs.Stream.{u8, u16, known, headerOf, rangeOutside, accepted, refused, recordsFor, readFrame}
+use Rattle.stream.specs.Stream.{largestStreamSide, u8, u16, known, headerOf, rangeOutside, accepted, refused}
+use Rattle.stream.specs.Stream.{recordsFor, readFrame}
 use Rattle.stream.specs.Wanted.{wantedHere, wanted}
 
--- the kind that is due behind one of kind `kind`, 0 at the start, where `left` pixels have not come yet
+-- the kind expected after one of kind `kind` (0 at the start) if `left` pixels have not come yet
 unfoldable pub due : ℕ → ℕ → ℕ
 due kind left = cond (eqb kind 0) 1 (cond (eqb kind 1) 2 (cond (eqb left 0) 4 3))
 
--- the fault of a kind where `due` is due
+-- the fault of a kind if `due` is expected
 unfoldable pub kindFault : ℕ → ℕ → ℕ
 kindFault kind due = lowest ((not (known kind), 6) ∷ (not (eqb kind due), 11) ∷ [])
 
--- of two faults the first; the faults of the parameters apart
+-- the first of two faults; the faults of the parameters apart
 unfoldable pub firstFault : ℕ → ℕ → ℕ
 firstFault a b = cond (eqb a 0) b a
 
@@ -32,7 +33,7 @@ rangeFault ring window centroid = lowest ((rangeOutside ring window centroid, 3)
 unfoldable pub radiusFault : ℕ → ℕ
 radiusFault bits = lowest ((radiusOutside (ofBits binary32 bits), 5) ∷ [])
 
--- by their places: the header, the number of pixels, and each pixel, a byte of kind standing before every 32
+-- by their places: the header, the number of pixels, and each pixel, with a byte for the kind before every 32
 unfoldable pub headerAt : List ℕ → Header
 headerAt s = headerOf (take 4 (drop 1 s)) (take 16 (drop 6 s))
 
@@ -42,17 +43,17 @@ pixelCount s = u16 (take 4 (drop 1 s)) 0 * u16 (take 4 (drop 1 s)) 2
 abbrev pub pixelByte : List ℕ → ℕ → ℕ
 pixelByte s i = u8 s (23 + i + i / 32)
 
--- the pixels that have not come yet behind a record of kind `kind`
+-- the pixels that have not come yet after a record of kind `kind`
 unfoldable pub leftAfter : List ℕ → ℕ → ℕ → ℕ
 unfolding pixelCount
 leftAfter s kind left = cond (eqb kind 1) (pixelCount s) (cond (eqb kind 3) (left - 32) left)
 
--- the sides are at most 96
+-- the sides are at most the largest
 pub record Small (s : List ℕ) : Type 0 where
-  pub width : u16 (take 4 (drop 1 s)) 0 ≤ 96
-  pub height : u16 (take 4 (drop 1 s)) 2 ≤ 96
+  pub width : u16 (take 4 (drop 1 s)) 0 ≤ largestStreamSide
+  pub height : u16 (take 4 (drop 1 s)) 2 ≤ largestStreamSide
 
--- the stream is whole up to its last pixel, and its sides are small
+-- the stream is complete up to its last pixel, and its sides are small
 pub record Whole (s : List ℕ) : Type 0 where
   pub small : Small s
   pub long : 22 + 33 * recordsFor (pixelCount s) ≤ length s
@@ -62,7 +63,7 @@ pub record Judged (s : List ℕ) (fault : ℕ) : Type 0 where
   pub reading : readFrame s ≡ unless refused fault (accepted (headerAt s) (tab (pixelCount s) (pixelByte s)))
   pub whole : fault ≡ 0 → Whole s
 
--- where judging ends: the fault, and the bytes that are wanted there
+-- where checking ends: the fault, and the bytes that are needed there
 pub record Stopped (s : List ℕ) (r : Stop) : Type 0 where
   pub judged : Judged s (r .fault)
   pub wants : wanted s ≡ cond (eqb (r .fault) 0) 0 (wantedHere (r .due) (r .left) (drop (r .at) s))

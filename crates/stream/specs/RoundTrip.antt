@@ -1,4 +1,4 @@
--- A frame stream and what it holds are one to one: writing, and what reading gives of it.
+-- A frame stream and what it holds correspond one to one: writing, and what reading gives back.
 use Prim.Native.Nat.{ℕ, zero, suc, _-_, _*_, _/_, _%_, _<_}
 use mathlib.Core.Path.{_≡_}
 use mathlib.Core.List.{List, [], _∷_, _++_}
@@ -24,14 +24,15 @@ parametersBytes h =
     ++ (h .levels ∷ bytes16 (h .«minimum_side»))
     ++ (h .«search_radius» ∷ [])
 
--- kind 3: 32 pixels in row order, zeros behind the last (RULES 11.1)
+-- kind 3: 32 pixels in row order, zeros after the last (RULES 11.1)
 unfoldable pub pixelBytes : ℕ → List ℕ → List ℕ
 pixelBytes zero pixels = []
 pixelBytes (suc n) pixels = 3 ∷ ((take 32 pixels ++ replicate (32 - length pixels) 0) ++ pixelBytes n (drop 32 pixels))
 
 unfoldable pub frameBytes : Header → List ℕ → List ℕ
 unfolding pixelBytes
-frameBytes h pixels = (1 ∷ sidesBytes h) ++ (2 ∷ parametersBytes h) ++ pixelBytes (recordsFor (length pixels)) pixels ++ (4 ∷ [])
+frameBytes h pixels =
+    (1 ∷ sidesBytes h) ++ (2 ∷ parametersBytes h) ++ pixelBytes (recordsFor (length pixels)) pixels ++ (4 ∷ [])
 
 -- ---- statements
 
@@ -42,10 +43,12 @@ pub record Accepted (h : Header) (pixels : List ℕ) : Type 0 where
   pub long : length pixels ≡ h .width * h .height
 
 pub record RoundTrip : Type 0 where
-  -- what is written for it is read back, whatever stands behind
-  pub frame-back : (h : Header) (pixels rest : List ℕ) → Accepted h pixels → readFrame (frameBytes h pixels ++ rest) ≡ accepted h pixels
+  -- what is written for it is read back, whatever follows
+  pub frame-back : (h : Header) (pixels rest : List ℕ) → Accepted h pixels
+      → readFrame (frameBytes h pixels ++ rest) ≡ accepted h pixels
   -- nothing else is read from any stream
   pub accepted-good : (s : List ℕ) (h : Header) (pixels : List ℕ) → readFrame s ≡ accepted h pixels → Accepted h pixels
   -- and from no other stream of bytes: up to its end it is the one that is written
-  pub accepted-only : (s : List ℕ) (h : Header) (pixels : List ℕ) → readFrame s ≡ accepted h pixels → All (λ v. v < 256) s
+  pub accepted-only : (s : List ℕ) (h : Header) (pixels : List ℕ) → readFrame s ≡ accepted h pixels
+      → All (λ v. v < 256) s
       → take (length (frameBytes h pixels)) s ≡ frameBytes h pixels

@@ -50,10 +50,10 @@ pub(crate) fn sides_fault(body: &[u8]) -> u8
     requires { ⌜ length (now body) ≡ 4 ⌝ }
     ensures { λ r. ⌜ r ≡ sidesFault (u16 (now (body .entry)) 0) (u16 (now (body .entry)) 2) ⌝ }
 {
-    if 96 < u16_at(body, 0) {
+    if crate::LARGEST_STREAM_SIDE < u16_at(body, 0) as usize {
         return 1;
     }
-    if 96 < u16_at(body, 2) {
+    if crate::LARGEST_STREAM_SIDE < u16_at(body, 2) as usize {
         return 1;
     }
     0
@@ -72,10 +72,10 @@ fn range_fault(ring: u8, window: u8, centroid_radius: u8) -> u8
     if !ring::is_ring(ring as u32) {
         return 3;
     }
-    if 16 < window {
+    if lists::LARGEST_RADIUS < window as u32 {
         return 3;
     }
-    if 16 < centroid_radius {
+    if lists::LARGEST_RADIUS < centroid_radius as u32 {
         return 3;
     }
     0
@@ -94,7 +94,8 @@ fn radius_fault(bits: u32) -> u8
 
 pub(crate) fn parameters_fault(body: &[u8]) -> u8
     requires { ⌜ length (now body) ≡ 16 ⌝ }
-    ensures { λ r. ⌜ r ≡ parametersFault (u8 (now (body .entry)) 0) (u8 (now (body .entry)) 5) (u8 (now (body .entry)) 7) (u32 (now (body .entry)) 8) ⌝ }
+    ensures { λ r. ⌜ r ≡ parametersFault (u8 (now (body .entry)) 0) (u8 (now (body .entry)) 5)
+        (u8 (now (body .entry)) 7) (u32 (now (body .entry)) 8) ⌝ }
 {
     let range = range_fault(body[0], body[5], body[7]);
     let radius = radius_fault(u32_at(body, 8));

@@ -6,8 +6,8 @@ ghost use Rattle.stream.specs.Internal.{due, leftAfter, Stopped, Judged}
 use crate::kinds;
 use crate::pixels;
 
-// Where judging ends: the place of a record, the kind that is due there, the pixels that have not come yet, and the record's fault. Without
-// fault it is the end of the stream.
+// Where checking ends: the place of a record, the kind expected there, the pixels that have not come yet, and the
+// record's fault. Without a fault it is the end of the stream.
 pub(crate) struct Stop {
     pub at: usize,
     pub due: u8,
@@ -15,7 +15,7 @@ pub(crate) struct Stop {
     pub fault: u8,
 }
 
-// The kind that is due behind one of kind `kind`, 0 at the start, where `left` pixels have not come yet.
+// The kind expected after one of kind `kind` (0 at the start) if `left` pixels have not come yet.
 fn due_after(kind: u8, left: usize) -> u8
     ensures { λ r. ⌜ r ≡ due kind left ⌝ }
 {
@@ -37,7 +37,7 @@ fn left_after(input: &[u8], kind: u8, left: usize) -> usize
     }
 }
 
-// Judges the records up to the earliest fault.
+// Checks the records up to the earliest fault.
 pub(crate) fn judge(input: &[u8]) -> Stop
     ensures { λ r. ⌜ Stopped (now (input .entry)) r ⌝ }
 {

@@ -18,7 +18,7 @@ pub(crate) fn body_length(kind: u8) -> usize
     }
 }
 
-// The fault of a kind where another, or this one, is due; 0 for none, here and below.
+// The fault of a kind if `due` is expected; 0 for none, here and below.
 fn kind_fault(kind: u8, due: u8) -> u8
     ensures { λ r. ⌜ r ≡ kindFault kind due ⌝ }
 {
@@ -40,7 +40,7 @@ fn body_fault(body: &[u8], kind: u8, left: usize) -> u8
     }
 }
 
-// The fault of the record at a place where the kind `due` is due and `left` pixels have not come yet.
+// The fault of the record at a place if the kind `due` is expected and `left` pixels have not come yet.
 pub(crate) fn record_fault(input: &[u8], at: usize, due: u8, left: usize) -> u8
     ensures { λ r. ⌜ r ≡ recordFault due left (drop at (now (input .entry))) ⌝ }
 {

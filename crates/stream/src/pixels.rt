@@ -1,4 +1,4 @@
-// The pixels: 32 in a record, and zeros behind the last.
+// The pixels: 32 in a record, and zeros after the last.
 ghost use mathlib.Core.Path.{_≡_};
 ghost use Prim.Native.Nat.{_+_, _*_, _≤_};
 ghost use lib.ListN.{length};
@@ -16,7 +16,7 @@ pub(crate) fn pixel_count(input: &[u8]) -> usize
     (fields::u16_at(sides, 0) as usize) * (fields::u16_at(sides, 2) as usize)
 }
 
-// Behind the last pixel a body is 0.
+// 7 if a byte after the last pixel is not 0.
 pub(crate) fn padding_fault(body: &[u8], left: usize) -> u8
     ensures { λ r. ⌜ r ≡ paddingFault left (now (body .entry)) ⌝ }
 {
@@ -30,7 +30,7 @@ pub(crate) fn padding_fault(body: &[u8], left: usize) -> u8
     0
 }
 
-// Stores the first n pixels: a byte of kind stands before every 32.
+// Stores the first n pixels: a byte with the kind comes before every 32.
 pub(crate) fn store_pixels(input: &[u8], n: usize, pixels: &mut [u8])
     requires { ⌜ (22 + 33 * recordsFor n ≤ length (now input)) × (n ≤ length (now pixels)) ⌝ }
     ensures { λ _. ⌜ now (pixels .exit) ≡ front (tab n (pixelByte (now (input .entry)))) (now (pixels .entry)) ⌝ }

@@ -1,4 +1,4 @@
-// How much of a stream is to be read.
+// How much of a stream must be read.
 ghost use mathlib.Core.Path.{_≡_};
 ghost use lib.ListN.{drop};
 ghost use Rattle.stream.specs.Wanted.{wantedPixelBody, wantedBody, wantedHere};
@@ -7,7 +7,7 @@ use crate::judging;
 use crate::kinds;
 use crate::pixels;
 
-// Bytes of the body of kind 3 that are wanted where `came` has come.
+// How many bytes of a body of kind 3 are needed if `came` has come.
 fn wanted_pixels(came: &[u8], left: usize) -> usize
     ensures { λ r. ⌜ r ≡ wantedPixelBody left (now (came .entry)) ⌝ }
 {
@@ -28,7 +28,7 @@ fn wanted_body(came: &[u8], due: u8, left: usize) -> usize
     numbers::minus(kinds::body_length(due), came.len())
 }
 
-// Bytes of the record at a place that are wanted, where it is faulty or cut short.
+// How many bytes of the record at a place are needed, if it is faulty or cut short.
 fn wanted_here(input: &[u8], at: usize, due: u8, left: usize) -> usize
     ensures { λ r. ⌜ r ≡ wantedHere due left (drop at (now (input .entry))) ⌝ }
 {
@@ -42,8 +42,8 @@ fn wanted_here(input: &[u8], at: usize, due: u8, left: usize) -> usize
     wanted_body(&input[start..], due, left)
 }
 
-// How many bytes can be read behind those that came before what is read may be decided: 0 once it is, whatever follows. Whoever reads so
-// many at a time reads none that is not needed.
+// How many bytes must still arrive before the output can be decided; 0 once it is. A program that reads this many at a
+// time reads no byte that is not needed.
 pub fn wanted(input: &[u8]) -> usize
     ensures { λ r. ⌜ r ≡ streamWanted (now (input .entry)) ⌝ }
 {

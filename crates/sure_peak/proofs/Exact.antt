@@ -50,14 +50,16 @@ module _ (lows highs : List ℤ) (w h : ℕ) (f : Place → ℤ) (v : Within low
     larger-too =
         any-more (λ q. values .larger q p) (λ q. limits .larger q p) (window w h r p)
         (window-in (Implies (λ q. values .larger q p) (λ q. limits .larger q p)) w h r p
-        (λ q i j e. lt-le (fifthsIn lows w p) (f q) (fifthsIn highs w q) (le-lt (fifthsIn lows w p) (f p) (f q) (v .least p across down) e) (v .most q i j)))
+        (λ q i j e. lt-le (fifthsIn lows w p) (f q) (fifthsIn highs w q)
+        (le-lt (fifthsIn lows w p) (f p) (f q) (v .least p across down) e) (v .most q i j)))
 
     -- what is surely above 0 is so
     positive-too : count (limits .positive) (window w h r p) ≤ count (values .positive) (window w h r p)
     unfolding count
     positive-too =
         keep-fewer (limits .positive) (values .positive) (window w h r p)
-        (window-in (Implies (limits .positive) (values .positive)) w h r p (λ q i j e. lt-le (pos 0) (fifthsIn lows w q) (f q) e (v .least q i j)))
+        (window-in (Implies (limits .positive) (values .positive)) w h r p
+        (λ q i j e. lt-le (pos 0) (fifthsIn lows w q) (f q) e (v .least q i j)))
 
     peak-too : isPeak limits w h r least p ≡ true → isPeak values w h r least p ≡ true
     unfolding isPeak beaten positives
@@ -76,7 +78,8 @@ any-kept : {A : Type 0} (f g : A → Bool) (l : List A) → any (λ a. g a && f 
 any-kept f g [] e = e
 any-kept f g (a ∷ l) e = pick (g a) (f a) refl e (any-kept f g l)
   where
-    pick : (b c : Bool) → f a ≡ c → ((b && c) || any (λ a. g a && f a) l) ≡ true → (any (λ a. g a && f a) l ≡ true → any f (keep g l) ≡ true)
+    pick : (b c : Bool) → f a ≡ c → ((b && c) || any (λ a. g a && f a) l) ≡ true
+        → (any (λ a. g a && f a) l ≡ true → any f (keep g l) ≡ true)
         → any f (cond b (a ∷ keep g l) (keep g l)) ≡ true
     pick true true q e r = rw q
     pick true false q e r = rw q (r e)
@@ -101,7 +104,8 @@ listed v w h border r least p i e = any-kept (λ q. same q p) (isPeak v w h r le
         (i .left) (omega (arith, i .right)) (i .top) (omega (arith, i .bottom)) (rw (e, same-self p)))
 
 -- ---- and so a sure peak is a peak of the list by exact values
-module _ (lows highs : List ℤ) (w h ring threshold r least centroid : ℕ) (p : Place) (s : isSure lows highs w h ring threshold r least centroid p ≡ true) where
+module _ (lows highs : List ℤ) (w h ring threshold r least centroid : ℕ) (p : Place)
+    (s : isSure lows highs w h ring threshold r least centroid p ≡ true) where
   parts : (insideBorder w h (ring + r + centroid) p ≡ true) × (isPeak (sure lows highs w threshold) w h r least p ≡ true)
   parts = and-parts _ _ (unfold isSure in s)
 

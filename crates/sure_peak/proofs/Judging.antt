@@ -8,6 +8,7 @@ use lib.Dec.{leb, ltb}
 use lib.ListN.{length}
 use lib.IntN.{ℤ}
 use borrow.Author.Tests.{leb-true, ltb-true, ltb-false, leb-false, not-false, eq-eqb, ne-eqb}
+use Rattle.lists.specs.Limits.{largestRing, largestRadius}
 use Rattle.lists.specs.Places.{Place}
 use Rattle.lists.specs.Refusals.{lowest}
 use Rattle.lists.specs.Internal.{Sized}
@@ -27,7 +28,7 @@ use Rattle.sure_peak.specs.declared.Sure.the-variants.{Yes, No, Refused}
 
 -- 3, of the parameters
 abbrev isBad : ℕ → ℕ → ℕ → Bool
-isBad ring window centroid = not (isRing ring) || (ltb 16 window || ltb 16 centroid)
+isBad ring window centroid = not (isRing ring) || (ltb largestRadius window || ltb largestRadius centroid)
 
 -- ---- the ladder
 module _ (lows highs w h ring window centroid : ℕ) (p : Place) (s : Sized lows w h) where
@@ -62,9 +63,9 @@ module _ (lows highs w h ring window centroid : ℕ) (p : Place) (s : Sized lows
 pub record Given (lows highs w h ring window centroid : ℕ) (p : Place) : Type 0 where
   pub low-cells : Sized lows w h
   pub high-cells : Sized highs w h
-  pub ring-small : ring ≤ 10
-  pub window-small : window ≤ 16
-  pub centroid-small : centroid ≤ 16
+  pub ring-small : ring ≤ largestRing
+  pub window-small : window ≤ largestRadius
+  pub centroid-small : centroid ≤ largestRadius
   pub column : p .x < w
   pub row : p .y < h
 
@@ -72,9 +73,10 @@ pub given : (lows highs w h ring window centroid : ℕ) (p : Place) → refusalO
     → Given lows highs w h ring window centroid p
 unfolding refusalOf
 given lows highs w h ring window centroid p e =
-    let c = all-clear (conditions lows highs w h ring window centroid p) (omega arith, (omega arith, (omega arith, (omega arith, (omega arith, tt))))) e in
-    let parameters = or-neither (not (isRing ring)) (ltb 16 window || ltb 16 centroid) (c .1 .1 .1 .0) in
-    let radii = or-neither (ltb 16 window) (ltb 16 centroid) (parameters .1) in
+    let c = all-clear (conditions lows highs w h ring window centroid p)
+    (omega arith, (omega arith, (omega arith, (omega arith, (omega arith, tt))))) e in
+    let parameters = or-neither (not (isRing ring)) (ltb largestRadius window || ltb largestRadius centroid) (c .1 .1 .1 .0) in
+    let radii = or-neither (ltb largestRadius window) (ltb largestRadius centroid) (parameters .1) in
     let place = or-neither (leb w (p .x)) (leb h (p .y)) (c .1 .1 .1 .1 .0) in
     record {
       low-cells = sized-of lows w h (c .0) (c .1 .0);

@@ -29,7 +29,8 @@ module _ {A : Type 0} (f : A → Bool) where
   some-counted [] n = absurd (n refl)
   some-counted (a ∷ l) n = pick (f a) n (some-counted l)
     where
-      pick : (b : Bool) → (length (cond b (a ∷ keep f l) (keep f l)) ≡ 0 → ⊥) → ((length (keep f l) ≡ 0 → ⊥) → any f l ≡ true) → (b || any f l) ≡ true
+      pick : (b : Bool) → (length (cond b (a ∷ keep f l) (keep f l)) ≡ 0 → ⊥) → ((length (keep f l) ≡ 0 → ⊥) → any f l ≡ true)
+          → (b || any f l) ≡ true
       pick true n r = refl
       pick false n r = r n
 
@@ -42,7 +43,8 @@ module _ (lows highs : List ℤ) (w h r threshold least : ℕ) (p : Place) (low 
   unfolding isPeak
   when-low a = sym (rw (← e, a))
 
-  module _ (above : ltZ (pos (5 * threshold)) low ≡ true) (n : ℕ) (larger : n ≡ count (λ q. ltZ low (fifthsIn highs w q)) (window w h r p)) where
+  module _ (above : ltZ (pos (5 * threshold)) low ≡ true) (n : ℕ)
+      (larger : n ≡ count (λ q. ltZ low (fifthsIn highs w q)) (window w h r p)) where
     pub when-beaten : (n ≡ 0 → ⊥) → false ≡ peak
     unfolding isPeak beaten
     when-beaten z =

@@ -8,6 +8,7 @@ use mathlib.Core.List.{List}
 use lib.ListN.{length}
 use lib.IntN.{ℤ, pos}
 use lib.Signed.{ltZ}
+use Rattle.lists.specs.Limits.{largestSide, largestMap, largestWindow}
 use Rattle.lists.specs.Places.{Place, count}
 use Rattle.lists.proofs.Places.{count-block-le}
 use Rattle.lists.proofs.Rows.{rowPart, CountRows, rows-next, rows-all}
@@ -31,17 +32,17 @@ module _ (m : List ℤ) (w h r : ℕ) (p : Place) (k : Windowed m w h r p) (v : 
         let down : yy < h = omega (arith, k .inside .bottom) in
         omega (arith, k .cells .sized, mul-comm w h, mul-le-mul-right w down, suc-mul yy w, k .inside .right)
 
-    pub row-small : yy * w ≤ 16777216
+    pub row-small : yy * w ≤ largestMap
     row-small =
-        let down : yy ≤ 4096 = omega (arith, k .inside .bottom, k .cells .low) in
-        let e : yy * w ≤ 4096 * 4096 = mul-le-mul down (k .cells .narrow) in
+        let down : yy ≤ largestSide = omega (arith, k .inside .bottom, k .cells .low) in
+        let e : yy * w ≤ largestMap = mul-le-mul down (k .cells .narrow) in
         omega arith
 
     module _ (n : ℕ) (a : Counted n yy) (t : ℕ) (found : t ≡ count (ltZ v) (rowPart m w yy (p .x - r) (p .x + r + 1))) where
       pub count-next : Counted (n + t) (yy + 1)
       count-next = rows-next (ltZ v) m w (pos 0) _ _ _ _ n yy a (omega arith) l row-in t found
 
-      pub count-fits : n + t ≤ 1089
+      pub count-fits : n + t ≤ largestWindow
       count-fits =
           omega (arith, count-next .sum, count-block-le test (p .x - r) (p .x + r + 1) (p .y - r) (p .y + r + 1) 33 33 wide high)
         where

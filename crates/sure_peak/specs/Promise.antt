@@ -6,6 +6,7 @@ use mathlib.Core.List.{List, [], _∷_}
 use lib.Dec.{ltb}
 use lib.ListN.{length}
 use lib.IntN.{ℤ}
+use Rattle.lists.specs.Limits.{largestRadius}
 use Rattle.lists.specs.Places.{Place}
 use Rattle.lists.specs.Refusals.{lowest, unless, valuesUnless, isLarge, isMisfit}
 use Rattle.ring.specs.Ring.{isRing}
@@ -14,14 +15,14 @@ use Rattle.sure_peak.specs.SurePeak.{isSure}
 use Rattle.sure_peak.specs.declared.Sure.{Sure}
 use Rattle.sure_peak.specs.declared.Sure.the-variants.{Yes, No, Refused}
 
--- of two maps of so many cells. 1: a side above 4096; 2: not w * h cells in either map; 3: a ring that is not 5 or 10, a window or a centroid
--- radius above 16; 14: a place outside
+-- for two maps with a given number of cells each. 1: a side above the largest; 2: not w * h cells in either map; 3: a
+-- ring that is not 5 or 10, a window or a centroid radius above the largest; 14: a place outside
 abbrev pub conditions : ℕ → ℕ → ℕ → ℕ → ℕ → ℕ → ℕ → Place → List (Bool × ℕ)
 conditions lows highs w h ring window centroid p =
     (isLarge w h, 1)
     ∷ (isMisfit lows w h, 2)
     ∷ (isMisfit highs w h, 2)
-    ∷ (not (isRing ring) || (ltb 16 window || ltb 16 centroid), 3)
+    ∷ (not (isRing ring) || (ltb largestRadius window || ltb largestRadius centroid), 3)
     ∷ (isOutside w h p, 14)
     ∷ []
 
@@ -40,7 +41,8 @@ valuesOf No = 0 ∷ []
 valuesOf (Refused n) = []
 
 -- the promise of `sure_peak`, for the place p of two maps of w by h
-pub record SureTold (lows highs : List ℤ) (w h ring threshold window least centroid : ℕ) (p : Place) (r : Sure) : Type 0 where
+pub record SureTold (lows highs : List ℤ) (w h ring threshold window least centroid : ℕ) (p : Place)
+    (r : Sure) : Type 0 where
   pub answer : r
       ≡ unless Refused (refusalOf (length lows) (length highs) w h ring window centroid p)
       (cond (isSure lows highs w h ring threshold window least centroid p) Yes No)

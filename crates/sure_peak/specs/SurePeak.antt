@@ -1,4 +1,4 @@
--- RULES 28.6: a sure peak of two maps, of a low and a high number of fifths for each cell.
+-- RULES 28.6: a sure peak of two maps, with a low and a high number of fifths for each cell.
 use Prim.Native.Nat.{ℕ, _+_, _*_}
 use mathlib.Core.Bool.{Bool, _&&_}
 use mathlib.Core.List.{List}
@@ -13,9 +13,10 @@ use Rattle.detect.specs.Peaks.{CellTests, isPeak}
 abbrev pub fifthsIn : List ℤ → ℕ → Place → ℤ
 fifthsIn m w p = getD m (p .y * w + p .x) (pos 0)
 
--- the reading of a map whose exact value at each place is known to lie from a low number of fifths up to a high one, by what is sure: a cell is above
--- the threshold if its low number is above five times that; it can be larger than another if its high number is above the other's low one; and it is
--- above 0 if its low number is. Where both numbers are the exact value, it is the reading by exact values (RULES 10.1)
+-- the reading, by what is sure, of a map whose exact value at each place is known to lie from a low number of fifths up
+-- to a high one: a cell is above the threshold if its low number is above five times that; it can be larger than
+-- another if its high number is above the other's low one; and it is above 0 if its low number is. If both numbers are
+-- the exact value, it is the reading by exact values (RULES 10.1)
 abbrev pub byLimits : (Place → ℤ) → (Place → ℤ) → ℕ → CellTests
 byLimits low high threshold = record {
   above = λ p. ltZ (pos (5 * threshold)) (low p);
@@ -27,7 +28,8 @@ byLimits low high threshold = record {
 abbrev pub insideBorder : ℕ → ℕ → ℕ → Place → Bool
 insideBorder w h border p = (leb border (p .x) && ltb (p .x + border) w) && (leb border (p .y) && ltb (p .y + border) h)
 
--- a sure peak is a peak (RULES 4.3) by that reading, inside the border that a ring, a window and a centroid radius make
+-- a sure peak is a peak (RULES 4.3) by that reading, inside the border given by a ring, a window and a centroid radius
 unfoldable pub isSure : List ℤ → List ℤ → ℕ → ℕ → ℕ → ℕ → ℕ → ℕ → ℕ → Place → Bool
 isSure lows highs w h ring threshold window least centroid p =
-    insideBorder w h (ring + window + centroid) p && isPeak (byLimits (fifthsIn lows w) (fifthsIn highs w) threshold) w h window least p
+    insideBorder w h (ring + window + centroid) p && isPeak
+    (byLimits (fifthsIn lows w) (fifthsIn highs w) threshold) w h window least p

@@ -1,5 +1,5 @@
-// Whether a place is a peak by exact values of every image between two, by the limits of the cells (RULES 28).
-mod window; // window.rt: the cells about a place
+// Whether a place is a peak by exact values in every image between two, by the limits of the cells (RULES 28).
+mod window; // window.rt: the cells around a place
 
 ghost use mathlib.Core.Path.{_≡_};
 ghost use mathlib.Core.Bool.{_&&_};
@@ -7,6 +7,7 @@ ghost use Prim.Native.Nat.{_*_, _+_, _≤_};
 ghost use lib.Dec.{leb, ltb};
 ghost use lib.IntN.{pos};
 ghost use lib.Signed.{ltZ};
+ghost use Rattle.lists.specs.Limits.{largestSide, largestBorder};
 ghost use Rattle.detect.specs.Peaks.{isPeak};
 ghost use Rattle.sure_peak.specs.Promise.{refusalOf, SureTold};
 ghost use Rattle.sure_peak.specs.Internal.{sure, Windowed};
@@ -19,7 +20,7 @@ pub enum Sure {
     Refused(u8),
 }
 
-// Why a call is refused, or 0: for maps of so many cells.
+// Why a call is refused, or 0: for maps of `lows` and `highs` cells.
 fn refusal(
     lows: usize,
     highs: usize,
@@ -64,7 +65,7 @@ fn exceeds(low: i32, threshold: u32) -> bool
 
 // Whether a place of a side is no nearer to its ends than the border.
 fn is_inside(side: usize, border: usize, at: usize) -> bool
-    requires { ⌜ (border ≤ 42) × (at ≤ 4096) ⌝ }
+    requires { ⌜ (border ≤ largestBorder) × (at ≤ largestSide) ⌝ }
     ensures { λ r. ⌜ r ≡ (leb border at && ltb (at + border) side) ⌝ }
 {
     if at < border {
@@ -73,7 +74,7 @@ fn is_inside(side: usize, border: usize, at: usize) -> bool
     at + border < side
 }
 
-// Whether the place (x, y) of two maps, whose window lies in them, is a peak by what is sure.
+// Whether the place (x, y) of two maps that contain its window is a peak by what is sure.
 fn is_sure(
     lows: &[i32],
     highs: &[i32],
@@ -85,8 +86,10 @@ fn is_sure(
     x: usize,
     y: usize,
 ) -> bool
-    requires { ⌜ Windowed (now lows) w h r (record { x = x; y = y }) × Windowed (now highs) w h r (record { x = x; y = y }) ⌝ }
-    ensures { λ b. ⌜ b ≡ isPeak (sure (now (lows .entry)) (now (highs .entry)) w threshold) w h r least (record { x = x; y = y }) ⌝ }
+    requires { ⌜ Windowed (now lows) w h r (record { x = x; y = y })
+        × Windowed (now highs) w h r (record { x = x; y = y }) ⌝ }
+    ensures { λ b. ⌜ b ≡ isPeak (sure (now (lows .entry)) (now (highs .entry)) w threshold) w h r least
+        (record { x = x; y = y }) ⌝ }
 {
     let low = lows[y * w + x];
     if !exceeds(low, threshold) {
@@ -98,9 +101,9 @@ fn is_sure(
     least <= count_window(lows, w, h, r, x, y, 0)
 }
 
-// Answers whether the place (x, y) is a sure peak of two maps of w by h, of a low and a high number of fifths for each cell: whether it lies
-// inside the border, its low number exceeds five times the threshold and is at least every high number in its window, and at least so many
-// cells of the window have a low number above 0.
+// Whether the place (x, y) is a sure peak of two maps of w by h, with a low and a high number of fifths for each cell:
+// it lies inside the border, its low number exceeds five times the threshold and is at least every high number in its
+// window, and at least `least` cells of the window have a low number above 0.
 pub fn sure_peak(
     lows: &[i32],
     highs: &[i32],
@@ -114,7 +117,8 @@ pub fn sure_peak(
     x: usize,
     y: usize,
 ) -> Sure
-    ensures { λ r. ⌜ SureTold (now (lows .entry)) (now (highs .entry)) w h ring threshold window least centroid (record { x = x; y = y }) r ⌝ }
+    ensures { λ r. ⌜ SureTold (now (lows .entry))
+        (now (highs .entry)) w h ring threshold window least centroid (record { x = x; y = y }) r ⌝ }
 {
     let no = refusal(lows.len(), highs.len(), w, h, ring, window, centroid, x, y);
     if no != 0 {

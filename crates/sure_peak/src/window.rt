@@ -24,7 +24,7 @@ fn count_above(cells: &[i32], v: i32) -> u32
     n
 }
 
-// How many cells of the window about (x, y) are above v. The centre is counted with them and taken off.
+// How many cells of the window around (x, y) are above v. The centre is counted with them and subtracted.
 pub(crate) fn count_window(
     map: &[i32],
     w: usize,
@@ -35,7 +35,8 @@ pub(crate) fn count_window(
     v: i32,
 ) -> u32
     requires { ⌜ Windowed (now map) w h r (record { x = x; y = y }) ⌝ }
-    ensures { λ n. ⌜ n ≡ count (λ q. ltZ v (fifthsIn (now (map .entry)) w q)) (window w h r (record { x = x; y = y })) ⌝ }
+    ensures { λ n. ⌜ n ≡ count (λ q. ltZ v (fifthsIn (now (map .entry)) w q))
+        (window w h r (record { x = x; y = y })) ⌝ }
 {
     let x0 = x - r;
     let x1 = x + r + 1;

@@ -49,6 +49,8 @@ pub alike-cell : (x : Float) (E : ℤ) → Usual x → Accurate x E → Alike (2
 alike-cell x (pos zero) u a = alike-none (2 ^ low binary32) x (λ h. let z = ltb→lt 0 0 (a .positive .0 h .lt) in omega arith)
 alike-cell x (pos (suc E)) u a =
     let is = lift-above x (is-true (lt zero32 x) (a .positive .1 (record { lt = lt→ltb 0 (suc E) (omega arith) }))) in
-    let v = of-HasValue x false (unitsOf x) (2 ^ low binary32) (subst (λ (z : Float). Units binary32 z (unitsOf z)) (sym is) (weighs x u .0)) in
-    rw (← is) (alike-of (2 ^ low binary32) (unitsOf x) E (within-frac x (unitsOf x) 0 (2 ^ low binary32) (1024 * suc E) (1024 * 0) 5120 5 v (a .near)))
+    let v = of-HasValue x false (unitsOf x) (2 ^ low binary32)
+    (subst (λ (z : Float). Units binary32 z (unitsOf z)) (sym is) (weighs x u .0)) in
+    rw (← is) (alike-of (2 ^ low binary32) (unitsOf x) E
+    (within-frac x (unitsOf x) 0 (2 ^ low binary32) (1024 * suc E) (1024 * 0) 5120 5 v (a .near)))
 alike-cell x (negsuc n) u a = alike-none (2 ^ low binary32) x (λ h. a .positive .0 h .lt)

@@ -1,5 +1,5 @@
--- One coordinate of the centre of mass of at most 25 cells: 1 / 80 is for the roundings of the two sums, 1 / 100 for the errors of the cells, and
--- 1 / 4096 for the rounding of their quotient. Assumes nothing.
+-- One coordinate of the centre of mass of at most 25 cells: 1 / 80 is for the roundings of the two sums, 1 / 100 for the errors of the
+-- cells, and 1 / 4096 for the rounding of their quotient. Assumes nothing.
 use Prim.Native.Nat.{ℕ, _+_, _*_, _^_, _≤_, _<_}
 use native.Mathlib.Nat.{zero-mul, mul-le-mul-right, mul-le-mul-left, le-of-mul-le-mul-right}
 use native.Mathlib.Omega.{arith}
@@ -50,7 +50,8 @@ both-close A W X Y P Q K s t =
 
 -- the quotient is below 2 ^ 13, where half a unit in the last place is 1 / 4096
 quotient-binade : (P Q : ℕ) → 0 < Q → P ≤ 4095 * Q → Binade binary32 (4096 * P) 0 (4096 * Q) (93 * Q) 13 Q
-quotient-binade P Q K h = record { under = omega arith; over = omega arith; half = omega arith; in-range = omega arith; normal = omega arith }
+quotient-binade P Q K h =
+    record { under = omega arith; over = omega arith; half = omega arith; in-range = omega arith; normal = omega arith }
 
 quotient-close : (A W P Q : ℕ) (x y : Float) → 0 < W → 0 < Q → P ≤ 4095 * Q → div binary32 x y ≡ round binary32 false A W
     → FracWithin A 0 W (4096 * P) 0 (4096 * Q) (93 * Q) → Within32nd (div binary32 x y) P Q

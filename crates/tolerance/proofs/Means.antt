@@ -1,5 +1,5 @@
--- Two means of the same places: where each weight of the one is that of the other to 5 parts in 1024, and the places lie among five in a row, the
--- means lie within 1 / 100 of one another. Whole numbers only. Assumes nothing.
+-- Two means of the same places: where each weight of the one is that of the other to 5 parts in 1024, and the places lie among five in a
+-- row, the means lie within 1 / 100 of one another. Whole numbers only. Assumes nothing.
 use Prim.Native.Nat.{ℕ, zero, suc, _+_, _-_, _*_, _≤_, _<_}
 use native.Mathlib.Nat.{mul-comm, mul-left-comm, mul-zero, add-mul, mul-add, mul-le-mul-right, mul-le-mul-left, eq-zero-or-pos}
 use native.Mathlib.Omega.{arith}
@@ -73,7 +73,8 @@ module _ {A : Type 0} (L : ℕ) (b e : A → ℕ) where
     spread Q D l = sumOf (λ a. dist (d a * Q) D * e a) l
 
     shares : (Q D : ℕ) (l : List A) → All (λ a. Alike L (b a) (e a)) l
-        → Apart (5120 * (Q * moment b l) + 1024 * (D * (L * sumOf e l))) (1024 * (Q * (L * moment e l)) + 5120 * (D * sumOf b l)) (5 * (L * spread Q D l))
+        → Apart (5120 * (Q * moment b l) + 1024 * (D * (L * sumOf e l))) (1024 * (Q * (L * moment e l)) + 5120 * (D * sumOf b l))
+        (5 * (L * spread Q D l))
     shares Q D [] h = (omega arith, omega arith)
     shares Q D (a ∷ l) h =
         let k = shares Q D l (h .1) in
@@ -94,7 +95,9 @@ module _ {A : Type 0} (L : ℕ) (b e : A → ℕ) where
 
 -- ---- the two means Z / Y and D / Q, from the shares of all places
 square : (a b : ℕ) → 2 * (a * b) ≤ a * a + b * b
-square a b = ⊎-elim (λ z. more a b (b - a) (omega arith)) (λ z. let k = more b a (a - b) (omega arith) in omega (arith, mul-comm a b)) (eq-zero-or-pos (a - b))
+square a b =
+    ⊎-elim (λ z. more a b (b - a) (omega arith)) (λ z. let k = more b a (a - b) (omega arith) in omega (arith, mul-comm a b))
+    (eq-zero-or-pos (a - b))
   where
     more : (a b s : ℕ) → b ≡ a + s → 2 * (a * b) ≤ a * a + b * b
     more a b s e = rw e (simp poly (omega arith))
@@ -134,11 +137,14 @@ module _ {A : Type 0} (co : A → ℕ) (s : ℕ) where
       let Q = sumOf e l in
       let Z = sumOf (λ a. (co a - s) * b a) l in
       let D = sumOf (λ a. (co a - s) * e a) l in
-      let narrow : D ≤ 4 * Q = sum-weighted (λ a. (co a - s) * e a) e 4 l (all-map (λ a. co a - s ≤ 4) _ (λ a h. mul-le-mul-right (e a) h) l four) in
-      let k = close L Z Y D Q (spread L b e d Q D l) (sums-alike L b e l alike) (shares L b e d Q D l alike) (deviations L b e d Q D l narrow four) in
+      let narrow : D ≤ 4 * Q = sum-weighted (λ a. (co a - s) * e a) e 4 l
+      (all-map (λ a. co a - s ≤ 4) _ (λ a h. mul-le-mul-right (e a) h) l four) in
+      let k = close L Z Y D Q (spread L b e d Q D l) (sums-alike L b e l alike) (shares L b e d Q D l alike)
+      (deviations L b e d Q D l narrow four) in
       rw (shifted b l row, shifted e l row) (moved Z Y D Q k)
     where
-      moved : (Z Y D Q : ℕ) → Apart (100 * (Z * Q)) (100 * (D * Y)) (Y * Q) → Apart (100 * ((s * Y + Z) * Q)) (100 * ((s * Q + D) * Y)) (Y * Q)
+      moved : (Z Y D Q : ℕ) → Apart (100 * (Z * Q)) (100 * (D * Y)) (Y * Q)
+          → Apart (100 * ((s * Y + Z) * Q)) (100 * ((s * Q + D) * Y)) (Y * Q)
       moved Z Y D Q k =
           let k0 = simp poly at (k .0) in
           let k1 = simp poly at (k .1) in

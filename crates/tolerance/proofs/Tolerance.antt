@@ -1,5 +1,5 @@
--- The theorems of `specs/Tolerance.antt`: the cells about a seed are at most 25, each alike with its exact value, so each coordinate of their centre
--- of mass is close (`mean-close`). Assumes nothing.
+-- The theorems of `specs/Tolerance.antt`: the cells about a seed are at most 25, each alike with its exact value, so each coordinate of
+-- their centre of mass is close (`mean-close`). Assumes nothing.
 use Prim.Native.Nat.{ℕ, _+_, _-_, _*_, _^_, _≤_, _<_}
 use native.Mathlib.Omega.{arith}
 use mathlib.Core.Path.{_≡_, refl}
@@ -75,14 +75,16 @@ module _ (v : View) (bytes : Bytes (v .img)) (r px py : ℕ) (R : r ≤ 2) (i : 
       }
 
 -- ---- an accepted outcome
-close-centre : (v : View) → Bytes (v .img) → (r : ℕ) (x y cx cy mass : Float) → r ≤ 2 → Weighing r x y (cells v) (mapWidth v) (mapHeight v) cx cy mass
+close-centre : (v : View) → Bytes (v .img) → (r : ℕ) (x y cx cy mass : Float) → r ≤ 2
+    → Weighing r x y (cells v) (mapWidth v) (mapHeight v) cx cy mass
     → Close (λ q. fifthsIn v (q .x) (q .y)) (summedCells r x y) cx cy
 close-centre v bytes r x y cx cy mass R g =
     rw (g .column-is, g .row-is, g .cx-is, g .cy-is) (close-window v bytes r (g .px) (g .py) R (g .inside) (g .above))
 
--- in the map of any box, about any seed. Its sides are at most 4,096: a larger map is refused as 1
+-- in the map of any box, about any seed. Its sides are at most the largest: another map is refused as 1
 pub centre-tolerance : (v : View) → Bytes (v .img) → (r : ℕ) (x y : Float) (hasMap : Bool) (cx cy mass : Float) → r ≤ 2
-    → refined r x y hasMap (cells v) (mapWidth v) (mapHeight v) ≡ Accepted cx cy mass → Close (λ q. fifthsIn v (q .x) (q .y)) (summedCells r x y) cx cy
+    → refined r x y hasMap (cells v) (mapWidth v) (mapHeight v) ≡ Accepted cx cy mass
+    → Close (λ q. fifthsIn v (q .x) (q .y)) (summedCells r x y) cx cy
 centre-tolerance v bytes r x y hasMap cx cy mass R e =
     close-centre v bytes r x y cx cy mass R (weighing r x y (cells v) (mapWidth v) (mapHeight v) cx cy mass hasMap e)
 
@@ -104,4 +106,5 @@ module _ (p : FrameParams) (v : View) (bytes : Bytes (v .img)) (R : p .«centroi
 pub frame-tolerance : (p : FrameParams) (img : List ℕ) (w h : ℕ) (choose : Choice) → SoundFrame p img w h → p .«centroid_radius» ≤ 2
     → All (CloseCorners p choose) (lookedAt p img w h choose)
 frame-tolerance p img w h choose s R =
-    all-map (Fine p) (CloseCorners p choose) (λ v f. close-corners p v (f .bytes) R choose) (lookedAt p img w h choose) (looked-fine p img w h choose s)
+    all-map (Fine p) (CloseCorners p choose) (λ v f. close-corners p v (f .bytes) R choose) (lookedAt p img w h choose)
+    (looked-fine p img w h choose s)

@@ -1,4 +1,4 @@
--- How far the centre of mass lies from the exact one, in a map made by the response: what it is to be close.
+-- How far the centre of mass lies from the exact one, in a map made by the response: what "close" means.
 use Prim.Native.Nat.{ℕ, _*_, _<_}
 use mathlib.Core.List.{List, [], map}
 use lib.IntN.{ℤ}
@@ -16,7 +16,8 @@ use Rattle.center_of_mass.specs.CenterOfMass.{cellsAbout}
 use Rattle.patch_corners.specs.declared.FrameParams.{FrameParams}
 use Rattle.patch_corners.specs.OneMap.{Choice, searchOn, localized}
 
--- ---- the cells that the centroid sums, the centre included (RULES 33.1): its window about the seed (x, y), which is rounded half away from zero
+-- ---- the cells that the centroid sums, the centre included (RULES 33.1): its window around the seed (x, y), which is
+-- rounded half away from zero
 abbrev pub windowAbout : ℕ → Rounded → Rounded → List Place
 windowAbout r (Natural cx) (Natural cy) = cellsAbout r cx cy
 windowAbout r (Natural cx) (Negative n) = []
@@ -27,34 +28,39 @@ windowAbout r Beyond c = []
 abbrev pub summedCells : ℕ → Float → Float → List Place
 summedCells r x y = windowAbout r (roundHalfAway x) (roundHalfAway y)
 
--- ---- the exact centroid of some cells (RULES 33.1), weighed by the exact fifths above 0: (exactX / exactMass, exactY / exactMass)
+-- ---- the exact centroid of some cells (RULES 33.1), weighted by the exact fifths above 0: (exactX / exactMass, exactY
+-- / exactMass)
 module _ (fifths : Place → ℤ) (ps : List Place) where
-  -- the weights' sum
+  -- the sum of the weights
   abbrev pub exactMass : ℕ
   exactMass = sumOf (λ p. plusPart (fifths p)) ps
 
-  -- with the columns, and with the rows
+  -- weighted by the columns, and by the rows
   abbrev pub exactX : ℕ
   exactX = sumOf (λ p. p .x * plusPart (fifths p)) ps
 
   abbrev pub exactY : ℕ
   exactY = sumOf (λ p. p .y * plusPart (fifths p)) ps
 
--- within 1/32 pixel (RULES 33.2), over whole numbers: |x - X / M| ≤ 1 / 32 is |32 M x - 32 X| ≤ M, and x is a fraction too, by
--- whose denominator `Within` multiplies
+-- within 1/32 pixel (RULES 33.2), in whole numbers: |x - X / M| ≤ 1 / 32 is |32 M x - 32 X| ≤ M. x is a fraction too,
+-- and `Within` multiplies by its denominator
 abbrev pub Within32nd : Float → ℕ → ℕ → Type 0
 Within32nd x X M = Within x (32 * X) 0 (32 * M) M
 
--- (cx, cy) is so near the exact centroid of some cells, and there is one
+-- (cx, cy) is that near to the exact centroid of some cells, and there is one
 pub record Close (fifths : Place → ℤ) (ps : List Place) (cx cy : Float) : Type 0 where
   pub some : 0 < exactMass fifths ps
   pub across : Within32nd cx (exactX fifths ps) (exactMass fifths ps)
   pub down : Within32nd cy (exactY fifths ps) (exactMass fifths ps)
 
--- ---- the corners of a map, by its own columns and rows: a peak starts as the corner s, which goes to its centre of mass c
+-- ---- the corners of a map, in its own columns and rows: a peak starts as the corner s, which moves to its centre of
+-- mass c
 abbrev pub CloseCorner : FrameParams → View → Corner → Corner → Type 0
-CloseCorner p v s c = Close (λ q. fifthsIn v (q .x) (q .y)) (summedCells (p .«centroid_radius») (s .x) (s .y)) (c .x) (c .y)
+CloseCorner p v s c =
+    Close (λ q. fifthsIn v (q .x) (q .y)) (summedCells (p .«centroid_radius») (s .x) (s .y)) (c .x) (c .y)
 
--- of each peak the corner that it becomes, where it is accepted: one behind the other these are `cornersIn`, not yet moved by a box's corner
+-- for each peak, the corner that it becomes if it is accepted: one after the other these are `cornersIn`, not yet moved
+-- by a box's corner
 abbrev pub CloseCorners : FrameParams → Choice → View → Type 0
-CloseCorners p choose v = All (λ (s : Corner). All (CloseCorner p v s) (localized p v s)) (map (startAt (cells v) (searchOn p v)) (choose v))
+CloseCorners p choose v =
+    All (λ (s : Corner). All (CloseCorner p v s) (localized p v s)) (map (startAt (cells v) (searchOn p v)) (choose v))

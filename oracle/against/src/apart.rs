@@ -9,7 +9,7 @@ use oracle::tally::Tally;
 use zakdomp::raw::zakdomp_merge_apart;
 
 /// The four slices, by the bits of their floats.
-fn slices(b: &CornerBuffer, bits: fn(f32) -> u32) -> [Vec<u32>; 4] {
+pub(crate) fn slices(b: &CornerBuffer, bits: fn(f32) -> u32) -> [Vec<u32>; 4] {
     let floats = |slice: &[f32]| slice.iter().map(|&v| bits(v)).collect();
     [floats(&b.x), floats(&b.y), floats(&b.strength), b.neighbours.clone()]
 }
@@ -38,7 +38,7 @@ fn ours(case: &Case, separate: &mut CornerBuffer, kept: &mut usize) -> Refusal {
 }
 
 /// A list that outgrows the smallest table of the index.
-fn long(rng: &mut Rng) -> Case {
+pub(crate) fn long(rng: &mut Rng) -> Case {
     let count = rng.from_to(400, 1600);
     let mut floats = |most: f64| (0..count).map(|_| (rng.unit() * most) as f32).collect();
     let (x, y, strength) = (floats(250.0), floats(250.0), floats(9.0));

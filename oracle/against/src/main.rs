@@ -1,8 +1,8 @@
 //! against N SEED [FOLDER]: as oracle_compare, with our corner finder linked in instead of a process for each stream.
 //! Besides: N frames of the library, in buffers of every size, each of which is compared afterwards; N by the exact
 //! choice, likewise, and some uploads; N maps that are asked for enough peaks; N pixels that are changed; N pairs of
-//! images, a low and a high value for each pixel; N lists of which corners are struck; N that are merged apart; and N
-//! that are merged by distance alone.
+//! images, a low and a high value for each pixel; N lists of which corners are struck; N that are merged apart; N that
+//! are merged with a table; and N that are merged by distance alone.
 mod apart;
 mod exact;
 mod frames;
@@ -10,6 +10,7 @@ mod limits;
 mod merging;
 mod retouching;
 mod striking;
+mod table;
 
 use oracle::compare::{cases, run, run_enough, run_library};
 use oracle::refusal::Refusal;
@@ -65,6 +66,9 @@ fn main() -> ExitCode {
         .and(exact::run(count, seed, folder));
     let maps =
         run_enough(count, seed, enough).and(retouching::run(count, seed)).and(limits::run(count, seed));
-    let lists = striking::run(count, seed).and(apart::run(count, seed)).and(merging::run(count, seed));
+    let lists = striking::run(count, seed)
+        .and(apart::run(count, seed))
+        .and(table::run(count, seed))
+        .and(merging::run(count, seed));
     frames.and(maps).and(lists).finish()
 }

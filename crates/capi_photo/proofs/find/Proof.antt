@@ -6,18 +6,6 @@ use Rattle.capi_photo.proofs.find.Statement.{statement}
 use Rattle.capi_photo.proofs.find.Tie as tie
 use Landmarks.*
 
-find-pgm-corners-by-requires : tie.Need-find-pgm-corners-by-requires
-find-pgm-corners-by-requires c κs = search needs
-
-count-of-requires : tie.Need-count-of-requires
-count-of-requires c κs = search needs
-
-ties-of-requires : tie.Need-ties-of-requires
-ties-of-requires c κs = search needs
-
-number-of-requires : tie.Need-number-of-requires
-number-of-requires c κs = search needs
-
 same-length : tie.Need-same-length
 same-length c = search needs
 
@@ -55,20 +43,6 @@ returns c =
 
 pub find-spec : {M : Type 1} → statement M
 find-spec =
-    tie.close
-    (tie.spec
-    find-pgm-corners-by-requires
-    count-of-requires
-    ties-of-requires
-    number-of-requires
-    same-length
-    same-length-2
-    same-length-3
-    same-length-4
-    same-length-5
-    same-length-6
-    same-length-7
-    same-length-8
-    same-length-9
-    same-length-10
-    returns)
+    tie.close (tie.spec
+    (λ c κs. search needs) (λ c κs. search needs) (λ c κs. search needs) (λ c κs. search needs) same-length same-length-2 same-length-3
+    same-length-4 same-length-5 same-length-6 same-length-7 same-length-8 same-length-9 same-length-10 returns)

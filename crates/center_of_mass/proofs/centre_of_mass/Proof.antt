@@ -12,28 +12,10 @@ use Rattle.center_of_mass.proofs.Outcomes.{no-column, no-row, with-mass
 use Rattle.center_of_mass.proofs.centre_of_mass.Statement.{statement}
 use Rattle.center_of_mass.proofs.centre_of_mass.Tie as tie
 
-centre-on-requires : tie.Need-centre-on-requires
-centre-on-requires c κs = search needs
-
-enum-known-across : tie.Need-enum-known-across
-enum-known-across c = search needs
-
-enum-told : tie.Need-enum-told
-enum-told c = search needs
-
 returns : tie.Need-returns
 returns c =
     let a = c .before .before .before .before .args in
     no-column (a .r) (a .x) (a .y) (a .map .now) (a .w) (a .h) (sym (c .before .before .centre-on .ensures) ∙ c .enum-told .given .1)
-
-centre-on-requires-2 : tie.Need-centre-on-requires-2
-centre-on-requires-2 c κs = search needs
-
-enum-known-down : tie.Need-enum-known-down
-enum-known-down c = search needs
-
-enum-told-2 : tie.Need-enum-told-2
-enum-told-2 c = search needs
 
 returns-2 : tie.Need-returns-2
 returns-2 c =
@@ -51,7 +33,9 @@ abbrev cy : tie.After-known-told2 → ℕ
 cy c = c .before .down .given .0 .0
 
 column-at : (c : tie.After-known-told2) → centreOn (entered c .args .r) (entered c .args .w) (entered c .args .x) ≡ At (cx c)
-column-at c = sym (c .before .before .before .before .before .before .before .centre-on .ensures) ∙ c .before .before .before .before .before .across .given .1
+column-at c =
+    sym (c .before .before .before .before .before .before .before .centre-on .ensures)
+    ∙ c .before .before .before .before .before .across .given .1
 
 row-at : (c : tie.After-known-told2) → centreOn (entered c .args .r) (entered c .args .h) (entered c .args .y) ≡ At (cy c)
 row-at c = sym (c .before .before .before .centre-on2 .ensures) ∙ c .before .down .given .1
@@ -84,8 +68,12 @@ window-sums-requires : tie.Need-window-sums-requires
 window-sums-requires c κs =
     let p = entered c .pre in
     let k = columns-in c in
-    let l = rows-in-map c in
-    (omega arith, p .1, omega arith, rows-in (cy c + entered c .args .r + 1) (entered c .args .w) (entered c .args .h) _ (omega arith) (p .3))
+    let l = rows-in-map c in (
+      omega arith,
+      p .1,
+      omega arith,
+      rows-in (cy c + entered c .args .r + 1) (entered c .args .w) (entered c .args .h) _ (omega arith) (p .3),
+    )
 
 returns-3 : tie.Need-returns-3
 unfolding ofBits
@@ -93,7 +81,8 @@ returns-3 c =
     let d = c .before .before .before .before .before in
     let a = entered d .args in
     with-mass (a .r) (a .x) (a .y) (a .map .now) (a .w) (a .h) (cx d) (cy d) (column-at d) (row-at d)
-    (c .before .before .before .before .window-sums .result) (c .before .before .before .before .window-sums .ensures) (c .before .before .if1 .taken)
+    (c .before .before .before .before .window-sums .result) (c .before .before .before .before .window-sums .ensures)
+    (c .before .before .if1 .taken)
 
 returns-4 : tie.Need-returns-4
 unfolding ofBits
@@ -105,22 +94,7 @@ returns-4 c =
 
 pub centre-of-mass-spec : {M : Type 1} → statement M
 centre-of-mass-spec =
-    tie.close
-    (tie.spec
-    centre-on-requires
-    enum-known-across
-    enum-told
-    returns
-    centre-on-requires-2
-    enum-known-down
-    enum-told-2
-    returns-2
-    sub-window-sums
-    add-window-sums
-    add-window-sums-2
-    sub-window-sums-2
-    add-window-sums-3
-    add-window-sums-4
-    window-sums-requires
-    returns-3
-    returns-4)
+    tie.close (tie.spec
+    (λ c κs. search needs) (λ c. search needs) (λ c. search needs) returns (λ c κs. search needs) (λ c. search needs)
+    (λ c. search needs) returns-2 sub-window-sums add-window-sums add-window-sums-2 sub-window-sums-2 add-window-sums-3
+    add-window-sums-4 window-sums-requires returns-3 returns-4)

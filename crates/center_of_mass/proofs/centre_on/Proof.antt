@@ -7,12 +7,6 @@ use borrow.Author.Needs.{needs}
 use Rattle.center_of_mass.proofs.centre_on.Statement.{statement}
 use Rattle.center_of_mass.proofs.centre_on.Tie as tie
 
-round-half-away-requires : tie.Need-round-half-away-requires
-round-half-away-requires c κs = search needs
-
-enum-known-nearest : tie.Need-enum-known-nearest
-enum-known-nearest c = search needs
-
 returns : tie.Need-returns
 unfolding centreOn
 returns c =
@@ -32,9 +26,6 @@ returns-3 c =
     too-high _ _ _ (b .if1 .left) (omega arith)
     ∙ ap (centreFrom _ _) (sym (b .before .before .nearest .given .1) ∙ b .before .before .before .before .round-half-away .ensures .answer)
 
-sub-if3 : tie.Need-sub-if3
-sub-if3 c = search needs
-
 returns-4 : tie.Need-returns-4
 unfolding centreOn
 returns-4 c =
@@ -51,13 +42,5 @@ returns-5 c =
 
 pub centre-on-spec : {M : Type 1} → statement M
 centre-on-spec =
-    tie.close
-    (tie.spec
-    round-half-away-requires
-    enum-known-nearest
-    returns
-    returns-2
-    returns-3
-    sub-if3
-    returns-4
-    returns-5)
+    tie.close (tie.spec
+    (λ c κs. search needs) (λ c. search needs) returns returns-2 returns-3 (λ c. search needs) returns-4 returns-5)

@@ -9,9 +9,6 @@ use Rattle.center_of_mass.proofs.Judgement.{MapFits, by-map, large, see
 use Rattle.center_of_mass.proofs.refusal.Statement.{statement}
 use Rattle.center_of_mass.proofs.refusal.Tie as tie
 
-refusal-requires : tie.Need-refusal-requires
-refusal-requires c κs = search needs
-
 returns : tie.Need-returns
 returns c = by-map _ _ _ _ _ _ _ (c .before .before .if1 .taken) _ (c .before .refusal .ensures) (c .if2 .taken)
 
@@ -23,12 +20,6 @@ map-passed c = ⊎-elim (λ m. inl (m .0 .taken, sized _ _ _ _ (m .1 .ensures) (
 
 returns-2 : tie.Need-returns-2
 returns-2 c = large _ _ _ _ _ _ _ (map-passed (c .before)) (c .if3 .taken)
-
-seed-fits-requires : tie.Need-seed-fits-requires
-seed-fits-requires c κs = search needs
-
-seed-fits-requires-2 : tie.Need-seed-fits-requires-2
-seed-fits-requires-2 c κs = search needs
 
 returns-3 : tie.Need-returns-3
 returns-3 c =
@@ -42,22 +33,16 @@ returns-4 c =
     let column = c .before .before in
     let small = column .before .before in
     seed-far _ _ _ _ _ _ _ (map-passed (small .before)) _ false (small .if3 .left)
-    (column .before .seed-fits .ensures) (sym (c .if5 .left) ∙ c .before .seed-fits2 .ensures) (and-none (column .before .seed-fits .result))
+    (column .before .seed-fits .ensures) (sym (c .if5 .left) ∙ c .before .seed-fits2 .ensures)
+    (and-none (column .before .seed-fits .result))
 
 returns-5 : tie.Need-returns-5
 returns-5 c =
     let small = c .before .before in
-    seed-far _ _ _ _ _ _ _ (map-passed (small .before)) false _ (small .if3 .left) (sym (c .if4 .left) ∙ c .before .seed-fits .ensures) refl refl
+    seed-far _ _ _ _ _ _ _ (map-passed (small .before)) false _ (small .if3 .left)
+    (sym (c .if4 .left) ∙ c .before .seed-fits .ensures) refl refl
 
 pub refusal-spec : {M : Type 1} → statement M
 refusal-spec =
-    tie.close
-    (tie.spec
-    refusal-requires
-    returns
-    returns-2
-    seed-fits-requires
-    seed-fits-requires-2
-    returns-3
-    returns-4
-    returns-5)
+    tie.close (tie.spec
+    (λ c κs. search needs) returns returns-2 (λ c κs. search needs) (λ c κs. search needs) returns-3 returns-4 returns-5)

@@ -5,6 +5,7 @@ use native.Mathlib.Omega.{arith}
 use lib.Dec.{le→leb}
 use lib.Ieee.{inFloat}
 use borrow.Author.Needs.{needs}
+use Rattle.lists.specs.Limits.{largestMap}
 use Rattle.lists.specs.Places.{row}
 use Rattle.center_of_mass.specs.CenterOfMass.{withCells}
 use Rattle.center_of_mass.proofs.Window.{one-cell, no-cell, row-small}
@@ -13,18 +14,17 @@ use Rattle.center_of_mass.proofs.row_sums.Tie as tie
 
 abbrev Inv-loop : tie.InvT-loop
 Inv-loop map w x0 x1 y sx₀ sy₀ sw₀ x₀ sx sy sw x =
-    withCells map w (record { sx = sx; sy = sy; sw = sw }) (row y x x1) ≡ withCells map w (record { sx = sx₀; sy = sy₀; sw = sw₀ }) (row y x0 x1)
+    withCells map w (record { sx = sx; sy = sy; sw = sw }) (row y x x1)
+    ≡ withCells map w (record { sx = sx₀; sy = sy₀; sw = sw₀ }) (row y x0 x1)
 
 abbrev μ-loop : tie.MeasureT-loop
 μ-loop map w x0 x1 y sx₀ sy₀ sw₀ x₀ sx sy sw x = x1 - x
 
-loop-holds : tie.Need-loop-holds Inv-loop μ-loop
-loop-holds c = refl
-
 -- the row begins within the map, so its cells have small numbers
-start-small : (c : tie.In-loop Inv-loop μ-loop) → c .before .before .before .args .y * c .before .before .before .args .w ≤ 16777216
+start-small : (c : tie.In-loop Inv-loop μ-loop) → c .before .before .before .args .y * c .before .before .before .args .w ≤ largestMap
 start-small c =
-    row-small (c .before .before .before .args .y) (c .before .before .before .args .w) (c .before .before .before .pre .2) (c .before .before .before .pre .1)
+    row-small (c .before .before .before .args .y) (c .before .before .before .args .w) (c .before .before .before .pre .2)
+    (c .before .before .before .pre .1)
 
 mul-lifted : tie.Need-mul-lifted Inv-loop μ-loop
 mul-lifted c = record { fits = omega (arith, start-small c) }
@@ -35,12 +35,6 @@ add-lifted c = record { fits = omega (arith, start-small c) }
 mul-lifted-2 : tie.Need-mul-lifted-2 Inv-loop μ-loop
 mul-lifted-2 c = record { fits = omega (arith, start-small c) }
 
-shared-slice-read-lifted : tie.Need-shared-slice-read-lifted Inv-loop μ-loop
-shared-slice-read-lifted c = search needs
-
-lifted-requires : tie.Need-lifted-requires Inv-loop μ-loop
-lifted-requires c κs = search needs
-
 int-to-float-sx : tie.Need-int-to-float-sx Inv-loop μ-loop
 unfolding inFloat
 int-to-float-sx c = le→leb (c .before .before .before .before .loop .x) (2 ^ 24) (omega arith)
@@ -48,12 +42,6 @@ int-to-float-sx c = le→leb (c .before .before .before .before .loop .x) (2 ^ 2
 int-to-float-sy : tie.Need-int-to-float-sy Inv-loop μ-loop
 unfolding inFloat
 int-to-float-sy c = le→leb (c .before .before .before .before .before .before .before .args .y) (2 ^ 24) (omega arith)
-
-add-x : tie.Need-add-x Inv-loop μ-loop
-add-x c = search needs
-
-loop-less : tie.Need-loop-less Inv-loop μ-loop
-loop-less c = search needs
 
 loop-again : tie.Need-loop-again Inv-loop μ-loop
 loop-again c =
@@ -71,19 +59,6 @@ returns c =
 
 pub row-sums-spec : {M : Type 1} → statement M
 row-sums-spec =
-    tie.close
-    (tie.spec
-    Inv-loop
-    μ-loop
-    loop-holds
-    mul-lifted
-    add-lifted
-    mul-lifted-2
-    shared-slice-read-lifted
-    lifted-requires
-    int-to-float-sx
-    int-to-float-sy
-    add-x
-    loop-less
-    loop-again
-    returns)
+    tie.close (tie.spec
+    Inv-loop μ-loop (λ c. refl) mul-lifted add-lifted mul-lifted-2 (λ c. search needs) (λ c κs. search needs) int-to-float-sx
+    int-to-float-sy (λ c. search needs) (λ c. search needs) loop-again returns)

@@ -22,20 +22,19 @@ loop-holds c = refl
 
 row-sums-requires : tie.Need-row-sums-requires Inv-loop μ-loop
 row-sums-requires c κs =
-    let a = c .before .before .before .args in
-    (omega arith, omega arith, omega arith, row-in (c .before .loop .y) (a .y1) (a .w) _ (c .loop-test .taken) (c .before .before .before .pre .3))
-
-add-y : tie.Need-add-y Inv-loop μ-loop
-add-y c = search needs
-
-loop-less : tie.Need-loop-less Inv-loop μ-loop
-loop-less c = search needs
+    let a = c .before .before .before .args in (
+      omega arith,
+      omega arith,
+      omega arith,
+      row-in (c .before .loop .y) (a .y1) (a .w) _ (c .loop-test .taken) (c .before .before .before .pre .3),
+    )
 
 loop-again : tie.Need-loop-again Inv-loop μ-loop
 loop-again c =
     let a = c .before .before .before .before .args in
     let l = c .before .before .loop in
-    one-row (a .map .now) (a .w) (a .x0) (a .x1) (l .y) (a .y1) (l .s) _ (l .inv) (c .row-sums .result) (c .before .loop-test .taken) (c .row-sums .ensures)
+    one-row (a .map .now) (a .w) (a .x0) (a .x1) (l .y) (a .y1) (l .s) _ (l .inv) (c .row-sums .result)
+    (c .before .loop-test .taken) (c .row-sums .ensures)
 
 returns : tie.Need-returns Inv-loop μ-loop
 returns c =
@@ -45,5 +44,5 @@ returns c =
 
 pub window-sums-spec : {M : Type 1} → statement M
 window-sums-spec =
-    tie.close
-    (tie.spec Inv-loop μ-loop loop-holds row-sums-requires add-y loop-less loop-again returns)
+    tie.close (tie.spec
+    Inv-loop μ-loop loop-holds row-sums-requires (λ c. search needs) (λ c. search needs) loop-again returns)

@@ -16,18 +16,6 @@ abbrev μ-loop : tie.MeasureT-loop
 loop-holds : tie.Need-loop-holds Inv-loop μ-loop
 loop-holds c = wiping-none _ _ _
 
-mul-d : tie.Need-mul-d Inv-loop μ-loop
-mul-d c = omega arith
-
-slice-write-d : tie.Need-slice-write-d Inv-loop μ-loop
-slice-write-d c = omega arith
-
-add-i : tie.Need-add-i Inv-loop μ-loop
-add-i c = omega arith
-
-loop-less : tie.Need-loop-less Inv-loop μ-loop
-loop-less c = omega arith
-
 loop-again : tie.Need-loop-again Inv-loop μ-loop
 unfolding ofBits
 loop-again c = wiping-set _ _ _ _ _ (c .before .loop .inv) (omega arith)
@@ -40,15 +28,6 @@ returns c = wiping-all _ _ _ _ _ (c .before .loop .inv) (omega arith)
 
 pub clear-spec : {M : Type 1} → statement M
 clear-spec =
-    tie.close
-    (tie.spec
-    Inv-loop
-    μ-loop
-    loop-holds
-    mul-d
-    slice-write-d
-    add-i
-    loop-less
-    loop-again
-    same-length
+    tie.close (tie.spec
+    Inv-loop μ-loop loop-holds (λ c. omega arith) (λ c. omega arith) (λ c. omega arith) (λ c. omega arith) loop-again same-length
     returns)

@@ -6,18 +6,6 @@ use Rattle.clearing.proofs.clear_list.Statement.{statement}
 use Rattle.clearing.proofs.clear_list.Tie as tie
 use Landmarks.*
 
-clear-requires : tie.Need-clear-requires
-clear-requires c κs = search needs
-
-clear-requires-2 : tie.Need-clear-requires-2
-clear-requires-2 c κs = search needs
-
-clear-requires-3 : tie.Need-clear-requires-3
-clear-requires-3 c κs = search needs
-
-clear-counts-requires : tie.Need-clear-counts-requires
-clear-counts-requires c κs = search needs
-
 same-length : tie.Need-same-length
 same-length c = search needs
 
@@ -40,14 +28,6 @@ returns c =
 
 pub clear-list-spec : {M : Type 1} → statement M
 clear-list-spec =
-    tie.close
-    (tie.spec
-    clear-requires
-    clear-requires-2
-    clear-requires-3
-    clear-counts-requires
-    same-length
-    same-length-2
-    same-length-3
-    same-length-4
-    returns)
+    tie.close (tie.spec
+    (λ c κs. search needs) (λ c κs. search needs) (λ c κs. search needs) (λ c κs. search needs) same-length same-length-2 same-length-3
+    same-length-4 returns)

@@ -6,33 +6,6 @@ use Rattle.corner_list.proofs.Corners.{with-corner-inside, with-corner-
 use Rattle.corner_list.proofs.put_corner.Statement.{statement}
 use Rattle.corner_list.proofs.put_corner.Tie as tie
 
-places-requires : tie.Need-places-requires
-places-requires c κs = search needs
-
-mul-xs : tie.Need-mul-xs
-mul-xs c = search needs
-
-slice-write-xs : tie.Need-slice-write-xs
-slice-write-xs c = search needs
-
-mul-ys : tie.Need-mul-ys
-mul-ys c = search needs
-
-slice-write-ys : tie.Need-slice-write-ys
-slice-write-ys c = search needs
-
-mul-strengths : tie.Need-mul-strengths
-mul-strengths c = search needs
-
-slice-write-strengths : tie.Need-slice-write-strengths
-slice-write-strengths c = search needs
-
-mul-neighbours : tie.Need-mul-neighbours
-mul-neighbours c = search needs
-
-slice-write-neighbours : tie.Need-slice-write-neighbours
-slice-write-neighbours c = search needs
-
 same-length : tie.Need-same-length
 same-length c = search needs
 
@@ -53,20 +26,6 @@ returns-2 c = sym (with-corner-outside _ _ _ (omega arith))
 
 pub put-corner-spec : {M : Type 1} → statement M
 put-corner-spec =
-    tie.close
-    (tie.spec
-    places-requires
-    mul-xs
-    slice-write-xs
-    mul-ys
-    slice-write-ys
-    mul-strengths
-    slice-write-strengths
-    mul-neighbours
-    slice-write-neighbours
-    same-length
-    same-length-2
-    same-length-3
-    same-length-4
-    returns
-    returns-2)
+    tie.close (tie.spec
+    (λ c κs. search needs) (λ c. search needs) (λ c. search needs) (λ c. search needs) (λ c. search needs) (λ c. search needs)
+    (λ c. search needs) (λ c. search needs) (λ c. search needs) same-length same-length-2 same-length-3 same-length-4 returns returns-2)

@@ -20,16 +20,11 @@ module _ (text buffer : List ℕ) (end : ℕ) (after : List ℕ) (w : Written te
   text-is : take end after ≡ text
   text-is = ap (take end) (w .holds) ∙ front-take text buffer end (w .ends)
 
-count-requires : tie.Need-count-requires
-count-requires c κs = search needs
-
 slice-aggregate-find : tie.Need-slice-aggregate-find
 slice-aggregate-find c =
     let start = c .before .before .before in
-    sym (length-take-le (c .before .count .result) (start .args .stream .now) (omega (arith, c .before .count .ensures, start .pre .0 .fits)))
-
-find-requires : tie.Need-find-requires
-find-requires c κs = search needs
+    sym (length-take-le (c .before .count .result) (start .args .stream .now)
+    (omega (arith, c .before .count .ensures, start .pre .0 .fits)))
 
 array-share-prefix-text : tie.Need-array-share-prefix-text
 array-share-prefix-text c = text-fits _ _ _ _ (c .find .ensures)
@@ -44,20 +39,12 @@ write-listing-requires c κs =
     record {
       read = start .pre .0;
       sound = start .pre .1;
-      whole = text-is _ _ _ _ (c .before .find .ensures) ∙ ap (λ (n : ℕ). outputOf (take n (start .args .stream .now))) (count .count .ensures);
+      whole = text-is _ _ _ _ (c .before .find .ensures)
+          ∙ ap (λ (n : ℕ). outputOf (take n (start .args .stream .now))) (count .count .ensures);
     }
-
-returns : tie.Need-returns
-returns c = search needs
 
 pub print-listing-spec : {M : Type 1} → statement M
 print-listing-spec =
-    tie.close
-    (tie.spec
-    count-requires
-    slice-aggregate-find
-    find-requires
-    array-share-prefix-text
-    slice-aggregate-write-listing
-    write-listing-requires
-    returns)
+    tie.close (tie.spec
+    (λ c κs. search needs) slice-aggregate-find (λ c κs. search needs) array-share-prefix-text slice-aggregate-write-listing
+    write-listing-requires (λ c. search needs))

@@ -1,5 +1,5 @@
--- `corners::read_stream` meets its contract. The invariant: the bytes that came lie in the buffer. The measure is what is left of it. Assumes the
--- contract of `read`.
+-- `corners::read_stream` meets its contract. The invariant: the bytes that came lie in the buffer. The measure is what is left of it.
+-- Assumes the contract of `read`.
 use Prim.Native.Nat.{ℕ, _+_, _-_, _<_, _≤_}
 use native.Mathlib.Omega.{arith}
 use mathlib.Core.Path.{_≡_, sym, ap, _∙_, subst}
@@ -13,12 +13,13 @@ use Rattle.input.specs.Reading.{Read}
 use Rattle.input.proofs.Turn.{Brought, decided, brought, most, more-came, none-came}
 use Rattle.stream.specs.Wanted.{wanted}
 use Rattle.stream.proofs.Decided.{frame-wants}
+use Rattle.stream.specs.Stream.{longestStream}
 use Rattle.corners.proofs.read_stream.Statement.{statement}
 use Rattle.corners.proofs.read_stream.Tie as tie
 
 record Came (s : List ℕ) (i : Input) : Type 0 where
-  long : length s ≡ 9527
-  few : i .count ≤ 9527
+  long : length s ≡ longestStream
+  few : i .count ≤ longestStream
   some : Brought (i .answer)
 
 -- ---- one turn, with so many bytes in the buffer and `more` wanted
@@ -56,14 +57,14 @@ module _ (s : List ℕ) (i : Input) (came : Came s i) (n : ℕ) (counts : n ≡ 
           some = brought i more s j after read fits grown;
         }
 
-        less : 9527 - j .count < 9527 - i .count
+        less : longestStream - j .count < longestStream - i .count
         less = omega (arith, more-came i more s j after read fits grown, goes-on .few)
 
 abbrev Inv-loop : tie.InvT-loop
 Inv-loop stream₀ input₀ stream input = Came stream input
 
 abbrev μ-loop : tie.MeasureT-loop
-μ-loop stream₀ input₀ stream input = 9527 - input .count
+μ-loop stream₀ input₀ stream input = longestStream - input .count
 
 -- from one place of the code back to another
 abbrev at-loop : tie.After-wanted Inv-loop μ-loop → tie.At-loop Inv-loop μ-loop
@@ -92,15 +93,9 @@ goes :
     (c .before .before .before .read-on .last .1 .1 .0)
 goes c = c .before .before .before .read-on .ensures
 
-begin-requires : tie.Need-begin-requires Inv-loop μ-loop
-begin-requires c κs = search needs
-
 loop-holds : tie.Need-loop-holds Inv-loop μ-loop
 loop-holds c = subst (λ (i : Input). Came (c .before .before .args .stream .now) i) (sym (c .begin .ensures))
     (record { long = c .before .before .pre; few = omega arith; some = tt })
-
-count-requires : tie.Need-count-requires Inv-loop μ-loop
-count-requires c κs = search needs
 
 slice-reshare-prefix-wanted : tie.Need-slice-reshare-prefix-wanted Inv-loop μ-loop
 slice-reshare-prefix-wanted c = omega (arith, c .count .ensures, c .before .loop .inv .long, c .before .loop .inv .few)
@@ -108,20 +103,11 @@ slice-reshare-prefix-wanted c = omega (arith, c .count .ensures, c .before .loop
 slice-aggregate-wanted : tie.Need-slice-aggregate-wanted Inv-loop μ-loop
 slice-aggregate-wanted c = sym (length-take-le _ _ (slice-reshare-prefix-wanted (c .before)))
 
-wanted-requires : tie.Need-wanted-requires Inv-loop μ-loop
-wanted-requires c κs = search needs
-
 same-length : tie.Need-same-length Inv-loop μ-loop
 same-length c = at-loop (c .before) .loop .inv .long ∙ sym (start (c .before) .pre)
 
 returns : tie.Need-returns Inv-loop μ-loop
 returns c = all-came _ _ (at-loop (c .before) .loop .inv) _ (counted (c .before)) _ (c .before .wanted .ensures) (c .if1 .taken)
-
-read-on-requires : tie.Need-read-on-requires Inv-loop μ-loop
-read-on-requires c κs = search needs
-
-count-requires-2 : tie.Need-count-requires-2 Inv-loop μ-loop
-count-requires-2 c κs = search needs
 
 same-length-2 : tie.Need-same-length-2 Inv-loop μ-loop
 same-length-2 c = goes (c .before) .long ∙ at-loop (at-wanted (c .before)) .loop .inv .long ∙ sym (start (at-wanted (c .before)) .pre)
@@ -129,7 +115,8 @@ same-length-2 c = goes (c .before) .long ∙ at-loop (at-wanted (c .before)) .lo
 returns-2 : tie.Need-returns-2 Inv-loop μ-loop
 returns-2 c =
     let w = at-wanted (c .before) in
-    ended _ _ (at-loop w .loop .inv) _ (counted w) _ (w .wanted .ensures) (at-else (c .before) .if1 .left) _ _ (goes (c .before)) _ (c .before .count2 .ensures)
+    ended _ _ (at-loop w .loop .inv) _ (counted w) _ (w .wanted .ensures) (at-else (c .before) .if1 .left) _ _
+    (goes (c .before)) _ (c .before .count2 .ensures)
     (c .if2 .taken)
 
 -- the invariant after a turn
@@ -150,21 +137,7 @@ loop-again c = again c
 
 pub read-stream-spec : {M : Type 1} → statement M
 read-stream-spec =
-    tie.close
-    (tie.spec
-    Inv-loop
-    μ-loop
-    begin-requires
-    loop-holds
-    count-requires
-    slice-reshare-prefix-wanted
-    slice-aggregate-wanted
-    wanted-requires
-    same-length
-    returns
-    read-on-requires
-    count-requires-2
-    same-length-2
-    returns-2
-    loop-less
+    tie.close (tie.spec
+    Inv-loop μ-loop (λ c κs. search needs) loop-holds (λ c κs. search needs) slice-reshare-prefix-wanted slice-aggregate-wanted
+    (λ c κs. search needs) same-length returns (λ c κs. search needs) (λ c κs. search needs) same-length-2 returns-2 loop-less
     loop-again)

@@ -15,8 +15,8 @@ use Rattle.detect.proofs.Answers.{Clear, clear, searchable, found-refus
 use Rattle.detect.proofs.find_peaks.Statement.{statement}
 use Rattle.detect.proofs.find_peaks.Tie as tie
 
--- ---- places of the code: the function's start, from where no condition held; the parameters of the search, from where the peaks are added; and
--- that, from the return
+-- ---- places of the code: the function's start, from where no condition held; the parameters of the search, from where the peaks are
+-- added; and that, from the return
 abbrev start : tie.Else1 → tie.Start
 start c = c .before .before .before .before .before .before .before
 
@@ -34,7 +34,8 @@ abbrev map-of : tie.Else1 → List Float
 map-of c = start c .args .map .now
 
 abbrev search-of : tie.Else1 → Search
-search-of c = let a = start c .args in searchBy (a .exact) (a .w) (a .h) (a .ring) (a .threshold) (a .window) (a .least-neighbours) (a .refine-radius)
+search-of c = let a = start c .args in
+    searchBy (a .exact) (a .w) (a .h) (a .ring) (a .threshold) (a .window) (a .least-neighbours) (a .refine-radius)
 
 abbrev buffer-of : tie.Else1 → Slices
 buffer-of c = let a = start c .args in slices (a .xs .now) (a .ys .now) (a .strengths .now) (a .neighbours .now)
@@ -49,21 +50,17 @@ can-search c = rw (c .search-of .ensures) (searchable _ _ _ _ _ _ _ _ _ (fine (c
 -- what is added is what the function promises
 adds : (c : tie.After-search-of) (answer : Peaks) (b′ : Slices)
     → let k = c .before in
-    PeaksAdded [] (startsIn (map-of k) (c .search-of .result)) (tiesIn (map-of k) (c .search-of .result)) (start k .args .held) (buffer-of k) answer b′
-    → PeaksAdded (conditions-of k) (startsIn (map-of k) (search-of k)) (tiesIn (map-of k) (search-of k)) (start k .args .held) (buffer-of k) answer b′
+    PeaksAdded [] (startsIn (map-of k) (c .search-of .result)) (tiesIn (map-of k) (c .search-of .result)) (start k .args .held)
+    (buffer-of k) answer b′
+    → PeaksAdded (conditions-of k) (startsIn (map-of k) (search-of k)) (tiesIn (map-of k) (search-of k)) (start k .args .held)
+    (buffer-of k) answer b′
 adds c =
     let k = c .before in
     found-clear (map-of k) (c .search-of .result) (search-of k) (c .search-of .ensures) (conditions-of k) (fine k)
     (start k .args .held) (buffer-of k)
 
-refusal-requires : tie.Need-refusal-requires
-refusal-requires c κs = search needs
-
 returns : tie.Need-returns
 returns c = found-refused _ _ _ _ _ _ (c .before .refusal .ensures) (c .if1 .taken)
-
-search-of-requires : tie.Need-search-of-requires
-search-of-requires c κs = search needs
 
 add-by-table-requires : tie.Need-add-by-table-requires
 add-by-table-requires c κs = can-search (searched c)
@@ -85,14 +82,6 @@ returns-2 c = let add = added c in adds (searched (add .before)) (add .add-by-ta
 
 pub find-peaks-spec : {M : Type 1} → statement M
 find-peaks-spec =
-    tie.close
-    (tie.spec
-    refusal-requires
-    returns
-    search-of-requires
-    add-by-table-requires
-    same-length
-    same-length-2
-    same-length-3
-    same-length-4
+    tie.close (tie.spec
+    (λ c κs. search needs) returns (λ c κs. search needs) add-by-table-requires same-length same-length-2 same-length-3 same-length-4
     returns-2)

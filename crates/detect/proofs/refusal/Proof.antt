@@ -16,17 +16,11 @@ use Rattle.detect.proofs.refusal.Tie as tie
 abbrev parameters : ℕ → ℕ → ℕ → ℕ
 parameters ring window radius = cond (not (isRing ring) || (ltb 16 window || ltb 16 radius)) 3 0
 
-refusal-requires : tie.Need-refusal-requires
-refusal-requires c κs = search needs
-
 returns : tie.Need-returns
 unfolding conditions
 returns c =
     let a = c .before .before .args in
     refused (a .size) (a .w) (a .h) _ (parameters (a .ring) (a .window) (a .refine-radius)) (c .before .refusal .ensures) (c .if1 .taken)
-
-is-ring-requires : tie.Need-is-ring-requires
-is-ring-requires c κs = search needs
 
 -- ---- places of the code: the test of the image and the function's start, from the test of the ring, and that, from the last radius
 abbrev image : tie.After-is-ring → tie.Else1
@@ -67,13 +61,4 @@ returns-5 : tie.Need-returns-5
 returns-5 c = simp (rest (c .before), c .if2 .left)
 
 pub refusal-spec : {M : Type 1} → statement M
-refusal-spec =
-    tie.close
-    (tie.spec
-    refusal-requires
-    returns
-    is-ring-requires
-    returns-2
-    returns-3
-    returns-4
-    returns-5)
+refusal-spec = tie.close (tie.spec (λ c κs. search needs) returns (λ c κs. search needs) returns-2 returns-3 returns-4 returns-5)

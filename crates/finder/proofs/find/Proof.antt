@@ -6,41 +6,28 @@ use mathlib.Core.Path.{sym}
 use lib.ListN.{length-replicate}
 use lib.Seq.{length-take-le}
 use borrow.Author.Needs.{needs}
+use Rattle.stream.specs.Stream.{mostPixels}
 use Rattle.finder.proofs.Texts.{found-frame, pixels-long, frame-listed, refusal-listed}
 use Rattle.finder.proofs.find.Statement.{statement}
 use Rattle.finder.proofs.find.Tie as tie
 use Landmarks.*
 
-read-frame-requires : tie.Need-read-frame-requires
-read-frame-requires c κs = search needs
-
-enum-known-read : tie.Need-enum-known-read
-enum-known-read c = search needs
-
 mul-pixels : tie.Need-mul-pixels
-mul-pixels c = omega (arith, found-frame _ _ _ _ (read-frame-from-mul-pixels c .read-frame .ensures) _ (c .before .before .read .given .1) .fits)
+mul-pixels c =
+    omega (arith, found-frame _ _ _ _ (read-frame-from-mul-pixels c .read-frame .ensures) _ (c .before .before .read .given .1) .fits)
 
 array-share-prefix-pixels : tie.Need-array-share-prefix-pixels
 array-share-prefix-pixels c =
     let told = read-frame-from-array-share-prefix-pixels c .read-frame .ensures in
     let read = c .before .before .read .given .1 in
-    omega (arith, found-frame _ _ _ _ told _ read .fits, pixels-long _ _ _ _ told _ read (length-replicate {A = ℕ} 9216 0))
+    omega (arith, found-frame _ _ _ _ told _ read .fits, pixels-long _ _ _ _ told _ read (length-replicate {A = ℕ} mostPixels 0))
 
 slice-aggregate-list-frame : tie.Need-slice-aggregate-list-frame
 slice-aggregate-list-frame c =
     let told = read-frame-from-slice-aggregate-list-frame c .read-frame .ensures in
     let read = read-from-slice-aggregate-list-frame c .read .given .1 in
-    let long = pixels-long _ _ _ _ told _ read (length-replicate {A = ℕ} 9216 0) in
+    let long = pixels-long _ _ _ _ told _ read (length-replicate {A = ℕ} mostPixels 0) in
     sym (length-take-le _ _ (omega (arith, found-frame _ _ _ _ told _ read .fits, long)))
-
-list-frame-requires : tie.Need-list-frame-requires
-list-frame-requires c κs = search needs
-
-enum-known-read-2 : tie.Need-enum-known-read-2
-enum-known-read-2 c = search needs
-
-write-refusal-requires : tie.Need-write-refusal-requires
-write-refusal-requires c κs = search needs
 
 returns : tie.Need-returns
 returns c =
@@ -54,15 +41,6 @@ returns-2 c =
 
 pub find-spec : {M : Type 1} → statement M
 find-spec =
-    tie.close
-    (tie.spec
-    read-frame-requires
-    enum-known-read
-    mul-pixels
-    array-share-prefix-pixels
-    slice-aggregate-list-frame
-    list-frame-requires
-    enum-known-read-2
-    write-refusal-requires
-    returns
-    returns-2)
+    tie.close (tie.spec
+    (λ c κs. search needs) (λ c. search needs) mul-pixels array-share-prefix-pixels slice-aggregate-list-frame (λ c κs. search needs)
+    (λ c. search needs) (λ c κs. search needs) returns returns-2)

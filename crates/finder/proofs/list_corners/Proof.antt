@@ -4,21 +4,13 @@ use Rattle.finder.proofs.Texts.{list-text, list-written}
 use Rattle.finder.proofs.list_corners.Statement.{statement}
 use Rattle.finder.proofs.list_corners.Tie as tie
 
-write-corners-requires : tie.Need-write-corners-requires
-write-corners-requires c κs = search needs
-
-enum-known-listed : tie.Need-enum-known-listed
-enum-known-listed c = search needs
-
-enum-told : tie.Need-enum-told
-enum-told c = search needs
-
 returns : tie.Need-returns
-returns c = absurd (list-written _ _ _ _ _ (c .before .before .write-corners .ensures) (c .before .before .before .before .pre) _ (c .enum-told .given .1))
+returns c =
+    absurd (list-written _ _ _ _ _ (c .before .before .write-corners .ensures) (c .before .before .before .before .pre) _
+    (c .enum-told .given .1))
 
 returns-2 : tie.Need-returns-2
 returns-2 c = list-text _ _ _ _ _ (c .before .before .before .write-corners .ensures) _ (c .before .listed .given .1)
 
 pub list-corners-spec : {M : Type 1} → statement M
-list-corners-spec =
-    tie.close (tie.spec write-corners-requires enum-known-listed enum-told returns returns-2)
+list-corners-spec = tie.close (tie.spec (λ c κs. search needs) (λ c. search needs) (λ c. search needs) returns returns-2)

@@ -8,45 +8,6 @@ use Rattle.finder.proofs.list_frame.Statement.{statement}
 use Rattle.finder.proofs.list_frame.Tie as tie
 use Landmarks.*
 
-params-of-requires : tie.Need-params-of-requires
-params-of-requires c κs = search needs
-
-slice-aggregate-find-corners : tie.Need-slice-aggregate-find-corners
-slice-aggregate-find-corners c = search needs
-
-slice-aggregate-find-corners-2 : tie.Need-slice-aggregate-find-corners-2
-slice-aggregate-find-corners-2 c = search needs
-
-slice-aggregate-find-corners-3 : tie.Need-slice-aggregate-find-corners-3
-slice-aggregate-find-corners-3 c = search needs
-
-slice-aggregate-find-corners-4 : tie.Need-slice-aggregate-find-corners-4
-slice-aggregate-find-corners-4 c = search needs
-
-slice-aggregate-find-corners-5 : tie.Need-slice-aggregate-find-corners-5
-slice-aggregate-find-corners-5 c = search needs
-
-slice-aggregate-find-corners-6 : tie.Need-slice-aggregate-find-corners-6
-slice-aggregate-find-corners-6 c = search needs
-
-slice-aggregate-find-corners-7 : tie.Need-slice-aggregate-find-corners-7
-slice-aggregate-find-corners-7 c = search needs
-
-slice-aggregate-find-corners-8 : tie.Need-slice-aggregate-find-corners-8
-slice-aggregate-find-corners-8 c = search needs
-
-slice-aggregate-find-corners-9 : tie.Need-slice-aggregate-find-corners-9
-slice-aggregate-find-corners-9 c = search needs
-
-slice-aggregate-find-corners-10 : tie.Need-slice-aggregate-find-corners-10
-slice-aggregate-find-corners-10 c = search needs
-
-find-corners-requires : tie.Need-find-corners-requires
-find-corners-requires c κs = search needs
-
-enum-known-answer : tie.Need-enum-known-answer
-enum-known-answer c = search needs
-
 list-corners-requires : tie.Need-list-corners-requires
 unfolding ofBits
 list-corners-requires c κs =
@@ -54,12 +15,6 @@ list-corners-requires c κs =
     let found = find-corners-from-list-corners-requires c .find-corners .ensures in
     let answer = answer-from-list-corners-requires c .answer .given .1 in
     omega (arith, corners-few (start-from-list-corners-requires c .args .header) _ _ params _ _ found _ _ answer)
-
-enum-known-answer-2 : tie.Need-enum-known-answer-2
-enum-known-answer-2 c = search needs
-
-write-refusal-requires : tie.Need-write-refusal-requires
-write-refusal-requires c κs = search needs
 
 returns : tie.Need-returns
 unfolding ofBits
@@ -77,23 +32,7 @@ returns-2 c =
 
 pub list-frame-spec : {M : Type 1} → statement M
 list-frame-spec =
-    tie.close
-    (tie.spec
-    params-of-requires
-    slice-aggregate-find-corners
-    slice-aggregate-find-corners-2
-    slice-aggregate-find-corners-3
-    slice-aggregate-find-corners-4
-    slice-aggregate-find-corners-5
-    slice-aggregate-find-corners-6
-    slice-aggregate-find-corners-7
-    slice-aggregate-find-corners-8
-    slice-aggregate-find-corners-9
-    slice-aggregate-find-corners-10
-    find-corners-requires
-    enum-known-answer
-    list-corners-requires
-    enum-known-answer-2
-    write-refusal-requires
-    returns
-    returns-2)
+    tie.close (tie.spec
+    (λ c κs. search needs) (λ c. search needs) (λ c. search needs) (λ c. search needs) (λ c. search needs) (λ c. search needs)
+    (λ c. search needs) (λ c. search needs) (λ c. search needs) (λ c. search needs) (λ c. search needs) (λ c κs. search needs)
+    (λ c. search needs) list-corners-requires (λ c. search needs) (λ c κs. search needs) returns returns-2)

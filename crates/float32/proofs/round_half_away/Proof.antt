@@ -11,12 +11,6 @@ use Rattle.float32.proofs.HalfAway.{rounds, beyond, signed-negative, ro
 use Rattle.float32.proofs.round_half_away.Statement.{statement}
 use Rattle.float32.proofs.round_half_away.Tie as tie
 
-abs-requires : tie.Need-abs-requires
-abs-requires c κs = search needs
-
-cut-off-requires : tie.Need-cut-off-requires
-cut-off-requires c κs = search needs
-
 -- after the call of `cut_off`: its result is small, and half of one more is the answer
 abbrev halved : (c : tie.After-cut-off)
     → (c .cut-off .result < 2 ^ 26) × (signed (lt (c .before .before .before .args .x) (fin false 0 (pos 0))) ((c .cut-off .result + 1) / 2)
@@ -46,5 +40,4 @@ unfolding ofBits
 returns-4 c = rounded _ _ (beyond (c .before .before .args .x) (c .before .abs .result) (c .before .abs .ensures) (c .if1 .left))
 
 pub round-half-away-spec : {M : Type 1} → statement M
-round-half-away-spec =
-    tie.close (tie.spec abs-requires cut-off-requires add-n returns returns-2 returns-3 returns-4)
+round-half-away-spec = tie.close (tie.spec (λ c κs. search needs) (λ c κs. search needs) add-n returns returns-2 returns-3 returns-4)

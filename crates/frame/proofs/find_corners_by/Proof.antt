@@ -14,9 +14,6 @@ use Rattle.frame.proofs.find_corners_by.Statement.{statement}
 use Rattle.frame.proofs.find_corners_by.Tie as tie
 use Landmarks.*
 
-refusal-requires : tie.Need-refusal-requires
-refusal-requires c κs = search needs
-
 returns : tie.Need-returns
 returns c = found-refused _ _ _ _ _ _ _ (c .before .refusal .ensures) (c .if1 .taken)
 
@@ -35,9 +32,6 @@ add-seeds-requires c κs =
     (λ i. shared-slice-known-from-add-seeds-requires c .shared-slice-known .given i .fits) in
     (record { sound = sound; enough = taken .enough }, record { before = _; complete = build-from-add-seeds-requires c .build .ensures })
 
-added-requires : tie.Need-added-requires
-added-requires c κs = search needs
-
 add-found-requires : tie.Need-add-found-requires
 add-found-requires c κs =
     let a = start-from-add-found-requires c .args in
@@ -50,7 +44,8 @@ add-found-requires c κs =
     let kept = seeds .kept .1 .1 .1 .1 .1 .1 .1 in (
       ready-kept _ _ _ _ _ _ ready (search kept),
       (
-        levels-most (a .p) (a .img .now) (a .w) (a .h) _ _ (record { before = _; complete = build-from-add-found-requires c .build .ensures }),
+        levels-most (a .p) (a .img .now) (a .w) (a .h) _ _
+            (record { before = _; complete = build-from-add-found-requires c .build .ensures }),
         omega (
           arith,
           seeds-few (a .p) (a .exact) (a .img .now) (a .w) (a .h) _ ready _ _ _ _ (seeds .ensures),
@@ -58,18 +53,6 @@ add-found-requires c κs =
         ),
       ),
     )
-
-lists-of-requires : tie.Need-lists-of-requires
-lists-of-requires c κs = search needs
-
-clear-requires : tie.Need-clear-requires
-clear-requires c κs = search needs
-
-clear-levels-requires : tie.Need-clear-levels-requires
-clear-levels-requires c κs = search needs
-
-clear-list-requires : tie.Need-clear-list-requires
-clear-list-requires c κs = search needs
 
 finish-corners-requires : tie.Need-finish-corners-requires
 finish-corners-requires c κs =
@@ -91,12 +74,14 @@ finish-corners-requires c κs =
     (record { xs = search corners-kept; ys = search corners-kept; strengths = search corners-kept; neighbours = search corners-kept })
     taken (corners-inside (a .p) (a .img .now) (a .w) (a .h) (choiceOf (a .p) (a .exact)) sound .1)
 
-answer-of-requires : tie.Need-answer-of-requires
-answer-of-requires c κs = search needs
-
 same-length : tie.Need-same-length
 same-length c =
-    omega (arith, clear-from-same-length c .clear .kept, add-found-from-same-length c .add-found .kept, add-seeds-from-same-length c .add-seeds .kept)
+    omega (
+      arith,
+      finish-corners-from-same-length c .finish-corners .kept,
+      add-found-from-same-length c .add-found .kept,
+      add-seeds-from-same-length c .add-seeds .kept,
+    )
 
 same-length-2 : tie.Need-same-length-2
 same-length-2 c = omega (arith, clear-levels-from-same-length-2 c .clear-levels .kept, build-from-same-length-2 c .build .kept)
@@ -123,7 +108,8 @@ same-length-9 : tie.Need-same-length-9
 same-length-9 c = omega (arith, finish-corners-from-same-length-9 c .finish-corners .kept, add-found-from-same-length-9 c .add-found .kept)
 
 same-length-10 : tie.Need-same-length-10
-same-length-10 c = omega (arith, finish-corners-from-same-length-10 c .finish-corners .kept, add-found-from-same-length-10 c .add-found .kept)
+same-length-10 c =
+    omega (arith, finish-corners-from-same-length-10 c .finish-corners .kept, add-found-from-same-length-10 c .add-found .kept)
 
 returns-2 : tie.Need-returns-2
 returns-2 c =
@@ -137,38 +123,19 @@ returns-2 c =
     let found = searched (choiceOf (a .p) (a .exact)) (a .p) (a .img .now) (a .w) (a .h) _ _ _ _ _ _ _ (seeds .ensures) _
     (added-from-returns-2 c .added .ensures)
     (corners .ensures) _ (lists-of-from-returns-2 c .lists-of .ensures) in
+    let finished = finish-corners-from-returns-2 c .finish-corners .ensures in
     let searched-map = corners .last .1 .1 .1 .1 .1 .1 .1 .1 .1 .1 .1 .0 in
-    entry-closed (choiceOf (a .p) (a .exact)) (a .p) (a .img .now) (a .w) (a .h) (a .map .now) (a .levels .now) _ _ _ (built .counted) _ _ _ found
+    entry-closed (choiceOf (a .p) (a .exact)) (a .p) (a .img .now) (a .w) (a .h) (a .map .now) (a .levels .now) _ _ _
+    (built .counted) _ _ _ found
     (record { xs = search seeds-kept; ys = search seeds-kept; strengths = search seeds-kept; neighbours = search seeds-kept })
     (record { xs = search corners-kept; ys = search corners-kept; strengths = search corners-kept; neighbours = search corners-kept })
-    none searched-map (omega (arith, corners .kept, seeds .kept)) _ (built .fills) (built .long) _ (clear-from-returns-2 c .clear .ensures)
+    none searched-map (omega (arith, corners .kept, seeds .kept)) _ (built .fills) (built .long) _ (finished .1)
     _ (clear-levels-from-returns-2 c .clear-levels .ensures) _ (clear-list-from-returns-2 c .clear-list .ensures)
-    _ _ (finish-corners-from-returns-2 c .finish-corners .ensures) _ (c .answer-of .ensures)
+    _ _ (finished .0) _ (c .answer-of .ensures)
 
 pub find-corners-by-spec : {M : Type 1} → statement M
 find-corners-by-spec =
-    tie.close
-    (tie.spec
-    refusal-requires
-    returns
-    build-requires
-    add-seeds-requires
-    added-requires
-    add-found-requires
-    lists-of-requires
-    clear-requires
-    clear-levels-requires
-    clear-list-requires
-    finish-corners-requires
-    answer-of-requires
-    same-length
-    same-length-2
-    same-length-3
-    same-length-4
-    same-length-5
-    same-length-6
-    same-length-7
-    same-length-8
-    same-length-9
-    same-length-10
-    returns-2)
+    tie.close (tie.spec
+    (λ c κs. search needs) returns build-requires add-seeds-requires (λ c κs. search needs) add-found-requires (λ c κs. search needs)
+    (λ c κs. search needs) (λ c κs. search needs) finish-corners-requires (λ c κs. search needs) same-length same-length-2 same-length-3
+    same-length-4 same-length-5 same-length-6 same-length-7 same-length-8 same-length-9 same-length-10 returns-2)

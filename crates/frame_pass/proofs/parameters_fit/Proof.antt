@@ -18,10 +18,13 @@ returns-2 c = simp (le-leb _ _ (c .before .before .if1 .left), lt-leb _ _ (c .if
 
 returns-3 : tie.Need-returns-3
 unfolding parametersFit
-returns-3 c = simp (le-leb _ _ (c .before .before .before .before .if1 .left), le-leb _ _ (c .before .before .if2 .left), lt-leb _ _ (c .if3 .taken), and-none)
-
-is-ring-requires : tie.Need-is-ring-requires
-is-ring-requires c κs = search needs
+returns-3 c =
+    simp (
+      le-leb _ _ (c .before .before .before .before .if1 .left),
+      le-leb _ _ (c .before .before .if2 .left),
+      lt-leb _ _ (c .if3 .taken),
+      and-none,
+    )
 
 returns-4 : tie.Need-returns-4
 returns-4 c =
@@ -30,4 +33,4 @@ returns-4 c =
     c .is-ring .ensures ∙ ring-decides _ (else2 .before .before .if1 .left) (else2 .if2 .left) (else3 .if3 .left)
 
 pub parameters-fit-spec : {M : Type 1} → statement M
-parameters-fit-spec = tie.close (tie.spec returns returns-2 returns-3 is-ring-requires returns-4)
+parameters-fit-spec = tie.close (tie.spec returns returns-2 returns-3 (λ c κs. search needs) returns-4)

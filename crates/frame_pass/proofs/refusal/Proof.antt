@@ -12,9 +12,6 @@ use Rattle.frame_pass.proofs.Refusals.{short, enough}
 use Rattle.frame_pass.proofs.refusal.Statement.{statement}
 use Rattle.frame_pass.proofs.refusal.Tie as tie
 
-refusal-requires : tie.Need-refusal-requires
-refusal-requires c κs = search needs
-
 returns : tie.Need-returns
 unfolding conditions
 returns c = refused _ _ _ _ _ (c .before .refusal .ensures) (c .if1 .taken)
@@ -22,9 +19,6 @@ returns c = refused _ _ _ _ _ (c .before .refusal .ensures) (c .if1 .taken)
 -- past 1 and 2
 image : (c : tie.Else1) → let a = c .before .before .args in Sized (a .pixels) (a .w) (a .h)
 image c = sized _ _ _ _ (c .before .refusal .ensures) (c .if1 .left)
-
-parameters-fit-requires : tie.Need-parameters-fit-requires
-parameters-fit-requires c κs = search needs
 
 returns-2 : tie.Need-returns-2
 unfolding conditions
@@ -36,9 +30,6 @@ at-else1 c = c .before .before
 
 fit : (c : tie.Else2) → parametersFit (at-else1 c .before .before .args .p) ≡ true
 fit c = sym (c .before .parameters-fit .ensures) ∙ not-false _ (c .if2 .left)
-
-is-outside-requires : tie.Need-is-outside-requires
-is-outside-requires c κs = search needs
 
 returns-3 : tie.Need-returns-3
 unfolding conditions
@@ -65,9 +56,6 @@ returns-4 c =
 -- past 8
 abbrev at-else3 : tie.After-cells-above → tie.Else3
 at-else3 c = c .before .before
-
-cells-above-requires : tie.Need-cells-above-requires
-cells-above-requires c κs = search needs
 
 returns-5 : tie.Need-returns-5
 unfolding conditions
@@ -101,16 +89,6 @@ returns-6 c =
 
 pub refusal-spec : {M : Type 1} → statement M
 refusal-spec =
-    tie.close
-    (tie.spec
-    refusal-requires
-    returns
-    parameters-fit-requires
-    returns-2
-    is-outside-requires
-    returns-3
-    mul-if4
-    returns-4
-    cells-above-requires
-    returns-5
-    returns-6)
+    tie.close (tie.spec
+    (λ c κs. search needs) returns (λ c κs. search needs) returns-2 (λ c κs. search needs) returns-3 mul-if4 returns-4
+    (λ c κs. search needs) returns-5 returns-6)

@@ -25,9 +25,6 @@ length-is c =
     let a = c .before .before .before .before .before .args in
     c .length-of .ensures ∙ sym (frame-long (a .header) (a .pixels .now))
 
-refusal-requires : tie.Need-refusal-requires
-refusal-requires c κs = search needs
-
 returns : tie.Need-returns
 returns c =
     let a = c .before .before .before .before .args in
@@ -56,18 +53,12 @@ returns-2 c =
     let start = end .before .before .before .before .before in
     let a = start .args in
     let n = end .length-of .result in
-    frame-written (a .header) (a .pixels .now) (a .out .now) (sym (end .before .before .refusal .ensures) ∙ end .before .if1 .left) n _ (length-is end)
+    frame-written (a .header) (a .pixels .now) (a .out .now)
+    (sym (end .before .before .refusal .ensures) ∙ end .before .if1 .left) n _ (length-is end)
     (ap₂ (λ (s : List ℕ) (k : ℕ). s ++ drop k (a .out .now)) (written .put-frame .ensures) (length-is end))
 
 pub write-frame-spec : {M : Type 1} → statement M
 write-frame-spec =
-    tie.close
-    (tie.spec
-    refusal-requires
-    returns
-    length-of-requires
-    slice-relend-prefix-put-frame
-    slice-aggregate-put-frame
-    put-frame-requires
-    same-length
-    returns-2)
+    tie.close (tie.spec
+    (λ c κs. search needs) returns length-of-requires slice-relend-prefix-put-frame slice-aggregate-put-frame put-frame-requires
+    same-length returns-2)

@@ -11,9 +11,6 @@ use Rattle.image_size.specs.ImageSize.{refusalOf}
 use Rattle.image_size.proofs.refusal.Statement.{statement}
 use Rattle.image_size.proofs.refusal.Tie as tie
 
-is-large-requires : tie.Need-is-large-requires
-is-large-requires c κs = search needs
-
 returns : tie.Need-returns
 unfolding refusalOf
 returns c = simp (sym (c .before .is-large .ensures) ∙ c .if1 .taken)
@@ -37,4 +34,4 @@ unfolding refusalOf
 returns-3 c = simp (small (c .before), eq-eqb _ _ (c .if2 .left))
 
 pub refusal-spec : {M : Type 1} → statement M
-refusal-spec = tie.close (tie.spec is-large-requires returns mul-if2 returns-2 returns-3)
+refusal-spec = tie.close (tie.spec (λ c κs. search needs) returns mul-if2 returns-2 returns-3)

@@ -66,45 +66,6 @@ module _
         behind = rw (← asks, ← starts) (drop-put start (start + asked) s ys (omega arith) fits (long ∙ part ∙ omega arith));
       }
 
-lesser-requires : tie.Need-lesser-requires
-lesser-requires c κs = search needs
-
-sub-lesser : tie.Need-sub-lesser
-sub-lesser c = search needs
-
-lesser-requires-2 : tie.Need-lesser-requires-2
-lesser-requires-2 c κs = search needs
-
-add-end : tie.Need-add-end
-add-end c = search needs
-
-sub-read : tie.Need-sub-read
-sub-read c = search needs
-
-part-read-start : tie.Need-part-read-start
-part-read-start c = search needs
-
-part-read-end : tie.Need-part-read-end
-part-read-end c = search needs
-
-read-requires : tie.Need-read-requires
-read-requires c κs = search needs
-
-sub-count : tie.Need-sub-count
-sub-count c = search needs
-
-part-count-start : tie.Need-part-count-start
-part-count-start c = search needs
-
-part-count-end : tie.Need-part-count-end
-part-count-end c = search needs
-
-count-requires : tie.Need-count-requires
-count-requires c κs = search needs
-
-add-t8 : tie.Need-add-t8
-add-t8 c = search needs
-
 same-length : tie.Need-same-length
 same-length c = search needs
 
@@ -114,26 +75,16 @@ returns c =
     let asked = read .before .before in
     let start = asked .before in
     let entry = start .before .before .args in
-    reads (entry .input) (entry .more) (entry .buffer .now) (read .read .last .1 .0) (start .lesser .result) (asked .lesser2 .result) (start .lesser .ensures)
-    (asked .lesser2 .ensures ∙ ap (λ (n : ℕ). min (entry .more) (length (entry .buffer .now) - n)) (start .lesser .ensures)) (read .read .kept .1 .0)
-    (read .read .result) _ (toZ-ofZ w64 (read .read .result) (record { sfits = read .read .ok })) (read .read .ensures) _ (c .count .ensures .1)
+    reads (entry .input) (entry .more) (entry .buffer .now) (read .read .last .1 .0) (start .lesser .result)
+    (asked .lesser2 .result) (start .lesser .ensures)
+    (asked .lesser2 .ensures ∙ ap (λ (n : ℕ). min (entry .more) (length (entry .buffer .now) - n)) (start .lesser .ensures))
+    (read .read .kept .1 .0)
+    (read .read .result) _ (toZ-ofZ w64 (read .read .result) (record { sfits = read .read .ok })) (read .read .ensures) _
+    (c .count .ensures .1)
 
 pub read-on-spec : {M : Type 1} → statement M
 read-on-spec =
-    tie.close
-    (tie.spec
-    lesser-requires
-    sub-lesser
-    lesser-requires-2
-    add-end
-    sub-read
-    part-read-start
-    part-read-end
-    read-requires
-    sub-count
-    part-count-start
-    part-count-end
-    count-requires
-    add-t8
-    same-length
-    returns)
+    tie.close (tie.spec
+    (λ c κs. search needs) (λ c. search needs) (λ c κs. search needs) (λ c. search needs) (λ c. search needs) (λ c. search needs)
+    (λ c. search needs) (λ c κs. search needs) (λ c. search needs) (λ c. search needs) (λ c. search needs) (λ c κs. search needs)
+    (λ c. search needs) same-length returns)

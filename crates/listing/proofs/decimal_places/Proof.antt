@@ -22,15 +22,13 @@ add-count c =
       places-word (at .before .args .n) (at .before .fits .n .fits),
     )
 
-loop-less : tie.Need-loop-less Inv-loop μ-loop
-loop-less c = omega arith
-
 loop-again : tie.Need-loop-again Inv-loop μ-loop
-loop-again c = counted-next (c .before .before .args .n) (c .before .loop .count) (c .before .loop .rest) (c .before .loop .inv) (c .loop-test .taken)
+loop-again c =
+    counted-next (c .before .before .args .n) (c .before .loop .count) (c .before .loop .rest) (c .before .loop .inv) (c .loop-test .taken)
 
 returns : tie.Need-returns Inv-loop μ-loop
-returns c = counted-all (c .before .before .args .n) (c .before .loop .count) (c .before .loop .rest) (c .before .loop .inv) (c .loop-test .left)
+returns c =
+    counted-all (c .before .before .args .n) (c .before .loop .count) (c .before .loop .rest) (c .before .loop .inv) (c .loop-test .left)
 
 pub decimal-places-spec : {M : Type 1} → statement M
-decimal-places-spec =
-    tie.close (tie.spec Inv-loop μ-loop loop-holds add-count loop-less loop-again returns)
+decimal-places-spec = tie.close (tie.spec Inv-loop μ-loop loop-holds add-count (λ c. omega arith) loop-again returns)

@@ -10,19 +10,15 @@ use borrow.Author.Needs.{needs}
 use Rattle.listing.proofs.put_bits.Statement.{statement}
 use Rattle.listing.proofs.put_bits.Tie as tie
 
-to-bits-requires : tie.Need-to-bits-requires
-to-bits-requires c κs = search needs
-
-cast-bits : tie.Need-cast-bits
-cast-bits c = search needs
-
-put-digits-requires : tie.Need-put-digits-requires
-put-digits-requires c κs = search needs
-
 put-requires : tie.Need-put-requires
 put-requires c κs =
     let digits = c .before .before .before in
-    omega (arith, digits .put-digits .ensures .ends, wrote-length (digits .put-digits .ensures), length-digits 16 8 (digits .before .before .to-bits .result))
+    omega (
+      arith,
+      digits .put-digits .ensures .ends,
+      wrote-length (digits .put-digits .ensures),
+      length-digits 16 8 (digits .before .before .to-bits .result),
+    )
 
 same-length : tie.Need-same-length
 same-length c = search needs
@@ -36,6 +32,4 @@ returns c =
     (digits .before .before .to-bits .ensures)) (wrote-more (digits .put-digits .ensures) (end .put .ensures))
 
 pub put-bits-spec : {M : Type 1} → statement M
-put-bits-spec =
-    tie.close
-    (tie.spec to-bits-requires cast-bits put-digits-requires put-requires same-length returns)
+put-bits-spec = tie.close (tie.spec (λ c κs. search needs) (λ c. search needs) (λ c κs. search needs) put-requires same-length returns)

@@ -12,13 +12,11 @@ use Rattle.listing.proofs.put_corners.Tie as tie
 use Landmarks.*
 
 abbrev Inv-loop : tie.InvT-loop
-Inv-loop xs ys strengths neighbours count out₀ at₀ i₀ out at i = Lines (cornerAt (slices xs ys strengths neighbours)) count at₀ out₀ i at out
+Inv-loop xs ys strengths neighbours count out₀ at₀ i₀ out at i =
+    Lines (cornerAt (slices xs ys strengths neighbours)) count at₀ out₀ i at out
 
 abbrev μ-loop : tie.MeasureT-loop
 μ-loop xs ys strengths neighbours count out₀ at₀ i₀ out at i = count - i
-
-slice-aggregate-put-heading : tie.Need-slice-aggregate-put-heading Inv-loop μ-loop
-slice-aggregate-put-heading c = refl
 
 put-heading-requires : tie.Need-put-heading-requires Inv-loop μ-loop
 put-heading-requires c κs = omega (arith, start-from-put-heading-requires c .pre .1)
@@ -28,11 +26,9 @@ loop-holds c =
     let heading = c .before .before in
     let start = start-from-loop-holds c in
     let a = start .args in
-    lines-none (cornerAt (slices (a .xs .now) (a .ys .now) (a .strengths .now) (a .neighbours .now))) (a .count) (heading .put-heading .result) (a .out .now)
+    lines-none (cornerAt (slices (a .xs .now) (a .ys .now) (a .strengths .now) (a .neighbours .now))) (a .count)
+    (heading .put-heading .result) (a .out .now)
     (heading .put-heading .last .0) (start .pre .0) (start .pre .1) (heading .put-heading .ensures)
-
-corner-at-requires : tie.Need-corner-at-requires Inv-loop μ-loop
-corner-at-requires c κs = search needs
 
 put-line-requires : tie.Need-put-line-requires Inv-loop μ-loop
 put-line-requires c κs = omega (arith, loop-from-put-line-requires c .loop .inv .left, c .before .before .loop-test .taken)
@@ -51,7 +47,8 @@ loop-again c =
     let small : corner .corner-at .result .neighbours < 2 ^ 32 = omega (arith, corner .corner-at .ok) in
     let heading = put-heading-from-loop-again c in
     let a = start-from-loop-again c .args in
-    lines-next (cornerAt (slices (a .xs .now) (a .ys .now) (a .strengths .now) (a .neighbours .now))) (a .count) (heading .put-heading .result)
+    lines-next (cornerAt (slices (a .xs .now) (a .ys .now) (a .strengths .now) (a .neighbours .now))) (a .count)
+    (heading .put-heading .result)
     (heading .put-heading .last .0) (at .loop .i) (at .loop .at) (at .loop .out) (at .loop .inv)
     (line .put-line .result) (line .put-line .last .0) (corner .corner-at .result) small (corner .before .loop-test .taken)
     (corner .corner-at .ensures) (line .put-line .ensures)
@@ -64,23 +61,13 @@ returns c =
     let at = c .before in
     let heading = put-heading-from-returns c in
     let a = start-from-returns c .args in
-    lines-all (cornerAt (slices (a .xs .now) (a .ys .now) (a .strengths .now) (a .neighbours .now))) (a .count) (heading .put-heading .result)
+    lines-all (cornerAt (slices (a .xs .now) (a .ys .now) (a .strengths .now) (a .neighbours .now))) (a .count)
+    (heading .put-heading .result)
     (heading .put-heading .last .0) (at .loop .i) (at .loop .at) (at .loop .out) (at .loop .inv)
     (c .loop-test .left) (a .out .now) (heading .put-heading .ensures)
 
 pub put-corners-spec : {M : Type 1} → statement M
 put-corners-spec =
-    tie.close
-    (tie.spec
-    Inv-loop
-    μ-loop
-    slice-aggregate-put-heading
-    put-heading-requires
-    loop-holds
-    corner-at-requires
-    put-line-requires
-    add-i
-    loop-less
-    loop-again
-    same-length
-    returns)
+    tie.close (tie.spec
+    Inv-loop μ-loop (λ c. refl) put-heading-requires loop-holds (λ c κs. search needs) put-line-requires add-i loop-less loop-again
+    same-length returns)

@@ -10,9 +10,6 @@ use borrow.Author.Needs.{needs}
 use Rattle.listing.proofs.put_decimal.Statement.{statement}
 use Rattle.listing.proofs.put_decimal.Tie as tie
 
-decimal-places-requires : tie.Need-decimal-places-requires
-decimal-places-requires c κs = search needs
-
 put-digits-requires : tie.Need-put-digits-requires
 put-digits-requires c κs =
     (omega arith, omega arith, omega (arith, c .before .decimal-places .ensures))
@@ -40,9 +37,8 @@ returns c =
     let low = end .before .before .before .before in
     let count = low .before .before .decimal-places in
     let a = low .before .before .before .before .args in
-    wrote-as (ap (λ (k : ℕ). ended (digits 10 k (a .n)) (a .end)) (count .ensures)) (wrote-more (low .put-digits .ensures) (end .put .ensures))
+    wrote-as (ap (λ (k : ℕ). ended (digits 10 k (a .n)) (a .end)) (count .ensures))
+    (wrote-more (low .put-digits .ensures) (end .put .ensures))
 
 pub put-decimal-spec : {M : Type 1} → statement M
-put-decimal-spec =
-    tie.close
-    (tie.spec decimal-places-requires put-digits-requires put-requires same-length returns)
+put-decimal-spec = tie.close (tie.spec (λ c κs. search needs) put-digits-requires put-requires same-length returns)

@@ -1,4 +1,5 @@
--- `listing::put_digits` meets its contract. The invariant: the lower digits are written, and the i highest are those of the rest. Assumes nothing.
+-- `listing::put_digits` meets its contract. The invariant: the lower digits are written, and the i highest are those of the rest. Assumes
+-- nothing.
 use native.Mathlib.Nat.{mod-lt}
 use native.Mathlib.Omega.{arith}
 use Rattle.listing.proofs.Appending.{Ahead, ahead-all, ahead-length, ahead-next, ahead-none}
@@ -16,9 +17,6 @@ loop-holds : tie.Need-loop-holds Inv-loop μ-loop
 loop-holds c =
     let a = c .before .args in
     ahead-all (a .base) (a .count) (a .n) (a .at) (a .out .now) (c .before .pre .2)
-
-sub-i : tie.Need-sub-i Inv-loop μ-loop
-sub-i c = search needs
 
 rem-digit : tie.Need-rem-digit Inv-loop μ-loop
 rem-digit c = c .before .before .before .pre .0
@@ -42,9 +40,6 @@ slice-write-out c =
 div-rest : tie.Need-div-rest Inv-loop μ-loop
 div-rest c = c .before .before .before .before .pre .0
 
-loop-less : tie.Need-loop-less Inv-loop μ-loop
-loop-less c = omega arith
-
 loop-again : tie.Need-loop-again Inv-loop μ-loop
 loop-again c =
     let at = c .before .before in
@@ -52,13 +47,11 @@ loop-again c =
     ahead-next (a .base) (a .count) (a .n) (a .at) (a .out .now) (at .loop .i) (at .loop .rest) (at .loop .out) (at .loop .inv)
     (c .before .loop-test .taken) (c .digit .result) (c .digit .ensures)
 
-add-result : tie.Need-add-result Inv-loop μ-loop
-add-result c = omega arith
-
 same-length : tie.Need-same-length Inv-loop μ-loop
 same-length c =
     let a = c .before .before .before .args in
-    ahead-length (a .base) (a .count) (a .n) (a .at) (a .out .now) (c .before .loop .i) (c .before .loop .rest) (c .before .loop .out) (c .before .loop .inv)
+    ahead-length (a .base) (a .count) (a .n) (a .at) (a .out .now) (c .before .loop .i) (c .before .loop .rest)
+    (c .before .loop .out) (c .before .loop .inv)
 
 returns : tie.Need-returns Inv-loop μ-loop
 returns c =
@@ -68,19 +61,6 @@ returns c =
 
 pub put-digits-spec : {M : Type 1} → statement M
 put-digits-spec =
-    tie.close
-    (tie.spec
-    Inv-loop
-    μ-loop
-    loop-holds
-    sub-i
-    rem-digit
-    digit-requires
-    add-out
-    slice-write-out
-    div-rest
-    loop-less
-    loop-again
-    add-result
-    same-length
-    returns)
+    tie.close (tie.spec
+    Inv-loop μ-loop loop-holds (λ c. search needs) rem-digit digit-requires add-out slice-write-out div-rest (λ c. omega arith)
+    loop-again (λ c. omega arith) same-length returns)

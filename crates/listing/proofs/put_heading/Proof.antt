@@ -6,14 +6,17 @@ use borrow.Author.Needs.{needs}
 use Rattle.listing.proofs.put_heading.Statement.{statement}
 use Rattle.listing.proofs.put_heading.Tie as tie
 
-put-word-requires : tie.Need-put-word-requires
-put-word-requires c κs = search needs
-
 put-decimal-requires : tie.Need-put-decimal-requires
 put-decimal-requires c κs =
     let word = c .before .before .before in
     let start = word .before .before .before .before in
-    omega (arith, word .put-word .ensures .ends, wrote-length (word .put-word .ensures), start .pre, places-word (start .args .n) (start .fits .n .fits))
+    omega (
+      arith,
+      word .put-word .ensures .ends,
+      wrote-length (word .put-word .ensures),
+      start .pre,
+      places-word (start .args .n) (start .fits .n .fits),
+    )
 
 same-length : tie.Need-same-length
 same-length c = search needs
@@ -24,4 +27,4 @@ returns c =
     wrote-more (number .before .before .before .before .put-word .ensures) (number .put-decimal .ensures)
 
 pub put-heading-spec : {M : Type 1} → statement M
-put-heading-spec = tie.close (tie.spec put-word-requires put-decimal-requires same-length returns)
+put-heading-spec = tie.close (tie.spec (λ c κs. search needs) put-decimal-requires same-length returns)

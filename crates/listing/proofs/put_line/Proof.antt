@@ -15,16 +15,10 @@ use Rattle.listing.proofs.put_line.Statement.{statement}
 use Rattle.listing.proofs.put_line.Tie as tie
 use Landmarks.*
 
-units-requires : tie.Need-units-requires
-units-requires c κs = search needs
-
 put-decimal-requires : tie.Need-put-decimal-requires
 put-decimal-requires c κs =
     let word : c .units .result < 2 ^ 64 = omega arith in
     omega (arith, start-from-put-decimal-requires c .pre, places-word (c .units .result) word)
-
-units-requires-2 : tie.Need-units-requires-2
-units-requires-2 c κs = search needs
 
 -- what is left of the 80 bytes behind each column
 behind-x : (c : tie.After-put-decimal) → c .put-decimal .result + 59 ≤ length (c .put-decimal .last .0)
@@ -35,7 +29,8 @@ behind-x c =
 behind-y : (c : tie.After-put-decimal2) → c .put-decimal2 .result + 38 ≤ length (c .put-decimal2 .last .0)
 behind-y c =
     let word : c .before .units2 .result < 2 ^ 64 = omega arith in
-    wrote-leaves (c .put-decimal2 .ensures) 21 38 (decimal-ended (c .before .units2 .result) space word) (behind-x (put-decimal-from-put-decimal2 c))
+    wrote-leaves (c .put-decimal2 .ensures) 21 38 (decimal-ended (c .before .units2 .result) space word)
+    (behind-x (put-decimal-from-put-decimal2 c))
 
 behind-x-bits : (c : tie.After-put-bits) → c .put-bits .result + 29 ≤ length (c .put-bits .last .0)
 behind-x-bits c =
@@ -50,7 +45,8 @@ behind-y-bits c =
 behind-strength : (c : tie.After-put-bits3) → c .put-bits3 .result + 11 ≤ length (c .put-bits3 .last .0)
 behind-strength c =
     let y = put-bits2-from-put-bits3 c in
-    wrote-leaves (c .put-bits3 .ensures) 9 11 (bits-ended (toBits binary32 (start-from-put-bits3 c .args .c .strength)) space) (behind-y-bits y)
+    wrote-leaves (c .put-bits3 .ensures) 9 11 (bits-ended (toBits binary32 (start-from-put-bits3 c .args .c .strength)) space)
+    (behind-y-bits y)
 
 put-decimal-requires-2 : tie.Need-put-decimal-requires-2
 put-decimal-requires-2 c κs =
@@ -65,9 +61,6 @@ put-bits-requires-2 c κs = omega (arith, behind-x-bits (put-bits-from-put-bits-
 
 put-bits-requires-3 : tie.Need-put-bits-requires-3
 put-bits-requires-3 c κs = omega (arith, behind-y-bits (put-bits2-from-put-bits-requires-3 c))
-
-cast-put-decimal : tie.Need-cast-put-decimal
-cast-put-decimal c = search needs
 
 put-decimal-requires-3 : tie.Need-put-decimal-requires-3
 put-decimal-requires-3 c κs =
@@ -93,16 +86,6 @@ returns c =
 
 pub put-line-spec : {M : Type 1} → statement M
 put-line-spec =
-    tie.close
-    (tie.spec
-    units-requires
-    put-decimal-requires
-    units-requires-2
-    put-decimal-requires-2
-    put-bits-requires
-    put-bits-requires-2
-    put-bits-requires-3
-    cast-put-decimal
-    put-decimal-requires-3
-    same-length
-    returns)
+    tie.close (tie.spec
+    (λ c κs. search needs) put-decimal-requires (λ c κs. search needs) put-decimal-requires-2 put-bits-requires put-bits-requires-2
+    put-bits-requires-3 (λ c. search needs) put-decimal-requires-3 same-length returns)

@@ -5,15 +5,9 @@ use borrow.Author.Needs.{needs}
 use Rattle.listing.proofs.write_refusal.Statement.{statement}
 use Rattle.listing.proofs.write_refusal.Tie as tie
 
-slice-aggregate-put-heading : tie.Need-slice-aggregate-put-heading
-slice-aggregate-put-heading c = search needs
-
-put-heading-requires : tie.Need-put-heading-requires
-put-heading-requires c κs = search needs
-
 returns : tie.Need-returns
 unfolding refusedText
 returns c = wrote-first (c .put-heading .ensures)
 
 pub write-refusal-spec : {M : Type 1} → statement M
-write-refusal-spec = tie.close (tie.spec slice-aggregate-put-heading put-heading-requires returns)
+write-refusal-spec = tie.close (tie.spec (λ c. search needs) (λ c κs. search needs) returns)

@@ -6,9 +6,6 @@ use Rattle.merge.proofs.merge_corners_simple.Statement.{statement}
 use Rattle.merge.proofs.merge_corners_simple.Tie as tie
 use Landmarks.*
 
-merge-within-requires : tie.Need-merge-within-requires
-merge-within-requires c κs = search needs
-
 same-length : tie.Need-same-length
 same-length c = search needs
 
@@ -25,5 +22,4 @@ returns : tie.Need-returns
 returns c = merges-whole _ _ _ _ _ (merge-within-from-returns c .merge-within .ensures)
 
 pub merge-corners-simple-spec : {M : Type 1} → statement M
-merge-corners-simple-spec =
-    tie.close (tie.spec merge-within-requires same-length same-length-2 same-length-3 same-length-4 returns)
+merge-corners-simple-spec = tie.close (tie.spec (λ c κs. search needs) same-length same-length-2 same-length-3 same-length-4 returns)

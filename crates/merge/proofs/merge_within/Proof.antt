@@ -9,9 +9,6 @@ use Rattle.merge.proofs.merge_within.Statement.{statement}
 use Rattle.merge.proofs.merge_within.Tie as tie
 use Landmarks.*
 
-refusal-requires : tie.Need-refusal-requires
-refusal-requires c κs = search needs
-
 same-length : tie.Need-same-length
 same-length c = search needs
 
@@ -48,21 +45,10 @@ returns-2 : tie.Need-returns-2
 returns-2 c =
     let done = merge-list-from-returns-2 c in
     let judged = if1-from-returns-2 c in
-    leaves-kept _ _ _ _ _ _ (judged .before .refusal .ensures) (judged .if1 .left) (done .merge-list .ensures)
+    leaves-kept _ _ _ _ _ _ (judged .before .refusal .ensures) (judged .if1 .left) (done .merge-list .ensures .0)
 
 pub merge-within-spec : {M : Type 1} → statement M
 merge-within-spec =
-    tie.close
-    (tie.spec
-    refusal-requires
-    same-length
-    same-length-2
-    same-length-3
-    same-length-4
-    returns
-    merge-list-requires
-    same-length-5
-    same-length-6
-    same-length-7
-    same-length-8
-    returns-2)
+    tie.close (tie.spec
+    (λ c κs. search needs) same-length same-length-2 same-length-3 same-length-4 returns (λ c. search needs) merge-list-requires
+    same-length-5 same-length-6 same-length-7 same-length-8 returns-2)

@@ -7,12 +7,6 @@ use Rattle.merge_case.proofs.merge_case.Statement.{statement}
 use Rattle.merge_case.proofs.merge_case.Tie as tie
 use Landmarks.*
 
-merge-corners-simple-requires : tie.Need-merge-corners-simple-requires
-merge-corners-simple-requires c κs = search needs
-
-kept-of-requires : tie.Need-kept-of-requires
-kept-of-requires c κs = search needs
-
 same-length : tie.Need-same-length
 same-length c = search needs
 
@@ -30,13 +24,8 @@ unfolding ofBits
 returns c =
     let given = start-from-returns c .pre in
     let merged = merge-corners-simple-from-returns c in
-    left-by-cells _ (given .0) (given .1) _ _ _ (c .kept-of .ensures) _ (if1-from-returns c .if1 .taken) (merged .merge-corners-simple .ensures)
-
-merge-corners-naive-requires : tie.Need-merge-corners-naive-requires
-merge-corners-naive-requires c κs = search needs
-
-kept-of-requires-2 : tie.Need-kept-of-requires-2
-kept-of-requires-2 c κs = search needs
+    left-by-cells _ (given .0) (given .1) _ _ _ (c .kept-of .ensures) _ (if1-from-returns c .if1 .taken)
+    (merged .merge-corners-simple .ensures)
 
 same-length-5 : tie.Need-same-length-5
 same-length-5 c = search needs
@@ -55,23 +44,11 @@ unfolding ofBits
 returns-2 c =
     let given = start-from-returns-2 c .pre in
     let merged = merge-corners-naive-from-returns-2 c in
-    left-by-distance _ (given .0) (given .1) _ _ _ (c .kept-of2 .ensures) _ (if1-from-returns-2 c .if1 .left) (merged .merge-corners-naive .ensures)
+    left-by-distance _ (given .0) (given .1) _ _ _ (c .kept-of2 .ensures) _ (if1-from-returns-2 c .if1 .left)
+    (merged .merge-corners-naive .ensures)
 
 pub merge-case-spec : {M : Type 1} → statement M
 merge-case-spec =
-    tie.close
-    (tie.spec
-    merge-corners-simple-requires
-    kept-of-requires
-    same-length
-    same-length-2
-    same-length-3
-    same-length-4
-    returns
-    merge-corners-naive-requires
-    kept-of-requires-2
-    same-length-5
-    same-length-6
-    same-length-7
-    same-length-8
-    returns-2)
+    tie.close (tie.spec
+    (λ c κs. search needs) (λ c κs. search needs) same-length same-length-2 same-length-3 same-length-4 returns (λ c κs. search needs)
+    (λ c κs. search needs) same-length-5 same-length-6 same-length-7 same-length-8 returns-2)

@@ -8,18 +8,6 @@ use Rattle.merge_case.proofs.print_corners.Statement.{statement}
 use Rattle.merge_case.proofs.print_corners.Tie as tie
 use Landmarks.*
 
-write-corners-requires : tie.Need-write-corners-requires
-write-corners-requires c κs = search needs
-
-enum-known-listed : tie.Need-enum-known-listed
-enum-known-listed c = search needs
-
-enum-told : tie.Need-enum-told
-enum-told c = search needs
-
-returns : tie.Need-returns
-returns c = search needs
-
 array-share-prefix-text : tie.Need-array-share-prefix-text
 array-share-prefix-text c = text-fits _ _ _ _ _ (c .before .before .before .write-corners .ensures) _ (c .before .listed .given .1)
 
@@ -31,18 +19,8 @@ write-listing-requires c κs =
     let written = write-corners-from-write-listing-requires c .write-corners .ensures in
     text-is _ _ _ _ _ written _ (c .before .before .listed .given .1) _ (start-from-write-listing-requires c .pre)
 
-returns-2 : tie.Need-returns-2
-returns-2 c = search needs
-
 pub print-corners-spec : {M : Type 1} → statement M
 print-corners-spec =
-    tie.close
-    (tie.spec
-    write-corners-requires
-    enum-known-listed
-    enum-told
-    returns
-    array-share-prefix-text
-    slice-aggregate-write-listing
-    write-listing-requires
-    returns-2)
+    tie.close (tie.spec
+    (λ c κs. search needs) (λ c. search needs) (λ c. search needs) (λ c. search needs) array-share-prefix-text
+    slice-aggregate-write-listing write-listing-requires (λ c. search needs))

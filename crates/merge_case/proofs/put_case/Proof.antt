@@ -8,24 +8,6 @@ use Rattle.merge_case.proofs.put_case.Statement.{statement}
 use Rattle.merge_case.proofs.put_case.Tie as tie
 use Landmarks.*
 
-unit-corner-requires : tie.Need-unit-corner-requires
-unit-corner-requires c κs = search needs
-
-put-corner-requires : tie.Need-put-corner-requires
-put-corner-requires c κs = search needs
-
-unit-corner-requires-2 : tie.Need-unit-corner-requires-2
-unit-corner-requires-2 c κs = search needs
-
-put-corner-requires-2 : tie.Need-put-corner-requires-2
-put-corner-requires-2 c κs = search needs
-
-unit-corner-requires-3 : tie.Need-unit-corner-requires-3
-unit-corner-requires-3 c κs = search needs
-
-put-corner-requires-3 : tie.Need-put-corner-requires-3
-put-corner-requires-3 c κs = search needs
-
 same-length : tie.Need-same-length
 same-length c =
     omega (
@@ -60,21 +42,13 @@ returns : tie.Need-returns
 unfolding ofBits
 returns c =
     three-put _ _ _ _ _ _ _ (start-from-returns c .pre)
-    (unit-corner-from-returns c .unit-corner .ensures) (unit-corner2-from-returns c .unit-corner2 .ensures) (unit-corner3-from-returns c .unit-corner3 .ensures)
-    (put-corner-from-returns c .put-corner .ensures) (put-corner2-from-returns c .put-corner2 .ensures) (put-corner3-from-returns c .put-corner3 .ensures)
+    (unit-corner-from-returns c .unit-corner .ensures) (unit-corner2-from-returns c .unit-corner2 .ensures)
+    (unit-corner3-from-returns c .unit-corner3 .ensures)
+    (put-corner-from-returns c .put-corner .ensures) (put-corner2-from-returns c .put-corner2 .ensures)
+    (put-corner3-from-returns c .put-corner3 .ensures)
 
 pub put-case-spec : {M : Type 1} → statement M
 put-case-spec =
-    tie.close
-    (tie.spec
-    unit-corner-requires
-    put-corner-requires
-    unit-corner-requires-2
-    put-corner-requires-2
-    unit-corner-requires-3
-    put-corner-requires-3
-    same-length
-    same-length-2
-    same-length-3
-    same-length-4
-    returns)
+    tie.close (tie.spec
+    (λ c κs. search needs) (λ c κs. search needs) (λ c κs. search needs) (λ c κs. search needs) (λ c κs. search needs)
+    (λ c κs. search needs) same-length same-length-2 same-length-3 same-length-4 returns)

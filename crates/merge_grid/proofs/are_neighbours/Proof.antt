@@ -6,24 +6,6 @@ use Rattle.merge_grid.specs.Grid.{columnOf, adjacent, neighbours}
 use Rattle.merge_grid.proofs.are_neighbours.Statement.{statement}
 use Rattle.merge_grid.proofs.are_neighbours.Tie as tie
 
-column-of-requires : tie.Need-column-of-requires
-column-of-requires c κs = search needs
-
-column-of-requires-2 : tie.Need-column-of-requires-2
-column-of-requires-2 c κs = search needs
-
-is-adjacent-requires : tie.Need-is-adjacent-requires
-is-adjacent-requires c κs = search needs
-
-row-of-requires : tie.Need-row-of-requires
-row-of-requires c κs = search needs
-
-row-of-requires-2 : tie.Need-row-of-requires-2
-row-of-requires-2 c κs = search needs
-
-is-adjacent-requires-2 : tie.Need-is-adjacent-requires-2
-is-adjacent-requires-2 c κs = search needs
-
 -- the cells across, by the test
 across : (c : tie.After-is-adjacent)
     → let a = c .before .before .before .args in
@@ -42,13 +24,6 @@ returns-2 c = and-off _ _ (across (c .before) ∙ c .if1 .left)
 
 pub are-neighbours-spec : {M : Type 1} → statement M
 are-neighbours-spec =
-    tie.close
-    (tie.spec
-    column-of-requires
-    column-of-requires-2
-    is-adjacent-requires
-    row-of-requires
-    row-of-requires-2
-    is-adjacent-requires-2
-    returns
-    returns-2)
+    tie.close (tie.spec
+    (λ c κs. search needs) (λ c κs. search needs) (λ c κs. search needs) (λ c κs. search needs) (λ c κs. search needs)
+    (λ c κs. search needs) returns returns-2)

@@ -6,18 +6,9 @@ use borrow.Author.Needs.{needs}
 use Rattle.merge_grid.proofs.coordinate_at.Statement.{statement}
 use Rattle.merge_grid.proofs.coordinate_at.Tie as tie
 
-mul-result : tie.Need-mul-result
-mul-result c = search needs
-
-shared-slice-read-result : tie.Need-shared-slice-read-result
-shared-slice-read-result c = search needs
-
-returns : tie.Need-returns
-returns c = search needs
-
 returns-2 : tie.Need-returns-2
 unfolding ofBits div
 returns-2 c = sym (List·getD-eq-default (c .before .args .vs .now) nan (c .if1 .left))
 
 pub coordinate-at-spec : {M : Type 1} → statement M
-coordinate-at-spec = tie.close (tie.spec mul-result shared-slice-read-result returns returns-2)
+coordinate-at-spec = tie.close (tie.spec (λ c. search needs) (λ c. search needs) (λ c. search needs) returns-2)

@@ -6,12 +6,6 @@ use Rattle.merge_grid.proofs.Cells.{grid-is}
 use Rattle.merge_grid.proofs.grid_of.Statement.{statement}
 use Rattle.merge_grid.proofs.grid_of.Tie as tie
 
-least-requires : tie.Need-least-requires
-least-requires c κs = search needs
-
-least-requires-2 : tie.Need-least-requires-2
-least-requires-2 c κs = search needs
-
 returns : tie.Need-returns
 unfolding ofBits
 returns c strengths counts =
@@ -19,4 +13,4 @@ returns c strengths counts =
     grid-is (slices (a .xs .now) (a .ys .now) strengths counts) _ _ _ _ (c .before .least .ensures) (c .least2 .ensures)
 
 pub grid-of-spec : {M : Type 1} → statement M
-grid-of-spec = tie.close (tie.spec least-requires least-requires-2 returns)
+grid-of-spec = tie.close (tie.spec (λ c κs. search needs) (λ c κs. search needs) returns)

@@ -4,9 +4,6 @@ use Rattle.merge_grid.proofs.Cells.{adjacent-up, adjacent-down}
 use Rattle.merge_grid.proofs.is_adjacent.Statement.{statement}
 use Rattle.merge_grid.proofs.is_adjacent.Tie as tie
 
-sub-result : tie.Need-sub-result
-sub-result c = search needs
-
 returns : tie.Need-returns
 returns c = adjacent-up _ _ (c .if1 .taken)
 
@@ -14,4 +11,4 @@ returns-2 : tie.Need-returns-2
 returns-2 c = adjacent-down _ _ (c .if1 .left)
 
 pub is-adjacent-spec : {M : Type 1} → statement M
-is-adjacent-spec = tie.close (tie.spec sub-result returns returns-2)
+is-adjacent-spec = tie.close (tie.spec (λ c. search needs) returns returns-2)

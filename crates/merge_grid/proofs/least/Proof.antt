@@ -1,4 +1,5 @@
--- `merge_grid::least` meets its contract: m is the least of the numbers passed, and past the end of the slice there is none. Assumes nothing.
+-- `merge_grid::least` meets its contract: m is the least of the numbers passed, and past the end of the slice there is none. Assumes
+-- nothing.
 use borrow.Author.Needs.{needs}
 use Prim.Native.Nat.{_-_, _≤_, min}
 use native.Mathlib.Omega.{arith}
@@ -18,9 +19,6 @@ Inv-loop vs n held m₀ i₀ m i = (m ≡ leastFrom (inf false) (numbers vs i)) 
 abbrev μ-loop : tie.MeasureT-loop
 μ-loop vs n held m₀ i₀ m i = held - i
 
-lesser-requires : tie.Need-lesser-requires Inv-loop μ-loop
-lesser-requires c κs = search needs
-
 float-from-bits-m : tie.Need-float-from-bits-m Inv-loop μ-loop
 unfolding nanBits
 float-from-bits-m c = search needs
@@ -29,25 +27,13 @@ loop-holds : tie.Need-loop-holds Inv-loop μ-loop
 unfolding ofBits tab
 loop-holds c = (refl, omega arith, c .lesser .ensures)
 
-mul-lower : tie.Need-mul-lower Inv-loop μ-loop
-mul-lower c = omega arith
-
-shared-slice-read-lower : tie.Need-shared-slice-read-lower Inv-loop μ-loop
-shared-slice-read-lower c = omega arith
-
-lower-requires : tie.Need-lower-requires Inv-loop μ-loop
-lower-requires c κs = search needs
-
-add-i : tie.Need-add-i Inv-loop μ-loop
-add-i c = omega arith
-
-loop-less : tie.Need-loop-less Inv-loop μ-loop
-loop-less c = omega arith
-
 loop-again : tie.Need-loop-again Inv-loop μ-loop
 loop-again c =
-    let turn = c .before .before .before in
-    (least-more (turn .before .before .before .args .vs .now) (turn .loop .i) _ _ (turn .loop .inv .0) (c .lower .ensures), omega arith, turn .loop .inv .2)
+    let turn = c .before .before .before in (
+      least-more (turn .before .before .before .args .vs .now) (turn .loop .i) _ _ (turn .loop .inv .0) (c .lower .ensures),
+      omega arith,
+      turn .loop .inv .2,
+    )
 
 returns : tie.Need-returns Inv-loop μ-loop
 returns c =
@@ -57,17 +43,6 @@ returns c =
 
 pub least-spec : {M : Type 1} → statement M
 least-spec =
-    tie.close
-    (tie.spec
-    Inv-loop
-    μ-loop
-    lesser-requires
-    float-from-bits-m
-    loop-holds
-    mul-lower
-    shared-slice-read-lower
-    lower-requires
-    add-i
-    loop-less
-    loop-again
-    returns)
+    tie.close (tie.spec
+    Inv-loop μ-loop (λ c κs. search needs) float-from-bits-m loop-holds (λ c. omega arith) (λ c. omega arith) (λ c κs. search needs)
+    (λ c. omega arith) (λ c. omega arith) loop-again returns)

@@ -18,12 +18,6 @@ abbrev μ-loop : tie.MeasureT-loop
 loop-holds : tie.Need-loop-holds Inv-loop μ-loop
 loop-holds c = (omega arith, below-none _)
 
-position-at-requires : tie.Need-position-at-requires Inv-loop μ-loop
-position-at-requires c κs = search needs
-
-is-near-requires : tie.Need-is-near-requires Inv-loop μ-loop
-is-near-requires c κs = search needs
-
 -- the test, of the corner in the buffer
 tested : (c : tie.After-is-near Inv-loop μ-loop)
     → let a = c .before .before .before .before .before .before .args in
@@ -33,32 +27,29 @@ tested c =
     ap (near (a .square) (a .p)) (sym (c .before .position-at .ensures)) ∙ sym (c .is-near .ensures)
 
 returns : tie.Need-returns Inv-loop μ-loop
-returns c = record { at-most = omega arith; passes = λ _. tested (c .before) ∙ c .if1 .taken; before = c .before .before .before .before .loop .inv .1 }
-
-add-i : tie.Need-add-i Inv-loop μ-loop
-add-i c = omega arith
-
-loop-less : tie.Need-loop-less Inv-loop μ-loop
-loop-less c = omega arith
+returns c =
+    record {
+      at-most = omega arith;
+      passes = λ _. tested (c .before) ∙ c .if1 .taken;
+      before = c .before .before .before .before .loop .inv .1;
+    }
 
 loop-again : tie.Need-loop-again Inv-loop μ-loop
-loop-again c =
-    (omega arith, below-more _ _ (c .before .before .before .before .loop .inv .1) (λ e. false≢true (sym (c .if1 .left) ∙ sym (tested (c .before)) ∙ e)))
+loop-again c = (
+  omega arith,
+  below-more _ _ (c .before .before .before .before .loop .inv .1) (λ e. false≢true (sym (c .if1 .left) ∙ sym (tested (c .before)) ∙ e)),
+)
 
 returns-2 : tie.Need-returns-2 Inv-loop μ-loop
-returns-2 c = record { at-most = omega arith; passes = λ l. absurd (let no : ⊥ = omega arith in no); before = λ m l. c .before .loop .inv .1 m (omega arith) }
+returns-2 c =
+    record {
+      at-most = omega arith;
+      passes = λ l. absurd (let no : ⊥ = omega arith in no);
+      before = λ m l. c .before .loop .inv .1 m (omega arith);
+    }
 
 pub first-near-spec : {M : Type 1} → statement M
 first-near-spec =
-    tie.close
-    (tie.spec
-    Inv-loop
-    μ-loop
-    loop-holds
-    position-at-requires
-    is-near-requires
-    returns
-    add-i
-    loop-less
-    loop-again
+    tie.close (tie.spec
+    Inv-loop μ-loop loop-holds (λ c κs. search needs) (λ c κs. search needs) returns (λ c. omega arith) (λ c. omega arith) loop-again
     returns-2)

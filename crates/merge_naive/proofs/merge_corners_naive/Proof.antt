@@ -18,9 +18,6 @@ judged : (c : tie.After-refusal)
     c .refusal .result ≡ refusalOf (a .radius) (placesOf b) (a .count) b
 judged c = judged-held _ _ _ _ _ _ (c .refusal .ensures) (omega arith)
 
-refusal-requires : tie.Need-refusal-requires
-refusal-requires c κs = search needs
-
 same-length : tie.Need-same-length
 same-length c = search needs
 
@@ -61,17 +58,6 @@ returns-2 c =
 
 pub merge-corners-naive-spec : {M : Type 1} → statement M
 merge-corners-naive-spec =
-    tie.close
-    (tie.spec
-    refusal-requires
-    same-length
-    same-length-2
-    same-length-3
-    same-length-4
-    returns
-    merge-list-requires
-    same-length-5
-    same-length-6
-    same-length-7
-    same-length-8
-    returns-2)
+    tie.close (tie.spec
+    (λ c κs. search needs) same-length same-length-2 same-length-3 same-length-4 returns merge-list-requires same-length-5 same-length-6
+    same-length-7 same-length-8 returns-2)

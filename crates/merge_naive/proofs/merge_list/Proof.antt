@@ -7,7 +7,8 @@ use mathlib.Core.Path.{sym, _∙_}
 use mathlib.Core.Bool.{false}
 use Rattle.corner_list.specs.CornerList.{slices}
 use Rattle.merge_settle.specs.Internal.{start, step, Comes}
-use Rattle.merge_settle.proofs.Stepping.{comes-none, comes-xs, comes-ys, comes-strengths, comes-neighbours, comes-fits, comes-turn, reaches-end, reaches-all}
+use Rattle.merge_settle.proofs.Stepping.{comes-none, comes-xs, comes-ys, comes-strengths, comes-neighbours, comes-fits, comes-turn}
+use Rattle.merge_settle.proofs.Stepping.{reaches-end, reaches-all}
 use Rattle.merge_naive.specs.MergeNaive.{nearBy}
 use Rattle.merge_naive.proofs.Naive.{left-off, left-on}
 use Rattle.merge_naive.proofs.merge_list.Statement.{statement}
@@ -22,17 +23,11 @@ Inv-loop xs₀ ys₀ strengths₀ neighbours₀ n radius square k₀ i₀ xs ys 
 abbrev μ-loop : tie.MeasureT-loop
 μ-loop xs₀ ys₀ strengths₀ neighbours₀ n radius square k₀ i₀ xs ys strengths neighbours k i = n - i
 
-is-off-requires : tie.Need-is-off-requires Inv-loop μ-loop
-is-off-requires c κs = search needs
-
 returns : tie.Need-returns Inv-loop μ-loop
 returns c = left-off _ _ _ (sym (c .before .is-off .ensures) ∙ c .if1 .taken) (start-from-returns c .pre)
 
 loop-holds : tie.Need-loop-holds Inv-loop μ-loop
 loop-holds c = comes-none _ _ _ _ _ _ (start-from-loop-holds c .pre) (record { few = omega arith; upto = omega arith })
-
-corner-at-requires : tie.Need-corner-at-requires Inv-loop μ-loop
-corner-at-requires c κs = search needs
 
 settle-corner-requires : tie.Need-settle-corner-requires Inv-loop μ-loop
 settle-corner-requires c κs =
@@ -49,7 +44,8 @@ loop-again : tie.Need-loop-again Inv-loop μ-loop
 loop-again c =
     let turn = loop-test-from-loop-again c in
     let settled = settle-corner-from-loop-again c .settle-corner in
-    comes-turn _ _ _ _ _ _ _ _ (turn .before .loop .inv) (turn .loop-test .taken) _ (corner-at-from-loop-again c .corner-at .ensures) _ _ (settled .ensures)
+    comes-turn _ _ _ _ _ _ _ _ (turn .before .loop .inv) (turn .loop-test .taken) _
+    (corner-at-from-loop-again c .corner-at .ensures) _ _ (settled .ensures)
 
 same-length : tie.Need-same-length Inv-loop μ-loop
 same-length c = comes-xs _ _ _ _ _ _ _ _ (c .before .loop .inv) (start-from-same-length c .pre)
@@ -71,20 +67,6 @@ returns-2 c =
 
 pub merge-list-spec : {M : Type 1} → statement M
 merge-list-spec =
-    tie.close
-    (tie.spec
-    Inv-loop
-    μ-loop
-    is-off-requires
-    returns
-    loop-holds
-    corner-at-requires
-    settle-corner-requires
-    add-i
-    loop-less
-    loop-again
-    same-length
-    same-length-2
-    same-length-3
-    same-length-4
-    returns-2)
+    tie.close (tie.spec
+    Inv-loop μ-loop (λ c κs. search needs) returns loop-holds (λ c κs. search needs) settle-corner-requires add-i loop-less loop-again
+    same-length same-length-2 same-length-3 same-length-4 returns-2)

@@ -26,17 +26,8 @@ found c =
     subst (λ (p : Position). IsFirst (λ i. near (a .square) p (positionAt (a .xs .now) (a .ys .now) i)) (a .k) (c .first-near .result))
     (c .before .position-of .ensures) (c .first-near .ensures)
 
-position-of-requires : tie.Need-position-of-requires
-position-of-requires c κs = search needs
-
-first-near-requires : tie.Need-first-near-requires
-first-near-requires c κs = search needs
-
 returns : tie.Need-returns
 returns c = let f = c .before in takes-new _ _ _ _ (start f .pre) _ (found f) (c .if1 .taken)
-
-corner-at-requires : tie.Need-corner-at-requires
-corner-at-requires c κs = search needs
 
 returns-2 : tie.Need-returns-2
 returns-2 c =
@@ -52,5 +43,4 @@ returns-3 c =
     _ (omega (arith, start f .good)) (omega arith) (c .if2 .left)
 
 pub place-for-spec : {M : Type 1} → statement M
-place-for-spec =
-    tie.close (tie.spec position-of-requires first-near-requires returns corner-at-requires returns-2 returns-3)
+place-for-spec = tie.close (tie.spec (λ c κs. search needs) (λ c κs. search needs) returns (λ c κs. search needs) returns-2 returns-3)

@@ -8,9 +8,6 @@ use Rattle.merge_radius.specs.MergeRadius.{isOff}
 use Rattle.merge_radius.proofs.is_off.Statement.{statement}
 use Rattle.merge_radius.proofs.is_off.Tie as tie
 
-is-finite-requires : tie.Need-is-finite-requires
-is-finite-requires c κs = search needs
-
 returns : tie.Need-returns
 unfolding isOff ofBits
 returns c = ap (λ (b : Bool). not b || le (c .before .before .args .radius) zero) (sym (c .if1 .taken) ∙ c .before .is-finite .ensures)
@@ -20,4 +17,4 @@ unfolding isOff ofBits
 returns-2 c = ap (λ (b : Bool). not b || le (c .before .before .args .radius) zero) (sym (c .if1 .left) ∙ c .before .is-finite .ensures)
 
 pub is-off-spec : {M : Type 1} → statement M
-is-off-spec = tie.close (tie.spec is-finite-requires returns returns-2)
+is-off-spec = tie.close (tie.spec (λ c κs. search needs) returns returns-2)

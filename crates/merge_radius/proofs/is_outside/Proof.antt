@@ -4,21 +4,22 @@ use borrow.Author.Needs.{needs}
 use Rattle.merge_radius.proofs.is_outside.Statement.{statement}
 use Rattle.merge_radius.proofs.is_outside.Tie as tie
 
-is-off-requires : tie.Need-is-off-requires
-is-off-requires c κs = search needs
-
 returns : tie.Need-returns
 returns c = simp (sym (c .before .is-off .ensures) ∙ c .if1 .taken)
 
-is-sized-requires : tie.Need-is-sized-requires
-is-sized-requires c κs = search needs
-
 returns-2 : tie.Need-returns-2
-returns-2 c = simp (sym (c .before .before .before .is-off .ensures) ∙ c .before .before .if1 .left, sym (c .before .is-sized .ensures) ∙ c .if2 .taken)
+returns-2 c =
+    simp (
+      sym (c .before .before .before .is-off .ensures) ∙ c .before .before .if1 .left,
+      sym (c .before .is-sized .ensures) ∙ c .if2 .taken,
+    )
 
 returns-3 : tie.Need-returns-3
-returns-3 c = simp (sym (c .before .before .before .is-off .ensures) ∙ c .before .before .if1 .left, sym (c .before .is-sized .ensures) ∙ c .if2 .left)
+returns-3 c =
+    simp (
+      sym (c .before .before .before .is-off .ensures) ∙ c .before .before .if1 .left,
+      sym (c .before .is-sized .ensures) ∙ c .if2 .left,
+    )
 
 pub is-outside-spec : {M : Type 1} → statement M
-is-outside-spec =
-    tie.close (tie.spec is-off-requires returns is-sized-requires returns-2 returns-3)
+is-outside-spec = tie.close (tie.spec (λ c κs. search needs) returns (λ c κs. search needs) returns-2 returns-3)

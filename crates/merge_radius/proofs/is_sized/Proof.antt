@@ -5,12 +5,9 @@ use Rattle.merge_radius.specs.MergeRadius.{isSized}
 use Rattle.merge_radius.proofs.is_sized.Statement.{statement}
 use Rattle.merge_radius.proofs.is_sized.Tie as tie
 
-is-between-requires : tie.Need-is-between-requires
-is-between-requires c κs = search needs
-
 returns : tie.Need-returns
 unfolding isSized ofBits
 returns c = c .is-between .ensures
 
 pub is-sized-spec : {M : Type 1} → statement M
-is-sized-spec = tie.close (tie.spec is-between-requires returns)
+is-sized-spec = tie.close (tie.spec (λ c κs. search needs) returns)

@@ -14,19 +14,14 @@ use Rattle.merge_refusal.proofs.has_outside.Tie as tie
 use Landmarks.*
 
 abbrev Inv-loop : tie.InvT-loop
-Inv-loop xs ys strengths neighbours n i₀ i = (i ≤ n) × ((k : ℕ) → k < i → isOutside (cornerAt (slices xs ys strengths neighbours) k) ≡ false)
+Inv-loop xs ys strengths neighbours n i₀ i =
+    (i ≤ n) × ((k : ℕ) → k < i → isOutside (cornerAt (slices xs ys strengths neighbours) k) ≡ false)
 
 abbrev μ-loop : tie.MeasureT-loop
 μ-loop xs ys strengths neighbours n i₀ i = n - i
 
 loop-holds : tie.Need-loop-holds Inv-loop μ-loop
 loop-holds c = (omega arith, below-none _)
-
-corner-at-requires : tie.Need-corner-at-requires Inv-loop μ-loop
-corner-at-requires c κs = search needs
-
-is-inside-requires : tie.Need-is-inside-requires Inv-loop μ-loop
-is-inside-requires c κs = search needs
 
 -- the test, of the corner in the buffer
 tested : (c : tie.After-is-inside Inv-loop μ-loop)
@@ -38,12 +33,6 @@ tested c = ap isOutside (sym (c .before .corner-at .ensures)) ∙ ap not (sym (c
 returns : tie.Need-returns Inv-loop μ-loop
 returns c = sym (any-tab-hit isOutside _ _ _ (c .before .before .before .loop-test .taken) (tested (c .before) ∙ c .if1 .taken))
 
-add-i : tie.Need-add-i Inv-loop μ-loop
-add-i c = omega arith
-
-loop-less : tie.Need-loop-less Inv-loop μ-loop
-loop-less c = omega arith
-
 loop-again : tie.Need-loop-again Inv-loop μ-loop
 loop-again c = (omega arith, below-more _ _ (c .before .before .before .before .loop .inv .1) (tested (c .before) ∙ c .if1 .left))
 
@@ -52,15 +41,6 @@ returns-2 c = sym (any-tab-none isOutside _ _ (λ k l. c .before .loop .inv .1 k
 
 pub has-outside-spec : {M : Type 1} → statement M
 has-outside-spec =
-    tie.close
-    (tie.spec
-    Inv-loop
-    μ-loop
-    loop-holds
-    corner-at-requires
-    is-inside-requires
-    returns
-    add-i
-    loop-less
-    loop-again
+    tie.close (tie.spec
+    Inv-loop μ-loop loop-holds (λ c κs. search needs) (λ c κs. search needs) returns (λ c. omega arith) (λ c. omega arith) loop-again
     returns-2)

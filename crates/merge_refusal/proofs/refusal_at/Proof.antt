@@ -11,40 +11,24 @@ use Rattle.merge_refusal.proofs.refusal_at.Statement.{statement}
 use Rattle.merge_refusal.proofs.refusal_at.Tie as tie
 use Landmarks.*
 
-is-off-requires : tie.Need-is-off-requires
-is-off-requires c κs = search needs
-
-crowding-requires : tie.Need-crowding-requires
-crowding-requires c κs = search needs
-
 returns : tie.Need-returns
 returns c = c .crowding .ensures ∙ judged-off _ _ _ _ (sym (c .before .before .is-off .ensures) ∙ c .before .if1 .taken)
-
-lesser-requires : tie.Need-lesser-requires
-lesser-requires c κs = search needs
-
-has-outside-requires : tie.Need-has-outside-requires
-has-outside-requires c κs = search needs
 
 -- whether a corner is outside, of those that the buffer has
 tested : (c : tie.After-has-outside)
     → let a = start-from-has-outside c .args in
-    any isOutside (cornersOf (slices (a .xs .now) (a .ys .now) (a .strengths .now) (a .neighbours .now)) (min (a .count) (a .places))) ≡ c .has-outside .result
+    any isOutside (cornersOf (slices (a .xs .now) (a .ys .now) (a .strengths .now) (a .neighbours .now))
+    (min (a .count) (a .places))) ≡ c .has-outside .result
 tested c =
     let a = start-from-has-outside c .args in
-    ap (λ (n : ℕ). any isOutside (cornersOf (slices (a .xs .now) (a .ys .now) (a .strengths .now) (a .neighbours .now)) n)) (sym (c .before .lesser .ensures))
+    ap (λ (n : ℕ). any isOutside (cornersOf (slices (a .xs .now) (a .ys .now) (a .strengths .now) (a .neighbours .now)) n))
+    (sym (c .before .lesser .ensures))
     ∙ sym (c .has-outside .ensures)
 
 returns-2 : tie.Need-returns-2
 returns-2 c =
     let on = c .before .before .before in
     judged-corner _ _ _ _ (sym (on .before .is-off .ensures) ∙ on .if1 .left) (tested (c .before) ∙ c .if2 .taken)
-
-is-sized-requires : tie.Need-is-sized-requires
-is-sized-requires c κs = search needs
-
-crowding-requires-2 : tie.Need-crowding-requires-2
-crowding-requires-2 c κs = search needs
 
 returns-3 : tie.Need-returns-3
 returns-3 c =
@@ -63,15 +47,6 @@ returns-4 c =
 
 pub refusal-at-spec : {M : Type 1} → statement M
 refusal-at-spec =
-    tie.close
-    (tie.spec
-    is-off-requires
-    crowding-requires
-    returns
-    lesser-requires
-    has-outside-requires
-    returns-2
-    is-sized-requires
-    crowding-requires-2
-    returns-3
-    returns-4)
+    tie.close (tie.spec
+    (λ c κs. search needs) (λ c κs. search needs) returns (λ c κs. search needs) (λ c κs. search needs) returns-2 (λ c κs. search needs)
+    (λ c κs. search needs) returns-3 returns-4)

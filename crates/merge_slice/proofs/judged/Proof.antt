@@ -4,9 +4,6 @@ use mathlib.Core.Path.{sym, _∙_}
 use Rattle.merge_slice.proofs.judged.Statement.{statement}
 use Rattle.merge_slice.proofs.judged.Tie as tie
 
-is-off-requires : tie.Need-is-off-requires
-is-off-requires c κs = search needs
-
 returns : tie.Need-returns
 returns c = simp (sym (c .before .is-off .ensures) ∙ c .if1 .taken)
 
@@ -17,4 +14,4 @@ returns-3 : tie.Need-returns-3
 returns-3 c = simp (sym (c .before .before .is-off .ensures) ∙ c .before .if1 .left, c .if2 .left)
 
 pub judged-spec : {M : Type 1} → statement M
-judged-spec = tie.close (tie.spec is-off-requires returns returns-2 returns-3)
+judged-spec = tie.close (tie.spec (λ c κs. search needs) returns returns-2 returns-3)

@@ -9,18 +9,11 @@ use Rattle.pgm.proofs.has_magic.Tie as tie
 returns : tie.Need-returns
 returns c = sym (magic-short (c .before .args .upload .now) (c .if1 .taken))
 
-shared-slice-read-if2 : tie.Need-shared-slice-read-if2
-shared-slice-read-if2 c = search needs
-
 returns-2 : tie.Need-returns-2
 returns-2 c = rw (ne-eqb _ 80 (c .if2 .taken))
-
-shared-slice-read-result : tie.Need-shared-slice-read-result
-shared-slice-read-result c = search needs
 
 returns-3 : tie.Need-returns-3
 returns-3 c = rw (eq-eqb _ 80 (c .before .if2 .left))
 
 pub has-magic-spec : {M : Type 1} → statement M
-has-magic-spec =
-    tie.close (tie.spec returns shared-slice-read-if2 returns-2 shared-slice-read-result returns-3)
+has-magic-spec = tie.close (tie.spec returns (λ c. search needs) returns-2 (λ c. search needs) returns-3)

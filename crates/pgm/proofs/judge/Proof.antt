@@ -7,30 +7,6 @@ use Rattle.pgm.proofs.Judging.{judged}
 use Rattle.pgm.proofs.judge.Statement.{statement}
 use Rattle.pgm.proofs.judge.Tie as tie
 
-has-magic-requires : tie.Need-has-magic-requires
-has-magic-requires c κs = search needs
-
-both-requires : tie.Need-both-requires
-both-requires c κs = search needs
-
-both-requires-2 : tie.Need-both-requires-2
-both-requires-2 c κs = search needs
-
-begins-space-requires : tie.Need-begins-space-requires
-begins-space-requires c κs = search needs
-
-both-requires-3 : tie.Need-both-requires-3
-both-requires-3 c κs = search needs
-
-both-requires-4 : tie.Need-both-requires-4
-both-requires-4 c κs = search needs
-
-minus-requires : tie.Need-minus-requires
-minus-requires c κs = search needs
-
-minus-requires-2 : tie.Need-minus-requires-2
-minus-requires-2 c κs = search needs
-
 refusal-requires : tie.Need-refusal-requires
 refusal-requires c κs =
     let read = c .before .before .before .before .before .before .before .before .before .pre in
@@ -44,21 +20,13 @@ returns c =
     let space = delimited .before in
     let sides = space .before in
     let pair = sides .before in
-    judged _ _ _ _ (pair .before .before .before .pre) _ _ _ (pair .before .has-magic .ensures) (pair .both .ensures) (sides .both2 .ensures)
+    judged _ _ _ _ (pair .before .before .before .pre) _ _ _ (pair .before .has-magic .ensures) (pair .both .ensures)
+    (sides .both2 .ensures)
     _ _ (space .begins-space .ensures) (delimited .both3 .ensures) _ (whole .both4 .ensures)
     _ (left .minus2 .ensures ∙ ap (λ (n : ℕ). n - 1) (left .before .minus .ensures)) _ (c .refusal .ensures)
 
 pub judge-spec : {M : Type 1} → statement M
 judge-spec =
-    tie.close
-    (tie.spec
-    has-magic-requires
-    both-requires
-    both-requires-2
-    begins-space-requires
-    both-requires-3
-    both-requires-4
-    minus-requires
-    minus-requires-2
-    refusal-requires
-    returns)
+    tie.close (tie.spec
+    (λ c κs. search needs) (λ c κs. search needs) (λ c κs. search needs) (λ c κs. search needs) (λ c κs. search needs)
+    (λ c κs. search needs) (λ c κs. search needs) (λ c κs. search needs) refusal-requires returns)

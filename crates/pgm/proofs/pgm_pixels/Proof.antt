@@ -5,18 +5,6 @@ use Rattle.pgm.proofs.Judging.{Located, located, located-pixels, refuse
 use Rattle.pgm.proofs.pgm_pixels.Statement.{statement}
 use Rattle.pgm.proofs.pgm_pixels.Tie as tie
 
-read-pgm-requires : tie.Need-read-pgm-requires
-read-pgm-requires c κs = search needs
-
-enum-known-image : tie.Need-enum-known-image
-enum-known-image c = search needs
-
-enum-told : tie.Need-enum-told
-enum-told c = search needs
-
-slice-aggregate-result : tie.Need-slice-aggregate-result
-slice-aggregate-result c = search needs
-
 returns : tie.Need-returns
 returns c =
     refused-pixels (c .before .before .before .before .before .args .upload .now) _ (c .before .before .before .read-pgm .ensures) _
@@ -24,7 +12,8 @@ returns c =
 
 -- where the pixels are
 pixels : (c : tie.After-known-told)
-    → Located (c .before .before .before .before .before .args .upload .now) (c .before .image .given .0 .0) (c .before .image .given .0 .1 .0)
+    → Located (c .before .before .before .before .before .args .upload .now) (c .before .image .given .0 .0)
+    (c .before .image .given .0 .1 .0)
     (c .before .image .given .0 .1 .1 .0)
 pixels c = located _ _ (c .before .before .before .read-pgm .ensures) _ _ _ (c .before .image .given .1)
 
@@ -34,12 +23,6 @@ mul-end c = record { fits = omega (arith, pixels c .small) }
 add-end : tie.Need-add-end
 add-end c = omega (arith, pixels c .inside)
 
-sub-result : tie.Need-sub-result
-sub-result c = search needs
-
-part-result-start : tie.Need-part-result-start
-part-result-start c = search needs
-
 part-result-end : tie.Need-part-result-end
 part-result-end c = pixels c .inside
 
@@ -48,16 +31,6 @@ returns-2 c = located-pixels _ _ _ _ (pixels (c .before))
 
 pub pgm-pixels-spec : {M : Type 1} → statement M
 pgm-pixels-spec =
-    tie.close
-    (tie.spec
-    read-pgm-requires
-    enum-known-image
-    enum-told
-    slice-aggregate-result
-    returns
-    mul-end
-    add-end
-    sub-result
-    part-result-start
-    part-result-end
-    returns-2)
+    tie.close (tie.spec
+    (λ c κs. search needs) (λ c. search needs) (λ c. search needs) (λ c. search needs) returns mul-end add-end (λ c. search needs)
+    (λ c. search needs) part-result-end returns-2)

@@ -8,24 +8,13 @@ use Rattle.pgm.proofs.Judging.{refused-read, pixels-read, end-inside}
 use Rattle.pgm.proofs.read_pgm.Statement.{statement}
 use Rattle.pgm.proofs.read_pgm.Tie as tie
 
-skip-comments-requires : tie.Need-skip-comments-requires
-skip-comments-requires c κs = search needs
-
-read-field-requires : tie.Need-read-field-requires
-read-field-requires c κs = search needs
-
-read-field-requires-2 : tie.Need-read-field-requires-2
-read-field-requires-2 c κs = search needs
-
-read-field-requires-3 : tie.Need-read-field-requires-3
-read-field-requires-3 c κs = search needs
-
 -- the three fields
 fields : (c : tie.After-read-field3)
     → FieldsRead (c .before .before .before .before .before .args .upload .now) (c .before .before .read-field .result)
     (c .before .read-field2 .result) (c .read-field3 .result)
 fields c =
-    fields-read _ _ (c .before .before .before .skip-comments .ensures) _ _ _ (c .before .before .read-field .ensures) (c .before .read-field2 .ensures)
+    fields-read _ _ (c .before .before .before .skip-comments .ensures) _ _ _ (c .before .before .read-field .ensures)
+    (c .before .read-field2 .ensures)
     (c .read-field3 .ensures)
 
 judge-requires : tie.Need-judge-requires
@@ -42,13 +31,5 @@ returns-2 c = pixels-read _ _ _ _ (fields (c .before .before)) (sym (c .before .
 
 pub read-pgm-spec : {M : Type 1} → statement M
 read-pgm-spec =
-    tie.close
-    (tie.spec
-    skip-comments-requires
-    read-field-requires
-    read-field-requires-2
-    read-field-requires-3
-    judge-requires
-    returns
-    add-t9
-    returns-2)
+    tie.close (tie.spec
+    (λ c κs. search needs) (λ c κs. search needs) (λ c κs. search needs) (λ c κs. search needs) judge-requires returns add-t9 returns-2)

@@ -6,9 +6,6 @@ use borrow.Author.Tests.{lt-ltb, le-ltb, eq-eqb, ne-eqb}
 use Rattle.pgm.proofs.refusal.Statement.{statement}
 use Rattle.pgm.proofs.refusal.Tie as tie
 
-is-large-requires : tie.Need-is-large-requires
-is-large-requires c κs = search needs
-
 returns : tie.Need-returns
 returns c = rw (← c .before .is-large .ensures, c .if1 .taken)
 
@@ -51,5 +48,4 @@ returns-5 c =
     )
 
 pub refusal-spec : {M : Type 1} → statement M
-refusal-spec =
-    tie.close (tie.spec is-large-requires returns returns-2 mul-if3 returns-3 returns-4 returns-5)
+refusal-spec = tie.close (tie.spec (λ c κs. search needs) returns returns-2 mul-if3 returns-3 returns-4 returns-5)

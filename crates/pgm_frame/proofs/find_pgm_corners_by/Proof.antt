@@ -6,21 +6,6 @@ use Rattle.pgm_frame.proofs.find_pgm_corners_by.Statement.{statement}
 use Rattle.pgm_frame.proofs.find_pgm_corners_by.Tie as tie
 use Landmarks.*
 
-read-pgm-requires : tie.Need-read-pgm-requires
-read-pgm-requires c κs = search needs
-
-enum-known-image : tie.Need-enum-known-image
-enum-known-image c = search needs
-
-enum-known-image-2 : tie.Need-enum-known-image-2
-enum-known-image-2 c = search needs
-
-pgm-pixels-requires : tie.Need-pgm-pixels-requires
-pgm-pixels-requires c κs = search needs
-
-find-corners-by-requires : tie.Need-find-corners-by-requires
-find-corners-by-requires c κs = search needs
-
 returns : tie.Need-returns
 returns c = photograph-refused _ _ _ _ _ (c .before .before .before .read-pgm .ensures) _ (c .before .image .given .1)
 
@@ -61,22 +46,7 @@ returns-2 c =
 
 pub find-pgm-corners-by-spec : {M : Type 1} → statement M
 find-pgm-corners-by-spec =
-    tie.close
-    (tie.spec
-    read-pgm-requires
-    enum-known-image
-    enum-known-image-2
-    pgm-pixels-requires
-    find-corners-by-requires
-    returns
-    same-length
-    same-length-2
-    same-length-3
-    same-length-4
-    same-length-5
-    same-length-6
-    same-length-7
-    same-length-8
-    same-length-9
-    same-length-10
+    tie.close (tie.spec
+    (λ c κs. search needs) (λ c. search needs) (λ c. search needs) (λ c κs. search needs) (λ c κs. search needs) returns same-length
+    same-length-2 same-length-3 same-length-4 same-length-5 same-length-6 same-length-7 same-length-8 same-length-9 same-length-10
     returns-2)

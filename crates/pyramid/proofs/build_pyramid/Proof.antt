@@ -9,14 +9,8 @@ use Rattle.pyramid.proofs.Building.{built-refused, built-filled}
 use Rattle.pyramid.proofs.build_pyramid.Statement.{statement}
 use Rattle.pyramid.proofs.build_pyramid.Tie as tie
 
-build-refusal-requires : tie.Need-build-refusal-requires
-build-refusal-requires c κs = search needs
-
 returns : tie.Need-returns
 returns c = built-refused _ _ _ _ _ _ _ (sym (c .before .build-refusal .ensures)) (c .if1 .taken)
-
-level-count-requires : tie.Need-level-count-requires
-level-count-requires c κs = search needs
 
 -- the entry
 abbrev start : tie.After-level-count → tie.Start
@@ -43,11 +37,5 @@ returns-2 c =
 
 pub build-pyramid-spec : {M : Type 1} → statement M
 build-pyramid-spec =
-    tie.close
-    (tie.spec
-    build-refusal-requires
-    returns
-    level-count-requires
-    fill-levels-requires
-    same-length
-    returns-2)
+    tie.close (tie.spec
+    (λ c κs. search needs) returns (λ c κs. search needs) fill-levels-requires same-length returns-2)

@@ -1,5 +1,5 @@
--- `pyramid::level` meets its contract: nothing where the level is refused, the base, or the part of the buffer where the level lies. Assumes
--- nothing.
+-- `pyramid::level` meets its contract: nothing where the level is refused, the base, or the part of the buffer where the level lies.
+-- Assumes nothing.
 use native.Mathlib.Omega.{arith}
 use mathlib.Core.Path.{_≡_, sym, _∙_}
 use lib.ListN.{length}
@@ -9,12 +9,6 @@ use Rattle.pyramid_levels.proofs.Refusals.{level-few}
 use Rattle.pyramid.proofs.Lookup.{Between, level-refused, level-base, level-between, level-higher}
 use Rattle.pyramid.proofs.level.Statement.{statement}
 use Rattle.pyramid.proofs.level.Tie as tie
-
-level-refusal-requires : tie.Need-level-refusal-requires
-level-refusal-requires c κs = search needs
-
-slice-aggregate-result : tie.Need-slice-aggregate-result
-slice-aggregate-result c = search needs
 
 returns : tie.Need-returns
 returns c =
@@ -34,19 +28,14 @@ free c = sym (c .before .level-refusal .ensures) ∙ c .if1 .left
 returns-2 : tie.Need-returns-2
 returns-2 c = let a = start (c .before) .args in level-base (a .base .now) (a .levels .now) _ _ _ _ _ (free (c .before)) (c .if2 .taken)
 
-cells-before-requires : tie.Need-cells-before-requires
-cells-before-requires c κs = search needs
-
 add-cells-before : tie.Need-add-cells-before
 add-cells-before c = record { fits = omega (arith, level-few _ _ (free (c .before .before))) }
-
-cells-before-requires-2 : tie.Need-cells-before-requires-2
-cells-before-requires-2 c κs = search needs
 
 -- where the level begins and ends
 between : (c : tie.After-cells-before2)
     → Between (start (c .before .before .before) .args .levels .now) (start (c .before .before .before) .args .width)
-    (start (c .before .before .before) .args .height) (start (c .before .before .before) .args .k) (c .before .cells-before .result) (c .cells-before2 .result)
+    (start (c .before .before .before) .args .height) (start (c .before .before .before) .args .k)
+    (c .before .cells-before .result) (c .cells-before2 .result)
 between c =
     let p = c .before .before .before in
     let a = start p .args in
@@ -70,16 +59,6 @@ returns-3 c =
 
 pub level-spec : {M : Type 1} → statement M
 level-spec =
-    tie.close
-    (tie.spec
-    level-refusal-requires
-    slice-aggregate-result
-    returns
-    returns-2
-    cells-before-requires
-    add-cells-before
-    cells-before-requires-2
-    sub-result
-    part-result-start
-    part-result-end
-    returns-3)
+    tie.close (tie.spec
+    (λ c κs. search needs) (λ c. search needs) returns returns-2 (λ c κs. search needs) add-cells-before (λ c κs. search needs)
+    sub-result part-result-start part-result-end returns-3)

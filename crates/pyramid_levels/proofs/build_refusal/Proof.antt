@@ -7,9 +7,6 @@ use Rattle.pyramid_levels.proofs.Refusals.{build-short, build-long}
 use Rattle.pyramid_levels.proofs.build_refusal.Statement.{statement}
 use Rattle.pyramid_levels.proofs.build_refusal.Tie as tie
 
-refusal-requires : tie.Need-refusal-requires
-refusal-requires c κs = search needs
-
 returns : tie.Need-returns
 unfolding buildRefusalOf
 returns c = refused _ _ _ _ _ (c .before .refusal .ensures) (c .if1 .taken)
@@ -18,9 +15,6 @@ returns c = refused _ _ _ _ _ (c .before .refusal .ensures) (c .if1 .taken)
 image : (c : tie.Else1) → Sized (c .before .before .args .pixels) (c .before .before .args .width) (c .before .before .args .height)
 image c = sized _ _ _ _ (c .before .refusal .ensures) (c .if1 .left)
 
-cells-above-requires : tie.Need-cells-above-requires
-cells-above-requires c κs = search needs
-
 returns-2 : tie.Need-returns-2
 returns-2 c = build-short _ (image (c .before .before)) (rw (c .before .cells-above .ensures) at (c .if2 .taken))
 
@@ -28,5 +22,4 @@ returns-3 : tie.Need-returns-3
 returns-3 c = build-long _ (image (c .before .before)) (rw (c .before .cells-above .ensures) at (c .if2 .left))
 
 pub build-refusal-spec : {M : Type 1} → statement M
-build-refusal-spec =
-    tie.close (tie.spec refusal-requires returns cells-above-requires returns-2 returns-3)
+build-refusal-spec = tie.close (tie.spec (λ c κs. search needs) returns (λ c κs. search needs) returns-2 returns-3)

@@ -4,14 +4,8 @@ use borrow.Author.Needs.{needs}
 use Rattle.pyramid_levels.proofs.cells_above.Statement.{statement}
 use Rattle.pyramid_levels.proofs.cells_above.Tie as tie
 
-level-count-requires : tie.Need-level-count-requires
-level-count-requires c κs = search needs
-
-cells-before-requires : tie.Need-cells-before-requires
-cells-before-requires c κs = search needs
-
 returns : tie.Need-returns
 returns c = c .cells-before .ensures ∙ rw (c .before .level-count .ensures)
 
 pub cells-above-spec : {M : Type 1} → statement M
-cells-above-spec = tie.close (tie.spec level-count-requires cells-before-requires returns)
+cells-above-spec = tie.close (tie.spec (λ c κs. search needs) (λ c κs. search needs) returns)

@@ -1,5 +1,5 @@
--- `pyramid_levels::cells_before` meets its contract. The invariant: the sides of level k, the pixels of levels 1 .. k, and k below 64, since a side
--- has 64 bits. Assumes nothing.
+-- `pyramid_levels::cells_before` meets its contract. The invariant: the sides of level k, the pixels of levels 1 .. k, and k below 64,
+-- since a side has 64 bits. Assumes nothing.
 use Prim.Native.Nat.{suc, _-_, _≤_, _<_}
 use native.Mathlib.Numerals.{add-one}
 use native.Mathlib.Omega.{arith}
@@ -22,26 +22,11 @@ loop-holds : tie.Need-loop-holds Inv-loop μ-loop
 unfolding cellsAbove
 loop-holds c = (search needs, side-base _, side-base _, refl, search needs)
 
-add-loop : tie.Need-add-loop Inv-loop μ-loop
-add-loop c = search needs
-
-capped-product-requires : tie.Need-capped-product-requires Inv-loop μ-loop
-capped-product-requires c κs = search needs
-
 returns : tie.Need-returns Inv-loop μ-loop
 returns c =
     let l = c .before .before .before .loop in
     capped-stop _ _ _ _ _ _ _ _ (side-next _ _ _ (l .inv .1)) (side-next _ _ _ (l .inv .2)) (l .inv .3) (c .before .capped-product .ensures)
     (c .if1 .taken) (omega arith)
-
-capped-sum-requires : tie.Need-capped-sum-requires Inv-loop μ-loop
-capped-sum-requires c κs = search needs
-
-add-k : tie.Need-add-k Inv-loop μ-loop
-add-k c = search needs
-
-loop-less : tie.Need-loop-less Inv-loop μ-loop
-loop-less c = search needs
 
 loop-again : tie.Need-loop-again Inv-loop μ-loop
 loop-again c =
@@ -62,16 +47,6 @@ returns-2 c = c .before .loop .inv .3 ∙ ap capped (cells-last _ _ _ _ (c .loop
 
 pub cells-before-spec : {M : Type 1} → statement M
 cells-before-spec =
-    tie.close
-    (tie.spec
-    Inv-loop
-    μ-loop
-    loop-holds
-    add-loop
-    capped-product-requires
-    returns
-    capped-sum-requires
-    add-k
-    loop-less
-    loop-again
-    returns-2)
+    tie.close (tie.spec
+    Inv-loop μ-loop loop-holds (λ c. search needs) (λ c κs. search needs) returns (λ c κs. search needs) (λ c. search needs)
+    (λ c. search needs) loop-again returns-2)

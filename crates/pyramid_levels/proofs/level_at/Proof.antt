@@ -9,21 +9,16 @@ use borrow.Author.Needs.{needs}
 use Rattle.pyramid_levels.proofs.level_at.Statement.{statement}
 use Rattle.pyramid_levels.proofs.level_at.Tie as tie
 
-level-refusal-requires : tie.Need-level-refusal-requires
-level-refusal-requires c κs = search needs
-
 returns : tie.Need-returns
 returns c = level-refused _ _ _ (sym (c .before .level-refusal .ensures)) (c .if1 .taken)
-
-cells-before-requires : tie.Need-cells-before-requires
-cells-before-requires c κs = search needs
 
 -- the entry
 abbrev start : tie.Else1 → tie.Start
 start c = c .before .before
 
 -- nothing refuses the level
-free : (c : tie.Else1) → let a = start c .args in levelRefusalOf (ask (a .pixels) (a .places) (a .width) (a .height) (a .num-levels) (a .min-size)) (a .k) ≡ 0
+free : (c : tie.Else1) → let a = start c .args in
+    levelRefusalOf (ask (a .pixels) (a .places) (a .width) (a .height) (a .num-levels) (a .min-size)) (a .k) ≡ 0
 free c = sym (c .before .level-refusal .ensures) ∙ c .if1 .left
 
 shr-t11 : tie.Need-shr-t11
@@ -38,6 +33,4 @@ returns-2 c =
     level-found _ _ _ (free (c .before)) (c .cells-before .ensures ∙ cells-exact _ _ _ (i .narrow) (i .low))
 
 pub level-at-spec : {M : Type 1} → statement M
-level-at-spec =
-    tie.close
-    (tie.spec level-refusal-requires returns cells-before-requires shr-t11 shr-t12 returns-2)
+level-at-spec = tie.close (tie.spec (λ c κs. search needs) returns (λ c κs. search needs) shr-t11 shr-t12 returns-2)

@@ -1,5 +1,5 @@
--- `pyramid_levels::level_refusal` meets its contract: a level that is there is refused as building is, and another one by its number. Assumes
--- nothing.
+-- `pyramid_levels::level_refusal` meets its contract: a level that is there is refused as building is, and another one by its number.
+-- Assumes nothing.
 use mathlib.Core.Path.{_∙_}
 use borrow.Author.Needs.{needs}
 use Rattle.image_size.proofs.Judged.{refused, sized}
@@ -8,17 +8,8 @@ use Rattle.pyramid_levels.proofs.Refusals.{level-there, level-absent}
 use Rattle.pyramid_levels.proofs.level_refusal.Statement.{statement}
 use Rattle.pyramid_levels.proofs.level_refusal.Tie as tie
 
-level-count-requires : tie.Need-level-count-requires
-level-count-requires c κs = search needs
-
-build-refusal-requires : tie.Need-build-refusal-requires
-build-refusal-requires c κs = search needs
-
 returns : tie.Need-returns
 returns c = c .build-refusal .ensures ∙ level-there _ _ (rw (c .before .before .level-count .ensures) at (c .before .if1 .taken))
-
-refusal-requires : tie.Need-refusal-requires
-refusal-requires c κs = search needs
 
 returns-2 : tie.Need-returns-2
 unfolding levelRefusalOf
@@ -31,5 +22,5 @@ returns-3 c =
 
 pub level-refusal-spec : {M : Type 1} → statement M
 level-refusal-spec =
-    tie.close
-    (tie.spec level-count-requires build-refusal-requires returns refusal-requires returns-2 returns-3)
+    tie.close (tie.spec
+    (λ c κs. search needs) (λ c κs. search needs) returns (λ c κs. search needs) returns-2 returns-3)

@@ -10,9 +10,6 @@ use Rattle.response.proofs.Indices.{area-le}
 use Rattle.response.proofs.refusal.Statement.{statement}
 use Rattle.response.proofs.refusal.Tie as tie
 
-refusal-requires : tie.Need-refusal-requires
-refusal-requires c κs = search needs
-
 returns : tie.Need-returns
 unfolding refusalFor
 returns c = refused _ _ _ _ _ (c .before .refusal .ensures) (c .if1 .taken)
@@ -20,9 +17,6 @@ returns c = refused _ _ _ _ _ (c .before .refusal .ensures) (c .if1 .taken)
 -- past the test of the image
 image : (c : tie.Else1) → Sized (c .before .before .args .pixels) (c .before .before .args .w) (c .before .before .args .h)
 image c = sized _ _ _ _ (c .before .refusal .ensures) (c .if1 .left)
-
-is-ring-requires : tie.Need-is-ring-requires
-is-ring-requires c κs = search needs
 
 returns-2 : tie.Need-returns-2
 unfolding refusalFor
@@ -36,20 +30,23 @@ mul-if3 c =
 
 returns-3 : tie.Need-returns-3
 unfolding refusalFor
-returns-3 c = rw (passed _ _ _ _ (image (c .before .before .before)), ← c .before .before .is-ring .ensures, c .before .if2 .left, lt-ltb _ _ (c .if3 .taken))
+returns-3 c =
+    rw (
+      passed _ _ _ _ (image (c .before .before .before)),
+      ← c .before .before .is-ring .ensures,
+      c .before .if2 .left,
+      lt-ltb _ _ (c .if3 .taken),
+    )
 
 returns-4 : tie.Need-returns-4
 unfolding refusalFor
-returns-4 c = rw (passed _ _ _ _ (image (c .before .before .before)), ← c .before .before .is-ring .ensures, c .before .if2 .left, le-ltb _ _ (c .if3 .left))
+returns-4 c =
+    rw (
+      passed _ _ _ _ (image (c .before .before .before)),
+      ← c .before .before .is-ring .ensures,
+      c .before .if2 .left,
+      le-ltb _ _ (c .if3 .left),
+    )
 
 pub refusal-spec : {M : Type 1} → statement M
-refusal-spec =
-    tie.close
-    (tie.spec
-    refusal-requires
-    returns
-    is-ring-requires
-    returns-2
-    mul-if3
-    returns-3
-    returns-4)
+refusal-spec = tie.close (tie.spec (λ c κs. search needs) returns (λ c κs. search needs) returns-2 mul-if3 returns-3 returns-4)

@@ -15,24 +15,6 @@ abbrev μ-loop : tie.MeasureT-loop
 loop-holds : tie.Need-loop-holds Inv-loop μ-loop
 loop-holds c = (search needs, compared-none _ _)
 
-shared-slice-read-byte-minus : tie.Need-shared-slice-read-byte-minus Inv-loop μ-loop
-shared-slice-read-byte-minus c = search needs
-
-shared-slice-read-byte-minus-2 : tie.Need-shared-slice-read-byte-minus-2 Inv-loop μ-loop
-shared-slice-read-byte-minus-2 c = search needs
-
-byte-minus-requires : tie.Need-byte-minus-requires Inv-loop μ-loop
-byte-minus-requires c κs = search needs
-
-byte-greater-requires : tie.Need-byte-greater-requires Inv-loop μ-loop
-byte-greater-requires c κs = search needs
-
-add-i : tie.Need-add-i Inv-loop μ-loop
-add-i c = search needs
-
-loop-less : tie.Need-loop-less Inv-loop μ-loop
-loop-less c = search needs
-
 loop-again : tie.Need-loop-again Inv-loop μ-loop
 loop-again c = (
   search needs,
@@ -45,16 +27,6 @@ returns c = compared-all _ _ _ _ (c .before .loop .inv .1) (search needs)
 
 pub are-crossed-spec : {M : Type 1} → statement M
 are-crossed-spec =
-    tie.close
-    (tie.spec
-    Inv-loop
-    μ-loop
-    loop-holds
-    shared-slice-read-byte-minus
-    shared-slice-read-byte-minus-2
-    byte-minus-requires
-    byte-greater-requires
-    add-i
-    loop-less
-    loop-again
-    returns)
+    tie.close (tie.spec
+    Inv-loop μ-loop loop-holds (λ c. search needs) (λ c. search needs) (λ c κs. search needs) (λ c κs. search needs) (λ c. search needs)
+    (λ c. search needs) loop-again returns)

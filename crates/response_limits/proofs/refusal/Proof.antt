@@ -18,9 +18,6 @@ use borrow.Author.Needs.{needs}
 use Rattle.response_limits.proofs.refusal.Statement.{statement}
 use Rattle.response_limits.proofs.refusal.Tie as tie
 
-refusal-requires : tie.Need-refusal-requires
-refusal-requires c κs = search needs
-
 returns : tie.Need-returns
 unfolding refusalOf
 returns c = refused _ _ _ _ _ (c .before .refusal .ensures) (c .if1 .taken)
@@ -40,19 +37,19 @@ rest : (c : tie.Else2)
     ∷ (ltb (a .highs) (a .w * a .h), 8) ∷ [])
 rest c = by-rest _ _ _ _ _ _ _ (image (c .before)) (c .if2 .left)
 
-are-crossed-requires : tie.Need-are-crossed-requires
-are-crossed-requires c κs = search needs
-
 returns-3 : tie.Need-returns-3
 returns-3 c = rw (rest (c .before .before), ← c .before .are-crossed .ensures, c .if3 .taken)
-
-is-ring-requires : tie.Need-is-ring-requires
-is-ring-requires c κs = search needs
 
 returns-4 : tie.Need-returns-4
 returns-4 c =
     let ranged = c .before .before in
-    rw (rest (ranged .before .before), ← ranged .before .are-crossed .ensures, ranged .if3 .left, ← c .before .is-ring .ensures, c .if4 .taken)
+    rw (
+      rest (ranged .before .before),
+      ← ranged .before .are-crossed .ensures,
+      ranged .if3 .left,
+      ← c .before .is-ring .ensures,
+      c .if4 .taken,
+    )
 
 mul-if5 : tie.Need-mul-if5
 mul-if5 c = let s = image (c .before .before .before .before .before) in omega (arith, area-le _ _ (s .narrow) (s .low))
@@ -103,17 +100,6 @@ returns-7 c =
 
 pub refusal-spec : {M : Type 1} → statement M
 refusal-spec =
-    tie.close
-    (tie.spec
-    refusal-requires
-    returns
-    returns-2
-    are-crossed-requires
-    returns-3
-    is-ring-requires
-    returns-4
-    mul-if5
-    returns-5
-    mul-if6
-    returns-6
-    returns-7)
+    tie.close (tie.spec
+    (λ c κs. search needs) returns returns-2 (λ c κs. search needs) returns-3 (λ c κs. search needs) returns-4 mul-if5 returns-5 mul-if6
+    returns-6 returns-7)

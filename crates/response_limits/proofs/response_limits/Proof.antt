@@ -5,9 +5,6 @@ use borrow.Author.Needs.{needs}
 use Rattle.response_limits.proofs.response_limits.Statement.{statement}
 use Rattle.response_limits.proofs.response_limits.Tie as tie
 
-refusal-requires : tie.Need-refusal-requires
-refusal-requires c κs = search needs
-
 returns : tie.Need-returns
 returns c = when-refused _ _ _ _ _ _ _ _ (c .before .refusal .ensures) (c .if1 .taken)
 
@@ -30,5 +27,4 @@ returns-2 c =
     when-written _ _ _ _ _ _ _ _ _ _ (e .before .refusal .ensures) (e .if1 .left) (fill .0) (fill .1)
 
 pub response-limits-spec : {M : Type 1} → statement M
-response-limits-spec =
-    tie.close (tie.spec refusal-requires returns fill-requires same-length same-length-2 returns-2)
+response-limits-spec = tie.close (tie.spec (λ c κs. search needs) returns fill-requires same-length same-length-2 returns-2)

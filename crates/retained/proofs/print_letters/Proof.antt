@@ -1,4 +1,5 @@
--- `retained::print_letters` hands on the text of the bytes that came, is safe and ends. Assumes the contracts of the C functions that write.
+-- `retained::print_letters` hands on the text of the bytes that came, is safe and ends. Assumes the contracts of the C functions that
+-- write.
 use Prim.Native.Nat.{ℕ, _≤_}
 use native.Mathlib.Omega.{arith}
 use mathlib.Core.Path.{_≡_, sym, ap, _∙_}
@@ -20,16 +21,11 @@ module _ (text buffer : List ℕ) (end : ℕ) (after : List ℕ) (w : Written te
   text-is : take end after ≡ text
   text-is = ap (take end) (w .holds) ∙ front-take text buffer end (w .ends)
 
-count-requires : tie.Need-count-requires
-count-requires c κs = search needs
-
 slice-aggregate-list-holdings : tie.Need-slice-aggregate-list-holdings
 slice-aggregate-list-holdings c =
     let start = c .before .before .before in
-    sym (length-take-le (c .before .count .result) (start .args .stream .now) (omega (arith, c .before .count .ensures, start .pre .0 .fits)))
-
-list-holdings-requires : tie.Need-list-holdings-requires
-list-holdings-requires c κs = search needs
+    sym (length-take-le (c .before .count .result) (start .args .stream .now)
+    (omega (arith, c .before .count .ensures, start .pre .0 .fits)))
 
 array-share-prefix-text : tie.Need-array-share-prefix-text
 array-share-prefix-text c = text-fits _ _ _ _ (c .list-holdings .ensures)
@@ -44,20 +40,12 @@ write-letters-requires c κs =
     record {
       read = start .pre .0;
       sound = start .pre .1;
-      whole = text-is _ _ _ _ (c .before .list-holdings .ensures) ∙ ap (λ (n : ℕ). outputOf (take n (start .args .stream .now))) (count .count .ensures);
+      whole = text-is _ _ _ _ (c .before .list-holdings .ensures)
+          ∙ ap (λ (n : ℕ). outputOf (take n (start .args .stream .now))) (count .count .ensures);
     }
-
-returns : tie.Need-returns
-returns c = search needs
 
 pub print-letters-spec : {M : Type 1} → statement M
 print-letters-spec =
-    tie.close
-    (tie.spec
-    count-requires
-    slice-aggregate-list-holdings
-    list-holdings-requires
-    array-share-prefix-text
-    slice-aggregate-write-letters
-    write-letters-requires
-    returns)
+    tie.close (tie.spec
+    (λ c κs. search needs) slice-aggregate-list-holdings (λ c κs. search needs) array-share-prefix-text slice-aggregate-write-letters
+    write-letters-requires (λ c. search needs))

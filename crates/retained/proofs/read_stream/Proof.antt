@@ -1,5 +1,5 @@
--- `retained::read_stream` meets its contract. The invariant: the bytes that came lie in the buffer, and the items that are passed have no fault. The
--- measure is what is left of the buffer. Assumes the contract of `read`.
+-- `retained::read_stream` meets its contract. The invariant: the bytes that came lie in the buffer, and the items that are passed have no
+-- fault. The measure is what is left of the buffer. Assumes the contract of `read`.
 use Prim.Native.Nat.{ℕ, _+_, _-_, _<_, _≤_}
 use native.Mathlib.Omega.{arith}
 use mathlib.Core.Path.{_≡_, sym, ap, _∙_, subst}
@@ -15,17 +15,19 @@ use Rattle.retention.specs.declared.reading.Standing.{Standing}
 use Rattle.retention.specs.Wanted.{wanted, Stands}
 use Rattle.retention.proofs.Passing.{Before, before-none, before-append, stands-wanted, stands-before}
 use Rattle.retention.proofs.Decided as decide
+use Rattle.retention.specs.Stream.{longestInput}
 use Rattle.retained.proofs.read_stream.Statement.{statement}
 use Rattle.retained.proofs.read_stream.Tie as tie
 
 record Came (s : List ℕ) (i : Input) (passed : ℕ) : Type 0 where
-  long : length s ≡ 589832
-  few : i .count ≤ 589832
+  long : length s ≡ longestInput
+  few : i .count ≤ longestInput
   some : Brought (i .answer)
   before : Before (take (i .count) s) passed
 
 -- ---- one turn, with so many bytes in the buffer and `more` wanted
-module _ (s : List ℕ) (i : Input) (passed : ℕ) (came : Came s i passed) (n : ℕ) (counts : n ≡ i .count) (r : Standing) (told : Stands (take n s) passed r) where
+module _ (s : List ℕ) (i : Input) (passed : ℕ) (came : Came s i passed) (n : ℕ) (counts : n ≡ i .count) (r : Standing)
+    (told : Stands (take n s) passed r) where
   abbrev more : ℕ
   more = r .bytes
 
@@ -41,8 +43,13 @@ module _ (s : List ℕ) (i : Input) (passed : ℕ) (came : Came s i passed) (n :
   module _ (some : more ≡ 0 → ⊥) where
     fits : i .count + more ≤ length s
     fits =
-        omega
-        (arith, wants, decide.most (take (i .count) s) (omega (arith, wants)), length-take-le (i .count) s (omega (arith, came .long, came .few)), came .long)
+        omega (
+          arith,
+          wants,
+          decide.most (take (i .count) s) (omega (arith, wants)),
+          length-take-le (i .count) s (omega (arith, came .long, came .few)),
+          came .long,
+        )
 
     -- what a read leaves
     module _ (j : Input) (after : List ℕ) (read : ReadOn i more s j after) (m : ℕ) (recounts : m ≡ j .count) where
@@ -66,14 +73,14 @@ module _ (s : List ℕ) (i : Input) (passed : ℕ) (came : Came s i passed) (n :
               (stands-before (take (i .count) s) passed (came .before) r stands));
         }
 
-        less : 589832 - j .count < 589832 - i .count
+        less : longestInput - j .count < longestInput - i .count
         less = omega (arith, more-came i more s j after read fits grown, goes-on .few)
 
 abbrev Inv-loop : tie.InvT-loop
 Inv-loop stream₀ input₀ passed₀ stream input passed = Came stream input passed
 
 abbrev μ-loop : tie.MeasureT-loop
-μ-loop stream₀ input₀ passed₀ stream input passed = 589832 - input .count
+μ-loop stream₀ input₀ passed₀ stream input passed = longestInput - input .count
 
 -- from one place of the code back to another
 abbrev at-loop : tie.After-wanted Inv-loop μ-loop → tie.At-loop Inv-loop μ-loop
@@ -102,15 +109,14 @@ goes :
     (c .before .before .before .read-on .last .1 .1 .0)
 goes c = c .before .before .before .read-on .ensures
 
-begin-requires : tie.Need-begin-requires Inv-loop μ-loop
-begin-requires c κs = search needs
-
 loop-holds : tie.Need-loop-holds Inv-loop μ-loop
 loop-holds c = subst (λ (i : Input). Came (c .before .before .args .stream .now) i 0) (sym (c .begin .ensures))
-    (record { long = c .before .before .pre; few = omega arith; some = tt; before = before-none (take 0 (c .before .before .args .stream .now)) })
-
-count-requires : tie.Need-count-requires Inv-loop μ-loop
-count-requires c κs = search needs
+    (record {
+      long = c .before .before .pre;
+      few = omega arith;
+      some = tt;
+      before = before-none (take 0 (c .before .before .args .stream .now));
+    })
 
 slice-reshare-prefix-wanted : tie.Need-slice-reshare-prefix-wanted Inv-loop μ-loop
 slice-reshare-prefix-wanted c = omega (arith, c .count .ensures, c .before .loop .inv .long, c .before .loop .inv .few)
@@ -118,20 +124,11 @@ slice-reshare-prefix-wanted c = omega (arith, c .count .ensures, c .before .loop
 slice-aggregate-wanted : tie.Need-slice-aggregate-wanted Inv-loop μ-loop
 slice-aggregate-wanted c = sym (length-take-le _ _ (slice-reshare-prefix-wanted (c .before)))
 
-wanted-requires : tie.Need-wanted-requires Inv-loop μ-loop
-wanted-requires c κs = search needs
-
 same-length : tie.Need-same-length Inv-loop μ-loop
 same-length c = at-loop (c .before) .loop .inv .long ∙ sym (start (c .before) .pre)
 
 returns : tie.Need-returns Inv-loop μ-loop
 returns c = all-came _ _ _ (at-loop (c .before) .loop .inv) _ (counted (c .before)) _ (c .before .wanted .ensures) (c .if1 .taken)
-
-read-on-requires : tie.Need-read-on-requires Inv-loop μ-loop
-read-on-requires c κs = search needs
-
-count-requires-2 : tie.Need-count-requires-2 Inv-loop μ-loop
-count-requires-2 c κs = search needs
 
 same-length-2 : tie.Need-same-length-2 Inv-loop μ-loop
 same-length-2 c = goes (c .before) .long ∙ at-loop (at-wanted (c .before)) .loop .inv .long ∙ sym (start (at-wanted (c .before)) .pre)
@@ -161,21 +158,7 @@ loop-again c = again c
 
 pub read-stream-spec : {M : Type 1} → statement M
 read-stream-spec =
-    tie.close
-    (tie.spec
-    Inv-loop
-    μ-loop
-    begin-requires
-    loop-holds
-    count-requires
-    slice-reshare-prefix-wanted
-    slice-aggregate-wanted
-    wanted-requires
-    same-length
-    returns
-    read-on-requires
-    count-requires-2
-    same-length-2
-    returns-2
-    loop-less
+    tie.close (tie.spec
+    Inv-loop μ-loop (λ c κs. search needs) loop-holds (λ c κs. search needs) slice-reshare-prefix-wanted slice-aggregate-wanted
+    (λ c κs. search needs) same-length returns (λ c κs. search needs) (λ c κs. search needs) same-length-2 returns-2 loop-less
     loop-again)

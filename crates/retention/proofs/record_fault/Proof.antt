@@ -15,17 +15,8 @@ use Landmarks.*
 returns : tie.Need-returns
 returns c = sym (fault-end _ _ (c .if1 .taken))
 
-shared-slice-read-is-known : tie.Need-shared-slice-read-is-known
-shared-slice-read-is-known c = search needs
-
-is-known-requires : tie.Need-is-known-requires
-is-known-requires c κs = search needs
-
 returns-2 : tie.Need-returns-2
 returns-2 c = sym (fault-kind _ _ (if1-from-returns-2 c .if1 .left) (sym (c .before .is-known .ensures) ∙ not-true _ (c .if2 .taken)))
-
-sub-if3 : tie.Need-sub-if3
-sub-if3 c = search needs
 
 -- the kind is known
 kind-is : (c : tie.Else2) → known (kindAt (start-from-else2 c .args .input .now) (start-from-else2 c .args .at)) ≡ true
@@ -33,9 +24,6 @@ kind-is c = sym (c .before .is-known .ensures) ∙ not-false _ (c .if2 .left)
 
 returns-3 : tie.Need-returns-3
 returns-3 c = sym (fault-cut _ _ (if1-from-returns-3 c .if1 .left) (kind-is (c .before)) (omega arith))
-
-start-at-requires : tie.Need-start-at-requires
-start-at-requires c κs = search needs
 
 returns-4 : tie.Need-returns-4
 returns-4 c =
@@ -54,14 +42,6 @@ returns-5 c =
 
 pub record-fault-spec : {M : Type 1} → statement M
 record-fault-spec =
-    tie.close
-    (tie.spec
-    returns
-    shared-slice-read-is-known
-    is-known-requires
-    returns-2
-    sub-if3
-    returns-3
-    start-at-requires
-    returns-4
+    tie.close (tie.spec
+    returns (λ c. search needs) (λ c κs. search needs) returns-2 (λ c. search needs) returns-3 (λ c κs. search needs) returns-4
     returns-5)

@@ -20,8 +20,8 @@ returns-2 : tie.Need-returns-2
 returns-2 c = sym (time-late _ (c .before .before .before .if1 .left) (rw (c .before .number-of .ensures) at (c .if2 .taken)))
 
 returns-3 : tie.Need-returns-3
-returns-3 c = sym (time-none _ (record { long = c .before .before .before .if1 .left; early = rw (c .before .number-of .ensures) at (c .if2 .left) }))
+returns-3 c =
+    sym (time-none _ (record { long = c .before .before .before .if1 .left; early = rw (c .before .number-of .ensures) at (c .if2 .left) }))
 
 pub time-fault-spec : {M : Type 1} → statement M
-time-fault-spec =
-    tie.close (tie.spec returns slice-aggregate-number-of number-of-requires returns-2 returns-3)
+time-fault-spec = tie.close (tie.spec returns slice-aggregate-number-of number-of-requires returns-2 returns-3)

@@ -4,6 +4,7 @@ use Prim.Native.Nat.{_+_, _*_, _<_}
 use native.Mathlib.Omega.{arith}
 use borrow.Author.Needs.{needs}
 use lib.ListN.{length}
+use Rattle.lists.specs.Limits.{largestMap}
 use Rattle.lists.specs.Places.{Place}
 use Rattle.lists.proofs.Places.{in-map}
 use Rattle.response.proofs.Indices.{area-le}
@@ -20,17 +21,15 @@ abbrev pixel : tie.Start → Place
 pixel a = record { x = a .args .x; y = a .args .y }
 
 granted : (c : tie.Else1)
-    → Ready (start c .args .img .now) (start c .args .w) (start c .args .h) (start c .args .ring) (pixel (start c)) (start c .args .map .now)
+    → Ready (start c .args .img .now) (start c .args .w) (start c .args .h) (start c .args .ring) (pixel (start c))
+    (start c .args .map .now)
 granted c = ready _ _ _ _ _ _ (sym (c .before .refusal .ensures) ∙ c .if1 .left)
 
 stored : (c : tie.Else1) → start c .args .y * start c .args .w + start c .args .x < length (start c .args .img .now)
 stored c = let g = granted c in rw (g .image .sized) (in-map _ _ _ _ (g .column) (g .row))
 
-near : (c : tie.Else1) → start c .args .y * start c .args .w + start c .args .x < 16777216
+near : (c : tie.Else1) → start c .args .y * start c .args .w + start c .args .x < largestMap
 near c = let g = granted c in omega (arith, stored c, g .image .sized, area-le _ _ (g .image .narrow) (g .image .low))
-
-refusal-requires : tie.Need-refusal-requires
-refusal-requires c κs = search needs
 
 returns : tie.Need-returns
 returns c = when-refused _ _ _ _ _ _ _ _ (c .before .refusal .ensures) (c .if1 .taken)
@@ -61,14 +60,5 @@ returns-2 c =
 
 pub retouch-spec : {M : Type 1} → statement M
 retouch-spec =
-    tie.close
-    (tie.spec
-    refusal-requires
-    returns
-    mul-img
-    add-img
-    slice-write-img
-    redo-touched-requires
-    same-length
-    same-length-2
-    returns-2)
+    tie.close (tie.spec
+    (λ c κs. search needs) returns mul-img add-img slice-write-img redo-touched-requires same-length same-length-2 returns-2)

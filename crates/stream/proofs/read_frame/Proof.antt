@@ -8,9 +8,6 @@ use borrow.Author.Needs.{needs}
 use Rattle.stream.proofs.read_frame.Statement.{statement}
 use Rattle.stream.proofs.read_frame.Tie as tie
 
-stream-fault-requires : tie.Need-stream-fault-requires
-stream-fault-requires c κs = search needs
-
 returns : tie.Need-returns
 returns c =
     let a = c .before .before .before .args in
@@ -19,35 +16,25 @@ returns c =
 whole : (c : tie.Else1) → Whole (c .before .before .before .args .input .now)
 whole c = c .before .stream-fault .ensures .whole (c .if1 .left)
 
-header-is : (c : tie.After-header-of) → c .header-of .result ≡ headerAt (c .before .before .before .before .before .before .args .input .now)
+header-is : (c : tie.After-header-of)
+    → c .header-of .result ≡ headerAt (c .before .before .before .before .before .before .args .input .now)
 unfolding headerAt
 header-is c = c .header-of .ensures
-
-sub-sides : tie.Need-sub-sides
-sub-sides c = search needs
-
-part-sides-start : tie.Need-part-sides-start
-part-sides-start c = search needs
 
 part-sides-end : tie.Need-part-sides-end
 part-sides-end c = omega (arith, whole c .long)
 
-sub-parameters : tie.Need-sub-parameters
-sub-parameters c = search needs
-
-part-parameters-start : tie.Need-part-parameters-start
-part-parameters-start c = search needs
-
 part-parameters-end : tie.Need-part-parameters-end
 part-parameters-end c = omega (arith, whole (c .before) .long)
-
-header-of-requires : tie.Need-header-of-requires
-header-of-requires c κs = search needs
 
 mul-store-pixels : tie.Need-mul-store-pixels
 mul-store-pixels c =
     let s = c .before .before .before .before .before .before .before .args .input .now in
-    omega (arith, pixels-are s (c .before .header-of .result) (header-is (c .before)), pixels-fit s (whole (c .before .before .before .before) .small))
+    omega (
+      arith,
+      pixels-are s (c .before .header-of .result) (header-is (c .before)),
+      pixels-fit s (whole (c .before .before .before .before) .small),
+    )
 
 store-pixels-requires : tie.Need-store-pixels-requires
 store-pixels-requires c κs =
@@ -68,17 +55,6 @@ returns-2 c =
 
 pub read-frame-spec : {M : Type 1} → statement M
 read-frame-spec =
-    tie.close
-    (tie.spec
-    stream-fault-requires
-    returns
-    sub-sides
-    part-sides-start
-    part-sides-end
-    sub-parameters
-    part-parameters-start
-    part-parameters-end
-    header-of-requires
-    mul-store-pixels
-    store-pixels-requires
-    returns-2)
+    tie.close (tie.spec
+    (λ c κs. search needs) returns (λ c. search needs) (λ c. search needs) part-sides-end (λ c. search needs) (λ c. search needs)
+    part-parameters-end (λ c κs. search needs) mul-store-pixels store-pixels-requires returns-2)

@@ -7,14 +7,8 @@ use Rattle.sure_peak.proofs.exceeds.Tie as tie
 cast-wide : tie.Need-cast-wide
 cast-wide c = cast-fits _ (c .fits .low)
 
-mul-least : tie.Need-mul-least
-mul-least c = search needs
-
-cast-least : tie.Need-cast-least
-cast-least c = search needs
-
 returns : tie.Need-returns
 returns c = compared _ _ (c .fits .threshold .fits) (c .fits .low)
 
 pub exceeds-spec : {M : Type 1} → statement M
-exceeds-spec = tie.close (tie.spec cast-wide mul-least cast-least returns)
+exceeds-spec = tie.close (tie.spec cast-wide (λ c. search needs) (λ c. search needs) returns)

@@ -7,11 +7,8 @@ use Rattle.sure_peak.proofs.is_inside.Tie as tie
 returns : tie.Need-returns
 returns c = rw (lt-leb _ _ (c .if1 .taken))
 
-add-result : tie.Need-add-result
-add-result c = search needs
-
 returns-2 : tie.Need-returns-2
 returns-2 c = rw (le-leb _ _ (c .if1 .left))
 
 pub is-inside-spec : {M : Type 1} → statement M
-is-inside-spec = tie.close (tie.spec returns add-result returns-2)
+is-inside-spec = tie.close (tie.spec returns (λ c. search needs) returns-2)

@@ -26,9 +26,6 @@ mul-low-2 c = omega (arith, centre-small _ _ _ _ _ (c .pre .0) (pos 0))
 shared-slice-copy-out-low : tie.Need-shared-slice-copy-out-low
 shared-slice-copy-out-low c = centre-in _ _ _ _ _ (c .pre .0) (pos 0)
 
-exceeds-requires : tie.Need-exceeds-requires
-exceeds-requires c κs = search needs
-
 -- the low number of the place, as it was read
 module _ (c : tie.After-low) where
   abbrev cell : ℤ
@@ -40,11 +37,9 @@ module _ (c : tie.After-low) where
 returns : tie.Need-returns
 returns c =
     let a = c .before .before .before .args in
-    when-low (a .lows .now) (a .highs .now) (a .w) (a .h) (a .r) (a .threshold) (a .least) (record { x = a .x; y = a .y }) _ (same (c .before .before))
+    when-low (a .lows .now) (a .highs .now) (a .w) (a .h) (a .r) (a .threshold) (a .least) (record { x = a .x; y = a .y }) _
+    (same (c .before .before))
     (sym (c .before .exceeds .ensures) ∙ not-true _ (c .if1 .taken))
-
-count-window-requires : tie.Need-count-window-requires
-count-window-requires c κs = search needs
 
 returns-2 : tie.Need-returns-2
 returns-2 c =
@@ -53,9 +48,6 @@ returns-2 c =
     when-beaten (a .lows .now) (a .highs .now) (a .w) (a .h) (a .r) (a .threshold) (a .least) (record { x = a .x; y = a .y }) _
     (same (tested .before .before)) (sym (tested .before .exceeds .ensures) ∙ not-false _ (tested .if1 .left)) _
     (c .before .count-window .ensures) (c .if2 .taken)
-
-count-window-requires-2 : tie.Need-count-window-requires-2
-count-window-requires-2 c κs = search needs
 
 returns-3 : tie.Need-returns-3
 returns-3 c =
@@ -68,15 +60,6 @@ returns-3 c =
 
 pub is-sure-spec : {M : Type 1} → statement M
 is-sure-spec =
-    tie.close
-    (tie.spec
-    mul-low
-    add-low
-    mul-low-2
-    shared-slice-copy-out-low
-    exceeds-requires
-    returns
-    count-window-requires
-    returns-2
-    count-window-requires-2
-    returns-3)
+    tie.close (tie.spec
+    mul-low add-low mul-low-2 shared-slice-copy-out-low (λ c κs. search needs) returns (λ c κs. search needs) returns-2
+    (λ c κs. search needs) returns-3)

@@ -11,9 +11,6 @@ use borrow.Author.Needs.{needs}
 use Rattle.sure_peak.proofs.refusal.Statement.{statement}
 use Rattle.sure_peak.proofs.refusal.Tie as tie
 
-refusal-requires : tie.Need-refusal-requires
-refusal-requires c κs = search needs
-
 returns : tie.Need-returns
 unfolding refusalOf
 returns c = refused _ _ _ _ _ (c .before .refusal .ensures) (c .if1 .taken)
@@ -24,9 +21,6 @@ image c = sized _ _ _ _ (c .before .refusal .ensures) (c .if1 .left)
 
 returns-2 : tie.Need-returns-2
 returns-2 c = by-length _ _ _ _ _ _ _ _ (image (c .before)) (c .if2 .taken)
-
-refusal-requires-2 : tie.Need-refusal-requires-2
-refusal-requires-2 c κs = search needs
 
 returns-3 : tie.Need-returns-3
 returns-3 c =
@@ -53,13 +47,5 @@ returns-6 c = rw (place (c .before .before), lt-leb _ _ (c .before .if4 .left), 
 
 pub refusal-spec : {M : Type 1} → statement M
 refusal-spec =
-    tie.close
-    (tie.spec
-    refusal-requires
-    returns
-    returns-2
-    refusal-requires-2
-    returns-3
-    returns-4
-    returns-5
-    returns-6)
+    tie.close (tie.spec
+    (λ c κs. search needs) returns returns-2 (λ c κs. search needs) returns-3 returns-4 returns-5 returns-6)

@@ -6,6 +6,7 @@ use native.Mathlib.Omega.{arith}
 use lib.Dec.{leb, ltb}
 use lib.ListN.{length}
 use borrow.Author.Tests.{not-true, not-false}
+use Rattle.lists.specs.Limits.{largestBorder}
 use Rattle.lists.specs.Places.{Place}
 use Rattle.detect.specs.Internal.{Inside}
 use Rattle.sure_peak.proofs.Judging.{Given, given, inside, narrower, when-refused, outside-across, outside-down, is-sure, not-sure}
@@ -13,17 +14,8 @@ use borrow.Author.Needs.{needs}
 use Rattle.sure_peak.proofs.sure_peak.Statement.{statement}
 use Rattle.sure_peak.proofs.sure_peak.Tie as tie
 
-refusal-requires : tie.Need-refusal-requires
-refusal-requires c κs = search needs
-
 returns : tie.Need-returns
 returns c = when-refused _ _ _ _ _ _ _ _ _ _ _ (c .before .refusal .ensures) (c .if1 .taken)
-
-add-border : tie.Need-add-border
-add-border c = search needs
-
-add-border-2 : tie.Need-add-border-2
-add-border-2 c = search needs
 
 -- ---- nothing refuses
 module _ (c : tie.Else1) where
@@ -36,10 +28,11 @@ module _ (c : tie.Else1) where
   abbrev border : ℕ
   border = start .args .ring + start .args .window + start .args .centroid
 
-  granted : let a = start .args in Given (length (a .lows .now)) (length (a .highs .now)) (a .w) (a .h) (a .ring) (a .window) (a .centroid) place
+  granted : let a = start .args in
+      Given (length (a .lows .now)) (length (a .highs .now)) (a .w) (a .h) (a .ring) (a .window) (a .centroid) place
   granted = given _ _ _ _ _ _ _ _ (sym (c .before .refusal .ensures) ∙ c .if1 .left)
 
-  narrow : border ≤ 42
+  narrow : border ≤ largestBorder
   narrow = let g = granted in omega (arith, g .ring-small, g .window-small, g .centroid-small)
 
 is-inside-requires : tie.Need-is-inside-requires
@@ -48,7 +41,8 @@ is-inside-requires c κs = let g = granted c in (narrow c, omega (arith, g .colu
 returns-2 : tie.Need-returns-2
 returns-2 c =
     let e = c .before .before in
-    outside-across _ _ _ _ _ _ _ _ _ _ _ (e .before .refusal .ensures) (e .if1 .left) (sym (c .before .is-inside .ensures) ∙ not-true _ (c .if2 .taken))
+    outside-across _ _ _ _ _ _ _ _ _ _ _ (e .before .refusal .ensures) (e .if1 .left)
+    (sym (c .before .is-inside .ensures) ∙ not-true _ (c .if2 .taken))
 
 is-inside-requires-2 : tie.Need-is-inside-requires-2
 is-inside-requires-2 c κs = let e = c .before .before in let g = granted e in (narrow e, omega (arith, g .row, g .low-cells .low))
@@ -56,7 +50,8 @@ is-inside-requires-2 c κs = let e = c .before .before in let g = granted e in (
 returns-3 : tie.Need-returns-3
 returns-3 c =
     let e = c .before .before .before .before in
-    outside-down _ _ _ _ _ _ _ _ _ _ _ (e .before .refusal .ensures) (e .if1 .left) (sym (c .before .is-inside2 .ensures) ∙ not-true _ (c .if3 .taken))
+    outside-down _ _ _ _ _ _ _ _ _ _ _ (e .before .refusal .ensures) (e .if1 .left)
+    (sym (c .before .is-inside2 .ensures) ∙ not-true _ (c .if3 .taken))
 
 -- ---- inside the border
 module _ (c : tie.Else3) where
@@ -83,26 +78,18 @@ returns-4 : tie.Need-returns-4
 returns-4 c =
     let i = c .before .before in
     let e = judged i in
-    is-sure _ _ _ _ _ _ _ _ _ _ _ (e .before .refusal .ensures) (e .if1 .left) (across i) (down i) _ (c .before .is-sure .ensures) (c .if4 .taken)
+    is-sure _ _ _ _ _ _ _ _ _ _ _ (e .before .refusal .ensures) (e .if1 .left) (across i) (down i) _ (c .before .is-sure .ensures)
+    (c .if4 .taken)
 
 returns-5 : tie.Need-returns-5
 returns-5 c =
     let i = c .before .before in
     let e = judged i in
-    not-sure _ _ _ _ _ _ _ _ _ _ _ (e .before .refusal .ensures) (e .if1 .left) (across i) (down i) _ (c .before .is-sure .ensures) (c .if4 .left)
+    not-sure _ _ _ _ _ _ _ _ _ _ _ (e .before .refusal .ensures) (e .if1 .left) (across i) (down i) _
+    (c .before .is-sure .ensures) (c .if4 .left)
 
 pub sure-peak-spec : {M : Type 1} → statement M
 sure-peak-spec =
-    tie.close
-    (tie.spec
-    refusal-requires
-    returns
-    add-border
-    add-border-2
-    is-inside-requires
-    returns-2
-    is-inside-requires-2
-    returns-3
-    is-sure-requires
-    returns-4
-    returns-5)
+    tie.close (tie.spec
+    (λ c κs. search needs) returns (λ c. search needs) (λ c. search needs) is-inside-requires returns-2 is-inside-requires-2 returns-3
+    is-sure-requires returns-4 returns-5)

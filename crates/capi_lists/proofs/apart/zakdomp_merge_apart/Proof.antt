@@ -6,15 +6,6 @@ use Rattle.capi_lists.proofs.apart.zakdomp_merge_apart.Statement.{state
 use Rattle.capi_lists.proofs.apart.zakdomp_merge_apart.Tie as tie
 use Landmarks.*
 
-merge-apart-requires : tie.Need-merge-apart-requires
-merge-apart-requires c κs = search needs
-
-kept-of-requires : tie.Need-kept-of-requires
-kept-of-requires c κs = search needs
-
-number-of-requires : tie.Need-number-of-requires
-number-of-requires c κs = search needs
-
 same-length : tie.Need-same-length
 same-length c = search needs
 
@@ -28,17 +19,10 @@ same-length-4 : tie.Need-same-length-4
 same-length-4 c = search needs
 
 returns : tie.Need-returns
-returns c = merged-apart _ _ _ _ _ _ _ _ _ (merge-apart-from-returns c .merge-apart .ensures) (c .number-of .ensures) (c .before .kept-of .ensures)
+returns c =
+    merged-apart _ _ _ _ _ _ _ _ _ (merge-apart-from-returns c .merge-apart .ensures) (c .number-of .ensures) (c .before .kept-of .ensures)
 
 pub zakdomp-merge-apart-spec : {M : Type 1} → statement M
 zakdomp-merge-apart-spec =
-    tie.close
-    (tie.spec
-    merge-apart-requires
-    kept-of-requires
-    number-of-requires
-    same-length
-    same-length-2
-    same-length-3
-    same-length-4
-    returns)
+    tie.close (tie.spec
+    (λ c κs. search needs) (λ c κs. search needs) (λ c κs. search needs) same-length same-length-2 same-length-3 same-length-4 returns)

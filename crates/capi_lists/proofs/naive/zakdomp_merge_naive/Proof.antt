@@ -6,15 +6,6 @@ use Rattle.capi_lists.proofs.naive.zakdomp_merge_naive.Statement.{state
 use Rattle.capi_lists.proofs.naive.zakdomp_merge_naive.Tie as tie
 use Landmarks.*
 
-merge-corners-naive-requires : tie.Need-merge-corners-naive-requires
-merge-corners-naive-requires c κs = search needs
-
-kept-of-requires : tie.Need-kept-of-requires
-kept-of-requires c κs = search needs
-
-number-of-requires : tie.Need-number-of-requires
-number-of-requires c κs = search needs
-
 same-length : tie.Need-same-length
 same-length c = search needs
 
@@ -29,17 +20,10 @@ same-length-4 c = search needs
 
 returns : tie.Need-returns
 returns c =
-    merged-naively _ _ _ _ _ _ _ _ (merge-corners-naive-from-returns c .merge-corners-naive .ensures) (c .number-of .ensures) (c .before .kept-of .ensures)
+    merged-naively _ _ _ _ _ _ _ _ (merge-corners-naive-from-returns c .merge-corners-naive .ensures) (c .number-of .ensures)
+    (c .before .kept-of .ensures)
 
 pub zakdomp-merge-naive-spec : {M : Type 1} → statement M
 zakdomp-merge-naive-spec =
-    tie.close
-    (tie.spec
-    merge-corners-naive-requires
-    kept-of-requires
-    number-of-requires
-    same-length
-    same-length-2
-    same-length-3
-    same-length-4
-    returns)
+    tie.close (tie.spec
+    (λ c κs. search needs) (λ c κs. search needs) (λ c κs. search needs) same-length same-length-2 same-length-3 same-length-4 returns)

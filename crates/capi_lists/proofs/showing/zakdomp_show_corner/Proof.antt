@@ -6,18 +6,6 @@ use Rattle.capi_lists.proofs.showing.zakdomp_show_corner.Statement.{sta
 use Rattle.capi_lists.proofs.showing.zakdomp_show_corner.Tie as tie
 use Landmarks.*
 
-show-corner-requires : tie.Need-show-corner-requires
-show-corner-requires c κs = search needs
-
-corner-of-requires : tie.Need-corner-of-requires
-corner-of-requires c κs = search needs
-
-change-of-requires : tie.Need-change-of-requires
-change-of-requires c κs = search needs
-
-number-of-requires : tie.Need-number-of-requires
-number-of-requires c κs = search needs
-
 returns : tie.Need-returns
 returns c =
     corner-shown _ _ _ _ _ (show-corner-from-returns c .show-corner .ensures) (c .number-of .ensures) _ _ _ _
@@ -25,10 +13,5 @@ returns c =
 
 pub zakdomp-show-corner-spec : {M : Type 1} → statement M
 zakdomp-show-corner-spec =
-    tie.close
-    (tie.spec
-    show-corner-requires
-    corner-of-requires
-    change-of-requires
-    number-of-requires
-    returns)
+    tie.close (tie.spec
+    (λ c κs. search needs) (λ c κs. search needs) (λ c κs. search needs) (λ c κs. search needs) returns)

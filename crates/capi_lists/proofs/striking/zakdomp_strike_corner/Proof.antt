@@ -6,12 +6,6 @@ use Rattle.capi_lists.proofs.striking.zakdomp_strike_corner.Statement.{
 use Rattle.capi_lists.proofs.striking.zakdomp_strike_corner.Tie as tie
 use Landmarks.*
 
-strike-corner-requires : tie.Need-strike-corner-requires
-strike-corner-requires c κs = search needs
-
-number-of-requires : tie.Need-number-of-requires
-number-of-requires c κs = search needs
-
 same-length : tie.Need-same-length
 same-length c = search needs
 
@@ -30,12 +24,5 @@ returns c =
 
 pub zakdomp-strike-corner-spec : {M : Type 1} → statement M
 zakdomp-strike-corner-spec =
-    tie.close
-    (tie.spec
-    strike-corner-requires
-    number-of-requires
-    same-length
-    same-length-2
-    same-length-3
-    same-length-4
-    returns)
+    tie.close (tie.spec
+    (λ c κs. search needs) (λ c κs. search needs) same-length same-length-2 same-length-3 same-length-4 returns)

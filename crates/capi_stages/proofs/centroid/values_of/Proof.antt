@@ -4,21 +4,6 @@ use lib.Ieee.{ofBits}
 use Rattle.capi_stages.proofs.centroid.values_of.Statement.{statement}
 use Rattle.capi_stages.proofs.centroid.values_of.Tie as tie
 
-enum-known-o : tie.Need-enum-known-o
-enum-known-o c = search needs
-
-enum-known-o-2 : tie.Need-enum-known-o-2
-enum-known-o-2 c = search needs
-
-enum-known-o-3 : tie.Need-enum-known-o-3
-enum-known-o-3 c = search needs
-
-enum-known-o-4 : tie.Need-enum-known-o-4
-enum-known-o-4 c = search needs
-
-enum-told : tie.Need-enum-told
-enum-told c = search needs
-
 returns : tie.Need-returns
 returns c = rw (c .before .o .given .1)
 
@@ -39,15 +24,6 @@ returns-5 c = rw (c .enum-told .given .1)
 
 pub values-of-spec : {M : Type 1} → statement M
 values-of-spec =
-    tie.close
-    (tie.spec
-    enum-known-o
-    enum-known-o-2
-    enum-known-o-3
-    enum-known-o-4
-    enum-told
-    returns
-    returns-2
-    returns-3
-    returns-4
-    returns-5)
+    tie.close (tie.spec
+    (λ c. search needs) (λ c. search needs) (λ c. search needs) (λ c. search needs) (λ c. search needs) returns returns-2 returns-3
+    returns-4 returns-5)

@@ -4,18 +4,8 @@ use Rattle.capi_stages.proofs.Entries.{seed-located}
 use Rattle.capi_stages.proofs.centroid.zakdomp_centroid.Statement.{statement}
 use Rattle.capi_stages.proofs.centroid.zakdomp_centroid.Tie as tie
 
-refine-requires : tie.Need-refine-requires
-refine-requires c κs = search needs
-
-values-of-requires : tie.Need-values-of-requires
-values-of-requires c κs = search needs
-
-number-of-requires : tie.Need-number-of-requires
-number-of-requires c κs = search needs
-
 returns : tie.Need-returns
 returns c = seed-located _ _ _ _ _ _ _ _ (c .before .before .refine .ensures) (c .number-of .ensures) (c .before .values-of .ensures)
 
 pub zakdomp-centroid-spec : {M : Type 1} → statement M
-zakdomp-centroid-spec =
-    tie.close (tie.spec refine-requires values-of-requires number-of-requires returns)
+zakdomp-centroid-spec = tie.close (tie.spec (λ c κs. search needs) (λ c κs. search needs) (λ c κs. search needs) returns)

@@ -4,18 +4,6 @@ use Rattle.capi_stages.proofs.Entries.{peaks-counted}
 use Rattle.capi_stages.proofs.enough.zakdomp_has_peaks.Statement.{statement}
 use Rattle.capi_stages.proofs.enough.zakdomp_has_peaks.Tie as tie
 
-has-peaks-requires : tie.Need-has-peaks-requires
-has-peaks-requires c κs = search needs
-
-yes-of-requires : tie.Need-yes-of-requires
-yes-of-requires c κs = search needs
-
-rows-of-requires : tie.Need-rows-of-requires
-rows-of-requires c κs = search needs
-
-number-of-requires : tie.Need-number-of-requires
-number-of-requires c κs = search needs
-
 returns : tie.Need-returns
 returns c =
     let told = c .before .before .before in
@@ -24,4 +12,5 @@ returns c =
 
 pub zakdomp-has-peaks-spec : {M : Type 1} → statement M
 zakdomp-has-peaks-spec =
-    tie.close (tie.spec has-peaks-requires yes-of-requires rows-of-requires number-of-requires returns)
+    tie.close (tie.spec
+    (λ c κs. search needs) (λ c κs. search needs) (λ c κs. search needs) (λ c κs. search needs) returns)

@@ -6,15 +6,6 @@ use Rattle.capi_stages.proofs.merging.zakdomp_merge.Statement.{statemen
 use Rattle.capi_stages.proofs.merging.zakdomp_merge.Tie as tie
 use Landmarks.*
 
-merge-corners-simple-requires : tie.Need-merge-corners-simple-requires
-merge-corners-simple-requires c κs = search needs
-
-kept-of-requires : tie.Need-kept-of-requires
-kept-of-requires c κs = search needs
-
-number-of-requires : tie.Need-number-of-requires
-number-of-requires c κs = search needs
-
 same-length : tie.Need-same-length
 same-length c = search needs
 
@@ -29,17 +20,10 @@ same-length-4 c = search needs
 
 returns : tie.Need-returns
 returns c =
-    corners-merged _ _ _ _ _ _ _ _ (merge-corners-simple-from-returns c .merge-corners-simple .ensures) (c .number-of .ensures) (c .before .kept-of .ensures)
+    corners-merged _ _ _ _ _ _ _ _ (merge-corners-simple-from-returns c .merge-corners-simple .ensures) (c .number-of .ensures)
+    (c .before .kept-of .ensures)
 
 pub zakdomp-merge-spec : {M : Type 1} → statement M
 zakdomp-merge-spec =
-    tie.close
-    (tie.spec
-    merge-corners-simple-requires
-    kept-of-requires
-    number-of-requires
-    same-length
-    same-length-2
-    same-length-3
-    same-length-4
-    returns)
+    tie.close (tie.spec
+    (λ c κs. search needs) (λ c κs. search needs) (λ c κs. search needs) same-length same-length-2 same-length-3 same-length-4 returns)

@@ -6,18 +6,6 @@ use Rattle.capi_stages.proofs.patch.zakdomp_response.Statement.{stateme
 use Rattle.capi_stages.proofs.patch.zakdomp_response.Tie as tie
 use Landmarks.*
 
-chess-response-u8-patch-requires : tie.Need-chess-response-u8-patch-requires
-chess-response-u8-patch-requires c κs = search needs
-
-width-of-requires : tie.Need-width-of-requires
-width-of-requires c κs = search needs
-
-height-of-requires : tie.Need-height-of-requires
-height-of-requires c κs = search needs
-
-number-of-requires : tie.Need-number-of-requires
-number-of-requires c κs = search needs
-
 same-length : tie.Need-same-length
 same-length c = search needs
 
@@ -28,11 +16,5 @@ returns c =
 
 pub zakdomp-response-spec : {M : Type 1} → statement M
 zakdomp-response-spec =
-    tie.close
-    (tie.spec
-    chess-response-u8-patch-requires
-    width-of-requires
-    height-of-requires
-    number-of-requires
-    same-length
-    returns)
+    tie.close (tie.spec
+    (λ c κs. search needs) (λ c κs. search needs) (λ c κs. search needs) (λ c κs. search needs) same-length returns)

@@ -10,15 +10,6 @@ detect-peaks-from-response-with-refine-radius-requires :
     tie.Need-detect-peaks-from-response-with-refine-radius-requires
 detect-peaks-from-response-with-refine-radius-requires c κs = search needs
 
-added-of-requires : tie.Need-added-of-requires
-added-of-requires c κs = search needs
-
-ties-of-requires : tie.Need-ties-of-requires
-ties-of-requires c κs = search needs
-
-number-of-requires : tie.Need-number-of-requires
-number-of-requires c κs = search needs
-
 same-length : tie.Need-same-length
 same-length c = search needs
 
@@ -39,14 +30,6 @@ returns c =
 
 pub zakdomp-peaks-spec : {M : Type 1} → statement M
 zakdomp-peaks-spec =
-    tie.close
-    (tie.spec
-    detect-peaks-from-response-with-refine-radius-requires
-    added-of-requires
-    ties-of-requires
-    number-of-requires
-    same-length
-    same-length-2
-    same-length-3
-    same-length-4
-    returns)
+    tie.close (tie.spec
+    detect-peaks-from-response-with-refine-radius-requires (λ c κs. search needs) (λ c κs. search needs) (λ c κs. search needs)
+    same-length same-length-2 same-length-3 same-length-4 returns)

@@ -4,18 +4,8 @@ use Rattle.capi_tools.proofs.Entries.{holding-told}
 use Rattle.capi_tools.proofs.holding.zakdomp_holding.Statement.{statement}
 use Rattle.capi_tools.proofs.holding.zakdomp_holding.Tie as tie
 
-holding-requires : tie.Need-holding-requires
-holding-requires c κs = search needs
-
-letter-of-requires : tie.Need-letter-of-requires
-letter-of-requires c κs = search needs
-
-number-of-requires : tie.Need-number-of-requires
-number-of-requires c κs = search needs
-
 returns : tie.Need-returns
 returns c = holding-told _ _ _ _ _ _ _ (c .before .before .before .holding .ensures) (c .number-of .ensures) (c .before .letter-of .ensures)
 
 pub zakdomp-holding-spec : {M : Type 1} → statement M
-zakdomp-holding-spec =
-    tie.close (tie.spec holding-requires letter-of-requires number-of-requires returns)
+zakdomp-holding-spec = tie.close (tie.spec (λ c κs. search needs) (λ c κs. search needs) (λ c κs. search needs) returns)

@@ -4,36 +4,16 @@ use Rattle.capi_tools.proofs.Entries.{image-read}
 use Rattle.capi_tools.proofs.photo.zakdomp_pgm.Statement.{statement}
 use Rattle.capi_tools.proofs.photo.zakdomp_pgm.Tie as tie
 
-read-pgm-requires : tie.Need-read-pgm-requires
-read-pgm-requires c κs = search needs
-
-place-of-requires : tie.Need-place-of-requires
-place-of-requires c κs = search needs
-
-width-of-requires : tie.Need-width-of-requires
-width-of-requires c κs = search needs
-
-height-of-requires : tie.Need-height-of-requires
-height-of-requires c κs = search needs
-
-number-of-requires : tie.Need-number-of-requires
-number-of-requires c κs = search needs
-
 returns : tie.Need-returns
 returns c =
     let height = c .before in
     let width = height .before .before in
     let place = width .before .before in
-    image-read _ _ _ (place .before .before .read-pgm .ensures) (c .number-of .ensures) _ _ _ _ _ _ (place .place-of .ensures) (width .width-of .ensures)
+    image-read _ _ _ (place .before .before .read-pgm .ensures) (c .number-of .ensures) _ _ _ _ _ _ (place .place-of .ensures)
+    (width .width-of .ensures)
     (height .height-of .ensures)
 
 pub zakdomp-pgm-spec : {M : Type 1} → statement M
 zakdomp-pgm-spec =
-    tie.close
-    (tie.spec
-    read-pgm-requires
-    place-of-requires
-    width-of-requires
-    height-of-requires
-    number-of-requires
-    returns)
+    tie.close (tie.spec
+    (λ c κs. search needs) (λ c κs. search needs) (λ c κs. search needs) (λ c κs. search needs) (λ c κs. search needs) returns)

@@ -4,15 +4,6 @@ use Rattle.capi_tools.proofs.Entries.{pixel-retouched}
 use Rattle.capi_tools.proofs.retouching.zakdomp_retouch.Statement.{statement}
 use Rattle.capi_tools.proofs.retouching.zakdomp_retouch.Tie as tie
 
-retouch-requires : tie.Need-retouch-requires
-retouch-requires c κs = search needs
-
-redone-of-requires : tie.Need-redone-of-requires
-redone-of-requires c κs = search needs
-
-number-of-requires : tie.Need-number-of-requires
-number-of-requires c κs = search needs
-
 same-length : tie.Need-same-length
 same-length c = search needs
 
@@ -21,9 +12,11 @@ same-length-2 c = search needs
 
 returns : tie.Need-returns
 returns c =
-    pixel-retouched _ _ _ _ _ _ _ _ _ _ _ _ _ (c .before .before .before .before .before .before .before .retouch .ensures) (c .number-of .ensures)
+    pixel-retouched _ _ _ _ _ _ _ _ _ _ _ _ _ (c .before .before .before .before .before .before .before .retouch .ensures)
+    (c .number-of .ensures)
     (c .before .redone-of .ensures)
 
 pub zakdomp-retouch-spec : {M : Type 1} → statement M
 zakdomp-retouch-spec =
-    tie.close (tie.spec retouch-requires redone-of-requires number-of-requires same-length same-length-2 returns)
+    tie.close (tie.spec
+    (λ c κs. search needs) (λ c κs. search needs) (λ c κs. search needs) same-length same-length-2 returns)

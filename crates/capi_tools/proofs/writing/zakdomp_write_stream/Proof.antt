@@ -4,23 +4,15 @@ use Rattle.capi_tools.proofs.Entries.{stream-told}
 use Rattle.capi_tools.proofs.writing.zakdomp_write_stream.Statement.{statement}
 use Rattle.capi_tools.proofs.writing.zakdomp_write_stream.Tie as tie
 
-write-frame-requires : tie.Need-write-frame-requires
-write-frame-requires c κs = search needs
-
-length-of-requires : tie.Need-length-of-requires
-length-of-requires c κs = search needs
-
-number-of-requires : tie.Need-number-of-requires
-number-of-requires c κs = search needs
-
 same-length : tie.Need-same-length
 same-length c = search needs
 
 returns : tie.Need-returns
 returns c =
-    stream-told _ _ _ _ _ _ _ _ (c .before .before .before .before .before .write-frame .ensures) (c .number-of .ensures) (c .before .length-of .ensures)
+    stream-told _ _ _ _ _ _ _ _ (c .before .before .before .before .before .write-frame .ensures) (c .number-of .ensures)
+    (c .before .length-of .ensures)
 
 pub zakdomp-write-stream-spec : {M : Type 1} → statement M
 zakdomp-write-stream-spec =
-    tie.close
-    (tie.spec write-frame-requires length-of-requires number-of-requires same-length returns)
+    tie.close (tie.spec
+    (λ c κs. search needs) (λ c κs. search needs) (λ c κs. search needs) same-length returns)

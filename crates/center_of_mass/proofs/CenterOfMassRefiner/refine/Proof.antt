@@ -6,14 +6,8 @@ use Rattle.center_of_mass.proofs.Promised.{refused, weighed-map, no-map
 use Rattle.center_of_mass.proofs.CenterOfMassRefiner.refine.Statement.{statement}
 use Rattle.center_of_mass.proofs.CenterOfMassRefiner.refine.Tie as tie
 
-refusal-requires : tie.Need-refusal-requires
-refusal-requires c κs = search needs
-
 returns : tie.Need-returns
 returns c = refused _ _ _ _ _ _ _ _ (c .before .refusal .ensures) (c .if1 .taken)
-
-cast-centre-of-mass : tie.Need-cast-centre-of-mass
-cast-centre-of-mass c = search needs
 
 centre-of-mass-requires : tie.Need-centre-of-mass-requires
 centre-of-mass-requires c κs =
@@ -30,12 +24,4 @@ returns-3 : tie.Need-returns-3
 returns-3 c = no-map _ _ _ _ _ _ _ _ (c .before .before .refusal .ensures) (c .before .if1 .left) (c .if2 .left)
 
 pub refine-spec : {M : Type 1} → statement M
-refine-spec =
-    tie.close
-    (tie.spec
-    refusal-requires
-    returns
-    cast-centre-of-mass
-    centre-of-mass-requires
-    returns-2
-    returns-3)
+refine-spec = tie.close (tie.spec (λ c κs. search needs) returns (λ c. search needs) centre-of-mass-requires returns-2 returns-3)

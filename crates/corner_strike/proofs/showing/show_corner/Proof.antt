@@ -4,22 +4,13 @@ use Rattle.corner_strike.proofs.Judging.{show-refused, show-found}
 use Rattle.corner_strike.proofs.showing.show_corner.Statement.{statement}
 use Rattle.corner_strike.proofs.showing.show_corner.Tie as tie
 
-places-requires : tie.Need-places-requires
-places-requires c κs = search needs
-
-refusal-requires : tie.Need-refusal-requires
-refusal-requires c κs = search needs
-
 returns : tie.Need-returns
 returns c = show-refused _ _ _ _ (c .before .before .places .ensures) _ (c .before .refusal .ensures) (c .if1 .taken)
 
-corner-at-requires : tie.Need-corner-at-requires
-corner-at-requires c κs = search needs
-
 returns-2 : tie.Need-returns-2
 returns-2 c =
-    show-found _ _ _ _ (c .before .before .before .places .ensures) _ _ (c .before .before .refusal .ensures) (c .before .if1 .left) (c .corner-at .ensures)
+    show-found _ _ _ _ (c .before .before .before .places .ensures) _ _ (c .before .before .refusal .ensures)
+    (c .before .if1 .left) (c .corner-at .ensures)
 
 pub show-corner-spec : {M : Type 1} → statement M
-show-corner-spec =
-    tie.close (tie.spec places-requires refusal-requires returns corner-at-requires returns-2)
+show-corner-spec = tie.close (tie.spec (λ c κs. search needs) (λ c κs. search needs) returns (λ c κs. search needs) returns-2)

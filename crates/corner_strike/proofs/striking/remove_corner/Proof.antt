@@ -5,7 +5,8 @@ use native.Mathlib.Omega.{arith}
 use lib.Ieee.{ofBits}
 use borrow.Author.Needs.{needs}
 use Rattle.corner_list.specs.CornerList.{slices}
-use Rattle.corner_strike.proofs.Removing.{Moving, moving-none, moving-next, moving-all, moving-xs, moving-ys, moving-strengths, moving-neighbours}
+use Rattle.corner_strike.proofs.Removing.{Moving, moving-none, moving-next, moving-all, moving-xs, moving-ys, moving-strengths}
+use Rattle.corner_strike.proofs.Removing.{moving-neighbours}
 use Rattle.corner_strike.proofs.striking.remove_corner.Statement.{statement}
 use Rattle.corner_strike.proofs.striking.remove_corner.Tie as tie
 use Landmarks.*
@@ -23,18 +24,6 @@ sub-last c = omega (arith, start-from-sub-last c .pre .0)
 loop-holds : tie.Need-loop-holds Inv-loop μ-loop
 loop-holds c = let s = start-from-loop-holds c in moving-none _ _ _ (s .pre .0) (s .pre .1)
 
-add-corner-at : tie.Need-add-corner-at Inv-loop μ-loop
-add-corner-at c = search needs
-
-corner-at-requires : tie.Need-corner-at-requires Inv-loop μ-loop
-corner-at-requires c κs = search needs
-
-put-corner-requires : tie.Need-put-corner-requires Inv-loop μ-loop
-put-corner-requires c κs = search needs
-
-add-at : tie.Need-add-at Inv-loop μ-loop
-add-at c = search needs
-
 loop-less : tie.Need-loop-less Inv-loop μ-loop
 loop-less c = omega (arith, loop-test-from-loop-less c .loop-test .taken)
 
@@ -43,9 +32,6 @@ loop-again c =
     let s = start-from-loop-again c in
     moving-next _ _ _ (s .pre .0) (s .pre .1) _ _ (loop-from-loop-again c .loop .inv) _ _ (loop-test-from-loop-again c .loop-test .taken)
     (corner-at-from-loop-again c .corner-at .ensures) (put-corner-from-loop-again c .put-corner .ensures)
-
-put-corner-requires-2 : tie.Need-put-corner-requires-2 Inv-loop μ-loop
-put-corner-requires-2 c κs = search needs
 
 same-length : tie.Need-same-length Inv-loop μ-loop
 same-length c =
@@ -92,21 +78,6 @@ returns c =
 
 pub remove-corner-spec : {M : Type 1} → statement M
 remove-corner-spec =
-    tie.close
-    (tie.spec
-    Inv-loop
-    μ-loop
-    sub-last
-    loop-holds
-    add-corner-at
-    corner-at-requires
-    put-corner-requires
-    add-at
-    loop-less
-    loop-again
-    put-corner-requires-2
-    same-length
-    same-length-2
-    same-length-3
-    same-length-4
-    returns)
+    tie.close (tie.spec
+    Inv-loop μ-loop sub-last loop-holds (λ c. search needs) (λ c κs. search needs) (λ c κs. search needs) (λ c. search needs) loop-less
+    loop-again (λ c κs. search needs) same-length same-length-2 same-length-3 same-length-4 returns)

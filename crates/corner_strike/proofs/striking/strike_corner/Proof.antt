@@ -17,13 +17,8 @@ granted : (c : tie.Else1)
     → let s = start-from-else1 c in
     Strikable (placesOf (buffer s)) (edition (s .args .count .now) (s .args .change .now)) (s .args .place) (s .args .shown)
 granted c =
-    strike-granted (buffer (start-from-else1 c)) _ _ _ (places-from-else1 c .places .ensures) _ _ (c .before .refusal .ensures) (c .if1 .left)
-
-places-requires : tie.Need-places-requires
-places-requires c κs = search needs
-
-refusal-requires : tie.Need-refusal-requires
-refusal-requires c κs = search needs
+    strike-granted (buffer (start-from-else1 c)) _ _ _ (places-from-else1 c .places .ensures) _ _ (c .before .refusal .ensures)
+    (c .if1 .left)
 
 returns : tie.Need-returns
 returns c = strike-refused _ _ _ _ (places-from-returns c .places .ensures) _ _ (c .before .refusal .ensures) (c .if1 .taken)
@@ -57,16 +52,6 @@ returns-2 c =
 
 pub strike-corner-spec : {M : Type 1} → statement M
 strike-corner-spec =
-    tie.close
-    (tie.spec
-    places-requires
-    refusal-requires
-    returns
-    remove-corner-requires
-    sub-left
-    add-raised
-    same-length
-    same-length-2
-    same-length-3
-    same-length-4
-    returns-2)
+    tie.close (tie.spec
+    (λ c κs. search needs) (λ c κs. search needs) returns remove-corner-requires sub-left add-raised same-length same-length-2
+    same-length-3 same-length-4 returns-2)

@@ -1,8 +1,10 @@
--- `detect::adding::add_peaks` meets its contract: the corners of the peaks passed stand in the buffer, and their ties are summed. Assumes nothing.
+-- `detect::adding::add_peaks` meets its contract: the corners of the peaks passed stand in the buffer, and their ties are summed. Assumes
+-- nothing.
 use Prim.Native.Nat.{_+_, _-_, _<_}
 use native.Mathlib.Omega.{arith}
 use lib.ListN.{length}
 use borrow.Author.Needs.{needs}
+use Rattle.lists.specs.Limits.{largestSide}
 use Rattle.lists.specs.Places.{Place}
 use Rattle.corner_list.specs.CornerList.{Slices, slices, placesOf}
 use Rattle.corner_list.proofs.Growing.{growing-xs, growing-ys, growing-strengths, growing-neighbours}
@@ -19,10 +21,11 @@ Inv-loop map s table xs₀ ys₀ strengths₀ neighbours₀ held n places y1 x�
     Writing map s table n held i ties (slices xs₀ ys₀ strengths₀ neighbours₀) (slices xs ys strengths neighbours) (place x y)
 
 abbrev μ-loop : tie.MeasureT-loop
-μ-loop map s table xs₀ ys₀ strengths₀ neighbours₀ held n places y1 x₀ y₀ i₀ ties₀ xs ys strengths neighbours x y i ties = length (peaksFrom map s (place x y))
+μ-loop map s table xs₀ ys₀ strengths₀ neighbours₀ held n places y1 x₀ y₀ i₀ ties₀ xs ys strengths neighbours x y i ties =
+    length (peaksFrom map s (place x y))
 
--- ---- places of the code: the function's start, from the listing; the listing, from the test of the peaks' number and from a turn; the turn,
--- from its peak; the peak, from where the turn goes on; that, from where its corner was put; and this, from what follows
+-- ---- places of the code: the function's start, from the listing; the listing, from the test of the peaks' number and from a turn; the
+-- turn, from its peak; the peak, from where the turn goes on; that, from where its corner was put; and this, from what follows
 abbrev start : tie.After-list-peaks Inv-loop μ-loop → tie.Start Inv-loop μ-loop
 start c = c .before .before .before .before .before .before .before .before
 
@@ -62,17 +65,11 @@ module _ (c : tie.Else2 Inv-loop μ-loop) where
   inside : Inside (given c .args .s .w) (given c .args .s .h) (given c .args .s .border) peak
   inside = next-inside _ _ _ _ (found c .peak-at .ensures .next .next) high
 
-  small : peak .x < 4096
+  small : peak .x < largestSide
   small = omega (arith, inside .right, given c .pre .wide)
 
   space : given c .args .held + turn (found c) .loop .i < placesOf (buffer (given c))
   space = let f = found c in writing-place _ _ _ _ _ _ _ _ _ _ (turn f .loop .inv) _ (f .peak-at .ensures) high
-
-list-peaks-requires : tie.Need-list-peaks-requires Inv-loop μ-loop
-list-peaks-requires c κs = search needs
-
-places-requires : tie.Need-places-requires Inv-loop μ-loop
-places-requires c κs = search needs
 
 are-too-many-requires : tie.Need-are-too-many-requires Inv-loop μ-loop
 are-too-many-requires c κs = let l = c .before .before .before .before in (start l .pre, l .list-peaks .ensures)
@@ -87,9 +84,6 @@ returns c =
     found-short _ _ _ _
     (short-behind (s .args .map .now) (s .args .s) (buffer s) _ _ (asked .before .before .places .ensures)
     _ (asked .are-too-many .ensures) (c .if1 .taken))
-
-minus-requires : tie.Need-minus-requires Inv-loop μ-loop
-minus-requires c κs = search needs
 
 loop-holds : tie.Need-loop-holds Inv-loop μ-loop
 loop-holds c =
@@ -130,12 +124,6 @@ start-at-requires c κs =
     let t = c .before .before .before .before in
     (given t .pre, (inside t, found t .peak-at .ensures .next .counted (high t)))
 
-put-corner-requires : tie.Need-put-corner-requires Inv-loop μ-loop
-put-corner-requires c κs = search needs
-
-cast-ties : tie.Need-cast-ties Inv-loop μ-loop
-cast-ties c = search needs
-
 add-ties : tie.Need-add-ties Inv-loop μ-loop
 add-ties c =
     let t = going (put (c .before)) in
@@ -165,30 +153,7 @@ loop-again c =
 
 pub add-peaks-spec : {M : Type 1} → statement M
 add-peaks-spec =
-    tie.close
-    (tie.spec
-    Inv-loop
-    μ-loop
-    list-peaks-requires
-    places-requires
-    are-too-many-requires
-    same-length
-    returns
-    minus-requires
-    loop-holds
-    peak-at-requires
-    same-length-2
-    same-length-3
-    same-length-4
-    same-length-5
-    same-length-6
-    returns-2
-    add-put-corner
-    start-at-requires
-    put-corner-requires
-    cast-ties
-    add-ties
-    add-i
-    add-x
-    loop-less
-    loop-again)
+    tie.close (tie.spec
+    Inv-loop μ-loop (λ c κs. search needs) (λ c κs. search needs) are-too-many-requires same-length returns (λ c κs. search needs)
+    loop-holds peak-at-requires same-length-2 same-length-3 same-length-4 same-length-5 same-length-6 returns-2 add-put-corner
+    start-at-requires (λ c κs. search needs) (λ c. search needs) add-ties add-i add-x loop-less loop-again)

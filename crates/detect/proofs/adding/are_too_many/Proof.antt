@@ -1,16 +1,14 @@
--- `detect::adding::are_too_many` meets its contract: what is counted and the peaks ahead make all peaks, of which there are no more than
--- cells inside the border. Assumes nothing.
+-- `detect::adding::are_too_many` meets its contract: what is counted and the peaks ahead make all peaks. Assumes nothing.
 use Prim.Native.Nat.{_+_, _-_, _<_, _≤_}
 use mathlib.Core.Path.{sym}
 use native.Mathlib.Omega.{arith}
 use lib.ListN.{length}
 use borrow.Author.Needs.{needs}
 use borrow.Author.Tests.{lt-ltb, le-ltb}
-use Rattle.detect.specs.Detect.{readIn, peaksIn}
+use Rattle.detect.specs.Detect.{peaksIn}
 use Rattle.detect.specs.Internal.{place}
-use Rattle.detect.proofs.Choice.{peaks-at-most}
 use Rattle.detect.proofs.Scanning.{next-inside}
-use Rattle.detect.proofs.FirstPeaks.{Counting, counting-first, counting-next, counting-fit, counting-many}
+use Rattle.detect.proofs.FirstPeaks.{Counting, counting-first, counting-next, counting-few, counting-fit, counting-many}
 use Rattle.detect.proofs.adding.are_too_many.Statement.{statement}
 use Rattle.detect.proofs.adding.are_too_many.Tie as tie
 
@@ -39,18 +37,12 @@ returns c =
     let more : a .places < a .held + length (peaksIn (a .map .now) (a .s)) = omega arith in
     sym (lt-ltb _ _ more)
 
-cells-inside-requires : tie.Need-cells-inside-requires Inv-loop μ-loop
-cells-inside-requires c κs = search needs
-
 returns-2 : tie.Need-returns-2 Inv-loop μ-loop
 returns-2 c =
     let a = start (c .before .before) .args in
-    let few = peaks-at-most (readIn (a .map .now) (a .s)) (a .s .w) (a .s .h) (a .s .border) (a .s .window) (a .s .«least_neighbours») in
-    let most : a .held + length (peaksIn (a .map .now) (a .s)) ≤ a .places = omega (arith, c .before .cells-inside .ensures, few) in
+    let few = c .before .are-sure-to-fit .ensures (c .if2 .taken) in
+    let most : a .held + length (peaksIn (a .map .now) (a .s)) ≤ a .places = omega (arith, few) in
     sym (le-ltb _ _ most)
-
-minus-requires : tie.Need-minus-requires Inv-loop μ-loop
-minus-requires c κs = search needs
 
 loop-holds : tie.Need-loop-holds Inv-loop μ-loop
 loop-holds c = counting-first _ _ _ _
@@ -64,13 +56,10 @@ returns-3 c =
     counting-fit _ _ _ _ _ _ (turn f .loop .inv) _ (f .peak-at .ensures) (omega arith) _ _ (omega arith)
 
 add-i : tie.Need-add-i Inv-loop μ-loop
-add-i c = search needs
+add-i c = let at = turn (c .before .before) in omega (arith, counting-few _ _ _ _ _ _ (given at .pre .0) (at .loop .inv))
 
 add-x : tie.Need-add-x Inv-loop μ-loop
 add-x c = let i = next-inside _ _ _ _ (found c .peak-at .ensures .next .next) (omega arith) in omega (arith, i .right)
-
-loop-less : tie.Need-loop-less Inv-loop μ-loop
-loop-less c = search needs
 
 loop-again : tie.Need-loop-again Inv-loop μ-loop
 loop-again c = let f = found c in counting-next _ _ _ _ _ _ (turn f .loop .inv) _ (f .peak-at .ensures) (omega arith)
@@ -80,19 +69,6 @@ returns-4 c = counting-many _ _ _ _ _ _ (c .before .loop .inv) _ _ (omega arith)
 
 pub are-too-many-spec : {M : Type 1} → statement M
 are-too-many-spec =
-    tie.close
-    (tie.spec
-    Inv-loop
-    μ-loop
-    returns
-    cells-inside-requires
-    returns-2
-    minus-requires
-    loop-holds
-    peak-at-requires
-    returns-3
-    add-i
-    add-x
-    loop-less
-    loop-again
-    returns-4)
+    tie.close (tie.spec
+    Inv-loop μ-loop returns (λ c κs. search needs) returns-2 (λ c κs. search needs) loop-holds peak-at-requires returns-3 add-i add-x
+    (λ c. search needs) loop-again returns-4)

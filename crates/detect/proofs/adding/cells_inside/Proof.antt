@@ -13,15 +13,6 @@ sides : (c : tie.After-minus2)
     c .before .minus .result * c .minus2 .result ≡ (s .w - 2 * s .border) * (s .h - 2 * s .border)
 sides c = ap₂ (λ a b. a * b) (c .before .minus .ensures) (c .minus2 .ensures)
 
-mul-b : tie.Need-mul-b
-mul-b c = search needs
-
-minus-requires : tie.Need-minus-requires
-minus-requires c κs = search needs
-
-minus-requires-2 : tie.Need-minus-requires-2
-minus-requires-2 c κs = search needs
-
 mul-result : tie.Need-mul-result
 mul-result c =
     let start = c .before .before .before in
@@ -31,4 +22,4 @@ returns : tie.Need-returns
 returns c = sides c
 
 pub cells-inside-spec : {M : Type 1} → statement M
-cells-inside-spec = tie.close (tie.spec mul-b minus-requires minus-requires-2 mul-result returns)
+cells-inside-spec = tie.close (tie.spec (λ c. search needs) (λ c κs. search needs) (λ c κs. search needs) mul-result returns)

@@ -9,14 +9,8 @@ use Rattle.detect.proofs.Counting.{enough-refused, enough-found}
 use Rattle.detect.proofs.enough.has_peaks.Statement.{statement}
 use Rattle.detect.proofs.enough.has_peaks.Tie as tie
 
-refusal-requires : tie.Need-refusal-requires
-refusal-requires c κs = search needs
-
 returns : tie.Need-returns
 returns c = enough-refused _ _ _ _ _ (c .before .refusal .ensures) (c .if1 .taken)
-
-search-of-requires : tie.Need-search-of-requires
-search-of-requires c κs = search needs
 
 -- none of the conditions on the input holds
 none : (c : tie.After-search-of)
@@ -31,4 +25,4 @@ returns-2 : tie.Need-returns-2
 returns-2 c = enough-found _ _ _ _ (none (c .before)) _ (c .before .search-of .ensures) _ (c .search-for .ensures)
 
 pub has-peaks-spec : {M : Type 1} → statement M
-has-peaks-spec = tie.close (tie.spec refusal-requires returns search-of-requires search-for-requires returns-2)
+has-peaks-spec = tie.close (tie.spec (λ c κs. search needs) returns (λ c κs. search needs) search-for-requires returns-2)

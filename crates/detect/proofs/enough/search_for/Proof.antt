@@ -19,9 +19,6 @@ abbrev μ-loop : tie.MeasureT-loop
 abbrev turn : tie.After-next-peak Inv-loop μ-loop → tie.At-loop Inv-loop μ-loop
 turn c = c .before .before
 
-minus-requires : tie.Need-minus-requires Inv-loop μ-loop
-minus-requires c κs = search needs
-
 loop-holds : tie.Need-loop-holds Inv-loop μ-loop
 loop-holds c = (searching-first _ _, omega arith)
 
@@ -30,28 +27,22 @@ next-peak-requires c κs =
     let at = c .before in
     (at .before .before .before .pre, (at .loop .inv .0 .left, at .loop .inv .0 .top))
 
-rows-inside-requires : tie.Need-rows-inside-requires Inv-loop μ-loop
-rows-inside-requires c κs = search needs
-
 returns : tie.Need-returns Inv-loop μ-loop
 returns c =
     let next = c .before .before .before in
-    searching-no _ _ _ _ _ (turn next .loop .inv .0) _ (next .next-peak .ensures .next) (omega arith) _ (omega arith) _ (c .rows-inside .ensures)
-
-add-i : tie.Need-add-i Inv-loop μ-loop
-add-i c = search needs
+    searching-no _ _ _ _ _ (turn next .loop .inv .0) _ (next .next-peak .ensures .next) (omega arith) _ (omega arith) _
+    (c .rows-inside .ensures)
 
 add-x : tie.Need-add-x Inv-loop μ-loop
 add-x c = let i = next-inside _ _ _ _ (c .before .before .before .next-peak .ensures .next) (omega arith) in omega (arith, i .right)
 
 sub-rows : tie.Need-sub-rows Inv-loop μ-loop
-sub-rows c = let i = next-inside _ _ _ _ (c .before .before .before .before .next-peak .ensures .next) (omega arith) in omega (arith, i .top)
+sub-rows c = let i = next-inside _ _ _ _ (c .before .before .before .before .next-peak .ensures .next) (omega arith) in
+    omega (arith, i .top)
 
 add-rows : tie.Need-add-rows Inv-loop μ-loop
-add-rows c = let i = next-inside _ _ _ _ (c .before .before .before .before .next-peak .ensures .next) (omega arith) in omega (arith, i .bottom)
-
-loop-less : tie.Need-loop-less Inv-loop μ-loop
-loop-less c = search needs
+add-rows c = let i = next-inside _ _ _ _ (c .before .before .before .before .next-peak .ensures .next) (omega arith) in
+    omega (arith, i .bottom)
 
 loop-again : tie.Need-loop-again Inv-loop μ-loop
 loop-again c =
@@ -63,19 +54,6 @@ returns-2 c = let at = c .before in searching-yes _ _ _ _ _ (at .loop .inv .0) _
 
 pub search-for-spec : {M : Type 1} → statement M
 search-for-spec =
-    tie.close
-    (tie.spec
-    Inv-loop
-    μ-loop
-    minus-requires
-    loop-holds
-    next-peak-requires
-    rows-inside-requires
-    returns
-    add-i
-    add-x
-    sub-rows
-    add-rows
-    loop-less
-    loop-again
-    returns-2)
+    tie.close (tie.spec
+    Inv-loop μ-loop (λ c κs. search needs) loop-holds next-peak-requires (λ c κs. search needs) returns (λ c. search needs) add-x
+    sub-rows add-rows (λ c. search needs) loop-again returns-2)

@@ -13,9 +13,6 @@ use Rattle.detect.proofs.fifths.between_fifths.Tie as tie
 few : (c : tie.After-fifths-under) → c .fifths-under .result ≤ 10205
 few c = rw (c .fifths-under .ensures) (fifths-few _ (lift-plus (c .before .args .threshold)))
 
-fifths-under-requires : tie.Need-fifths-under-requires
-fifths-under-requires c κs = search needs
-
 mul-result : tie.Need-mul-result
 mul-result c = record { fits = omega (arith, few c) }
 
@@ -31,5 +28,4 @@ unfolding ofBits betweenFifths
 returns c = rw (c .before .fifths-under .ensures)
 
 pub between-fifths-spec : {M : Type 1} → statement M
-between-fifths-spec =
-    tie.close (tie.spec fifths-under-requires mul-result add-result int-to-float-result returns)
+between-fifths-spec = tie.close (tie.spec (λ c κs. search needs) mul-result add-result int-to-float-result returns)

@@ -12,17 +12,12 @@ cuts : (c : tie.After-f32-to-f64-with-nan) → CutOff (c .f32-to-f64-with-nan .r
 unfolding ofBits
 cuts c =
     let lifted = c .before .before .lifted .ensures in
-    rw (c .f32-to-f64-with-nan .ensures, lifted) (lifted-cut _ (c .before .before .before .good .0 .1) (rw (← lifted) (c .before .if1 .left)))
-
-lifted-requires : tie.Need-lifted-requires
-lifted-requires c κs = search needs
+    rw (c .f32-to-f64-with-nan .ensures, lifted)
+    (lifted-cut _ (c .before .before .before .good .0 .1) (rw (← lifted) (c .before .if1 .left)))
 
 returns : tie.Need-returns
 unfolding ofBits fifthsUnder
 returns c = rw (← c .before .lifted .ensures, c .if1 .taken)
-
-f32-to-f64-with-nan-requires : tie.Need-f32-to-f64-with-nan-requires
-f32-to-f64-with-nan-requires c κs = search needs
 
 truncating-f64-to-u64-requires : tie.Need-truncating-f64-to-u64-requires
 unfolding ofBits
@@ -35,11 +30,4 @@ returns-2 c =
     ∙ ap fifthsUnder (c .before .f32-to-f64-with-nan .ensures ∙ c .before .before .before .lifted .ensures)
 
 pub fifths-under-spec : {M : Type 1} → statement M
-fifths-under-spec =
-    tie.close
-    (tie.spec
-    lifted-requires
-    returns
-    f32-to-f64-with-nan-requires
-    truncating-f64-to-u64-requires
-    returns-2)
+fifths-under-spec = tie.close (tie.spec (λ c κs. search needs) returns (λ c κs. search needs) truncating-f64-to-u64-requires returns-2)

@@ -26,29 +26,11 @@ start c = c .before .before
 abbrev asked : tie.Start Inv-loop μ-loop → Float → Bool
 asked c = above (c .args .v) (c .args .bar)
 
-loop-holds : tie.Need-loop-holds Inv-loop μ-loop
-loop-holds c = refl
-
-mul-is-larger : tie.Need-mul-is-larger Inv-loop μ-loop
-mul-is-larger c = search needs
-
-shared-slice-read-is-larger : tie.Need-shared-slice-read-is-larger Inv-loop μ-loop
-shared-slice-read-is-larger c = search needs
-
-is-larger-requires : tie.Need-is-larger-requires Inv-loop μ-loop
-is-larger-requires c κs = search needs
-
 returns : tie.Need-returns Inv-loop μ-loop
 returns c =
     let turn = c .before .before .before in
     sym (any-here (asked (start (turn .before))) _ _ _ (turn .loop-test .taken) (sym (c .before .is-larger .ensures) ∙ c .if1 .taken))
     ∙ turn .before .loop .inv
-
-add-i : tie.Need-add-i Inv-loop μ-loop
-add-i c = search needs
-
-loop-less : tie.Need-loop-less Inv-loop μ-loop
-loop-less c = search needs
 
 loop-again : tie.Need-loop-again Inv-loop μ-loop
 loop-again c =
@@ -61,16 +43,6 @@ returns-2 c = sym (any-none-left (asked (start (c .before))) _ _ (c .loop-test .
 
 pub any-larger-spec : {M : Type 1} → statement M
 any-larger-spec =
-    tie.close
-    (tie.spec
-    Inv-loop
-    μ-loop
-    loop-holds
-    mul-is-larger
-    shared-slice-read-is-larger
-    is-larger-requires
-    returns
-    add-i
-    loop-less
-    loop-again
-    returns-2)
+    tie.close (tie.spec
+    Inv-loop μ-loop (λ c. refl) (λ c. search needs) (λ c. search needs) (λ c κs. search needs) returns (λ c. search needs)
+    (λ c. search needs) loop-again returns-2)

@@ -8,8 +8,5 @@ returns : tie.Need-returns
 unfolding ofBits
 returns c = rw (c .if1 .taken)
 
-returns-2 : tie.Need-returns-2
-returns-2 c = search needs
-
 pub bar-of-spec : {M : Type 1} → statement M
-bar-of-spec = tie.close (tie.spec returns returns-2)
+bar-of-spec = tie.close (tie.spec returns (λ c. search needs))

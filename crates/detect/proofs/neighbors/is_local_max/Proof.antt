@@ -3,6 +3,7 @@ use Prim.Native.Nat.{_-_, _*_, _<_, _≤_}
 use native.Mathlib.Omega.{arith}
 use lib.Ieee.{nan}
 use borrow.Author.Needs.{needs}
+use Rattle.lists.specs.Limits.{largestMap}
 use Rattle.lists.proofs.Rows.{AnyRows, any-start}
 use Rattle.detect.specs.Peaks.{beats}
 use Rattle.detect.proofs.Cells.{row-in, row-small}
@@ -28,29 +29,8 @@ module _ (c : tie.In-loop Inv-loop μ-loop) where
   in-rows : c .before .loop .yy < start (c .before) .args .s .h
   in-rows = omega arith
 
-  small : c .before .loop .yy * start (c .before) .args .s .w ≤ 16777216
+  small : c .before .loop .yy * start (c .before) .args .s .w ≤ largestMap
   small = row-small _ _ (start (c .before) .pre .0) _ in-rows
-
-bar-of-requires : tie.Need-bar-of-requires Inv-loop μ-loop
-bar-of-requires c κs = search needs
-
-sub-x0 : tie.Need-sub-x0 Inv-loop μ-loop
-sub-x0 c = search needs
-
-add-x1 : tie.Need-add-x1 Inv-loop μ-loop
-add-x1 c = search needs
-
-add-x1-2 : tie.Need-add-x1-2 Inv-loop μ-loop
-add-x1-2 c = search needs
-
-add-y1 : tie.Need-add-y1 Inv-loop μ-loop
-add-y1 c = search needs
-
-add-y1-2 : tie.Need-add-y1-2 Inv-loop μ-loop
-add-y1-2 c = search needs
-
-sub-yy : tie.Need-sub-yy Inv-loop μ-loop
-sub-yy c = search needs
 
 loop-holds : tie.Need-loop-holds Inv-loop μ-loop
 loop-holds c = let a = c .before .before .args in any-start (beats (a .exact) (a .v)) _ _ _ _ _ _ _
@@ -70,17 +50,8 @@ add-e c = omega (arith, small c)
 mul-any-larger : tie.Need-mul-any-larger Inv-loop μ-loop
 mul-any-larger c = omega (arith, small c)
 
-sub-any-larger : tie.Need-sub-any-larger Inv-loop μ-loop
-sub-any-larger c = search needs
-
-part-any-larger-start : tie.Need-part-any-larger-start Inv-loop μ-loop
-part-any-larger-start c = search needs
-
 part-any-larger-end : tie.Need-part-any-larger-end Inv-loop μ-loop
 part-any-larger-end c = row-in _ _ (start (c .before) .pre .0) _ (in-rows c) _ (omega arith)
-
-any-larger-requires : tie.Need-any-larger-requires Inv-loop μ-loop
-any-larger-requires c κs = search needs
 
 returns : tie.Need-returns Inv-loop μ-loop
 returns c =
@@ -88,12 +59,6 @@ returns c =
     let given = start (t .before) .pre in
     larger-here _ _ _ _ _ (given .0) (given .1 .0) (given .1 .1) _ (t .loop-test .taken) (start (t .before) .args .exact)
     _ (t .before .before .bar-of .ensures) (t .before .loop .inv) _ (c .before .any-larger .ensures) (c .if1 .taken)
-
-add-yy : tie.Need-add-yy Inv-loop μ-loop
-add-yy c = search needs
-
-loop-less : tie.Need-loop-less Inv-loop μ-loop
-loop-less c = search needs
 
 loop-again : tie.Need-loop-again Inv-loop μ-loop
 loop-again c =
@@ -105,33 +70,12 @@ loop-again c =
 returns-2 : tie.Need-returns-2 Inv-loop μ-loop
 returns-2 c =
     let given = start (c .before) .pre in
-    larger-nowhere _ _ _ _ _ (given .0) (given .1 .0) (given .1 .1) _ (c .loop-test .left) (start (c .before) .args .exact) (c .before .loop .inv)
+    larger-nowhere _ _ _ _ _ (given .0) (given .1 .0) (given .1 .1) _ (c .loop-test .left) (start (c .before) .args .exact)
+    (c .before .loop .inv)
 
 pub is-local-max-spec : {M : Type 1} → statement M
 is-local-max-spec =
-    tie.close
-    (tie.spec
-    Inv-loop
-    μ-loop
-    bar-of-requires
-    sub-x0
-    add-x1
-    add-x1-2
-    add-y1
-    add-y1-2
-    sub-yy
-    loop-holds
-    mul-a
-    add-a
-    mul-e
-    add-e
-    mul-any-larger
-    sub-any-larger
-    part-any-larger-start
-    part-any-larger-end
-    any-larger-requires
-    returns
-    add-yy
-    loop-less
-    loop-again
-    returns-2)
+    tie.close (tie.spec
+    Inv-loop μ-loop (λ c κs. search needs) (λ c. search needs) (λ c. search needs) (λ c. search needs) (λ c. search needs)
+    (λ c. search needs) (λ c. search needs) loop-holds mul-a add-a mul-e add-e mul-any-larger (λ c. search needs) (λ c. search needs)
+    part-any-larger-end (λ c κs. search needs) returns (λ c. search needs) (λ c. search needs) loop-again returns-2)

@@ -1,28 +1,35 @@
--- `detect::neighbors::window_test` meets its contract: beaten, or top with the cells counted. Assumes nothing.
+-- `detect::neighbors::window_test` meets its contract: alone, or top with the cells counted, or beaten. Assumes nothing.
+use mathlib.Core.Path.{_∙_}
 use borrow.Author.Needs.{needs}
 use Rattle.detect.specs.Internal.{place}
+use Rattle.detect.proofs.WindowRows.{equals-are}
 use Rattle.detect.proofs.Ties.{test-top, test-beaten}
 use Rattle.detect.proofs.neighbors.window_test.Statement.{statement}
 use Rattle.detect.proofs.neighbors.window_test.Tie as tie
 
-is-local-max-requires : tie.Need-is-local-max-requires
-is-local-max-requires c κs = search needs
+-- the function's start, from where it is asked whether the cell is alone, and that, from the test whether one is larger
+abbrev start : tie.After-is-alone → tie.Start
+start c = c .before .before
 
-count-equal-neighbors-requires : tie.Need-count-equal-neighbors-requires
-count-equal-neighbors-requires c κs = search needs
+abbrev asked : tie.After-is-local-max → tie.After-is-alone
+asked c = c .before .before
 
 returns : tie.Need-returns
-returns c =
-    let max = c .before .before in
-    let a = max .before .before .args in
-    test-top (a .map .now) (a .s) (place (a .x) (a .y)) _ (max .is-local-max .ensures) (c .before .if1 .taken)
-    _ (c .count-equal-neighbors .ensures)
+returns c = c .before .is-alone .ensures (c .if1 .taken)
 
 returns-2 : tie.Need-returns-2
 returns-2 c =
+    let max = c .before .before in
+    let given = start (asked max) .pre in
+    let a = start (asked max) .args in
+    test-top (a .map .now) (a .s) (place (a .x) (a .y)) _ (max .is-local-max .ensures) (c .before .if2 .taken)
+    _ (c .count-neighbors .ensures ∙ equals-are _ _ _ _ _ (given .0) (given .1 .0) (given .1 .1))
+
+returns-3 : tie.Need-returns-3
+returns-3 c =
     let max = c .before in
-    let a = max .before .before .args in
-    test-beaten (a .map .now) (a .s) (place (a .x) (a .y)) _ (max .is-local-max .ensures) (c .if1 .left)
+    let a = start (asked max) .args in
+    test-beaten (a .map .now) (a .s) (place (a .x) (a .y)) _ (max .is-local-max .ensures) (c .if2 .left)
 
 pub window-test-spec : {M : Type 1} → statement M
-window-test-spec = tie.close (tie.spec is-local-max-requires count-equal-neighbors-requires returns returns-2)
+window-test-spec = tie.close (tie.spec (λ c κs. search needs) returns (λ c κs. search needs) (λ c κs. search needs) returns-2 returns-3)

@@ -4,6 +4,7 @@ use mathlib.Core.Bool.{false≢true}
 use native.Mathlib.Omega.{arith}
 use borrow.Author.Needs.{needs}
 use borrow.Author.Tests.{leb-true}
+use Rattle.lists.specs.Limits.{largestMap}
 use Rattle.detect.proofs.Cells.{row-in, row-small}
 use Rattle.detect.proofs.Rows.{low-row}
 use Rattle.detect.proofs.searching.is_low_row.Statement.{statement}
@@ -18,23 +19,14 @@ module _ (c : tie.Else2) where
   in-rows : start c .args .y < start c .args .s .h
   in-rows = omega (arith, c .before .minus .ensures, start c .pre .inside)
 
-  small : start c .args .y * start c .args .s .w ≤ 16777216
+  small : start c .args .y * start c .args .s .w ≤ largestMap
   small = row-small _ _ (start c .pre) _ in-rows
 
 returns : tie.Need-returns
 returns c = λ e. absurd (false≢true e)
 
-add-minus : tie.Need-add-minus
-add-minus c = search needs
-
-minus-requires : tie.Need-minus-requires
-minus-requires c κs = search needs
-
 returns-2 : tie.Need-returns-2
 returns-2 c = λ e. absurd (false≢true e)
-
-sub-x1 : tie.Need-sub-x1
-sub-x1 c = search needs
 
 mul-a : tie.Need-mul-a
 mul-a c = omega (arith, small c)
@@ -48,26 +40,11 @@ mul-e c = omega (arith, small c)
 add-e : tie.Need-add-e
 add-e c = omega (arith, small c)
 
-sub-result : tie.Need-sub-result
-sub-result c = search needs
-
-cast-result : tie.Need-cast-result
-cast-result c = search needs
-
 mul-count-low : tie.Need-mul-count-low
 mul-count-low c = omega (arith, small c)
 
-sub-count-low : tie.Need-sub-count-low
-sub-count-low c = search needs
-
-part-count-low-start : tie.Need-part-count-low-start
-part-count-low-start c = search needs
-
 part-count-low-end : tie.Need-part-count-low-end
 part-count-low-end c = row-in _ _ (start c .pre) _ (in-rows c) _ (omega arith)
-
-count-low-requires : tie.Need-count-low-requires
-count-low-requires c κs = search needs
 
 returns-3 : tie.Need-returns-3
 returns-3 c = λ e.
@@ -76,22 +53,6 @@ returns-3 c = λ e.
 
 pub is-low-row-spec : {M : Type 1} → statement M
 is-low-row-spec =
-    tie.close
-    (tie.spec
-    returns
-    add-minus
-    minus-requires
-    returns-2
-    sub-x1
-    mul-a
-    add-a
-    mul-e
-    add-e
-    sub-result
-    cast-result
-    mul-count-low
-    sub-count-low
-    part-count-low-start
-    part-count-low-end
-    count-low-requires
-    returns-3)
+    tie.close (tie.spec
+    returns (λ c. search needs) (λ c κs. search needs) returns-2 (λ c. search needs) mul-a add-a mul-e add-e (λ c. search needs)
+    (λ c. search needs) mul-count-low (λ c. search needs) (λ c. search needs) part-count-low-end (λ c κs. search needs) returns-3)

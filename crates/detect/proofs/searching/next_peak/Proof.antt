@@ -39,22 +39,10 @@ row-done : (c : tie.Else2 Inv-loop μ-loop)
     Passed (a .map .now) (a .s) (place (a .x) (a .y)) (place (a .s .border) (t .loop .y + 1))
 row-done c = passed-row _ _ _ _ _ (after-skip (c .before)) (omega arith) (omega arith)
 
-minus-requires : tie.Need-minus-requires Inv-loop μ-loop
-minus-requires c κs = search needs
-
-minus-requires-2 : tie.Need-minus-requires-2 Inv-loop μ-loop
-minus-requires-2 c κs = search needs
-
 returns : tie.Need-returns Inv-loop μ-loop
 returns c =
     let given = c .before .before .before .before .pre in
     passed-all _ _ _ _ _ (passed-none _ _ _ (given .1 .0) (given .1 .1)) _ _ (omega arith)
-
-add-low : tie.Need-add-low Inv-loop μ-loop
-add-low c = search needs
-
-add-low-2 : tie.Need-add-low-2 Inv-loop μ-loop
-add-low-2 c = search needs
 
 loop-holds : tie.Need-loop-holds Inv-loop μ-loop
 loop-holds c =
@@ -72,22 +60,11 @@ peak-test-requires c κs =
     let s = c .before in
     (start (turn s) .pre .0, passed-inside _ _ _ _ _ (after-skip s) (omega arith) (omega arith))
 
-enum-known-neighbours : tie.Need-enum-known-neighbours Inv-loop μ-loop
-enum-known-neighbours c = search needs
-
 returns-2 : tie.Need-returns-2 Inv-loop μ-loop
 returns-2 c =
     let asked = c .before .before .before in
-    passed-peak _ _ _ _ _ (after-skip (skipped asked)) (omega arith) (omega arith) _ (asked .peak-test .ensures) _ _ (c .before .neighbours .given .1)
-
-enum-told : tie.Need-enum-told Inv-loop μ-loop
-enum-told c = search needs
-
-add-x : tie.Need-add-x Inv-loop μ-loop
-add-x c = search needs
-
-loop-less : tie.Need-loop-less Inv-loop μ-loop
-loop-less c = search needs
+    passed-peak _ _ _ _ _ (after-skip (skipped asked)) (omega arith) (omega arith) _ (asked .peak-test .ensures) _ _
+    (c .before .neighbours .given .1)
 
 loop-again : tie.Need-loop-again Inv-loop μ-loop
 loop-again c =
@@ -97,66 +74,24 @@ loop-again c =
       turn at .loop .inv .1,
     )
 
-add-y : tie.Need-add-y Inv-loop μ-loop
-add-y c = search needs
-
-add-is-low-row : tie.Need-add-is-low-row Inv-loop μ-loop
-add-is-low-row c = search needs
-
-is-low-row-requires : tie.Need-is-low-row-requires Inv-loop μ-loop
-is-low-row-requires c κs = search needs
-
-add-low-3 : tie.Need-add-low-3 Inv-loop μ-loop
-add-low-3 c = search needs
-
-add-low-4 : tie.Need-add-low-4 Inv-loop μ-loop
-add-low-4 c = search needs
-
-loop-less-2 : tie.Need-loop-less-2 Inv-loop μ-loop
-loop-less-2 c = search needs
-
 loop-again-2 : tie.Need-loop-again-2 Inv-loop μ-loop
 loop-again-2 c = (row-done (c .before .before), low-none _ _ _ _ (omega arith))
-
-loop-less-3 : tie.Need-loop-less-3 Inv-loop μ-loop
-loop-less-3 c = search needs
 
 loop-again-3 : tie.Need-loop-again-3 Inv-loop μ-loop
 loop-again-3 c =
     let asked = c .before in
-    let end = asked .before in
-    (row-done end, low-more _ _ _ _ _ (omega arith) (turn (end .before) .loop .inv .1) (asked .is-low-row .ensures (not-false _ (c .if3 .left))))
+    let end = asked .before in (
+      row-done end,
+      low-more _ _ _ _ _ (omega arith) (turn (end .before) .loop .inv .1) (asked .is-low-row .ensures (not-false _ (c .if3 .left))),
+    )
 
 returns-3 : tie.Need-returns-3 Inv-loop μ-loop
 returns-3 c = passed-all _ _ _ _ _ (c .before .loop .inv .0) _ _ (omega arith)
 
 pub next-peak-spec : {M : Type 1} → statement M
 next-peak-spec =
-    tie.close
-    (tie.spec
-    Inv-loop
-    μ-loop
-    minus-requires
-    minus-requires-2
-    returns
-    add-low
-    add-low-2
-    loop-holds
-    skip-requires
-    peak-test-requires
-    enum-known-neighbours
-    returns-2
-    enum-told
-    add-x
-    loop-less
-    loop-again
-    add-y
-    add-is-low-row
-    is-low-row-requires
-    add-low-3
-    add-low-4
-    loop-less-2
-    loop-again-2
-    loop-less-3
-    loop-again-3
-    returns-3)
+    tie.close (tie.spec
+    Inv-loop μ-loop (λ c κs. search needs) (λ c κs. search needs) returns (λ c. search needs) (λ c. search needs) loop-holds
+    skip-requires peak-test-requires (λ c. search needs) returns-2 (λ c. search needs) (λ c. search needs) (λ c. search needs)
+    loop-again (λ c. search needs) (λ c. search needs) (λ c κs. search needs) (λ c. search needs) (λ c. search needs)
+    (λ c. search needs) loop-again-2 (λ c. search needs) loop-again-3 returns-3)

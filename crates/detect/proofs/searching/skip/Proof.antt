@@ -2,6 +2,7 @@
 use Prim.Native.Nat.{_*_, _<_, _≤_}
 use native.Mathlib.Omega.{arith}
 use borrow.Author.Needs.{needs}
+use Rattle.lists.specs.Limits.{largestMap}
 use Rattle.detect.proofs.Cells.{row-in, row-small}
 use Rattle.detect.proofs.Rows.{skipped-none, skipped-below, skipped-low}
 use Rattle.detect.proofs.searching.skip.Statement.{statement}
@@ -16,11 +17,8 @@ module _ (c : tie.Else2) where
   in-rows : start c .args .y < start c .args .s .h
   in-rows = omega arith
 
-  small : start c .args .y * start c .args .s .w ≤ 16777216
+  small : start c .args .y * start c .args .s .w ≤ largestMap
   small = row-small _ _ (start c .pre .0) _ in-rows
-
-minus-requires : tie.Need-minus-requires
-minus-requires c κs = search needs
 
 returns : tie.Need-returns
 returns c =
@@ -44,20 +42,8 @@ add-e c = omega (arith, small c)
 mul-cells-below : tie.Need-mul-cells-below
 mul-cells-below c = omega (arith, small c)
 
-sub-cells-below : tie.Need-sub-cells-below
-sub-cells-below c = search needs
-
-part-cells-below-start : tie.Need-part-cells-below-start
-part-cells-below-start c = search needs
-
 part-cells-below-end : tie.Need-part-cells-below-end
 part-cells-below-end c = row-in _ _ (start c .pre .0) _ (in-rows c) _ (omega arith)
-
-cells-below-requires : tie.Need-cells-below-requires
-cells-below-requires c κs = search needs
-
-add-result : tie.Need-add-result
-add-result c = search needs
 
 returns-2 : tie.Need-returns-2
 returns-2 c =
@@ -69,19 +55,6 @@ returns-3 c = skipped-none _ _ _ _
 
 pub skip-spec : {M : Type 1} → statement M
 skip-spec =
-    tie.close
-    (tie.spec
-    minus-requires
-    returns
-    mul-a
-    add-a
-    mul-e
-    add-e
-    mul-cells-below
-    sub-cells-below
-    part-cells-below-start
-    part-cells-below-end
-    cells-below-requires
-    add-result
-    returns-2
-    returns-3)
+    tie.close (tie.spec
+    (λ c κs. search needs) returns mul-a add-a mul-e add-e mul-cells-below (λ c. search needs) (λ c. search needs) part-cells-below-end
+    (λ c κs. search needs) (λ c. search needs) returns-2 returns-3)

@@ -17,8 +17,5 @@ mul-result c = omega (arith, cell-small _ _ (c .pre .0) _ _ (c .pre .1))
 shared-slice-read-result : tie.Need-shared-slice-read-result
 shared-slice-read-result c = let start = c .before in cell-in _ _ (start .pre .0) _ _ (start .pre .1)
 
-returns : tie.Need-returns
-returns c = search needs
-
 pub value-at-spec : {M : Type 1} → statement M
-value-at-spec = tie.close (tie.spec mul-at add-at mul-result shared-slice-read-result returns)
+value-at-spec = tie.close (tie.spec mul-at add-at mul-result shared-slice-read-result (λ c. search needs))

@@ -28,28 +28,13 @@ long : (c : tie.After-number-of Inv-loop μ-loop)
     → length (set (turn c .loop .table) (turn c .loop .n) (c .number-of .result)) ≡ length (start c .args .table .now)
 long c = length-set (turn c .loop .table) (turn c .loop .n) (c .number-of .result) ∙ turn c .loop .inv .1
 
-minus-requires : tie.Need-minus-requires Inv-loop μ-loop
-minus-requires c κs = search needs
-
 loop-holds : tie.Need-loop-holds Inv-loop μ-loop
 loop-holds c = (listing-first _ _ _, refl)
-
-next-peak-requires : tie.Need-next-peak-requires Inv-loop μ-loop
-next-peak-requires c κs = search needs
 
 number-of-requires : tie.Need-number-of-requires Inv-loop μ-loop
 number-of-requires c κs = λ l.
     let given = c .before .before .before .before .before .before .pre in
     found-small _ _ given _ _ (c .next-peak .ensures) (omega arith)
-
-mul-table : tie.Need-mul-table Inv-loop μ-loop
-mul-table c = search needs
-
-slice-write-table : tie.Need-slice-write-table Inv-loop μ-loop
-slice-write-table c = search needs
-
-add-n : tie.Need-add-n Inv-loop μ-loop
-add-n c = search needs
 
 same-length : tie.Need-same-length Inv-loop μ-loop
 same-length c = long (c .before .before)
@@ -87,21 +72,6 @@ returns-2 c = c .before .loop .inv .0 .listed
 
 pub list-peaks-spec : {M : Type 1} → statement M
 list-peaks-spec =
-    tie.close
-    (tie.spec
-    Inv-loop
-    μ-loop
-    minus-requires
-    loop-holds
-    next-peak-requires
-    number-of-requires
-    mul-table
-    slice-write-table
-    add-n
-    same-length
-    returns
-    add-x
-    loop-less
-    loop-again
-    same-length-2
-    returns-2)
+    tie.close (tie.spec
+    Inv-loop μ-loop (λ c κs. search needs) loop-holds (λ c κs. search needs) number-of-requires (λ c. search needs) (λ c. search needs)
+    (λ c. search needs) same-length returns add-x loop-less loop-again same-length-2 returns-2)

@@ -19,17 +19,11 @@ add-result c = let k = small (c .before .before) in omega (arith, k .x, k .y)
 mul-result-2 : tie.Need-mul-result-2
 mul-result-2 c = let k = small (c .before .before) in omega (arith, k .x, k .y)
 
-cast-result : tie.Need-cast-result
-cast-result c = search needs
-
 add-result-2 : tie.Need-add-result-2
 add-result-2 c = let k = small (c .before .before .before) in omega (arith, k .x, k .y, k .neighbours)
 
 mul-result-3 : tie.Need-mul-result-3
 mul-result-3 c = let k = small (c .before .before .before) in omega (arith, k .x, k .y, k .neighbours)
-
-cast-result-2 : tie.Need-cast-result-2
-cast-result-2 c = search needs
 
 add-result-3 : tie.Need-add-result-3
 add-result-3 c = let k = small (c .before .before .before .before) in omega (arith, k .x, k .y, k .neighbours, k .ties)
@@ -42,15 +36,5 @@ returns-2 c = record { here = λ l. absurd (let no : ⊥ = omega arith in no); p
 
 pub number-of-spec : {M : Type 1} → statement M
 number-of-spec =
-    tie.close
-    (tie.spec
-    mul-result
-    add-result
-    mul-result-2
-    cast-result
-    add-result-2
-    mul-result-3
-    cast-result-2
-    add-result-3
-    returns
-    returns-2)
+    tie.close (tie.spec
+    mul-result add-result mul-result-2 (λ c. search needs) add-result-2 mul-result-3 (λ c. search needs) add-result-3 returns returns-2)

@@ -9,34 +9,16 @@ use Rattle.detect.proofs.table.peak_at.Tie as tie
 abbrev start : tie.Then1 → tie.Start
 start c = c .before .before .before
 
-mul-spot-of : tie.Need-mul-spot-of
-mul-spot-of c = search needs
-
-shared-slice-read-spot-of : tie.Need-shared-slice-read-spot-of
-shared-slice-read-spot-of c = search needs
-
-spot-of-requires : tie.Need-spot-of-requires
-spot-of-requires c κs = search needs
-
 returns : tie.Need-returns
 returns c =
     let listed = c .before .before in
     let given = start listed .pre in
     next-taken _ _ _ _ _ _ (given .1 .0) (given .1 .1) (listed .if1 .taken) _ (c .spot-of .ensures)
 
-next-peak-requires : tie.Need-next-peak-requires
-next-peak-requires c κs = search needs
-
 returns-2 : tie.Need-returns-2
 returns-2 c = next-searched _ _ _ _ _ _ (omega arith) _ (c .next-peak .ensures)
 
 pub peak-at-spec : {M : Type 1} → statement M
 peak-at-spec =
-    tie.close
-    (tie.spec
-    mul-spot-of
-    shared-slice-read-spot-of
-    spot-of-requires
-    returns
-    next-peak-requires
-    returns-2)
+    tie.close (tie.spec
+    (λ c. search needs) (λ c. search needs) (λ c κs. search needs) returns (λ c κs. search needs) returns-2)

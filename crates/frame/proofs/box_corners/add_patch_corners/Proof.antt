@@ -7,43 +7,31 @@ use Rattle.frame.proofs.box_corners.add_patch_corners.Statement.{statem
 use Rattle.frame.proofs.box_corners.add_patch_corners.Tie as tie
 use Landmarks.*
 
-chess-response-u8-patch-requires : tie.Need-chess-response-u8-patch-requires
-chess-response-u8-patch-requires c κs = search needs
-
-enum-known-m : tie.Need-enum-known-m
-enum-known-m c = search needs
-
-enum-told : tie.Need-enum-told
-enum-told c = search needs
-
 same-length : tie.Need-same-length
 same-length c = search needs
 
 returns : tie.Need-returns
 returns c =
-    let r = chess-response-u8-patch-from-returns c in
-    absurd (never-short _ _ _ _ _ _ _ _ _ (start-from-returns c .pre) _ _ (r .chess-response-u8-patch .ensures) _ (c .enum-told .given .1))
+    let r = inner-patch-from-returns c in
+    absurd (never-short _ _ _ _ _ _ _ _ _ (start-from-returns c .pre) _ _ _ (r .inner-patch .ensures) _ (c .enum-told .given .1))
 
 mul-cells : tie.Need-mul-cells
 mul-cells c =
-    let r = chess-response-u8-patch-from-mul-cells c in
+    let r = inner-patch-from-mul-cells c in
     omega
-    (arith, map-small _ _ _ _ _ _ _ _ _ (start-from-mul-cells c .pre) _ _ (r .chess-response-u8-patch .ensures) _ _ (m-from-mul-cells c .m .given .1))
+    (arith, map-small _ _ _ _ _ _ _ _ _ (start-from-mul-cells c .pre) _ _ _ (r .inner-patch .ensures) _ _ (m-from-mul-cells c .m .given .1))
 
 slice-reshare-prefix-add-map-corners : tie.Need-slice-reshare-prefix-add-map-corners
 slice-reshare-prefix-add-map-corners c =
-    let r = chess-response-u8-patch-from-slice-reshare-prefix-add-map-corners c in
-    map-within _ _ _ _ _ _ _ _ _ (start-from-slice-reshare-prefix-add-map-corners c .pre) _ _ (r .chess-response-u8-patch .ensures) _ _
+    let r = inner-patch-from-slice-reshare-prefix-add-map-corners c in
+    map-within _ _ _ _ _ _ _ _ _ (start-from-slice-reshare-prefix-add-map-corners c .pre) _ _ _ (r .inner-patch .ensures) _ _
     (m-from-slice-reshare-prefix-add-map-corners c .m .given .1)
 
 slice-aggregate-add-map-corners : tie.Need-slice-aggregate-add-map-corners
 slice-aggregate-add-map-corners c =
-    let r = chess-response-u8-patch-from-slice-aggregate-add-map-corners c in
-    map-length _ _ _ _ _ _ _ _ _ (start-from-slice-aggregate-add-map-corners c .pre) _ _ (r .chess-response-u8-patch .ensures) _ _
+    let r = inner-patch-from-slice-aggregate-add-map-corners c in
+    map-length _ _ _ _ _ _ _ _ _ (start-from-slice-aggregate-add-map-corners c .pre) _ _ _ (r .inner-patch .ensures) _ _
     (m-from-slice-aggregate-add-map-corners c .m .given .1)
-
-add-map-corners-requires : tie.Need-add-map-corners-requires
-add-map-corners-requires c κs = search needs
 
 same-length-2 : tie.Need-same-length-2
 same-length-2 c = search needs
@@ -63,26 +51,13 @@ same-length-6 c = search needs
 returns-2 : tie.Need-returns-2
 returns-2 c =
     let start = start-from-returns-2 c in
-    let r = chess-response-u8-patch-from-returns-2 c in
-    box-adds _ _ _ _ _ _ _ _ _ (start .pre) _ _ (r .chess-response-u8-patch .ensures) _ _ (m-from-returns-2 c .m .given .1) (start .args .exact) _ _ _ _
-    (add-map-corners-from-returns-2 c .add-map-corners .ensures)
+    let r = inner-patch-from-returns-2 c in
+    box-adds _ _ _ _ _ _ _ _ _ (start .pre) _ _ _ (r .inner-patch .ensures) _ _ (m-from-returns-2 c .m .given .1)
+    (margin-from-returns-2 c .margin .ensures) (start .args .exact) _ _ _ _ (add-map-corners-from-returns-2 c .add-map-corners .ensures)
 
 pub add-patch-corners-spec : {M : Type 1} → statement M
 add-patch-corners-spec =
-    tie.close
-    (tie.spec
-    chess-response-u8-patch-requires
-    enum-known-m
-    enum-told
-    same-length
-    returns
-    mul-cells
-    slice-reshare-prefix-add-map-corners
-    slice-aggregate-add-map-corners
-    add-map-corners-requires
-    same-length-2
-    same-length-3
-    same-length-4
-    same-length-5
-    same-length-6
-    returns-2)
+    tie.close (tie.spec
+    (λ c κs. search needs) (λ c κs. search needs) (λ c. search needs) (λ c. search needs) same-length returns mul-cells
+    slice-reshare-prefix-add-map-corners slice-aggregate-add-map-corners (λ c κs. search needs) same-length-2 same-length-3
+    same-length-4 same-length-5 same-length-6 returns-2)

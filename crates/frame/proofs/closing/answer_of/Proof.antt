@@ -9,8 +9,4 @@ returns-2 : tie.Need-returns-2
 returns-2 c = simp (c .if1 .left)
 
 pub answer-of-spec : {M : Type 1} → statement M
-answer-of-spec =
-    tie.close
-    (tie.spec
-    returns
-    returns-2)
+answer-of-spec = tie.close (tie.spec returns returns-2)

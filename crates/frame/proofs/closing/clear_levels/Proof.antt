@@ -6,9 +6,6 @@ use Rattle.frame.proofs.closing.clear_levels.Tie as tie
 returns : tie.Need-returns
 returns c = simp (c .if1 .taken)
 
-clear-bytes-requires : tie.Need-clear-bytes-requires
-clear-bytes-requires c κs = search needs
-
 same-length : tie.Need-same-length
 same-length c = search needs
 
@@ -16,10 +13,4 @@ returns-2 : tie.Need-returns-2
 returns-2 c = simp (c .before .before .before .before .if1 .left, c .before .before .clear-bytes .ensures)
 
 pub clear-levels-spec : {M : Type 1} → statement M
-clear-levels-spec =
-    tie.close
-    (tie.spec
-    returns
-    clear-bytes-requires
-    same-length
-    returns-2)
+clear-levels-spec = tie.close (tie.spec returns (λ c κs. search needs) same-length returns-2)

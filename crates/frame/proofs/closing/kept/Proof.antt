@@ -5,12 +5,6 @@ use Rattle.frame.specs.Internal.{keptOf}
 use Rattle.frame.proofs.closing.kept.Statement.{statement}
 use Rattle.frame.proofs.closing.kept.Tie as tie
 
-enum-known-m : tie.Need-enum-known-m
-enum-known-m c = search needs
-
-enum-told : tie.Need-enum-told
-enum-told c = search needs
-
 returns : tie.Need-returns
 returns c = sym (ap keptOf (c .enum-told .given .1))
 
@@ -18,10 +12,4 @@ returns-2 : tie.Need-returns-2
 returns-2 c = sym (ap keptOf (c .before .m .given .1))
 
 pub kept-spec : {M : Type 1} → statement M
-kept-spec =
-    tie.close
-    (tie.spec
-    enum-known-m
-    enum-told
-    returns
-    returns-2)
+kept-spec = tie.close (tie.spec (λ c. search needs) (λ c. search needs) returns returns-2)

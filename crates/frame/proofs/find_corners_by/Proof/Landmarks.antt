@@ -49,48 +49,48 @@ shared-slice-known-from-add-found-requires c =
 abbrev pub start-from-add-found-requires : tie.After-add-found-arg9 → tie.Start
 start-from-add-found-requires c = shared-slice-known-from-add-found-requires c .before
 
-abbrev pub lists-of-from-finish-corners-requires : tie.After-finish-corners-arg4 → tie.After-lists-of
+abbrev pub lists-of-from-finish-corners-requires : tie.After-finish-corners-arg5 → tie.After-lists-of
 lists-of-from-finish-corners-requires c =
     c .before .before .before .before .before .before .before .before .before .before .before .before .before .before .before .before
-    .before .before .before .before .before .before .before .before .before
+    .before .before .before .before .before .before
 
-abbrev pub add-found-from-finish-corners-requires : tie.After-finish-corners-arg4 → tie.After-add-found
+abbrev pub add-found-from-finish-corners-requires : tie.After-finish-corners-arg5 → tie.After-add-found
 add-found-from-finish-corners-requires c =
     lists-of-from-finish-corners-requires c .before .before .before .before .before .before .before .before .before .before .before
 
-abbrev pub added-from-finish-corners-requires : tie.After-finish-corners-arg4 → tie.After-added
+abbrev pub added-from-finish-corners-requires : tie.After-finish-corners-arg5 → tie.After-added
 added-from-finish-corners-requires c =
     add-found-from-finish-corners-requires c .before .before .before .before .before .before .before .before .before .before
 
-abbrev pub add-seeds-from-finish-corners-requires : tie.After-finish-corners-arg4 → tie.After-add-seeds
+abbrev pub add-seeds-from-finish-corners-requires : tie.After-finish-corners-arg5 → tie.After-add-seeds
 add-seeds-from-finish-corners-requires c =
     added-from-finish-corners-requires c .before .before .before .before .before .before .before .before .before .before .before
 
-abbrev pub build-from-finish-corners-requires : tie.After-finish-corners-arg4 → tie.After-build
+abbrev pub build-from-finish-corners-requires : tie.After-finish-corners-arg5 → tie.After-build
 build-from-finish-corners-requires c =
     add-seeds-from-finish-corners-requires c .before .before .before .before .before .before .before .before .before
 
-abbrev pub if1-from-finish-corners-requires : tie.After-finish-corners-arg4 → tie.Else1
+abbrev pub if1-from-finish-corners-requires : tie.After-finish-corners-arg5 → tie.Else1
 if1-from-finish-corners-requires c = build-from-finish-corners-requires c .before .before
 
-abbrev pub refusal-from-finish-corners-requires : tie.After-finish-corners-arg4 → tie.After-refusal
+abbrev pub refusal-from-finish-corners-requires : tie.After-finish-corners-arg5 → tie.After-refusal
 refusal-from-finish-corners-requires c = if1-from-finish-corners-requires c .before
 
-abbrev pub shared-slice-known-from-finish-corners-requires : tie.After-finish-corners-arg4 → tie.After-shared-slice-known
+abbrev pub shared-slice-known-from-finish-corners-requires : tie.After-finish-corners-arg5 → tie.After-shared-slice-known
 shared-slice-known-from-finish-corners-requires c =
     refusal-from-finish-corners-requires c .before .before .before .before .before .before .before .before .before .before .before
 
-abbrev pub start-from-finish-corners-requires : tie.After-finish-corners-arg4 → tie.Start
+abbrev pub start-from-finish-corners-requires : tie.After-finish-corners-arg5 → tie.Start
 start-from-finish-corners-requires c = shared-slice-known-from-finish-corners-requires c .before
 
-abbrev pub clear-from-same-length : tie.After-answer-of → tie.After-clear
-clear-from-same-length c =
-    c .before .before .before .before .before .before .before .before .before .before .before .before .before .before .before .before
-    .before .before .before .before .before .before .before .before .before .before .before .before .before .before .before .before .before
+abbrev pub finish-corners-from-same-length : tie.After-answer-of → tie.After-finish-corners
+finish-corners-from-same-length c = c .before .before .before .before .before .before .before .before .before .before .before
 
 abbrev pub add-found-from-same-length : tie.After-answer-of → tie.After-add-found
 add-found-from-same-length c =
-    clear-from-same-length c .before .before .before .before .before .before .before .before .before .before .before .before .before
+    finish-corners-from-same-length c .before .before .before .before .before .before .before .before .before .before .before .before
+    .before .before .before .before .before .before .before .before .before .before .before .before .before .before .before .before .before
+    .before .before .before .before .before
 
 abbrev pub add-seeds-from-same-length : tie.After-answer-of → tie.After-add-seeds
 add-seeds-from-same-length c =
@@ -100,110 +100,107 @@ add-seeds-from-same-length c =
 abbrev pub clear-levels-from-same-length-2 : tie.After-answer-of → tie.After-clear-levels
 clear-levels-from-same-length-2 c =
     c .before .before .before .before .before .before .before .before .before .before .before .before .before .before .before .before
-    .before .before .before .before .before .before .before .before .before .before .before .before .before
+    .before .before .before .before .before .before .before .before .before .before .before .before .before .before .before .before
 
 abbrev pub build-from-same-length-2 : tie.After-answer-of → tie.After-build
 build-from-same-length-2 c =
     clear-levels-from-same-length-2 c .before .before .before .before .before .before .before .before .before .before .before .before
     .before .before .before .before .before .before .before .before .before .before .before .before .before .before .before .before .before
-    .before .before .before .before .before .before .before .before .before .before .before .before .before .before .before .before .before
-    .before
+    .before .before .before .before .before .before .before .before .before .before .before .before .before .before
 
 abbrev pub clear-list-from-same-length-3 : tie.After-answer-of → tie.After-clear-list
 clear-list-from-same-length-3 c =
     c .before .before .before .before .before .before .before .before .before .before .before .before .before .before .before .before
-    .before .before .before .before .before .before
+    .before .before .before .before .before .before .before .before .before
 
 abbrev pub add-seeds-from-same-length-3 : tie.After-answer-of → tie.After-add-seeds
 add-seeds-from-same-length-3 c =
     clear-list-from-same-length-3 c .before .before .before .before .before .before .before .before .before .before .before .before .before
     .before .before .before .before .before .before .before .before .before .before .before .before .before .before .before .before .before
-    .before .before .before .before .before .before .before .before .before .before .before .before .before .before .before
+    .before .before .before .before .before .before .before .before .before .before .before
 
 abbrev pub clear-list-from-same-length-4 : tie.After-answer-of → tie.After-clear-list
 clear-list-from-same-length-4 c =
     c .before .before .before .before .before .before .before .before .before .before .before .before .before .before .before .before
-    .before .before .before .before .before .before
+    .before .before .before .before .before .before .before .before .before
 
 abbrev pub add-seeds-from-same-length-4 : tie.After-answer-of → tie.After-add-seeds
 add-seeds-from-same-length-4 c =
     clear-list-from-same-length-4 c .before .before .before .before .before .before .before .before .before .before .before .before .before
     .before .before .before .before .before .before .before .before .before .before .before .before .before .before .before .before .before
-    .before .before .before .before .before .before .before .before .before .before .before .before .before .before .before
+    .before .before .before .before .before .before .before .before .before .before .before
 
 abbrev pub clear-list-from-same-length-5 : tie.After-answer-of → tie.After-clear-list
 clear-list-from-same-length-5 c =
     c .before .before .before .before .before .before .before .before .before .before .before .before .before .before .before .before
-    .before .before .before .before .before .before
+    .before .before .before .before .before .before .before .before .before
 
 abbrev pub add-seeds-from-same-length-5 : tie.After-answer-of → tie.After-add-seeds
 add-seeds-from-same-length-5 c =
     clear-list-from-same-length-5 c .before .before .before .before .before .before .before .before .before .before .before .before .before
     .before .before .before .before .before .before .before .before .before .before .before .before .before .before .before .before .before
-    .before .before .before .before .before .before .before .before .before .before .before .before .before .before .before
+    .before .before .before .before .before .before .before .before .before .before .before
 
 abbrev pub clear-list-from-same-length-6 : tie.After-answer-of → tie.After-clear-list
 clear-list-from-same-length-6 c =
     c .before .before .before .before .before .before .before .before .before .before .before .before .before .before .before .before
-    .before .before .before .before .before .before
+    .before .before .before .before .before .before .before .before .before
 
 abbrev pub add-seeds-from-same-length-6 : tie.After-answer-of → tie.After-add-seeds
 add-seeds-from-same-length-6 c =
     clear-list-from-same-length-6 c .before .before .before .before .before .before .before .before .before .before .before .before .before
     .before .before .before .before .before .before .before .before .before .before .before .before .before .before .before .before .before
-    .before .before .before .before .before .before .before .before .before .before .before .before .before .before .before
+    .before .before .before .before .before .before .before .before .before .before .before
 
 abbrev pub finish-corners-from-same-length-7 : tie.After-answer-of → tie.After-finish-corners
-finish-corners-from-same-length-7 c = c .before .before .before .before .before .before .before .before .before
+finish-corners-from-same-length-7 c = c .before .before .before .before .before .before .before .before .before .before .before
 
 abbrev pub add-found-from-same-length-7 : tie.After-answer-of → tie.After-add-found
 add-found-from-same-length-7 c =
     finish-corners-from-same-length-7 c .before .before .before .before .before .before .before .before .before .before .before .before
     .before .before .before .before .before .before .before .before .before .before .before .before .before .before .before .before .before
-    .before .before .before .before .before .before .before .before
+    .before .before .before .before .before
 
 abbrev pub finish-corners-from-same-length-8 : tie.After-answer-of → tie.After-finish-corners
-finish-corners-from-same-length-8 c = c .before .before .before .before .before .before .before .before .before
+finish-corners-from-same-length-8 c = c .before .before .before .before .before .before .before .before .before .before .before
 
 abbrev pub add-found-from-same-length-8 : tie.After-answer-of → tie.After-add-found
 add-found-from-same-length-8 c =
     finish-corners-from-same-length-8 c .before .before .before .before .before .before .before .before .before .before .before .before
     .before .before .before .before .before .before .before .before .before .before .before .before .before .before .before .before .before
-    .before .before .before .before .before .before .before .before
+    .before .before .before .before .before
 
 abbrev pub finish-corners-from-same-length-9 : tie.After-answer-of → tie.After-finish-corners
-finish-corners-from-same-length-9 c = c .before .before .before .before .before .before .before .before .before
+finish-corners-from-same-length-9 c = c .before .before .before .before .before .before .before .before .before .before .before
 
 abbrev pub add-found-from-same-length-9 : tie.After-answer-of → tie.After-add-found
 add-found-from-same-length-9 c =
     finish-corners-from-same-length-9 c .before .before .before .before .before .before .before .before .before .before .before .before
     .before .before .before .before .before .before .before .before .before .before .before .before .before .before .before .before .before
-    .before .before .before .before .before .before .before .before
+    .before .before .before .before .before
 
 abbrev pub finish-corners-from-same-length-10 : tie.After-answer-of → tie.After-finish-corners
-finish-corners-from-same-length-10 c = c .before .before .before .before .before .before .before .before .before
+finish-corners-from-same-length-10 c = c .before .before .before .before .before .before .before .before .before .before .before
 
 abbrev pub add-found-from-same-length-10 : tie.After-answer-of → tie.After-add-found
 add-found-from-same-length-10 c =
     finish-corners-from-same-length-10 c .before .before .before .before .before .before .before .before .before .before .before .before
     .before .before .before .before .before .before .before .before .before .before .before .before .before .before .before .before .before
-    .before .before .before .before .before .before .before .before
+    .before .before .before .before .before
 
 abbrev pub finish-corners-from-returns-2 : tie.After-answer-of → tie.After-finish-corners
-finish-corners-from-returns-2 c = c .before .before .before .before .before .before .before .before .before
+finish-corners-from-returns-2 c = c .before .before .before .before .before .before .before .before .before .before .before
 
 abbrev pub clear-list-from-returns-2 : tie.After-answer-of → tie.After-clear-list
 clear-list-from-returns-2 c =
     finish-corners-from-returns-2 c .before .before .before .before .before .before .before .before .before .before .before .before .before
+    .before
 
 abbrev pub clear-levels-from-returns-2 : tie.After-answer-of → tie.After-clear-levels
 clear-levels-from-returns-2 c = clear-list-from-returns-2 c .before .before .before .before .before .before .before
 
-abbrev pub clear-from-returns-2 : tie.After-answer-of → tie.After-clear
-clear-from-returns-2 c = clear-levels-from-returns-2 c .before .before .before .before
-
 abbrev pub lists-of-from-returns-2 : tie.After-answer-of → tie.After-lists-of
-lists-of-from-returns-2 c = clear-from-returns-2 c .before .before
+lists-of-from-returns-2 c = clear-levels-from-returns-2 c .before .before
 
 abbrev pub add-found-from-returns-2 : tie.After-answer-of → tie.After-add-found
 add-found-from-returns-2 c =

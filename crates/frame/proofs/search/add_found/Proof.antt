@@ -1,5 +1,5 @@
--- `frame::search::add_found` meets its contract: with one level by `Levels`; with more the corners of the boxes of the seeds passed stand first in the
--- buffer, and their peaks' ties are summed. Assumes nothing.
+-- `frame::search::add_found` meets its contract: with one level by `Levels`; with more the corners of the boxes of the seeds passed stand
+-- first in the buffer, and their peaks' ties are summed. Assumes nothing.
 mod Landmarks
 use borrow.Author.Needs.{needs}
 use Prim.Native.Nat.{_+_, _-_, _≤_}
@@ -22,15 +22,14 @@ use Landmarks.*
 
 abbrev Inv-loop : tie.InvT-loop
 Inv-loop img w h p exact n sx sy ss sn m map₀ cx₀ cy₀ cs₀ cn₀ k held₀ ties₀ i₀ map cx cy cs cn held ties i =
-    (i ≤ m) × (length map ≡ length map₀) × (length cx ≡ length cx₀) × (length cy ≡ length cy₀) × (length cs ≡ length cs₀) × (length cn ≡ length cn₀)
+    (i ≤ m) × (length map ≡ length map₀) × (length cx ≡ length cx₀) × (length cy ≡ length cy₀) × (length cs ≡ length cs₀)
+    × (length cn ≡ length cn₀)
     × Adds (flatMap (cornersAbout p img w h (choiceOf p exact) k) (cornersOf (slices sx sy ss sn) i))
-    (sumOf (tiesAbout p img w h (choiceOf p exact) k) (cornersOf (slices sx sy ss sn) i)) 0 (slices cx₀ cy₀ cs₀ cn₀) (Added held ties) (slices cx cy cs cn)
+    (sumOf (tiesAbout p img w h (choiceOf p exact) k) (cornersOf (slices sx sy ss sn) i)) 0 (slices cx₀ cy₀ cs₀ cn₀)
+    (Added held ties) (slices cx cy cs cn)
 
 abbrev μ-loop : tie.MeasureT-loop
 μ-loop img w h p exact n sx sy ss sn m map₀ cx₀ cy₀ cs₀ cn₀ k held₀ ties₀ i₀ map cx cy cs cn held ties i = m - i
-
-add-patch-corners-requires : tie.Need-add-patch-corners-requires Inv-loop μ-loop
-add-patch-corners-requires c κs = search needs
 
 same-length : tie.Need-same-length Inv-loop μ-loop
 same-length c = search needs
@@ -50,16 +49,11 @@ same-length-5 c = search needs
 returns : tie.Need-returns Inv-loop μ-loop
 returns c =
     let a = start-from-returns c .args in
-    found-whole (choiceOf (a .p) (a .exact)) _ _ _ _ _ (if1-from-returns c .if1 .taken) _ _ _ _ (add-patch-corners-from-returns c .add-patch-corners .ensures)
-
-minus-requires : tie.Need-minus-requires Inv-loop μ-loop
-minus-requires c κs = search needs
+    found-whole (choiceOf (a .p) (a .exact)) _ _ _ _ _ (if1-from-returns c .if1 .taken) _ _ _ _
+    (add-image-corners-from-returns c .add-image-corners .ensures)
 
 loop-holds : tie.Need-loop-holds Inv-loop μ-loop
 loop-holds c = (omega arith, refl, refl, refl, refl, refl, turn-none _ _ _ _)
-
-corner-at-requires : tie.Need-corner-at-requires Inv-loop μ-loop
-corner-at-requires c κs = search needs
 
 add-patch-requires : tie.Need-add-patch-requires Inv-loop μ-loop
 add-patch-requires c κs =
@@ -68,12 +62,6 @@ add-patch-requires c κs =
       record { sound = start .pre .0 .sound; enough = omega (arith, start .pre .0 .enough, turn .1) },
       (adds-held _ _ _ _ _ _ (turn .6), omega (arith, minus-from-add-patch-requires c .minus .ensures, start .pre .1 .0)),
     )
-
-enum-known-f : tie.Need-enum-known-f Inv-loop μ-loop
-enum-known-f c = search needs
-
-enum-told : tie.Need-enum-told Inv-loop μ-loop
-enum-told c = search needs
 
 same-length-6 : tie.Need-same-length-6 Inv-loop μ-loop
 same-length-6 c = search needs
@@ -113,14 +101,13 @@ add-ties c =
     let few = seeds-tied (a .p) (a .exact) (a .img .now) (a .w) (a .h) (start-from-add-ties c .pre .0 .sound)
     (minus-from-add-ties c .minus .result) (cornersOf seeds (turn .i + 1)) in
     let test = loop-test-from-add-ties c .loop-test .taken in
-    omega
-    (arith, sum-fits _ _ _ _ (more .added _ _ refl .3) few _ (length-tab (turn .i + 1) (cornerAt seeds)) test (start-from-add-ties c .pre .1 .1))
+    omega (
+      arith,
+      sum-fits _ _ _ _ (more .added _ _ refl .3) few _ (length-tab (turn .i + 1) (cornerAt seeds)) test (start-from-add-ties c .pre .1 .1),
+    )
 
 add-i : tie.Need-add-i Inv-loop μ-loop
 add-i c = omega (arith, start-from-add-i c .good)
-
-loop-less : tie.Need-loop-less Inv-loop μ-loop
-loop-less c = omega arith
 
 loop-again : tie.Need-loop-again Inv-loop μ-loop
 loop-again c =
@@ -153,37 +140,8 @@ returns-3 c =
 
 pub add-found-spec : {M : Type 1} → statement M
 add-found-spec =
-    tie.close
-    (tie.spec
-    Inv-loop
-    μ-loop
-    add-patch-corners-requires
-    same-length
-    same-length-2
-    same-length-3
-    same-length-4
-    same-length-5
-    returns
-    minus-requires
-    loop-holds
-    corner-at-requires
-    add-patch-requires
-    enum-known-f
-    enum-told
-    same-length-6
-    same-length-7
-    same-length-8
-    same-length-9
-    same-length-10
-    returns-2
-    add-held
-    add-ties
-    add-i
-    loop-less
-    loop-again
-    same-length-11
-    same-length-12
-    same-length-13
-    same-length-14
-    same-length-15
-    returns-3)
+    tie.close (tie.spec
+    Inv-loop μ-loop (λ c κs. search needs) same-length same-length-2 same-length-3 same-length-4 same-length-5 returns
+    (λ c κs. search needs) loop-holds (λ c κs. search needs) add-patch-requires (λ c. search needs) (λ c. search needs) same-length-6
+    same-length-7 same-length-8 same-length-9 same-length-10 returns-2 add-held add-ties add-i (λ c. omega arith) loop-again
+    same-length-11 same-length-12 same-length-13 same-length-14 same-length-15 returns-3)

@@ -5,12 +5,6 @@ use Rattle.frame.specs.Internal.{addedOf}
 use Rattle.frame.proofs.search.added.Statement.{statement}
 use Rattle.frame.proofs.search.added.Tie as tie
 
-enum-known-f : tie.Need-enum-known-f
-enum-known-f c = search needs
-
-enum-told : tie.Need-enum-told
-enum-told c = search needs
-
 returns : tie.Need-returns
 returns c = sym (ap addedOf (c .enum-told .given .1))
 
@@ -18,10 +12,4 @@ returns-2 : tie.Need-returns-2
 returns-2 c = sym (ap addedOf (c .before .f .given .1))
 
 pub added-spec : {M : Type 1} → statement M
-added-spec =
-    tie.close
-    (tie.spec
-    enum-known-f
-    enum-told
-    returns
-    returns-2)
+added-spec = tie.close (tie.spec (λ c. search needs) (λ c. search needs) returns returns-2)

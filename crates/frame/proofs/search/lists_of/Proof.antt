@@ -6,20 +6,8 @@ use Rattle.frame.specs.Internal.{listsOf}
 use Rattle.frame.proofs.search.lists_of.Statement.{statement}
 use Rattle.frame.proofs.search.lists_of.Tie as tie
 
-enum-known-f : tie.Need-enum-known-f
-enum-known-f c = search needs
-
-enum-told : tie.Need-enum-told
-enum-told c = search needs
-
 returns : tie.Need-returns
 returns c = sym (ap (λ (f : Peaks). listsOf f (c .before .before .args .g)) (c .enum-told .given .1))
-
-enum-known-g : tie.Need-enum-known-g
-enum-known-g c = search needs
-
-enum-told-2 : tie.Need-enum-told-2
-enum-told-2 c = search needs
 
 returns-2 : tie.Need-returns-2
 returns-2 c = sym (ap₂ listsOf (c .before .before .before .f .given .1) (c .enum-told2 .given .1))
@@ -29,12 +17,5 @@ returns-3 c = sym (ap₂ listsOf (c .before .before .before .before .f .given .1
 
 pub lists-of-spec : {M : Type 1} → statement M
 lists-of-spec =
-    tie.close
-    (tie.spec
-    enum-known-f
-    enum-told
-    returns
-    enum-known-g
-    enum-told-2
-    returns-2
-    returns-3)
+    tie.close (tie.spec
+    (λ c. search needs) (λ c. search needs) returns (λ c. search needs) (λ c. search needs) returns-2 returns-3)

@@ -17,20 +17,8 @@ abbrev μ-loop : tie.MeasureT-loop
 loop-holds : tie.Need-loop-holds Inv-loop μ-loop
 loop-holds c = raising-none _ _ _ _
 
-add-d : tie.Need-add-d Inv-loop μ-loop
-add-d c = omega arith
-
-mul-d : tie.Need-mul-d Inv-loop μ-loop
-mul-d c = omega arith
-
 slice-read-d : tie.Need-slice-read-d Inv-loop μ-loop
 slice-read-d c = omega (arith, loop-from-slice-read-d c .loop .inv .long)
-
-add-d-2 : tie.Need-add-d-2 Inv-loop μ-loop
-add-d-2 c = omega arith
-
-mul-d-2 : tie.Need-mul-d-2 Inv-loop μ-loop
-mul-d-2 c = omega arith
 
 slice-write-d : tie.Need-slice-write-d Inv-loop μ-loop
 slice-write-d c = omega (arith, loop-from-slice-write-d c .loop .inv .long)
@@ -38,12 +26,10 @@ slice-write-d c = omega (arith, loop-from-slice-write-d c .loop .inv .long)
 add-i : tie.Need-add-i Inv-loop μ-loop
 add-i c = omega (arith, start-from-add-i c .good)
 
-loop-less : tie.Need-loop-less Inv-loop μ-loop
-loop-less c = omega arith
-
 loop-again : tie.Need-loop-again Inv-loop μ-loop
 loop-again c =
-    raising-set _ _ _ _ (start-from-loop-again c .pre) _ _ (loop-from-loop-again c .loop .inv) (loop-test-from-loop-again c .loop-test .taken)
+    raising-set _ _ _ _ (start-from-loop-again c .pre) _ _ (loop-from-loop-again c .loop .inv)
+    (loop-test-from-loop-again c .loop-test .taken)
 
 same-length : tie.Need-same-length Inv-loop μ-loop
 same-length c = c .before .loop .inv .long
@@ -53,19 +39,6 @@ returns c = raising-all _ _ _ _ (start-from-returns c .pre) _ _ (c .before .loop
 
 pub shift-spec : {M : Type 1} → statement M
 shift-spec =
-    tie.close
-    (tie.spec
-    Inv-loop
-    μ-loop
-    loop-holds
-    add-d
-    mul-d
-    slice-read-d
-    add-d-2
-    mul-d-2
-    slice-write-d
-    add-i
-    loop-less
-    loop-again
-    same-length
-    returns)
+    tie.close (tie.spec
+    Inv-loop μ-loop loop-holds (λ c. omega arith) (λ c. omega arith) slice-read-d (λ c. omega arith) (λ c. omega arith) slice-write-d
+    add-i (λ c. omega arith) loop-again same-length returns)

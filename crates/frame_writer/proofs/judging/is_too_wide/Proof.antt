@@ -11,7 +11,11 @@ returns-2 c = rw (le-ltb 255 _ (c .before .before .if1 .left), lt-ltb 255 _ (c .
 
 returns-3 : tie.Need-returns-3
 returns-3 c =
-    rw (le-ltb 255 _ (c .before .before .before .before .if1 .left), le-ltb 255 _ (c .before .before .if2 .left), lt-ltb 65535 _ (c .if3 .taken))
+    rw (
+      le-ltb 255 _ (c .before .before .before .before .if1 .left),
+      le-ltb 255 _ (c .before .before .if2 .left),
+      lt-ltb 65535 _ (c .if3 .taken),
+    )
 
 returns-4 : tie.Need-returns-4
 returns-4 c =

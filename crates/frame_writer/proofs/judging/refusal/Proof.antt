@@ -50,9 +50,6 @@ four c = c .before .before .before
 radius : (c : tie.Else5) → radiusOutside (ofBits binary32 (start (one (two (three (four c)))) .args .header .«merge_bits»)) ≡ false
 radius c = ap radiusOutside (sym (c .before .before .from-bits .ensures)) ∙ sym (c .before .is-outside2 .ensures) ∙ c .if5 .left
 
-is-large-requires : tie.Need-is-large-requires
-is-large-requires c κs = search needs
-
 returns : tie.Need-returns
 unfolding refusalOf
 returns c = rw (← c .before .is-large .ensures, c .if1 .taken)
@@ -66,29 +63,17 @@ returns-2 : tie.Need-returns-2
 unfolding refusalOf
 returns-2 c = rw (sides (c .before .before), ne-eqb _ _ (c .if2 .taken))
 
-is-outside-requires : tie.Need-is-outside-requires
-is-outside-requires c κs = search needs
-
 returns-3 : tie.Need-returns-3
 unfolding refusalOf
 returns-3 c =
     let passed = c .before .before in
     rw (sides (one passed), size passed, ← c .before .is-outside .ensures, c .if3 .taken)
 
-is-too-wide-requires : tie.Need-is-too-wide-requires
-is-too-wide-requires c κs = search needs
-
 returns-4 : tie.Need-returns-4
 unfolding refusalOf
 returns-4 c =
     let passed = c .before .before in
     rw (sides (one (two passed)), size (two passed), range passed, ← c .before .is-too-wide .ensures, c .if4 .taken)
-
-from-bits-requires : tie.Need-from-bits-requires
-from-bits-requires c κs = search needs
-
-is-outside-requires-2 : tie.Need-is-outside-requires-2
-is-outside-requires-2 c κs = search needs
 
 returns-5 : tie.Need-returns-5
 unfolding refusalOf
@@ -125,19 +110,6 @@ returns-7 c =
 
 pub refusal-spec : {M : Type 1} → statement M
 refusal-spec =
-    tie.close
-    (tie.spec
-    is-large-requires
-    returns
-    mul-if2
-    returns-2
-    is-outside-requires
-    returns-3
-    is-too-wide-requires
-    returns-4
-    from-bits-requires
-    is-outside-requires-2
-    returns-5
-    length-of-requires
-    returns-6
-    returns-7)
+    tie.close (tie.spec
+    (λ c κs. search needs) returns mul-if2 returns-2 (λ c κs. search needs) returns-3 (λ c κs. search needs) returns-4
+    (λ c κs. search needs) (λ c κs. search needs) returns-5 length-of-requires returns-6 returns-7)

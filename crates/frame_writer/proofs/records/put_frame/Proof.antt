@@ -9,18 +9,6 @@ use Rattle.frame_writer.proofs.Filled.{head-stands, frame-stands}
 use Rattle.frame_writer.proofs.records.put_frame.Statement.{statement}
 use Rattle.frame_writer.proofs.records.put_frame.Tie as tie
 
-head-of-requires : tie.Need-head-of-requires
-head-of-requires c κs = search needs
-
-sub-last : tie.Need-sub-last
-sub-last c = search needs
-
-slice-aggregate-copy : tie.Need-slice-aggregate-copy
-slice-aggregate-copy c = search needs
-
-slice-relend-prefix-copy : tie.Need-slice-relend-prefix-copy
-slice-relend-prefix-copy c = search needs
-
 slice-aggregate-copy-2 : tie.Need-slice-aggregate-copy-2
 slice-aggregate-copy-2 c = sym (length-take-le 22 (c .before .before .before .before .before .args .out .now) (omega arith))
 
@@ -28,21 +16,6 @@ copy-requires : tie.Need-copy-requires
 copy-requires c κs =
     let out = c .before .before .before .before .before .args .out .now in
     omega (arith, ap length (c .before .before .head-of .ensures), length-take-le 22 out (omega arith))
-
-sub-put-pixels : tie.Need-sub-put-pixels
-sub-put-pixels c = search needs
-
-part-put-pixels-start : tie.Need-part-put-pixels-start
-part-put-pixels-start c = search needs
-
-part-put-pixels-end : tie.Need-part-put-pixels-end
-part-put-pixels-end c = search needs
-
-put-pixels-requires : tie.Need-put-pixels-requires
-put-pixels-requires c κs = search needs
-
-slice-write-out : tie.Need-slice-write-out
-slice-write-out c = search needs
 
 returns : tie.Need-returns
 returns c =
@@ -61,18 +34,6 @@ same-length c =
 
 pub put-frame-spec : {M : Type 1} → statement M
 put-frame-spec =
-    tie.close
-    (tie.spec
-    head-of-requires
-    sub-last
-    slice-aggregate-copy
-    slice-relend-prefix-copy
-    slice-aggregate-copy-2
-    copy-requires
-    sub-put-pixels
-    part-put-pixels-start
-    part-put-pixels-end
-    put-pixels-requires
-    slice-write-out
-    same-length
-    returns)
+    tie.close (tie.spec
+    (λ c κs. search needs) (λ c. search needs) (λ c. search needs) (λ c. search needs) slice-aggregate-copy-2 copy-requires
+    (λ c. search needs) (λ c. search needs) (λ c. search needs) (λ c κs. search needs) (λ c. search needs) same-length returns)

@@ -11,21 +11,9 @@ returns : tie.Need-returns
 unfolding recordByte
 returns c = rw (eq-eqb _ 0 (c .if1 .taken))
 
-mul-place : tie.Need-mul-place
-mul-place c = search needs
-
-add-place : tie.Need-add-place
-add-place c = search needs
-
-sub-place : tie.Need-sub-place
-sub-place c = search needs
-
 returns-2 : tie.Need-returns-2
 unfolding recordByte
 returns-2 c = rw (ne-eqb _ 0 (c .before .if1 .left)) (sym (List·getD-eq-default (c .before .before .args .pixels .now) 0 (c .if2 .taken)))
-
-shared-slice-read-result : tie.Need-shared-slice-read-result
-shared-slice-read-result c = search needs
 
 returns-3 : tie.Need-returns-3
 unfolding recordByte
@@ -33,5 +21,5 @@ returns-3 c = rw (ne-eqb _ 0 (c .before .before .if1 .left))
 
 pub record-byte-spec : {M : Type 1} → statement M
 record-byte-spec =
-    tie.close
-    (tie.spec returns mul-place add-place sub-place returns-2 shared-slice-read-result returns-3)
+    tie.close (tie.spec
+    returns (λ c. search needs) (λ c. search needs) (λ c. search needs) returns-2 (λ c. search needs) returns-3)

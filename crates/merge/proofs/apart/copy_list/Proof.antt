@@ -4,7 +4,8 @@ use borrow.Author.Needs.{needs}
 use Prim.Native.Nat.{_-_, _≤_}
 use native.Mathlib.Omega.{arith}
 use Rattle.corner_list.specs.CornerList.{slices}
-use Rattle.merge.proofs.Copying.{Copied, copied-none, copied-xs, copied-ys, copied-strengths, copied-neighbours, copied-more, copied-all}
+use Rattle.merge.proofs.Copying.{Copied, copied-none, copied-xs, copied-ys, copied-strengths, copied-neighbours, copied-more}
+use Rattle.merge.proofs.Copying.{copied-all}
 use Rattle.merge.proofs.apart.copy_list.Statement.{statement}
 use Rattle.merge.proofs.apart.copy_list.Tie as tie
 use Landmarks.*
@@ -18,12 +19,6 @@ abbrev μ-loop : tie.MeasureT-loop
 
 loop-holds : tie.Need-loop-holds Inv-loop μ-loop
 loop-holds c = (omega arith, copied-none _ _)
-
-corner-at-requires : tie.Need-corner-at-requires Inv-loop μ-loop
-corner-at-requires c κs = search needs
-
-put-corner-requires : tie.Need-put-corner-requires Inv-loop μ-loop
-put-corner-requires c κs = search needs
 
 add-i : tie.Need-add-i Inv-loop μ-loop
 add-i c = omega (arith, loop-test-from-add-i c .loop-test .taken, start-from-add-i c .fits .n)
@@ -56,18 +51,6 @@ returns c = copied-all _ _ _ _ (c .before .loop .inv .1) _ (c .loop-test .left) 
 
 pub copy-list-spec : {M : Type 1} → statement M
 copy-list-spec =
-    tie.close
-    (tie.spec
-    Inv-loop
-    μ-loop
-    loop-holds
-    corner-at-requires
-    put-corner-requires
-    add-i
-    loop-less
-    loop-again
-    same-length
-    same-length-2
-    same-length-3
-    same-length-4
-    returns)
+    tie.close (tie.spec
+    Inv-loop μ-loop loop-holds (λ c κs. search needs) (λ c κs. search needs) add-i loop-less loop-again same-length same-length-2
+    same-length-3 same-length-4 returns)

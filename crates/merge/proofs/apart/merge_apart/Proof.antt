@@ -17,12 +17,6 @@ judged : (c : tie.After-refusal-apart)
     (slices (a .xs .now) (a .ys .now) (a .strengths .now) (a .neighbours .now))
 judged c = apart-held _ _ _ _ _ _ (c .refusal-apart .ensures) (places-from-refusal-apart c .places .ensures)
 
-places-requires : tie.Need-places-requires
-places-requires c κs = search needs
-
-refusal-apart-requires : tie.Need-refusal-apart-requires
-refusal-apart-requires c κs = search needs
-
 returns : tie.Need-returns
 returns c = leaves-refused _ _ _ _ (judged (c .before)) (c .if1 .taken)
 
@@ -51,14 +45,6 @@ returns-2 c =
 
 pub merge-apart-spec : {M : Type 1} → statement M
 merge-apart-spec =
-    tie.close
-    (tie.spec
-    places-requires
-    refusal-apart-requires
-    returns
-    merge-into-requires
-    same-length
-    same-length-2
-    same-length-3
-    same-length-4
+    tie.close (tie.spec
+    (λ c κs. search needs) (λ c κs. search needs) returns merge-into-requires same-length same-length-2 same-length-3 same-length-4
     returns-2)

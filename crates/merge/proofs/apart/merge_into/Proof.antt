@@ -13,12 +13,6 @@ use Landmarks.*
 abbrev list : tie.Start → Slices
 list c = slices (c .args .xs .now) (c .args .ys .now) (c .args .strengths .now) (c .args .neighbours .now)
 
-is-off-requires : tie.Need-is-off-requires
-is-off-requires c κs = search needs
-
-copy-list-requires : tie.Need-copy-list-requires
-copy-list-requires c κs = search needs
-
 same-length : tie.Need-same-length
 same-length c = search needs
 
@@ -37,12 +31,6 @@ returns c =
     let s = start-from-returns c in
     left-off _ (list s) _ _ _ _ (sym (off .before .is-off .ensures) ∙ off .if1 .taken)
     (left-copied (list s) _ _ _ (copy-list-from-returns c .copy-list .ensures))
-
-grid-of-requires : tie.Need-grid-of-requires
-grid-of-requires c κs = search needs
-
-settle-list-requires : tie.Need-settle-list-requires
-settle-list-requires c κs = search needs
 
 same-length-5 : tie.Need-same-length-5
 same-length-5 c = search needs
@@ -63,23 +51,10 @@ returns-2 c =
     let on = if1-from-returns-2 c in
     let s = start-from-returns-2 c in
     left-on _ (list s) _ _ _ _ _ (sym (on .before .is-off .ensures) ∙ on .if1 .left) (made .grid-of .ensures)
-    (left-settled (made .grid-of .result) true (list s) _ _ _ _ (s .pre) (done .settle-list .ensures))
+    (left-settled (made .grid-of .result) true (list s) _ _ _ _ (s .pre) (done .settle-list .ensures .0))
 
 pub merge-into-spec : {M : Type 1} → statement M
 merge-into-spec =
-    tie.close
-    (tie.spec
-    is-off-requires
-    copy-list-requires
-    same-length
-    same-length-2
-    same-length-3
-    same-length-4
-    returns
-    grid-of-requires
-    settle-list-requires
-    same-length-5
-    same-length-6
-    same-length-7
-    same-length-8
-    returns-2)
+    tie.close (tie.spec
+    (λ c κs. search needs) (λ c κs. search needs) same-length same-length-2 same-length-3 same-length-4 returns (λ c κs. search needs)
+    (λ c. search needs) (λ c κs. search needs) same-length-5 same-length-6 same-length-7 same-length-8 returns-2)

@@ -6,9 +6,6 @@ use Rattle.merge.proofs.Separate.{apart-refused, apart-passed}
 use Rattle.merge.proofs.apart.refusal_apart.Statement.{statement}
 use Rattle.merge.proofs.apart.refusal_apart.Tie as tie
 
-refusal-requires : tie.Need-refusal-requires
-refusal-requires c κs = search needs
-
 returns : tie.Need-returns
 returns c = apart-refused _ _ _ _ _ _ (c .before .refusal .ensures) (omega arith) (c .if1 .taken)
 
@@ -23,4 +20,4 @@ returns-3 c =
     apart-passed _ _ _ _ _ _ (asked .before .refusal .ensures) (omega arith) _ (asked .if1 .left) (simp (le-ltb _ _ (c .if2 .left)))
 
 pub refusal-apart-spec : {M : Type 1} → statement M
-refusal-apart-spec = tie.close (tie.spec refusal-requires returns returns-2 returns-3)
+refusal-apart-spec = tie.close (tie.spec (λ c κs. search needs) returns returns-2 returns-3)

@@ -5,21 +5,6 @@ use Rattle.merge_settle.specs.Internal.{pairOf, homeOf}
 use Rattle.merge_settle.proofs.index.home_at.Statement.{statement}
 use Rattle.merge_settle.proofs.index.home_at.Tie as tie
 
-column-of-requires : tie.Need-column-of-requires
-column-of-requires c κs = search needs
-
-pair-of-requires : tie.Need-pair-of-requires
-pair-of-requires c κs = search needs
-
-row-of-requires : tie.Need-row-of-requires
-row-of-requires c κs = search needs
-
-pair-of-requires-2 : tie.Need-pair-of-requires-2
-pair-of-requires-2 c κs = search needs
-
-home-of-requires : tie.Need-home-of-requires
-home-of-requires c κs = search needs
-
 returns : tie.Need-returns
 returns c =
     c .home-of .ensures
@@ -28,11 +13,5 @@ returns c =
 
 pub home-at-spec : {M : Type 1} → statement M
 home-at-spec =
-    tie.close
-    (tie.spec
-    column-of-requires
-    pair-of-requires
-    row-of-requires
-    pair-of-requires-2
-    home-of-requires
-    returns)
+    tie.close (tie.spec
+    (λ c κs. search needs) (λ c κs. search needs) (λ c κs. search needs) (λ c κs. search needs) (λ c κs. search needs) returns)

@@ -14,24 +14,12 @@ square-fits n =
     let m : n % 4294967296 * (n % 4294967296) ≤ 4294967295 * 4294967295 = mul-le-mul h h in
     omega arith
 
-mul-m : tie.Need-mul-m
-mul-m c = search needs
-
-mul-m-2 : tie.Need-mul-m-2
-mul-m-2 c = search needs
-
-add-m : tie.Need-add-m
-add-m c = search needs
-
 mul-result : tie.Need-mul-result
 mul-result c = record { fits = square-fits (mixOf (c .args .x) (c .args .y)) }
-
-rem-result : tie.Need-rem-result
-rem-result c = search needs
 
 returns : tie.Need-returns
 unfolding homeOf
 returns c = refl
 
 pub home-of-spec : {M : Type 1} → statement M
-home-of-spec = tie.close (tie.spec mul-m mul-m-2 add-m mul-result rem-result returns)
+home-of-spec = tie.close (tie.spec (λ c. search needs) (λ c. search needs) (λ c. search needs) mul-result (λ c. search needs) returns)

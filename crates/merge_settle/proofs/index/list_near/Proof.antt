@@ -8,15 +8,6 @@ use lib.Dec.{leb}
 use Rattle.merge_settle.proofs.index.list_near.Statement.{statement}
 use Rattle.merge_settle.proofs.index.list_near.Tie as tie
 
-row-of-requires : tie.Need-row-of-requires
-row-of-requires c κs = search needs
-
-reaches-requires : tie.Need-reaches-requires
-reaches-requires c κs = search needs
-
-list-place-requires : tie.Need-list-place-requires
-list-place-requires c κs = search needs
-
 same-length : tie.Need-same-length
 same-length c = search needs
 
@@ -33,6 +24,4 @@ returns-2 c =
     )
 
 pub list-near-spec : {M : Type 1} → statement M
-list-near-spec =
-    tie.close
-    (tie.spec row-of-requires reaches-requires list-place-requires same-length returns returns-2)
+list-near-spec = tie.close (tie.spec (λ c κs. search needs) (λ c κs. search needs) (λ c κs. search needs) same-length returns returns-2)

@@ -8,9 +8,6 @@ use Rattle.merge_grid.proofs.Cells.{above-one}
 use Rattle.merge_settle.proofs.index.reaches.Statement.{statement}
 use Rattle.merge_settle.proofs.index.reaches.Tie as tie
 
-sub-result : tie.Need-sub-result
-sub-result c = search needs
-
 returns : tie.Need-returns
 returns c = above-one (c .before .args .row) (c .before .args .floor)
 
@@ -18,4 +15,4 @@ returns-2 : tie.Need-returns-2
 returns-2 c = sym (le-leb (c .before .args .floor) (c .before .args .row + 1) (omega arith))
 
 pub reaches-spec : {M : Type 1} → statement M
-reaches-spec = tie.close (tie.spec sub-result returns returns-2)
+reaches-spec = tie.close (tie.spec (λ c. search needs) returns returns-2)

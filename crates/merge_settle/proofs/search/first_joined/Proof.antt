@@ -21,12 +21,6 @@ abbrev μ-loop : tie.MeasureT-loop
 loop-holds : tie.Need-loop-holds Inv-loop μ-loop
 loop-holds c = (omega arith, below-none _)
 
-position-at-requires : tie.Need-position-at-requires Inv-loop μ-loop
-position-at-requires c κs = search needs
-
-is-joined-requires : tie.Need-is-joined-requires Inv-loop μ-loop
-is-joined-requires c κs = search needs
-
 -- from the test to the function's start, and the test, of the corner in the buffer
 abbrev from-test : tie.After-is-joined Inv-loop μ-loop → tie.Start Inv-loop μ-loop
 from-test c = start-from-is-joined c
@@ -38,30 +32,22 @@ tested c = let a = from-test c .args in ap (meets (a .g) (a .p)) (sym (c .before
 returns : tie.Need-returns Inv-loop μ-loop
 returns c = record { at-most = omega arith; passes = λ _. tested (c .before) ∙ c .if1 .taken; before = loop-from-returns c .loop .inv .1 }
 
-add-i : tie.Need-add-i Inv-loop μ-loop
-add-i c = omega arith
-
-loop-less : tie.Need-loop-less Inv-loop μ-loop
-loop-less c = omega arith
-
 loop-again : tie.Need-loop-again Inv-loop μ-loop
-loop-again c =
-    (omega arith, below-more _ _ (loop-from-loop-again c .loop .inv .1) (λ e. false≢true (sym (c .if1 .left) ∙ sym (tested (c .before)) ∙ e)))
+loop-again c = (
+  omega arith,
+  below-more _ _ (loop-from-loop-again c .loop .inv .1) (λ e. false≢true (sym (c .if1 .left) ∙ sym (tested (c .before)) ∙ e)),
+)
 
 returns-2 : tie.Need-returns-2 Inv-loop μ-loop
-returns-2 c = record { at-most = omega arith; passes = λ l. absurd (let no : ⊥ = omega arith in no); before = λ m l. c .before .loop .inv .1 m (omega arith) }
+returns-2 c =
+    record {
+      at-most = omega arith;
+      passes = λ l. absurd (let no : ⊥ = omega arith in no);
+      before = λ m l. c .before .loop .inv .1 m (omega arith);
+    }
 
 pub first-joined-spec : {M : Type 1} → statement M
 first-joined-spec =
-    tie.close
-    (tie.spec
-    Inv-loop
-    μ-loop
-    loop-holds
-    position-at-requires
-    is-joined-requires
-    returns
-    add-i
-    loop-less
-    loop-again
+    tie.close (tie.spec
+    Inv-loop μ-loop loop-holds (λ c κs. search needs) (λ c κs. search needs) returns (λ c. omega arith) (λ c. omega arith) loop-again
     returns-2)

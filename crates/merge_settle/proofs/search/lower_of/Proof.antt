@@ -9,17 +9,12 @@ use Rattle.merge_settle.proofs.search.lower_of.Statement.{statement}
 use Rattle.merge_settle.proofs.search.lower_of.Tie as tie
 use Landmarks.*
 
-position-at-requires : tie.Need-position-at-requires
-position-at-requires c κs = search needs
-
-is-joined-requires : tie.Need-is-joined-requires
-is-joined-requires c κs = search needs
-
 -- from the test to the function's start, and the test, of the corner in the buffer
 abbrev from-test : tie.After-is-joined → tie.Start
 from-test c = start-from-is-joined c
 
-tested : (c : tie.After-is-joined) → let a = from-test c .args in joinsAt (a .g) (a .p) (a .xs .now) (a .ys .now) (a .i) ≡ c .is-joined .result
+tested : (c : tie.After-is-joined) → let a = from-test c .args in
+    joinsAt (a .g) (a .p) (a .xs .now) (a .ys .now) (a .i) ≡ c .is-joined .result
 tested c = let a = from-test c .args in ap (meets (a .g) (a .p)) (sym (c .before .position-at .ensures)) ∙ sym (c .is-joined .ensures)
 
 returns : tie.Need-returns
@@ -32,5 +27,4 @@ returns-3 : tie.Need-returns-3
 returns-3 c = lower-past _ _ _ (c .if1 .left)
 
 pub lower-of-spec : {M : Type 1} → statement M
-lower-of-spec =
-    tie.close (tie.spec position-at-requires is-joined-requires returns returns-2 returns-3)
+lower-of-spec = tie.close (tie.spec (λ c κs. search needs) (λ c κs. search needs) returns returns-2 returns-3)

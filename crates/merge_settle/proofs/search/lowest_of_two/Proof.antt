@@ -2,7 +2,7 @@
 use borrow.Author.Needs.{needs}
 use native.Mathlib.Omega.{arith}
 use Rattle.merge_settle.proofs.First.{lowers-two}
-use Rattle.merge_settle.proofs.Slots.{home-in}
+use Rattle.merge_settle.proofs.Slots.{home-in, home-slots}
 use Rattle.merge_settle.proofs.search.lowest_of_two.Statement.{statement}
 use Rattle.merge_settle.proofs.search.lowest_of_two.Tie as tie
 
@@ -10,17 +10,8 @@ use Rattle.merge_settle.proofs.search.lowest_of_two.Tie as tie
 abbrev start : tie.After-home-of → tie.Start
 start c = c .before .before .before .before
 
-home-of-requires : tie.Need-home-of-requires
-home-of-requires c κs = search needs
-
 lowest-from-requires : tie.Need-lowest-from-requires
 lowest-from-requires c κs = (home-in _ _ _ _ (start c .pre .0) (c .home-of .ensures), omega arith)
-
-add-home-of : tie.Need-add-home-of
-add-home-of c = search needs
-
-home-of-requires-2 : tie.Need-home-of-requires-2
-home-of-requires-2 c κs = search needs
 
 lowest-from-requires-2 : tie.Need-lowest-from-requires-2
 lowest-from-requires-2 c κs =
@@ -29,15 +20,11 @@ lowest-from-requires-2 c κs =
 returns : tie.Need-returns
 returns c =
     let first = c .before .before in
-    lowers-two _ _ _ _ _ _ _ _ _ (first .before .home-of .ensures) (c .before .home-of2 .ensures) (first .lowest-from .ensures) (c .lowest-from2 .ensures)
+    let t = start (first .before) .args .table .now in
+    lowers-two _ _ _ _ _ _ _ _ _ (home-slots t _ _ _ (first .before .home-of .ensures)) (home-slots t _ _ _ (c .before .home-of2 .ensures))
+    (first .lowest-from .ensures) (c .lowest-from2 .ensures)
 
 pub lowest-of-two-spec : {M : Type 1} → statement M
 lowest-of-two-spec =
-    tie.close
-    (tie.spec
-    home-of-requires
-    lowest-from-requires
-    add-home-of
-    home-of-requires-2
-    lowest-from-requires-2
-    returns)
+    tie.close (tie.spec
+    (λ c κs. search needs) lowest-from-requires (λ c. search needs) (λ c κs. search needs) lowest-from-requires-2 returns)

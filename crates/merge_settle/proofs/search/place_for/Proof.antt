@@ -18,23 +18,15 @@ start c = start-from-find-joined c
 
 found : (c : tie.After-find-joined)
     → let a = start c .args in
-    IsFirst (λ m. joins (a .g) (a .c) (cornerAt (slices (a .xs .now) (a .ys .now) (a .strengths .now) (a .neighbours .now)) m)) (a .k) (c .find-joined .result)
+    IsFirst (λ m. joins (a .g) (a .c) (cornerAt (slices (a .xs .now) (a .ys .now) (a .strengths .now) (a .neighbours .now)) m))
+    (a .k) (c .find-joined .result)
 found c =
     let a = start c .args in
     subst (λ (p : Position). IsFirst (joinsAt (a .g) p (a .xs .now) (a .ys .now)) (a .k) (c .find-joined .result))
     (c .before .position-of .ensures) (c .find-joined .ensures)
 
-position-of-requires : tie.Need-position-of-requires
-position-of-requires c κs = search needs
-
-find-joined-requires : tie.Need-find-joined-requires
-find-joined-requires c κs = search needs
-
 returns : tie.Need-returns
 returns c = let f = c .before in takes-new _ _ _ _ (start f .pre .0) _ (found f) (c .if1 .taken)
-
-corner-at-requires : tie.Need-corner-at-requires
-corner-at-requires c κs = search needs
 
 returns-2 : tie.Need-returns-2
 returns-2 c =
@@ -50,5 +42,4 @@ returns-3 c =
     _ (omega (arith, start f .good)) (omega arith) (c .if2 .left)
 
 pub place-for-spec : {M : Type 1} → statement M
-place-for-spec =
-    tie.close (tie.spec position-of-requires find-joined-requires returns corner-at-requires returns-2 returns-3)
+place-for-spec = tie.close (tie.spec (λ c κs. search needs) (λ c κs. search needs) returns (λ c κs. search needs) returns-2 returns-3)

@@ -84,7 +84,8 @@ module _ (t : ℕ) where
   returns-2 c = reaches-done _ _ _ _ _ _ _ _ _ (merge-up-to-from-returns-2 c .merge-up-to .ensures) _ (c .if2 .taken)
 
   merge-more-requires : lts.Need-merge-more-requires claims given reads.Post
-  merge-more-requires c κs = let p = called (if2-from-merge-more-requires c) in reaches-ready _ _ _ _ _ _ _ _ _ (p .merge-up-to .ensures) (start p .pre .1 .0)
+  merge-more-requires c κs = let p = called (if2-from-merge-more-requires c) in
+      reaches-ready _ _ _ _ _ _ _ _ _ (p .merge-up-to .ensures) (start p .pre .1 .0)
 
   same-length-9 : lts.Need-same-length-9 claims given reads.Post
   same-length-9 c = search needs
@@ -102,10 +103,12 @@ module _ (t : ℕ) where
   returns-3 c =
       let more = merge-more-from-returns-3 c in
       let low = if3-from-returns-3 c in
-      reaches-on _ _ _ _ _ _ _ _ _ (called (low .before) .merge-up-to .ensures) _ _ _ _ (more .merge-more .ensures) (omega (arith, low .if3 .taken))
+      reaches-on _ _ _ _ _ _ _ _ _ (called (low .before) .merge-up-to .ensures) _ _ _ _ (more .merge-more .ensures)
+      (omega (arith, low .if3 .taken))
 
   merge-most-requires : lts.Need-merge-most-requires claims given reads.Post
-  merge-most-requires c κs = let p = called (if2-from-merge-most-requires c) in reaches-ready _ _ _ _ _ _ _ _ _ (p .merge-up-to .ensures) (start p .pre .1 .0)
+  merge-most-requires c κs = let p = called (if2-from-merge-most-requires c) in
+      reaches-ready _ _ _ _ _ _ _ _ _ (p .merge-up-to .ensures) (start p .pre .1 .0)
 
   same-length-13 : lts.Need-same-length-13 claims given reads.Post
   same-length-13 c = search needs

@@ -1,4 +1,5 @@
--- `merge_settle::settling::merge_with` meets its contract: each turn settles the next corner, and the kept ones stay indexed. Assumes nothing.
+-- `merge_settle::settling::merge_with` meets its contract: each turn settles the next corner, and the kept ones stay indexed. Assumes
+-- nothing.
 mod Landmarks
 use borrow.Author.Needs.{needs}
 use Prim.Native.Nat.{_-_}
@@ -8,22 +9,23 @@ use mathlib.Core.Logic.{inr}
 use lib.ListN.{length}
 use Rattle.corner_list.specs.CornerList.{slices}
 use Rattle.merge_grid.specs.Grid.{joins}
-use Rattle.merge_settle.specs.Internal.{Indexed, step, Comes}
-use Rattle.merge_settle.proofs.Stepping.{comes-none, comes-xs, comes-ys, comes-strengths, comes-neighbours, comes-fits, comes-turn, reaches-end}
+use Rattle.merge_settle.specs.Internal.{slotsOf, Indexed, step, Comes}
+use Rattle.merge_settle.proofs.Stepping.{comes-none, comes-xs, comes-ys, comes-strengths, comes-neighbours, comes-fits, comes-turn}
+use Rattle.merge_settle.proofs.Stepping.{reaches-end}
 use Rattle.merge_settle.proofs.settling.merge_with.Statement.{statement}
 use Rattle.merge_settle.proofs.settling.merge_with.Tie as tie
 use Landmarks.*
 
 abbrev Inv-loop : tie.InvT-loop
-Inv-loop lx ly ls ln apart xs₀ ys₀ strengths₀ neighbours₀ table₀ g n most done k₀ floor₀ low₀ i₀ xs ys strengths neighbours table k floor low i =
-    Comes (joins g) apart (slices lx ly ls ln) n (slices xs₀ ys₀ strengths₀ neighbours₀) (step done k₀) (slices xs ys strengths neighbours) (step i k)
-    × Indexed g floor table xs ys k × (length table ≡ length table₀)
+Inv-loop lx ly ls ln apart xs₀ ys₀ strengths₀ neighbours₀ table₀ g n most done k₀ floor₀ low₀ i₀ xs ys strengths neighbours table
+    k floor low i =
+    Comes (joins g) apart (slices lx ly ls ln) n (slices xs₀ ys₀ strengths₀ neighbours₀) (step done k₀)
+    (slices xs ys strengths neighbours) (step i k)
+    × Indexed g floor (slotsOf table) xs ys k × (length table ≡ length table₀)
 
 abbrev μ-loop : tie.MeasureT-loop
-μ-loop lx ly ls ln apart xs₀ ys₀ strengths₀ neighbours₀ table₀ g n most done k₀ floor₀ low₀ i₀ xs ys strengths neighbours table k floor low i = n - i
-
-list-kept-requires : tie.Need-list-kept-requires Inv-loop μ-loop
-list-kept-requires c κs = search needs
+μ-loop lx ly ls ln apart xs₀ ys₀ strengths₀ neighbours₀ table₀ g n most done k₀ floor₀ low₀ i₀ xs ys strengths neighbours table k
+    floor low i = n - i
 
 loop-holds : tie.Need-loop-holds Inv-loop μ-loop
 loop-holds c =
@@ -49,19 +51,14 @@ same-length-5 c = omega (arith, c .before .before .loop .inv .2, list-kept-from-
 returns : tie.Need-returns Inv-loop μ-loop
 returns c = record { comes = c .before .before .loop .inv .0; far = inr (c .if1 .taken) }
 
-floor-of-requires : tie.Need-floor-of-requires Inv-loop μ-loop
-floor-of-requires c κs = search needs
-
 refresh-requires : tie.Need-refresh-requires Inv-loop μ-loop
 refresh-requires c κs = loop-from-refresh-requires c .loop .inv .1
-
-given-at-requires : tie.Need-given-at-requires Inv-loop μ-loop
-given-at-requires c κs = search needs
 
 settle-corner-requires : tie.Need-settle-corner-requires Inv-loop μ-loop
 settle-corner-requires c κs =
     let turn = loop-test-from-settle-corner-requires c in
-    let fits = comes-fits _ _ _ _ _ _ _ _ (turn .before .loop .inv .0) (start-from-settle-corner-requires c .pre .0) (turn .loop-test .taken) in
+    let fits = comes-fits _ _ _ _ _ _ _ _ (turn .before .loop .inv .0) (start-from-settle-corner-requires c .pre .0)
+    (turn .loop-test .taken) in
     (fits, refresh-from-settle-corner-requires c .refresh .ensures)
 
 add-i : tie.Need-add-i Inv-loop μ-loop
@@ -99,28 +96,7 @@ returns-2 c = reaches-end _ _ _ _ _ _ _ _ _ _ (c .before .loop .inv .0) (c .loop
 
 pub merge-with-spec : {M : Type 1} → statement M
 merge-with-spec =
-    tie.close
-    (tie.spec
-    Inv-loop
-    μ-loop
-    list-kept-requires
-    loop-holds
-    same-length
-    same-length-2
-    same-length-3
-    same-length-4
-    same-length-5
-    returns
-    floor-of-requires
-    refresh-requires
-    given-at-requires
-    settle-corner-requires
-    add-i
-    loop-less
-    loop-again
-    same-length-6
-    same-length-7
-    same-length-8
-    same-length-9
-    same-length-10
-    returns-2)
+    tie.close (tie.spec
+    Inv-loop μ-loop (λ c κs. search needs) loop-holds same-length same-length-2 same-length-3 same-length-4 same-length-5 returns
+    (λ c κs. search needs) refresh-requires (λ c κs. search needs) settle-corner-requires add-i loop-less loop-again same-length-6
+    same-length-7 same-length-8 same-length-9 same-length-10 returns-2)

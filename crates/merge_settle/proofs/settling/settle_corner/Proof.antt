@@ -4,6 +4,7 @@ use borrow.Author.Needs.{needs}
 use native.Mathlib.Omega.{arith}
 use Rattle.corner_list.specs.CornerList.{Slices, slices}
 use Rattle.merge_settle.proofs.Settle.{settled-put}
+use Rattle.merge_settle.proofs.Slots.{some-floats}
 use Rattle.merge_settle.proofs.Indexing.{indexed-put}
 use Rattle.merge_settle.proofs.settling.settle_corner.Statement.{statement}
 use Rattle.merge_settle.proofs.settling.settle_corner.Tie as tie
@@ -23,17 +24,8 @@ put c = put-corner-from-position-of c
 abbrev buffer : tie.Start → Slices
 buffer c = slices (c .args .xs .now) (c .args .ys .now) (c .args .strengths .now) (c .args .neighbours .now)
 
-place-for-requires : tie.Need-place-for-requires
-place-for-requires c κs = search needs
-
-put-corner-requires : tie.Need-put-corner-requires
-put-corner-requires c κs = search needs
-
-position-of-requires : tie.Need-position-of-requires
-position-of-requires c κs = search needs
-
 list-place-requires : tie.Need-list-place-requires
-list-place-requires c κs = start (found (put c)) .pre .1 .some
+list-place-requires c κs = let s = start (found (put c)) in some-floats (s .args .table .now) (s .pre .1 .some)
 
 count-with-requires : tie.Need-count-with-requires
 count-with-requires c κs = let s = start (found (put (position-of-from-count-with-requires c))) in omega (arith, s .pre .0, s .good)
@@ -66,16 +58,6 @@ returns c =
 
 pub settle-corner-spec : {M : Type 1} → statement M
 settle-corner-spec =
-    tie.close
-    (tie.spec
-    place-for-requires
-    put-corner-requires
-    position-of-requires
-    list-place-requires
-    count-with-requires
-    same-length
-    same-length-2
-    same-length-3
-    same-length-4
-    same-length-5
-    returns)
+    tie.close (tie.spec
+    (λ c κs. search needs) (λ c κs. search needs) (λ c κs. search needs) list-place-requires count-with-requires same-length
+    same-length-2 same-length-3 same-length-4 same-length-5 returns)

@@ -11,11 +11,5 @@ add-result c = record { fits = omega (arith, border-small (c .before .args .self
 add-result-2 : tie.Need-add-result-2
 add-result-2 c = record { fits = omega (arith, border-small (c .before .before .args .self) (c .before .before .pre)) }
 
-cast-result : tie.Need-cast-result
-cast-result c = search needs
-
-returns : tie.Need-returns
-returns c = search needs
-
 pub border-spec : {M : Type 1} → statement M
-border-spec = tie.close (tie.spec add-result add-result-2 cast-result returns)
+border-spec = tie.close (tie.spec add-result add-result-2 (λ c. search needs) (λ c. search needs))

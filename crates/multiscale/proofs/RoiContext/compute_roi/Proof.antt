@@ -8,9 +8,6 @@ use borrow.Author.Needs.{needs}
 use Rattle.multiscale.proofs.RoiContext.compute_roi.Statement.{statement}
 use Rattle.multiscale.proofs.RoiContext.compute_roi.Tie as tie
 
-refusal-requires : tie.Need-refusal-requires
-refusal-requires c κs = search needs
-
 returns : tie.Need-returns
 returns c = refused _ _ _ (c .before .refusal .ensures) (c .if1 .taken)
 
@@ -21,12 +18,6 @@ clear c = sound (c .before .before .args .self) (c .before .before .args .c) (sy
 span-on-requires : tie.Need-span-on-requires
 span-on-requires c κs = let k = clear c in (k, k .width)
 
-enum-known-x0 : tie.Need-enum-known-x0
-enum-known-x0 c = search needs
-
-enum-told : tie.Need-enum-told
-enum-told c = search needs
-
 returns-2 : tie.Need-returns-2
 returns-2 c =
     no-columns _ _ _ (c .before .before .before .before .refusal .ensures) (c .before .before .before .if1 .left)
@@ -34,12 +25,6 @@ returns-2 c =
 
 span-on-requires-2 : tie.Need-span-on-requires-2
 span-on-requires-2 c κs = let k = clear (c .before .before .before .before) in (k, k .height)
-
-enum-known-y0 : tie.Need-enum-known-y0
-enum-known-y0 c = search needs
-
-enum-told-2 : tie.Need-enum-told-2
-enum-told-2 c = search needs
 
 returns-3 : tie.Need-returns-3
 returns-3 c =
@@ -53,20 +38,11 @@ returns-4 c =
     a-box _ _ _ (c .before .before .before .before .before .before .before .before .before .refusal .ensures)
     (c .before .before .before .before .before .before .before .before .if1 .left) _ _
     (sym (c .before .before .before .before .before .before .before .span-on .ensures)
-    ∙ c .before .before .before .before .before .x0 .given .1) _ _ (sym (c .before .before .before .span-on2 .ensures) ∙ c .before .y0 .given .1)
+    ∙ c .before .before .before .before .before .x0 .given .1) _ _
+    (sym (c .before .before .before .span-on2 .ensures) ∙ c .before .y0 .given .1)
 
 pub compute-roi-spec : {M : Type 1} → statement M
 compute-roi-spec =
-    tie.close
-    (tie.spec
-    refusal-requires
-    returns
-    span-on-requires
-    enum-known-x0
-    enum-told
-    returns-2
-    span-on-requires-2
-    enum-known-y0
-    enum-told-2
-    returns-3
-    returns-4)
+    tie.close (tie.spec
+    (λ c κs. search needs) returns span-on-requires (λ c. search needs) (λ c. search needs) returns-2 span-on-requires-2
+    (λ c. search needs) (λ c. search needs) returns-3 returns-4)

@@ -15,7 +15,8 @@ returns-2 c = rw (le-leb _ _ (c .before .before .if1 .left), lt-leb _ _ (c .if2 
 
 returns-3 : tie.Need-returns-3
 unfolding parametersFit
-returns-3 c = rw (le-leb _ _ (c .before .before .before .before .if1 .left), le-leb _ _ (c .before .before .if2 .left), lt-leb _ _ (c .if3 .taken))
+returns-3 c =
+    rw (le-leb _ _ (c .before .before .before .before .if1 .left), le-leb _ _ (c .before .before .if2 .left), lt-leb _ _ (c .if3 .taken))
 
 returns-4 : tie.Need-returns-4
 unfolding parametersFit
@@ -26,9 +27,6 @@ returns-4 c =
       le-leb _ _ (c .before .before .if3 .left),
       lt-leb _ _ (c .if4 .taken),
     )
-
-is-ring-requires : tie.Need-is-ring-requires
-is-ring-requires c κs = search needs
 
 returns-5 : tie.Need-returns-5
 unfolding parametersFit
@@ -41,5 +39,4 @@ returns-5 c =
     ) (c .is-ring .ensures)
 
 pub parameters-fit-spec : {M : Type 1} → statement M
-parameters-fit-spec =
-    tie.close (tie.spec returns returns-2 returns-3 returns-4 is-ring-requires returns-5)
+parameters-fit-spec = tie.close (tie.spec returns returns-2 returns-3 returns-4 (λ c κs. search needs) returns-5)

@@ -5,17 +5,8 @@ use borrow.Author.Needs.{needs}
 use Rattle.multiscale.proofs.RoiContext.refusal.Statement.{statement}
 use Rattle.multiscale.proofs.RoiContext.refusal.Tie as tie
 
-is-large-requires : tie.Need-is-large-requires
-is-large-requires c κs = search needs
-
 returns : tie.Need-returns
 returns c = large _ _ (sym (c .before .is-large .ensures) ∙ c .if1 .taken)
-
-parameters-fit-requires : tie.Need-parameters-fit-requires
-parameters-fit-requires c κs = search needs
-
-is-inside-requires : tie.Need-is-inside-requires
-is-inside-requires c κs = search needs
 
 returns-2 : tie.Need-returns-2
 returns-2 c =
@@ -38,12 +29,5 @@ returns-4 c =
 
 pub refusal-spec : {M : Type 1} → statement M
 refusal-spec =
-    tie.close
-    (tie.spec
-    is-large-requires
-    returns
-    parameters-fit-requires
-    is-inside-requires
-    returns-2
-    returns-3
-    returns-4)
+    tie.close (tie.spec
+    (λ c κs. search needs) returns (λ c κs. search needs) (λ c κs. search needs) returns-2 returns-3 returns-4)

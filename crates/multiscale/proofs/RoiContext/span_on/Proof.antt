@@ -6,27 +6,14 @@ use borrow.Author.Needs.{needs}
 use Rattle.multiscale.proofs.RoiContext.span_on.Statement.{statement}
 use Rattle.multiscale.proofs.RoiContext.span_on.Tie as tie
 
-shl-scale : tie.Need-shl-scale
-shl-scale c = search needs
-
 int-to-float-scale : tie.Need-int-to-float-scale
 unfolding inFloat
 int-to-float-scale c = scale-held (c .before .before .args .self) (c .before .before .pre .0)
 
-round-half-away-requires : tie.Need-round-half-away-requires
-round-half-away-requires c κs = search needs
-
-enum-known-centre : tie.Need-enum-known-centre
-enum-known-centre c = search needs
-
 returns : tie.Need-returns
-returns c = no-centre _ _ _ _ (scale-is _ (c .before .before .before .before .pre .0)) _ (c .before .round-half-away .ensures .answer) (c .match .keys2)
-
-roi-radius-requires : tie.Need-roi-radius-requires
-roi-radius-requires c κs = search needs
-
-border-requires : tie.Need-border-requires
-border-requires c κs = search needs
+returns c =
+    no-centre _ _ _ _ (scale-is _ (c .before .before .before .before .pre .0)) _ (c .before .round-half-away .ensures .answer)
+    (c .match .keys2)
 
 span-about-requires : tie.Need-span-about-requires
 span-about-requires c κs =
@@ -41,18 +28,11 @@ returns-2 c =
     let start = c .before .before .before .before .before .before .before .before .before in
     about-centre (start .args .self) (start .args .side) (start .args .x) _ (scale-is (start .args .self) (start .pre .0)) _
     (c .before .before .before .before .before .before .round-half-away .ensures .answer) _ _ _ _
-    (c .before .before .before .before .centre .given .1) (c .before .before .roi-radius .ensures) (c .before .border .ensures) (c .span-about .ensures)
+    (c .before .before .before .before .centre .given .1) (c .before .before .roi-radius .ensures) (c .before .border .ensures)
+    (c .span-about .ensures)
 
 pub span-on-spec : {M : Type 1} → statement M
 span-on-spec =
-    tie.close
-    (tie.spec
-    shl-scale
-    int-to-float-scale
-    round-half-away-requires
-    enum-known-centre
-    returns
-    roi-radius-requires
-    border-requires
-    span-about-requires
-    returns-2)
+    tie.close (tie.spec
+    (λ c. search needs) int-to-float-scale (λ c κs. search needs) (λ c. search needs) returns (λ c κs. search needs)
+    (λ c κs. search needs) span-about-requires returns-2)

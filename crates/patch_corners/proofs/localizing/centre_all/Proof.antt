@@ -3,8 +3,10 @@ mod Landmarks
 use borrow.Author.Needs.{needs}
 use Prim.Native.Nat.{_-_}
 use native.Mathlib.Omega.{arith}
+use mathlib.Core.Path.{ap, _∙_}
 use Rattle.corner_list.specs.CornerList.{slices}
 use Rattle.patch_corners.specs.MapCorners.{centred}
+use Rattle.patch_corners.specs.Internal.{lowered}
 use Rattle.patch_corners.proofs.Changing.{Changing, changing-none, changing-put, changing-all}
 use Rattle.patch_corners.proofs.Changing.{changing-xs, changing-ys, changing-strengths, changing-neighbours}
 use Rattle.patch_corners.proofs.localizing.centre_all.Statement.{statement}
@@ -12,40 +14,28 @@ use Rattle.patch_corners.proofs.localizing.centre_all.Tie as tie
 use Landmarks.*
 
 abbrev Inv-loop : tie.InvT-loop
-Inv-loop map w h radius xs₀ ys₀ strengths₀ neighbours₀ held n i₀ xs ys strengths neighbours i =
-    Changing (centred radius map w h) held n i (slices xs₀ ys₀ strengths₀ neighbours₀) (slices xs ys strengths neighbours)
+Inv-loop map w h radius top xs₀ ys₀ strengths₀ neighbours₀ held n i₀ xs ys strengths neighbours i =
+    Changing (λ c. centred radius map w h (lowered top c)) held n i (slices xs₀ ys₀ strengths₀ neighbours₀)
+    (slices xs ys strengths neighbours)
 
 abbrev μ-loop : tie.MeasureT-loop
-μ-loop map w h radius xs₀ ys₀ strengths₀ neighbours₀ held n i₀ xs ys strengths neighbours i = n - i
+μ-loop map w h radius top xs₀ ys₀ strengths₀ neighbours₀ held n i₀ xs ys strengths neighbours i = n - i
 
 loop-holds : tie.Need-loop-holds Inv-loop μ-loop
 loop-holds c = changing-none _ _ _ _
 
-add-corner-at : tie.Need-add-corner-at Inv-loop μ-loop
-add-corner-at c = omega arith
-
-corner-at-requires : tie.Need-corner-at-requires Inv-loop μ-loop
-corner-at-requires c κs = search needs
-
-add-put-corner : tie.Need-add-put-corner Inv-loop μ-loop
-add-put-corner c = omega arith
-
-centre-requires : tie.Need-centre-requires Inv-loop μ-loop
-centre-requires c κs = search needs
-
-put-corner-requires : tie.Need-put-corner-requires Inv-loop μ-loop
-put-corner-requires c κs = search needs
-
 add-i : tie.Need-add-i Inv-loop μ-loop
 add-i c = omega (arith, start-from-add-i c .good)
 
-loop-less : tie.Need-loop-less Inv-loop μ-loop
-loop-less c = omega arith
-
 loop-again : tie.Need-loop-again Inv-loop μ-loop
 loop-again c =
-    changing-put _ _ _ _ (start-from-loop-again c .pre) _ _ (loop-from-loop-again c .loop .inv) (loop-test-from-loop-again c .loop-test .taken) _ _ _
-    (corner-at-from-loop-again c .corner-at .ensures) (centre-from-loop-again c .centre .ensures) (put-corner-from-loop-again c .put-corner .ensures)
+    let a = start-from-loop-again c .args in
+    changing-put _ _ _ _ (start-from-loop-again c .pre .0) _ _ (loop-from-loop-again c .loop .inv)
+    (loop-test-from-loop-again c .loop-test .taken) _ _ _
+    (corner-at-from-loop-again c .corner-at .ensures)
+    (centre-from-loop-again c .centre .ensures
+    ∙ ap (centred (a .radius) (a .map .now) (a .w) (a .h)) (lower-from-loop-again c .lower .ensures))
+    (put-corner-from-loop-again c .put-corner .ensures)
 
 same-length : tie.Need-same-length Inv-loop μ-loop
 same-length c = changing-xs _ _ _ _ (omega arith) _ _ (c .before .loop .inv)
@@ -64,21 +54,7 @@ returns c = changing-all _ _ _ _ (omega arith) _ _ (c .before .loop .inv) (omega
 
 pub centre-all-spec : {M : Type 1} → statement M
 centre-all-spec =
-    tie.close
-    (tie.spec
-    Inv-loop
-    μ-loop
-    loop-holds
-    add-corner-at
-    corner-at-requires
-    add-put-corner
-    centre-requires
-    put-corner-requires
-    add-i
-    loop-less
-    loop-again
-    same-length
-    same-length-2
-    same-length-3
-    same-length-4
-    returns)
+    tie.close (tie.spec
+    Inv-loop μ-loop loop-holds (λ c. omega arith) (λ c κs. search needs) (λ c. omega arith) (λ c κs. search needs)
+    (λ c κs. search needs) (λ c κs. search needs) add-i (λ c. omega arith) loop-again same-length same-length-2 same-length-3
+    same-length-4 returns)

@@ -8,15 +8,8 @@ use Rattle.pgm.proofs.header.begins_digit.Tie as tie
 returns : tie.Need-returns
 returns c = sym (begins-end _ _ _ (c .if1 .taken))
 
-shared-slice-read-is-digit : tie.Need-shared-slice-read-is-digit
-shared-slice-read-is-digit c = search needs
-
-is-digit-requires : tie.Need-is-digit-requires
-is-digit-requires c κs = search needs
-
 returns-2 : tie.Need-returns-2
 returns-2 c = c .is-digit .ensures ∙ sym (begins-here _ _ _ (c .before .before .if1 .left) (c .before .before .before .before .pre))
 
 pub begins-digit-spec : {M : Type 1} → statement M
-begins-digit-spec =
-    tie.close (tie.spec returns shared-slice-read-is-digit is-digit-requires returns-2)
+begins-digit-spec = tie.close (tie.spec returns (λ c. search needs) (λ c κs. search needs) returns-2)

@@ -8,15 +8,8 @@ use Rattle.pgm.proofs.header.begins_space.Tie as tie
 returns : tie.Need-returns
 returns c = sym (begins-end _ _ _ (c .if1 .taken))
 
-shared-slice-read-is-space : tie.Need-shared-slice-read-is-space
-shared-slice-read-is-space c = search needs
-
-is-space-requires : tie.Need-is-space-requires
-is-space-requires c κs = search needs
-
 returns-2 : tie.Need-returns-2
 returns-2 c = c .is-space .ensures ∙ sym (begins-here _ _ _ (c .before .before .if1 .left) (c .before .before .before .before .pre))
 
 pub begins-space-spec : {M : Type 1} → statement M
-begins-space-spec =
-    tie.close (tie.spec returns shared-slice-read-is-space is-space-requires returns-2)
+begins-space-spec = tie.close (tie.spec returns (λ c. search needs) (λ c κs. search needs) returns-2)

@@ -7,7 +7,8 @@ returns : tie.Need-returns
 returns c = rw (not-true (c .before .args .inside) (c .if1 .taken))
 
 returns-2 : tie.Need-returns-2
-returns-2 c = rw (not-false (c .before .before .args .inside) (c .before .if1 .left), eq-eqb (c .before .before .args .c) 13 (c .if2 .taken))
+returns-2 c =
+    rw (not-false (c .before .before .args .inside) (c .before .if1 .left), eq-eqb (c .before .before .args .c) 13 (c .if2 .taken))
 
 returns-3 : tie.Need-returns-3
 returns-3 c = rw (not-false (c .before .before .args .inside) (c .before .if1 .left), ne-eqb (c .before .before .args .c) 13 (c .if2 .left))

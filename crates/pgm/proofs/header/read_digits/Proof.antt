@@ -1,5 +1,5 @@
--- `pgm::header::read_digits` meets its contract. The invariant: the digits from this place on behind the number so far give the number of all.
--- Assumes nothing.
+-- `pgm::header::read_digits` meets its contract. The invariant: the digits from this place on behind the number so far give the number of
+-- all. Assumes nothing.
 use Prim.Native.Nat.{_-_}
 use native.Mathlib.Omega.{arith}
 use lib.ListN.{length}
@@ -20,12 +20,6 @@ abbrev μ-loop : tie.MeasureT-loop
 loop-holds : tie.Need-loop-holds Inv-loop μ-loop
 loop-holds c = reading-none _ _ (c .before .pre)
 
-shared-slice-read-c : tie.Need-shared-slice-read-c Inv-loop μ-loop
-shared-slice-read-c c = search needs
-
-is-digit-requires : tie.Need-is-digit-requires Inv-loop μ-loop
-is-digit-requires c κs = search needs
-
 returns : tie.Need-returns Inv-loop μ-loop
 returns c =
     let turn = c .before .before .before in
@@ -34,14 +28,10 @@ returns c =
 
 appended-requires : tie.Need-appended-requires Inv-loop μ-loop
 appended-requires c κs =
-    let digit = c .before in
-    (digit .before .before .before .loop .inv .few, digit-least _ (sym (digit .is-digit .ensures) ∙ not-false (digit .is-digit .result) (c .if1 .left)))
-
-add-skip-comments : tie.Need-add-skip-comments Inv-loop μ-loop
-add-skip-comments c = search needs
-
-skip-comments-requires : tie.Need-skip-comments-requires Inv-loop μ-loop
-skip-comments-requires c κs = search needs
+    let digit = c .before in (
+      digit .before .before .before .loop .inv .few,
+      digit-least _ (sym (digit .is-digit .ensures) ∙ not-false (digit .is-digit .result) (c .if1 .left)),
+    )
 
 loop-less : tie.Need-loop-less Inv-loop μ-loop
 loop-less c = omega (arith, c .skip-comments .ensures .further)
@@ -58,17 +48,6 @@ returns-2 c = reading-ends _ _ _ _ (c .before .loop .inv) (c .loop-test .left)
 
 pub read-digits-spec : {M : Type 1} → statement M
 read-digits-spec =
-    tie.close
-    (tie.spec
-    Inv-loop
-    μ-loop
-    loop-holds
-    shared-slice-read-c
-    is-digit-requires
-    returns
-    appended-requires
-    add-skip-comments
-    skip-comments-requires
-    loop-less
-    loop-again
-    returns-2)
+    tie.close (tie.spec
+    Inv-loop μ-loop loop-holds (λ c. search needs) (λ c κs. search needs) returns appended-requires (λ c. search needs)
+    (λ c κs. search needs) loop-less loop-again returns-2)

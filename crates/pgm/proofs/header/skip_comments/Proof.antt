@@ -1,4 +1,5 @@
--- `pgm::header::skip_comments` meets its contract. The invariant: what is left from this place on is what was left at first. Assumes nothing.
+-- `pgm::header::skip_comments` meets its contract. The invariant: what is left from this place on is what was left at first. Assumes
+-- nothing.
 use Prim.Native.Nat.{_-_}
 use lib.ListN.{length}
 use borrow.Author.Needs.{needs}
@@ -16,25 +17,11 @@ abbrev μ-loop : tie.MeasureT-loop
 loop-holds : tie.Need-loop-holds Inv-loop μ-loop
 loop-holds c = skipping-none _ _
 
-shared-slice-read-c : tie.Need-shared-slice-read-c Inv-loop μ-loop
-shared-slice-read-c c = search needs
-
-is-ignored-requires : tie.Need-is-ignored-requires Inv-loop μ-loop
-is-ignored-requires c κs = search needs
-
 returns : tie.Need-returns Inv-loop μ-loop
 returns c =
     let test = c .before in
-    skipping-stops _ _ _ _ (test .before .before .before .loop .inv) _ (test .is-ignored .ensures) (not-true (test .is-ignored .result) (c .if1 .taken))
-
-goes-on-requires : tie.Need-goes-on-requires Inv-loop μ-loop
-goes-on-requires c κs = search needs
-
-add-at : tie.Need-add-at Inv-loop μ-loop
-add-at c = search needs
-
-loop-less : tie.Need-loop-less Inv-loop μ-loop
-loop-less c = search needs
+    skipping-stops _ _ _ _ (test .before .before .before .loop .inv) _ (test .is-ignored .ensures)
+    (not-true (test .is-ignored .result) (c .if1 .taken))
 
 loop-again : tie.Need-loop-again Inv-loop μ-loop
 loop-again c =
@@ -48,16 +35,6 @@ returns-2 c = skipping-ends _ _ _ _ (c .before .loop .inv) (c .loop-test .left)
 
 pub skip-comments-spec : {M : Type 1} → statement M
 skip-comments-spec =
-    tie.close
-    (tie.spec
-    Inv-loop
-    μ-loop
-    loop-holds
-    shared-slice-read-c
-    is-ignored-requires
-    returns
-    goes-on-requires
-    add-at
-    loop-less
-    loop-again
-    returns-2)
+    tie.close (tie.spec
+    Inv-loop μ-loop loop-holds (λ c. search needs) (λ c κs. search needs) returns (λ c κs. search needs) (λ c. search needs)
+    (λ c. search needs) loop-again returns-2)

@@ -1,5 +1,5 @@
--- `pgm::header::skip_space` meets its contract. The invariant: what is behind the whitespace from this place on is what is behind it from the
--- first. Assumes nothing.
+-- `pgm::header::skip_space` meets its contract. The invariant: what is behind the whitespace from this place on is what is behind it from
+-- the first. Assumes nothing.
 use Prim.Native.Nat.{_-_}
 use native.Mathlib.Omega.{arith}
 use lib.ListN.{length}
@@ -19,23 +19,11 @@ abbrev μ-loop : tie.MeasureT-loop
 loop-holds : tie.Need-loop-holds Inv-loop μ-loop
 loop-holds c = passing-none _ _ _ (c .before .pre)
 
-shared-slice-read-is-space : tie.Need-shared-slice-read-is-space Inv-loop μ-loop
-shared-slice-read-is-space c = search needs
-
-is-space-requires : tie.Need-is-space-requires Inv-loop μ-loop
-is-space-requires c κs = search needs
-
 returns : tie.Need-returns Inv-loop μ-loop
 returns c =
     let turn = c .before .before .before in
     passing-stops _ _ _ _ (turn .before .loop .inv) (turn .loop-test .taken) _ (c .before .is-space .ensures)
     (not-true (c .before .is-space .result) (c .if1 .taken))
-
-add-skip-comments : tie.Need-add-skip-comments Inv-loop μ-loop
-add-skip-comments c = search needs
-
-skip-comments-requires : tie.Need-skip-comments-requires Inv-loop μ-loop
-skip-comments-requires c κs = search needs
 
 loop-less : tie.Need-loop-less Inv-loop μ-loop
 loop-less c = omega (arith, c .skip-comments .ensures .further)
@@ -52,16 +40,6 @@ returns-2 c = passing-ends _ _ _ _ (c .before .loop .inv) (c .loop-test .left)
 
 pub skip-space-spec : {M : Type 1} → statement M
 skip-space-spec =
-    tie.close
-    (tie.spec
-    Inv-loop
-    μ-loop
-    loop-holds
-    shared-slice-read-is-space
-    is-space-requires
-    returns
-    add-skip-comments
-    skip-comments-requires
-    loop-less
-    loop-again
-    returns-2)
+    tie.close (tie.spec
+    Inv-loop μ-loop loop-holds (λ c. search needs) (λ c κs. search needs) returns (λ c. search needs) (λ c κs. search needs) loop-less
+    loop-again returns-2)

@@ -5,12 +5,14 @@ use mathlib.Core.Path.{_≡_, refl}
 use lib.ListN.{getD}
 use borrow.Author.Needs.{needs}
 use Rattle.lists.proofs.Tab.{Prefix, prefix-none, prefix-set, prefix-at}
+use Rattle.pyramid.specs.Internal.{columnsAtOnce}
 use Rattle.pyramid.proofs.halve.column_sums.Statement.{statement}
 use Rattle.pyramid.proofs.halve.column_sums.Tie as tie
 
 abbrev Inv-loop : tie.InvT-loop
 Inv-loop pixels top low n sums₀ i₀ sums i =
-    (i ≤ n) × Prefix 128 (λ j. getD pixels (top + j) 0 + getD pixels (low + j) 0) i sums × (0 < i → (j : ℕ) → getD pixels j 0 ≤ 255)
+    (i ≤ n) × Prefix columnsAtOnce (λ j. getD pixels (top + j) 0 + getD pixels (low + j) 0) i sums
+    × (0 < i → (j : ℕ) → getD pixels j 0 ≤ 255)
 
 abbrev μ-loop : tie.MeasureT-loop
 μ-loop pixels top low n sums₀ i₀ sums i = n - i
@@ -18,23 +20,12 @@ abbrev μ-loop : tie.MeasureT-loop
 loop-holds : tie.Need-loop-holds Inv-loop μ-loop
 loop-holds c = (search needs, prefix-none _ _ _ (c .pre .3), λ z. absurd (let no : ⊥ = omega arith in no))
 
-add-a : tie.Need-add-a Inv-loop μ-loop
-add-a c = search needs
-
-add-b : tie.Need-add-b Inv-loop μ-loop
-add-b c = search needs
-
-shared-slice-read-sums : tie.Need-shared-slice-read-sums Inv-loop μ-loop
-shared-slice-read-sums c = search needs
-
 cast-sums : tie.Need-cast-sums Inv-loop μ-loop
 cast-sums c = omega (arith, c .shared-slice-known .given (c .before .before .before .args .top + c .before .before .loop .i))
 
-shared-slice-read-sums-2 : tie.Need-shared-slice-read-sums-2 Inv-loop μ-loop
-shared-slice-read-sums-2 c = search needs
-
 cast-sums-2 : tie.Need-cast-sums-2 Inv-loop μ-loop
-cast-sums-2 c = omega (arith, c .shared-slice-known2 .given (c .before .before .before .before .args .low + c .before .before .before .loop .i))
+cast-sums-2 c =
+    omega (arith, c .shared-slice-known2 .given (c .before .before .before .before .args .low + c .before .before .before .loop .i))
 
 add-sums : tie.Need-add-sums Inv-loop μ-loop
 add-sums c =
@@ -42,21 +33,12 @@ add-sums c =
     let i = c .before .before .before .loop .i in
     omega (arith, c .shared-slice-known2 .given (a .top + i), c .shared-slice-known2 .given (a .low + i))
 
-mul-sums : tie.Need-mul-sums Inv-loop μ-loop
-mul-sums c = search needs
-
-element-write-sums : tie.Need-element-write-sums Inv-loop μ-loop
-element-write-sums c = search needs
-
-add-i : tie.Need-add-i Inv-loop μ-loop
-add-i c = search needs
-
-loop-less : tie.Need-loop-less Inv-loop μ-loop
-loop-less c = search needs
-
 loop-again : tie.Need-loop-again Inv-loop μ-loop
-loop-again c =
-    (search needs, prefix-set _ _ _ _ _ (c .before .before .before .loop .inv .1) (search needs) refl, λ z j. omega (arith, c .shared-slice-known2 .given j))
+loop-again c = (
+  search needs,
+  prefix-set _ _ _ _ _ (c .before .before .before .loop .inv .1) (search needs) refl,
+  λ z j. omega (arith, c .shared-slice-known2 .given j),
+)
 
 -- the entry
 abbrev start : tie.After-loop Inv-loop μ-loop → tie.Start Inv-loop μ-loop
@@ -81,21 +63,6 @@ returns c =
 
 pub column-sums-spec : {M : Type 1} → statement M
 column-sums-spec =
-    tie.close
-    (tie.spec
-    Inv-loop
-    μ-loop
-    loop-holds
-    add-a
-    add-b
-    shared-slice-read-sums
-    cast-sums
-    shared-slice-read-sums-2
-    cast-sums-2
-    add-sums
-    mul-sums
-    element-write-sums
-    add-i
-    loop-less
-    loop-again
-    returns)
+    tie.close (tie.spec
+    Inv-loop μ-loop loop-holds (λ c. search needs) (λ c. search needs) (λ c. search needs) cast-sums (λ c. search needs) cast-sums-2
+    add-sums (λ c. search needs) (λ c. search needs) (λ c. search needs) (λ c. search needs) loop-again returns)

@@ -16,18 +16,17 @@ abbrev μ-loop : tie.MeasureT-loop
 loop-holds : tie.Need-loop-holds Inv-loop μ-loop
 loop-holds c = reach-base _ _ _ _ _
 
-add-loop : tie.Need-add-loop Inv-loop μ-loop
-add-loop c = search needs
-
 -- the entry
 abbrev start : tie.In-loop Inv-loop μ-loop → tie.Start Inv-loop μ-loop
 start c = c .before .before .before .before
 
 halve-requires : tie.Need-halve-requires Inv-loop μ-loop
-halve-requires c κs = let p = c .before in level-ok _ _ _ _ _ _ _ _ _ _ _ (start p .pre .0) (start p .pre .1) (p .before .loop .inv) (p .loop-test .taken)
+halve-requires c κs = let p = c .before in
+    level-ok _ _ _ _ _ _ _ _ _ _ _ (start p .pre .0) (start p .pre .1) (p .before .loop .inv) (p .loop-test .taken)
 
 -- the next level ends within the buffer
-next : (c : tie.In-loop Inv-loop μ-loop) → c .before .loop .to + c .before .loop .w / 2 * (c .before .loop .h / 2) ≤ length (start c .args .levels .now)
+next : (c : tie.In-loop Inv-loop μ-loop)
+    → c .before .loop .to + c .before .loop .w / 2 * (c .before .loop .h / 2) ≤ length (start c .args .levels .now)
 next c = next-fits _ _ _ _ _ _ _ _ _ _ _ (start c .pre .0) (start c .pre .1) (c .before .loop .inv) (c .loop-test .taken)
 
 mul-to : tie.Need-mul-to Inv-loop μ-loop
@@ -35,12 +34,6 @@ mul-to c = let p = c .before .before .before .before in record { fits = omega (a
 
 add-to : tie.Need-add-to Inv-loop μ-loop
 add-to c = let p = c .before .before .before .before in record { fits = omega (arith, next p, start p .good .1 .1 .1 .1 .0 .0) }
-
-add-k : tie.Need-add-k Inv-loop μ-loop
-add-k c = search needs
-
-loop-less : tie.Need-loop-less Inv-loop μ-loop
-loop-less c = search needs
 
 loop-again : tie.Need-loop-again Inv-loop μ-loop
 loop-again c =
@@ -56,17 +49,6 @@ returns c = reach-all _ _ _ _ _ _ _ _ _ _ _ (c .before .loop .inv) (c .loop-test
 
 pub fill-levels-spec : {M : Type 1} → statement M
 fill-levels-spec =
-    tie.close
-    (tie.spec
-    Inv-loop
-    μ-loop
-    loop-holds
-    add-loop
-    halve-requires
-    mul-to
-    add-to
-    add-k
-    loop-less
-    loop-again
-    same-length
-    returns)
+    tie.close (tie.spec
+    Inv-loop μ-loop loop-holds (λ c. search needs) halve-requires mul-to add-to (λ c. search needs) (λ c. search needs) loop-again
+    same-length returns)

@@ -12,7 +12,8 @@ use Rattle.pyramid.proofs.halve.halve.Tie as tie
 
 abbrev Inv-loop : tie.InvT-loop
 Inv-loop base k from w h levels₀ to a₀ at₀ y₀ levels a at y =
-    (length levels ≡ length levels₀) × (y ≤ h / 2) × (a ≡ from + 2 * y * w) × (at ≡ to + y * (w / 2)) × LevelHalved base levels₀ k from w to y levels
+    (length levels ≡ length levels₀) × (y ≤ h / 2) × (a ≡ from + 2 * y * w) × (at ≡ to + y * (w / 2))
+    × LevelHalved base levels₀ k from w to y levels
 
 abbrev μ-loop : tie.MeasureT-loop
 μ-loop base k from w h levels₀ to a₀ at₀ y₀ levels a at y = h / 2 - y
@@ -25,13 +26,16 @@ abbrev start : tie.In-loop Inv-loop μ-loop → tie.Start Inv-loop μ-loop
 start c = c .before .before .before .before
 
 -- row y ends within the level, and within the new one
-below : (c : tie.In-loop Inv-loop μ-loop) → c .before .loop .a + 2 * start c .args .w ≤ start c .args .from + start c .args .w * start c .args .h
+below : (c : tie.In-loop Inv-loop μ-loop)
+    → c .before .loop .a + 2 * start c .args .w ≤ start c .args .from + start c .args .w * start c .args .h
 below c = row-below _ _ _ _ _ (c .loop-test .taken) (c .before .loop .inv .2)
 
-ends : (c : tie.In-loop Inv-loop μ-loop) → c .before .loop .at + start c .args .w / 2 ≤ start c .args .to + start c .args .w / 2 * (start c .args .h / 2)
+ends : (c : tie.In-loop Inv-loop μ-loop)
+    → c .before .loop .at + start c .args .w / 2 ≤ start c .args .to + start c .args .w / 2 * (start c .args .h / 2)
 ends c = row-end _ _ _ _ _ (c .loop-test .taken) (c .before .loop .inv .3)
 
-short : (c : tie.In-loop Inv-loop μ-loop) → length (holderOf (start c .args .base .now) (start c .args .levels .now) (start c .args .k)) < 2 ^ 64
+short : (c : tie.In-loop Inv-loop μ-loop)
+    → length (holderOf (start c .args .base .now) (start c .args .levels .now) (start c .args .k)) < 2 ^ 64
 short c = holder-short _ _ (start c .args .k) _ (start c .good .0 .0) (start c .good .1 .1 .1 .1 .1 .0 .0)
 
 halve-rows-requires : tie.Need-halve-rows-requires Inv-loop μ-loop
@@ -46,13 +50,8 @@ add-a : tie.Need-add-a Inv-loop μ-loop
 add-a c = let p = c .before .before .before .before in record { fits = omega (arith, below p, short p, start p .pre .inside) }
 
 add-at : tie.Need-add-at Inv-loop μ-loop
-add-at c = let p = c .before .before .before .before in record { fits = omega (arith, ends p, start p .good .1 .1 .1 .1 .1 .0 .0, start p .pre .fits) }
-
-add-y : tie.Need-add-y Inv-loop μ-loop
-add-y c = search needs
-
-loop-less : tie.Need-loop-less Inv-loop μ-loop
-loop-less c = search needs
+add-at c = let p = c .before .before .before .before in
+    record { fits = omega (arith, ends p, start p .good .1 .1 .1 .1 .1 .0 .0, start p .pre .fits) }
 
 loop-again : tie.Need-loop-again Inv-loop μ-loop
 loop-again c =
@@ -62,7 +61,8 @@ loop-again c =
       search needs,
       omega (arith, i .2),
       omega (arith, i .3, suc-mul (p .before .loop .y) (start p .args .w / 2)),
-      row-more _ _ _ _ _ _ _ (start p .pre) _ _ _ _ (i .0) (p .loop-test .taken) (i .2) (i .3) _ (i .4) (c .before .before .halve-rows .ensures),
+      row-more _ _ _ _ _ _ _ (start p .pre) _ _ _ _ (i .0) (p .loop-test .taken) (i .2) (i .3) _ (i .4)
+          (c .before .before .halve-rows .ensures),
     )
 
 same-length : tie.Need-same-length Inv-loop μ-loop
@@ -73,17 +73,6 @@ returns c = let e : c .before .loop .y ≡ c .before .before .before .before .ar
 
 pub halve-spec : {M : Type 1} → statement M
 halve-spec =
-    tie.close
-    (tie.spec
-    Inv-loop
-    μ-loop
-    loop-holds
-    halve-rows-requires
-    mul-a
-    add-a
-    add-at
-    add-y
-    loop-less
-    loop-again
-    same-length
+    tie.close (tie.spec
+    Inv-loop μ-loop loop-holds halve-rows-requires mul-a add-a add-at (λ c. search needs) (λ c. search needs) loop-again same-length
     returns)

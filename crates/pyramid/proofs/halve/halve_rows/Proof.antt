@@ -5,26 +5,20 @@ use mathlib.Core.Path.{_≡_, refl}
 use lib.ListN.{length, take, drop}
 use borrow.Author.Needs.{needs}
 use Rattle.lists.proofs.Tab.{part-length}
-use Rattle.pyramid.specs.Internal.{holderOf, RowHalved}
+use Rattle.pyramid.specs.Internal.{columnsAtOnce, holderOf, RowHalved}
 use Rattle.pyramid.proofs.Halving.{holder-short, row-none, block-inside, row-put}
 use Rattle.pyramid.proofs.halve.halve_rows.Statement.{statement}
 use Rattle.pyramid.proofs.halve.halve_rows.Tie as tie
 
 abbrev Inv-loop : tie.InvT-loop
 Inv-loop base k from w levels₀ to n sums₀ x₀ levels sums x =
-    (length levels ≡ length levels₀) × (x ≤ n) × RowHalved base levels₀ k from w to x levels × (length sums ≡ 128)
+    (length levels ≡ length levels₀) × (x ≤ n) × RowHalved base levels₀ k from w to x levels × (length sums ≡ columnsAtOnce)
 
 abbrev μ-loop : tie.MeasureT-loop
 μ-loop base k from w levels₀ to n sums₀ x₀ levels sums x = n - x
 
 loop-holds : tie.Need-loop-holds Inv-loop μ-loop
 loop-holds c = (refl, search needs, row-none _ _ _ _ _ _, refl)
-
-sub-lesser : tie.Need-sub-lesser Inv-loop μ-loop
-sub-lesser c = search needs
-
-lesser-requires : tie.Need-lesser-requires Inv-loop μ-loop
-lesser-requires c κs = search needs
 
 -- the entry
 abbrev start : tie.After-lesser Inv-loop μ-loop → tie.Start Inv-loop μ-loop
@@ -39,43 +33,26 @@ inside : (c : tie.After-lesser Inv-loop μ-loop)
     ≤ length (holderOf (start c .args .base .now) (c .before .before .loop .levels) (start c .args .k))
 inside c = block-inside _ _ _ _ _ _ (start c .pre) _ _ _ (c .before .before .loop .inv .0) (ends c)
 
-short : (c : tie.After-lesser Inv-loop μ-loop) → length (holderOf (start c .args .base .now) (c .before .before .loop .levels) (start c .args .k)) < 2 ^ 64
-short c = holder-short _ _ (start c .args .k) _ (start c .good .0 .0) (omega (arith, c .before .before .loop .inv .0, start c .good .1 .1 .1 .1 .0 .0))
-
-mul-top : tie.Need-mul-top Inv-loop μ-loop
-mul-top c = search needs
+short : (c : tie.After-lesser Inv-loop μ-loop)
+    → length (holderOf (start c .args .base .now) (c .before .before .loop .levels) (start c .args .k)) < 2 ^ 64
+short c =
+    holder-short _ _ (start c .args .k) _ (start c .good .0 .0)
+    (omega (arith, c .before .before .loop .inv .0, start c .good .1 .1 .1 .1 .0 .0))
 
 add-top : tie.Need-add-top Inv-loop μ-loop
 add-top c = record { fits = omega (arith, short c, inside c) }
 
-holder-requires : tie.Need-holder-requires Inv-loop μ-loop
-holder-requires c κs = search needs
-
 add-column-sums : tie.Need-add-column-sums Inv-loop μ-loop
 add-column-sums c = record { fits = omega (arith, short (c .before .before), inside (c .before .before)) }
-
-mul-column-sums : tie.Need-mul-column-sums Inv-loop μ-loop
-mul-column-sums c = search needs
 
 column-sums-requires : tie.Need-column-sums-requires Inv-loop μ-loop
 column-sums-requires c κs =
     let p = c .before .before .before in
     rw (c .before .holder .ensures) (omega (arith, p .lesser .ensures), omega (arith, inside p), inside p, p .before .before .loop .inv .3)
 
-add-a : tie.Need-add-a Inv-loop μ-loop
-add-a c = search needs
-
-add-e : tie.Need-add-e Inv-loop μ-loop
-add-e c = search needs
-
-sub-pair-means : tie.Need-sub-pair-means Inv-loop μ-loop
-sub-pair-means c = search needs
-
-part-pair-means-start : tie.Need-part-pair-means-start Inv-loop μ-loop
-part-pair-means-start c = search needs
-
 part-pair-means-end : tie.Need-part-pair-means-end Inv-loop μ-loop
-part-pair-means-end c = let p = c .before .before .before .before .before in omega (arith, ends p, p .before .before .loop .inv .0, start p .pre .fits)
+part-pair-means-end c = let p = c .before .before .before .before .before in
+    omega (arith, ends p, p .before .before .loop .inv .0, start p .pre .fits)
 
 -- the part of the buffer that the block's pixels go to
 part : (c : tie.After-lesser Inv-loop μ-loop)
@@ -89,12 +66,6 @@ pair-means-requires : tie.Need-pair-means-requires Inv-loop μ-loop
 pair-means-requires c κs =
     let p = c .before .before .before .before .before .before in
     (rw (part p) (omega (arith, p .lesser .ensures)), λ i l. c .before .before .column-sums .ensures .small i (rw (part p) at l))
-
-add-x : tie.Need-add-x Inv-loop μ-loop
-add-x c = search needs
-
-loop-less : tie.Need-loop-less Inv-loop μ-loop
-loop-less c = search needs
 
 loop-again : tie.Need-loop-again Inv-loop μ-loop
 loop-again c =
@@ -115,27 +86,7 @@ returns c = let e : c .before .loop .x ≡ c .before .before .before .before .ar
 
 pub halve-rows-spec : {M : Type 1} → statement M
 halve-rows-spec =
-    tie.close
-    (tie.spec
-    Inv-loop
-    μ-loop
-    loop-holds
-    sub-lesser
-    lesser-requires
-    mul-top
-    add-top
-    holder-requires
-    add-column-sums
-    mul-column-sums
-    column-sums-requires
-    add-a
-    add-e
-    sub-pair-means
-    part-pair-means-start
-    part-pair-means-end
-    pair-means-requires
-    add-x
-    loop-less
-    loop-again
-    same-length
-    returns)
+    tie.close (tie.spec
+    Inv-loop μ-loop loop-holds (λ c. search needs) (λ c κs. search needs) (λ c. search needs) add-top (λ c κs. search needs)
+    add-column-sums (λ c. search needs) column-sums-requires (λ c. search needs) (λ c. search needs) (λ c. search needs)
+    (λ c. search needs) part-pair-means-end pair-means-requires (λ c. search needs) (λ c. search needs) loop-again same-length returns)

@@ -9,14 +9,12 @@ use Rattle.pyramid_levels.proofs.count.capped_product.Tie as tie
 returns : tie.Need-returns
 returns c = rw (c .if1 .taken) (omega arith)
 
-div-if2 : tie.Need-div-if2
-div-if2 c = search needs
-
 returns-2 : tie.Need-returns-2
 returns-2 c =
     omega (
       arith,
-      div-lt-iff-lt-mul {k = c .before .before .args .b} {x = 18446744073709551615} {y = c .before .before .args .a} (omega arith) .0 (c .if2 .taken),
+      div-lt-iff-lt-mul {k = c .before .before .args .b} {x = 18446744073709551615} {y = c .before .before .args .a}
+          (omega arith) .0 (c .if2 .taken),
     )
 
 -- the product fits
@@ -30,4 +28,4 @@ returns-3 : tie.Need-returns-3
 returns-3 c = omega (arith, small c)
 
 pub capped-product-spec : {M : Type 1} → statement M
-capped-product-spec = tie.close (tie.spec returns div-if2 returns-2 mul-result returns-3)
+capped-product-spec = tie.close (tie.spec returns (λ c. search needs) returns-2 mul-result returns-3)

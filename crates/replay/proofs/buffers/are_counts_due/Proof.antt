@@ -11,53 +11,8 @@ Inv-loop field is-kept given after i₀ i = i ≤ length after
 abbrev μ-loop : tie.MeasureT-loop
 μ-loop field is-kept given after i₀ i = length after - i
 
-loop-holds : tie.Need-loop-holds Inv-loop μ-loop
-loop-holds c = search needs
-
-rule-count-requires : tie.Need-rule-count-requires Inv-loop μ-loop
-rule-count-requires c κs = search needs
-
-word-or-requires : tie.Need-word-or-requires Inv-loop μ-loop
-word-or-requires c κs = search needs
-
-mul-if1 : tie.Need-mul-if1 Inv-loop μ-loop
-mul-if1 c = search needs
-
-shared-slice-read-if1 : tie.Need-shared-slice-read-if1 Inv-loop μ-loop
-shared-slice-read-if1 c = search needs
-
-due-or-requires : tie.Need-due-or-requires Inv-loop μ-loop
-due-or-requires c κs = search needs
-
-returns : tie.Need-returns Inv-loop μ-loop
-returns c = search needs
-
-add-i : tie.Need-add-i Inv-loop μ-loop
-add-i c = search needs
-
-loop-less : tie.Need-loop-less Inv-loop μ-loop
-loop-less c = search needs
-
-loop-again : tie.Need-loop-again Inv-loop μ-loop
-loop-again c = search needs
-
-returns-2 : tie.Need-returns-2 Inv-loop μ-loop
-returns-2 c = search needs
-
 pub are-counts-due-spec : {M : Type 1} → statement M
 are-counts-due-spec =
-    tie.close
-    (tie.spec
-    Inv-loop
-    μ-loop
-    loop-holds
-    rule-count-requires
-    word-or-requires
-    mul-if1
-    shared-slice-read-if1
-    due-or-requires
-    returns
-    add-i
-    loop-less
-    loop-again
-    returns-2)
+    tie.close (tie.spec
+    Inv-loop μ-loop (λ c. search needs) (λ c κs. search needs) (λ c κs. search needs) (λ c. search needs) (λ c. search needs)
+    (λ c κs. search needs) (λ c. search needs) (λ c. search needs) (λ c. search needs) (λ c. search needs) (λ c. search needs))

@@ -1,45 +1,10 @@
--- `replay::library::with_corners` is safe and ends: a length that is read is at most that of the array whose front is borrowed. Assumes nothing.
+-- `replay::library::with_corners` is safe and ends: a length that is read is at most that of the array whose front is borrowed. Assumes
+-- nothing.
 use mathlib.Core.Path.{sym}
 use lib.Seq.{length-take-le}
 use borrow.Author.Needs.{needs}
 use Rattle.replay.proofs.library.with_corners.Statement.{statement}
 use Rattle.replay.proofs.library.with_corners.Tie as tie
-
-list-length-requires : tie.Need-list-length-requires
-list-length-requires c κs = search needs
-
-list-length-requires-2 : tie.Need-list-length-requires-2
-list-length-requires-2 c κs = search needs
-
-list-length-requires-3 : tie.Need-list-length-requires-3
-list-length-requires-3 c κs = search needs
-
-list-length-requires-4 : tie.Need-list-length-requires-4
-list-length-requires-4 c κs = search needs
-
-floats-requires : tie.Need-floats-requires
-floats-requires c κs = search needs
-
-floats-requires-2 : tie.Need-floats-requires-2
-floats-requires-2 c κs = search needs
-
-floats-requires-3 : tie.Need-floats-requires-3
-floats-requires-3 c κs = search needs
-
-counts-requires : tie.Need-counts-requires
-counts-requires c κs = search needs
-
-bytes-at-requires : tie.Need-bytes-at-requires
-bytes-at-requires c κs = search needs
-
-count-requires : tie.Need-count-requires
-count-requires c κs = search needs
-
-count-requires-2 : tie.Need-count-requires-2
-count-requires-2 c κs = search needs
-
-parameters-requires : tie.Need-parameters-requires
-parameters-requires c κs = search needs
 
 array-borrow-prefix-xs : tie.Need-array-borrow-prefix-xs
 array-borrow-prefix-xs c = search needs
@@ -65,18 +30,6 @@ array-borrow-prefix-neighbours c = search needs
 slice-aggregate-find-corners-4 : tie.Need-slice-aggregate-find-corners-4
 slice-aggregate-find-corners-4 c = sym (length-take-le _ _ (array-borrow-prefix-neighbours (c .before)))
 
-find-corners-requires : tie.Need-find-corners-requires
-find-corners-requires c κs = search needs
-
-past-lengths-requires : tie.Need-past-lengths-requires
-past-lengths-requires c κs = search needs
-
-due-frame-requires : tie.Need-due-frame-requires
-due-frame-requires c κs = search needs
-
-due-corners-requires : tie.Need-due-corners-requires
-due-corners-requires c κs = search needs
-
 same-length : tie.Need-same-length
 same-length c = search needs
 
@@ -95,41 +48,12 @@ same-length-5 c = search needs
 same-length-6 : tie.Need-same-length-6
 same-length-6 c = search needs
 
-returns : tie.Need-returns
-returns c = search needs
-
 pub with-corners-spec : {M : Type 1} → statement M
 with-corners-spec =
-    tie.close
-    (tie.spec
-    list-length-requires
-    list-length-requires-2
-    list-length-requires-3
-    list-length-requires-4
-    floats-requires
-    floats-requires-2
-    floats-requires-3
-    counts-requires
-    bytes-at-requires
-    count-requires
-    count-requires-2
-    parameters-requires
-    array-borrow-prefix-xs
-    slice-aggregate-find-corners
-    array-borrow-prefix-ys
-    slice-aggregate-find-corners-2
-    array-borrow-prefix-strengths
-    slice-aggregate-find-corners-3
-    array-borrow-prefix-neighbours
-    slice-aggregate-find-corners-4
-    find-corners-requires
-    past-lengths-requires
-    due-frame-requires
-    due-corners-requires
-    same-length
-    same-length-2
-    same-length-3
-    same-length-4
-    same-length-5
-    same-length-6
-    returns)
+    tie.close (tie.spec
+    (λ c κs. search needs) (λ c κs. search needs) (λ c κs. search needs) (λ c κs. search needs) (λ c κs. search needs)
+    (λ c κs. search needs) (λ c κs. search needs) (λ c κs. search needs) (λ c κs. search needs) (λ c κs. search needs)
+    (λ c κs. search needs) (λ c κs. search needs) array-borrow-prefix-xs slice-aggregate-find-corners array-borrow-prefix-ys
+    slice-aggregate-find-corners-2 array-borrow-prefix-strengths slice-aggregate-find-corners-3 array-borrow-prefix-neighbours
+    slice-aggregate-find-corners-4 (λ c κs. search needs) (λ c κs. search needs) (λ c κs. search needs) (λ c κs. search needs)
+    same-length same-length-2 same-length-3 same-length-4 same-length-5 same-length-6 (λ c. search needs))

@@ -17,32 +17,14 @@ abbrev μ-loop : tie.MeasureT-loop
 loop-holds : tie.Need-loop-holds Inv-loop μ-loop
 loop-holds c = (search needs, prefix-none _ _ _ refl)
 
-mul-o : tie.Need-mul-o Inv-loop μ-loop
-mul-o c = search needs
-
-array-read-o : tie.Need-array-read-o Inv-loop μ-loop
-array-read-o c = search needs
-
 add-s : tie.Need-add-s Inv-loop μ-loop
-add-s c = omega (arith, c .before .before .pre (c .before .loop .k) (search needs))
+add-s c = omega (arith, c .before .before .pre .0 (c .before .loop .k) (search needs), c .before .before .pre .1)
 
 mul-s : tie.Need-mul-s Inv-loop μ-loop
-mul-s c = omega (arith, c .before .before .pre (c .before .loop .k) (search needs))
+mul-s c = omega (arith, c .before .before .pre .0 (c .before .loop .k) (search needs), c .before .before .pre .1)
 
-element-copy-out-s : tie.Need-element-copy-out-s Inv-loop μ-loop
-element-copy-out-s c = c .before .before .pre (c .before .loop .k) (search needs)
-
-mul-s-2 : tie.Need-mul-s-2 Inv-loop μ-loop
-mul-s-2 c = search needs
-
-array-write-s : tie.Need-array-write-s Inv-loop μ-loop
-array-write-s c = search needs
-
-add-k : tie.Need-add-k Inv-loop μ-loop
-add-k c = search needs
-
-loop-less : tie.Need-loop-less Inv-loop μ-loop
-loop-less c = search needs
+shared-slice-read-s : tie.Need-shared-slice-read-s Inv-loop μ-loop
+shared-slice-read-s c = c .before .before .before .pre .0 (c .before .before .loop .k) (search needs)
 
 loop-again : tie.Need-loop-again Inv-loop μ-loop
 loop-again c = (search needs, prefix-set _ _ _ _ _ (c .before .before .loop .inv .1) (search needs) refl)
@@ -52,19 +34,6 @@ returns c = prefix-all _ _ _ _ _ (c .before .loop .inv .1) (search needs) refl
 
 pub gather-spec : {M : Type 1} → statement M
 gather-spec =
-    tie.close
-    (tie.spec
-    Inv-loop
-    μ-loop
-    loop-holds
-    mul-o
-    array-read-o
-    add-s
-    mul-s
-    element-copy-out-s
-    mul-s-2
-    array-write-s
-    add-k
-    loop-less
-    loop-again
-    returns)
+    tie.close (tie.spec
+    Inv-loop μ-loop loop-holds (λ c. search needs) (λ c. search needs) add-s mul-s shared-slice-read-s (λ c. search needs)
+    (λ c. search needs) (λ c. search needs) (λ c. search needs) loop-again returns)

@@ -4,12 +4,6 @@ use Rattle.response.proofs.OnePass.{most-second, most-first}
 use Rattle.response.proofs.cell.most.Statement.{statement}
 use Rattle.response.proofs.cell.most.Tie as tie
 
-cast-if1 : tie.Need-cast-if1
-cast-if1 c = search needs
-
-cast-if1-2 : tie.Need-cast-if1-2
-cast-if1-2 c = search needs
-
 returns : tie.Need-returns
 returns c = most-second _ _ (c .before .pre .0) (c .before .pre .1) (c .if1 .taken)
 
@@ -17,4 +11,4 @@ returns-2 : tie.Need-returns-2
 returns-2 c = most-first _ _ (c .before .pre .0) (c .before .pre .1) (c .if1 .left)
 
 pub most-spec : {M : Type 1} → statement M
-most-spec = tie.close (tie.spec cast-if1 cast-if1-2 returns returns-2)
+most-spec = tie.close (tie.spec (λ c. search needs) (λ c. search needs) returns returns-2)

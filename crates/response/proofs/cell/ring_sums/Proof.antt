@@ -14,35 +14,11 @@ Inv-loop n s last h₀ k₀ h k = (k ≤ last) × (last ≡ min n 8) × (h ≡ p
 abbrev μ-loop : tie.MeasureT-loop
 μ-loop n s last h₀ k₀ h k = last - k
 
-lesser-requires : tie.Need-lesser-requires Inv-loop μ-loop
-lesser-requires c κs = search needs
-
 loop-holds : tie.Need-loop-holds Inv-loop μ-loop
 loop-holds c = (search needs, search needs, passed-none _, small-none)
 
-mul-with-pair : tie.Need-mul-with-pair Inv-loop μ-loop
-mul-with-pair c = search needs
-
-array-read-with-pair : tie.Need-array-read-with-pair Inv-loop μ-loop
-array-read-with-pair c = search needs
-
-add-with-pair : tie.Need-add-with-pair Inv-loop μ-loop
-add-with-pair c = search needs
-
-mul-with-pair-2 : tie.Need-mul-with-pair-2 Inv-loop μ-loop
-mul-with-pair-2 c = search needs
-
-array-read-with-pair-2 : tie.Need-array-read-with-pair-2 Inv-loop μ-loop
-array-read-with-pair-2 c = search needs
-
 with-pair-requires : tie.Need-with-pair-requires Inv-loop μ-loop
 with-pair-requires c κs = (search needs, c .before .loop .inv .3, c .before .before .before .pre _, c .before .before .before .pre _)
-
-add-k : tie.Need-add-k Inv-loop μ-loop
-add-k c = search needs
-
-loop-less : tie.Need-loop-less Inv-loop μ-loop
-loop-less c = search needs
 
 loop-again : tie.Need-loop-again Inv-loop μ-loop
 loop-again c =
@@ -54,19 +30,6 @@ returns c = passed-end _ _ _ _ (c .before .loop .inv .2) (search needs)
 
 pub ring-sums-spec : {M : Type 1} → statement M
 ring-sums-spec =
-    tie.close
-    (tie.spec
-    Inv-loop
-    μ-loop
-    lesser-requires
-    loop-holds
-    mul-with-pair
-    array-read-with-pair
-    add-with-pair
-    mul-with-pair-2
-    array-read-with-pair-2
-    with-pair-requires
-    add-k
-    loop-less
-    loop-again
-    returns)
+    tie.close (tie.spec
+    Inv-loop μ-loop (λ c κs. search needs) loop-holds (λ c. search needs) (λ c. search needs) (λ c. search needs) (λ c. search needs)
+    (λ c. search needs) with-pair-requires (λ c. search needs) (λ c. search needs) loop-again returns)

@@ -9,24 +9,6 @@ use Rattle.response.proofs.cell.with_pair.Statement.{statement}
 use Rattle.response.proofs.cell.with_pair.Tie as tie
 use Landmarks.*
 
-add-q : tie.Need-add-q
-add-q c = search needs
-
-gap-requires : tie.Need-gap-requires
-gap-requires c κs = search needs
-
-add-dr : tie.Need-add-dr
-add-dr c = search needs
-
-add-sum : tie.Need-add-sum
-add-sum c = search needs
-
-mul-first : tie.Need-mul-first
-mul-first c = search needs
-
-array-write-first : tie.Need-array-write-first
-array-write-first c = search needs
-
 returns : tie.Need-returns
 returns c =
     let gaps = gap-from-returns c in
@@ -34,12 +16,6 @@ returns c =
     let a = start .args in
     stepped (a .k) (a .a) (a .b) (a .h) _ (start .pre .2) (start .pre .3) (start .pre .1)
     (early (a .k) (a .a) (a .b) (a .h) _ _ refl (gaps .gap .ensures) (c .if1 .taken))
-
-mul-gap : tie.Need-mul-gap
-mul-gap c = search needs
-
-array-read-gap : tie.Need-array-read-gap
-array-read-gap c = search needs
 
 gap-requires-2 : tie.Need-gap-requires-2
 gap-requires-2 c κs = omega (arith, start-from-gap-requires-2 c .pre .1 .first-small (start-from-gap-requires-2 c .args .k - 4))
@@ -50,7 +26,8 @@ add-t20 c =
     let small = start .pre .1 in
     record {
       fits =
-          sr-fits (start .args .k) _ _ _ _ (start .pre .0) (small .sr-small) (small .first-small _) (omega (arith, start .pre .2, start .pre .3))
+          sr-fits (start .args .k) _ _ _ _ (start .pre .0) (small .sr-small) (small .first-small _)
+          (omega (arith, start .pre .2, start .pre .3))
           (c .before .gap2 .ensures);
     }
 
@@ -64,17 +41,6 @@ returns-2 c =
 
 pub with-pair-spec : {M : Type 1} → statement M
 with-pair-spec =
-    tie.close
-    (tie.spec
-    add-q
-    gap-requires
-    add-dr
-    add-sum
-    mul-first
-    array-write-first
-    returns
-    mul-gap
-    array-read-gap
-    gap-requires-2
-    add-t20
-    returns-2)
+    tie.close (tie.spec
+    (λ c. search needs) (λ c κs. search needs) (λ c. search needs) (λ c. search needs) (λ c. search needs) (λ c. search needs) returns
+    (λ c. search needs) (λ c. search needs) gap-requires-2 add-t20 returns-2)

@@ -1,6 +1,6 @@
 -- `response::rows::band` meets its contract: the columns passed hold their responses. Assumes nothing.
 mod Landmarks
-use mathlib.Core.Path.{refl}
+use mathlib.Core.Path.{refl, sym, _∙_}
 use Prim.Native.Nat.{_+_, _-_, _≤_}
 use native.Mathlib.Omega.{arith}
 use borrow.Author.Needs.{needs}
@@ -14,7 +14,7 @@ use Landmarks.*
 
 abbrev Inv-loop : tie.InvT-loop
 Inv-loop img f off a b j m tile₀ map₀ i₀ tile map i =
-    (a ≤ i) × (i ≤ b) × Filled zero (f .pw) (f .ph) (responses img f) a i j (j + m) map₀ map × IsTile tile
+    (a ≤ i) × (i ≤ b) × Filled zero (f .pw) (f .ph) (responses img f) a i j (j + m) map₀ map × IsTile 148 tile
 
 abbrev μ-loop : tie.MeasureT-loop
 μ-loop img f off a b j m tile₀ map₀ i₀ tile map i = b - i
@@ -24,40 +24,28 @@ loop-holds c = (
   search needs,
   search needs,
   filled-none zero _ _ _ _ _ _ _ _ (λ i j p q u v. absurd (omega arith)),
-  c .before .before .pre .1 .3,
+  start-from-loop-holds c .pre .1 .3,
 )
-
-sub-lesser : tie.Need-sub-lesser Inv-loop μ-loop
-sub-lesser c = search needs
-
-lesser-requires : tie.Need-lesser-requires Inv-loop μ-loop
-lesser-requires c κs = search needs
 
 block-requires : tie.Need-block-requires Inv-loop μ-loop
 block-requires c κs =
     let pre = start-from-block-requires c .pre in
     let at = loop-from-block-requires c .loop in
-    let count = c .before .before .lesser .ensures in
+    let count = lesser-from-block-requires c .lesser .ensures in
     let left = loop-test-from-block-requires c .loop-test .taken in (
       (
         placed-still _ _ _ _ (pre .0 .0) (at .inv .2 .long),
         part-of _ _ _ _ _ _ _ _ _ (pre .0 .1) (at .inv .0) (omega (arith, count, left)) (omega arith) (omega arith),
       ),
-      (pre .1 .0, omega (arith, count, left), omega (arith, count), pre .1 .1, pre .1 .2, at .inv .3),
+      (pre .1 .0, omega (arith, count, left), omega (arith, count), pre .1 .1, pre .1 .2, at .inv .3, omega (arith, count)),
     )
-
-add-i : tie.Need-add-i Inv-loop μ-loop
-add-i c = search needs
-
-loop-less : tie.Need-loop-less Inv-loop μ-loop
-loop-less c = search needs
 
 loop-again : tie.Need-loop-again Inv-loop μ-loop
 loop-again c =
     let at = loop-from-loop-again c .loop in
     let count = lesser-from-loop-again c .lesser .ensures in
     let left = loop-test-from-loop-again c .loop-test .taken in
-    let done = c .before .before .block .ensures in (
+    let done = block-from-loop-again c .block .ensures in (
       omega (arith, at .inv .0),
       omega (arith, count, left),
       then-beside zero _ _ _ _ _ _ _ _ _ _ _ (at .inv .2) (done .0),
@@ -65,7 +53,10 @@ loop-again c =
     )
 
 same-length : tie.Need-same-length Inv-loop μ-loop
-same-length c = c .before .loop .inv .2 .long
+same-length c = c .before .loop .inv .3 .long ∙ sym (start-from-same-length c .pre .1 .3 .long)
+
+same-length-2 : tie.Need-same-length-2 Inv-loop μ-loop
+same-length-2 c = c .before .loop .inv .2 .long
 
 returns : tie.Need-returns Inv-loop μ-loop
 returns c = (
@@ -75,16 +66,6 @@ returns c = (
 
 pub band-spec : {M : Type 1} → statement M
 band-spec =
-    tie.close
-    (tie.spec
-    Inv-loop
-    μ-loop
-    loop-holds
-    sub-lesser
-    lesser-requires
-    block-requires
-    add-i
-    loop-less
-    loop-again
-    same-length
-    returns)
+    tie.close (tie.spec
+    Inv-loop μ-loop loop-holds (λ c. search needs) (λ c κs. search needs) block-requires (λ c. search needs) (λ c. search needs)
+    loop-again same-length same-length-2 returns)

@@ -5,6 +5,7 @@ use Prim.Native.Nat.{ℕ, _+_, _*_, _-_, _<_, _≤_}
 use native.Mathlib.Omega.{arith}
 use borrow.Author.Needs.{needs}
 use lib.ListN.{length}
+use Rattle.lists.specs.Limits.{largestSide, largestMap}
 use Rattle.float32.specs.Float32.{zero}
 use Rattle.ring.proofs.Table.{ringOf-is}
 use Rattle.response.specs.Internal.{Filled, Long, responses}
@@ -27,21 +28,21 @@ use Rattle.response.proofs.rows.block.Tie as tie
 use Landmarks.*
 
 abbrev Inv-loop : tie.InvT-loop
-Inv-loop img f off i j n m tile map₀ r sr₀ dr₀ sum₀ cross₀ k₀ map sr dr sum cross k =
-    (k ≤ m) × Filled zero (f .pw) (f .ph) (responses img f) i (i + n) j (j + k) map₀ map × Long sr dr sum cross
+Inv-loop img f off i j n m tile s map₀ r balance₀ sum₀ cross₀ k₀ map balance sum cross k =
+    (k ≤ m) × Filled zero (f .pw) (f .ph) (responses img f) i (i + n) j (j + k) map₀ map × Long balance sum cross
 
 abbrev μ-loop : tie.MeasureT-loop
-μ-loop img f off i j n m tile map₀ r sr₀ dr₀ sum₀ cross₀ k₀ map sr dr sum cross k = m - k
+μ-loop img f off i j n m tile s map₀ r balance₀ sum₀ cross₀ k₀ map balance sum cross k = m - k
 
 -- what is asked says of the block's corner and of the places of a row
 module _ (c : tie.Start Inv-loop μ-loop) where
-  corner : (c .args .f .x + c .args .i ≤ 4096) × (c .args .f .y + c .args .j ≤ 4096) × (c .args .f .radius ≤ 10)
+  corner : (c .args .f .x + c .args .i ≤ largestSide) × (c .args .f .y + c .args .j ≤ largestSide) × (c .args .f .radius ≤ 10)
   corner =
       let small = corner-small _ _ _ (c .pre .0 .0) _ _ _ _ (c .pre .0 .1) (c .pre .1 .1) (c .pre .1 .3) in
       (small .0, small .1, radius-le _ _ _ (c .pre .0 .0))
 
   row : (k : ℕ) → k < c .args .m → let a = c .args in
-      ((a .j + k) * a .f .pw + a .i + a .n ≤ length (a .map .now)) × ((a .j + k) * a .f .pw + a .i + a .n ≤ 16777216)
+      ((a .j + k) * a .f .pw + a .i + a .n ≤ length (a .map .now)) × ((a .j + k) * a .f .pw + a .i + a .n ≤ largestMap)
   row k l = row-in _ _ _ (c .pre .0 .0) _ _ _ _ (c .pre .0 .1) (c .pre .1 .1) (c .pre .1 .3) k l
 
 add-widen : tie.Need-add-widen Inv-loop μ-loop
@@ -80,7 +81,7 @@ widen-requires c κs =
       pixels-in _ _ _ (pre .0 .0) _ _ _ _ (pre .0 .1) (pre .1 .1) (pre .1 .3),
       pixels-few _ _ _ (pre .0 .0),
       rows-low _ _ _ (pre .0 .0) _ _ _ _ (pre .0 .1) (pre .1 .1) (pre .1 .3),
-      omega (arith, radius, pre .1 .2),
+      omega (arith, radius, pre .1 .6),
       omega (arith, radius, pre .1 .4),
       pre .1 .5,
     )
@@ -89,7 +90,7 @@ loop-holds : tie.Need-loop-holds Inv-loop μ-loop
 loop-holds c = (
   search needs,
   filled-none zero _ _ _ _ _ _ _ _ (λ i j p q u v. absurd (omega arith)),
-  record { sr-long = refl; dr-long = refl; sum-long = refl; cross-long = refl },
+  record { balance-long = refl; sum-long = refl; cross-long = refl },
 )
 
 add-sums : tie.Need-add-sums Inv-loop μ-loop
@@ -103,12 +104,19 @@ sums-requires c κs =
     let pre = start-from-sums-requires c .pre in
     let tile = widen-from-sums-requires c .widen .ensures .1 in
     let radius = radius-le _ _ _ (pre .0 .0) in (
-      (tile .bytes, tile-framed _ _ _ tile (pre .0 .0 .own-radius) (pre .1 .0), loop-from-sums-requires c .loop .inv .2),
-      (radius, search needs, omega (arith, radius, pre .1 .4), eights-from-sums-requires c .eights .ensures .1),
+      (tile .bytes, tile-framed _ _ _ _ tile (pre .0 .0 .own-radius) (pre .1 .0), loop-from-sums-requires c .loop .inv .2),
+      (
+        radius,
+        search needs,
+        omega (arith, radius, pre .1 .4),
+        omega (arith, eights-from-sums-requires c .eights .ensures, pre .1 .2),
+        omega (arith, radius, eights-from-sums-requires c .eights .ensures, pre .1 .6),
+      ),
     )
 
 add-values : tie.Need-add-values Inv-loop μ-loop
-add-values c = omega (arith, corner (start-from-add-values c), start-from-add-values c .pre .1 .4, loop-test-from-add-values c .loop-test .taken)
+add-values c =
+    omega (arith, corner (start-from-add-values c), start-from-add-values c .pre .1 .4, loop-test-from-add-values c .loop-test .taken)
 
 mul-values : tie.Need-mul-values Inv-loop μ-loop
 mul-values c = omega (arith, row (start-from-mul-values c) (loop-from-mul-values c .loop .k) (search needs))
@@ -124,9 +132,6 @@ values-requires c κs =
 add-k : tie.Need-add-k Inv-loop μ-loop
 add-k c = omega (arith, start-from-add-k c .pre .1 .4, loop-test-from-add-k c .loop-test .taken)
 
-loop-less : tie.Need-loop-less Inv-loop μ-loop
-loop-less c = search needs
-
 loop-again : tie.Need-loop-again Inv-loop μ-loop
 loop-again c =
     let start = start-from-loop-again c in
@@ -136,47 +141,31 @@ loop-again c =
     let tile = widen-from-loop-again c .widen .ensures .0 in
     let sums = sums-from-loop-again c .sums .ensures in (
       omega (arith, loop-test-from-loop-again c .loop-test .taken),
-      block-step (a .img .now) _ (a .f) (a .i) (a .j) (a .n) (a .m) (ringOf-is _) (start .pre .0 .0 .own-radius) (start .pre .0 .1) (start .pre .1 .1)
+      block-step (a .img .now) _ _ (a .f) (a .i) (a .j) (a .n) (a .m) (ringOf-is _) (start .pre .0 .0 .own-radius)
+          (start .pre .0 .1) (start .pre .1 .1)
           (at .k) (loop-test-from-loop-again c .loop-test .taken)
-          (λ u v p q. tile .holds u v (omega (arith, radius, start .pre .1 .2)) (omega (arith, radius, start .pre .1 .4)) (omega arith) p (omega arith) q)
-          _ _ _ _ _ _ _ _ _ (eights-from-loop-again c .eights .ensures .0) sums (c .before .before .values .ensures) refl (at .inv .1),
+          (λ u v p q. tile .holds u v (omega (arith, radius, start .pre .1 .6)) (omega (arith, radius, start .pre .1 .4))
+          (omega arith) p (omega arith) q)
+          _ _ _ _ _ _ _ _ (omega (arith, eights-from-loop-again c .eights .ensures)) sums
+          (c .before .before .values .ensures) refl (at .inv .1),
       sums .long,
     )
 
 same-length : tie.Need-same-length Inv-loop μ-loop
-same-length c = c .before .loop .inv .1 .long
+same-length c = widen-from-same-length c .widen .ensures .0 .long
+
+same-length-2 : tie.Need-same-length-2 Inv-loop μ-loop
+same-length-2 c = c .before .loop .inv .1 .long
 
 returns : tie.Need-returns Inv-loop μ-loop
 returns c = (
   filled-to zero _ _ _ _ _ _ _ _ _ _ _ refl (omega (arith, c .before .loop .inv .0, c .loop-test .left)) (c .before .loop .inv .1),
-  c .before .before .widen .ensures .1,
+  widen-from-returns c .widen .ensures .1,
 )
 
 pub block-spec : {M : Type 1} → statement M
 block-spec =
-    tie.close
-    (tie.spec
-    Inv-loop
-    μ-loop
-    add-widen
-    sub-widen
-    add-widen-2
-    sub-widen-2
-    add-widen-3
-    add-widen-4
-    add-widen-5
-    add-widen-6
-    widen-requires
-    loop-holds
-    add-sums
-    eights-requires
-    sums-requires
-    add-values
-    mul-values
-    add-values-2
-    values-requires
-    add-k
-    loop-less
-    loop-again
-    same-length
-    returns)
+    tie.close (tie.spec
+    Inv-loop μ-loop add-widen sub-widen add-widen-2 sub-widen-2 add-widen-3 add-widen-4 add-widen-5 add-widen-6 widen-requires
+    loop-holds add-sums eights-requires sums-requires add-values mul-values add-values-2 values-requires add-k (λ c. search needs)
+    loop-again same-length same-length-2 returns)

@@ -18,21 +18,6 @@ abbrev μ-loop : tie.MeasureT-loop
 loop-holds : tie.Need-loop-holds Inv-loop μ-loop
 loop-holds c = (search needs, written-none _ _ _ _)
 
-add-map : tie.Need-add-map Inv-loop μ-loop
-add-map c = search needs
-
-mul-map : tie.Need-mul-map Inv-loop μ-loop
-mul-map c = search needs
-
-slice-write-map : tie.Need-slice-write-map Inv-loop μ-loop
-slice-write-map c = search needs
-
-add-i : tie.Need-add-i Inv-loop μ-loop
-add-i c = search needs
-
-loop-less : tie.Need-loop-less Inv-loop μ-loop
-loop-less c = search needs
-
 loop-again : tie.Need-loop-again Inv-loop μ-loop
 unfolding ofBits
 loop-again c = (search needs, written-set _ _ _ _ _ _ _ (c .before .loop .inv .1) (search needs) refl)
@@ -45,16 +30,6 @@ returns c = written-end _ _ _ _ _ _ _ (c .before .loop .inv .1) (search needs)
 
 pub clear-spec : {M : Type 1} → statement M
 clear-spec =
-    tie.close
-    (tie.spec
-    Inv-loop
-    μ-loop
-    loop-holds
-    add-map
-    mul-map
-    slice-write-map
-    add-i
-    loop-less
-    loop-again
-    same-length
-    returns)
+    tie.close (tie.spec
+    Inv-loop μ-loop loop-holds (λ c. search needs) (λ c. search needs) (λ c. search needs) (λ c. search needs) (λ c. search needs)
+    loop-again same-length returns)

@@ -5,6 +5,7 @@ use Prim.Native.Nat.{ℕ, _+_, _*_, _-_, _<_, _≤_}
 use native.Mathlib.Omega.{arith}
 use borrow.Author.Needs.{needs}
 use lib.ListN.{length}
+use Rattle.lists.specs.Limits.{largestMap}
 use Rattle.response.specs.Internal.{Cleared}
 use Rattle.response.proofs.Filling.{cleared-none, cleared-row, cleared-end, row-after}
 use Rattle.response.proofs.rows.clear_part.Statement.{statement}
@@ -22,7 +23,7 @@ loop-holds c = (search needs, search needs, cleared-none _ _ _ _ _, refl)
 
 -- where a row ends
 row-end : (c : tie.Start Inv-loop μ-loop) (j : ℕ) → j < c .args .e
-    → (j * c .args .w + c .args .w ≤ length (c .args .map .now)) × (j * c .args .w + c .args .w ≤ 16777216)
+    → (j * c .args .w + c .args .w ≤ length (c .args .map .now)) × (j * c .args .w + c .args .w ≤ largestMap)
 row-end c j l =
     let row = row-after (c .args .w) j (c .args .e) l in
     (omega (arith, row, c .pre .3), omega (arith, row, c .pre .4))
@@ -35,20 +36,11 @@ add-clear c =
     let start = start-from-add-clear c in
     omega (arith, row-end start (c .before .before .loop .j) (search needs), start .pre .0, start .pre .1)
 
-sub-clear : tie.Need-sub-clear Inv-loop μ-loop
-sub-clear c = search needs
-
 clear-requires : tie.Need-clear-requires Inv-loop μ-loop
 clear-requires c κs =
     let start = start-from-clear-requires c in
     let at = c .before .before .loop in
     omega (arith, row-end start (at .j) (search needs), start .pre .1, at .inv .3)
-
-add-j : tie.Need-add-j Inv-loop μ-loop
-add-j c = search needs
-
-loop-less : tie.Need-loop-less Inv-loop μ-loop
-loop-less c = search needs
 
 loop-again : tie.Need-loop-again Inv-loop μ-loop
 loop-again c =
@@ -69,17 +61,6 @@ returns c = cleared-end _ _ _ _ _ _ _ _ (c .before .loop .inv .2) (search needs)
 
 pub clear-part-spec : {M : Type 1} → statement M
 clear-part-spec =
-    tie.close
-    (tie.spec
-    Inv-loop
-    μ-loop
-    loop-holds
-    mul-clear
-    add-clear
-    sub-clear
-    clear-requires
-    add-j
-    loop-less
-    loop-again
-    same-length
-    returns)
+    tie.close (tie.spec
+    Inv-loop μ-loop loop-holds mul-clear add-clear (λ c. search needs) clear-requires (λ c. search needs) (λ c. search needs) loop-again
+    same-length returns)

@@ -1,88 +1,83 @@
--- `response::rows::inner` meets its contract: the rows passed hold their responses. Assumes nothing.
+-- `response::rows::inner` meets its contract, however many cells there are. Assumes nothing.
 mod Landmarks
-use mathlib.Core.Path.{refl}
-use Prim.Native.Nat.{_-_, _≤_}
+use mathlib.Core.Path.{_≡_}
+use Prim.Native.Nat.{ℕ, _-_, _<_, _≤_, min, max}
 use native.Mathlib.Omega.{arith}
 use borrow.Author.Needs.{needs}
 use Rattle.float32.specs.Float32.{zero}
-use Rattle.response.specs.Internal.{IsTile, Filled, responses}
-use Rattle.response.proofs.Filling.{bytes-none, filled-none, filled-to, then-below}
-use Rattle.response.proofs.Tiles.{placed-still, part-of}
+use Rattle.response.proofs.Filling.{filled-none, filled-to}
+use Rattle.response.proofs.Tiles.{part-of}
 use Rattle.response.proofs.rows.inner.Statement.{statement}
 use Rattle.response.proofs.rows.inner.Tie as tie
 use Landmarks.*
 
-abbrev Inv-loop : tie.InvT-loop
-Inv-loop img f off a b c e map₀ tile₀ j₀ map tile j =
-    (c ≤ j) × (j ≤ e) × Filled zero (f .pw) (f .ph) (responses img f) a b c j map₀ map × IsTile tile
+-- what the greater and the lesser of two sides say of them
+module _ (n m g l : ℕ) (greater : g ≡ max n m) (lesser : l ≡ min n m) where
+  none : (p q : ℕ) → l ≡ 0 → p < n → q < m → ⊥
+  none p q e x y = absurd (omega arith)
 
-abbrev μ-loop : tie.MeasureT-loop
-μ-loop img f off a b c e map₀ tile₀ j₀ map tile j = e - j
+  one-each : (l ≡ 0 → ⊥) → g ≡ 1 → (n ≡ 1) × (m ≡ 1)
+  one-each some e = (omega arith, omega arith)
 
-loop-holds : tie.Need-loop-holds Inv-loop μ-loop
-loop-holds c = (
-  search needs,
-  c .before .before .pre .0 .3,
-  filled-none zero _ _ _ _ _ _ _ _ (λ i j p q u v. absurd (omega arith)),
-  record { long = refl; bytes = bytes-none 5328 },
-)
+  few-each : (l ≡ 0 → ⊥) → g ≤ 16 → (0 < n) × (n ≤ 16) × (0 < m) × (m ≤ 16)
+  few-each some e = (omega arith, omega arith, omega arith, omega arith)
 
-sub-lesser : tie.Need-sub-lesser Inv-loop μ-loop
-sub-lesser c = search needs
+returns : tie.Need-returns
+returns c =
+    let least = c .before in
+    let a = start-from-returns c .args in
+    filled-none zero _ _ _ _ _ _ _ _
+    (λ i j p q u v. none (a .b - a .a) (a .e - a .c) _ _ (least .before .greater .ensures) (least .lesser .ensures) (i - a .a)
+    (j - a .c) (c .if1 .taken)
+    (omega arith) (omega arith))
 
-lesser-requires : tie.Need-lesser-requires Inv-loop μ-loop
-lesser-requires c κs = search needs
+-- one cell
+only : (c : tie.Then2) → let a = c .before .before .before .before .before .before .args in (a .b - a .a ≡ 1) × (a .e - a .c ≡ 1)
+only c =
+    let least = c .before .before in
+    one-each _ _ _ _ (least .before .greater .ensures) (least .lesser .ensures) (c .before .if1 .left) (c .if2 .taken)
 
-band-requires : tie.Need-band-requires Inv-loop μ-loop
-band-requires c κs =
-    let pre = start-from-band-requires c .pre in
-    let at = loop-from-band-requires c .loop in
-    let count = c .before .before .lesser .ensures in
-    let left = loop-test-from-band-requires c .loop-test .taken in (
-      (
-        placed-still _ _ _ _ (pre .0 .0) (at .inv .2 .long),
-        part-of _ _ _ _ _ _ _ _ _ (pre .0 .1) (omega arith) (omega arith) (at .inv .0) (omega (arith, count, left)),
-        pre .0 .2,
-      ),
-      (pre .1, omega (arith, count, left), omega (arith, count), at .inv .3),
+single-requires : tie.Need-single-requires
+single-requires c κs =
+    let pre = start-from-single-requires c .pre in
+    let each = only (c .before) in (
+      pre .0 .0,
+      part-of _ _ _ _ _ _ _ _ _ (pre .0 .1) (omega arith) (omega (arith, each, pre .0 .2)) (omega arith) (omega (arith, each, pre .0 .3)),
     )
 
-add-j : tie.Need-add-j Inv-loop μ-loop
-add-j c = search needs
+same-length : tie.Need-same-length
+same-length c = search needs
 
-loop-less : tie.Need-loop-less Inv-loop μ-loop
-loop-less c = search needs
+returns-2 : tie.Need-returns-2
+returns-2 c =
+    let pre = start-from-returns-2 c .pre in
+    let each = only (if2-from-returns-2 c) in
+    filled-to zero _ _ _ _ _ _ _ _ _ _ _ (omega (arith, each, pre .0 .2)) (omega (arith, each, pre .0 .3))
+    (single-from-returns-2 c .single .ensures)
 
-loop-again : tie.Need-loop-again Inv-loop μ-loop
-loop-again c =
-    let at = loop-from-loop-again c .loop in
-    let count = lesser-from-loop-again c .lesser .ensures in
-    let left = loop-test-from-loop-again c .loop-test .taken in
-    let done = c .before .before .band .ensures in (
-      omega (arith, at .inv .0),
-      omega (arith, count, left),
-      then-below zero _ _ _ _ _ _ _ _ _ _ _ (at .inv .2) (done .0),
-      done .1,
+small-requires : tie.Need-small-requires
+small-requires c κs =
+    let pre = start-from-small-requires c .pre in
+    let least = lesser-from-small-requires c in
+    let each = few-each _ _ _ _ (least .before .greater .ensures) (least .lesser .ensures) (if1-from-small-requires c .if1 .left)
+    (c .before .if3 .taken) in (
+      (pre .0 .0, part-of _ _ _ _ _ _ _ _ _ (pre .0 .1) (omega arith) (omega (arith, pre .0 .2)) (omega arith) (omega (arith, pre .0 .3))),
+      each,
     )
 
-same-length : tie.Need-same-length Inv-loop μ-loop
-same-length c = c .before .loop .inv .2 .long
+same-length-2 : tie.Need-same-length-2
+same-length-2 c = search needs
 
-returns : tie.Need-returns Inv-loop μ-loop
-returns c = filled-to zero _ _ _ _ _ _ _ _ _ _ _ refl (omega (arith, c .before .loop .inv .1, c .loop-test .left)) (c .before .loop .inv .2)
+returns-3 : tie.Need-returns-3
+returns-3 c =
+    let pre = start-from-returns-3 c .pre in
+    filled-to zero _ _ _ _ _ _ _ _ _ _ _ (omega (arith, pre .0 .2)) (omega (arith, pre .0 .3)) (small-from-returns-3 c .small .ensures)
+
+same-length-3 : tie.Need-same-length-3
+same-length-3 c = search needs
 
 pub inner-spec : {M : Type 1} → statement M
 inner-spec =
-    tie.close
-    (tie.spec
-    Inv-loop
-    μ-loop
-    loop-holds
-    sub-lesser
-    lesser-requires
-    band-requires
-    add-j
-    loop-less
-    loop-again
-    same-length
-    returns)
+    tie.close (tie.spec
+    (λ c. search needs) (λ c. search needs) (λ c κs. search needs) (λ c κs. search needs) returns single-requires same-length returns-2
+    small-requires same-length-2 returns-3 (λ c κs. search needs) same-length-3 (λ c. search needs))

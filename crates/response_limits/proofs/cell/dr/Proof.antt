@@ -15,36 +15,6 @@ abbrev μ-loop : tie.MeasureT-loop
 loop-holds : tie.Need-loop-holds Inv-loop μ-loop
 loop-holds c = (search needs, added-none _ _)
 
-array-read-byte-apart : tie.Need-array-read-byte-apart Inv-loop μ-loop
-array-read-byte-apart c = search needs
-
-add-byte-apart : tie.Need-add-byte-apart Inv-loop μ-loop
-add-byte-apart c = search needs
-
-array-read-byte-apart-2 : tie.Need-array-read-byte-apart-2 Inv-loop μ-loop
-array-read-byte-apart-2 c = search needs
-
-array-read-byte-apart-3 : tie.Need-array-read-byte-apart-3 Inv-loop μ-loop
-array-read-byte-apart-3 c = search needs
-
-add-byte-apart-2 : tie.Need-add-byte-apart-2 Inv-loop μ-loop
-add-byte-apart-2 c = search needs
-
-array-read-byte-apart-4 : tie.Need-array-read-byte-apart-4 Inv-loop μ-loop
-array-read-byte-apart-4 c = search needs
-
-byte-apart-requires : tie.Need-byte-apart-requires Inv-loop μ-loop
-byte-apart-requires c κs = search needs
-
-add-dr : tie.Need-add-dr Inv-loop μ-loop
-add-dr c = search needs
-
-add-k : tie.Need-add-k Inv-loop μ-loop
-add-k c = search needs
-
-loop-less : tie.Need-loop-less Inv-loop μ-loop
-loop-less c = search needs
-
 loop-again : tie.Need-loop-again Inv-loop μ-loop
 loop-again c =
     let term = c .byte-apart .ensures in
@@ -55,20 +25,6 @@ returns c = added-all _ _ 8 _ _ (c .before .loop .inv .1) (search needs)
 
 pub dr-spec : {M : Type 1} → statement M
 dr-spec =
-    tie.close
-    (tie.spec
-    Inv-loop
-    μ-loop
-    loop-holds
-    array-read-byte-apart
-    add-byte-apart
-    array-read-byte-apart-2
-    array-read-byte-apart-3
-    add-byte-apart-2
-    array-read-byte-apart-4
-    byte-apart-requires
-    add-dr
-    add-k
-    loop-less
-    loop-again
-    returns)
+    tie.close (tie.spec
+    Inv-loop μ-loop loop-holds (λ c. search needs) (λ c. search needs) (λ c. search needs) (λ c. search needs) (λ c. search needs)
+    (λ c. search needs) (λ c κs. search needs) (λ c. search needs) (λ c. search needs) (λ c. search needs) loop-again returns)

@@ -17,34 +17,17 @@ abbrev μ-loop : tie.MeasureT-loop
 loop-holds : tie.Need-loop-holds Inv-loop μ-loop
 loop-holds c = (search needs, prefix-none _ _ _ refl)
 
-array-read-place : tie.Need-array-read-place Inv-loop μ-loop
-array-read-place c = search needs
-
-array-read-place-2 : tie.Need-array-read-place-2 Inv-loop μ-loop
-array-read-place-2 c = search needs
-
-place-requires : tie.Need-place-requires Inv-loop μ-loop
-place-requires c κs = search needs
-
 shared-slice-read-s : tie.Need-shared-slice-read-s Inv-loop μ-loop
 shared-slice-read-s c =
     let at = c .before .before .before in
     rw (c .before .place .ensures) (at .before .before .pre .1 (at .loop .k) (search needs))
 
-array-write-s : tie.Need-array-write-s Inv-loop μ-loop
-array-write-s c = search needs
-
-add-k : tie.Need-add-k Inv-loop μ-loop
-add-k c = search needs
-
-loop-less : tie.Need-loop-less Inv-loop μ-loop
-loop-less c = search needs
-
 loop-again : tie.Need-loop-again Inv-loop μ-loop
 loop-again c =
     let at = c .before .before .before in (
       search needs,
-      prefix-set _ _ _ _ _ (at .loop .inv .1) (search needs) (ap (λ (i : ℕ). getD (at .before .before .args .img .now) i 0) (c .before .place .ensures)),
+      prefix-set _ _ _ _ _ (at .loop .inv .1) (search needs)
+          (ap (λ (i : ℕ). getD (at .before .before .args .img .now) i 0) (c .before .place .ensures)),
     )
 
 returns : tie.Need-returns Inv-loop μ-loop
@@ -52,17 +35,6 @@ returns c = prefix-all _ _ _ _ _ (c .before .loop .inv .1) (search needs) refl
 
 pub gather-spec : {M : Type 1} → statement M
 gather-spec =
-    tie.close
-    (tie.spec
-    Inv-loop
-    μ-loop
-    loop-holds
-    array-read-place
-    array-read-place-2
-    place-requires
-    shared-slice-read-s
-    array-write-s
-    add-k
-    loop-less
-    loop-again
-    returns)
+    tie.close (tie.spec
+    Inv-loop μ-loop loop-holds (λ c. search needs) (λ c. search needs) (λ c κs. search needs) shared-slice-read-s (λ c. search needs)
+    (λ c. search needs) (λ c. search needs) loop-again returns)

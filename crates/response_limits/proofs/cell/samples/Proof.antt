@@ -5,12 +5,6 @@ use borrow.Author.Needs.{needs}
 use Rattle.response_limits.proofs.cell.samples.Statement.{statement}
 use Rattle.response_limits.proofs.cell.samples.Tie as tie
 
-sub-gather : tie.Need-sub-gather
-sub-gather c = search needs
-
-sub-gather-2 : tie.Need-sub-gather-2
-sub-gather-2 c = search needs
-
 gather-requires : tie.Need-gather-requires
 gather-requires c κs =
     let p = c .before .before .before .pre in
@@ -35,6 +29,4 @@ returns c =
     }
 
 pub samples-spec : {M : Type 1} → statement M
-samples-spec =
-    tie.close
-    (tie.spec sub-gather sub-gather-2 gather-requires mul-cross add-cross cross-requires returns)
+samples-spec = tie.close (tie.spec (λ c. search needs) (λ c. search needs) gather-requires mul-cross add-cross cross-requires returns)

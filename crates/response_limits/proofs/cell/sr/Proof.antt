@@ -16,63 +16,6 @@ abbrev μ-loop : tie.MeasureT-loop
 loop-holds : tie.Need-loop-holds Inv-loop μ-loop
 loop-holds c = (search needs, added-none _ _)
 
-array-read-pair : tie.Need-array-read-pair Inv-loop μ-loop
-array-read-pair c = search needs
-
-add-pair : tie.Need-add-pair Inv-loop μ-loop
-add-pair c = search needs
-
-array-read-pair-2 : tie.Need-array-read-pair-2 Inv-loop μ-loop
-array-read-pair-2 c = search needs
-
-pair-requires : tie.Need-pair-requires Inv-loop μ-loop
-pair-requires c κs = search needs
-
-add-pair-2 : tie.Need-add-pair-2 Inv-loop μ-loop
-add-pair-2 c = search needs
-
-array-read-pair-3 : tie.Need-array-read-pair-3 Inv-loop μ-loop
-array-read-pair-3 c = search needs
-
-add-pair-3 : tie.Need-add-pair-3 Inv-loop μ-loop
-add-pair-3 c = search needs
-
-array-read-pair-4 : tie.Need-array-read-pair-4 Inv-loop μ-loop
-array-read-pair-4 c = search needs
-
-pair-requires-2 : tie.Need-pair-requires-2 Inv-loop μ-loop
-pair-requires-2 c κs = search needs
-
-array-read-pair-5 : tie.Need-array-read-pair-5 Inv-loop μ-loop
-array-read-pair-5 c = search needs
-
-add-pair-4 : tie.Need-add-pair-4 Inv-loop μ-loop
-add-pair-4 c = search needs
-
-array-read-pair-6 : tie.Need-array-read-pair-6 Inv-loop μ-loop
-array-read-pair-6 c = search needs
-
-pair-requires-3 : tie.Need-pair-requires-3 Inv-loop μ-loop
-pair-requires-3 c κs = search needs
-
-add-pair-5 : tie.Need-add-pair-5 Inv-loop μ-loop
-add-pair-5 c = search needs
-
-array-read-pair-7 : tie.Need-array-read-pair-7 Inv-loop μ-loop
-array-read-pair-7 c = search needs
-
-add-pair-6 : tie.Need-add-pair-6 Inv-loop μ-loop
-add-pair-6 c = search needs
-
-array-read-pair-8 : tie.Need-array-read-pair-8 Inv-loop μ-loop
-array-read-pair-8 c = search needs
-
-pair-requires-4 : tie.Need-pair-requires-4 Inv-loop μ-loop
-pair-requires-4 c κs = search needs
-
-apart-requires : tie.Need-apart-requires Inv-loop μ-loop
-apart-requires c κs = search needs
-
 -- what a turn adds
 term : (c : tie.After-apart Inv-loop μ-loop)
     → let at = c .before .before .before .before .before .before in
@@ -87,46 +30,17 @@ term c =
 add-sr : tie.Need-add-sr Inv-loop μ-loop
 add-sr c = omega (arith, (c .before .before .before .before .before .before .loop .inv .1) .sum-small, term c .1)
 
-add-k : tie.Need-add-k Inv-loop μ-loop
-add-k c = search needs
-
-loop-less : tie.Need-loop-less Inv-loop μ-loop
-loop-less c = search needs
-
 loop-again : tie.Need-loop-again Inv-loop μ-loop
-loop-again c = (search needs, added-next _ _ _ _ _ (c .before .before .before .before .before .before .loop .inv .1) (term c .0) (term c .1))
+loop-again c =
+    (search needs, added-next _ _ _ _ _ (c .before .before .before .before .before .before .loop .inv .1) (term c .0) (term c .1))
 
 returns : tie.Need-returns Inv-loop μ-loop
 returns c = added-all _ _ 4 _ _ (c .before .loop .inv .1) (search needs)
 
 pub sr-spec : {M : Type 1} → statement M
 sr-spec =
-    tie.close
-    (tie.spec
-    Inv-loop
-    μ-loop
-    loop-holds
-    array-read-pair
-    add-pair
-    array-read-pair-2
-    pair-requires
-    add-pair-2
-    array-read-pair-3
-    add-pair-3
-    array-read-pair-4
-    pair-requires-2
-    array-read-pair-5
-    add-pair-4
-    array-read-pair-6
-    pair-requires-3
-    add-pair-5
-    array-read-pair-7
-    add-pair-6
-    array-read-pair-8
-    pair-requires-4
-    apart-requires
-    add-sr
-    add-k
-    loop-less
-    loop-again
-    returns)
+    tie.close (tie.spec
+    Inv-loop μ-loop loop-holds (λ c. search needs) (λ c. search needs) (λ c. search needs) (λ c κs. search needs) (λ c. search needs)
+    (λ c. search needs) (λ c. search needs) (λ c. search needs) (λ c κs. search needs) (λ c. search needs) (λ c. search needs)
+    (λ c. search needs) (λ c κs. search needs) (λ c. search needs) (λ c. search needs) (λ c. search needs) (λ c. search needs)
+    (λ c κs. search needs) (λ c κs. search needs) add-sr (λ c. search needs) (λ c. search needs) loop-again returns)

@@ -1,4 +1,5 @@
--- `response_limits::rows::fill` meets its contract. After y rows the front of each buffer holds the rows' limits, and the rest is as it was. Assumes nothing.
+-- `response_limits::rows::fill` meets its contract. After y rows the front of each buffer holds the rows' limits, and the rest is as it
+-- was. Assumes nothing.
 use mathlib.Core.Path.{_≡_, refl, sym}
 use mathlib.Core.List.{_++_}
 use Prim.Native.Nat.{_+_, _*_, _-_, _≤_}
@@ -26,9 +27,6 @@ Inv-loop low high w h ring lows₀ highs₀ t radius a₀ y₀ lows highs a y =
 abbrev μ-loop : tie.MeasureT-loop
 μ-loop low high w h ring lows₀ highs₀ t radius a₀ y₀ lows highs a y = h - y
 
-ring-offsets-requires : tie.Need-ring-offsets-requires Inv-loop μ-loop
-ring-offsets-requires c κs = search needs
-
 loop-holds : tie.Need-loop-holds Inv-loop μ-loop
 loop-holds c = (refl, refl, grid-none _ _ _, grid-none _ _ _, sym (zero-mul _), search needs)
 
@@ -49,23 +47,11 @@ add-e c = omega (arith, in-lows c)
 mul-row : tie.Need-mul-row Inv-loop μ-loop
 mul-row c = omega (arith, in-lows c)
 
-sub-row : tie.Need-sub-row Inv-loop μ-loop
-sub-row c = search needs
-
-part-row-start : tie.Need-part-row-start Inv-loop μ-loop
-part-row-start c = search needs
-
 part-row-end : tie.Need-part-row-end Inv-loop μ-loop
 part-row-end c = omega (arith, in-lows c)
 
 mul-row-2 : tie.Need-mul-row-2 Inv-loop μ-loop
 mul-row-2 c = omega (arith, in-highs (c .before))
-
-sub-row-2 : tie.Need-sub-row-2 Inv-loop μ-loop
-sub-row-2 c = search needs
-
-part-row-start-2 : tie.Need-part-row-start-2 Inv-loop μ-loop
-part-row-start-2 c = search needs
 
 part-row-end-2 : tie.Need-part-row-end-2 Inv-loop μ-loop
 part-row-end-2 c = omega (arith, in-highs (c .before))
@@ -86,12 +72,6 @@ row-requires c κs =
         turn .loop-test .taken,
       ),
     )
-
-add-y : tie.Need-add-y Inv-loop μ-loop
-add-y c = search needs
-
-loop-less : tie.Need-loop-less Inv-loop μ-loop
-loop-less c = search needs
 
 loop-again : tie.Need-loop-again Inv-loop μ-loop
 loop-again c =
@@ -119,25 +99,7 @@ returns c =
 
 pub fill-spec : {M : Type 1} → statement M
 fill-spec =
-    tie.close
-    (tie.spec
-    Inv-loop
-    μ-loop
-    ring-offsets-requires
-    loop-holds
-    add-e
-    mul-row
-    sub-row
-    part-row-start
-    part-row-end
-    mul-row-2
-    sub-row-2
-    part-row-start-2
-    part-row-end-2
-    row-requires
-    add-y
-    loop-less
-    loop-again
-    same-length
-    same-length-2
-    returns)
+    tie.close (tie.spec
+    Inv-loop μ-loop (λ c κs. search needs) loop-holds add-e mul-row (λ c. search needs) (λ c. search needs) part-row-end mul-row-2
+    (λ c. search needs) (λ c. search needs) part-row-end-2 row-requires (λ c. search needs) (λ c. search needs) loop-again same-length
+    same-length-2 returns)

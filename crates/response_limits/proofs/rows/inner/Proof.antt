@@ -24,39 +24,6 @@ abbrev μ-loop : tie.MeasureT-loop
 loop-holds : tie.Need-loop-holds Inv-loop μ-loop
 loop-holds c = (search needs, prefix-none _ _ _ refl, prefix-none _ _ _ (c .before .before .pre .1 .0 .0))
 
-add-lesser : tie.Need-add-lesser Inv-loop μ-loop
-add-lesser c = search needs
-
-lesser-requires : tie.Need-lesser-requires Inv-loop μ-loop
-lesser-requires c κs = search needs
-
-add-run : tie.Need-add-run Inv-loop μ-loop
-add-run c = search needs
-
-mul-run : tie.Need-mul-run Inv-loop μ-loop
-mul-run c = search needs
-
-sub-run : tie.Need-sub-run Inv-loop μ-loop
-sub-run c = search needs
-
-part-run-start : tie.Need-part-run-start Inv-loop μ-loop
-part-run-start c = search needs
-
-part-run-end : tie.Need-part-run-end Inv-loop μ-loop
-part-run-end c = search needs
-
-mul-run-2 : tie.Need-mul-run-2 Inv-loop μ-loop
-mul-run-2 c = search needs
-
-sub-run-2 : tie.Need-sub-run-2 Inv-loop μ-loop
-sub-run-2 c = search needs
-
-part-run-start-2 : tie.Need-part-run-start-2 Inv-loop μ-loop
-part-run-start-2 c = search needs
-
-part-run-end-2 : tie.Need-part-run-end-2 Inv-loop μ-loop
-part-run-end-2 c = search needs
-
 -- where the end of a run is known: both its parts are as long as it
 module _ (c : tie.After-lesser Inv-loop μ-loop) where
   abbrev turn : tie.At-loop Inv-loop μ-loop
@@ -68,10 +35,12 @@ module _ (c : tie.After-lesser Inv-loop μ-loop) where
   ends : c .lesser .result ≤ length (start .args .lows .now)
   ends = omega (arith, c .lesser .ensures)
 
-  lows-long : length (take (c .lesser .result - turn .loop .i) (drop (turn .loop .i) (turn .loop .lows))) ≡ c .lesser .result - turn .loop .i
+  lows-long : length (take (c .lesser .result - turn .loop .i) (drop (turn .loop .i) (turn .loop .lows)))
+      ≡ c .lesser .result - turn .loop .i
   lows-long = part-length-to _ _ _ (omega (arith, ends, turn .loop .inv .1 .long))
 
-  highs-long : length (take (c .lesser .result - turn .loop .i) (drop (turn .loop .i) (turn .loop .highs))) ≡ c .lesser .result - turn .loop .i
+  highs-long : length (take (c .lesser .result - turn .loop .i) (drop (turn .loop .i) (turn .loop .highs)))
+      ≡ c .lesser .result - turn .loop .i
   highs-long = part-length-to _ _ _ (omega (arith, ends, turn .loop .inv .2 .long))
 
 run-requires : tie.Need-run-requires Inv-loop μ-loop
@@ -90,17 +59,16 @@ run-requires c κs =
       ),
     )
 
-loop-less : tie.Need-loop-less Inv-loop μ-loop
-loop-less c = search needs
-
 loop-again : tie.Need-loop-again Inv-loop μ-loop
 loop-again c =
     let p = c .before .before .before .before .before in
     let run = c .before .before .run .ensures in
     let e = p .lesser .ensures in (
       ends p,
-      prefix-over _ _ _ _ _ (turn p .loop .inv .1) (le-refl _) _ _ _ (search needs) (ends p) (lows-shifted _ _ _ _ _ _ _ _ _ _ (run .0)) (lows-long p),
-      prefix-over _ _ _ _ _ (turn p .loop .inv .2) (le-refl _) _ _ _ (search needs) (ends p) (highs-shifted _ _ _ _ _ _ _ _ _ _ (run .1)) (highs-long p),
+      prefix-over _ _ _ _ _ (turn p .loop .inv .1) (le-refl _) _ _ _ (search needs) (ends p)
+          (lows-shifted _ _ _ _ _ _ _ _ _ _ (run .0)) (lows-long p),
+      prefix-over _ _ _ _ _ (turn p .loop .inv .2) (le-refl _) _ _ _ (search needs) (ends p)
+          (highs-shifted _ _ _ _ _ _ _ _ _ _ (run .1)) (highs-long p),
     )
 
 same-length : tie.Need-same-length Inv-loop μ-loop
@@ -117,25 +85,7 @@ returns c =
 
 pub inner-spec : {M : Type 1} → statement M
 inner-spec =
-    tie.close
-    (tie.spec
-    Inv-loop
-    μ-loop
-    loop-holds
-    add-lesser
-    lesser-requires
-    add-run
-    mul-run
-    sub-run
-    part-run-start
-    part-run-end
-    mul-run-2
-    sub-run-2
-    part-run-start-2
-    part-run-end-2
-    run-requires
-    loop-less
-    loop-again
-    same-length
-    same-length-2
-    returns)
+    tie.close (tie.spec
+    Inv-loop μ-loop loop-holds (λ c. search needs) (λ c κs. search needs) (λ c. search needs) (λ c. search needs) (λ c. search needs)
+    (λ c. search needs) (λ c. search needs) (λ c. search needs) (λ c. search needs) (λ c. search needs) (λ c. search needs) run-requires
+    (λ c. search needs) loop-again same-length same-length-2 returns)

@@ -12,39 +12,6 @@ use borrow.Author.Needs.{needs}
 use Rattle.response_limits.proofs.rows.row.Statement.{statement}
 use Rattle.response_limits.proofs.rows.row.Tie as tie
 
-reach-requires : tie.Need-reach-requires
-reach-requires c κs = search needs
-
-clear-edges-requires : tie.Need-clear-edges-requires
-clear-edges-requires c κs = search needs
-
-clear-edges-requires-2 : tie.Need-clear-edges-requires-2
-clear-edges-requires-2 c κs = search needs
-
-mul-inner : tie.Need-mul-inner
-mul-inner c = search needs
-
-sub-inner : tie.Need-sub-inner
-sub-inner c = search needs
-
-part-inner-start : tie.Need-part-inner-start
-part-inner-start c = search needs
-
-part-inner-end : tie.Need-part-inner-end
-part-inner-end c = search needs
-
-mul-inner-2 : tie.Need-mul-inner-2
-mul-inner-2 c = search needs
-
-sub-inner-2 : tie.Need-sub-inner-2
-sub-inner-2 c = search needs
-
-part-inner-start-2 : tie.Need-part-inner-start-2
-part-inner-start-2 c = search needs
-
-part-inner-end-2 : tie.Need-part-inner-end-2
-part-inner-end-2 c = search needs
-
 -- where both edges are cleared
 module _ (c : tie.After-clear-edges2) where
   abbrev start : tie.Start
@@ -104,20 +71,7 @@ returns c =
 
 pub row-spec : {M : Type 1} → statement M
 row-spec =
-    tie.close
-    (tie.spec
-    reach-requires
-    clear-edges-requires
-    clear-edges-requires-2
-    mul-inner
-    sub-inner
-    part-inner-start
-    part-inner-end
-    mul-inner-2
-    sub-inner-2
-    part-inner-start-2
-    part-inner-end-2
-    inner-requires
-    same-length
-    same-length-2
-    returns)
+    tie.close (tie.spec
+    (λ c κs. search needs) (λ c κs. search needs) (λ c κs. search needs) (λ c. search needs) (λ c. search needs) (λ c. search needs)
+    (λ c. search needs) (λ c. search needs) (λ c. search needs) (λ c. search needs) (λ c. search needs) inner-requires same-length
+    same-length-2 returns)

@@ -1,4 +1,5 @@
--- `response_limits::rows::run` meets its contract. The first loop fills the naturals from the front, and the second the limits. Assumes nothing.
+-- `response_limits::rows::run` meets its contract. The first loop fills the naturals from the front, and the second the limits. Assumes
+-- nothing.
 use mathlib.Core.Path.{refl, sym, ap}
 use Prim.Native.Nat.{_+_, _-_, _<_, _≤_}
 use native.Mathlib.Omega.{arith}
@@ -35,14 +36,8 @@ abbrev μ-loop2 : tie.MeasureT-loop2
 loop-holds : tie.Need-loop-holds Inv-loop μ-loop Inv-loop2 μ-loop2
 loop-holds c = (search needs, prefix-none _ _ _ refl, prefix-none _ _ _ refl, prefix-none _ _ _ refl, prefix-none _ _ _ refl)
 
-add-samples : tie.Need-add-samples Inv-loop μ-loop Inv-loop2 μ-loop2
-add-samples c = search needs
-
 samples-requires : tie.Need-samples-requires Inv-loop μ-loop Inv-loop2 μ-loop2
 samples-requires c κs = let p = c .before .before .before .before .pre in (p .0 .0, p .1 .1 _ (c .loop-test .taken))
-
-add-samples-2 : tie.Need-add-samples-2 Inv-loop μ-loop Inv-loop2 μ-loop2
-add-samples-2 c = search needs
 
 samples-requires-2 : tie.Need-samples-requires-2 Inv-loop μ-loop Inv-loop2 μ-loop2
 samples-requires-2 c κs = let p = c .before .before .before .before .before .pre in (p .0 .1, p .1 .1 _ (c .before .loop-test .taken))
@@ -50,40 +45,11 @@ samples-requires-2 c κs = let p = c .before .before .before .before .before .pr
 limits-requires : tie.Need-limits-requires Inv-loop μ-loop Inv-loop2 μ-loop2
 limits-requires c κs = (c .before .samples .ensures .cross-small, c .samples2 .ensures .cross-small)
 
-mul-a : tie.Need-mul-a Inv-loop μ-loop Inv-loop2 μ-loop2
-mul-a c = search needs
-
-array-write-a : tie.Need-array-write-a Inv-loop μ-loop Inv-loop2 μ-loop2
-array-write-a c = search needs
-
-mul-b : tie.Need-mul-b Inv-loop μ-loop Inv-loop2 μ-loop2
-mul-b c = search needs
-
-array-write-b : tie.Need-array-write-b Inv-loop μ-loop Inv-loop2 μ-loop2
-array-write-b c = search needs
-
-mul-c : tie.Need-mul-c Inv-loop μ-loop Inv-loop2 μ-loop2
-mul-c c = search needs
-
-array-write-c : tie.Need-array-write-c Inv-loop μ-loop Inv-loop2 μ-loop2
-array-write-c c = search needs
-
-mul-d : tie.Need-mul-d Inv-loop μ-loop Inv-loop2 μ-loop2
-mul-d c = search needs
-
-array-write-d : tie.Need-array-write-d Inv-loop μ-loop Inv-loop2 μ-loop2
-array-write-d c = search needs
-
-add-j : tie.Need-add-j Inv-loop μ-loop Inv-loop2 μ-loop2
-add-j c = search needs
-
-loop-less : tie.Need-loop-less Inv-loop μ-loop Inv-loop2 μ-loop2
-loop-less c = search needs
-
 loop-again : tie.Need-loop-again Inv-loop μ-loop Inv-loop2 μ-loop2
 loop-again c =
     let i = c .before .before .before .before .loop .inv in
-    let found = limits-found _ _ _ _ _ _ _ _ (c .before .before .samples .ensures) (c .before .samples2 .ensures) _ (c .limits .ensures) in (
+    let first = c .before .before .samples .ensures in
+    let found = limits-found _ _ _ _ _ _ _ _ first (c .before .samples2 .ensures) _ (c .limits .ensures) in (
       search needs,
       prefix-set _ _ _ _ _ (i .1) (search needs) (ap (λ (l : CellLimits). l .«low_gain») found),
       prefix-set _ _ _ _ _ (i .2) (search needs) (ap (λ (l : CellLimits). l .«low_cost») found),
@@ -93,54 +59,6 @@ loop-again c =
 
 loop2-holds : tie.Need-loop2-holds Inv-loop μ-loop Inv-loop2 μ-loop2
 loop2-holds c = (search needs, prefix-none _ _ _ refl, prefix-none _ _ _ (c .before .before .before .before .pre .1 .0 .1))
-
-mul-difference : tie.Need-mul-difference Inv-loop μ-loop Inv-loop2 μ-loop2
-mul-difference c = search needs
-
-array-read-difference : tie.Need-array-read-difference Inv-loop μ-loop Inv-loop2 μ-loop2
-array-read-difference c = search needs
-
-mul-difference-2 : tie.Need-mul-difference-2 Inv-loop μ-loop Inv-loop2 μ-loop2
-mul-difference-2 c = search needs
-
-array-read-difference-2 : tie.Need-array-read-difference-2 Inv-loop μ-loop Inv-loop2 μ-loop2
-array-read-difference-2 c = search needs
-
-difference-requires : tie.Need-difference-requires Inv-loop μ-loop Inv-loop2 μ-loop2
-difference-requires c κs = search needs
-
-mul-highs : tie.Need-mul-highs Inv-loop μ-loop Inv-loop2 μ-loop2
-mul-highs c = search needs
-
-slice-set-from-highs : tie.Need-slice-set-from-highs Inv-loop μ-loop Inv-loop2 μ-loop2
-slice-set-from-highs c = search needs
-
-mul-difference-3 : tie.Need-mul-difference-3 Inv-loop μ-loop Inv-loop2 μ-loop2
-mul-difference-3 c = search needs
-
-array-read-difference-3 : tie.Need-array-read-difference-3 Inv-loop μ-loop Inv-loop2 μ-loop2
-array-read-difference-3 c = search needs
-
-mul-difference-4 : tie.Need-mul-difference-4 Inv-loop μ-loop Inv-loop2 μ-loop2
-mul-difference-4 c = search needs
-
-array-read-difference-4 : tie.Need-array-read-difference-4 Inv-loop μ-loop Inv-loop2 μ-loop2
-array-read-difference-4 c = search needs
-
-difference-requires-2 : tie.Need-difference-requires-2 Inv-loop μ-loop Inv-loop2 μ-loop2
-difference-requires-2 c κs = search needs
-
-mul-t33 : tie.Need-mul-t33 Inv-loop μ-loop Inv-loop2 μ-loop2
-mul-t33 c = search needs
-
-slice-set-from-highs-2 : tie.Need-slice-set-from-highs-2 Inv-loop μ-loop Inv-loop2 μ-loop2
-slice-set-from-highs-2 c = search needs
-
-add-i : tie.Need-add-i Inv-loop μ-loop Inv-loop2 μ-loop2
-add-i c = search needs
-
-loop2-less : tie.Need-loop2-less Inv-loop μ-loop Inv-loop2 μ-loop2
-loop2-less c = search needs
 
 loop2-again : tie.Need-loop2-again Inv-loop μ-loop Inv-loop2 μ-loop2
 loop2-again c =
@@ -152,10 +70,12 @@ loop2-again c =
     let inner = pre .1 .1 (at .loop2 .i) (search needs) in (
       search needs,
       prefix-set _ _ _ _ _ (at .loop2 .inv .1) (search needs)
-          (low-found _ _ _ _ _ _ _ own inner _ _ (prefix-at _ _ _ _ _ _ (first .loop .inv .1) l) (prefix-at _ _ _ _ _ _ (first .loop .inv .2) l) _
+          (low-found _ _ _ _ _ _ _ own inner _ _ (prefix-at _ _ _ _ _ _ (first .loop .inv .1) l)
+          (prefix-at _ _ _ _ _ _ (first .loop .inv .2) l) _
           (stored _ _ (c .before .difference .ok) (c .before .difference .ensures))),
       prefix-set _ _ _ _ _ (at .loop2 .inv .2) (search needs)
-          (high-found _ _ _ _ _ _ _ own inner _ _ (prefix-at _ _ _ _ _ _ (first .loop .inv .3) l) (prefix-at _ _ _ _ _ _ (first .loop .inv .4) l) _
+          (high-found _ _ _ _ _ _ _ own inner _ _ (prefix-at _ _ _ _ _ _ (first .loop .inv .3) l)
+          (prefix-at _ _ _ _ _ _ (first .loop .inv .4) l) _
           (stored _ _ (c .difference2 .ok) (c .difference2 .ensures))),
     )
 
@@ -174,47 +94,10 @@ returns c =
 
 pub run-spec : {M : Type 1} → statement M
 run-spec =
-    tie.close
-    (tie.spec
-    Inv-loop
-    μ-loop
-    Inv-loop2
-    μ-loop2
-    loop-holds
-    add-samples
-    samples-requires
-    add-samples-2
-    samples-requires-2
-    limits-requires
-    mul-a
-    array-write-a
-    mul-b
-    array-write-b
-    mul-c
-    array-write-c
-    mul-d
-    array-write-d
-    add-j
-    loop-less
-    loop-again
-    loop2-holds
-    mul-difference
-    array-read-difference
-    mul-difference-2
-    array-read-difference-2
-    difference-requires
-    mul-highs
-    slice-set-from-highs
-    mul-difference-3
-    array-read-difference-3
-    mul-difference-4
-    array-read-difference-4
-    difference-requires-2
-    mul-t33
-    slice-set-from-highs-2
-    add-i
-    loop2-less
-    loop2-again
-    same-length
-    same-length-2
-    returns)
+    tie.close (tie.spec
+    Inv-loop μ-loop Inv-loop2 μ-loop2 loop-holds (λ c. search needs) samples-requires (λ c. search needs) samples-requires-2
+    limits-requires (λ c. search needs) (λ c. search needs) (λ c. search needs) (λ c. search needs) (λ c. search needs)
+    (λ c. search needs) (λ c. search needs) (λ c. search needs) (λ c. search needs) (λ c. search needs) loop-again loop2-holds
+    (λ c. search needs) (λ c. search needs) (λ c. search needs) (λ c. search needs) (λ c κs. search needs) (λ c. search needs)
+    (λ c. search needs) (λ c. search needs) (λ c. search needs) (λ c. search needs) (λ c. search needs) (λ c κs. search needs)
+    (λ c. search needs) (λ c. search needs) (λ c. search needs) (λ c. search needs) loop2-again same-length same-length-2 returns)

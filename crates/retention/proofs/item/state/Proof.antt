@@ -9,9 +9,6 @@ returns : tie.Need-returns
 unfolding stateOf
 returns c = rw (lt-ltb (c .before .args .time) (c .before .args .start) (c .if1 .taken))
 
-stays-requires : tie.Need-stays-requires
-stays-requires c κs = search needs
-
 returns-2 : tie.Need-returns-2
 unfolding stateOf
 returns-2 c =
@@ -25,4 +22,4 @@ returns-3 c =
     rw (le-ltb (a .time) (a .start) (c .before .before .if1 .left), ← c .before .stays .ensures, c .if2 .left)
 
 pub state-spec : {M : Type 1} → statement M
-state-spec = tie.close (tie.spec returns stays-requires returns-2 returns-3)
+state-spec = tie.close (tie.spec returns (λ c κs. search needs) returns-2 returns-3)

@@ -5,12 +5,6 @@ use Rattle.retention.specs.Retention.{stays}
 use Rattle.retention.proofs.item.stays.Statement.{statement}
 use Rattle.retention.proofs.item.stays.Tie as tie
 
-add-result : tie.Need-add-result
-add-result c = search needs
-
-add-result-2 : tie.Need-add-result-2
-add-result-2 c = search needs
-
 returns : tie.Need-returns
 unfolding stays
 returns c = rw (c .match .keys1)
@@ -24,4 +18,4 @@ unfolding stays
 returns-3 c = rw (ne-eqb _ 1 (c .match .rest .0 .1), ne-eqb _ 2 (c .match .rest .1))
 
 pub stays-spec : {M : Type 1} → statement M
-stays-spec = tie.close (tie.spec add-result add-result-2 returns returns-2 returns-3)
+stays-spec = tie.close (tie.spec (λ c. search needs) (λ c. search needs) returns returns-2 returns-3)

@@ -13,12 +13,6 @@ start-at-requires c κs = whole _ _ (c .before .pre .0) .long
 shared-slice-read-holding : tie.Need-shared-slice-read-holding
 shared-slice-read-holding c = omega (arith, whole _ _ (c .before .before .before .pre .0) .long)
 
-holding-requires : tie.Need-holding-requires
-holding-requires c κs = search needs
-
-letter-of-requires : tie.Need-letter-of-requires
-letter-of-requires c κs = search needs
-
 returns : tie.Need-returns
 returns c =
     let start = c .before .before .before in
@@ -27,11 +21,4 @@ returns c =
     ∙ ap letterOf (record-told _ _ _ _ _ (pre .0) (start .start-at .ensures) (pre .1) (pre .2) (c .before .holding .ensures))
 
 pub letter-at-spec : {M : Type 1} → statement M
-letter-at-spec =
-    tie.close
-    (tie.spec
-    start-at-requires
-    shared-slice-read-holding
-    holding-requires
-    letter-of-requires
-    returns)
+letter-at-spec = tie.close (tie.spec start-at-requires shared-slice-read-holding (λ c κs. search needs) (λ c κs. search needs) returns)

@@ -9,14 +9,12 @@ use Rattle.retention.proofs.Texts.{time-refused, lines-written}
 use Rattle.retention.proofs.list.list_holdings.Statement.{statement}
 use Rattle.retention.proofs.list.list_holdings.Tie as tie
 
-time-fault-requires : tie.Need-time-fault-requires
-time-fault-requires c κs = search needs
-
 put-refusal-requires : tie.Need-put-refusal-requires
 put-refusal-requires c κs = (rw (c .before .before .time-fault .ensures) (time-small _), omega (arith, c .put-refusal-arg .given .0 .1))
 
 returns : tie.Need-returns
-returns c = time-refused _ _ _ _ _ (c .before .before .before .time-fault .ensures) (c .before .before .if1 .taken) (c .put-refusal .ensures)
+returns c =
+    time-refused _ _ _ _ _ (c .before .before .before .time-fault .ensures) (c .before .before .if1 .taken) (c .put-refusal .ensures)
 
 slice-aggregate-number-of : tie.Need-slice-aggregate-number-of
 slice-aggregate-number-of c =
@@ -41,12 +39,5 @@ returns-2 c =
 
 pub list-holdings-spec : {M : Type 1} → statement M
 list-holdings-spec =
-    tie.close
-    (tie.spec
-    time-fault-requires
-    put-refusal-requires
-    returns
-    slice-aggregate-number-of
-    number-of-requires
-    list-records-requires
-    returns-2)
+    tie.close (tie.spec
+    (λ c κs. search needs) put-refusal-requires returns slice-aggregate-number-of number-of-requires list-records-requires returns-2)

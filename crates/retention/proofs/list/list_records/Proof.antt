@@ -6,6 +6,7 @@ use mathlib.Core.Path.{sym, _∙_}
 use lib.ListN.{length}
 use borrow.Author.Needs.{needs}
 use Rattle.listing.proofs.Appending.{wrote-length}
+use Rattle.retention.specs.Stream.{longestInput}
 use Rattle.retention.proofs.Records.{fault-small}
 use Rattle.retention.proofs.Texts.{Listed, listed-none, listed-all, listed-ample, listed-refused, listed-next}
 use Rattle.retention.proofs.list.list_records.Statement.{statement}
@@ -18,17 +19,11 @@ Inv-loop input time out₀ stop at₀ end₀ out at end = Listed input out₀ at
 abbrev μ-loop : tie.MeasureT-loop
 μ-loop input time out₀ stop at₀ end₀ out at end = stop - at
 
-lesser-requires : tie.Need-lesser-requires Inv-loop μ-loop
-lesser-requires c κs = search needs
-
 loop-holds : tie.Need-loop-holds Inv-loop μ-loop
 loop-holds c = listed-none _ _
 
-record-fault-requires : tie.Need-record-fault-requires Inv-loop μ-loop
-record-fault-requires c κs = search needs
-
 -- a record is left, and the buffer has a place for its line
-some : (c : tie.In-loop Inv-loop μ-loop) → c .before .loop .at < min (length (start-from-in-loop c .args .input .now)) 589832
+some : (c : tie.In-loop Inv-loop μ-loop) → c .before .loop .at < min (length (start-from-in-loop c .args .input .now)) longestInput
 some c = rw (c .before .before .lesser .ensures) at (c .loop-test .taken)
 
 ample : (c : tie.In-loop Inv-loop μ-loop) → c .before .loop .end + 11 ≤ length (c .before .loop .out)
@@ -76,20 +71,6 @@ returns-2 c = listed-all _ _ _ _ _ (c .before .loop .inv) (rw (c .before .before
 
 pub list-records-spec : {M : Type 1} → statement M
 list-records-spec =
-    tie.close
-    (tie.spec
-    Inv-loop
-    μ-loop
-    lesser-requires
-    loop-holds
-    record-fault-requires
-    put-refusal-requires
-    same-length
-    returns
-    letter-at-requires
-    put-letter-requires
-    add-at
-    loop-less
-    loop-again
-    same-length-2
-    returns-2)
+    tie.close (tie.spec
+    Inv-loop μ-loop (λ c κs. search needs) loop-holds (λ c κs. search needs) put-refusal-requires same-length returns letter-at-requires
+    put-letter-requires add-at loop-less loop-again same-length-2 returns-2)

@@ -6,17 +6,8 @@ use Rattle.retention.proofs.Texts.{letter-written}
 use Rattle.retention.proofs.list.put_letter.Statement.{statement}
 use Rattle.retention.proofs.list.put_letter.Tie as tie
 
-slice-write-out : tie.Need-slice-write-out
-slice-write-out c = search needs
-
-add-out : tie.Need-add-out
-add-out c = search needs
-
 slice-write-out-2 : tie.Need-slice-write-out-2
 slice-write-out-2 c = simp length-set (omega arith)
-
-add-result : tie.Need-add-result
-add-result c = search needs
 
 same-length : tie.Need-same-length
 same-length c = search needs
@@ -25,5 +16,4 @@ returns : tie.Need-returns
 returns c = letter-written _ _ _ (c .pre)
 
 pub put-letter-spec : {M : Type 1} → statement M
-put-letter-spec =
-    tie.close (tie.spec slice-write-out add-out slice-write-out-2 add-result same-length returns)
+put-letter-spec = tie.close (tie.spec (λ c. search needs) (λ c. search needs) slice-write-out-2 (λ c. search needs) same-length returns)

@@ -9,9 +9,6 @@ use Rattle.retention.proofs.list.put_refusal.Statement.{statement}
 use Rattle.retention.proofs.list.put_refusal.Tie as tie
 use Landmarks.*
 
-write-refusal-requires : tie.Need-write-refusal-requires
-write-refusal-requires c κs = search needs
-
 add-end : tie.Need-add-end
 add-end c = omega (arith, text-short _ (start-from-add-end c .pre .0) _ _ _ (c .write-refusal .ensures))
 
@@ -20,12 +17,6 @@ array-share-prefix-text c = text-fits _ (start-from-array-share-prefix-text c .p
 
 slice-aggregate-copy : tie.Need-slice-aggregate-copy
 slice-aggregate-copy c = sym (length-take-le _ _ (array-share-prefix-text (c .before)))
-
-sub-copy : tie.Need-sub-copy
-sub-copy c = search needs
-
-part-copy-start : tie.Need-part-copy-start
-part-copy-start c = search needs
 
 part-copy-end : tie.Need-part-copy-end
 part-copy-end c =
@@ -47,15 +38,6 @@ returns c =
 
 pub put-refusal-spec : {M : Type 1} → statement M
 put-refusal-spec =
-    tie.close
-    (tie.spec
-    write-refusal-requires
-    add-end
-    array-share-prefix-text
-    slice-aggregate-copy
-    sub-copy
-    part-copy-start
-    part-copy-end
-    copy-requires
-    same-length
-    returns)
+    tie.close (tie.spec
+    (λ c κs. search needs) add-end array-share-prefix-text slice-aggregate-copy (λ c. search needs) (λ c. search needs) part-copy-end
+    copy-requires same-length returns)

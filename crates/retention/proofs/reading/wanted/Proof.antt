@@ -30,12 +30,6 @@ returns c =
     passing-stops _ _ _ (turn .before .loop .inv) (turn .loop-test .taken) (λ z. test .if1 .taken (test .before .item-fault .ensures ∙ z)) _
     (c .wanted-item .ensures)
 
-add-passed : tie.Need-add-passed Inv-loop μ-loop
-add-passed c = search needs
-
-loop-less : tie.Need-loop-less Inv-loop μ-loop
-loop-less c = omega arith
-
 loop-again : tie.Need-loop-again Inv-loop μ-loop
 loop-again c =
     let turn = c .before .before in
@@ -46,15 +40,6 @@ returns-2 c = passing-all _ _ _ (c .before .loop .inv) (c .loop-test .left)
 
 pub wanted-spec : {M : Type 1} → statement M
 wanted-spec =
-    tie.close
-    (tie.spec
-    Inv-loop
-    μ-loop
-    loop-holds
-    item-fault-requires
-    wanted-item-requires
-    returns
-    add-passed
-    loop-less
-    loop-again
+    tie.close (tie.spec
+    Inv-loop μ-loop loop-holds item-fault-requires wanted-item-requires returns (λ c. search needs) (λ c. omega arith) loop-again
     returns-2)

@@ -9,37 +9,27 @@ returns : tie.Need-returns
 unfolding wantedRecord
 returns c = rw (le-leb _ _ (c .if1 .taken))
 
-shared-slice-read-is-known : tie.Need-shared-slice-read-is-known
-shared-slice-read-is-known c = search needs
-
-is-known-requires : tie.Need-is-known-requires
-is-known-requires c κs = search needs
-
 returns-2 : tie.Need-returns-2
 unfolding wantedRecord
-returns-2 c = rw (lt-leb _ _ (c .before .before .before .if1 .left), ← c .before .is-known .ensures, not-true (c .before .is-known .result) (c .if2 .taken))
-
-add-minus : tie.Need-add-minus
-add-minus c = search needs
-
-minus-requires : tie.Need-minus-requires
-minus-requires c κs = search needs
+returns-2 c =
+    rw (
+      lt-leb _ _ (c .before .before .before .if1 .left),
+      ← c .before .is-known .ensures,
+      not-true (c .before .is-known .result) (c .if2 .taken),
+    )
 
 returns-3 : tie.Need-returns-3
 unfolding wantedRecord
 returns-3 c =
     let known = c .before .before in
-    rw (lt-leb _ _ (known .before .before .if1 .left), ← known .is-known .ensures, not-false (known .is-known .result) (c .before .if2 .left))
+    rw (
+      lt-leb _ _ (known .before .before .if1 .left),
+      ← known .is-known .ensures,
+      not-false (known .is-known .result) (c .before .if2 .left),
+    )
     (c .minus .ensures)
 
 pub wanted-record-spec : {M : Type 1} → statement M
 wanted-record-spec =
-    tie.close
-    (tie.spec
-    returns
-    shared-slice-read-is-known
-    is-known-requires
-    returns-2
-    add-minus
-    minus-requires
-    returns-3)
+    tie.close (tie.spec
+    returns (λ c. search needs) (λ c κs. search needs) returns-2 (λ c. search needs) (λ c κs. search needs) returns-3)

@@ -6,6 +6,7 @@ use native.Mathlib.Omega.{arith}
 use borrow.Author.Needs.{needs}
 use borrow.Author.Tests.{not-true, not-false}
 use lib.ListN.{length}
+use Rattle.lists.specs.Limits.{largestSide, largestMap, largestRing}
 use Rattle.lists.specs.Places.{Place}
 use Rattle.lists.proofs.Tab.{part-length}
 use Rattle.ring.proofs.Places.{ring-fits, ring-small}
@@ -22,7 +23,7 @@ start c = c .before .before .before .before .before .before
 abbrev pixel : tie.Start → Place
 pixel a = record { x = a .args .x; y = a .args .y }
 
-small : (a : tie.Start) → (a .args .ring ≤ 10) × (a .args .x < 4096) × (a .args .y < 4096)
+small : (a : tie.Start) → (a .args .ring ≤ largestRing) × (a .args .x < largestSide) × (a .args .y < largestSide)
 small a =
     let g = a .pre in
     (ring-small _ (ring-fits _ (g .known)), omega (arith, g .column, g .image .narrow), omega (arith, g .row, g .image .low))
@@ -46,32 +47,29 @@ at a = (a .args .y - a .args .row + a .args .ring) * a .args .w + (a .args .x - 
 found : (c : tie.Else2) → at (start c) < length (start c .args .map .now)
 found c = in-cells _ _ _ _ (pixel (start c)) _ (start c .pre) (place (start c)) (across c) (down c)
 
-near : (c : tie.Else2) → at (start c) < 16777216
+near : (c : tie.Else2) → at (start c) < largestMap
 near c = let g = start c .pre in omega (arith, found c, g .cells, area-le _ _ (g .image .narrow) (g .image .low))
 
 is-fit-requires : tie.Need-is-fit-requires
 is-fit-requires c κs = let s = small (c .before .before) in (s .0, s .1)
 
 returns : tie.Need-returns
-returns c = alone-across _ _ _ _ _ _ (c .before .before .before .before .pre) _ (sym (c .before .is-fit .ensures) ∙ not-true _ (c .if1 .taken))
+returns c =
+    alone-across _ _ _ _ _ _ (c .before .before .before .before .pre) _ (sym (c .before .is-fit .ensures) ∙ not-true _ (c .if1 .taken))
 
 is-fit-requires-2 : tie.Need-is-fit-requires-2
 is-fit-requires-2 c κs = let s = small (c .before .before .before .before) in (s .0, s .2)
 
 returns-2 : tie.Need-returns-2
-returns-2 c = alone-down _ _ _ _ _ _ (c .before .before .before .before .before .before .pre) _ (sym (c .before .is-fit2 .ensures) ∙ not-true _ (c .if2 .taken))
+returns-2 c =
+    alone-down _ _ _ _ _ _ (c .before .before .before .before .before .before .pre) _
+    (sym (c .before .is-fit2 .ensures) ∙ not-true _ (c .if2 .taken))
 
 sub-i : tie.Need-sub-i
 sub-i c = reached c .0
 
-add-i : tie.Need-add-i
-add-i c = search needs
-
 sub-j : tie.Need-sub-j
 sub-j c = reached c .1
-
-add-j : tie.Need-add-j
-add-j c = search needs
 
 mul-a : tie.Need-mul-a
 mul-a c = omega (arith, near c)
@@ -82,26 +80,11 @@ add-a c = omega (arith, near c)
 add-e : tie.Need-add-e
 add-e c = omega (arith, near c)
 
-add-chess-response-u8-patch : tie.Need-add-chess-response-u8-patch
-add-chess-response-u8-patch c = search needs
-
-add-chess-response-u8-patch-2 : tie.Need-add-chess-response-u8-patch-2
-add-chess-response-u8-patch-2 c = search needs
-
 mul-chess-response-u8-patch : tie.Need-mul-chess-response-u8-patch
 mul-chess-response-u8-patch c = omega (arith, near c)
 
-sub-chess-response-u8-patch : tie.Need-sub-chess-response-u8-patch
-sub-chess-response-u8-patch c = search needs
-
-part-chess-response-u8-patch-start : tie.Need-part-chess-response-u8-patch-start
-part-chess-response-u8-patch-start c = search needs
-
 part-chess-response-u8-patch-end : tie.Need-part-chess-response-u8-patch-end
 part-chess-response-u8-patch-end c = omega (arith, found c)
-
-chess-response-u8-patch-requires : tie.Need-chess-response-u8-patch-requires
-chess-response-u8-patch-requires c κs = search needs
 
 same-length : tie.Need-same-length
 same-length c = search needs
@@ -114,25 +97,7 @@ returns-3 c =
 
 pub redo-spec : {M : Type 1} → statement M
 redo-spec =
-    tie.close
-    (tie.spec
-    is-fit-requires
-    returns
-    is-fit-requires-2
-    returns-2
-    sub-i
-    add-i
-    sub-j
-    add-j
-    mul-a
-    add-a
-    add-e
-    add-chess-response-u8-patch
-    add-chess-response-u8-patch-2
-    mul-chess-response-u8-patch
-    sub-chess-response-u8-patch
-    part-chess-response-u8-patch-start
-    part-chess-response-u8-patch-end
-    chess-response-u8-patch-requires
-    same-length
-    returns-3)
+    tie.close (tie.spec
+    is-fit-requires returns is-fit-requires-2 returns-2 sub-i (λ c. search needs) sub-j (λ c. search needs) mul-a add-a add-e
+    (λ c. search needs) (λ c. search needs) mul-chess-response-u8-patch (λ c. search needs) (λ c. search needs)
+    part-chess-response-u8-patch-end (λ c κs. search needs) same-length returns-3)

@@ -33,12 +33,6 @@ add-n c =
     let l = c .before .before .before .before .before .before in
     omega (arith, l .loop .inv .0, l .loop .inv .1 .few, c .before .before .redo .ensures .1 .1)
 
-add-k : tie.Need-add-k Inv-loop μ-loop
-add-k c = search needs
-
-loop-less : tie.Need-loop-less Inv-loop μ-loop
-loop-less c = search needs
-
 loop-again : tie.Need-loop-again Inv-loop μ-loop
 loop-again c =
     let l = c .before .before .before .before .before .before in
@@ -49,23 +43,14 @@ loop-again c =
     )
 
 same-length : tie.Need-same-length Inv-loop μ-loop
-same-length c = passed-length _ _ _ _ (ringOf-is _) _ _ _ _ _ (c .before .loop .inv .1) ∙ sym (c .before .before .before .before .pre .cells)
+same-length c =
+    passed-length _ _ _ _ (ringOf-is _) _ _ _ _ _ (c .before .loop .inv .1) ∙ sym (c .before .before .before .before .pre .cells)
 
 returns : tie.Need-returns Inv-loop μ-loop
 returns c = passed-all _ _ _ _ (ringOf-is _) _ _ _ _ _ (c .before .loop .inv .1) (c .loop-test .left)
 
 pub redo-touched-spec : {M : Type 1} → statement M
 redo-touched-spec =
-    tie.close
-    (tie.spec
-    Inv-loop
-    μ-loop
-    loop-holds
-    sample-place-requires
-    redo-requires
-    add-n
-    add-k
-    loop-less
-    loop-again
-    same-length
+    tie.close (tie.spec
+    Inv-loop μ-loop loop-holds sample-place-requires redo-requires add-n (λ c. search needs) (λ c. search needs) loop-again same-length
     returns)

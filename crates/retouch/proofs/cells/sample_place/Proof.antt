@@ -20,35 +20,11 @@ table c = c .before .before .before .ring-offsets .ensures
 radius : (c : tie.After-struct-known) → c .before .before .before .ring-offsets .result .radius ≡ ringOf (start c .args .ring) .radius
 radius c = ap (λ (o : RingOffsets). o .radius) (table c)
 
-ring-offsets-requires : tie.Need-ring-offsets-requires
-ring-offsets-requires c κs = search needs
-
-cast-radius : tie.Need-cast-radius
-cast-radius c = search needs
-
 sub-t8 : tie.Need-sub-t8
 sub-t8 c = omega (arith, radius (c .before), start (c .before) .pre)
 
-add-t9 : tie.Need-add-t9
-add-t9 c = search needs
-
-add-t10 : tie.Need-add-t10
-add-t10 c = search needs
-
 sub-t11 : tie.Need-sub-t11
 sub-t11 c = omega (arith, radius (c .before), start (c .before) .pre)
-
-array-read-t14 : tie.Need-array-read-t14
-array-read-t14 c = search needs
-
-cast-t15 : tie.Need-cast-t15
-cast-t15 c = search needs
-
-array-read-t18 : tie.Need-array-read-t18
-array-read-t18 c = search needs
-
-cast-t19 : tie.Need-cast-t19
-cast-t19 c = search needs
 
 returns : tie.Need-returns
 returns c = rw (radius (c .before)) (cross-place _ (ringOf-is _) _ 0 (c .match .keys1))
@@ -70,21 +46,6 @@ returns-6 c = rw (table (c .before)) (ring-place _ (ringOf-is _) _ (search needs
 
 pub sample-place-spec : {M : Type 1} → statement M
 sample-place-spec =
-    tie.close
-    (tie.spec
-    ring-offsets-requires
-    cast-radius
-    sub-t8
-    add-t9
-    add-t10
-    sub-t11
-    array-read-t14
-    cast-t15
-    array-read-t18
-    cast-t19
-    returns
-    returns-2
-    returns-3
-    returns-4
-    returns-5
-    returns-6)
+    tie.close (tie.spec
+    (λ c κs. search needs) (λ c. search needs) sub-t8 (λ c. search needs) (λ c. search needs) sub-t11 (λ c. search needs)
+    (λ c. search needs) (λ c. search needs) (λ c. search needs) returns returns-2 returns-3 returns-4 returns-5 returns-6)

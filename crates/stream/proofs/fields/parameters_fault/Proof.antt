@@ -7,27 +7,6 @@ use borrow.Author.Needs.{needs}
 use Rattle.stream.proofs.fields.parameters_fault.Statement.{statement}
 use Rattle.stream.proofs.fields.parameters_fault.Tie as tie
 
-shared-slice-read-range-fault : tie.Need-shared-slice-read-range-fault
-shared-slice-read-range-fault c = search needs
-
-shared-slice-read-range-fault-2 : tie.Need-shared-slice-read-range-fault-2
-shared-slice-read-range-fault-2 c = search needs
-
-shared-slice-read-range-fault-3 : tie.Need-shared-slice-read-range-fault-3
-shared-slice-read-range-fault-3 c = search needs
-
-range-fault-requires : tie.Need-range-fault-requires
-range-fault-requires c κs = search needs
-
-u32-at-requires : tie.Need-u32-at-requires
-u32-at-requires c κs = search needs
-
-radius-fault-requires : tie.Need-radius-fault-requires
-radius-fault-requires c κs = search needs
-
-first-requires : tie.Need-first-requires
-first-requires c κs = search needs
-
 returns : tie.Need-returns
 returns c =
     let radius = c .before in
@@ -39,13 +18,6 @@ returns c =
 
 pub parameters-fault-spec : {M : Type 1} → statement M
 parameters-fault-spec =
-    tie.close
-    (tie.spec
-    shared-slice-read-range-fault
-    shared-slice-read-range-fault-2
-    shared-slice-read-range-fault-3
-    range-fault-requires
-    u32-at-requires
-    radius-fault-requires
-    first-requires
-    returns)
+    tie.close (tie.spec
+    (λ c. search needs) (λ c. search needs) (λ c. search needs) (λ c κs. search needs) (λ c κs. search needs) (λ c κs. search needs)
+    (λ c κs. search needs) returns)

@@ -6,19 +6,13 @@ use borrow.Author.Needs.{needs}
 use Rattle.stream.proofs.fields.u16_at.Statement.{statement}
 use Rattle.stream.proofs.fields.u16_at.Tie as tie
 
-shared-slice-read-low : tie.Need-shared-slice-read-low
-shared-slice-read-low c = search needs
-
-add-high : tie.Need-add-high
-add-high c = search needs
-
-shared-slice-read-high : tie.Need-shared-slice-read-high
-shared-slice-read-high c = search needs
-
 bytes : (c : tie.After-shared-slice-known2)
     → (getD (c .before .before .args .s .now) (c .before .before .args .at) 0 < 256)
     × (getD (c .before .before .args .s .now) (c .before .before .args .at + 1) 0 < 256)
-bytes c = (c .shared-slice-known2 .given (c .before .before .args .at) .fits, c .shared-slice-known2 .given (c .before .before .args .at + 1) .fits)
+bytes c = (
+  c .shared-slice-known2 .given (c .before .before .args .at) .fits,
+  c .shared-slice-known2 .given (c .before .before .args .at + 1) .fits,
+)
 
 cast-result : tie.Need-cast-result
 cast-result c = omega (arith, bytes c)
@@ -32,18 +26,7 @@ mul-result c = omega (arith, bytes c)
 add-result : tie.Need-add-result
 add-result c = omega (arith, bytes c)
 
-returns : tie.Need-returns
-returns c = search needs
-
 pub u16-at-spec : {M : Type 1} → statement M
 u16-at-spec =
-    tie.close
-    (tie.spec
-    shared-slice-read-low
-    add-high
-    shared-slice-read-high
-    cast-result
-    cast-result-2
-    mul-result
-    add-result
-    returns)
+    tie.close (tie.spec
+    (λ c. search needs) (λ c. search needs) (λ c. search needs) cast-result cast-result-2 mul-result add-result (λ c. search needs))

@@ -1,9 +1,11 @@
--- `stream::judging::judge` meets its contract. The invariant: where the reader stands. The measure is what is left of the stream. Assumes nothing.
+-- `stream::judging::judge` meets its contract. The invariant: where the reader stands. The measure is what is left of the stream. Assumes
+-- nothing.
 use Prim.Native.Nat.{_+_, _-_, _≤_}
 use native.Mathlib.Omega.{arith}
 use lib.ListN.{length}
 use Rattle.stream.specs.Stream.{bodyLength}
-use Rattle.stream.proofs.Order.{Standing, standing-start, standing-end, standing-faulty, standing-long, standing-sides, standing-next}
+use Rattle.stream.proofs.Order.{Standing, standing-start, standing-end, standing-faulty, standing-long, standing-sides}
+use Rattle.stream.proofs.Order.{standing-next}
 use borrow.Author.Needs.{needs}
 use Rattle.stream.proofs.judging.judge.Statement.{statement}
 use Rattle.stream.proofs.judging.judge.Tie as tie
@@ -16,12 +18,6 @@ abbrev μ-loop : tie.MeasureT-loop
 
 loop-holds : tie.Need-loop-holds Inv-loop μ-loop
 loop-holds c = standing-start (c .before .args .input .now)
-
-due-after-requires : tie.Need-due-after-requires Inv-loop μ-loop
-due-after-requires c κs = search needs
-
-record-fault-requires : tie.Need-record-fault-requires Inv-loop μ-loop
-record-fault-requires c κs = search needs
 
 returns : tie.Need-returns Inv-loop μ-loop
 returns c =
@@ -41,9 +37,6 @@ long c =
 
 add-at : tie.Need-add-at Inv-loop μ-loop
 add-at c = omega (arith, long c)
-
-body-length-requires : tie.Need-body-length-requires Inv-loop μ-loop
-body-length-requires c κs = search needs
 
 add-at-2 : tie.Need-add-at-2 Inv-loop μ-loop
 add-at-2 c = omega (arith, long (c .before), c .body-length .ensures)
@@ -71,18 +64,6 @@ returns-2 c = standing-end (c .before .loop .inv) (c .loop-test .left)
 
 pub judge-spec : {M : Type 1} → statement M
 judge-spec =
-    tie.close
-    (tie.spec
-    Inv-loop
-    μ-loop
-    loop-holds
-    due-after-requires
-    record-fault-requires
-    returns
-    add-at
-    body-length-requires
-    add-at-2
-    left-after-requires
-    loop-less
-    loop-again
-    returns-2)
+    tie.close (tie.spec
+    Inv-loop μ-loop loop-holds (λ c κs. search needs) (λ c κs. search needs) returns add-at (λ c κs. search needs) add-at-2
+    left-after-requires loop-less loop-again returns-2)

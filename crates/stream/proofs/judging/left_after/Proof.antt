@@ -6,9 +6,6 @@ use borrow.Author.Needs.{needs}
 use Rattle.stream.proofs.judging.left_after.Statement.{statement}
 use Rattle.stream.proofs.judging.left_after.Tie as tie
 
-pixel-count-requires : tie.Need-pixel-count-requires
-pixel-count-requires c κs = search needs
-
 returns : tie.Need-returns
 unfolding leftAfter
 returns c = rw (c .before .match .keys1) (c .pixel-count .ensures)
@@ -26,4 +23,4 @@ unfolding leftAfter
 returns-4 c = rw (ne-eqb _ 1 (c .match .rest .0 .1), ne-eqb _ 3 (c .match .rest .1))
 
 pub left-after-spec : {M : Type 1} → statement M
-left-after-spec = tie.close (tie.spec pixel-count-requires returns returns-2 returns-3 returns-4)
+left-after-spec = tie.close (tie.spec (λ c κs. search needs) returns returns-2 returns-3 returns-4)

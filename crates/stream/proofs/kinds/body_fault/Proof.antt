@@ -14,9 +14,6 @@ parameters-fault-requires : tie.Need-parameters-fault-requires
 unfolding bodyLength
 parameters-fault-requires c κs = c .before .before .pre ∙ ap bodyLength (c .match .keys2)
 
-padding-fault-requires : tie.Need-padding-fault-requires
-padding-fault-requires c κs = search needs
-
 returns : tie.Need-returns
 unfolding bodyFault
 returns c = rw (c .before .match .keys1) (c .sides-fault .ensures)
@@ -35,12 +32,5 @@ returns-4 c = rw (ne-eqb _ 1 (c .match .rest .0 .0 .1), ne-eqb _ 2 (c .match .re
 
 pub body-fault-spec : {M : Type 1} → statement M
 body-fault-spec =
-    tie.close
-    (tie.spec
-    sides-fault-requires
-    parameters-fault-requires
-    padding-fault-requires
-    returns
-    returns-2
-    returns-3
-    returns-4)
+    tie.close (tie.spec
+    sides-fault-requires parameters-fault-requires (λ c κs. search needs) returns returns-2 returns-3 returns-4)

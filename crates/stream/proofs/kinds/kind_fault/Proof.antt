@@ -7,11 +7,21 @@ use Rattle.stream.proofs.kinds.kind_fault.Tie as tie
 
 returns : tie.Need-returns
 unfolding kindFault
-returns c = rw (le-leb 1 _ (c .before .before .if1 .left), le-leb (c .before .before .before .args .kind) 4 (omega arith), eq-eqb _ _ (c .if3 .taken))
+returns c =
+    rw (
+      le-leb 1 _ (c .before .before .if1 .left),
+      le-leb (c .before .before .before .args .kind) 4 (omega arith),
+      eq-eqb _ _ (c .if3 .taken),
+    )
 
 returns-2 : tie.Need-returns-2
 unfolding kindFault
-returns-2 c = rw (le-leb 1 _ (c .before .before .if1 .left), le-leb (c .before .before .before .args .kind) 4 (omega arith), ne-eqb _ _ (c .if3 .left))
+returns-2 c =
+    rw (
+      le-leb 1 _ (c .before .before .if1 .left),
+      le-leb (c .before .before .before .args .kind) 4 (omega arith),
+      ne-eqb _ _ (c .if3 .left),
+    )
 
 returns-3 : tie.Need-returns-3
 unfolding kindFault

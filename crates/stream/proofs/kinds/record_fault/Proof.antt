@@ -12,27 +12,13 @@ returns c =
     let a = c .before .before .args in
     sym (fault-end (a .due) (a .left) (a .input .now) (a .at) (c .if1 .taken))
 
-shared-slice-read-kind-fault : tie.Need-shared-slice-read-kind-fault
-shared-slice-read-kind-fault c = search needs
-
-kind-fault-requires : tie.Need-kind-fault-requires
-kind-fault-requires c κs = search needs
-
 returns-2 : tie.Need-returns-2
 returns-2 c =
     let kind = c .before in
     let a = kind .before .before .before .before .args in
     kind .kind-fault .ensures
-    ∙ sym (fault-kind (a .due) (a .left) (a .input .now) (a .at) (kind .before .before .if1 .left) (λ e. c .if2 .taken (kind .kind-fault .ensures ∙ e)))
-
-add-start : tie.Need-add-start
-add-start c = search needs
-
-body-length-requires : tie.Need-body-length-requires
-body-length-requires c κs = search needs
-
-sub-if3 : tie.Need-sub-if3
-sub-if3 c = search needs
+    ∙ sym (fault-kind (a .due) (a .left) (a .input .now) (a .at) (kind .before .before .if1 .left)
+    (λ e. c .if2 .taken (kind .kind-fault .ensures ∙ e)))
 
 returns-3 : tie.Need-returns-3
 returns-3 c =
@@ -41,21 +27,6 @@ returns-3 c =
     let a = kind .before .before .before .before .args in
     sym (fault-cut (a .due) (a .left) (a .input .now) (a .at) (kind .before .before .if1 .left)
     (sym (kind .kind-fault .ensures) ∙ count .before .if2 .left) (omega (arith, count .body-length .ensures)))
-
-add-end : tie.Need-add-end
-add-end c = search needs
-
-sub-body-fault : tie.Need-sub-body-fault
-sub-body-fault c = search needs
-
-part-body-fault-start : tie.Need-part-body-fault-start
-part-body-fault-start c = search needs
-
-part-body-fault-end : tie.Need-part-body-fault-end
-part-body-fault-end c = search needs
-
-body-fault-requires : tie.Need-body-fault-requires
-body-fault-requires c κs = search needs
 
 returns-4 : tie.Need-returns-4
 returns-4 c =
@@ -70,19 +41,6 @@ returns-4 c =
 
 pub record-fault-spec : {M : Type 1} → statement M
 record-fault-spec =
-    tie.close
-    (tie.spec
-    returns
-    shared-slice-read-kind-fault
-    kind-fault-requires
-    returns-2
-    add-start
-    body-length-requires
-    sub-if3
-    returns-3
-    add-end
-    sub-body-fault
-    part-body-fault-start
-    part-body-fault-end
-    body-fault-requires
-    returns-4)
+    tie.close (tie.spec
+    returns (λ c. search needs) (λ c κs. search needs) returns-2 (λ c. search needs) (λ c κs. search needs) (λ c. search needs)
+    returns-3 (λ c. search needs) (λ c. search needs) (λ c. search needs) (λ c. search needs) (λ c κs. search needs) returns-4)

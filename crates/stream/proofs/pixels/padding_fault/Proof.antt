@@ -15,22 +15,10 @@ Inv-loop body left i₀ i = paddingFault left body ≡ paddingFault i body
 abbrev μ-loop : tie.MeasureT-loop
 μ-loop body left i₀ i = length body - i
 
-loop-holds : tie.Need-loop-holds Inv-loop μ-loop
-loop-holds c = refl
-
-shared-slice-read-if1 : tie.Need-shared-slice-read-if1 Inv-loop μ-loop
-shared-slice-read-if1 c = search needs
-
 returns : tie.Need-returns Inv-loop μ-loop
 returns c =
     let at = c .before .before .before in
     sym (at .loop .inv ∙ padding-hit (at .before .args .body .now) (at .loop .i) (c .before .before .loop-test .taken) (c .if1 .taken))
-
-add-i : tie.Need-add-i Inv-loop μ-loop
-add-i c = search needs
-
-loop-less : tie.Need-loop-less Inv-loop μ-loop
-loop-less c = omega arith
 
 loop-again : tie.Need-loop-again Inv-loop μ-loop
 loop-again c =
@@ -42,14 +30,5 @@ returns-2 c = sym (c .before .loop .inv ∙ padding-end (c .before .before .args
 
 pub padding-fault-spec : {M : Type 1} → statement M
 padding-fault-spec =
-    tie.close
-    (tie.spec
-    Inv-loop
-    μ-loop
-    loop-holds
-    shared-slice-read-if1
-    returns
-    add-i
-    loop-less
-    loop-again
-    returns-2)
+    tie.close (tie.spec
+    Inv-loop μ-loop (λ c. refl) (λ c. search needs) returns (λ c. search needs) (λ c. omega arith) loop-again returns-2)

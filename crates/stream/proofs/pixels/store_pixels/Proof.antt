@@ -1,4 +1,5 @@
--- `stream::pixels::store_pixels` meets its contract. The invariant: the pixels passed stand first, and the buffer behind them is as it was. Assumes nothing.
+-- `stream::pixels::store_pixels` meets its contract. The invariant: the pixels passed stand first, and the buffer behind them is as it was.
+-- Assumes nothing.
 use Prim.Native.Nat.{ℕ, _+_, _-_, _/_, _<_, _≤_}
 use native.Mathlib.Omega.{arith}
 use mathlib.Core.Path.{_≡_, refl, ap, _∙_}
@@ -23,7 +24,8 @@ loop-holds : tie.Need-loop-holds Inv-loop μ-loop
 unfolding tab
 loop-holds c = (omega arith, refl, refl)
 
-in-stream : (c : tie.In-loop Inv-loop μ-loop) → 23 + c .before .loop .i + c .before .loop .i / 32 < length (c .before .before .args .input .now)
+in-stream : (c : tie.In-loop Inv-loop μ-loop)
+    → 23 + c .before .loop .i + c .before .loop .i / 32 < length (c .before .before .args .input .now)
 in-stream c =
     let start = c .before .before in
     pixel-in (start .args .n) (c .before .loop .i) (length (start .args .input .now)) (c .loop-test .taken) (start .pre .0)
@@ -36,15 +38,6 @@ add-pixels-2 c = omega (arith, in-stream c)
 
 shared-slice-read-pixels : tie.Need-shared-slice-read-pixels Inv-loop μ-loop
 shared-slice-read-pixels c = omega (arith, in-stream (c .before))
-
-slice-write-pixels : tie.Need-slice-write-pixels Inv-loop μ-loop
-slice-write-pixels c = omega arith
-
-add-i : tie.Need-add-i Inv-loop μ-loop
-add-i c = search needs
-
-loop-less : tie.Need-loop-less Inv-loop μ-loop
-loop-less c = omega arith
 
 loop-again : tie.Need-loop-again Inv-loop μ-loop
 loop-again c =
@@ -62,21 +55,11 @@ same-length c = c .before .loop .inv .1
 returns : tie.Need-returns Inv-loop μ-loop
 returns c =
     let done : c .before .loop .i ≡ c .before .before .args .n = omega arith in
-    c .before .loop .inv .2 ∙ ap (λ (k : ℕ). front (tab k (pixelByte (c .before .before .args .input .now))) (c .before .before .args .pixels .now)) done
+    c .before .loop .inv .2 ∙ ap (λ (k : ℕ). front (tab k (pixelByte (c .before .before .args .input .now)))
+    (c .before .before .args .pixels .now)) done
 
 pub store-pixels-spec : {M : Type 1} → statement M
 store-pixels-spec =
-    tie.close
-    (tie.spec
-    Inv-loop
-    μ-loop
-    loop-holds
-    add-pixels
-    add-pixels-2
-    shared-slice-read-pixels
-    slice-write-pixels
-    add-i
-    loop-less
-    loop-again
-    same-length
-    returns)
+    tie.close (tie.spec
+    Inv-loop μ-loop loop-holds add-pixels add-pixels-2 shared-slice-read-pixels (λ c. omega arith) (λ c. search needs)
+    (λ c. omega arith) loop-again same-length returns)

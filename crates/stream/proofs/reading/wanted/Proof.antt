@@ -5,14 +5,8 @@ use borrow.Author.Needs.{needs}
 use Rattle.stream.proofs.reading.wanted.Statement.{statement}
 use Rattle.stream.proofs.reading.wanted.Tie as tie
 
-judge-requires : tie.Need-judge-requires
-judge-requires c κs = search needs
-
 returns : tie.Need-returns
 returns c = sym (rw (c .if1 .taken) at (c .before .before .judge .ensures .wants))
-
-wanted-here-requires : tie.Need-wanted-here-requires
-wanted-here-requires c κs = search needs
 
 returns-2 : tie.Need-returns-2
 returns-2 c =
@@ -20,4 +14,4 @@ returns-2 c =
     c .wanted-here .ensures ∙ sym (rw (ne-eqb (judged .result .fault) 0 (c .before .if1 .left)) at (judged .ensures .wants))
 
 pub wanted-spec : {M : Type 1} → statement M
-wanted-spec = tie.close (tie.spec judge-requires returns wanted-here-requires returns-2)
+wanted-spec = tie.close (tie.spec (λ c κs. search needs) returns (λ c κs. search needs) returns-2)

@@ -19,19 +19,10 @@ of-others : (due left : ℕ) (came : List ℕ) → (due ≡ 3 → ⊥) → wante
 unfolding wantedBody
 of-others due left came h = rw (ne-eqb due 3 h)
 
-wanted-pixels-requires : tie.Need-wanted-pixels-requires
-wanted-pixels-requires c κs = search needs
-
 returns : tie.Need-returns
 returns c =
     let a = c .before .before .before .args in
     c .wanted-pixels .ensures ∙ sym (of-pixels (a .due) (a .left) (a .came .now) (c .before .if1 .taken))
-
-body-length-requires : tie.Need-body-length-requires
-body-length-requires c κs = search needs
-
-minus-requires : tie.Need-minus-requires
-minus-requires c κs = search needs
 
 returns-2 : tie.Need-returns-2
 returns-2 c =
@@ -39,6 +30,4 @@ returns-2 c =
     omega (arith, c .before .body-length .ensures, of-others (a .due) (a .left) (a .came .now) (c .before .before .if1 .left))
 
 pub wanted-body-spec : {M : Type 1} → statement M
-wanted-body-spec =
-    tie.close
-    (tie.spec wanted-pixels-requires returns body-length-requires minus-requires returns-2)
+wanted-body-spec = tie.close (tie.spec (λ c κs. search needs) returns (λ c κs. search needs) (λ c κs. search needs) returns-2)

@@ -21,7 +21,8 @@ module _ (due left : ℕ) (s : List ℕ) (at : ℕ) where
   unfolding wantedHere
   other-kind h n = rw (drop-cons s at 0 h, ne-eqb (getD s at 0) due n)
 
-  due-kind : at < length s → getD s at 0 ≡ due → wantedHere due left (drop at s) ≡ wantedBody due left (take (length s - (at + 1)) (drop (at + 1) s))
+  due-kind : at < length s → getD s at 0 ≡ due
+      → wantedHere due left (drop at s) ≡ wantedBody due left (take (length s - (at + 1)) (drop (at + 1) s))
   unfolding wantedHere
   due-kind h e =
       let all = take-all (length s - (at + 1)) (drop (at + 1) s) (omega (arith, length-drop (at + 1) s)) in
@@ -32,29 +33,11 @@ returns c =
     let a = c .before .before .args in
     sym (no-kind (a .due) (a .left) (a .input .now) (a .at) (c .if1 .taken))
 
-shared-slice-read-if2 : tie.Need-shared-slice-read-if2
-shared-slice-read-if2 c = search needs
-
 returns-2 : tie.Need-returns-2
 returns-2 c =
     let in-stream = c .before .before in
     let a = in-stream .before .before .args in
     sym (other-kind (a .due) (a .left) (a .input .now) (a .at) (in-stream .if1 .left) (c .if2 .taken))
-
-add-start : tie.Need-add-start
-add-start c = search needs
-
-sub-wanted-body : tie.Need-sub-wanted-body
-sub-wanted-body c = search needs
-
-part-wanted-body-start : tie.Need-part-wanted-body-start
-part-wanted-body-start c = search needs
-
-part-wanted-body-end : tie.Need-part-wanted-body-end
-part-wanted-body-end c = search needs
-
-wanted-body-requires : tie.Need-wanted-body-requires
-wanted-body-requires c κs = search needs
 
 returns-3 : tie.Need-returns-3
 returns-3 c =
@@ -65,14 +48,6 @@ returns-3 c =
 
 pub wanted-here-spec : {M : Type 1} → statement M
 wanted-here-spec =
-    tie.close
-    (tie.spec
-    returns
-    shared-slice-read-if2
-    returns-2
-    add-start
-    sub-wanted-body
-    part-wanted-body-start
-    part-wanted-body-end
-    wanted-body-requires
-    returns-3)
+    tie.close (tie.spec
+    returns (λ c. search needs) returns-2 (λ c. search needs) (λ c. search needs) (λ c. search needs) (λ c. search needs)
+    (λ c κs. search needs) returns-3)

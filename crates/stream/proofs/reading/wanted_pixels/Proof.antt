@@ -16,24 +16,13 @@ padding-wrong : (left : ℕ) (came : List ℕ) → (paddingFault left came ≡ 0
 unfolding wantedPixelBody
 padding-wrong left came h = rw (ne-eqb (paddingFault left came) 0 h)
 
-padding-right : (left : ℕ) (came : List ℕ) → paddingFault left came ≡ 0 → wantedPixelBody left came ≡ min (32 - length came) (suc (left - length came))
+padding-right : (left : ℕ) (came : List ℕ) → paddingFault left came ≡ 0
+    → wantedPixelBody left came ≡ min (32 - length came) (suc (left - length came))
 unfolding wantedPixelBody
 padding-right left came e = rw e
 
-padding-fault-requires : tie.Need-padding-fault-requires
-padding-fault-requires c κs = search needs
-
 returns : tie.Need-returns
 returns c = sym (padding-wrong _ _ (λ e. c .if1 .taken (c .before .padding-fault .ensures ∙ e)))
-
-minus-requires : tie.Need-minus-requires
-minus-requires c κs = search needs
-
-minus-requires-2 : tie.Need-minus-requires-2
-minus-requires-2 c κs = search needs
-
-add-result : tie.Need-add-result
-add-result c = search needs
 
 returns-2 : tie.Need-returns-2
 returns-2 c =
@@ -49,12 +38,5 @@ returns-3 c =
 
 pub wanted-pixels-spec : {M : Type 1} → statement M
 wanted-pixels-spec =
-    tie.close
-    (tie.spec
-    padding-fault-requires
-    returns
-    minus-requires
-    minus-requires-2
-    add-result
-    returns-2
-    returns-3)
+    tie.close (tie.spec
+    (λ c κs. search needs) returns (λ c κs. search needs) (λ c κs. search needs) (λ c. search needs) returns-2 returns-3)

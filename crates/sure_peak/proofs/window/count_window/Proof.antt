@@ -8,12 +8,14 @@ use lib.IntN.{ℤ, pos}
 use lib.Signed.{ltZ}
 use mir.Syntax.{w32}
 use mir.Val.{toZ, ofZ}
+use Rattle.lists.specs.Limits.{largestMap, largestWindow}
 use Rattle.lists.specs.Places.{count}
 use Rattle.lists.proofs.Rows.{CountRows, rows-start}
 use Rattle.detect.specs.Peaks.{window}
 use Rattle.sure_peak.specs.SurePeak.{fifthsIn}
 use Rattle.sure_peak.proofs.Signed.{read, test-read}
-use Rattle.sure_peak.proofs.WindowRows.{row-in, row-small, count-next, count-fits, centre-in, centre-small, centre-counted, centre-off, centre-not}
+use Rattle.sure_peak.proofs.WindowRows.{row-in, row-small, count-next, count-fits, centre-in, centre-small, centre-counted}
+use Rattle.sure_peak.proofs.WindowRows.{centre-off, centre-not}
 use borrow.Author.Needs.{needs}
 use Rattle.sure_peak.proofs.window.count_window.Statement.{statement}
 use Rattle.sure_peak.proofs.window.count_window.Tie as tie
@@ -36,31 +38,14 @@ abbrev stored : tie.Start Inv-loop μ-loop → ℤ
 stored c = toZ w32 (ofZ w32 (c .args .v))
 
 -- in a turn the row at hand begins at a small number
-small : (c : tie.In-loop Inv-loop μ-loop) → c .before .loop .yy * start (c .before) .args .w ≤ 16777216
+small : (c : tie.In-loop Inv-loop μ-loop) → c .before .loop .yy * start (c .before) .args .w ≤ largestMap
 small c = row-small _ _ _ _ _ (start (c .before) .pre) (stored (start (c .before))) _ (c .loop-test .taken)
 
-fits : (c : tie.After-count-above Inv-loop μ-loop) → turn c .before .loop .n + c .count-above .result ≤ 1089
+fits : (c : tie.After-count-above Inv-loop μ-loop) → turn c .before .loop .n + c .count-above .result ≤ largestWindow
 fits c =
     let t = turn c in
-    count-fits _ _ _ _ _ (start (t .before) .pre) (stored (start (t .before))) _ (t .loop-test .taken) _ (t .before .loop .inv) _ (c .count-above .ensures)
-
-sub-x0 : tie.Need-sub-x0 Inv-loop μ-loop
-sub-x0 c = search needs
-
-add-x1 : tie.Need-add-x1 Inv-loop μ-loop
-add-x1 c = search needs
-
-add-x1-2 : tie.Need-add-x1-2 Inv-loop μ-loop
-add-x1-2 c = search needs
-
-add-y1 : tie.Need-add-y1 Inv-loop μ-loop
-add-y1 c = search needs
-
-add-y1-2 : tie.Need-add-y1-2 Inv-loop μ-loop
-add-y1-2 c = search needs
-
-sub-yy : tie.Need-sub-yy Inv-loop μ-loop
-sub-yy c = search needs
+    count-fits _ _ _ _ _ (start (t .before) .pre) (stored (start (t .before))) _ (t .loop-test .taken) _ (t .before .loop .inv) _
+    (c .count-above .ensures)
 
 loop-holds : tie.Need-loop-holds Inv-loop μ-loop
 loop-holds c = rows-start (ltZ (toZ w32 (ofZ w32 (c .args .v)))) _ _ _ _ _ _ _
@@ -80,31 +65,17 @@ add-e c = omega (arith, small c)
 mul-count-above : tie.Need-mul-count-above Inv-loop μ-loop
 mul-count-above c = omega (arith, small c)
 
-sub-count-above : tie.Need-sub-count-above Inv-loop μ-loop
-sub-count-above c = search needs
-
-part-count-above-start : tie.Need-part-count-above-start Inv-loop μ-loop
-part-count-above-start c = search needs
-
 part-count-above-end : tie.Need-part-count-above-end Inv-loop μ-loop
 part-count-above-end c = row-in _ _ _ _ _ (start (c .before) .pre) (stored (start (c .before))) _ (c .loop-test .taken)
-
-count-above-requires : tie.Need-count-above-requires Inv-loop μ-loop
-count-above-requires c κs = search needs
 
 add-n : tie.Need-add-n Inv-loop μ-loop
 add-n c = omega (arith, fits c)
 
-add-yy : tie.Need-add-yy Inv-loop μ-loop
-add-yy c = search needs
-
-loop-less : tie.Need-loop-less Inv-loop μ-loop
-loop-less c = search needs
-
 loop-again : tie.Need-loop-again Inv-loop μ-loop
 loop-again c =
     let t = turn c in
-    count-next _ _ _ _ _ (start (t .before) .pre) (stored (start (t .before))) _ (t .loop-test .taken) _ (t .before .loop .inv) _ (c .count-above .ensures)
+    count-next _ _ _ _ _ (start (t .before) .pre) (stored (start (t .before))) _ (t .loop-test .taken) _ (t .before .loop .inv) _
+    (c .count-above .ensures)
 
 mul-if1 : tie.Need-mul-if1 Inv-loop μ-loop
 mul-if1 c = omega (arith, centre-small _ _ _ _ _ (start (c .before) .pre) (stored (start (c .before))))
@@ -131,7 +102,8 @@ module _ (c : tie.After-if12 Inv-loop μ-loop) where
   same = read (start end .args .v) (start end .fits .v .sfits)
 
   abbrev passing : ℤ → ℕ
-  passing v = let a = start end .args in count (λ q. ltZ v (fifthsIn (a .map .now) (a .w) q)) (window (a .w) (a .h) (a .r) (record { x = a .x; y = a .y }))
+  passing v = let a = start end .args in
+      count (λ q. ltZ v (fifthsIn (a .map .now) (a .w) q)) (window (a .w) (a .h) (a .r) (record { x = a .x; y = a .y }))
 
 sub-result : tie.Need-sub-result Inv-loop μ-loop
 sub-result c =
@@ -155,34 +127,8 @@ returns-2 c =
 
 pub count-window-spec : {M : Type 1} → statement M
 count-window-spec =
-    tie.close
-    (tie.spec
-    Inv-loop
-    μ-loop
-    sub-x0
-    add-x1
-    add-x1-2
-    add-y1
-    add-y1-2
-    sub-yy
-    loop-holds
-    mul-a
-    add-a
-    mul-e
-    add-e
-    mul-count-above
-    sub-count-above
-    part-count-above-start
-    part-count-above-end
-    count-above-requires
-    add-n
-    add-yy
-    loop-less
-    loop-again
-    mul-if1
-    add-if1
-    mul-if1-2
-    shared-slice-copy-out-if1
-    sub-result
-    returns
-    returns-2)
+    tie.close (tie.spec
+    Inv-loop μ-loop (λ c. search needs) (λ c. search needs) (λ c. search needs) (λ c. search needs) (λ c. search needs)
+    (λ c. search needs) loop-holds mul-a add-a mul-e add-e mul-count-above (λ c. search needs) (λ c. search needs) part-count-above-end
+    (λ c κs. search needs) add-n (λ c. search needs) (λ c. search needs) loop-again mul-if1 add-if1 mul-if1-2 shared-slice-copy-out-if1
+    sub-result returns returns-2)

@@ -3,11 +3,11 @@
 use Rattle.frame.proofs.search.add_found.Tie as tie
 
 module _ {Inv : tie.InvT-loop} {μ : tie.MeasureT-loop} where
-  abbrev pub add-patch-corners-from-returns : tie.After-slice-known10 Inv μ → tie.After-add-patch-corners Inv μ
-  add-patch-corners-from-returns c = c .before .before .before .before .before .before .before .before .before .before
+  abbrev pub add-image-corners-from-returns : tie.After-slice-known10 Inv μ → tie.After-add-image-corners Inv μ
+  add-image-corners-from-returns c = c .before .before .before .before .before .before .before .before .before .before
 
   abbrev pub if1-from-returns : tie.After-slice-known10 Inv μ → tie.Then1 Inv μ
-  if1-from-returns c = add-patch-corners-from-returns c .before .before .before .before .before .before
+  if1-from-returns c = add-image-corners-from-returns c .before .before .before .before .before .before
 
   abbrev pub start-from-returns : tie.After-slice-known10 Inv μ → tie.Start Inv μ
   start-from-returns c = if1-from-returns c .before .before .before .before .before .before .before .before .before .before .before

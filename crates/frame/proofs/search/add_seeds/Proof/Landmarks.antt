@@ -11,21 +11,21 @@ start-from-shr-lw c = c .before .before .before .before .before .before .before 
 abbrev pub start-from-shr-lh : tie.After-level → tie.Start
 start-from-shr-lh c = c .before .before .before .before .before .before .before .before .before
 
-abbrev pub level-from-add-patch-corners-requires : tie.After-add-patch-corners-arg5 → tie.After-level
-level-from-add-patch-corners-requires c = c .before .before .before .before .before
+abbrev pub level-from-add-image-corners-requires : tie.After-add-image-corners-arg5 → tie.After-level
+level-from-add-image-corners-requires c = c .before .before .before .before .before
 
-abbrev pub if1-from-add-patch-corners-requires : tie.After-add-patch-corners-arg5 → tie.Else1
-if1-from-add-patch-corners-requires c = level-from-add-patch-corners-requires c .before
+abbrev pub if1-from-add-image-corners-requires : tie.After-add-image-corners-arg5 → tie.Else1
+if1-from-add-image-corners-requires c = level-from-add-image-corners-requires c .before
 
-abbrev pub start-from-add-patch-corners-requires : tie.After-add-patch-corners-arg5 → tie.Start
-start-from-add-patch-corners-requires c =
-    if1-from-add-patch-corners-requires c .before .before .before .before .before .before .before .before
+abbrev pub start-from-add-image-corners-requires : tie.After-add-image-corners-arg5 → tie.Start
+start-from-add-image-corners-requires c =
+    if1-from-add-image-corners-requires c .before .before .before .before .before .before .before .before
 
-abbrev pub add-patch-corners-from-returns-2 : tie.After-slice-known10 → tie.After-add-patch-corners
-add-patch-corners-from-returns-2 c = c .before .before .before .before .before .before .before .before .before .before
+abbrev pub add-image-corners-from-returns-2 : tie.After-slice-known10 → tie.After-add-image-corners
+add-image-corners-from-returns-2 c = c .before .before .before .before .before .before .before .before .before .before
 
 abbrev pub level-from-returns-2 : tie.After-slice-known10 → tie.After-level
-level-from-returns-2 c = add-patch-corners-from-returns-2 c .before .before .before .before .before .before
+level-from-returns-2 c = add-image-corners-from-returns-2 c .before .before .before .before .before .before
 
 abbrev pub if1-from-returns-2 : tie.After-slice-known10 → tie.Else1
 if1-from-returns-2 c = level-from-returns-2 c .before

@@ -11,14 +11,14 @@ if1-from-returns c = copy-list-from-returns c .before .before .before .before .b
 abbrev pub start-from-returns : tie.After-slice-known8 → tie.Start
 start-from-returns c = if1-from-returns c .before .before .before .before .before .before .before .before .before .before
 
-abbrev pub settle-list-from-returns-2 : tie.After-slice-known12 → tie.After-settle-list
-settle-list-from-returns-2 c = c .before .before .before .before .before .before .before .before
+abbrev pub settle-list-from-returns-2 : tie.After-none2 → tie.After-settle-list
+settle-list-from-returns-2 c = c .before .before .before .before .before .before .before .before .before
 
-abbrev pub grid-of-from-returns-2 : tie.After-slice-known12 → tie.After-grid-of
-grid-of-from-returns-2 c = settle-list-from-returns-2 c .before .before .before .before .before
+abbrev pub grid-of-from-returns-2 : tie.After-none2 → tie.After-grid-of
+grid-of-from-returns-2 c = settle-list-from-returns-2 c .before .before .before .before .before .before
 
-abbrev pub if1-from-returns-2 : tie.After-slice-known12 → tie.Else1
+abbrev pub if1-from-returns-2 : tie.After-none2 → tie.Else1
 if1-from-returns-2 c = grid-of-from-returns-2 c .before
 
-abbrev pub start-from-returns-2 : tie.After-slice-known12 → tie.Start
+abbrev pub start-from-returns-2 : tie.After-none2 → tie.Start
 start-from-returns-2 c = if1-from-returns-2 c .before .before .before .before .before .before .before .before .before .before

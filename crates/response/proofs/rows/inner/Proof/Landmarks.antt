@@ -2,21 +2,32 @@
 -- `A-from-B` is the place where A was bound, seen from the need or the place B. Assumes nothing.
 use Rattle.response.proofs.rows.inner.Tie as tie
 
-module _ {Inv : tie.InvT-loop} {μ : tie.MeasureT-loop} where
-  abbrev pub loop-test-from-band-requires : tie.After-band-arg Inv μ → tie.In-loop Inv μ
-  loop-test-from-band-requires c = c .before .before .before
+abbrev pub start-from-returns : tie.Then1 → tie.Start
+start-from-returns c = c .before .before .before .before .before
 
-  abbrev pub loop-from-band-requires : tie.After-band-arg Inv μ → tie.At-loop Inv μ
-  loop-from-band-requires c = loop-test-from-band-requires c .before
+abbrev pub start-from-single-requires : tie.After-single-arg → tie.Start
+start-from-single-requires c = c .before .before .before .before .before .before .before
 
-  abbrev pub start-from-band-requires : tie.After-band-arg Inv μ → tie.Start Inv μ
-  start-from-band-requires c = loop-from-band-requires c .before .before .before
+abbrev pub single-from-returns-2 : tie.After-slice-known2 → tie.After-single
+single-from-returns-2 c = c .before .before
 
-  abbrev pub lesser-from-loop-again : tie.After-slice-known2 Inv μ → tie.After-lesser Inv μ
-  lesser-from-loop-again c = c .before .before .before .before .before
+abbrev pub if2-from-returns-2 : tie.After-slice-known2 → tie.Then2
+if2-from-returns-2 c = single-from-returns-2 c .before .before
 
-  abbrev pub loop-test-from-loop-again : tie.After-slice-known2 Inv μ → tie.In-loop Inv μ
-  loop-test-from-loop-again c = lesser-from-loop-again c .before
+abbrev pub start-from-returns-2 : tie.After-slice-known2 → tie.Start
+start-from-returns-2 c = if2-from-returns-2 c .before .before .before .before .before .before
 
-  abbrev pub loop-from-loop-again : tie.After-slice-known2 Inv μ → tie.At-loop Inv μ
-  loop-from-loop-again c = loop-test-from-loop-again c .before
+abbrev pub if1-from-small-requires : tie.After-small-arg → tie.Else1
+if1-from-small-requires c = c .before .before .before
+
+abbrev pub lesser-from-small-requires : tie.After-small-arg → tie.After-lesser
+lesser-from-small-requires c = if1-from-small-requires c .before
+
+abbrev pub start-from-small-requires : tie.After-small-arg → tie.Start
+start-from-small-requires c = lesser-from-small-requires c .before .before .before .before
+
+abbrev pub small-from-returns-3 : tie.After-slice-known3 → tie.After-small
+small-from-returns-3 c = c .before .before
+
+abbrev pub start-from-returns-3 : tie.After-slice-known3 → tie.Start
+start-from-returns-3 c = small-from-returns-3 c .before .before .before .before .before .before .before .before .before

@@ -4,4 +4,4 @@ use Rattle.response.proofs.runs.values.Tie as tie
 
 module _ {Inv : tie.InvT-loop} {μ : tie.MeasureT-loop} where
   abbrev pub loop-from-loop-again : tie.After-value Inv μ → tie.At-loop Inv μ
-  loop-from-loop-again c = c .before .before .before .before .before .before
+  loop-from-loop-again c = c .before .before .before .before .before

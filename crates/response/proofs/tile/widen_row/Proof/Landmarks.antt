@@ -7,4 +7,4 @@ module _ {Inv : tie.InvT-loop} {μ : tie.MeasureT-loop} where
   loop-from-loop-again c = c .before .before .before
 
   abbrev pub start-from-loop-again : tie.After-wide Inv μ → tie.Start Inv μ
-  start-from-loop-again c = loop-from-loop-again c .before .before
+  start-from-loop-again c = loop-from-loop-again c .before .before .before

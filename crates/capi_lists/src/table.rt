@@ -1,0 +1,51 @@
+// Corners merged in place with a borrowed table.
+use merge::Merged;
+ghost use mathlib.Core.Path.{_≡_};
+ghost use lib.ListN.{getD};
+ghost use Rattle.corner_list.specs.CornerList.{slices};
+ghost use Rattle.merge.specs.Merge.{numberOf, valuesOf};
+ghost use Rattle.capi_lists.specs.Table.{CornersMergedByTable};
+
+// The number of an answer, 0 if corners were merged.
+fn number_of(a: Merged) -> u8
+    ensures { λ r. ⌜ r ≡ numberOf a ⌝ }
+{
+    match a {
+        Merged::Kept(_) => 0,
+        Merged::Refused(n) => n,
+    }
+}
+
+// How many corners are left, or `before` if refused.
+fn kept_of(a: Merged, before: usize) -> usize
+    ensures { λ r. ⌜ r ≡ getD (valuesOf a) 0 before ⌝ }
+{
+    match a {
+        Merged::Kept(n) => n,
+        Merged::Refused(_) => before,
+    }
+}
+
+// Merges the first `count` corners of a buffer in place with a table, which is cleared, and puts the number of those
+// that are left into `kept`.
+#[no_mangle]
+pub extern "C" fn zakdomp_merge_by_table(
+    xs: &mut [f32],
+    ys: &mut [f32],
+    strengths: &mut [f32],
+    neighbours: &mut [u32],
+    count: usize,
+    radius: f32,
+    table: &mut [f32],
+    kept: &mut usize,
+) -> u8
+    ensures { λ r. ⌜ CornersMergedByTable radius count
+        (slices (now (xs .entry)) (now (ys .entry)) (now (strengths .entry)) (now (neighbours .entry)))
+        (now (table .entry)) (now (kept .entry)) r
+        (slices (now (xs .exit)) (now (ys .exit)) (now (strengths .exit)) (now (neighbours .exit)))
+        (now (table .exit)) (now (kept .exit)) ⌝ }
+{
+    let a = merge::table::merge_by_table(xs, ys, strengths, neighbours, table, count, radius);
+    *kept = kept_of(a, *kept);
+    number_of(a)
+}
