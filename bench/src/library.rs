@@ -168,6 +168,21 @@ pub fn merge(list: &mut List, count: usize, radius: f32) -> usize {
     kept
 }
 
+/// The same with a table.
+pub fn merge_by_table(list: &mut List, count: usize, radius: f32, table: &mut [f32]) -> usize {
+    let mut kept = 0;
+    let List { floats: [x, y, s], neighbours: k } = list;
+    #[rustfmt::skip]
+    let number = unsafe {
+        zakdomp_merge_by_table(
+            x.as_mut_ptr(), x.len(), y.as_mut_ptr(), y.len(), s.as_mut_ptr(), s.len(), k.as_mut_ptr(), k.len(),
+            count, radius, table.as_mut_ptr(), table.len(), &mut kept,
+        )
+    };
+    assert_eq!(number, 0);
+    kept
+}
+
 /// What a merge of a list would leave, in a separate one.
 pub fn merge_apart(list: &List, count: usize, radius: f32, left: &mut List) -> usize {
     let mut kept = 0;

@@ -7,17 +7,19 @@ use crate::table::Table;
 use crate::targets::{Count, MILLION};
 use oracle::{merge, Corner};
 
-/// The ways, as columns. A merge that takes a borrowed table gets its name here and its line in `merge_by`.
-const WAYS: [&str; 2] = ["Rust", "ours"];
+/// The ways, as columns.
+const WAYS: [&str; 3] = ["Rust", "ours", "ours, by table"];
 
 /// Merges the first corners of a list in place, so many, by a radius; how many are left.
 type Merge = Box<dyn FnMut(&mut List, usize, f32) -> usize>;
 
-/// One of our ways, with what it takes besides the list. What it borrows is made here, before the time is taken.
-fn merge_by(way: &str) -> Merge {
+/// One of our ways for so many corners. What it borrows is made here, before the time is taken; the table has the length
+/// that the header calls the fastest.
+fn merge_by(way: &str, count: usize) -> Merge {
+    let mut table = vec![0.0; 4 * count + 4];
     match way {
         "ours" => Box::new(library::merge),
-        _ => panic!("there is no way {way}"),
+        _ => Box::new(move |list, count, radius| library::merge_by_table(list, count, radius, &mut table)),
     }
 }
 
@@ -64,7 +66,7 @@ fn original(corners: Vec<Corner>, radius: f32) -> Run {
 }
 
 fn ours(corners: &[Corner], radius: f32, way: &str) -> Run {
-    let (before, count, mut merge) = (List::of(corners), corners.len(), merge_by(way));
+    let (before, count, mut merge) = (List::of(corners), corners.len(), merge_by(way, corners.len()));
     let mut list = before.clone();
     Box::new(move || {
         let (seconds, n) = timed(|| {
