@@ -49,7 +49,7 @@ enum {
     ZAKDOMP_PARAMETER = 3,    /* ring, window, centroid_radius or search_radius out of range; too wide for a stream */
     ZAKDOMP_COORDINATE = 4,   /* a corner to be merged is not within 0..4096, or a seed not within 1000000 either way */
     ZAKDOMP_MERGE_RADIUS = 5, /* the merge radius is finite and positive, but not within 1/64..4096 */
-    ZAKDOMP_KIND = 6,         /* there is no such kind of item */
+    ZAKDOMP_KIND = 6,         /* there is no such kind of item, or of record in a stream */
     ZAKDOMP_MAP_SHORT = 8,    /* the map buffer is too short */
     ZAKDOMP_LEVELS_SHORT = 9, /* the level buffer is too short */
     ZAKDOMP_LIST_SHORT = 10,  /* the corners do not fit their buffer, or a count is above the buffer's places */
@@ -84,7 +84,8 @@ enum {
  *   level_buffer    at least zakdomp_level_bytes(w, h, levels, minimum_side) bytes; the levels above the image come
  *                   first in it, and the rest stays
  *   sx, sy, ss, sn  a place for each seed; the seeds come first, in the last level's columns and rows, and the rest is
- *                   0
+ *                   0. The time grows with the number of seeds times the cells of their boxes, so these places bound
+ *                   it: if the seeds do not fit, 10 is returned before any box is searched
  *   cx, cy, cs, cn  a place for each corner before merging; the corners come first, and the rest is 0
  *   count           the number of corners
  *   ties            how often a cell of a peak's window has the peak's response, over all peaks found before merging;
@@ -102,8 +103,8 @@ uint8_t zakdomp_find_corners(const uint8_t *img, size_t img_length, size_t w, si
 /* The corners of an image by the exact choice. All is as with zakdomp_find_corners, except that the peaks of each map,
  * that of the seeds included, are chosen by exact responses, which are those without rounding: a peak's is above the
  * threshold, no cell of its window has a larger one, and `least_neighbours` cells of the window have one above 0.
- * Strengths, centres of mass, boxes and merging are the computed ones. If both calls leave the same list, rounding has
- * tipped no corner of it.
+ * Strengths, centres of mass, boxes and merging are the computed ones. If both calls leave the same list, choosing by
+ * rounded responses has made no difference to it.
  *   ties  as there, by the floats: a peak that has a larger float in its window, of the same exact response, counts 0
  * Arguments, buffers and refusals are as there. The two calls can find different numbers of seeds, or of corners before
  * merging, so that 10 may be the answer of one of them only. */
@@ -238,7 +239,7 @@ uint8_t zakdomp_centroid(const float *map, size_t map_length, size_t w, size_t h
  * place, with its own neighbours, if it is strictly stronger, and is dropped if not; if there is none, it is kept after
  * the others. So two that are kept may still be near each other: (0, 0; 1), (5, 0; 2), (2.5, 0; 3) at radius 3 leaves
  * (2.5, 0; 3) and (5, 0; 2). A radius that is 0, negative or not finite keeps all.
- * Its time grows with `count` if at most 131072 corners are kept, or if they come row by row, as a frame's do.
+ * Its time grows with `count` if at most 131072 corners are kept, or if they come row by row, as those of one map do.
  * Otherwise it grows with the square of the number kept. zakdomp_merge_by_table has no such limit.
  *   kept  the number of corners that are left
  * Refusals: 4 for the counted corners that the buffer has, 5, 10; 10 alone if the radius keeps all. */
@@ -319,8 +320,9 @@ size_t zakdomp_level_bytes(size_t w, size_t h, uint32_t levels, size_t minimum_s
 uint8_t zakdomp_levels(const uint8_t *img, size_t img_length, size_t w, size_t h, uint32_t levels, size_t minimum_side,
                        uint8_t *level_buffer, size_t level_buffer_length, size_t *built);
 
-/* What the program `corners` prints for a frame stream of at most 96 by 96 pixels, refused streams included, at the
- * start of `output`, which has ZAKDOMP_LONGEST bytes. Returns the length of the text. */
+/* What the program `corners` prints for a frame stream of at most 96 by 96 pixels, at the start of `output`, which has
+ * ZAKDOMP_LONGEST bytes. For a refused stream it is the line `refused N`, with a number as above, or 7 for a stream that
+ * is cut short or has padding that is not 0, or 11 for a record out of order. Returns the length of the text. */
 #define ZAKDOMP_LONGEST 40972
 size_t zakdomp_corners(const uint8_t *input, size_t input_length, uint8_t *output);
 

@@ -467,7 +467,8 @@ def _called_as(shape: Callable[P, _Asked]) -> Callable[[Callable[..., R]], Calla
 
 @_called_as(_asked_of_image)
 def find(*given: Any, **named: Any) -> Frame:
-    """The corners of an image, at most `most` of them before merging, and its ties. The parameters are those of
+    """The corners of an image, at most `most` of them before merging and from at most `most` seeds, and its ties. The
+    number of seeds bounds the time, because a box is searched around each. The parameters are those of
     `Params`."""
     return _search(_library.zakdomp_find_corners, _asked_of_image(*given, **named))
 
@@ -492,9 +493,9 @@ def find_corners_pgm(*given: Any, **named: Any) -> list[Corner]:
 
 @_called_as(_asked_of_image)
 def find_exact(*given: Any, **named: Any) -> Frame:
-    """What `find` answers by the exact choice: peaks are chosen by responses without rounding. Where the two lists are
-    the same, rounding has tipped no corner of them. One of the two may have more than `most` corners and the other not.
-    Ties are counted by floats: a peak that has a larger float in its window counts 0."""
+    """What `find` answers by the exact choice: peaks are chosen by responses without rounding. If the two lists are the
+    same, choosing by rounded responses has made no difference. One of the two may have more than `most` corners and the
+    other not. Ties are counted by floats: a peak that has a larger float in its window counts 0."""
     return _search(_library.zakdomp_find_exact_corners, _asked_of_image(*given, **named))
 
 

@@ -1,4 +1,5 @@
-"""The first lines of README.md and `./run PHOTO.pgm`, as a newcomer tries them: python3 -m unittest test_newcomer
+"""The lines of README.md and python/README.md that say how to begin, and `./run PHOTO.pgm`, as a newcomer tries them:
+python3 -m unittest test_newcomer
 
 Nothing is proved here: in a copy of the repository a stand-in for `rt` hands over what the repository has made."""
 import importlib.util
@@ -22,7 +23,7 @@ case "$1" in
 check) mkdir -p target/bin target/rlib target/stamp
        [ "$2" != corners ] || cp "{made}/bin/$2" target/bin ;;
 staticlib) mkdir -p target/staticlib && ar rc "target/staticlib/lib$2.a"
-           [ "$2" != capi ] || cp "{made}/zakdomp/libzakdomp.a" target/staticlib/libcapi.a ;;
+           [ "$2" != capi_frame ] || cp "{made}/zakdomp/libzakdomp.a" "target/staticlib/lib$2.a" ;;
 *) exit 9 ;;
 esac
 """
@@ -56,6 +57,12 @@ class Newcomer(unittest.TestCase):
                  "PIP_DISABLE_PIP_VERSION_CHECK": "1", "LC_ALL": "C.UTF-8"}
         return subprocess.run(command, cwd=self.folder, capture_output=True, env={**clean, **named}, check=False)
 
+    def block(self, *names):
+        """The indented lines of a file, named first, that have some text, named last."""
+        with open(self.path(*names[:-1]), encoding="utf-8") as file:
+            blocks = re.findall(r"(?:^    .*\n)+", file.read(), re.MULTILINE)
+        return next(lines for lines in blocks if names[-1] in lines)
+
     def names(self):
         return sorted(name for name in os.listdir(self.folder) if name.endswith(".png"))
 
@@ -65,10 +72,8 @@ class FirstLines(Newcomer):
     @unittest.skipUnless(importlib.util.find_spec("ensurepip"), "no python3-venv on this machine")
     def test_in_their_order(self):
         self.copy()
-        with open(self.path("README.md"), encoding="utf-8") as file:
-            lines = re.search(r"(?:^    .*\n)+", file.read(), re.MULTILINE)[0]
-        self.assertIn("./run board.pgm ", lines)
-        run = self.ran("bash", "-e", "-c", lines)
+        lines = self.block("README.md", "./run board.pgm ") + self.block("python", "README.md", "pip install ./python ")
+        run = self.ran("bash", "-e", "-c", "./run\n" + lines)
         said = run.stderr.decode()
         self.assertEqual(run.returncode, 0, said)
         self.assertIn("the library is not there yet: it is now proved and compiled", said)

@@ -20,11 +20,11 @@ from zakdomp_command.uploads import Order, Outcome
 EXAMPLE = "example: zakdomp batch uploads --out november --threshold 100 --jobs 2"
 DESCRIPTION = """Writes DIR/corners with a corner file for each photograph of a folder, and DIR/invoice.csv with a line
 for each upload, whatever it is: name, sides, corners and ties, or the number and words of its refusal; how many
-corners the exact choice has, whether both have the same list, and the corners that stand in one list only; what was
-struck; and digests, parameters and version. DIR/ledger.sqlite keeps all of it for good: a batch that was killed goes
-on where it stopped, and the same upload under the same parameters is not computed again. Other parameters, another
-format or version are another run, with folder and invoice of its own, DIR/corners-2 and DIR/invoice-2.csv. Subfolders
-are not looked into."""
+corners the exact choice has, whether both have the same list, and the corners that are in only one list; what was
+struck; and digests, parameters and version. DIR/ledger.sqlite keeps all of it for good: a batch that was killed
+continues where it stopped, and the same upload under the same parameters is not computed again. Other parameters,
+another format or version are another run, with its own folder and invoice, DIR/corners-2 and DIR/invoice-2.csv.
+Subfolders are not searched."""
 PAUSE = 0.2
 FEW = 16
 

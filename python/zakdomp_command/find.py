@@ -9,11 +9,11 @@ from zakdomp_command.png import png
 from zakdomp_command.svg import svg
 
 EXAMPLE = "example: zakdomp find board.pgm --threshold 100 --format csv --png board.png"
-DESCRIPTION = """Prints the corners of a photograph, and draws them over it: circles, large and yellow where a corner is
-strong, small and blue where it is weak; squares where its peak ties with a cell beside it. Standard error says how many
-corners are computed, how many the exact choice has, which goes by responses without rounding, and whether both lists
-are the same; if not, which corners stand in one list only. A picture has these as diamonds: green where the exact
-choice alone has a corner, white where it has not."""
+DESCRIPTION = """Prints the corners of a photograph, and draws them over it: circles, large and yellow for strong
+corners, small and blue for weak ones; squares if the peak ties with another cell of its window. Standard error says how
+many corners are computed, how many the exact choice has, which uses responses without rounding, and whether both lists
+are the same; if not, which corners are in only one list. A picture has these as diamonds: green for the exact choice,
+white for the computed one."""
 
 
 def add(commands: Any) -> None:

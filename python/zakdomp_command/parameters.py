@@ -12,12 +12,12 @@ HELP = {
     "ring": "5 or 10, the radius of the ring of samples",
     "threshold": "no corner has a response at or below it",
     "window": "0 to 16, no cell this near to a corner has a larger response",
-    "least_neighbours": "so many cells of the window have a response above 0",
+    "least_neighbours": "at least so many cells of the window have a response above 0",
     "centroid_radius": "0 to 16, a corner is the centre of mass of the cells this near",
     "merge_radius": "corners this near are merged, 1/64 to 4096; 0 merges none",
-    "levels": "1 looks at the photograph itself, more seek on half-size levels first",
+    "levels": "1 searches the photograph itself, more search half-size levels first",
     "minimum_side": "no level has a side below it",
-    "search_radius": "0 to 255, how far about a seed, in pixels of its level",
+    "search_radius": "0 to 255, how far around a seed to search, in pixels of its level",
 }
 
 

@@ -55,7 +55,8 @@ impl Finder {
         Self::with_most(1 << 22)
     }
 
-    /// Takes at most so many corners, before merging: an image with more is refused.
+    /// Takes at most so many seeds, and so many corners before merging: an image with more is refused. Each seed has a box
+    /// that is searched, so this bounds the time too.
     #[must_use]
     pub fn with_most(most: usize) -> Self {
         Self { buffers: Buffers::default(), places: most.min(1024), most }
@@ -72,8 +73,9 @@ impl Finder {
         self.search(Choice::Computed, &Given::Image(image), (width, height), params)
     }
 
-    /// The same by the exact choice: peaks are chosen by responses without rounding. Where `find` gives the same list,
-    /// rounding has tipped no corner of it. `Refusal::ListShort` may come from one of the two only.
+    /// The same by the exact choice: peaks are chosen by responses without rounding. If `find` gives the same list,
+    /// choosing by rounded responses has made no difference. Only one of the two may be refused with
+    /// `Refusal::ListShort`.
     pub fn find_exact(
         &mut self,
         image: &[u8],

@@ -10,7 +10,7 @@ SLICE = CORNERS._replace(mutable=False)
 LESSER = Callee('numbers', 'lesser', (), (WORD, WORD), WORD,
                 lambda _, values, __, answer: f'{answer} ≡ min {values[0]} {values[1]}')
 EITHER = Callee('merge_slice', 'either_outside', (), (BOOL, CORNER), BOOL,
-                lambda _, values, __, answer: f'{answer} ≡ ({values[0]} || isOutside {values[1]})')
+                lambda _, values, __, answer: f'{answer} ≡ ({values[0]} || cornerOutside {values[1]})')
 SUBJECT = Subject(
     'has_outside',
     '''-- `merge_slice::has_outside` meets its contract: a walk of its code, by hand, with a loop. The slice is looked into once, before the loop, and a
@@ -101,7 +101,7 @@ def exits():
       qed W Had ∵
       suffices ! _ (ends-at 𝓤 H A f.ended stayed {CLAUSES} W {SUBJECT.ghost}
       (vbool (outsideUpto L0 (i .0))) (outsideUpto L0 (i .0)) (tt, (tt, tt)) (tt, (tt, tt))) $
-      says ! (ap (outsideUpto L0) e ∙ ap (any isOutside) (take-counted count L0)) $
+      says ! (ap (outsideUpto L0) e ∙ ap (any cornerOutside) (take-counted count L0)) $
       {chain(context.steps, 6)}
 
 '''

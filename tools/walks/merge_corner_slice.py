@@ -44,7 +44,7 @@ def has_places(walk):
 
 CALLEES = (
     Callee('merge_slice', 'has_outside', (CORNERS._replace(mutable=False),), (WORD,), BOOL,
-           lambda lists, values, _, answer: f'{answer} ≡ any isOutside (take {values[0]} {lists[0]})'),
+           lambda lists, values, _, answer: f'{answer} ≡ any cornerOutside (take {values[0]} {lists[0]})'),
     Callee('merge_slice', 'shared_places', (), (WORD,) * (1 + len(SLICES)), WORD,
            lambda _, values, __, answer: f'{answer} ≡ {least(values)}'),
     Callee('merge_slice', 'exchange', SLICES, (WORD,), UNIT, exchanges, places, has_places),

@@ -77,7 +77,7 @@ Rattle.corner_list.proofs.Corners.{in-xs, in-ys, in-strengths, in-neighbours, s
 Rattle.corner_list.proofs.Corner as T
 Rattle.corner_list.proofs.Corner.Laws as T′
 Rattle.merge_radius.specs.MergeRadius.{isOff}
-Rattle.merge_refusal.specs.Refusals.{isOutside}
+Rattle.merge_refusal.specs.Refusals.{cornerOutside}
 Rattle.merge.specs.declared.Merged.{Merged}
 Rattle.merge.specs.declared.Merged.the-variants.{Refused}
 Rattle.merge.specs.Merge.{Merges}

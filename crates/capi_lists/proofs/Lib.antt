@@ -1,2 +1,2 @@
 mod Entries
-mod Merging
+mod Merges

@@ -1,30 +1,8 @@
 // The list that merging would leave, in a separate buffer.
-use merge::Merged;
-ghost use mathlib.Core.Path.{_≡_};
-ghost use lib.ListN.{getD};
+use crate::merged::kept_of;
+use crate::merged::number_of;
 ghost use Rattle.corner_list.specs.CornerList.{slices};
-ghost use Rattle.merge.specs.Merge.{numberOf, valuesOf};
 ghost use Rattle.capi_lists.specs.Apart.{CornersMergedApart};
-
-// The number of an answer, 0 if a list was written.
-fn number_of(a: Merged) -> u8
-    ensures { λ r. ⌜ r ≡ numberOf a ⌝ }
-{
-    match a {
-        Merged::Kept(_) => 0,
-        Merged::Refused(n) => n,
-    }
-}
-
-// How many corners are left, or `before` if refused.
-fn kept_of(a: Merged, before: usize) -> usize
-    ensures { λ r. ⌜ r ≡ getD (valuesOf a) 0 before ⌝ }
-{
-    match a {
-        Merged::Kept(n) => n,
-        Merged::Refused(_) => before,
-    }
-}
 
 // Writes to a separate buffer, `mx` to `mn`, what merging the first `count` corners of a buffer in place would leave
 // there. `kept` gets the number of those corners.

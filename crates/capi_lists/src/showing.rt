@@ -15,7 +15,7 @@ fn number_of(a: Shown) -> u8
 {
     match a {
         Shown::Found(_, _) => 0,
-        Shown::Refused(n) => n,
+        Shown::Refused(number) => number,
     }
 }
 

@@ -12,7 +12,7 @@ fn number_of(a: Strike) -> u8
 {
     match a {
         Strike::Struck(_, _) => 0,
-        Strike::Refused(n) => n,
+        Strike::Refused(number) => number,
     }
 }
 

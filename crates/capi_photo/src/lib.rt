@@ -2,7 +2,7 @@
 use frame::answers::count_of;
 use frame::answers::number_of;
 use frame::answers::ties_of;
-use patch_corners::FrameParams;
+use frame_params::FrameParams;
 use pgm_frame::find_pgm_corners_by;
 ghost use Rattle.corner_list.specs.CornerList.{slices};
 ghost use Rattle.patch_corners.specs.OneMap.{choiceOf, computedChoice, exactChoice};

@@ -113,11 +113,11 @@ numberOf (Accepted x y m) = 0
 numberOf (Rejected x y) = 0
 numberOf (OutOfBounds x y) = 0
 numberOf (IllConditioned x y) = 0
-numberOf (Refused n) = n
+numberOf (Refused number) = number
 
 abbrev pub valuesOf : Outcome → List Float
 valuesOf (Accepted x y m) = x ∷ y ∷ m ∷ []
 valuesOf (Rejected x y) = x ∷ y ∷ zero32 ∷ []
 valuesOf (OutOfBounds x y) = x ∷ y ∷ zero32 ∷ []
 valuesOf (IllConditioned x y) = x ∷ y ∷ zero32 ∷ []
-valuesOf (Refused n) = []
+valuesOf (Refused number) = []

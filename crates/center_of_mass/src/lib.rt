@@ -84,9 +84,9 @@ fn refusal(radius: u32, x: f32, y: f32, has_map: bool, cells: usize, w: usize, h
     ensures { λ r. ⌜ r ≡ refusalOf radius x y «has_map» cells w h ⌝ }
 {
     if has_map {
-        let no = image_size::refusal(cells, w, h);
-        if no != 0 {
-            return no;
+        let number = image_size::refusal(cells, w, h);
+        if number != 0 {
+            return number;
         }
     }
     if lists::LARGEST_RADIUS < radius {
@@ -145,9 +145,9 @@ impl CenterOfMassRefiner {
         ensures { λ o. ⌜ Refined (self .radius) x y «has_map» (now (map .entry)) w h o ⌝ }
     {
         let radius = self.radius;
-        let n = refusal(radius, x, y, has_map, map.len(), w, h);
-        if n != 0 {
-            return Outcome::Refused(n);
+        let number = refusal(radius, x, y, has_map, map.len(), w, h);
+        if number != 0 {
+            return Outcome::Refused(number);
         }
         if has_map {
             return centre_of_mass(radius as usize, x, y, map, w, h);

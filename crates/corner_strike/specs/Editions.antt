@@ -20,8 +20,8 @@ raised e = edition (e .count - 1) (e .change + 1)
 -- ---- conditions (RULES 2.2)
 
 -- 10: the count of the list exceeds its buffer's places
-abbrev pub isShort : ℕ → ℕ → Bool
-isShort places count = ltb places count
+abbrev pub lacksPlaces : ℕ → ℕ → Bool
+lacksPlaces places count = ltb places count
 
 -- 16: the change number given differs from the list's
 abbrev pub isOther : Edition → ℕ → Bool

@@ -8,11 +8,11 @@ use Rattle.corner_list.specs.declared.Corner.{Corner}
 use Rattle.corner_list.specs.CornerList.{Slices, placesOf, cornerAt}
 use Rattle.corner_strike.specs.declared.showing.Shown.{Shown}
 use Rattle.corner_strike.specs.declared.showing.Shown.the-variants.{Found, Refused}
-use Rattle.corner_strike.specs.Editions.{Edition, isShort, isBeyond}
+use Rattle.corner_strike.specs.Editions.{Edition, lacksPlaces, isBeyond}
 
 -- 10, then 17; the change number is not checked
 abbrev pub conditions : ℕ → ℕ → ℕ → List (Bool × ℕ)
-conditions places count place = (isShort places count, 10) ∷ (isBeyond count place, 17) ∷ []
+conditions places count place = (lacksPlaces places count, 10) ∷ (isBeyond count place, 17) ∷ []
 
 unfoldable pub refusalOf : ℕ → ℕ → ℕ → ℕ
 refusalOf places count place = lowest (conditions places count place)
@@ -20,11 +20,11 @@ refusalOf places count place = lowest (conditions places count place)
 -- the number and the values of each case
 abbrev pub numberOf : Shown → ℕ
 numberOf (Found c change) = 0
-numberOf (Refused k) = k
+numberOf (Refused number) = number
 
 abbrev pub valuesOf : Shown → List (Corner × ℕ)
 valuesOf (Found c change) = (c, change) ∷ []
-valuesOf (Refused k) = []
+valuesOf (Refused number) = []
 
 -- the promise of `show_corner` for the list with the buffer b: the corner at the place, and the list's change number.
 -- No buffer can change

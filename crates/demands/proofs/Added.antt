@@ -16,7 +16,7 @@ use Rattle.detect.proofs.Choice.{peaks-in-map}
 use Rattle.detect.proofs.Answers.{Clear, Fitted, clear, sound, unrefused, added-tells}
 use Rattle.demands.specs.PeakCall.{PeakCall, searchIn}
 use Rattle.demands.specs.PeaksAlike.{programList, position, nameOf}
-use Rattle.demands.proofs.Names.{Small, names-only}
+use Rattle.demands.proofs.Names.{PlaceInRange, names-only}
 
 module _ (m : List Float) (w h : ℕ) (p : PeakCall m w h) where
   pub no-fault : Clear (conditions (length m) w h (p .ring) (p .window) (p .radius))
@@ -36,10 +36,10 @@ module _ (m : List Float) (w h : ℕ) (p : PeakCall m w h) where
   names-are : map position (programList p) ≡ map nameOf (peaksIn m (searchIn p))
   names-are = ap (map position) added-are ∙ map-map position (startAt m (searchIn p)) (peaksIn m (searchIn p))
 
-  peaks-small : (v : CellTests) → All Small (peaksBy v (searchIn p))
+  peaks-small : (v : CellTests) → All PlaceInRange (peaksBy v (searchIn p))
   peaks-small v =
       let k = sound (length m) w h (p .ring) (p .window) (p .radius) no-fault in
-      all-map (λ q. (q .x < w) × (q .y < h)) Small (λ q i. (omega (arith, i .0, k .wide), omega (arith, i .1, k .high)))
+      all-map (λ q. (q .x < w) × (q .y < h)) PlaceInRange (λ q i. (omega (arith, i .0, k .wide), omega (arith, i .1, k .high)))
       (peaksBy v (searchIn p))
       (peaks-in-map v w h (searchIn p .border) (p .window) (p .«least_neighbours»))
 

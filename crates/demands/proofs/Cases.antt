@@ -10,12 +10,12 @@ use Rattle.response.specs.Response.{samples, responseOf}
 use Rattle.response.specs.Exact.{fifthsAt}
 use Rattle.float32.specs.Value.{total}
 use Rattle.merge_radius.specs.MergeRadius.{isOff}
-use Rattle.merge_grid.specs.Grid.{gridOf, near, neighbours}
+use Rattle.merge_grid.specs.Grid.{gridOf, near, adjacentCells}
 use Rattle.merge.specs.Merge.{resultOf}
 use Rattle.merge_naive.specs.MergeNaive.{naiveOf}
 use Rattle.demands.specs.Cases.{cases, CasesHold}
 
 pub cases-hold : CasesHold
 unfolding cases fifthsAt samples total tab grid ring5 halfPixel halved halvings levelCount roiOf mul le ofInt
-    resultOf naiveOf responseOf isOff gridOf near neighbours lt add sub div toUnsigned toBits
+    resultOf naiveOf responseOf isOff gridOf near adjacentCells lt add sub div toUnsigned toBits
 cases-hold = refl

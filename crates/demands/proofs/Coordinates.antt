@@ -14,7 +14,7 @@ use Rattle.corner_list.specs.declared.Corner.{Corner}
 use Rattle.corner_list.specs.CornerList.{isInside}
 use Rattle.center_of_mass.proofs.Range.{weighing}
 use Rattle.merge.proofs.Result.{result-all}
-use Rattle.patch_corners.specs.declared.FrameParams.{FrameParams}
+use Rattle.frame_params.specs.declared.FrameParams.{FrameParams}
 use Rattle.patch_corners.specs.OneMap.{Choice, moved, cornersIn}
 use Rattle.frame_pass.specs.Pass.{levelsIn, levelView, seedPatch, cornersOn, cornersAbout, seedsOf, foundOf, framePass}
 use Rattle.frame_pass.specs.Theorems.{SoundFrame}

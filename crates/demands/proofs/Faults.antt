@@ -11,7 +11,8 @@ use Rattle.lists.specs.Places.{any}
 use Rattle.lists.specs.Refusals.{unless}
 use Rattle.merge_radius.specs.MergeRadius.{radiusOutside}
 use Rattle.stream.specs.declared.Header.{Header}
-use Rattle.stream.specs.Stream.{largestStreamSide, u8, u16, u32, known as isKnown, bodyLength, bodyOf, behind, headerOf, rangeOutside}
+use Rattle.frame_params.specs.Ranges.{rangeOutside}
+use Rattle.stream.specs.Stream.{largestStreamSide, u8, u16, u32, known as isKnown, bodyLength, bodyOf, behind, headerOf}
 use Rattle.stream.specs.Stream.{Reading, accepted}
 use Rattle.stream.specs.Stream.{refused, sidesFault, parametersFault, paddingFault, bodyFault, recordFault, readRecord, recordsFor}
 use Rattle.stream.specs.Stream.{readPixels, readParameters, readFrame}

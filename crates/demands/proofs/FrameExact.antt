@@ -19,7 +19,7 @@ use Rattle.detect.specs.declared.Search.{Search}
 use Rattle.detect.specs.Detect.{peaksIn}
 use Rattle.detect.specs.Detect as detect
 use Rattle.detect.specs.Exact.{exact, exactPeaks}
-use Rattle.patch_corners.specs.declared.FrameParams.{FrameParams}
+use Rattle.frame_params.specs.declared.FrameParams.{FrameParams}
 use Rattle.patch_corners.specs.OneMap.{Choice, searchOn, exactChoice}
 use Rattle.patch_corners.proofs.Fine.{Fine}
 use Rattle.frame_pass.specs.Refusals.{conditions}

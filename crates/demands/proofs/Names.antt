@@ -13,19 +13,19 @@ use Rattle.float32.proofs.Values.{ofInt-value, value-unique}
 use Rattle.demands.specs.PeaksAlike.{nameOf}
 
 -- a place of a map of at most the largest sides
-abbrev pub Small : Place → Type 0
-Small p = (p .x < largestSide) × (p .y < largestSide)
+abbrev pub PlaceInRange : Place → Type 0
+PlaceInRange p = (p .x < largestSide) × (p .y < largestSide)
 
 float-only : (a b : ℕ) → a < largestSide → b < largestSide → floatOf a ≡ floatOf b → a ≡ b
 float-only a b p q e =
     let v = value-unique (floatOf a) false a 1 b 1 (ofInt-value binary32 a (omega arith)) (rw e (ofInt-value binary32 b (omega arith))) in
     omega arith
 
-name-only : (p q : Place) → Small p → Small q → nameOf p ≡ nameOf q → p ≡ q
+name-only : (p q : Place) → PlaceInRange p → PlaceInRange q → nameOf p ≡ nameOf q → p ≡ q
 name-only p q a b e =
     let x = float-only (p .x) (q .x) (a .0) (b .0) (ap (λ (z : Float × Float). z .0) e) in
     let y = float-only (p .y) (q .y) (a .1) (b .1) (ap (λ (z : Float × Float). z .1) e) in
     rw (x, y)
 
-pub names-only : (s t : List Place) → All Small s → All Small t → map nameOf s ≡ map nameOf t → s ≡ t
-names-only = map-only nameOf Small name-only
+pub names-only : (s t : List Place) → All PlaceInRange s → All PlaceInRange t → map nameOf s ≡ map nameOf t → s ≡ t
+names-only = map-only nameOf PlaceInRange name-only

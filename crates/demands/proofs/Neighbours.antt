@@ -19,7 +19,7 @@ use Rattle.center_of_mass.specs.declared.Outcome.{Outcome}
 use Rattle.center_of_mass.specs.declared.Outcome.the-variants.{Accepted, Rejected, OutOfBounds, IllConditioned, Refused}
 use Rattle.center_of_mass.specs.CenterOfMass.{refined}
 use Rattle.merge.proofs.Result.{result-all}
-use Rattle.patch_corners.specs.declared.FrameParams.{FrameParams}
+use Rattle.frame_params.specs.declared.FrameParams.{FrameParams}
 use Rattle.patch_corners.specs.OneMap.{centreOrNone, moved, searchOn, computedChoice, localized, cornersIn}
 use Rattle.patch_corners.proofs.Fine.{Fine}
 use Rattle.frame_pass.specs.Pass.{levelsIn, levelView, seedPatch, cornersOn, cornersAbout, seedsOf, foundOf, framePass, mapsOf, lookedAt}

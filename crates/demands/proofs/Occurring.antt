@@ -21,7 +21,7 @@ use Rattle.merge.specs.Apart.{refusalApart}
 use Rattle.merge_slice.specs.MergeSlice.{refusalFor}
 use Rattle.corner_strike.specs.Showing as showing
 use Rattle.corner_strike.specs.Striking as striking
-use Rattle.frame_pass.specs.Refusals.{parametersFit}
+use Rattle.frame_params.specs.Ranges.{parametersFit}
 use Rattle.frame.specs.Frame as frame
 use Rattle.pgm.specs.Header.{bare, fieldOf}
 use Rattle.pgm.specs.Pgm.{pixelsIn}

@@ -8,12 +8,12 @@ use lib.ListN.{length, take, drop, length-append, length-take, List·getD-eq-def
 use lib.Seq.{getD-take, getD-drop, take-at, drop-at}
 use Rattle.accuracy.specs.Accurate.{Bytes}
 use Rattle.listing.specs.Text.{decimal}
-use Rattle.patch_corners.specs.declared.FrameParams.{FrameParams}
+use Rattle.frame_params.specs.declared.FrameParams.{FrameParams}
 use Rattle.patch_corners.specs.OneMap.{Choice}
 use Rattle.frame.specs.declared.FrameAnswer.{FrameAnswer}
 use Rattle.frame.specs.declared.FrameAnswer.the-variants.{Corners, Refused}
 use Rattle.frame.specs.Frame.{Buffers, FrameFound}
-use Rattle.pgm.specs.Header.{bare, fieldOf, Field, placeBehind, widthOf, heightOf, maxvalOf, hasHeader, rasterAt}
+use Rattle.pgm.specs.Header.{bare, fieldOf, Field, behindFirst, widthOf, heightOf, maxvalOf, hasHeader, rasterAt}
 use Rattle.pgm.specs.Pgm.{conditions, refusalOf, pixelsIn}
 use Rattle.pgm.proofs.Judging.{accepts}
 use Rattle.pgm.proofs.Behind.{same-raster, same-width, same-height, same-accepted, same-pixels}
@@ -126,7 +126,7 @@ raster-is : (w h : ℕ) (t : List ℕ) → rasterAt (plainHeader w h ++ t) ≡ l
 unfolding bare
 raster-is w h t =
     ap rasterAt (header-as w h t)
-    ∙ ap (λ (f : Field). placeBehind (f .rest)) (maxval-is w h t)
+    ∙ ap (λ (f : Field). behindFirst (f .rest)) (maxval-is w h t)
     ∙ simp length-append (omega arith)
 
 pub plain-header-read : PlainHeaderRead

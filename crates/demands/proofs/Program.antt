@@ -14,7 +14,8 @@ use Rattle.pyramid_levels.specs.Levels.{levelCount, cellsAbove}
 use Rattle.pyramid_levels.proofs.Cells.{cells-le}
 use Rattle.merge_radius.specs.MergeRadius.{radiusOutside}
 use Rattle.patch_corners.specs.OneMap.{computedChoice}
-use Rattle.frame_pass.specs.Refusals.{parametersFit, conditions}
+use Rattle.frame_params.specs.Ranges.{parametersFit}
+use Rattle.frame_pass.specs.Refusals.{conditions}
 use Rattle.frame_pass.specs.Pass.{Pass, framePass}
 use Rattle.frame_pass.proofs.Same.{pass-same}
 use Rattle.frame.specs.Frame.{tooMany, refusalOf}

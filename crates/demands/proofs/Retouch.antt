@@ -16,7 +16,7 @@ use Rattle.response.specs.Response.{responseAt}
 use Rattle.response.specs.Patch.{cells}
 use Rattle.retouch.specs.Retouch.{touched, touchedCount, changed, redone}
 use Rattle.retouch.specs.Promise.{refusalOf}
-use Rattle.retouch.specs.Internal.{Ready}
+use Rattle.retouch.specs.Internal.{PixelChecked}
 use Rattle.retouch.proofs.Judging.{ready}
 use Rattle.retouch.proofs.Fresh as fresh
 use Rattle.retouch.proofs.Moves as moves
@@ -45,7 +45,7 @@ module _ (c : RetouchCall) where
   none : refusalOf (length (c .img)) (length (c .map)) (c .w) (c .h) (c .ring) (c .pixel) ≡ 0
   none = sym (c .promise .number)
 
-  given : Ready (c .img) (c .w) (c .h) (c .ring) (c .pixel) (c .map)
+  given : PixelChecked (c .img) (c .w) (c .h) (c .ring) (c .pixel) (c .map)
   given = ready (c .img) (c .w) (c .h) (c .ring) (c .pixel) (c .map) none
 
   pixel-changed : c .img′ ≡ changed (c .img) (c .w) (c .pixel) (c .value)

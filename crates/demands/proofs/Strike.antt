@@ -16,7 +16,7 @@ use Rattle.corner_strike.specs.Showing.{Shows}
 use Rattle.corner_strike.specs.Striking.{numberOf, Strikes}
 use Rattle.corner_strike.proofs.Removing.{without-split, removed-corners, removed-before, removed-later, removed-last, removed-behind}
 use Rattle.corner_strike.proofs.Calls.{was-shown, StruckAs, was-struck, was-refused}
-use Rattle.demands.specs.Strike.{Edited, cornersIn, StrikeCall, StrikeCalls, none, more, strikesOf, struckIn}
+use Rattle.demands.specs.Strike.{Edited, editedCorners, StrikeCall, StrikeCalls, none, more, strikesOf, struckIn}
 use Rattle.demands.specs.Strike.{RaisedByStrikesOnly, LaterMoveUp, Removed, ShownIsStruck}
 
 -- ---- one call
@@ -76,11 +76,11 @@ raised-by-strikes-only = record {
 
 -- ---- the corner that is removed
 module _ (s : Edited) (c : StrikeCall s) (z : numberOf (c .answer) ≡ 0) where
-  removed : Removed (cornerAt (s .buffer) (c .place)) (c .place) (cornersIn s) (cornersIn (c .after))
+  removed : Removed (cornerAt (s .buffer) (c .place)) (c .place) (editedCorners s) (editedCorners (c .after))
   removed =
       let n = s .edition .count in
       let t = told s c z in
-      let all = cornersIn s in
+      let all = editedCorners s in
       let inside : c .place < length all = omega (arith, corners-length (s .buffer) n, t .can .inside) in
       let here = corners-at (s .buffer) n (c .place) (cornerAt (s .buffer) 0) (t .can .inside) in
       record {
@@ -123,4 +123,4 @@ shown-is-struck s s′ showing shown number answer calls c place change z =
     let same : s′ ≡ s = same-list s s′ calls quiet in
     let corner : cornerAt (s′ .buffer) (c .place) ≡ shown =
     ap₂ (λ (t : Edited) (i : ℕ). cornerAt (t .buffer) i) same place ∙ sym (seen .corner-is) in
-    subst (λ (k : Corner). Removed k (c .place) (cornersIn s′) (cornersIn (c .after))) corner (removed s′ c z)
+    subst (λ (k : Corner). Removed k (c .place) (editedCorners s′) (editedCorners (c .after))) corner (removed s′ c z)

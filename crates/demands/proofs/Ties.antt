@@ -15,7 +15,7 @@ use Rattle.agreement.specs.Agreement.{Tied}
 use Rattle.detect.specs.declared.WindowTest.{WindowTest}
 use Rattle.detect.specs.declared.WindowTest.the-variants.{Beaten, Top}
 use Rattle.detect.specs.Peaks.{window, beaten, equals, windowTest, valueAt, largerIn, equalIn}
-use Rattle.patch_corners.specs.declared.FrameParams.{FrameParams}
+use Rattle.frame_params.specs.declared.FrameParams.{FrameParams}
 use Rattle.patch_corners.specs.OneMap.{exactChoice}
 use Rattle.frame_pass.specs.Pass.{Pass}
 use Rattle.frame_pass.proofs.Same.{pass-same}

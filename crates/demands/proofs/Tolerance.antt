@@ -13,7 +13,7 @@ use Rattle.response.specs.Patch.{View, cells}
 use Rattle.corner_list.specs.declared.Corner.{Corner}
 use Rattle.detect.specs.Detect.{startAt}
 use Rattle.merge.proofs.Result.{result-all}
-use Rattle.patch_corners.specs.declared.FrameParams.{FrameParams}
+use Rattle.frame_params.specs.declared.FrameParams.{FrameParams}
 use Rattle.patch_corners.specs.OneMap.{Choice, searchOn, localized, moved, cornersIn}
 use Rattle.patch_corners.proofs.Fine.{Fine}
 use Rattle.frame_pass.specs.Pass.{levelsIn, levelView, seedPatch, seedsOf, foundOf, cornersOn, cornersAbout, framePass}
@@ -25,7 +25,7 @@ use Rattle.tolerance.specs.Tolerance.{CloseCorner}
 use Rattle.tolerance.proofs.Tolerance as tolerance
 use Rattle.demands.specs.ResponseCall.{viewIn}
 use Rattle.demands.specs.Neighbours.{IsIn}
-use Rattle.demands.specs.Tolerance.{CentreTolerance, CloseIn, foundIn, standing, CloseFound, FrameTolerance}
+use Rattle.demands.specs.Tolerance.{CentreTolerance, CloseIn, foundIn, inFrame, CloseFound, FrameTolerance}
 use Rattle.demands.proofs.BitForBit.{bit-for-bit}
 use Rattle.demands.proofs.FrameExact.{sound}
 use Rattle.demands.proofs.Neighbours.{all-in}
@@ -69,17 +69,17 @@ module _ (p : FrameParams) (choose : Choice) (R : p .«centroid_radius» ≤ 2) 
     abbrev Searched : ℕ → View → Type 0
     Searched n v = IsIn v (foundIn p img w h choose n) × Fine p v
 
-    close-standing : (n : ℕ) (v : View) → Searched n v
-        → All (λ c. CloseFound p img w h choose n (standing p img w h choose n v c)) (cornersIn p choose v)
-    close-standing n v i =
-        all-map (CloseIn p choose v) (λ c. CloseFound p img w h choose n (standing p img w h choose n v c))
+    close-in-frame : (n : ℕ) (v : View) → Searched n v
+        → All (λ c. CloseFound p img w h choose n (inFrame p img w h choose n v c)) (cornersIn p choose v)
+    close-in-frame n v i =
+        all-map (CloseIn p choose v) (λ c. CloseFound p img w h choose n (inFrame p img w h choose n v c))
         (λ c near. record { view = v; searched = i .0; own = c; close = near; stands = refl }) (cornersIn p choose v) (close-in v (i .1))
 
     on-patch : (k : ℕ) (v : View) → Searched (suc (suc k)) v
         → All (CloseFound p img w h choose (suc (suc k))) (cornersOn p img w h choose v)
     on-patch k v i =
         all-mapped (CloseFound p img w h choose (suc (suc k))) (moved (v .x0) (v .y0)) (cornersIn p choose v)
-        (close-standing (suc (suc k)) v i)
+        (close-in-frame (suc (suc k)) v i)
 
     patch-fine : (k : ℕ) (l : List Corner) → All (Fine p) (flatMap (seedPatch p img w h k) l)
     patch-fine k l =
@@ -89,7 +89,7 @@ module _ (p : FrameParams) (choose : Choice) (R : p .«centroid_radius» ≤ 2) 
         → All (CloseFound p img w h choose n) (foundOf p img w h choose n)
     unfolding foundIn foundOf
     close-found zero i = tt
-    close-found (suc zero) i = close-standing (suc zero) (levelView p img w h 0) (i .0, fine-level p img w h s 0)
+    close-found (suc zero) i = close-in-frame (suc zero) (levelView p img w h 0) (i .0, fine-level p img w h s 0)
     close-found (suc (suc k)) i =
         let n = suc (suc k) in
         let seeds = seedsOf p img w h choose n in

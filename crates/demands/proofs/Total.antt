@@ -20,7 +20,7 @@ use Rattle.pyramid.specs.declared.Pyramid.the-variants as built
 use Rattle.pyramid_levels.specs.declared.LevelAnswer.{LevelAnswer}
 use Rattle.pyramid_levels.specs.declared.LevelAnswer.the-variants as level
 use Rattle.pyramid_levels.specs.Levels.{levelCount, levelSide, cellsAbove}
-use Rattle.pyramid_levels.specs.Refusals.{Ask, ask, isAbsent, isShort, buildRefusalOf, levelRefusalOf}
+use Rattle.pyramid_levels.specs.Refusals.{Ask, ask, isAbsent, isLevelBufferShort, buildRefusalOf, levelRefusalOf}
 use Rattle.pyramid.specs.Build as build
 use Rattle.pyramid_levels.specs.Level as lookup
 use Rattle.corner_list.specs.declared.Corner.{Corner}
@@ -44,7 +44,7 @@ use Rattle.multiscale.specs.Multiscale as multiscale
 use Rattle.multiscale.specs.Promise.{Boxed}
 use Rattle.multiscale.proofs.Box as box
 use Rattle.merge_radius.specs.MergeRadius.{isOff, radiusOutside}
-use Rattle.merge_refusal.specs.Refusals.{isOutside}
+use Rattle.merge_refusal.specs.Refusals.{cornerOutside}
 use Rattle.merge.specs.declared.Merged.{Merged}
 use Rattle.merge.specs.declared.Merged.the-variants as merged
 use Rattle.merge.specs.Merge as merge
@@ -57,9 +57,10 @@ use Rattle.corner_strike.specs.declared.striking.Strike.{Strike}
 use Rattle.corner_strike.specs.declared.striking.Strike.the-variants as struck
 use Rattle.corner_strike.specs.Striking as striking
 use Rattle.corner_strike.specs.Editions.{Edition}
-use Rattle.patch_corners.specs.declared.FrameParams.{FrameParams}
+use Rattle.frame_params.specs.declared.FrameParams.{FrameParams}
 use Rattle.patch_corners.specs.OneMap.{Choice, choiceOf, computedChoice, exactChoice}
-use Rattle.frame_pass.specs.Refusals.{parametersFit, conditions}
+use Rattle.frame_params.specs.Ranges.{parametersFit}
+use Rattle.frame_pass.specs.Refusals.{conditions}
 use Rattle.frame_pass.specs.Pass.{framePass}
 use Rattle.frame.specs.declared.FrameAnswer.{FrameAnswer}
 use Rattle.frame.specs.declared.FrameAnswer.the-variants as answer
@@ -98,7 +99,7 @@ use Rattle.sure_peak.specs.Promise as sure
 use Rattle.retention.specs.declared.Holding.{Holding}
 use Rattle.retention.specs.declared.Holding.the-variants as held
 use Rattle.retention.specs.Retention as retention
-use Rattle.retention.specs.Answer.{Told}
+use Rattle.retention.specs.Answer.{StateTold}
 use Rattle.retention.proofs.Items.{lettered}
 use Rattle.demands.specs.ResponseCall.{viewOf}
 use Rattle.demands.specs.Numbers.{OneOf, Refuses}
@@ -127,7 +128,8 @@ build-refuses base w h count least d e r f =
     refused-one built.Refused (λ k. unless built.Refused k (built.Levels (levelCount w h count least)))
     (λ k q. let z : _≡_ {A = ℕ} 0 1 = cc in omega arith)
     (λ n k q. sym (ap build.numberOf q))
-    ((isLarge w h, 1) ∷ (isMisfit (length base) w h, 2) ∷ (isShort (ask (length base) (length d) w h count least), 9) ∷ []) r (f .answer)
+    ((isLarge w h, 1) ∷ (isMisfit (length base) w h, 2) ∷ (isLevelBufferShort (ask (length base) (length d) w h count least), 9)
+    ∷ []) r (f .answer)
 
 level-refuses : (a : Ask) (k : ℕ) (r : LevelAnswer) → lookup.LevelFound a k r
     → Refuses level.Refused (1 ∷ 2 ∷ 3 ∷ 9 ∷ []) r
@@ -136,7 +138,8 @@ level-refuses a k r f =
     refused-one level.Refused (λ n. unless level.Refused n
     (level.Level (cellsAbove (a .w) (a .h) k) (levelSide (a .w) k) (levelSide (a .h) k)))
     (λ k q. let z : _≡_ {A = ℕ} 0 1 = cc in omega arith) (λ n k q. sym (ap lookup.numberOf q))
-    ((isLarge (a .w) (a .h), 1) ∷ (isMisfit (a .pixels) (a .w) (a .h), 2) ∷ (isAbsent a k, 3) ∷ (isShort a, 9) ∷ []) r (f .answer)
+    ((isLarge (a .w) (a .h), 1) ∷ (isMisfit (a .pixels) (a .w) (a .h), 2) ∷ (isAbsent a k, 3) ∷ (isLevelBufferShort a, 9) ∷ []) r
+    (f .answer)
 
 -- peak finding, and what promises as it does
 peaks-refuse : (conds : List (Bool × ℕ)) (cs : List Corner) (ties held : ℕ) (b : Slices) (r : Peaks)
@@ -195,14 +198,14 @@ merge-refuses : (radius : Float) (places count : ℕ) (b : Slices) (n : ℕ) (r 
     → Refuses merged.Refused (4 ∷ 5 ∷ 10 ∷ []) r
 unfolding merge.refusalOf
 merge-refuses radius places count b n r f =
-    merge-numbers (not (isOff radius) && any isOutside (cornersOf b (min count places))) (radiusOutside radius) (ltb places count) n r f
+    merge-numbers (not (isOff radius) && any cornerOutside (cornersOf b (min count places))) (radiusOutside radius) (ltb places count) n r f
 
 apart-refuses : (radius : Float) (places count : ℕ) (b : Slices) (n : ℕ) (r : Merged)
     → r ≡ unless merged.Refused (refusalApart radius places count b) (merged.Kept n)
     → Refuses merged.Refused (4 ∷ 5 ∷ 10 ∷ []) r
 unfolding refusalApart
 apart-refuses radius places count b n r f =
-    merge-numbers (not (isOff radius) && any isOutside (cornersOf b (min count (placesOf b)))) (radiusOutside radius)
+    merge-numbers (not (isOff radius) && any cornerOutside (cornersOf b (min count (placesOf b)))) (radiusOutside radius)
     (ltb (placesOf b) count || ltb places count) n r f
 
 slice-refuses : (radius : Float) (count : ℕ) (cs : List Corner) (b : Slices) (n : ℕ) (r : Merged)
@@ -210,7 +213,7 @@ slice-refuses : (radius : Float) (count : ℕ) (cs : List Corner) (b : Slices) (
     → Refuses merged.Refused (4 ∷ 5 ∷ 10 ∷ []) r
 unfolding refusalFor
 slice-refuses radius count cs b n r f =
-    merge-numbers (not (isOff radius) && any isOutside (take count cs)) (radiusOutside radius) (ltb (sharedPlaces cs b) count) n r f
+    merge-numbers (not (isOff radius) && any cornerOutside (take count cs)) (radiusOutside radius) (ltb (sharedPlaces cs b) count) n r f
 
 show-refuses : (b : Slices) (e : Edition) (place : ℕ) (r : Shown) → showing.Shows b e place r → Refuses shown.Refused (10 ∷ 17 ∷ []) r
 unfolding showing.refusalOf
@@ -258,7 +261,7 @@ frame-fitting choose p img w h b b′ r fits f =
     ∷ (not (parametersFit p), 3)
     ∷ (radiusOutside (p .«merge_radius»), 5)
     ∷ (ltb (length (b .map)) (w * h), 8)
-    ∷ (isShort (ask (length img) (length (b .levels)) w h (p .levels) (p .«minimum_side»)), 9)
+    ∷ (isLevelBufferShort (ask (length img) (length (b .levels)) w h (p .levels) (p .«minimum_side»)), 9)
     ∷ (frame.tooMany q b, 10)
     ∷ [])
     r (f .answer ∙ rw (eq-eqb (length img) (w * h) fits))
@@ -315,7 +318,7 @@ limits-refuses low high w h ring lows highs r lows′ highs′ f k e =
     (λ n k q. sym (ap limits.numberOf q)) (limits.conditions low high w h ring (length lows) (length highs)) r (f .answer) k e)
 
 sure-refuses : (lows highs : List ℤ) (w h ring threshold window least centroid : ℕ) (q : Place) (r : Sure)
-    → sure.SureTold lows highs w h ring threshold window least centroid q r → Refuses surely.Refused (1 ∷ 2 ∷ 3 ∷ 14 ∷ []) r
+    → sure.SurePeakTold lows highs w h ring threshold window least centroid q r → Refuses surely.Refused (1 ∷ 2 ∷ 3 ∷ 14 ∷ []) r
 unfolding sure.refusalOf
 sure-refuses lows highs w h ring threshold window least centroid q r f k e =
     let yes = isSure lows highs w h ring threshold window least centroid q in
@@ -328,7 +331,7 @@ sure-refuses lows highs w h ring threshold window least centroid q r f k e =
     none true k q = let e = ap (λ (a : Sure). length (sure.valuesOf a)) q in omega arith
     none false k q = let e = ap (λ (a : Sure). length (sure.valuesOf a)) q in omega arith
 
-holding-refuses : (kind start time : ℕ) (r : Holding) → Told kind start time r → Refuses held.Refused (6 ∷ 20 ∷ []) r
+holding-refuses : (kind start time : ℕ) (r : Holding) → StateTold kind start time r → Refuses held.Refused (6 ∷ 20 ∷ []) r
 unfolding retention.refusalOf
 holding-refuses kind start time r f =
     let state = retention.stateOf kind start time in

@@ -17,7 +17,7 @@ use Rattle.float32.proofs.Scale.{power-float}
 use Rattle.corner_list.specs.CornerList.{largestCoordinate, isInside}
 use Rattle.corner_list.specs.declared.Corner.{Corner}
 use Rattle.corner_list.proofs.Inside.{inside-parts}
-use Rattle.patch_corners.specs.declared.FrameParams.{FrameParams}
+use Rattle.frame_params.specs.declared.FrameParams.{FrameParams}
 use Rattle.patch_corners.specs.OneMap.{Choice, computedChoice}
 use Rattle.frame_pass.specs.Pass.{framePass}
 use Rattle.frame_pass.specs.Theorems.{SoundFrame}

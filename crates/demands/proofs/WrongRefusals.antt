@@ -7,10 +7,10 @@ use Rattle.center_of_mass.specs.CenterOfMass.{seedFits}
 use Rattle.center_of_mass.specs.CenterOfMass as center
 use Rattle.merge_radius.specs.MergeRadius.{isOff, isSized}
 use Rattle.merge_refusal.specs.Refusals as merge
-use Rattle.merge_grid.specs.Grid.{gridOf, near, neighbours}
+use Rattle.merge_grid.specs.Grid.{gridOf, near, adjacentCells}
 use Rattle.merge.specs.Merge.{resultOf}
 use Rattle.merge.specs.Apart.{refusalApart}
-use Rattle.stream.specs.Stream.{bodyLength, rangeOutside, readFrame}
+use Rattle.stream.specs.Stream.{bodyLength, readFrame}
 use Rattle.stream.specs.RoundTrip.{pixelBytes, frameBytes}
 use Rattle.pgm.specs.Header.{bare, fieldOf}
 use Rattle.pgm.specs.Pgm as pgm
@@ -25,6 +25,6 @@ use Rattle.demands.proofs.Roads.{differ}
 pub wrong-refusals : WrongRefusals
 unfolding wrongRefusals lt le add sub mul div ofInt ofBits toUnsigned tab isInside seedFits center.refusalOf isOff isSized
     merge.refusalOf gridOf near
-    neighbours resultOf refusalApart bodyLength rangeOutside readFrame pixelBytes frameBytes bare fieldOf pgm.conditions pgm.refusalOf
+    adjacentCells resultOf refusalApart bodyLength readFrame pixelBytes frameBytes bare fieldOf pgm.conditions pgm.refusalOf
     limits.refusalOf striking.refusalOf writer.conditions writer.refusalOf retention.refusalOf retouch.refusalOf
 wrong-refusals = record { ours = refl; wrong = refl; differ = differ wrongRefusals refl }

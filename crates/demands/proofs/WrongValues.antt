@@ -17,7 +17,7 @@ use Rattle.detect.specs.Enough.{rowsInside, enoughOf}
 use Rattle.center_of_mass.specs.CenterOfMass.{withCells, seedFits, refusalOf, centreOn, outcomeOf, refined}
 use Rattle.multiscale.specs.Multiscale.{roiRadius}
 use Rattle.merge_radius.specs.MergeRadius.{isOff}
-use Rattle.merge_grid.specs.Grid.{gridOf, near, neighbours}
+use Rattle.merge_grid.specs.Grid.{gridOf, near, adjacentCells}
 use Rattle.merge.specs.Merge.{resultOf}
 use Rattle.merge_naive.specs.MergeNaive.{naiveOf}
 use Rattle.pgm.specs.Header.{bare, fieldOf}
@@ -40,7 +40,7 @@ unfolding wrongValues toolRoads lt le add sub mul div ofInt ofBits toBits toUnsi
     roundHalfAway total ring5 ringOf samples responseOf withPair passedAfter fifthsAt withoutCorner square window beaten equals
     positives isPeak
     peakPlaces fifthsAbove rowsInside enoughOf withCells seedFits refusalOf centreOn outcomeOf refined roiRadius isOff gridOf near
-    neighbours resultOf
+    adjacentCells resultOf
     naiveOf bare fieldOf pgm.conditions pgm.refusalOf pgm.pixelsIn unitsOf lowAt isSure striking.refusalOf pixelBytes frameBytes
     stays stateOf
     response responseAt cells grid redone windowTest timeFault linesFrom outputOf decimal digits places digitOf refusedText

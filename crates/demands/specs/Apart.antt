@@ -12,7 +12,7 @@ use Rattle.merge.specs.Merge.{numberOf, Merges}
 use Rattle.merge.specs.Apart.{MergedApart}
 
 -- two calls on the same corners of a buffer, with the same count and radius, each with its promise word for word
-pub record TwoMerges : Type 0 where
+pub record ApartAndInPlace : Type 0 where
   pub radius : Float
   pub count : ℕ
   pub original : Slices
@@ -28,15 +28,15 @@ pub record TwoMerges : Type 0 where
 
 pub record ApartIsMerge : Type 0 where
   -- if the count fits the separate buffer: the same answer, so the same number, and the same count
-  pub same-answer : (t : TwoMerges) → t .count ≤ placesOf (t .separate) → t .answer ≡ t .own-answer
+  pub same-answer : (t : ApartAndInPlace) → t .count ≤ placesOf (t .separate) → t .answer ≡ t .own-answer
   -- and the same list
-  pub same-list : (t : TwoMerges) → t .count ≤ placesOf (t .separate) → (n : ℕ) → t .answer ≡ Kept n
+  pub same-list : (t : ApartAndInPlace) → t .count ≤ placesOf (t .separate) → (n : ℕ) → t .answer ≡ Kept n
       → cornersOf (t .separate′) n ≡ cornersOf (t .original′) n
   -- if it does not fit: the number of the merge, or 10 if the merge is not refused
-  pub crowded : (t : TwoMerges) → placesOf (t .separate) < t .count
+  pub crowded : (t : ApartAndInPlace) → placesOf (t .separate) < t .count
       → numberOf (t .answer) ≡ unless (λ k. k) (numberOf (t .own-answer)) 10
   -- refused, with any number, it leaves the separate buffer unchanged
-  pub refused : (t : TwoMerges) (k : ℕ) → t .answer ≡ Refused k → t .separate′ ≡ t .separate
+  pub refused : (t : ApartAndInPlace) (number : ℕ) → t .answer ≡ Refused number → t .separate′ ≡ t .separate
   -- what follows the list stays: it is not a copy that is merged in place
-  pub behind : (t : TwoMerges) (n : ℕ) → t .answer ≡ Kept n → (i : ℕ) → n ≤ i
+  pub behind : (t : ApartAndInPlace) (n : ℕ) → t .answer ≡ Kept n → (i : ℕ) → n ≤ i
       → cornerAt (t .separate′) i ≡ cornerAt (t .separate) i

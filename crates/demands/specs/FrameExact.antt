@@ -16,7 +16,7 @@ use Rattle.agreement.specs.Agreement.{NoTie}
 use Rattle.corner_list.specs.CornerList.{cornersOf}
 use Rattle.corner_list.specs.declared.Corner.{Corner}
 use Rattle.detect.specs.Detect.{conditions}
-use Rattle.patch_corners.specs.declared.FrameParams.{FrameParams}
+use Rattle.frame_params.specs.declared.FrameParams.{FrameParams}
 use Rattle.patch_corners.specs.OneMap.{Choice, searchOn, computedChoice, exactChoice}
 use Rattle.frame_pass.specs.Pass.{framePass, lookedAt}
 use Rattle.frame_pass.specs.Theorems.{CornersInside, BoxesAnswered, NoneDropped}

@@ -21,7 +21,7 @@ use Rattle.response_limits.specs.Limits.{Between, lowAt, highAt}
 use Rattle.response_limits.specs.Promise.{LimitsWritten}
 use Rattle.sure_peak.specs.declared.Sure.the-variants.{Yes}
 use Rattle.sure_peak.specs.SurePeak.{byLimits}
-use Rattle.sure_peak.specs.Promise.{SureTold}
+use Rattle.sure_peak.specs.Promise.{SurePeakTold}
 
 -- a call of `response_limits` that was not refused, with its promise word for word
 pub record LimitsCall : Type 0 where
@@ -71,7 +71,7 @@ pub record SureCall (c : LimitsCall) : Type 0 where
   pub «least_neighbours» : ℕ
   pub centroid : ℕ
   pub place : Place
-  pub promise : SureTold (take (c .h * c .w) (c .lows′)) (take (c .h * c .w) (c .highs′)) (c .w) (c .h)
+  pub promise : SurePeakTold (take (c .h * c .w) (c .lows′)) (take (c .h * c .w) (c .highs′)) (c .w) (c .h)
       (c .ring) threshold window «least_neighbours» centroid place Yes
 
 -- "With maps so made for the ring given it is then a peak by exact values of every such image": it is in the list of

@@ -15,7 +15,7 @@ use Rattle.merge_alike.specs.Alike.{IsPower, OnMultiples}
 
 -- two calls with one radius and one count, on one buffer as it was before either: of `merge_corners_simple` and of
 -- `merge_corners_naive`, each with its promise, word for word
-pub record TwoMerges : Type 0 where
+pub record InUseAndNaive : Type 0 where
   pub radius : Float
   pub count : ℕ
   pub before : Slices
@@ -30,24 +30,24 @@ pub record TwoMerges : Type 0 where
 -- 4,096": answer and buffer, refused or not. The coordinates are those of the counted corners that the buffer has
 abbrev pub MergesAlike : Type 0
 MergesAlike =
-    (m : TwoMerges) → IsPower (m .radius)
+    (m : InUseAndNaive) → IsPower (m .radius)
     → All OnMultiples (cornersOf (m .before) (min (m .count) (placesOf (m .before))))
     → (m .naive ≡ m .in-use) × (m .naive-after ≡ m .in-use-after)
 
 -- "It gives the old merge's refusals in their order", for any list and any radius
 abbrev pub RefusesAlike : Type 0
-RefusesAlike = (m : TwoMerges) → numberOf (m .naive) ≡ numberOf (m .in-use)
+RefusesAlike = (m : InUseAndNaive) → numberOf (m .naive) ≡ numberOf (m .in-use)
 
 -- "and an off radius returns the list", if the buffer has it
 abbrev pub OffReturnsList : Type 0
 OffReturnsList =
-    (m : TwoMerges) → isOff (m .radius) ≡ true → m .count ≤ placesOf (m .before)
+    (m : InUseAndNaive) → isOff (m .radius) ≡ true → m .count ≤ placesOf (m .before)
     → (m .naive ≡ Kept (m .count)) × (m .naive-after ≡ m .before)
 
 -- "the case (1−2^-24, 0), (2, 0), (0, 100) with radius 1": at the start of a buffer, "two corners by one and three by
 -- the other"
 abbrev pub CaseToldApart : Type 0
 CaseToldApart =
-    (m : TwoMerges) → m .radius ≡ one → m .count ≡ 3 → 3 ≤ placesOf (m .before) → cornersOf (m .before) 3 ≡ three
+    (m : InUseAndNaive) → m .radius ≡ one → m .count ≡ 3 → 3 ≤ placesOf (m .before) → cornersOf (m .before) 3 ≡ three
     → ((m .naive ≡ Kept 2) × (cornersOf (m .naive-after) 2 ≡ two))
     × ((m .in-use ≡ Kept 3) × (cornersOf (m .in-use-after) 3 ≡ three))

@@ -11,7 +11,7 @@ use Rattle.response.specs.Exact.{fifthsIn}
 use Rattle.corner_list.specs.declared.Corner.{Corner}
 use Rattle.detect.specs.Peaks.{positives, valueAt}
 use Rattle.detect.specs.Detect.{neighboursAt}
-use Rattle.patch_corners.specs.declared.FrameParams.{FrameParams}
+use Rattle.frame_params.specs.declared.FrameParams.{FrameParams}
 use Rattle.patch_corners.specs.OneMap.{searchOn, computedChoice}
 use Rattle.frame_pass.specs.Pass.{lookedAt}
 use Rattle.demands.specs.FrameExact.{FrameCall, frameList}

@@ -11,4 +11,4 @@ OneOf n (k ∷ ks) = (n ≡ k) ⊎ OneOf n ks
 
 -- an answer that is not a refusal, or one with a number from the list
 abbrev pub Refuses : {A : Type 0} → (ℕ → A) → List ℕ → A → Type 0
-Refuses refused numbers answer = (k : ℕ) → answer ≡ refused k → OneOf k numbers
+Refuses refused numbers answer = (number : ℕ) → answer ≡ refused number → OneOf number numbers

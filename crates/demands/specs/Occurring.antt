@@ -26,7 +26,7 @@ use Rattle.merge_slice.specs.MergeSlice.{refusalFor}
 use Rattle.corner_strike.specs.Editions.{Edition, edition}
 use Rattle.corner_strike.specs.Showing as showing
 use Rattle.corner_strike.specs.Striking as striking
-use Rattle.patch_corners.specs.declared.FrameParams.{FrameParams}
+use Rattle.frame_params.specs.declared.FrameParams.{FrameParams}
 use Rattle.patch_corners.specs.OneMap.{Choice, choiceOf, computedChoice, exactChoice}
 use Rattle.patch_corners.specs.MapCorners.{centresIn, centresInRows}
 use Rattle.frame.specs.Frame.{Buffers, buffers, params}

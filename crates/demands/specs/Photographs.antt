@@ -9,7 +9,7 @@ use Rattle.lists.specs.Limits.{largestSide}
 use Rattle.lists.specs.Refusals.{valuesUnless}
 use Rattle.accuracy.specs.Accurate.{Bytes}
 use Rattle.listing.specs.Text.{decimal, space, newline}
-use Rattle.patch_corners.specs.declared.FrameParams.{FrameParams}
+use Rattle.frame_params.specs.declared.FrameParams.{FrameParams}
 use Rattle.patch_corners.specs.OneMap.{Choice}
 use Rattle.frame.specs.declared.FrameAnswer.{FrameAnswer}
 use Rattle.frame.specs.declared.FrameAnswer.the-variants.{Corners, Refused}

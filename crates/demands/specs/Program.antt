@@ -7,7 +7,7 @@ use mathlib.Core.List.{List, [], _∷_, _++_}
 use lib.ListN.{length, take}
 use Rattle.lists.specs.Places.{All}
 use Rattle.corner_list.specs.declared.Corner.{Corner}
-use Rattle.patch_corners.specs.declared.FrameParams.{FrameParams}
+use Rattle.frame_params.specs.declared.FrameParams.{FrameParams}
 use Rattle.patch_corners.specs.OneMap.{Choice, computedChoice, exactChoice}
 use Rattle.frame_pass.specs.Pass.{framePass, lookedAt}
 use Rattle.frame.specs.Frame.{refusalOf}

@@ -12,7 +12,7 @@ use Rattle.retention.specs.declared.Holding.the-variants.{NotYet, Held, Gone}
 use Rattle.retention.specs.Retention.{dayOf, numberOf, letterOf}
 use Rattle.retention.specs.Stream.{mostRecords, longestInput, stateAt, placeOf, outputOf}
 use Rattle.retention.specs.Wanted.{itemFault, items, wanted}
-use Rattle.retention.specs.Answer.{Told}
+use Rattle.retention.specs.Answer.{StateTold}
 use Rattle.demands.specs.Numbers.{OneOf}
 
 -- ---- an item
@@ -22,7 +22,7 @@ pub record HoldingCall (kind : ℕ) : Type 0 where
   pub start : ℕ
   pub time : ℕ
   pub answer : Holding
-  pub promise : Told kind start time answer
+  pub promise : StateTold kind start time answer
   pub finished : numberOf answer ≡ 0
 
 pub record HeldWhen : Type 0 where

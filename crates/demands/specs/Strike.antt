@@ -20,8 +20,8 @@ pub record Edited : Type 0 where
   pub buffer : Slices
   pub edition : Edition
 
-abbrev pub cornersIn : Edited → List Corner
-cornersIn s = cornersOf (s .buffer) (s .edition .count)
+abbrev pub editedCorners : Edited → List Corner
+editedCorners s = cornersOf (s .buffer) (s .edition .count)
 
 -- ---- calls on a list, each with its promise word for word
 
@@ -48,7 +48,7 @@ pub data StrikeCalls : Edited → Edited → Type 0 where
 -- how many of them struck a corner
 abbrev pub strikesOf : Strike → ℕ
 strikesOf (Struck count change) = 1
-strikesOf (Refused k) = 0
+strikesOf (Refused number) = 0
 
 unfoldable pub struckIn : (s s′ : Edited) → StrikeCalls s s′ → ℕ
 struckIn s s′ (none _) = 0
@@ -59,7 +59,7 @@ pub record RaisedByStrikesOnly : Type 0 where
   -- one call: a strike removes one corner and raises the number by one, a refusal leaves the list unchanged
   pub struck : (s : Edited) (c : StrikeCall s) → numberOf (c .answer) ≡ 0
       → (c .after .edition .change ≡ s .edition .change + 1) × (c .after .edition .count + 1 ≡ s .edition .count)
-  pub refused : (s : Edited) (c : StrikeCall s) (k : ℕ) → c .answer ≡ Refused k → c .after ≡ s
+  pub refused : (s : Edited) (c : StrikeCall s) (number : ℕ) → c .answer ≡ Refused number → c .after ≡ s
   -- many: the number has grown by how many corners were struck; if it began at 0, as the owner of a new list sets it,
   -- it is that number
   pub counted : (s s′ : Edited) (calls : StrikeCalls s s′)
@@ -100,4 +100,4 @@ ShownIsStruck =
     (s s′ : Edited) (showing : ShowCall s) (shown : Corner) (number : ℕ) → showing .answer ≡ Found shown number
     → StrikeCalls s s′
     → (c : StrikeCall s′) → c .place ≡ showing .place → c .change ≡ number → numberOf (c .answer) ≡ 0
-    → Removed shown (c .place) (cornersIn s′) (cornersIn (c .after))
+    → Removed shown (c .place) (editedCorners s′) (editedCorners (c .after))

@@ -15,7 +15,7 @@ use Rattle.detect.specs.declared.WindowTest.{WindowTest}
 use Rattle.detect.specs.declared.WindowTest.the-variants.{Top}
 use Rattle.detect.specs.Peaks.{window, valueAt}
 use Rattle.detect.specs.Detect.{tiesIn, WindowTested}
-use Rattle.patch_corners.specs.declared.FrameParams.{FrameParams}
+use Rattle.frame_params.specs.declared.FrameParams.{FrameParams}
 use Rattle.patch_corners.specs.OneMap.{exactChoice}
 use Rattle.frame_pass.specs.Pass.{framePass}
 use Rattle.demands.specs.PeakCall.{PeakCall, searchIn}

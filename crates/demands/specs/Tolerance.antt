@@ -13,7 +13,7 @@ use Rattle.corner_list.specs.declared.Corner.{Corner}
 use Rattle.detect.specs.Detect.{startAt}
 use Rattle.center_of_mass.specs.declared.Outcome.the-variants.{Accepted}
 use Rattle.center_of_mass.specs.Promise.{Refined}
-use Rattle.patch_corners.specs.declared.FrameParams.{FrameParams}
+use Rattle.frame_params.specs.declared.FrameParams.{FrameParams}
 use Rattle.patch_corners.specs.OneMap.{Choice, searchOn, moved}
 use Rattle.frame_pass.specs.Pass.{levelsIn, levelView, seedPatch, seedsOf, framePass}
 use Rattle.tolerance.specs.Tolerance.{summedCells, Close, CloseCorner}
@@ -48,10 +48,10 @@ module _ (p : FrameParams) (img : List ℕ) (w h : ℕ) (choose : Choice) where
   foundIn (suc (suc k)) = flatMap (seedPatch p img w h (suc k)) (seedsOf p img w h choose (suc (suc k)))
 
   -- a corner of such a map as it is in the corner buffer: with more than one level, moved by its box's corner
-  abbrev pub standing : ℕ → View → Corner → Corner
-  standing zero v c = c
-  standing (suc zero) v c = c
-  standing (suc (suc k)) v c = moved (v .x0) (v .y0) c
+  abbrev pub inFrame : ℕ → View → Corner → Corner
+  inFrame zero v c = c
+  inFrame (suc zero) v c = c
+  inFrame (suc (suc k)) v c = moved (v .x0) (v .y0) c
 
   -- a corner that comes from a close one
   pub record CloseFound (n : ℕ) (c : Corner) : Type 0 where
@@ -59,7 +59,7 @@ module _ (p : FrameParams) (img : List ℕ) (w h : ℕ) (choose : Choice) where
     pub searched : IsIn view (foundIn n)
     pub own : Corner
     pub close : CloseIn p choose view own
-    pub stands : c ≡ standing n view own
+    pub stands : c ≡ inFrame n view own
 
 -- the seeds that a call left: as many as the pass has, at the start of the seed buffer
 abbrev pub seedList : {choose : FrameParams → Choice} → CallBy choose → List Corner

@@ -22,7 +22,7 @@ use Rattle.pgm.specs.Pgm.{pixelsIn}
 use Rattle.listing.specs.Text.{refusedText}
 use Rattle.retouch.specs.Retouch.{isAt, samplePlaces, touched, redone}
 use Rattle.response_limits.specs.Limits.{Range, leastDist, lowAt}
-use Rattle.sure_peak.specs.SurePeak.{fifthsIn, byLimits, isSure}
+use Rattle.sure_peak.specs.SurePeak.{storedFifths, byLimits, isSure}
 use Rattle.corner_strike.specs.Editions.{edition, raised}
 use Rattle.corner_strike.specs.Striking as striking
 use Rattle.stream.specs.declared.Header.{Header}
@@ -120,7 +120,7 @@ sureBy least v = told (isPeak v 13 13 1 least (place 6 6))
 -- the right reading, and those with another test for the threshold, for larger cells and for neighbours
 module _ (lows highs : List ℤ) (threshold : ℕ) where
   abbrev right : CellTests
-  right = byLimits (fifthsIn lows 13) (fifthsIn highs 13) threshold
+  right = byLimits (storedFifths lows 13) (storedFifths highs 13) threshold
 
   abbrev aboveBy : (Place → Bool) → CellTests
   aboveBy above = record { above = above; larger = right .larger; positive = right .positive }
@@ -142,18 +142,18 @@ between =
     ∷ road (minusPart (lowAt dark lit 11 11 ring5 5 5)) 16 (minusPart (fifthsAt dark 11 11 ring5 5 5)) 0
     -- "whose low exceeds five times that threshold": is at least that (RULES 28.6)
     ∷ road (sure (about 0 10) (about 0 10) 2 0) 0
-    (sureBy 0 (aboveBy (about 0 10) (about 0 10) 2 (λ p. not (ltZ (fifthsIn (about 0 10) 13 p) (pos (5 * 2)))))) 1
+    (sureBy 0 (aboveBy (about 0 10) (about 0 10) 2 (λ p. not (ltZ (storedFifths (about 0 10) 13 p) (pos (5 * 2)))))) 1
     -- with the product cut to 32 bits
     ∷ road (sure (about 0 most) (about 0 most) (2 ^ 30) 0) 0
     (sureBy 0 (aboveBy (about 0 most) (about 0 most) (2 ^ 30)
-    (λ p. ltZ (pos (5 * 2 ^ 30 % 2 ^ 32)) (fifthsIn (about 0 most) 13 p)))) 1
+    (λ p. ltZ (pos (5 * 2 ^ 30 % 2 ^ 32)) (storedFifths (about 0 most) 13 p)))) 1
     -- "is at least every window cell's high": is above it
     ∷ road (sure (about 10 10) (about 10 10) 1 0) 1
     (sureBy 0 (largerBy (about 10 10) (about 10 10) 1
-    (λ q p. not (ltZ (fifthsIn (about 10 10) 13 q) (fifthsIn (about 10 10) 13 p))))) 0
+    (λ q p. not (ltZ (storedFifths (about 10 10) 13 q) (storedFifths (about 10 10) 13 p))))) 0
     -- "enough neighbours of low above 0": of high
     ∷ road (sure (about 0 10) (about 5 10) 1 1) 0
-    (sureBy 1 (positiveBy (about 0 10) (about 5 10) 1 (λ q. ltZ (pos 0) (fifthsIn (about 5 10) 13 q)))) 1
+    (sureBy 1 (positiveBy (about 0 10) (about 5 10) 1 (λ q. ltZ (pos 0) (storedFifths (about 5 10) 13 q)))) 1
     ∷ []
 
 -- ---- request 10, a corner struck (RULES 29.3): the only corner of a list, at column 7; and a list of two, with 1 and

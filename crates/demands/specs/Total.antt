@@ -11,6 +11,7 @@
 -- numbers         lesser, greater, minus
 -- image_size      is_large, refusal (the number alone)
 -- ring            ring_offsets, is_ring
+-- frame_params    is_outside, parameters_fit
 -- float32         abs, is_finite, lifted, is_between, from_bits, to_bits, cut_off, round_half_away
 --                 (with its number, 0, and its values)
 -- corner_list     is_inside, corner_at, put_corner, places
@@ -28,8 +29,8 @@
 -- listing         write_refusal (one for its answer, one for its buffer)
 -- retention       list_holdings (likewise), wanted (one for each number of its answer)
 -- finder          find (likewise)
--- The functions of `capi`, `capi_stages`, `capi_lists`, `capi_tools` and `capi_limits`, for C, pass on these promises
--- and return the number.
+-- The functions of `capi_frame`, `capi_photo`, `capi_maps`, `capi_peaks`, `capi_lists` and `capi_formats`, for C, pass
+-- on these promises and return the number.
 use Prim.Native.Nat.{ℕ, min}
 use mathlib.Core.Path.{_≡_}
 use mathlib.Core.Bool.{Bool}
@@ -76,7 +77,7 @@ use Rattle.corner_strike.specs.Showing.{Shows}
 use Rattle.corner_strike.specs.declared.striking.Strike.{Strike}
 use Rattle.corner_strike.specs.declared.striking.Strike.the-variants as striking
 use Rattle.corner_strike.specs.Striking.{Strikes}
-use Rattle.patch_corners.specs.declared.FrameParams.{FrameParams}
+use Rattle.frame_params.specs.declared.FrameParams.{FrameParams}
 use Rattle.patch_corners.specs.OneMap.{Choice, choiceOf, computedChoice, exactChoice}
 use Rattle.patch_corners.specs.MapCorners.{CornersAdded, RowCornersAdded}
 use Rattle.frame.specs.declared.FrameAnswer.{FrameAnswer}
@@ -104,10 +105,10 @@ use Rattle.response_limits.specs.declared.Limits.the-variants as limits
 use Rattle.response_limits.specs.Promise.{LimitsWritten}
 use Rattle.sure_peak.specs.declared.Sure.{Sure}
 use Rattle.sure_peak.specs.declared.Sure.the-variants as sure
-use Rattle.sure_peak.specs.Promise.{SureTold}
+use Rattle.sure_peak.specs.Promise.{SurePeakTold}
 use Rattle.retention.specs.declared.Holding.{Holding}
 use Rattle.retention.specs.declared.Holding.the-variants as retention
-use Rattle.retention.specs.Answer.{Told}
+use Rattle.retention.specs.Answer.{StateTold}
 use Rattle.lists.specs.Places.{Place}
 use Rattle.demands.specs.Numbers.{Refuses}
 use Rattle.demands.specs.ResponseCall.{viewOf}
@@ -206,7 +207,7 @@ pub record Total : Type 0 where
       → LimitsWritten low high w h ring lows highs r lows′ highs′
       → Refuses limits.Refused (1 ∷ 2 ∷ 3 ∷ 8 ∷ 15 ∷ []) r
   pub «sure_peak» : (lows highs : List ℤ) (w h ring threshold window least centroid : ℕ) (q : Place) (r : Sure)
-      → SureTold lows highs w h ring threshold window least centroid q r
+      → SurePeakTold lows highs w h ring threshold window least centroid q r
       → Refuses sure.Refused (1 ∷ 2 ∷ 3 ∷ 14 ∷ []) r
-  pub holding : (kind start time : ℕ) (r : Holding) → Told kind start time r
+  pub holding : (kind start time : ℕ) (r : Holding) → StateTold kind start time r
       → Refuses retention.Refused (6 ∷ 20 ∷ []) r

@@ -11,7 +11,7 @@ use Rattle.float32.specs.Float32.{zero, between}
 use Rattle.accuracy.specs.Accurate.{Bytes}
 use Rattle.corner_list.specs.CornerList.{largestCoordinate}
 use Rattle.corner_list.specs.declared.Corner.{Corner}
-use Rattle.patch_corners.specs.declared.FrameParams.{FrameParams}
+use Rattle.frame_params.specs.declared.FrameParams.{FrameParams}
 use Rattle.patch_corners.specs.OneMap.{Choice, computedChoice}
 use Rattle.listing.specs.Text.{unitsOf, decimal, fields}
 use Rattle.demands.specs.FrameExact.{CallBy, frameList}

@@ -46,7 +46,7 @@ abbrev base : List Road
 base =
     -- "With an off radius .. the merge checks only 10": 4 too (RULES 2.4)
     road (merge.refusalOf nan 1 1 oneOutside) 0
-    (before (any merge.isOutside (cornersOf oneOutside 1), 4) (merge.conditions nan [] (ltb 1 1))) 4
+    (before (any merge.cornerOutside (cornersOf oneOutside 1), 4) (merge.conditions nan [] (ltb 1 1))) 4
     -- "Lowest number first", even if a stated count exceeds the places: 10 before 4 (RULES 2.3)
     ∷ road (merge.refusalOf three 1 2 oneOutside) 4
     (before (ltb 1 2, 10) (merge.conditions three (cornersOf oneOutside 1) true)) 10
@@ -111,7 +111,7 @@ abbrev retouching : List Road
 retouching =
     -- "14 place outside the image, after 3": before it
     road (retouch.refusalOf 0 0 0 0 0 (place 0 0)) 3
-    (before (retouch.isOutside 0 0 (place 0 0), 14) (retouch.conditions 0 0 0 0 0 (place 0 0))) 14
+    (before (retouch.placeOutside 0 0 (place 0 0), 14) (retouch.conditions 0 0 0 0 0 (place 0 0))) 14
     ∷ []
 
 -- ---- request 9, pixels known between limits (RULES 28.5): one pixel, its low value above its high one, and a ring of

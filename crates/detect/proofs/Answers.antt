@@ -23,7 +23,8 @@ use Rattle.corner_list.specs.declared.Corner.{Corner}
 use Rattle.detect.specs.declared.Search.{Search}
 use Rattle.detect.specs.declared.Peaks.{Peaks}
 use Rattle.detect.specs.declared.Peaks.the-variants.{Added, Refused}
-use Rattle.detect.specs.Detect.{searchBy, peaksIn, startAt, startsIn, tiesIn, isRing}
+use Rattle.ring.specs.Ring.{isRing}
+use Rattle.detect.specs.Detect.{searchBy, peaksIn, startAt, startsIn, tiesIn}
 use Rattle.detect.specs.Detect.{conditions, refusalOf, numberOf, valuesOf, PeaksAdded}
 use Rattle.detect.specs.Internal.{Searchable}
 

@@ -18,8 +18,9 @@ use Rattle.lists.specs.Places.{Place}
 use Rattle.detect.specs.declared.Search.{Search}
 use Rattle.detect.specs.declared.searching.Spot.{Spot}
 use Rattle.detect.specs.Detect.{readIn, peaksIn}
-use Rattle.detect.specs.Internal.{place, placeBehind, placeOf, spotOf, startOf, peaksFrom, Searchable, NextFound, Small, Numbered}
-use Rattle.detect.specs.Internal.{PeaksListed, Standing, NextListed}
+use Rattle.detect.specs.Internal.{place, placeBehind, placeOf, spotOf, startOf, peaksFrom, Searchable, NextFound, SpotInRange}
+use Rattle.detect.specs.Internal.{Numbered}
+use Rattle.detect.specs.Internal.{PeaksListed, IsSearchStart, NextListed}
 use Rattle.detect.proofs.Cells.{inside-few}
 use Rattle.detect.proofs.Choice.{peaks-at-most}
 use Rattle.detect.proofs.Scanning.{peaks-start, next-none, next-inside, next-first, found-past}
@@ -41,7 +42,7 @@ atNumber f = f .y * 4096 + f .x
 abbrev countedNumber : Spot → ℕ
 countedNumber f = atNumber f * 2048 + f .neighbours
 
-spot-number : (f : Spot) → Small f → spotOf (countedNumber f * 2048 + f .ties) ≡ f
+spot-number : (f : Spot) → SpotInRange f → spotOf (countedNumber f * 2048 + f .ties) ≡ f
 spot-number f k =
     rw (
       high 2048 (countedNumber f) (f .ties) (k .ties),
@@ -52,12 +53,12 @@ spot-number f k =
       high 4096 (f .y) (f .x) (k .x),
     )
 
-pub numbered-here : (f : Spot) (y1 : ℕ) → Small f → f .y < y1 → Numbered f y1 (countedNumber f * 2048 + f .ties)
+pub numbered-here : (f : Spot) (y1 : ℕ) → SpotInRange f → f .y < y1 → Numbered f y1 (countedNumber f * 2048 + f .ties)
 numbered-here f y1 k i = record { here = λ _. spot-number f k; past = λ o. absurd (let no : ⊥ = omega arith in no) }
 
 -- a peak has a number of its own
 pub found-small : (m : List Float) (s : Search) → Searchable m s → (p : Place) (f : Spot) → NextFound m s p f
-    → f .y < s .h - s .border → Small f
+    → f .y < s .h - s .border → SpotInRange f
 found-small m s k p f a l =
     let i = next-inside m s p (placeOf f) (a .next) l in record {
       x = omega (arith, i .right, k .wide);
@@ -128,12 +129,12 @@ module _ (m : List Float) (s : Search) (t : List ℕ) (n : ℕ) (p : Place) (q :
 
 -- ---- the peaks by the table
 
-pub standing-first : (s : Search) (t : List ℕ) (n : ℕ) → Standing s t n 0 (place (s .border) (s .border))
-standing-first s t n = record { left = omega arith; top = omega arith; listed = λ _. refl }
+pub search-start-first : (s : Search) (t : List ℕ) (n : ℕ) → IsSearchStart s t n 0 (place (s .border) (s .border))
+search-start-first s t n = record { left = omega arith; top = omega arith; listed = λ _. refl }
 
 module _ (m : List Float) (s : Search) (t : List ℕ) (n i : ℕ) (p : Place) where
   -- from the table
-  pub next-taken : PeaksListed m s t n → Standing s t n i p → i < n → (q : Spot) → q ≡ spotOf (getD t i 0)
+  pub next-taken : PeaksListed m s t n → IsSearchStart s t n i p → i < n → (q : Spot) → q ≡ spotOf (getD t i 0)
       → NextListed m s t n i p q
   next-taken g a l q e = record { next = rw (a .listed l, e) (g .each i l); listed = λ _. e }
 
@@ -141,8 +142,9 @@ module _ (m : List Float) (s : Search) (t : List ℕ) (n i : ℕ) (p : Place) wh
   pub next-searched : n ≤ i → (q : Spot) → NextFound m s p q → NextListed m s t n i p q
   next-searched l q f = record { next = f; listed = λ o. absurd (let no : ⊥ = omega arith in no) }
 
-  pub standing-next : (q : Spot) → NextListed m s t n i p q → q .y < s .h - s .border → Standing s t n (i + 1) (placeBehind (placeOf q))
-  standing-next q f l = record {
+  pub search-start-next : (q : Spot) → NextListed m s t n i p q → q .y < s .h - s .border
+      → IsSearchStart s t n (i + 1) (placeBehind (placeOf q))
+  search-start-next q f l = record {
     left = omega (arith, next-inside m s p (placeOf q) (f .next .next) l .left);
     top = next-inside m s p (placeOf q) (f .next .next) l .top;
     listed = λ o. ap (λ (j : Spot). placeBehind (placeOf j)) (f .listed (omega arith)) ∙ sym (start-next s t i);
@@ -151,17 +153,17 @@ module _ (m : List Float) (s : Search) (t : List ℕ) (n i : ℕ) (p : Place) wh
 -- ---- the peaks counted: i come before p, where the search goes on
 pub record Counting (m : List Float) (s : Search) (t : List ℕ) (n i : ℕ) (p : Place) : Type 0 where
   pub sum : i + length (peaksFrom m s p) ≡ length (peaksIn m s)
-  pub standing : Standing s t n i p
+  pub search-start : IsSearchStart s t n i p
 
 pub counting-first : (m : List Float) (s : Search) (t : List ℕ) (n : ℕ) → Counting m s t n 0 (place (s .border) (s .border))
-counting-first m s t n = record { sum = omega (arith, ap length (peaks-start m s)); standing = standing-first s t n }
+counting-first m s t n = record { sum = omega (arith, ap length (peaks-start m s)); search-start = search-start-first s t n }
 
 module _ (m : List Float) (s : Search) (t : List ℕ) (n i : ℕ) (p : Place) (a : Counting m s t n i p)
     (q : Spot) (f : NextListed m s t n i p q) where
   pub counting-next : q .y < s .h - s .border → Counting m s t n (i + 1) (placeBehind (placeOf q))
   counting-next l = record {
     sum = omega (arith, a .sum, ap length (next-first m s p (placeOf q) (f .next .next) l));
-    standing = standing-next m s t n i p q f l;
+    search-start = search-start-next m s t n i p q f l;
   }
 
   pub counting-fit : s .h - s .border ≤ q .y → (places held : ℕ) → held + i ≤ places

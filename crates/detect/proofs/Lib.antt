@@ -1,5 +1,6 @@
 pub mod Choice
 pub mod Window
+pub mod Overtopping
 pub mod OtherWindow
 pub mod Agreement
 pub mod Answers

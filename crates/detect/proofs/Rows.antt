@@ -14,11 +14,11 @@ use Rattle.lists.proofs.Scan.{count-every}
 use Rattle.lists.proofs.Rows.{rowPart}
 use Rattle.lists.proofs.Places.{keep-le}
 use Rattle.detect.specs.declared.Search.{Search}
-use Rattle.detect.specs.Peaks.{valueAt, isLow}
+use Rattle.detect.specs.Peaks.{beaten, valueAt, largerBy, isLow}
 use Rattle.detect.specs.Detect.{readIn, peakIn}
-use Rattle.detect.specs.Internal.{place, aheadIn, peaksFrom, Below, LowRow, LowRows, Skipped}
-use Rattle.detect.proofs.Ahead.{keep-skip, ahead-row}
-use Rattle.detect.proofs.Choice.{peak-below}
+use Rattle.detect.specs.Internal.{place, aheadIn, peaksFrom, Below, LowRow, LowRows, PlacesSkipped}
+use Rattle.detect.proofs.Ahead.{keep-skip, keep-miss, ahead-row}
+use Rattle.detect.proofs.Choice.{peak-below, peak-beaten}
 
 -- the element at k of a part
 part-at : (m : List Float) (a e k : ℕ) → k < e - a → getD (take (e - a) (drop a m)) k nan ≡ getD m (a + k) nan
@@ -102,14 +102,18 @@ module _ (cells : List Float) (t : Float) where
 
 -- ---- along a row
 module _ (m : List Float) (s : Search) (x y : ℕ) where
-  pub skipped-none : Skipped m s (place x y) (place x y)
+  pub skipped-none : PlacesSkipped m s (place x y) (place x y)
   skipped-none = record { onward = omega arith; same-ahead = refl }
+
+  -- the first n of a row's cells up to x1
+  pub below-few : (x1 n : ℕ) (t : Float) → Below (rowPart m (s .w) y x x1) t n → n ≤ x1 - x
+  below-few x1 n t b = omega (arith, simp (length-take, length-drop) at (b .within))
 
   pub skipped-below : (x1 n : ℕ) → x1 ≡ s .w - s .border → x < x1 → y < s .h - s .border
       → Below (rowPart m (s .w) y x x1) (s .threshold) n
-      → Skipped m s (place x y) (place (x + n) y)
+      → PlacesSkipped m s (place x y) (place (x + n) y)
   skipped-below x1 n e l j b =
-      let most : n ≤ x1 - x = omega (arith, simp (length-take, length-drop) at (b .within)) in
+      let most = below-few x1 n (s .threshold) b in
       record {
         onward = omega arith;
         same-ahead =
@@ -125,9 +129,25 @@ module _ (m : List Float) (s : Search) (x y : ℕ) where
           ∙ ap (λ (v : Float). le v (s .threshold)) (sym (part-at m (y * s .w + x) (y * s .w + x1) k in-part))
           ∙ b .below k i
 
+  -- and then further, over a cell that is no peak or over others
+  module _ (x′ : ℕ) (a : PlacesSkipped m s (place x y) (place x′ y)) where
+    pub skipped-on : (z : ℕ) → PlacesSkipped m s (place x′ y) (place z y) → PlacesSkipped m s (place x y) (place z y)
+    skipped-on z b = record { onward = omega (arith, a .onward, b .onward); same-ahead = a .same-ahead ∙ b .same-ahead }
+
+    pub skipped-beaten : x′ < s .w - s .border → y < s .h - s .border
+        → beaten (largerBy (s .exact) m (s .w)) (s .w) (s .h) (s .window) (place x′ y) ≡ true
+        → PlacesSkipped m s (place x y) (place (x′ + 1) y)
+    skipped-beaten l j e = record {
+      onward = omega (arith, a .onward);
+      same-ahead =
+          a .same-ahead
+          ∙ keep-miss s x′ y l j (peakIn m s)
+          (sym (peak-beaten (readIn m s) (s .w) (s .h) (s .window) (s .«least_neighbours») (place x′ y) (ap not e)));
+    }
+
   -- in a row that is known to be low
   pub skipped-low : (x1 : ℕ) → x1 ≡ s .w - s .border → x < x1 → y < s .h - s .border → s .border ≤ x → LowRow m s y
-      → Skipped m s (place x y) (place x1 y)
+      → PlacesSkipped m s (place x y) (place x1 y)
   skipped-low x1 e l j o k = record {
     onward = omega arith;
     same-ahead = k .same-ahead x o j ∙ sym (ap (keep (peakIn m s)) (ahead-row s x1 y (omega arith) j));

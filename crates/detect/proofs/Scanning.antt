@@ -12,7 +12,7 @@ use Rattle.detect.specs.declared.searching.PeakTest.the-variants.{No, Pe
 use Rattle.detect.specs.Peaks.{peakPlaces}
 use Rattle.detect.specs.Internal.{Inside}
 use Rattle.detect.specs.Detect.{peakIn, peaksIn}
-use Rattle.detect.specs.Internal.{place, placeOf, placeBehind, peaksFrom, peakTest, Skipped, NextPeak, NextFound}
+use Rattle.detect.specs.Internal.{place, placeOf, placeBehind, peaksFrom, peakTest, PlacesSkipped, NextPeak, NextFound}
 use Rattle.detect.proofs.Ahead.{keep-hit, keep-miss, ahead-start, ahead-row, ahead-end}
 use Rattle.detect.proofs.Tested.{test-no, test-peak, test-neighbours, test-ties}
 
@@ -26,7 +26,7 @@ pub passed-none : (m : List Float) (s : Search) (p : Place) → s .border ≤ p 
 passed-none m s p l t = record { left = l; top = t; same-ahead = refl }
 
 module _ (m : List Float) (s : Search) (p : Place) (x y : ℕ) (a : Passed m s p (place x y)) where
-  pub passed-skip : (x′ : ℕ) → Skipped m s (place x y) (place x′ y) → Passed m s p (place x′ y)
+  pub passed-skip : (x′ : ℕ) → PlacesSkipped m s (place x y) (place x′ y) → Passed m s p (place x′ y)
   passed-skip x′ k = record { left = omega (arith, a .left, k .onward); top = a .top; same-ahead = a .same-ahead ∙ k .same-ahead }
 
   -- at a cell inside the border

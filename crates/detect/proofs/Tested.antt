@@ -84,9 +84,6 @@ module _ (m : List Float) (s : Search) (p : Place) where
     pub tested-beaten : (b : Bool) → b ≡ lost (s .exact) → b ≡ true → No ≡ peakTest m s p
     tested-beaten b told is = tested-no (cell-beaten m s p u e (not b) (ap not told) (ap not is))
 
-    pub tested-lost : lost (s .exact) ≡ true → No ≡ peakTest m s p
-    tested-lost is = tested-beaten (lost (s .exact)) refl is
-
     module _ (n : ℕ) (c : n ≡ neighboursAt m s p) where
       pub tested-few : n < s .«least_neighbours» → No ≡ peakTest m s p
       tested-few o = tested-no (cell-few m s p u e n c o)

@@ -91,7 +91,7 @@ beats-self false v = lt-self v
 beats-self true v = rw (lt-self v)
 
 -- what the code asks of a cell: above v and above the bar
-over : (b : Bool) (v bar u : Float) → bar ≡ cond b (add binary32 v slack) v → (lt v u && lt bar u) ≡ beats b v u
+pub over : (b : Bool) (v bar u : Float) → bar ≡ cond b (add binary32 v slack) v → (lt v u && lt bar u) ≡ beats b v u
 over false v bar u e = rw e (twice (lt v u))
   where
     twice : (t : Bool) → (t && t) ≡ t

@@ -15,23 +15,23 @@ use Rattle.detect.specs.declared.Search.{Search}
 use Rattle.detect.specs.declared.searching.Spot.{Spot}
 use Rattle.detect.specs.declared.Peaks.the-variants.{Added}
 use Rattle.detect.specs.Detect.{startAt, startsIn, tiesAt, tiesIn, PeaksAdded}
-use Rattle.detect.specs.Internal.{place, placeBehind, placeOf, peaksFrom, Searchable, Standing, NextListed}
+use Rattle.detect.specs.Internal.{place, placeBehind, placeOf, peaksFrom, Searchable, IsSearchStart, NextListed}
 use Rattle.detect.proofs.Scanning.{peaks-start, next-none, next-first}
-use Rattle.detect.proofs.FirstPeaks.{standing-first, standing-next}
+use Rattle.detect.proofs.FirstPeaks.{search-start-first, search-start-next}
 use Rattle.detect.proofs.Answers.{found-added}
 use Rattle.detect.proofs.Ties.{ties-few}
 
 -- the corners of i peaks, which have so many ties, were written to b, which was b₀, and p is where the search goes on
 pub record Writing (m : List Float) (s : Search) (t : List ℕ) (n held i ties : ℕ) (b₀ b : Slices) (p : Place) : Type 0 where
   pub growing : Growing (startsIn m s) (map (startAt m s) (peaksFrom m s p)) held i b₀ b
-  pub standing : Standing s t n i p
+  pub search-start : IsSearchStart s t n i p
   pub tied : ties + sumOf (tiesAt m s) (peaksFrom m s p) ≡ tiesIn m s
 
 pub writing-first : (m : List Float) (s : Search) (t : List ℕ) (n held : ℕ) (b : Slices) → held + length (startsIn m s) ≤ placesOf b
     → Writing m s t n held 0 0 b b (place (s .border) (s .border))
 writing-first m s t n held b h = record {
   growing = growing-to _ _ _ _ _ _ (growing-none (startsIn m s) held b h) _ (ap (map (startAt m s)) (peaks-start m s));
-  standing = standing-first s t n;
+  search-start = search-start-first s t n;
   tied = omega (arith, ap (sumOf (tiesAt m s)) (peaks-start m s));
 }
 
@@ -78,6 +78,6 @@ module _ (m : List Float) (s : Search) (t : List ℕ) (n held i ties : ℕ) (b�
       growing =
           growing-put _ _ _ _ _ _ (a .growing) (startAt m s here) _ first b′
           (put ∙ ap (λ (d : Corner). withCorner (held + i) d b) e);
-      standing = standing-next m s t n i p q f l;
+      search-start = search-start-next m s t n i p q f l;
       tied = more-tied;
     }

@@ -2,16 +2,15 @@
 -- and the buffer.
 use Prim.Native.Nat.{ℕ, _+_}
 use mathlib.Core.Path.{_≡_}
-use mathlib.Core.Bool.{Bool, false, cond, not, _||_}
+use mathlib.Core.Bool.{Bool, false, cond}
 use mathlib.Core.List.{List, [], _∷_, _++_, map}
 use lib.ListN.{length}
 use lib.Dec.{ltb}
 use lib.Ieee.{Float}
-use Rattle.lists.specs.Limits.{largestRadius}
 use Rattle.lists.specs.Places.{Place, sumOf}
 use Rattle.lists.specs.Refusals.{lowest, valuesUnless, isLarge, isMisfit, unless, resultOr}
 use Rattle.float32.specs.Float32.{lift, floatOf}
-pub use Rattle.ring.specs.Ring.{isRing}
+use Rattle.frame_params.specs.Ranges.{rangeOutside}
 use Rattle.corner_list.specs.CornerList.{Slices, placesOf, placedCorners}
 use Rattle.corner_list.specs.declared.Corner.{Corner}
 use Rattle.detect.specs.declared.Search.{Search}
@@ -87,7 +86,7 @@ unfoldable pub conditions : ℕ → ℕ → ℕ → ℕ → ℕ → ℕ → List
 conditions size w h ring window radius =
     (isLarge w h, 1)
     ∷ (isMisfit size w h, 2)
-    ∷ (not (isRing ring) || (ltb largestRadius window || ltb largestRadius radius), 3)
+    ∷ (rangeOutside ring window radius, 3)
     ∷ []
 
 -- RULES 4.6: the refusal's number, 0 for none: those conditions, then 10 if n corners do not fit after the first `held`
@@ -100,11 +99,11 @@ refusalOf conds places held n = lowest (conds ++ ((ltb places (held + n), 10) �
 -- RULES 15.1: the number and the values of each case
 abbrev pub numberOf : Peaks → ℕ
 numberOf (Added n ties) = 0
-numberOf (Refused k) = k
+numberOf (Refused number) = number
 
 abbrev pub valuesOf : Peaks → List ℕ
 valuesOf (Added n ties) = n ∷ ties ∷ []
-valuesOf (Refused k) = []
+valuesOf (Refused number) = []
 
 -- What peak finding promises, under the conditions conds on the input, for a map whose peaks start as the corners cs
 -- and have `ties` ties, and for a buffer b that holds `held`: the answer (how many peaks were added and how many ties

@@ -42,12 +42,12 @@ enoughOf s n ps = answerOf (leb n (length ps)) (rowsFor s n ps)
 abbrev pub numberOf : Enough → ℕ
 numberOf (Yes rows) = 0
 numberOf (No rows) = 0
-numberOf (Refused k) = k
+numberOf (Refused number) = number
 
 abbrev pub valuesOf : Enough → List ℕ
 valuesOf (Yes rows) = 1 ∷ rows ∷ []
 valuesOf (No rows) = 0 ∷ rows ∷ []
-valuesOf (Refused k) = []
+valuesOf (Refused number) = []
 
 -- What `has_peaks` promises, under the conditions conds on the input, for a map m that is searched with s for a given
 -- number of peaks

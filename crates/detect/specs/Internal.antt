@@ -7,7 +7,7 @@ use lib.ListN.{length, getD}
 use lib.Dec.{ltb}
 use lib.Ieee.{Float, nan, lt, le, eq}
 use Rattle.lists.specs.Limits.{largestSide, largestBorder}
-use Rattle.lists.specs.Places.{Place, row, block, keep, count}
+use Rattle.lists.specs.Places.{Place, row, block, any, keep, count}
 use Rattle.float32.specs.Float32 as float32
 use Rattle.detect.specs.declared.Search.{Search}
 use Rattle.detect.specs.declared.searching.Spot.{Spot}
@@ -63,6 +63,14 @@ withWindow s r =
       exact = s .exact;
     }
 
+-- the four cells beside cell i of a map of width w: above, below, left and right of it
+abbrev pub cellsBeside : List Float → ℕ → ℕ → List Float
+cellsBeside m w i = getD m (i - w) nan ∷ getD m (i + w) nan ∷ getD m (i - 1) nan ∷ getD m (i + 1) nan ∷ []
+
+-- u is the value of one of them: if u passes a test, one of them does
+pub record Beside (m : List Float) (w i : ℕ) (u : Float) : Type 0 where
+  pub one-of : (f : Float → Bool) → f u ≡ true → any f (cellsBeside m w i) ≡ true
+
 -- ---- the search
 
 -- the test of a place: whether it is a peak, and then its positive neighbours and its ties
@@ -104,7 +112,7 @@ abbrev pub LowRows : List Float → Search → ℕ → ℕ → Type 0
 LowRows m s low y = (k : ℕ) → low ≤ k → k ≤ y → LowRow m s k
 
 -- from p on, the places before q in its row are not peaks
-pub record Skipped (m : List Float) (s : Search) (p q : Place) : Type 0 where
+pub record PlacesSkipped (m : List Float) (s : Search) (p q : Place) : Type 0 where
   pub onward : p .x ≤ q .x
   pub same-ahead : peaksFrom m s p ≡ peaksFrom m s q
 
@@ -145,7 +153,7 @@ spotOf a =
     }
 
 -- f has a number of its own
-pub record Small (f : Spot) : Type 0 where
+pub record SpotInRange (f : Spot) : Type 0 where
   pub x : f .x < largestSide
   pub y : f .y < largestSide
   pub neighbours : f .neighbours < 2048
@@ -168,7 +176,7 @@ pub record PeaksListed (m : List Float) (s : Search) (t : List ℕ) (n : ℕ) : 
   pub each : (i : ℕ) → i < n → NextFound m s (startOf s t i) (spotOf (getD t i 0))
 
 -- p is where the search for peak i begins
-pub record Standing (s : Search) (t : List ℕ) (n i : ℕ) (p : Place) : Type 0 where
+pub record IsSearchStart (s : Search) (t : List ℕ) (n i : ℕ) (p : Place) : Type 0 where
   pub left : s .border ≤ p .x
   pub top : s .border ≤ p .y
   pub listed : i < n → p ≡ startOf s t i

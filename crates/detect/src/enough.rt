@@ -68,9 +68,9 @@ pub fn has_peaks(
         (now (map .entry))
         (searchOf w h ring threshold window «least_neighbours» «refine_radius») wanted r ⌝ }
 {
-    let k = crate::refusal(map.len(), w, h, ring, window, refine_radius);
-    if k != 0 {
-        return Enough::Refused(k);
+    let number = crate::refusal(map.len(), w, h, ring, window, refine_radius);
+    if number != 0 {
+        return Enough::Refused(number);
     }
     let s = crate::search_of(
         w,

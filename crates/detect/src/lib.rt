@@ -46,24 +46,16 @@ pub enum Peaks {
 // The number of the first condition that refuses the input, 0 for none. The input is a map or an image of `size` cells,
 // w by h, and the parameters that it is searched with.
 pub fn refusal(size: usize, w: usize, h: usize, ring: u32, window: u32, refine_radius: u32) -> u8
-    ensures { λ k. ⌜ k ≡ lowest (conditions size w h ring window «refine_radius») ⌝ }
+    ensures { λ r. ⌜ r ≡ lowest (conditions size w h ring window «refine_radius») ⌝ }
 {
-    let no = image_size::refusal(size, w, h);
-    if no != 0 {
-        return no;
+    let number = image_size::refusal(size, w, h);
+    if number != 0 {
+        return number;
     }
-    if ring::is_ring(ring) {
-        if lists::LARGEST_RADIUS < window {
-            return 3;
-        }
-        if lists::LARGEST_RADIUS < refine_radius {
-            3
-        } else {
-            0
-        }
-    } else {
-        3
+    if frame_params::is_outside(ring, window, refine_radius) {
+        return 3;
     }
+    0
 }
 
 // The threshold that cells are compared with.
@@ -127,9 +119,9 @@ pub fn find_peaks(
         held (slices (now (xs .entry)) (now (ys .entry)) (now (strengths .entry)) (now (neighbours .entry)))
         r (slices (now (xs .exit)) (now (ys .exit)) (now (strengths .exit)) (now (neighbours .exit))) ⌝ }
 {
-    let k = refusal(map.len(), w, h, ring, window, refine_radius);
-    if k != 0 {
-        return Peaks::Refused(k);
+    let number = refusal(map.len(), w, h, ring, window, refine_radius);
+    if number != 0 {
+        return Peaks::Refused(number);
     }
     let s = search_of(
         w,

@@ -6,11 +6,12 @@ ghost use Prim.Native.Nat.{_+_, _<_, _≤_};
 ghost use lib.ListN.{length};
 ghost use lib.Ieee.{binary32, add, lt};
 ghost use Rattle.lists.specs.Places.{any, count};
+ghost use Rattle.float32.specs.Float32.{zero};
 ghost use Rattle.detect.specs.Peaks.{valueAt, slack, largerBy, beaten, tiesOf};
 ghost use Rattle.detect.specs.Internal.{Inside};
 ghost use Rattle.detect.specs.declared.WindowTest.the-variants.{Top};
 ghost use Rattle.detect.specs.Detect.{neighboursAt, testAt, WindowTested};
-ghost use Rattle.detect.specs.Internal.{place, Searchable, isCounted, countedAt, withWindow};
+ghost use Rattle.detect.specs.Internal.{place, Searchable, isCounted, countedAt, withWindow, Beside};
 use crate::Search;
 use crate::WindowTest;
 
@@ -160,8 +161,27 @@ pub(crate) fn count_neighbors(
     if is_counted(asked, v, v) { n - 1 } else { n }
 }
 
-// A fast path: true if one of the eight cells around (x, y) beats v, the value there. In a photograph most beaten cells
-// are beaten by one of these. False for a window of radius 1 or 0, which has no other cells and is tested next anyway.
+// The greater of two values; a if one of them is NaN.
+fn greater_of(a: f32, b: f32) -> f32
+    ensures { λ u. ⌜ u ≡ cond (lt a b) b a ⌝ }
+{
+    if a < b { b } else { a }
+}
+
+// The greatest of the four cells beside cell i, in a map of width w: above, below, left and right of it. There is no
+// early exit, so that no branch has to be predicted. If one is NaN it may be another of them.
+fn most_beside(map: &[f32], w: usize, i: usize) -> f32
+    requires { ⌜ (1 ≤ w) × (w ≤ i) ⌝ }
+    requires { ⌜ i + w < length (now map) ⌝ }
+    ensures { λ u. ⌜ Beside (now (map .entry)) w i u ⌝ }
+{
+    let p = greater_of(map[i - w], map[i + w]);
+    let q = greater_of(map[i - 1], map[i + 1]);
+    greater_of(p, q)
+}
+
+// A fast path: true if one of the four cells beside (x, y) beats v, the value there. In a photograph most beaten cells
+// are beaten by one of these. False for a window of radius 0, which has no cells.
 pub(crate) fn is_overtopped(map: &[f32], s: Search, x: usize, y: usize, v: f32) -> bool
     requires { ⌜ Searchable (now map) s ⌝ }
     requires { ⌜ Inside (s .w) (s .h) (s .border) (place x y) ⌝ }
@@ -169,25 +189,45 @@ pub(crate) fn is_overtopped(map: &[f32], s: Search, x: usize, y: usize, v: f32) 
     ensures { λ b. ⌜ (b ≡ true → beaten (largerBy (s .exact) (now (map .entry)) (s .w)) (s .w) (s .h)
         (s .window) (place x y) ≡ true) ⌝ }
 {
-    if s.window < 2 {
+    if s.window < 1 {
         return false;
     }
-    !is_local_max(map, with_window(s, 1), x, y, v, s.exact)
+    let w = s.w;
+    let i = y * w + x;
+    is_larger(most_beside(map, w, i), v, bar_of(v, s.exact))
+}
+
+// Whether the window around (x, y), whose radius is r, has fewer positive cells than a peak needs, where the value v is
+// positive. A compiler makes code without inner loops for each r that is given as a number.
+fn are_few(map: &[f32], s: Search, x: usize, y: usize, v: f32, r: usize) -> bool
+    requires { ⌜ Searchable (now map) s ⌝ }
+    requires { ⌜ Inside (s .w) (s .h) (s .border) (place x y) ⌝ }
+    requires { ⌜ v ≡ valueAt (now map) (s .w) (place x y) ⌝ }
+    requires { ⌜ lt zero v ≡ true ⌝ }
+    requires { ⌜ s .window ≡ r ⌝ }
+    ensures { λ b. ⌜ (b ≡ true → neighboursAt (now (map .entry)) s (place x y) < s .«least_neighbours») ⌝ }
+{
+    count_square(map, with_window(s, r), x, y, Asked::Positive, v) <= s.least_neighbours
 }
 
 // A fast path: true if the window around (x, y), where the value is v, has fewer positive cells than a peak needs. Only
-// for windows of radius 2, the usual ones: a compiler makes code without inner loops for them. Otherwise false.
+// for windows of radius 2, the usual ones, and smaller ones. Otherwise false.
 pub(crate) fn has_few(map: &[f32], s: Search, x: usize, y: usize, v: f32) -> bool
     requires { ⌜ Searchable (now map) s ⌝ }
     requires { ⌜ Inside (s .w) (s .h) (s .border) (place x y) ⌝ }
     requires { ⌜ v ≡ valueAt (now map) (s .w) (place x y) ⌝ }
     ensures { λ b. ⌜ (b ≡ true → neighboursAt (now (map .entry)) s (place x y) < s .«least_neighbours») ⌝ }
 {
-    if s.window != 2 {
-        return false;
-    }
     if 0.0 < v {
-        return count_square(map, with_window(s, 2), x, y, Asked::Positive, v) <= s.least_neighbours;
+        if s.window == 2 {
+            return are_few(map, s, x, y, v, 2);
+        }
+        if s.window == 1 {
+            return are_few(map, s, x, y, v, 1);
+        }
+        if s.window == 0 {
+            return are_few(map, s, x, y, v, 0);
+        }
     }
     false
 }

@@ -1,4 +1,5 @@
-// The search for the next peak, in row order. Cells at or below the threshold are skipped, several at a time.
+// The search for the next peak, in row order. Cells at or below the threshold are skipped, several at a time, and so
+// are those beside a larger cell.
 ghost use mathlib.Core.Path.{_≡_};
 ghost use mathlib.Core.Bool.{true, cond};
 ghost use Prim.Native.Nat.{_-_, _<_, _≤_, max};
@@ -7,7 +8,8 @@ ghost use Rattle.lists.specs.Limits.{largestSide};
 ghost use Rattle.lists.specs.Places.{count};
 ghost use Rattle.detect.specs.Peaks.{valueAt, isLow};
 ghost use Rattle.detect.specs.Internal.{Inside};
-ghost use Rattle.detect.specs.Internal.{place, peakTest, Searchable, Below, LowRow, LowRows, Skipped, NextFound};
+ghost use Rattle.detect.specs.Internal.{place, peakTest, Searchable, Below, LowRow, LowRows, PlacesSkipped};
+ghost use Rattle.detect.specs.Internal.{NextFound};
 use crate::Search;
 use crate::neighbors::Asked;
 use crate::neighbors::count_neighbors;
@@ -44,8 +46,8 @@ pub(crate) fn value_at(map: &[f32], s: Search, x: usize, y: usize) -> f32
 }
 
 // Whether the cell (x, y) is a peak, with its positive neighbours and ties: they are counted while its window is in the
-// cache. The tests that drop most cells come first, to save time: in a photograph that is a larger cell next to it, in
-// noise too few positive neighbours.
+// cache. The test that drops most cells in noise comes first, to save time: too few positive neighbours. A cell that
+// is overtopped was skipped.
 fn peak_test(map: &[f32], s: Search, x: usize, y: usize) -> PeakTest
     requires { ⌜ Searchable (now map) s ⌝ }
     requires { ⌜ Inside (s .w) (s .h) (s .border) (place x y) ⌝ }
@@ -53,9 +55,6 @@ fn peak_test(map: &[f32], s: Search, x: usize, y: usize) -> PeakTest
 {
     let v = value_at(map, s, x, y);
     if v <= s.threshold {
-        return PeakTest::No;
-    }
-    if is_overtopped(map, s, x, y, v) {
         return PeakTest::No;
     }
     if has_few(map, s, x, y, v) {
@@ -187,24 +186,37 @@ fn is_low_row(map: &[f32], s: Search, y: usize) -> bool
     (x1 - x0) as u32 <= count_low(&map[a..e], s.threshold)
 }
 
-// The first column from x on whose cell in row y may be a peak: cells at or below the threshold are skipped, up to the
-// border. The rows from `low` up to y at least have only such cells.
+// The first column from x on whose cell in row y may be a peak, up to the border: cells are skipped that are at or
+// below the threshold or overtopped. Around a corner nearly all cells above the threshold are. The rows from `low` up
+// to y at least have only cells at or below it.
 fn skip(map: &[f32], s: Search, x: usize, y: usize, low: usize) -> usize
     requires { ⌜ Searchable (now map) s ⌝ }
-    requires { ⌜ y < s .h - s .border ⌝ }
+    requires { ⌜ (s .border ≤ y) × (y < s .h - s .border) ⌝ }
     requires { ⌜ s .border ≤ x ⌝ }
     requires { ⌜ LowRows (now map) s low y ⌝ }
-    ensures { λ r. ⌜ Skipped (now (map .entry)) s (place x y) (place r y) ⌝ }
+    ensures { λ r. ⌜ PlacesSkipped (now (map .entry)) s (place x y) (place r y) ⌝ }
 {
     let w = s.w;
     let x1 = numbers::minus(w, s.border);
-    if x < x1 {
-        if low <= y {
-            return x1;
-        }
+    if x1 <= x {
+        return x;
+    }
+    if low <= y {
+        return x1;
+    }
+    let mut x = x;
+    while x < x1 {
         let a = y * w + x;
         let e = y * w + x1;
-        return x + cells_below(&map[a..e], s.threshold);
+        x += cells_below(&map[a..e], s.threshold);
+        if x1 <= x {
+            return x;
+        }
+        let v = value_at(map, s, x, y);
+        if !is_overtopped(map, s, x, y, v) {
+            return x;
+        }
+        x += 1;
     }
     x
 }

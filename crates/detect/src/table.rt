@@ -2,7 +2,8 @@
 // number.
 ghost use mathlib.Core.Path.{_≡_};
 ghost use Prim.Native.Nat.{_<_};
-ghost use Rattle.detect.specs.Internal.{place, spotOf, Searchable, Small, Numbered, PeaksListed, Standing};
+ghost use Rattle.detect.specs.Internal.{place, spotOf, Searchable, SpotInRange, Numbered, PeaksListed};
+ghost use Rattle.detect.specs.Internal.{IsSearchStart};
 ghost use Rattle.detect.specs.Internal.{NextListed};
 use crate::Search;
 use crate::searching::Spot;
@@ -35,7 +36,7 @@ fn spot_of(a: u64) -> Spot
 
 // The number that encodes a peak in a table. From row y1 on, it is the number for a place past the last row of any map.
 fn number_of(p: Spot, y1: usize) -> u64
-    requires { ⌜ (p .y < y1 → Small p) ⌝ }
+    requires { ⌜ (p .y < y1 → SpotInRange p) ⌝ }
     ensures { λ a. ⌜ Numbered p y1 a ⌝ }
 {
     if p.y < y1 {
@@ -82,7 +83,7 @@ pub(crate) fn peak_at(
 ) -> Spot
     requires { ⌜ Searchable (now map) s ⌝ }
     requires { ⌜ PeaksListed (now map) s (now table) n ⌝ }
-    requires { ⌜ Standing s (now table) n i (place x y) ⌝ }
+    requires { ⌜ IsSearchStart s (now table) n i (place x y) ⌝ }
     ensures { λ p. ⌜ NextListed (now (map .entry)) s (now (table .entry)) n i (place x y) p ⌝ }
 {
     if i < n {

@@ -9,7 +9,7 @@ use Rattle.lists.proofs.Buffer.{front-length}
 use Rattle.lists.specs.Buffer.{Written}
 use Rattle.lists.specs.Refusals.{unless}
 use Rattle.corner_list.specs.CornerList.{Slices, cornersOf}
-use Rattle.patch_corners.specs.declared.FrameParams.{FrameParams}
+use Rattle.frame_params.specs.declared.FrameParams.{FrameParams}
 use Rattle.patch_corners.specs.OneMap.{computedChoice}
 use Rattle.frame.specs.Frame.{Buffers, FrameFound}
 use Rattle.frame.specs.declared.FrameAnswer.{FrameAnswer}

@@ -7,7 +7,7 @@ use lib.Ieee.{binary32, ofBits}
 use Rattle.lists.specs.Refusals.{unless}
 use Rattle.float32.specs.Float32 as float32
 use Rattle.corner_list.specs.CornerList.{Slices, slices}
-use Rattle.patch_corners.specs.declared.FrameParams.{FrameParams}
+use Rattle.frame_params.specs.declared.FrameParams.{FrameParams}
 use Rattle.patch_corners.specs.OneMap.{computedChoice}
 use Rattle.frame.specs.Frame.{Buffers, buffers, params, refusalOf, passOf}
 use Rattle.stream.specs.declared.Header.{Header}
@@ -42,7 +42,7 @@ frameText h pixels =
 -- and the listing for what was read
 abbrev pub readingText : Reading → List ℕ
 readingText (accepted h pixels) = frameText h pixels
-readingText (refused n) = refusedText n
+readingText (refused number) = refusedText number
 
 -- what `corners` prints for its input
 unfoldable pub outputOf : List ℕ → List ℕ

@@ -1,9 +1,9 @@
 // From the bytes of a frame stream to the bytes of its listing: reader, frame pass and listing, one after the other.
 use frame::FrameAnswer;
+use frame_params::FrameParams;
 use listing::LONGEST;
 use listing::Listing;
 use listing::MOST_CORNERS;
-use patch_corners::FrameParams;
 use stream::FrameStream;
 use stream::Header;
 use stream::MOST_PIXELS;

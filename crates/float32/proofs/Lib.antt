@@ -8,6 +8,7 @@ pub mod Running
 pub mod Bounds
 pub mod Canonical
 pub mod Scale
+pub mod Powers
 pub mod Classes
 pub mod Magnitude
 pub mod Truncation

@@ -96,10 +96,10 @@ own-units m e f = (refl, ap (λ (z : ℕ). m * up e * z) (sym (down-rest e (own-
     regroup n d t = simp (mul-assoc, mul-comm)
 
 -- far below overflow
-abbrev pub Small : Format → ℕ → Type 0
-Small f s = s < 2 ^ emax f * 2 ^ low f
+abbrev pub BelowOverflow : Format → ℕ → Type 0
+BelowOverflow f s = s < 2 ^ emax f * 2 ^ low f
 
-pub round-units : (f : Format) (s : ℕ) → Small f s → Units f (round f false s (2 ^ low f)) (rounded f s)
+pub round-units : (f : Format) (s : ℕ) → BelowOverflow f s → Units f (round f false s (2 ^ low f)) (rounded f s)
 round-units f s h = round-val f false s (2 ^ low f) (grid-under f s (2 ^ low f) (emax f) (pow-pos (low f)) (same (emax f)) h)
   where
     same : (e : ℕ) → e ≤ e
@@ -126,7 +126,8 @@ add-round f (fin false m e) (fin false n i) a c b d C D v w =
         let y = simp poly at (ap (λ (z : ℕ). z * (E * c)) q) in
         simp poly (omega arith)
 
-pub add-units : (f : Format) (x y : Float) (a b : ℕ) → Units f x a → Units f y b → Small f (a + b) → Units f (add f x y) (rounded f (a + b))
+pub add-units : (f : Format) (x y : Float) (a b : ℕ) → Units f x a → Units f y b → BelowOverflow f (a + b)
+    → Units f (add f x y) (rounded f (a + b))
 add-units f x y a b v w h =
     subst (λ (z : Float). Units f z (rounded f (a + b)))
     (sym (add-round f x y a (2 ^ low f) b (2 ^ low f) (pow-pos (low f)) (pow-pos (low f)) v w ∙ over (2 ^ low f) (pow-pos (low f))))
@@ -135,7 +136,7 @@ add-units f x y a b v w h =
     over : (L : ℕ) → 0 < L → round f false (a * L + b * L) (L * L) ≡ round f false (a + b) L
     over L K = round-same f false (a * L + b * L) (L * L) (a + b) L (mul-pos K K) K (simp poly)
 
-pub scale-units : (f : Format) (x y : Float) (k b : ℕ) → HasValue x false k 1 → Units f y b → Small f (k * b)
+pub scale-units : (f : Format) (x y : Float) (k b : ℕ) → HasValue x false k 1 → Units f y b → BelowOverflow f (k * b)
     → Units f (mul f x y) (rounded f (k * b))
 scale-units f x y k b v w h =
     subst (λ (z : Float). Units f z (rounded f (k * b)))

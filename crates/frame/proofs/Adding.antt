@@ -20,23 +20,24 @@ use Rattle.detect.specs.declared.Peaks.the-variants.{Added, Refused}
 use Rattle.patch_corners.proofs.Changing.{placed-places}
 use Rattle.patch_corners.proofs.Centring.{both}
 use Rattle.patch_corners.proofs.RowsAlike.{sum-append}
-use Rattle.frame.specs.Internal.{Adds}
+use Rattle.frame.specs.Internal.{AddsCorners}
 
 module _ (cs : List Corner) (ties held : ℕ) (b : Slices) where
   -- corners that fit
   pub adds : (n t : ℕ) (b′ : Slices) → n ≡ length cs → held + n ≤ placesOf b → b′ ≡ placedCorners held cs b → t ≡ ties
-      → Adds cs ties held b (Added n t) b′
+      → AddsCorners cs ties held b (Added n t) b′
   adds n t b′ e fits is tied = record {
     added = λ m u q. let same : n ≡ m = cc in let also : t ≡ u = cc in (sym same ∙ e, omega arith, is, sym also ∙ tied);
     refused = λ k q. both q;
   }
 
   -- and corners that do not
-  pub adds-not : (answer : Peaks) (k : ℕ) (b′ : Slices) → answer ≡ Refused k → placesOf b < held + length cs → Adds cs ties held b answer b′
+  pub adds-not : (answer : Peaks) (k : ℕ) (b′ : Slices) → answer ≡ Refused k → placesOf b < held + length cs
+      → AddsCorners cs ties held b answer b′
   adds-not answer k b′ e short = record { added = λ n t q. both (sym q ∙ e); refused = λ j q. short }
 
   -- no corners
-  pub adds-none : cs ≡ [] → ties ≡ 0 → held ≤ placesOf b → Adds cs ties held b (Added 0 0) b
+  pub adds-none : cs ≡ [] → ties ≡ 0 → held ≤ placesOf b → AddsCorners cs ties held b (Added 0 0) b
   adds-none e t h =
       adds 0 0 b (ap length (sym e)) (omega arith)
       (slices-alike (placed-none held (b .xs)) (placed-none held (b .ys)) (placed-none held (b .strengths))
@@ -45,12 +46,12 @@ module _ (cs : List Corner) (ties held : ℕ) (b : Slices) where
       (sym t)
 
   -- the same corners and ties by another name
-  pub adds-to : (ds : List Corner) (u : ℕ) (answer : Peaks) (b′ : Slices) → cs ≡ ds → ties ≡ u → Adds cs ties held b answer b′
-      → Adds ds u held b answer b′
+  pub adds-to : (ds : List Corner) (u : ℕ) (answer : Peaks) (b′ : Slices) → cs ≡ ds → ties ≡ u → AddsCorners cs ties held b answer b′
+      → AddsCorners ds u held b answer b′
   adds-to ds u answer b′ e t a = rw (← e, ← t) a
 
 -- ---- one list behind another: cs stand first in b, which was b₀
-module _ (cs : List Corner) (ties held t : ℕ) (b₀ b : Slices) (a : Adds cs ties 0 b₀ (Added held t) b) where
+module _ (cs : List Corner) (ties held t : ℕ) (b₀ b : Slices) (a : AddsCorners cs ties 0 b₀ (Added held t) b) where
   abbrev fitted : (held ≡ length cs) × (0 + held ≤ placesOf b₀) × (b ≡ placedCorners 0 cs b₀) × (t ≡ ties)
   fitted = a .added held t refl
 
@@ -60,8 +61,8 @@ module _ (cs : List Corner) (ties held t : ℕ) (b₀ b : Slices) (a : Adds cs t
   pub adds-held : held ≤ placesOf b
   adds-held = omega (arith, fitted .1, adds-places)
 
-  module _ (ds : List Corner) (more-ties : ℕ) (answer : Peaks) (b′ : Slices) (d : Adds ds more-ties held b answer b′) where
-    pub adds-more : (n u : ℕ) → answer ≡ Added n u → Adds (cs ++ ds) (ties + more-ties) 0 b₀ (Added (held + n) (t + u)) b′
+  module _ (ds : List Corner) (more-ties : ℕ) (answer : Peaks) (b′ : Slices) (d : AddsCorners ds more-ties held b answer b′) where
+    pub adds-more : (n u : ℕ) → answer ≡ Added n u → AddsCorners (cs ++ ds) (ties + more-ties) 0 b₀ (Added (held + n) (t + u)) b′
     adds-more n u e =
         let k = d .added n u e in
         adds (cs ++ ds) (ties + more-ties) 0 b₀ (held + n) (t + u) b′ (omega (arith, fitted .0, k .0, length-append cs ds))
@@ -78,7 +79,7 @@ module _ (cs : List Corner) (ties held t : ℕ) (b₀ b : Slices) (a : Adds cs t
 
     -- the first that does not fit, of a list that goes on
     pub adds-full : (k : ℕ) → answer ≡ Refused k → (all : List Corner) (all-ties : ℕ) → length cs + length ds ≤ length all
-        → Adds all all-ties 0 b₀ answer b′
+        → AddsCorners all all-ties 0 b₀ answer b′
     adds-full k e all all-ties l = adds-not all all-ties 0 b₀ answer k b′ e (omega (arith, d .refused k e, fitted .0, adds-places))
 
 -- ---- the lists of the first members, and the sums of a number of each
@@ -110,22 +111,22 @@ module _ {A B : Type 0} (f : A → List B) (g : ℕ → A) where
       )
 
 pub turn-none : {A : Type 0} (f : A → List Corner) (X : A → ℕ) (g : ℕ → A) (b : Slices)
-    → Adds (flatMap f (tab 0 g)) (sumOf X (tab 0 g)) 0 b (Added 0 0) b
+    → AddsCorners (flatMap f (tab 0 g)) (sumOf X (tab 0 g)) 0 b (Added 0 0) b
 unfolding tab
 turn-none f X g b = adds-none [] 0 0 b refl refl (omega arith)
 
 -- the list of one member more, s
 module _ {A : Type 0} (f : A → List Corner) (X : A → ℕ) (g : ℕ → A) (i held t : ℕ) (b₀ b : Slices)
-    (a : Adds (flatMap f (tab i g)) (sumOf X (tab i g)) 0 b₀ (Added held t) b)
-    (s : A) (e : s ≡ g i) (answer : Peaks) (b′ : Slices) (d : Adds (f s) (X s) held b answer b′) where
+    (a : AddsCorners (flatMap f (tab i g)) (sumOf X (tab i g)) 0 b₀ (Added held t) b)
+    (s : A) (e : s ≡ g i) (answer : Peaks) (b′ : Slices) (d : AddsCorners (f s) (X s) held b answer b′) where
   pub turn-more : (n u : ℕ) → answer ≡ Added n u
-      → Adds (flatMap f (tab (i + 1) g)) (sumOf X (tab (i + 1) g)) 0 b₀ (Added (held + n) (t + u)) b′
+      → AddsCorners (flatMap f (tab (i + 1) g)) (sumOf X (tab (i + 1) g)) 0 b₀ (Added (held + n) (t + u)) b′
   turn-more n u z =
       adds-to (flatMap f (tab i g) ++ f s) (sumOf X (tab i g) + X s) 0 b₀ _ _ (Added (held + n) (t + u)) b′
       (ap (λ (r : A). flatMap f (tab i g) ++ f r) e ∙ flat-next f g i) (ap (λ (r : A). sumOf X (tab i g) + X r) e ∙ sum-next X g i)
       (adds-more (flatMap f (tab i g)) (sumOf X (tab i g)) held t b₀ b a (f s) (X s) answer b′ d n u z)
 
-  pub turn-full : (k : ℕ) → answer ≡ Refused k → (n : ℕ) → i < n → Adds (flatMap f (tab n g)) (sumOf X (tab n g)) 0 b₀ answer b′
+  pub turn-full : (k : ℕ) → answer ≡ Refused k → (n : ℕ) → i < n → AddsCorners (flatMap f (tab n g)) (sumOf X (tab n g)) 0 b₀ answer b′
   turn-full k z n l =
       adds-full (flatMap f (tab i g)) (sumOf X (tab i g)) held t b₀ b a (f s) (X s) answer b′ d k z (flatMap f (tab n g))
       (sumOf X (tab n g))
@@ -133,8 +134,8 @@ module _ {A : Type 0} (f : A → List Corner) (X : A → ℕ) (g : ℕ → A) (i
 
 -- the lists of all seeds that stand in a buffer
 pub turns-all : (seeds : Slices) (f : Corner → List Corner) (X : Corner → ℕ) (b : Slices) (answer : Peaks) (b′ : Slices) (i n : ℕ) → i ≡ n
-    → Adds (flatMap f (cornersOf seeds i)) (sumOf X (cornersOf seeds i)) 0 b answer b′
-    → Adds (flatMap f (cornersOf seeds n)) (sumOf X (cornersOf seeds n)) 0 b answer b′
+    → AddsCorners (flatMap f (cornersOf seeds i)) (sumOf X (cornersOf seeds i)) 0 b answer b′
+    → AddsCorners (flatMap f (cornersOf seeds n)) (sumOf X (cornersOf seeds n)) 0 b answer b′
 turns-all seeds f X b answer b′ i n e a = rw e at a
 
 -- ties of at most 2^24 lists, each with few, as a u64

@@ -18,11 +18,11 @@ use Rattle.multiscale.specs.declared.RoiAnswer.{RoiAnswer}
 use Rattle.multiscale.specs.declared.RoiAnswer.the-variants as roi
 use Rattle.multiscale.specs.Promise.{Boxed}
 use Rattle.multiscale.proofs.Box.{box-inside}
-use Rattle.patch_corners.specs.declared.FrameParams.{FrameParams}
+use Rattle.frame_params.specs.declared.FrameParams.{FrameParams}
 use Rattle.patch_corners.specs.OneMap.{Choice, moved, cornersIn, tiesOn}
 use Rattle.frame_pass.specs.Pass.{contextAt, patchOf, cornersOn, cornersAbout, tiesAbout}
 use Rattle.frame_pass.specs.Theorems.{SoundFrame}
-use Rattle.frame.specs.Internal.{Adds}
+use Rattle.frame.specs.Internal.{AddsCorners}
 use Rattle.frame.proofs.Adding.{adds-none, adds-to}
 use Rattle.frame.proofs.Patches.{boxIn}
 
@@ -36,7 +36,7 @@ module _ (choose : Choice) (p : FrameParams) (img : List ℕ) (w h : ℕ) (k : �
   no-patch (roi.Refused n) e = refl
 
   pub about-none : OneOf (1 ∷ 2 ∷ []) (tagOf answer-type a) → (held : ℕ) (b : Slices) → held ≤ placesOf b
-      → Adds (cornersAbout p img w h choose k s) (tiesAbout p img w h choose k s) held b (Added 0 0) b
+      → AddsCorners (cornersAbout p img w h choose k s) (tiesAbout p img w h choose k s) held b (Added 0 0) b
   about-none o held b l =
       adds-none (cornersAbout p img w h choose k s) (tiesAbout p img w h choose k s) held b
       (ap (λ (r : RoiAnswer). flatMap (cornersOn p img w h choose) (patchOf p img w h r)) (sym (boxed .answer))
@@ -54,9 +54,9 @@ module _ (choose : Choice) (p : FrameParams) (img : List ℕ) (w h : ℕ) (k : �
 
     -- the corners of its map, moved by its corner, are the seed's
     pub about-added : (held : ℕ) (b : Slices) (answer : Peaks) (b′ : Slices)
-        → Adds (map (moved x0 y0) (cornersIn p choose (boxIn p img w h x0 y0 x1 y1)))
+        → AddsCorners (map (moved x0 y0) (cornersIn p choose (boxIn p img w h x0 y0 x1 y1)))
         (tiesOn p choose (boxIn p img w h x0 y0 x1 y1)) held b answer b′
-        → Adds (cornersAbout p img w h choose k s) (tiesAbout p img w h choose k s) held b answer b′
+        → AddsCorners (cornersAbout p img w h choose k s) (tiesAbout p img w h choose k s) held b answer b′
     about-added held b answer b′ d =
         let v = boxIn p img w h x0 y0 x1 y1 in
         adds-to _ _ held b _ _ answer b′

@@ -19,12 +19,12 @@ use Rattle.corner_list.specs.declared.Corner.{Corner}
 use Rattle.corner_list.specs.CornerList.{Slices, xOf, yOf, strengthOf, neighboursOf, placesOf, cornersOf}
 use Rattle.corner_list.proofs.Corners.{slices-alike, corners-front}
 use Rattle.merge.proofs.Result.{result-length}
-use Rattle.patch_corners.specs.declared.FrameParams.{FrameParams}
+use Rattle.frame_params.specs.declared.FrameParams.{FrameParams}
 use Rattle.patch_corners.specs.OneMap.{Choice}
 use Rattle.frame_pass.specs.Pass.{framePass, levelsIn, foundOf}
 use Rattle.frame_pass.specs.Refusals.{conditions}
 use Rattle.frame.specs.declared.FrameAnswer.the-variants.{Corners, Refused}
-use Rattle.frame.specs.Frame.{Buffers, tooMany, refusalOf, paddedCorners, finished, FrameFound, wiped, leftBy}
+use Rattle.frame.specs.Frame.{Buffers, tooMany, refusalOf, paddedCorners, finished, FrameFound, wiped, leftByNumber}
 use Rattle.lists.specs.Refusals.{unless}
 use Rattle.frame.proofs.Numbers.{number-before, number-in-pass}
 
@@ -70,7 +70,7 @@ module _ (choose : Choice) (p : FrameParams) (img : List ℕ) (w h : ℕ) (b : B
   finished-tells n t b′ f =
       let q = framePass p img w h choose in
       let none : refusalOf choose p img w h b ≡ 0 = sym (f .number) in
-      let left = f .left ∙ ap (λ (k : ℕ). leftBy k (finished (above img w h (levelsIn p img w h)) q b) (wiped b) b) none in
+      let left = f .left ∙ ap (λ (k : ℕ). leftByNumber k (finished (above img w h (levelsIn p img w h)) q b) (wiped b) b) none in
       let answer : Corners n t ≡ Corners (length (q .corners)) (q .ties) =
       f .answer ∙ ap (λ (k : ℕ). unless Refused k (Corners (length (q .corners)) (q .ties))) none in
       let count : n ≡ length (q .corners) = cc in

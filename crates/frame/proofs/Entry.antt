@@ -28,7 +28,7 @@ use Rattle.merge.specs.Merge as merge
 use Rattle.merge.specs.Table.{MergesByTable}
 use Rattle.merge_refusal.proofs.Judged.{judged-none-off, judged-none-on}
 use Rattle.merge.proofs.Result.{result-length, merges-done}
-use Rattle.patch_corners.specs.declared.FrameParams.{FrameParams}
+use Rattle.frame_params.specs.declared.FrameParams.{FrameParams}
 use Rattle.patch_corners.specs.OneMap.{Choice}
 use Rattle.clearing.specs.Clearing.{clearedFrom}
 use Rattle.frame_pass.specs.Pass.{Pass, framePass, levelsIn, seedsOf, foundOf, tiesFound}
@@ -37,9 +37,9 @@ use Rattle.frame_pass.proofs.Refusals.{Admitted, not-ten}
 use Rattle.frame.specs.declared.FrameAnswer.{FrameAnswer}
 use Rattle.frame.specs.declared.FrameAnswer.the-variants.{Corners, Refused}
 use Rattle.frame.specs.declared.search.Lists.{Lists}
-use Rattle.frame.specs.Frame.{Buffers, buffers, tooMany, refusalOf, paddedCorners, padded, finished, wiped, leftBy}
+use Rattle.frame.specs.Frame.{Buffers, buffers, tooMany, refusalOf, paddedCorners, finished, wiped, leftByNumber}
 use Rattle.frame.specs.Frame.{numberOf, valuesOf, FrameFound, wiped}
-use Rattle.frame.specs.Internal.{Searched, keptOf, Merging}
+use Rattle.frame.specs.Internal.{Searched, keptOf}
 use Rattle.frame.proofs.Numbers.{number-before, number-ten, number-none}
 use Rattle.frame.proofs.Padded.{SameLengths, padded-none, cleared-front, cleared-none}
 
@@ -58,13 +58,13 @@ module _ (choose : Choice) (p : FrameParams) (img : List ℕ) (w h : ℕ) (b : B
   -- an answer and buffers by the number
   found-by : (k : ℕ) → refusalOf choose p img w h b ≡ k → (answer : FrameAnswer) (b′ : Buffers)
       → answer ≡ unless Refused k (Corners (length (pass .corners)) (pass .ties))
-      → b′ ≡ leftBy k (finished (above img w h (levelsIn p img w h)) pass b) (wiped b) b → FrameFound choose p img w h b answer b′
+      → b′ ≡ leftByNumber k (finished (above img w h (levelsIn p img w h)) pass b) (wiped b) b → FrameFound choose p img w h b answer b′
   found-by k e answer b′ a l = record {
     answer = a ∙ ap (λ (n : ℕ). unless Refused n (Corners (length (pass .corners)) (pass .ties))) (sym e);
     number = ap numberOf a ∙ number-is k (length (pass .corners)) (pass .ties) ∙ sym e;
     values = ap valuesOf a ∙ values-are k (length (pass .corners)) (pass .ties)
         ∙ ap (λ (n : ℕ). valuesUnless n (length (pass .corners) ∷ pass .ties ∷ [])) (sym e);
-    left = l ∙ ap (λ (n : ℕ). leftBy n (finished (above img w h (levelsIn p img w h)) pass b) (wiped b) b) (sym e);
+    left = l ∙ ap (λ (n : ℕ). leftByNumber n (finished (above img w h (levelsIn p img w h)) pass b) (wiped b) b) (sym e);
   }
 
   -- refused before the pass
@@ -106,6 +106,24 @@ none-read : (c : Slices) → cornersOf c 0 ≡ []
 unfolding tab
 none-read c = refl
 
+-- ---- merging with the map as its table, where it is not refused
+
+-- the first n corners of a buffer merged, k of them left, and zero after those
+record Merging (radius : Float) (n : ℕ) (c : Slices) (k : ℕ) (c′ : Slices) : Type 0 where
+  count : k ≡ length (merge.resultOf radius (cornersOf c n))
+  is : c′ ≡ clearedFrom k (frontCorners (merge.resultOf radius (cornersOf c n)) c)
+
+module _ (radius : Float) (n : ℕ) (c : Slices) (m : List Float) (free : merge.refusalOf radius (placesOf c) n c ≡ 0)
+    (kept : Merged) (c′ : Slices)
+    (m′ : List Float) (done : MergesByTable radius n c m kept c′ m′) where
+  map-cleared : m′ ≡ wipedFrom 0 float32.zero m
+  map-cleared = done .cleared ∙ ap (λ (k : ℕ). resultOr k (wipedFrom 0 float32.zero m) m) free
+
+  merge-done : (k : ℕ) → k ≡ keptOf kept → (c″ : Slices) → c″ ≡ clearedFrom k c′ → Merging radius n c k c″
+  merge-done k e c″ is =
+      let done = merges-done radius (placesOf c) n c c′ kept (cornersOf c n) refl free (done .merges) in
+      record { count = e ∙ ap keptOf (done .0); is = is ∙ ap (clearedFrom k) (done .1) }
+
 -- ---- after the search of n levels, which answered `answer` and left s′ and c′
 module _ (choose : Choice) (p : FrameParams) (img : List ℕ) (w h : ℕ) (m : List Float) (levels : List ℕ) (s c : Slices) (n : ℕ)
     (counted : n ≡ levelsIn p img w h)
@@ -140,7 +158,7 @@ module _ (choose : Choice) (p : FrameParams) (img : List ℕ) (w h : ℕ) (m : L
     places-kept = same-places c′ c (same′ .xs) (same′ .ys) (same′ .strengths) (same′ .neighbours)
 
     -- merging is not refused
-    pub merge-free : Admitted p (length img) w h (length m) (length levels)
+    merge-free : Admitted p (length img) w h (length m) (length levels)
         → All (λ z. isInside z ≡ true) (framePass p img w h choose .found)
         → merge.refusalOf (p .«merge_radius») (placesOf c′) (answer .corners) c′ ≡ 0
     merge-free ad inside = of (answer .fit) refl
@@ -156,7 +174,7 @@ module _ (choose : Choice) (p : FrameParams) (img : List ℕ) (w h : ℕ) (m : L
         of false e = free (omega (arith, found .short e .1)) (rw (short-read e) tt)
 
     -- the buffers are cleared behind what they hold, and the corners merged
-    pub entry-closed : lowest (conditions p (length img) w h (length m) (length levels)) ≡ 0
+    entry-closed : lowest (conditions p (length img) w h (length m) (length levels)) ≡ 0
         → (m₁ : List Float) → length m₁ ≡ length m → (levels₁ : List ℕ) → levels₁ ≡ front (above img w h n) levels
         → length levels₁ ≡ length levels
         → (m′ : List Float) → m′ ≡ wipedFrom 0 float32.zero m₁ → (levels′ : List ℕ)
@@ -177,7 +195,7 @@ module _ (choose : Choice) (p : FrameParams) (img : List ℕ) (w h : ℕ) (m : L
                   ∙ cleared-front c c′ same′ left k count (omega (arith, count, fits)),
             )
 
-        wiped-map : m′ ≡ padded float32.zero [] m
+        wiped-map : m′ ≡ wipedFrom 0 float32.zero m
         wiped-map = wm ∙ padded-none float32.zero m m₁ em
 
         of : (fit : Bool) → answer .fit ≡ fit → FrameFound choose p img w h (buffers m levels s c) r (buffers m′ levels′ s″ c″)
@@ -205,22 +223,24 @@ module _ (choose : Choice) (p : FrameParams) (img : List ℕ) (w h : ℕ) (m : L
             let q = found .short e in
             let left : merge.resultOf (p .«merge_radius») [] ≡ [] = none-left (p .«merge_radius») in
             let done = cleared [] (short-read e) (omega (arith, ap length left)) in
-            let es : s″ ≡ paddedCorners [] s = ws ∙ ap (λ (j : ℕ). clearedFrom j s′) (q .0) ∙ cleared-none s s′ same in
-            let ec : c″ ≡ paddedCorners [] c = done .1 ∙ ap (λ (l : List Corner). paddedCorners l c) left in
+            let es : s″ ≡ clearedFrom 0 s = ws ∙ ap (λ (j : ℕ). clearedFrom j s′) (q .0) ∙ cleared-none s s′ same in
+            let ec : c″ ≡ clearedFrom 0 c = done .1 ∙ ap (λ (l : List Corner). paddedCorners l c) left in
             let levels-left : levels′ ≡ replicate (length levels) 0 = wl ∙ rw e (ap (λ (j : ℕ). replicate j 0) ll) in
             let answered : r ≡ Refused 10 = is ∙ rw e in
             rw answered
             (found-short choose p img w h (buffers m levels s c) none (rw (seeds-are, found-are) (q .2)) (buffers m′ levels′ s″ c″)
             (rw (wiped-map, levels-left, es, ec)))
 
--- ---- merging with the map as its table, where it is not refused
-module _ (radius : Float) (n : ℕ) (c : Slices) (m : List Float) (free : merge.refusalOf radius (placesOf c) n c ≡ 0)
-    (kept : Merged) (c′ : Slices)
-    (m′ : List Float) (done : MergesByTable radius n c m kept c′ m′) where
-  pub map-cleared : m′ ≡ wipedFrom 0 float32.zero m
-  map-cleared = done .cleared ∙ ap (λ (k : ℕ). resultOr k (wipedFrom 0 float32.zero m) m) free
-
-  pub merge-done : (k : ℕ) → k ≡ keptOf kept → (c″ : Slices) → c″ ≡ clearedFrom k c′ → Merging radius n c k c″
-  merge-done k e c″ is =
-      let done = merges-done radius (placesOf c) n c c′ kept (cornersOf c n) refl free (done .merges) in
-      record { count = e ∙ ap keptOf (done .0); is = is ∙ ap (clearedFrom k) (done .1) }
+    pub entry-merged : lowest (conditions p (length img) w h (length m) (length levels)) ≡ 0
+        → Admitted p (length img) w h (length m) (length levels) → All (λ z. isInside z ≡ true) (framePass p img w h choose .found)
+        → (m₁ : List Float) → length m₁ ≡ length m → (levels₁ : List ℕ) → levels₁ ≡ front (above img w h n) levels
+        → length levels₁ ≡ length levels
+        → (m′ : List Float) (kept : Merged) (c₁ : Slices) → MergesByTable (p .«merge_radius») (answer .corners) c′ m₁ kept c₁ m′
+        → (levels′ : List ℕ) → levels′ ≡ cond (answer .fit) levels₁ (replicate (length levels₁) 0)
+        → (s″ : Slices) → s″ ≡ clearedFrom (answer .seeds) s′ → (k : ℕ) → k ≡ keptOf kept → (c″ : Slices) → c″ ≡ clearedFrom k c₁
+        → (r : FrameAnswer) → r ≡ cond (answer .fit) (Corners k (answer .ties)) (Refused 10)
+        → FrameFound choose p img w h (buffers m levels s c) r (buffers m′ levels′ s″ c″)
+    entry-merged none ad inside m₁ em levels₁ el ll m′ kept c₁ merges levels′ wl s″ ws k ek c″ wc r is =
+        let free = merge-free ad inside in
+        entry-closed none m₁ em levels₁ el ll m′ (map-cleared (p .«merge_radius») (answer .corners) c′ m₁ free kept c₁ m′ merges) levels′ wl
+        s″ ws k c″ (merge-done (p .«merge_radius») (answer .corners) c′ m₁ free kept c₁ m′ merges k ek c″ wc) r is

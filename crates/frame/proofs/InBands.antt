@@ -32,7 +32,7 @@ use Rattle.detect.specs.declared.Peaks.the-variants.{Added, Refused}
 use Rattle.detect.specs.Peaks.{peakPlaces}
 use Rattle.detect.specs.Detect.{peakIn, peaksIn, startAt, tiesAt, conditions}
 use Rattle.detect.proofs.Answers.{Clear, sound-clear, added-tells, refused-tells}
-use Rattle.patch_corners.specs.declared.FrameParams.{FrameParams}
+use Rattle.frame_params.specs.declared.FrameParams.{FrameParams}
 use Rattle.patch_corners.specs.OneMap.{choiceOf, cornersIn, tiesOn}
 use Rattle.patch_corners.specs.MapCorners.{centred, searchWith, centresIn, tiesWith, peaksInRows, centresInRows, tiesInRows}
 use Rattle.patch_corners.specs.MapCorners.{RowCornersAdded}
@@ -40,9 +40,10 @@ use Rattle.patch_corners.proofs.Fine.{Fine}
 use Rattle.patch_corners.proofs.Made.{made-corners, made-ties}
 use Rattle.patch_corners.proofs.OfRows.{Cut}
 use Rattle.patch_corners.proofs.RowsAlike.{centres-alike, ties-alike, centres-split, ties-split}
-use Rattle.frame_pass.proofs.Maps.{Ranges, ranges, fine-box}
+use Rattle.frame_params.proofs.Ranges.{Ranges, ranges}
+use Rattle.frame_pass.proofs.Maps.{fine-box}
 use Rattle.frame_pass.proofs.Ties.{map-tied}
-use Rattle.frame.specs.Internal.{Ready, Adds, borderOf, RowsHeld, Band}
+use Rattle.frame.specs.Internal.{FrameChecked, AddsCorners, borderOf, RowsHeld, Band}
 use Rattle.frame.proofs.Adding.{adds-none, adds-to, adds-more, adds-full}
 
 -- ---- rows of cells in two parts
@@ -95,7 +96,7 @@ module _ (p : FrameParams) (img : List ℕ) (w h : ℕ) where
     pub band-order : j * w ≤ e * w
     band-order = let k : j ≤ e = omega (arith, band .some) in mul-le-mul-right w k
 
-    module _ (d : List Float) (ready : Ready p img w h (length d)) where
+    module _ (d : List Float) (ready : FrameChecked p img w h (length d)) where
       pub band-end : e * w ≤ length d
       band-end = omega (arith, ready .enough, mul-le-mul-right w (band .within), mul-comm w h)
 
@@ -163,7 +164,7 @@ module _ (p : FrameParams) (img : List ℕ) (w h : ℕ) where
             to-end = let k : j + (e - j) ≡ e = omega (arith, band .some) in ap (λ (n : ℕ). grid w n (responseIn All)) k
 
     -- ---- and its corners are those of the map
-    module _ (d : List Float) (ready : Ready p img w h (length d)) (exact : Bool) (held : RowsHeld All w e d) where
+    module _ (d : List Float) (ready : FrameChecked p img w h (length d)) (exact : Bool) (held : RowsHeld All w e d) where
       abbrev Rows : List Float
       Rows = grid w e (responseIn All)
 
@@ -229,7 +230,7 @@ module _ (p : FrameParams) (img : List ℕ) (w h : ℕ) where
 
       pub band-adds : (x y : ℕ) → x ≡ j - borderOf p → y ≡ e - borderOf p → (n : ℕ) (s : Slices) (answer : Peaks) (s′ : Slices)
           → RowCornersAdded p exact (take (h * w) d) w h x y n s answer s′
-          → Adds (centresInRows p exact (cells All) w h (j - borderOf p) (e - borderOf p))
+          → AddsCorners (centresInRows p exact (cells All) w h (j - borderOf p) (e - borderOf p))
           (tiesInRows p exact (cells All) w h (j - borderOf p) (e - borderOf p)) n s answer s′
       band-adds x y x-is y-is n s answer s′ found =
           let added =
@@ -276,7 +277,7 @@ module _ (p : FrameParams) (img : List ℕ) (w h : ℕ) where
     abbrev pub tiesTo : ℕ → ℕ
     tiesTo j = tiesInRows p exact (cells All) w h 0 (j - borderOf p)
 
-    pub bands-none : (b : Slices) → Adds (cornersTo 0) (tiesTo 0) 0 b (Added 0 0) b
+    pub bands-none : (b : Slices) → AddsCorners (cornersTo 0) (tiesTo 0) 0 b (Added 0 0) b
     bands-none b =
         adds-none (cornersTo 0) (tiesTo 0) 0 b
         (ap (λ (l : List Place). map (centred (p .«centroid_radius») (cells All) w h)
@@ -289,11 +290,11 @@ module _ (p : FrameParams) (img : List ℕ) (w h : ℕ) where
         none : peaksInRows (cells All) (searchWith p exact w h) 0 (0 - borderOf p) ≡ []
         none = ap (keep (peakIn (cells All) (searchWith p exact w h))) (empty (borderOf p))
 
-    module _ (j e held t : ℕ) (later : j ≤ e) (b₀ b : Slices) (a : Adds (cornersTo j) (tiesTo j) 0 b₀ (Added held t) b)
+    module _ (j e held t : ℕ) (later : j ≤ e) (b₀ b : Slices) (a : AddsCorners (cornersTo j) (tiesTo j) 0 b₀ (Added held t) b)
         (answer : Peaks) (b′ : Slices)
-        (d : Adds (centresInRows p exact (cells All) w h (j - borderOf p) (e - borderOf p))
+        (d : AddsCorners (centresInRows p exact (cells All) w h (j - borderOf p) (e - borderOf p))
         (tiesInRows p exact (cells All) w h (j - borderOf p) (e - borderOf p)) held b answer b′) where
-      pub bands-more : (n u : ℕ) → answer ≡ Added n u → Adds (cornersTo e) (tiesTo e) 0 b₀ (Added (held + n) (t + u)) b′
+      pub bands-more : (n u : ℕ) → answer ≡ Added n u → AddsCorners (cornersTo e) (tiesTo e) 0 b₀ (Added (held + n) (t + u)) b′
       bands-more n u z =
           adds-to _ _ 0 b₀ (cornersTo e) (tiesTo e) (Added (held + n) (t + u)) b′
           (sym (centres-split p exact (cells All) w h 0 (j - borderOf p) (e - borderOf p) (omega arith) (earlier (borderOf p))))
@@ -303,7 +304,7 @@ module _ (p : FrameParams) (img : List ℕ) (w h : ℕ) where
           earlier : (border : ℕ) → j - border ≤ e - border
           earlier border = omega arith
 
-      pub bands-full : (k : ℕ) → answer ≡ Refused k → e ≤ h → Adds (cornersTo h) (tiesTo h) 0 b₀ answer b′
+      pub bands-full : (k : ℕ) → answer ≡ Refused k → e ≤ h → AddsCorners (cornersTo h) (tiesTo h) 0 b₀ answer b′
       bands-full k z l =
           adds-full (cornersTo j) (tiesTo j) held t b₀ b a _ _ answer b′ d k z (cornersTo h) (tiesTo h)
           (omega (
@@ -319,7 +320,7 @@ module _ (p : FrameParams) (img : List ℕ) (w h : ℕ) where
           monus x y border q = omega arith
 
     -- all rows
-    module _ (wide : 0 < w) (high : 0 < h) (places : ℕ) (ready : Ready p img w h places) where
+    module _ (wide : 0 < w) (high : 0 < h) (places : ℕ) (ready : FrameChecked p img w h places) where
       fine : Fine p All
       fine = fine-box p img w h (ready .sound) 0 0 w h
 
@@ -339,8 +340,9 @@ module _ (p : FrameParams) (img : List ℕ) (w h : ℕ) where
           ap (sumOf (tiesAt (cells All) (searchWith p exact w h))) peaks-all ∙ sides (tiesWith p exact (cells All))
           ∙ made-ties p All fine exact
 
-      pub bands-all : (j : ℕ) → j ≤ h → h ≤ j → (b₀ : Slices) (answer : Peaks) (b : Slices) → Adds (cornersTo j) (tiesTo j) 0 b₀ answer b
-          → Adds (cornersIn p (choiceOf p exact) All) (tiesOn p (choiceOf p exact) All) 0 b₀ answer b
+      pub bands-all : (j : ℕ) → j ≤ h → h ≤ j → (b₀ : Slices) (answer : Peaks) (b : Slices)
+          → AddsCorners (cornersTo j) (tiesTo j) 0 b₀ answer b
+          → AddsCorners (cornersIn p (choiceOf p exact) All) (tiesOn p (choiceOf p exact) All) 0 b₀ answer b
       bands-all j k l b₀ answer b a =
           let e : j ≡ h = omega arith in
           adds-to _ _ 0 b₀ _ _ answer b

@@ -22,13 +22,14 @@ use Rattle.corner_list.specs.CornerList.{Slices, xOf, yOf, strengthOf, neighbou
 use Rattle.corner_list.proofs.Corners.{slices-alike, corners-front}
 use Rattle.detect.specs.declared.Peaks.{Peaks}
 use Rattle.detect.specs.declared.Peaks.the-variants.{Added, Refused}
-use Rattle.patch_corners.specs.declared.FrameParams.{FrameParams}
+use Rattle.frame_params.specs.declared.FrameParams.{FrameParams}
 use Rattle.patch_corners.specs.OneMap.{Choice, choiceOf, cornersIn, tiesOn}
 use Rattle.frame_pass.specs.Pass.{cornersAbout, tiesAbout, levelView, seedsOf, foundOf, tiesFound}
 use Rattle.frame_pass.proofs.Maps.{sound-level}
 use Rattle.frame_pass.proofs.Ties.{level-few}
 use Rattle.frame.specs.declared.search.Lists.{Lists}
-use Rattle.frame.specs.Internal.{Ready, BuiltLevels, Adds, SeedsAdded, foundBy, tiesBy, addedOf, noLists, listsOf, Searched}
+use Rattle.frame.specs.Internal.{FrameChecked, BuiltLevels, AddsCorners, SeedsAdded, foundBy, tiesBy, addedOf, noLists, listsOf}
+use Rattle.frame.specs.Internal.{Searched}
 use Rattle.frame.proofs.Adding.{adds-to, adds-none}
 use Rattle.frame.proofs.Patches.{boxIn}
 
@@ -39,8 +40,8 @@ first-corners cs b =
     (placed-first (map neighboursOf cs) (b .neighbours))
 
 -- a map buffer of another length, at least as long
-pub ready-kept : (p : FrameParams) (img : List ℕ) (w h places places′ : ℕ) → Ready p img w h places → places′ ≡ places
-    → Ready p img w h places′
+pub ready-kept : (p : FrameParams) (img : List ℕ) (w h places places′ : ℕ) → FrameChecked p img w h places → places′ ≡ places
+    → FrameChecked p img w h places′
 ready-kept p img w h places places′ r e = rw e r
 
 -- ---- the last of n levels, which is level k
@@ -55,21 +56,21 @@ module _ (p : FrameParams) (img : List ℕ) (w h n : ℕ) (levels : List ℕ) (b
   pub levels-most : n ≤ 13
   levels-most = levels-few img w h (p .levels) (p .«minimum_side») (built .before) levels n (built .complete)
 
-  module _ (some : 2 ≤ n) (k : ℕ) (is : k ≡ n - 1) (places : ℕ) (ready : Ready p img w h places) (last : List ℕ)
+  module _ (some : 2 ≤ n) (k : ℕ) (is : k ≡ n - 1) (places : ℕ) (ready : FrameChecked p img w h places) (last : List ℕ)
       (l : last ≡ levelIn img levels w h (p .levels) (p .«minimum_side») k)
       (lw lh : ℕ) (wide : lw ≡ levelSide w k) (high : lh ≡ levelSide h k) where
     pixels : last ≡ levelPixels img w h k
     pixels = l ∙ level-found img w h (p .levels) (p .«minimum_side») (built .before) levels n (built .complete) k (omega (arith, some, is))
 
     -- it is searched like the image
-    pub last-ready : Ready p last lw lh places
+    pub last-ready : FrameChecked p last lw lh places
     last-ready =
         let area : levelSide w k * levelSide h k ≤ w * h = mul-le-mul (side-le w k) (side-le h k) in
         rw (pixels, wide, high) (record { sound = sound-level p img w h (ready .sound) k; enough = omega (arith, area, ready .enough) })
 
     -- and its corners, as of one box, are the seeds
     pub last-seeds : (choose : Choice) (b : Slices) (answer : Peaks) (b′ : Slices)
-        → Adds (cornersIn p choose (boxIn p last lw lh 0 0 lw lh)) (tiesOn p choose (boxIn p last lw lh 0 0 lw lh)) 0 b answer b′
+        → AddsCorners (cornersIn p choose (boxIn p last lw lh 0 0 lw lh)) (tiesOn p choose (boxIn p last lw lh 0 0 lw lh)) 0 b answer b′
         → SeedsAdded p img w h choose n b answer b′
     last-seeds choose b answer b′ a =
         let ties = tiesOn p choose (boxIn p last lw lh 0 0 lw lh) in
@@ -90,7 +91,7 @@ no-seeds p img w h choose n l b = record { ties = 0; adds = adds-none (seedsOf p
     of (suc (suc j)) z = absurd (let no : ⊥ = omega arith in no)
 
 -- so few seeds were added as one level of a sound image has
-pub seeds-few : (p : FrameParams) (exact : Bool) (img : List ℕ) (w h places : ℕ) → Ready p img w h places
+pub seeds-few : (p : FrameParams) (exact : Bool) (img : List ℕ) (w h places : ℕ) → FrameChecked p img w h places
     → (n : ℕ) (b : Slices) (answer : Peaks) (b′ : Slices) → SeedsAdded p img w h (choiceOf p exact) n b answer b′
     → addedOf answer ≤ largestMap
 unfolding seedsOf
@@ -106,8 +107,8 @@ seeds-few p exact img w h places ready n b (Refused x) b′ a = omega arith
 module _ (choose : Choice) (p : FrameParams) (img : List ℕ) (w h : ℕ) where
   -- one level: the corners of its map
   pub found-whole : (n : ℕ) → n ≡ 1 → (seeds : List Corner) (c : Slices) (answer : Peaks) (c′ : Slices)
-      → Adds (cornersIn p choose (boxIn p img w h 0 0 w h)) (tiesOn p choose (boxIn p img w h 0 0 w h)) 0 c answer c′
-      → Adds (foundBy p img w h choose n seeds) (tiesBy p img w h choose n seeds) 0 c answer c′
+      → AddsCorners (cornersIn p choose (boxIn p img w h 0 0 w h)) (tiesOn p choose (boxIn p img w h 0 0 w h)) 0 c answer c′
+      → AddsCorners (foundBy p img w h choose n seeds) (tiesBy p img w h choose n seeds) 0 c answer c′
   found-whole n e seeds c answer c′ a = rw e (adds-to _ _ 0 c _ _ answer c′ base tied a)
     where
       tied : tiesOn p choose (boxIn p img w h 0 0 w h) ≡ tiesOn p choose (levelView p img w h 0)
@@ -118,8 +119,8 @@ module _ (choose : Choice) (p : FrameParams) (img : List ℕ) (w h : ℕ) where
 
   -- any other number: those of the boxes of the seeds, which are of level k
   pub found-boxes : (n : ℕ) → (n ≡ 1 → ⊥) → (k : ℕ) → k ≡ n - 1 → (seeds : List Corner) (c : Slices) (answer : Peaks) (c′ : Slices)
-      → Adds (flatMap (cornersAbout p img w h choose k) seeds) (sumOf (tiesAbout p img w h choose k) seeds) 0 c answer c′
-      → Adds (foundBy p img w h choose n seeds) (tiesBy p img w h choose n seeds) 0 c answer c′
+      → AddsCorners (flatMap (cornersAbout p img w h choose k) seeds) (sumOf (tiesAbout p img w h choose k) seeds) 0 c answer c′
+      → AddsCorners (foundBy p img w h choose n seeds) (tiesBy p img w h choose n seeds) 0 c answer c′
   found-boxes zero z k e seeds c answer c′ a = let same : k ≡ 0 = omega arith in rw same at a
   found-boxes (suc zero) z k e seeds c answer c′ a = absurd (z refl)
   found-boxes (suc (suc j)) z k e seeds c answer c′ a = let same : k ≡ suc j = omega arith in rw same at a
@@ -144,7 +145,8 @@ module _ (seeds found : List Corner) (ties : ℕ) (s c s′ c′ : Slices) where
   lists-short e = record { both = λ z. absurd (false≢true z); short = λ z. (refl, refl, e) }
 
   -- from the answers of adding them
-  listed : (m u : ℕ) → m ≡ length seeds → m ≤ placesOf s → s′ ≡ frontCorners seeds s → (answer : Peaks) → Adds found ties 0 c answer c′
+  listed : (m u : ℕ) → m ≡ length seeds → m ≤ placesOf s → s′ ≡ frontCorners seeds s → (answer : Peaks)
+      → AddsCorners found ties 0 c answer c′
       → Searched seeds found ties s c (listsOf (Added m u) answer) s′ c′
   listed m u p q r (Added n v) a =
       let t = a .added n v refl in
@@ -161,7 +163,7 @@ module _ (choose : Choice) (p : FrameParams) (img : List ℕ) (w h n : ℕ) (s c
   Result r = Searched (seedsOf p img w h choose n) (foundOf p img w h choose n) (tiesFound p img w h choose n) s c r s′ c′
 
   abbrev Found : ℕ → Type 0
-  Found m = Adds (foundBy p img w h choose n (cornersOf s′ m)) (tiesBy p img w h choose n (cornersOf s′ m)) 0 c answer′ c′
+  Found m = AddsCorners (foundBy p img w h choose n (cornersOf s′ m)) (tiesBy p img w h choose n (cornersOf s′ m)) 0 c answer′ c′
 
   of-both : (answer : Peaks) → SeedsAdded p img w h choose n s answer s′ → Found (addedOf answer) → Result (listsOf answer answer′)
   of-both (Added m v) a b =

@@ -20,7 +20,7 @@ use Rattle.detect.specs.declared.Peaks.{Peaks}
 use Rattle.detect.specs.declared.Peaks.the-variants.{Added, Refused}
 use Rattle.patch_corners.specs.OneMap.{moved}
 use Rattle.patch_corners.proofs.Changing.{placed-behind, placed-again}
-use Rattle.frame.specs.Internal.{Adds, addedOf}
+use Rattle.frame.specs.Internal.{AddsCorners, addedOf}
 use Rattle.frame.proofs.Adding.{adds, adds-not}
 
 -- ---- i of the n floats of a slice d, which was d₀, are replaced
@@ -85,16 +85,16 @@ kept x f e [] = refl
 kept {A} x f e (c ∷ cs) = ap₂ (λ (a : A) (l : List A). a ∷ l) (e c) (kept x f e cs)
 
 module _ (cs : List Corner) (ties held : ℕ) (b : Slices) where
-  pub moved-fits : (answer : Peaks) (b′ : Slices) → Adds cs ties held b answer b′ → held ≤ placesOf b → (m : ℕ)
+  pub moved-fits : (answer : Peaks) (b′ : Slices) → AddsCorners cs ties held b answer b′ → held ≤ placesOf b → (m : ℕ)
       → m ≡ addedOf answer → held + m ≤ placesOf b
   moved-fits (Added n t) b′ a l m e = omega (arith, a .added n t refl .1)
   moved-fits (Refused x) b′ a l m e = omega arith
 
-  pub moved-added : (x0 y0 : ℕ) (answer : Peaks) (b′ : Slices) → Adds cs ties held b answer b′ → (m : ℕ) → m ≡ addedOf answer
+  pub moved-added : (x0 y0 : ℕ) (answer : Peaks) (b′ : Slices) → AddsCorners cs ties held b answer b′ → (m : ℕ) → m ≡ addedOf answer
       → (xs ys : List Float)
       → xs ≡ placed held (tab m (λ i. add binary32 (getD (b′ .xs) (held + i) nan) (floatOf x0))) (b′ .xs)
       → ys ≡ placed held (tab m (λ i. add binary32 (getD (b′ .ys) (held + i) nan) (floatOf y0))) (b′ .ys)
-      → Adds (map (moved x0 y0) cs) ties held b answer (slices xs ys (b′ .strengths) (b′ .neighbours))
+      → AddsCorners (map (moved x0 y0) cs) ties held b answer (slices xs ys (b′ .strengths) (b′ .neighbours))
   moved-added x0 y0 (Added n t) b′ a m e xs ys ex ey =
       let k = a .added n t refl in
       let f = moved x0 y0 in

@@ -26,7 +26,7 @@ module _ {A : Type 0} (z : A) where
       → wipedFrom n z (front vs d′) ≡ padded z vs d
   padded-front vs d d′ n e h l = wiped-front vs d′ z n e (rw l h) ∙ ap (λ (k : ℕ). vs ++ replicate (k - length vs) z) l
 
-  pub padded-none : (d d′ : List A) → length d′ ≡ length d → wipedFrom 0 z d′ ≡ padded z [] d
+  pub padded-none : (d d′ : List A) → length d′ ≡ length d → wipedFrom 0 z d′ ≡ wipedFrom 0 z d
   padded-none d d′ l = padded-front [] d d′ 0 refl (omega arith) l
 
 -- ---- a buffer of corners
@@ -41,7 +41,7 @@ module _ (b b′ : Slices) (same : SameLengths b b′) where
           → wipedFrom n z (front (map g cs) d′) ≡ padded z (map g cs) d
       each z g d d′ k l = padded-front z (map g cs) d d′ n (e ∙ sym (length-map cs g)) (omega (arith, length-map cs g)) l
 
-  pub cleared-none : clearedFrom 0 b′ ≡ paddedCorners [] b
+  pub cleared-none : clearedFrom 0 b′ ≡ clearedFrom 0 b
   cleared-none =
       slices-alike (padded-none zero (b .xs) (b′ .xs) (same .xs)) (padded-none zero (b .ys) (b′ .ys) (same .ys))
       (padded-none zero (b .strengths) (b′ .strengths) (same .strengths))

@@ -23,21 +23,22 @@ use Rattle.detect.specs.Peaks.{valueAt}
 use Rattle.detect.specs.Internal.{Inside}
 use Rattle.detect.specs.Detect.{conditions}
 use Rattle.detect.proofs.Answers.{Clear, added-tells, refused-tells}
-use Rattle.patch_corners.specs.declared.FrameParams.{FrameParams}
+use Rattle.frame_params.specs.declared.FrameParams.{FrameParams}
 use Rattle.patch_corners.specs.OneMap.{choiceOf, cornersIn, tiesOn}
 use Rattle.patch_corners.specs.MapCorners.{centresIn, tiesWith, CornersAdded}
 use Rattle.patch_corners.specs.Internal.{marginOf}
 use Rattle.patch_corners.proofs.Fine.{Fine}
 use Rattle.patch_corners.proofs.Made.{made-corners, made-ties}
 use Rattle.patch_corners.proofs.Margin.{same-centres, same-ties-with}
-use Rattle.frame_pass.proofs.Maps.{ranges, map-clear, fine-box}
-use Rattle.frame.specs.Internal.{Ready, Adds}
+use Rattle.frame_params.proofs.Ranges.{ranges}
+use Rattle.frame_pass.proofs.Maps.{map-clear, fine-box}
+use Rattle.frame.specs.Internal.{FrameChecked, AddsCorners}
 use Rattle.frame.proofs.Adding.{adds-to}
 
 abbrev pub boxIn : FrameParams → List ℕ → ℕ → ℕ → ℕ → ℕ → ℕ → ℕ → View
 boxIn p img w h x0 y0 x1 y1 = record { img = img; w = w; h = h; ring = ringOf (p .ring); x0 = x0; y0 = y0; x1 = x1; y1 = y1 }
 
-module _ (p : FrameParams) (img : List ℕ) (w h x0 y0 x1 y1 : ℕ) (d : List Float) (ready : Ready p img w h (length d)) (margin : ℕ)
+module _ (p : FrameParams) (img : List ℕ) (w h x0 y0 x1 y1 : ℕ) (d : List Float) (ready : FrameChecked p img w h (length d)) (margin : ℕ)
     (e : List Float) (m : Patch) (patched : InnerPatched (boxIn p img w h x0 y0 x1 y1) margin (p .ring) d m e) where
   abbrev box : View
   box = boxIn p img w h x0 y0 x1 y1
@@ -110,7 +111,7 @@ module _ (p : FrameParams) (img : List ℕ) (w h x0 y0 x1 y1 : ℕ) (d : List Fl
           (same-ties-with p exact (innerCells box margin) (cells box) (mapWidth box) (mapHeight box) narrow low long same
           ∙ made-ties p box fine exact)
 
-      pub box-adds : Adds (cornersIn p (choiceOf p exact) box) (tiesOn p (choiceOf p exact) box) held b answer b′
+      pub box-adds : AddsCorners (cornersIn p (choiceOf p exact) box) (tiesOn p (choiceOf p exact) box) held b answer b′
       box-adds =
           adds-to _ _ held b _ _ answer b′ centres ties
           (record {

@@ -6,14 +6,15 @@ use mathlib.Core.List.{List, [], _∷_, _++_, map}
 use lib.ListN.{length, replicate}
 use lib.Dec.{ltb, eqb}
 use lib.Ieee.{Float}
-use Rattle.lists.specs.Buffer.{front}
+use Rattle.lists.specs.Buffer.{front, wipedFrom}
 use Rattle.lists.specs.Refusals.{lowest, valuesUnless, unless}
 use Rattle.float32.specs.Float32 as float32
 use Rattle.pyramid.specs.Pyramid.{above}
 use Rattle.corner_list.specs.CornerList.{Slices, slices, xOf, yOf, strengthOf, neighboursOf, placesOf}
 use Rattle.corner_list.specs.declared.Corner.{Corner}
-use Rattle.patch_corners.specs.declared.FrameParams.{FrameParams}
+use Rattle.frame_params.specs.declared.FrameParams.{FrameParams}
 use Rattle.patch_corners.specs.OneMap.{Choice, computedChoice}
+use Rattle.clearing.specs.Clearing.{clearedFrom}
 use Rattle.frame_pass.specs.Refusals.{conditions}
 use Rattle.frame_pass.specs.Pass.{Pass, framePass, levelsIn}
 use Rattle.frame.specs.declared.FrameAnswer.{FrameAnswer}
@@ -64,7 +65,7 @@ refusalOf choose p img w h b =
 
 -- ---- the buffers after
 
--- a list at the start, and zero after it; zero in every place
+-- a list at the start, and zero after it
 abbrev pub padded : {A : Type 0} → A → List A → List A → List A
 padded z vs d = vs ++ replicate (length d - length vs) z
 
@@ -77,25 +78,25 @@ paddedCorners cs b =
 -- the lists are at the start of theirs, with zero after them
 abbrev pub finished : List ℕ → Pass → Buffers → Buffers
 finished levels q b =
-    buffers (padded float32.zero [] (b .map)) (front levels (b .levels)) (paddedCorners (q .seeds) (b .seeds))
+    buffers (wipedFrom 0 float32.zero (b .map)) (front levels (b .levels)) (paddedCorners (q .seeds) (b .seeds))
     (paddedCorners (q .corners) (b .corners))
 
 -- 10: every buffer is zero in its whole length
 abbrev pub wiped : Buffers → Buffers
 wiped b =
-    buffers (padded float32.zero [] (b .map)) (replicate (length (b .levels)) 0) (paddedCorners [] (b .seeds))
-    (paddedCorners [] (b .corners))
+    buffers (wipedFrom 0 float32.zero (b .map)) (replicate (length (b .levels)) 0) (clearedFrom 0 (b .seeds))
+    (clearedFrom 0 (b .corners))
 
 -- a buffer by the call's number (RULES 9.6): as the call leaves it if there is none; cleared by 10, a list that does
 -- not fit; unchanged by any other refusal
-abbrev pub leftBy : {A : Type 0} → ℕ → A → A → A → A
-leftBy zero done cleared before = done
-leftBy (suc k) done cleared before = cond (eqb (suc k) 10) cleared before
+abbrev pub leftByNumber : {A : Type 0} → ℕ → A → A → A → A
+leftByNumber zero done cleared before = done
+leftByNumber (suc k) done cleared before = cond (eqb (suc k) 10) cleared before
 
 -- the same for all buffers
 abbrev pub buffersAfter : Choice → FrameParams → List ℕ → ℕ → ℕ → Buffers → Buffers
 buffersAfter choose p img w h b =
-    leftBy (refusalOf choose p img w h b)
+    leftByNumber (refusalOf choose p img w h b)
     (finished (above img w h (levelsIn p img w h)) (framePass p img w h choose) b) (wiped b) b
 
 -- ---- the promise
@@ -103,11 +104,11 @@ buffersAfter choose p img w h b =
 -- the number (RULES 2.2) and the values of each case
 abbrev pub numberOf : FrameAnswer → ℕ
 numberOf (Corners n ties) = 0
-numberOf (Refused k) = k
+numberOf (Refused number) = number
 
 abbrev pub valuesOf : FrameAnswer → List ℕ
 valuesOf (Corners n ties) = n ∷ ties ∷ []
-valuesOf (Refused k) = []
+valuesOf (Refused number) = []
 
 -- What is promised about a frame with a choice of peaks: the answer (how many corners and how many ties there are,
 -- RULES 23.3), its number and values, and the buffers after. `find_corners` promises it for computed values,

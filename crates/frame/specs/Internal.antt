@@ -7,13 +7,12 @@ use lib.Dec.{ltb}
 use lib.ListN.{length}
 use lib.Ieee.{Float}
 use Rattle.pyramid.specs.Internal.{LevelsComplete}
-use Rattle.corner_list.specs.CornerList.{Slices, placesOf, cornersOf, frontCorners, placedCorners}
+use Rattle.corner_list.specs.CornerList.{Slices, placesOf, frontCorners, placedCorners}
 use Rattle.corner_list.specs.declared.Corner.{Corner}
 use Rattle.detect.specs.declared.Peaks.{Peaks}
 use Rattle.detect.specs.declared.Peaks.the-variants.{Added, Refused}
-use Rattle.patch_corners.specs.declared.FrameParams.{FrameParams}
+use Rattle.frame_params.specs.declared.FrameParams.{FrameParams}
 use Rattle.patch_corners.specs.OneMap.{Choice, cornersIn, tiesOn}
-use Rattle.clearing.specs.Clearing.{clearedFrom}
 use Rattle.lists.specs.Limits.{largestBorder}
 use Rattle.lists.specs.Places.{flatMap, sumOf}
 use Rattle.lists.specs.Tab.{grid}
@@ -23,11 +22,10 @@ use Rattle.frame_pass.specs.Theorems.{SoundFrame}
 use Rattle.merge.specs.declared.Merged.{Merged}
 use Rattle.merge.specs.declared.Merged.the-variants.{Kept}
 use Rattle.merge.specs.declared.Merged.the-variants as merged
-use Rattle.merge.specs.Merge.{resultOf}
 use Rattle.frame.specs.declared.search.Lists.{Lists}
 
 -- an image and parameters that no rule refuses, and a map buffer with a place for each pixel
-pub record Ready (p : FrameParams) (img : List ℕ) (w h places : ℕ) : Type 0 where
+pub record FrameChecked (p : FrameParams) (img : List ℕ) (w h places : ℕ) : Type 0 where
   pub sound : SoundFrame p img w h
   pub enough : w * h ≤ places
 
@@ -58,16 +56,16 @@ pub record Band (w h j e : ℕ) : Type 0 where
 
 -- the corners cs after the first `held` of a buffer, their number and the ties of their peaks; or a refusal if they do
 -- not fit, and then only the lengths of the buffer are known
-pub record Adds (cs : List Corner) (ties held : ℕ) (b : Slices) (answer : Peaks) (b′ : Slices) : Type 0 where
+pub record AddsCorners (cs : List Corner) (ties held : ℕ) (b : Slices) (answer : Peaks) (b′ : Slices) : Type 0 where
   pub added : (n t : ℕ) → answer ≡ Added n t
       → (n ≡ length cs) × (held + n ≤ placesOf b) × (b′ ≡ placedCorners held cs b) × (t ≡ ties)
-  pub refused : (k : ℕ) → answer ≡ Refused k → placesOf b < held + length cs
+  pub refused : (number : ℕ) → answer ≡ Refused number → placesOf b < held + length cs
 
 -- the seeds of n levels at the start of a buffer; their ties are not used
 pub record SeedsAdded (p : FrameParams) (img : List ℕ) (w h : ℕ) (choose : Choice) (n : ℕ) (b : Slices)
     (answer : Peaks) (b′ : Slices) : Type 0 where
   pub ties : ℕ
-  pub adds : Adds (seedsOf p img w h choose n) ties 0 b answer b′
+  pub adds : AddsCorners (seedsOf p img w h choose n) ties 0 b answer b′
 
 -- the corners before merging and their peaks' ties, by the number of levels and the seeds: `foundOf` and `tiesFound` at
 -- the seeds of the pass
@@ -85,7 +83,7 @@ module _ (p : FrameParams) (img : List ℕ) (w h : ℕ) (choose : Choice) where
 -- how many corners were added
 abbrev pub addedOf : Peaks → ℕ
 addedOf (Added n t) = n
-addedOf (Refused k) = 0
+addedOf (Refused number) = 0
 
 -- the two lists, by the answers of adding the seeds and the corners: the ties are the corners'
 abbrev pub noLists : Lists
@@ -93,8 +91,8 @@ noLists = record { fit = false; seeds = 0; corners = 0; ties = 0 }
 
 abbrev pub listsOf : Peaks → Peaks → Lists
 listsOf (Added m t) (Added n u) = record { fit = true; seeds = m; corners = n; ties = u }
-listsOf (Added m t) (Refused k) = noLists
-listsOf (Refused k) g = noLists
+listsOf (Added m t) (Refused number) = noLists
+listsOf (Refused number) g = noLists
 
 -- both lists are at the start of their buffers, and the ties are those of the peaks that `found` comes from; or a list
 -- does not fit, and then only the lengths of both buffers are known
@@ -113,9 +111,4 @@ pub record Searched (seeds found : List Corner) (ties : ℕ) (s c : Slices) (ans
 -- how many corners are left
 abbrev pub keptOf : Merged → ℕ
 keptOf (Kept k) = k
-keptOf (merged.Refused x) = 0
-
--- the first n corners of a buffer merged, k of them left, and zero after those
-pub record Merging (radius : Float) (n : ℕ) (c : Slices) (k : ℕ) (c′ : Slices) : Type 0 where
-  pub count : k ≡ length (resultOf radius (cornersOf c n))
-  pub is : c′ ≡ clearedFrom k (frontCorners (resultOf radius (cornersOf c n)) c)
+keptOf (merged.Refused number) = 0

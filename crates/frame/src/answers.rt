@@ -10,7 +10,7 @@ pub fn number_of(a: FrameAnswer) -> u8
 {
     match a {
         FrameAnswer::Corners(_, _) => 0,
-        FrameAnswer::Refused(n) => n,
+        FrameAnswer::Refused(number) => number,
     }
 }
 

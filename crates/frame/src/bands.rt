@@ -8,12 +8,12 @@ ghost use Rattle.response.specs.Patch.{whole, cells, responseIn};
 ghost use Rattle.corner_list.specs.CornerList.{slices, placesOf};
 ghost use Rattle.patch_corners.specs.OneMap.{choiceOf, cornersIn, tiesOn};
 ghost use Rattle.patch_corners.specs.MapCorners.{centresInRows, tiesInRows};
-ghost use Rattle.frame.specs.Internal.{Ready, Adds, borderOf, RowsHeld, Band};
+ghost use Rattle.frame.specs.Internal.{FrameChecked, AddsCorners, borderOf, RowsHeld, Band};
 use crate::box_corners;
 use detect::Peaks;
+use frame_params::FrameParams;
 use numbers::lesser;
 use numbers::minus;
-use patch_corners::FrameParams;
 
 // The rows of a band: it takes a megabyte at most, so it stays in the cache.
 const ROWS: usize = 64;
@@ -45,9 +45,9 @@ fn add_band(
     neighbours: &mut [u32],
     held: usize,
 ) -> Peaks
-    requires { ⌜ Ready p (now img) w h (length (now map)) × Band w h j e
+    requires { ⌜ FrameChecked p (now img) w h (length (now map)) × Band w h j e
         × RowsHeld (whole (now img) w h (ringOf (p .ring))) w j (now map) ⌝ }
-    ensures { λ r. ⌜ Adds (centresInRows p exact (cells (whole (now (img .entry)) w h (ringOf (p .ring)))) w h
+    ensures { λ r. ⌜ AddsCorners (centresInRows p exact (cells (whole (now (img .entry)) w h (ringOf (p .ring)))) w h
         (j - borderOf p) (e - borderOf p))
         (tiesInRows p exact (cells (whole (now (img .entry)) w h (ringOf (p .ring)))) w h (j - borderOf p)
         (e - borderOf p))
@@ -83,56 +83,7 @@ fn add_band(
     )
 }
 
-// Adds the corners of an image, band by band.
-fn add_bands(
-    img: &[u8],
-    w: usize,
-    h: usize,
-    p: FrameParams,
-    exact: bool,
-    map: &mut [f32],
-    xs: &mut [f32],
-    ys: &mut [f32],
-    strengths: &mut [f32],
-    neighbours: &mut [u32],
-) -> Peaks
-    requires { ⌜ Ready p (now img) w h (length (now map)) × (0 < w) × (0 < h) ⌝ }
-    ensures { λ r. ⌜ Adds (cornersIn p (choiceOf p exact) (whole (now (img .entry)) w h (ringOf (p .ring))))
-        (tiesOn p (choiceOf p exact) (whole (now (img .entry)) w h (ringOf (p .ring))))
-        0 (slices (now (xs .entry)) (now (ys .entry)) (now (strengths .entry)) (now (neighbours .entry)))
-        r (slices (now (xs .exit)) (now (ys .exit)) (now (strengths .exit)) (now (neighbours .exit))) ⌝ }
-{
-    let mut j = 0usize;
-    let mut held = 0usize;
-    let mut ties = 0u64;
-    while j < h {
-        let e = lesser(h, j + ROWS);
-        let f = add_band(
-            img,
-            w,
-            h,
-            p,
-            exact,
-            j,
-            e,
-            map,
-            xs,
-            ys,
-            strengths,
-            neighbours,
-            held,
-        );
-        let Peaks::Added(more, t) = f else {
-            return f;
-        };
-        held += more;
-        ties += t;
-        j = e;
-    }
-    Peaks::Added(held, ties)
-}
-
-// Adds the corners of an image: by bands if its map is large.
+// Adds the corners of an image: as one map, or band by band if the map is large.
 pub(crate) fn add_image_corners(
     img: &[u8],
     w: usize,
@@ -140,16 +91,16 @@ pub(crate) fn add_image_corners(
     p: FrameParams,
     exact: bool,
     map: &mut [f32],
-    xs: &mut [f32],
-    ys: &mut [f32],
-    strengths: &mut [f32],
-    neighbours: &mut [u32],
+    cx: &mut [f32],
+    cy: &mut [f32],
+    cs: &mut [f32],
+    cn: &mut [u32],
 ) -> Peaks
-    requires { ⌜ Ready p (now img) w h (length (now map)) ⌝ }
-    ensures { λ r. ⌜ Adds (cornersIn p (choiceOf p exact) (whole (now (img .entry)) w h (ringOf (p .ring))))
+    requires { ⌜ FrameChecked p (now img) w h (length (now map)) ⌝ }
+    ensures { λ r. ⌜ AddsCorners (cornersIn p (choiceOf p exact) (whole (now (img .entry)) w h (ringOf (p .ring))))
         (tiesOn p (choiceOf p exact) (whole (now (img .entry)) w h (ringOf (p .ring))))
-        0 (slices (now (xs .entry)) (now (ys .entry)) (now (strengths .entry)) (now (neighbours .entry)))
-        r (slices (now (xs .exit)) (now (ys .exit)) (now (strengths .exit)) (now (neighbours .exit))) ⌝ }
+        0 (slices (now (cx .entry)) (now (cy .entry)) (now (cs .entry)) (now (cn .entry)))
+        r (slices (now (cx .exit)) (now (cy .exit)) (now (cs .exit)) (now (cn .exit))) ⌝ }
 {
     if img.len() <= ONE_MAP {
         return box_corners::add_patch_corners(
@@ -163,12 +114,25 @@ pub(crate) fn add_image_corners(
             w,
             h,
             map,
-            xs,
-            ys,
-            strengths,
-            neighbours,
+            cx,
+            cy,
+            cs,
+            cn,
             0,
         );
     }
-    add_bands(img, w, h, p, exact, map, xs, ys, strengths, neighbours)
+    let mut j = 0usize;
+    let mut held = 0usize;
+    let mut ties = 0u64;
+    while j < h {
+        let e = lesser(h, j + ROWS);
+        let f = add_band(img, w, h, p, exact, j, e, map, cx, cy, cs, cn, held);
+        let Peaks::Added(more, t) = f else {
+            return f;
+        };
+        held += more;
+        ties += t;
+        j = e;
+    }
+    Peaks::Added(held, ties)
 }

@@ -5,10 +5,10 @@ ghost use Rattle.corner_list.specs.CornerList.{slices};
 ghost use mathlib.Core.Path.{_≡_};
 ghost use Rattle.patch_corners.specs.OneMap.{choiceOf, cornersIn, tiesOn};
 ghost use Rattle.patch_corners.specs.Internal.{marginOf};
-ghost use Rattle.frame.specs.Internal.{Ready, Adds};
+ghost use Rattle.frame.specs.Internal.{FrameChecked, AddsCorners};
 use detect::Peaks;
+use frame_params::FrameParams;
 use numbers::lesser;
-use patch_corners::FrameParams;
 use response::Patch;
 
 // How many cells at each edge of a map are never read.
@@ -37,8 +37,8 @@ pub(crate) fn add_patch_corners(
     neighbours: &mut [u32],
     held: usize,
 ) -> Peaks
-    requires { ⌜ Ready p (now img) w h (length (now map)) ⌝ }
-    ensures { λ r. ⌜ Adds (cornersIn p (choiceOf p exact)
+    requires { ⌜ FrameChecked p (now img) w h (length (now map)) ⌝ }
+    ensures { λ r. ⌜ AddsCorners (cornersIn p (choiceOf p exact)
         (record { img = now (img .entry); w = w; h = h; ring = ringOf (p .ring); x0 = x0; y0 = y0; x1 = x1; y1 = y1 }))
         (tiesOn p (choiceOf p exact) (record
         { img = now (img .entry); w = w; h = h; ring = ringOf (p .ring); x0 = x0; y0 = y0; x1 = x1; y1 = y1 }))

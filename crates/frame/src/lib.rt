@@ -13,7 +13,7 @@ ghost use Rattle.pyramid.specs.Internal.{LevelsComplete};
 ghost use Rattle.corner_list.specs.CornerList.{slices};
 ghost use Rattle.patch_corners.specs.OneMap.{choiceOf};
 ghost use Rattle.frame.specs.Frame.{buffers, FrameFound};
-use patch_corners::FrameParams;
+use frame_params::FrameParams;
 use pyramid::Pyramid;
 
 // How many corners are in the corner buffer and how many ties the peaks found before merging have, or the number of the
@@ -93,6 +93,8 @@ pub fn find_corners_by(
     let found = search::lists_of(f, g);
     closing::clear_levels(levels, found.fit);
     clearing::clear_list(sx, sy, ss, sn, found.seeds);
-    let k = closing::finish_corners(cx, cy, cs, cn, map, found.corners, p.merge_radius);
+    let merged = merge::table::merge_by_table(cx, cy, cs, cn, map, found.corners, p.merge_radius);
+    let k = closing::kept(merged);
+    clearing::clear_list(cx, cy, cs, cn, k);
     closing::answer_of(found.fit, k, found.ties)
 }

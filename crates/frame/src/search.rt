@@ -8,15 +8,16 @@ ghost use Rattle.corner_list.specs.CornerList.{slices, placesOf, cornersOf};
 ghost use Rattle.multiscale.specs.Promise.{Boxed};
 ghost use Rattle.patch_corners.specs.OneMap.{choiceOf};
 ghost use Rattle.frame_pass.specs.Pass.{contextAt, cornersAbout, tiesAbout};
-ghost use Rattle.frame.specs.Internal.{Ready, BuiltLevels, Adds, SeedsAdded, foundBy, tiesBy, addedOf, listsOf};
+ghost use Rattle.frame.specs.Internal.{FrameChecked, BuiltLevels, AddsCorners, SeedsAdded, foundBy, tiesBy};
+ghost use Rattle.frame.specs.Internal.{addedOf, listsOf};
 use crate::bands;
 use crate::box_corners;
 use crate::shifting;
 use corner_list::Corner;
 use detect::Peaks;
+use frame_params::FrameParams;
 use multiscale::RoiAnswer;
 use multiscale::RoiContext;
-use patch_corners::FrameParams;
 
 // The box of a seed on level k.
 fn box_of(w: usize, h: usize, p: FrameParams, k: usize, seed: Corner) -> RoiAnswer
@@ -61,9 +62,9 @@ fn add_patch(
     neighbours: &mut [u32],
     held: usize,
 ) -> Peaks
-    requires { ⌜ Ready p (now img) w h (length (now map)) ⌝ }
+    requires { ⌜ FrameChecked p (now img) w h (length (now map)) ⌝ }
     requires { ⌜ (held ≤ placesOf (slices (now xs) (now ys) (now strengths) (now neighbours))) × (k ≤ lastLevel) ⌝ }
-    ensures { λ r. ⌜ Adds (cornersAbout p (now (img .entry)) w h (choiceOf p exact) k seed)
+    ensures { λ r. ⌜ AddsCorners (cornersAbout p (now (img .entry)) w h (choiceOf p exact) k seed)
         (tiesAbout p (now (img .entry)) w h (choiceOf p exact) k seed)
         held (slices (now (xs .entry)) (now (ys .entry)) (now (strengths .entry)) (now (neighbours .entry))) r
         (slices (now (xs .exit)) (now (ys .exit)) (now (strengths .exit)) (now (neighbours .exit))) ⌝ }
@@ -115,9 +116,9 @@ pub(crate) fn add_found(
     cs: &mut [f32],
     cn: &mut [u32],
 ) -> Peaks
-    requires { ⌜ Ready p (now img) w h (length (now map)) ⌝ }
+    requires { ⌜ FrameChecked p (now img) w h (length (now map)) ⌝ }
     requires { ⌜ (n ≤ mostLevels) × (m ≤ largestMap) ⌝ }
-    ensures { λ r. ⌜ Adds (foundBy p (now (img .entry)) w h (choiceOf p exact) n
+    ensures { λ r. ⌜ AddsCorners (foundBy p (now (img .entry)) w h (choiceOf p exact) n
         (cornersOf (slices (now (sx .entry)) (now (sy .entry)) (now (ss .entry)) (now (sn .entry))) m))
         (tiesBy p (now (img .entry)) w h (choiceOf p exact) n
         (cornersOf (slices (now (sx .entry)) (now (sy .entry)) (now (ss .entry)) (now (sn .entry))) m))
@@ -160,7 +161,7 @@ pub(crate) fn add_seeds<'a>(
     ss: &mut [f32],
     sn: &mut [u32],
 ) -> Peaks
-    requires { ⌜ Ready p (now img) w h (length (now map)) ⌝ }
+    requires { ⌜ FrameChecked p (now img) w h (length (now map)) ⌝ }
     requires { ⌜ BuiltLevels p (now img) w h n (now levels) ⌝ }
     ensures { λ r. ⌜ SeedsAdded p (now (img .entry)) w h (choiceOf p exact) n
         (slices (now (sx .entry)) (now (sy .entry)) (now (ss .entry)) (now (sn .entry)))

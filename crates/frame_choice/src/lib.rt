@@ -4,7 +4,7 @@ ghost use Rattle.corner_list.specs.CornerList.{slices};
 ghost use Rattle.patch_corners.specs.OneMap.{computedChoice, exactChoice};
 ghost use Rattle.frame.specs.Frame.{buffers, FrameFound};
 use frame::FrameAnswer;
-use patch_corners::FrameParams;
+use frame_params::FrameParams;
 
 // The corners by computed values, as the original finds them.
 pub fn find_corners(

@@ -29,13 +29,14 @@ use Rattle.multiscale.specs.declared.RoiAnswer.the-variants as roi
 use Rattle.multiscale.specs.Multiscale.{roiOf}
 use Rattle.multiscale.specs.Internal as multiscale
 use Rattle.multiscale.proofs.Box.{box-inside, not-refused}
-use Rattle.patch_corners.specs.declared.FrameParams.{FrameParams}
+use Rattle.frame_params.specs.declared.FrameParams.{FrameParams}
+use Rattle.frame_params.proofs.Ranges.{ranges}
 use Rattle.patch_corners.specs.OneMap.{Choice, searchOn, centreOrNone, moved, localized, cornersIn}
 use Rattle.patch_corners.proofs.Fine.{Fine, map-usual}
 use Rattle.frame_pass.specs.Pass.{levelsIn, levelView, contextAt, patchOf, seedPatch, cornersOn, cornersAbout, seedsOf, foundOf}
 use Rattle.frame_pass.specs.Pass.{framePass}
 use Rattle.frame_pass.specs.Theorems.{SoundFrame, CornersInside, BoxesAnswered}
-use Rattle.frame_pass.proofs.Maps.{ranges, fine-box, fine-level}
+use Rattle.frame_pass.proofs.Maps.{fine-box, fine-level}
 
 abbrev Taken : Corner → Type 0
 Taken c = isInside c ≡ true

@@ -8,7 +8,6 @@ use mathlib.Core.List.{List}
 use lib.ListN.{length}
 use lib.Dec.{leb}
 use borrow.Author.Tests.{leb-true}
-use Rattle.lists.specs.Limits.{largestRadius, largestSearch}
 use Rattle.lists.specs.Places.{All}
 use Rattle.lists.proofs.Tests.{and-parts}
 use Rattle.lists.proofs.Members.{all-map, all-flat, all-of}
@@ -27,33 +26,13 @@ use Rattle.detect.proofs.Answers.{Clear, sound-clear}
 use Rattle.multiscale.specs.declared.RoiAnswer.{RoiAnswer}
 use Rattle.multiscale.specs.declared.RoiAnswer.the-variants as roi
 use Rattle.multiscale.specs.Multiscale.{roiOf}
-use Rattle.patch_corners.specs.declared.FrameParams.{FrameParams}
+use Rattle.frame_params.specs.declared.FrameParams.{FrameParams}
+use Rattle.frame_params.proofs.Ranges.{Ranges, ranges}
 use Rattle.patch_corners.specs.OneMap.{Choice, cornersIn}
 use Rattle.patch_corners.proofs.Fine.{Fine}
 use Rattle.patch_corners.proofs.Accepting.{corners-count}
-use Rattle.frame_pass.specs.Refusals.{parametersFit}
 use Rattle.frame_pass.specs.Pass.{levelsIn, levelView, contextAt, patchOf, seedPatch, seedsOf, mapsOf, lookedAt}
 use Rattle.frame_pass.specs.Theorems.{SoundFrame, NoneDropped}
-
--- ---- parameters in their ranges
-pub record Ranges (p : FrameParams) : Type 0 where
-  pub ring : isRing (p .ring) ≡ true
-  pub window : p .window ≤ largestRadius
-  pub «centroid_radius» : p .«centroid_radius» ≤ largestRadius
-  pub «search_radius» : p .«search_radius» ≤ largestSearch
-
-pub ranges : (p : FrameParams) → parametersFit p ≡ true → Ranges p
-unfolding parametersFit
-ranges p e =
-    let a = and-parts (isRing (p .ring)) _ e in
-    let b = and-parts (leb (p .window) largestRadius) _ (a .1) in
-    let c = and-parts (leb (p .«centroid_radius») largestRadius) (leb (p .«search_radius») largestSearch) (b .1) in
-    record {
-      ring = a .0;
-      window = leb-true (p .window) largestRadius (b .0);
-      «centroid_radius» = leb-true (p .«centroid_radius») largestRadius (c .0);
-      «search_radius» = leb-true (p .«search_radius») largestSearch (c .1);
-    }
 
 -- ---- a map that is fine is searched
 pub map-clear : (p : FrameParams) (v : View) → Fine p v

@@ -1,27 +1,25 @@
 -- The refusals of a frame before its pass: what holds where there is none, and that 10 is not among them. Assumes nothing.
 use Prim.Native.Nat.{ℕ, _*_, _<_, _≤_}
 use native.Mathlib.Omega.{arith}
-use mathlib.Core.Path.{_≡_, refl, sym, _∙_}
+use mathlib.Core.Path.{_≡_, refl, _∙_}
 use mathlib.Core.Logic.{_⊎_, inl, inr}
 use mathlib.Core.Bool.{Bool, true, false, not, _&&_}
 use mathlib.Core.List.{List}
 use lib.ListN.{length}
-use borrow.Author.Tests.{ltb-false, not-false, lt-ltb, le-ltb, le-leb}
-use Rattle.lists.specs.Limits.{largestRadius, largestSearch}
+use borrow.Author.Tests.{ltb-false, not-false, lt-ltb, le-ltb}
 use Rattle.lists.specs.Places.{All}
 use Rattle.lists.specs.Refusals.{lowest}
 use Rattle.lists.specs.Internal.{Sized}
-use Rattle.lists.proofs.Tests.{and-all}
 use Rattle.lists.proofs.Refusals.{all-clear, lowest-le, sized-of}
-use Rattle.ring.specs.Ring.{isRing}
 use Rattle.accuracy.specs.Accurate.{Bytes}
 use Rattle.pyramid_levels.specs.Levels.{levelCount, cellsAbove, capped}
-use Rattle.pyramid_levels.specs.Refusals.{ask, isShort}
+use Rattle.pyramid_levels.specs.Refusals.{ask, isLevelBufferShort}
 use Rattle.pyramid_levels.proofs.Cells.{cells-exact}
 use Rattle.pyramid_levels.specs.Internal.{LevelsAccepted}
 use Rattle.merge_radius.specs.MergeRadius.{isOff, isSized}
-use Rattle.patch_corners.specs.declared.FrameParams.{FrameParams}
-use Rattle.frame_pass.specs.Refusals.{parametersFit, conditions}
+use Rattle.frame_params.specs.declared.FrameParams.{FrameParams}
+use Rattle.frame_params.specs.Ranges.{parametersFit}
+use Rattle.frame_pass.specs.Refusals.{conditions}
 use Rattle.frame_pass.specs.Theorems.{SoundFrame}
 
 -- a merge radius that is not refused
@@ -60,26 +58,16 @@ module _ (p : FrameParams) (pixels w h cells places : ℕ) where
       }
 
 -- ---- the number by the tests
-pub ring-decides : (p : FrameParams) → p .window ≤ largestRadius → p .«centroid_radius» ≤ largestRadius → p .«search_radius» ≤ largestSearch
-    → isRing (p .ring) ≡ parametersFit p
-unfolding parametersFit
-ring-decides p window centroid search =
-    rw (
-      le-leb (p .window) largestRadius window,
-      le-leb (p .«centroid_radius») largestRadius centroid,
-      le-leb (p .«search_radius») largestSearch search,
-    ) (sym (and-all (isRing (p .ring))))
-
 -- of an image the count of its levels' pixels, n, is exact
 module _ (p : FrameParams) (pixels w h places : ℕ) (image : Sized pixels w h) (n : ℕ)
     (e : n ≡ capped (cellsAbove w h (levelCount w h (p .levels) (p .«minimum_side»)))) where
   exactly : n ≡ cellsAbove w h (levelCount w h (p .levels) (p .«minimum_side»))
   exactly = e ∙ cells-exact w h (levelCount w h (p .levels) (p .«minimum_side»)) (image .narrow) (image .low)
 
-  pub short : places < n → isShort (ask pixels places w h (p .levels) (p .«minimum_side»)) ≡ true
+  pub short : places < n → isLevelBufferShort (ask pixels places w h (p .levels) (p .«minimum_side»)) ≡ true
   short l = lt-ltb places _ (rw exactly at l)
 
-  pub enough : n ≤ places → isShort (ask pixels places w h (p .levels) (p .«minimum_side»)) ≡ false
+  pub enough : n ≤ places → isLevelBufferShort (ask pixels places w h (p .levels) (p .«minimum_side»)) ≡ false
   enough l = le-ltb places _ (rw exactly at l)
 
 pub admitted-sound : (p : FrameParams) (img : List ℕ) (w h cells places : ℕ) → Admitted p (length img) w h cells places

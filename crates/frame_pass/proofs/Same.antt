@@ -6,7 +6,7 @@ use Rattle.lists.specs.Places.{flatMap, sumOf, All}
 use Rattle.lists.proofs.Members.{all-map, flatMap-alike, all-unflat}
 use Rattle.response.specs.Patch.{View}
 use Rattle.corner_list.specs.declared.Corner.{Corner}
-use Rattle.patch_corners.specs.declared.FrameParams.{FrameParams}
+use Rattle.frame_params.specs.declared.FrameParams.{FrameParams}
 use Rattle.patch_corners.specs.OneMap.{Choice, computedChoice, exactChoice, cornersIn, tiesOn}
 use Rattle.frame_pass.specs.Pass.{levelsIn, levelView, seedPatch, cornersOn, cornersAbout, seedsOf, foundOf, tiesAbout, tiesFound}
 use Rattle.frame_pass.specs.Pass.{framePass}

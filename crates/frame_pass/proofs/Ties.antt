@@ -19,7 +19,7 @@ use Rattle.detect.proofs.Answers.{searchable}
 use Rattle.detect.proofs.Cells.{inside-few}
 use Rattle.detect.proofs.Choice.{peaks-at-most}
 use Rattle.detect.proofs.Ties.{ties-few}
-use Rattle.patch_corners.specs.declared.FrameParams.{FrameParams}
+use Rattle.frame_params.specs.declared.FrameParams.{FrameParams}
 use Rattle.patch_corners.specs.OneMap.{choiceOf, searchOn, cornersIn, tiesOn}
 use Rattle.patch_corners.specs.MapCorners.{searchWith}
 use Rattle.patch_corners.proofs.Choices.{chosen, one-of-two}

@@ -13,7 +13,7 @@ use Rattle.multiscale.specs.declared.RoiAnswer.{RoiAnswer}
 use Rattle.multiscale.specs.declared.RoiAnswer.the-variants as roi
 use Rattle.multiscale.specs.Multiscale.{roiOf}
 use Rattle.merge.specs.Merge.{resultOf}
-use Rattle.patch_corners.specs.declared.FrameParams.{FrameParams}
+use Rattle.frame_params.specs.declared.FrameParams.{FrameParams}
 use Rattle.patch_corners.specs.OneMap.{Choice, moved, cornersIn, tiesOn}
 
 -- the lists of a pass, and the ties of the peaks that `found` comes from
@@ -52,7 +52,7 @@ module _ (p : FrameParams) (img : List ℕ) (w h : ℕ) where
   patchOf (roi.Bounds x0 y0 x1 y1) =
       record { img = img; w = w; h = h; ring = ringOf (p .ring); x0 = x0; y0 = y0; x1 = x1; y1 = y1 } ∷ []
   patchOf roi.NoRoi = []
-  patchOf (roi.Refused n) = []
+  patchOf (roi.Refused number) = []
 
   abbrev pub seedPatch : ℕ → Corner → List View
   seedPatch k s = patchOf (roiOf (contextAt k) s)

@@ -13,9 +13,9 @@ use Rattle.corner_list.specs.CornerList.{isInside}
 use Rattle.corner_list.specs.declared.Corner.{Corner}
 use Rattle.multiscale.specs.declared.RoiAnswer.the-variants.{Refused}
 use Rattle.multiscale.specs.Multiscale.{roiOf}
-use Rattle.patch_corners.specs.declared.FrameParams.{FrameParams}
+use Rattle.frame_params.specs.declared.FrameParams.{FrameParams}
 use Rattle.patch_corners.specs.OneMap.{Choice, IsChoice, cornersIn}
-use Rattle.frame_pass.specs.Refusals.{parametersFit}
+use Rattle.frame_params.specs.Ranges.{parametersFit}
 use Rattle.frame_pass.specs.Pass.{levelsIn, contextAt, framePass, lookedAt}
 
 -- an image of w by h bytes, and parameters in their ranges
@@ -44,5 +44,5 @@ module _ (p : FrameParams) (img : List ℕ) (w h : ℕ) (choose : Choice) where
   abbrev pub BoxesAnswered : Type 0
   BoxesAnswered =
       SoundFrame p img w h
-      → All (λ (s : Corner). (n : ℕ) → roiOf (contextAt p img w h (levelsIn p img w h - 1)) s ≡ Refused n → ⊥)
+      → All (λ (s : Corner). (number : ℕ) → roiOf (contextAt p img w h (levelsIn p img w h - 1)) s ≡ Refused number → ⊥)
       (framePass p img w h choose .seeds)

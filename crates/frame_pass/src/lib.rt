@@ -2,34 +2,18 @@
 // of it.
 ghost use mathlib.Core.Path.{_≡_};
 ghost use Rattle.lists.specs.Refusals.{lowest};
-ghost use Rattle.frame_pass.specs.Refusals.{parametersFit, conditions};
-use patch_corners::FrameParams;
-
-// Whether the parameters that have a range are in it.
-fn parameters_fit(p: FrameParams) -> bool
-    ensures { λ r. ⌜ r ≡ parametersFit p ⌝ }
-{
-    if lists::LARGEST_RADIUS < p.window {
-        return false;
-    }
-    if lists::LARGEST_RADIUS < p.centroid_radius {
-        return false;
-    }
-    if lists::LARGEST_SEARCH < p.search_radius {
-        return false;
-    }
-    ring::is_ring(p.ring)
-}
+ghost use Rattle.frame_pass.specs.Refusals.{conditions};
+use frame_params::FrameParams;
 
 // The number of the refusal before the pass, 0 for none.
 pub fn refusal(pixels: usize, w: usize, h: usize, p: FrameParams, cells: usize, places: usize) -> u8
     ensures { λ r. ⌜ r ≡ lowest (conditions p pixels w h cells places) ⌝ }
 {
-    let no = image_size::refusal(pixels, w, h);
-    if no != 0 {
-        return no;
+    let number = image_size::refusal(pixels, w, h);
+    if number != 0 {
+        return number;
     }
-    if !parameters_fit(p) {
+    if !frame_params::parameters_fit(p) {
         return 3;
     }
     if merge_radius::is_outside(p.merge_radius) {

@@ -15,7 +15,8 @@ use Rattle.lists.proofs.Refusals.{lowest-none, all-clear}
 use Rattle.lists.proofs.Tests.{or-neither}
 use Rattle.merge_radius.specs.MergeRadius.{radiusOutside}
 use Rattle.stream.specs.declared.Header.{Header}
-use Rattle.stream.specs.Stream.{sidesOutside, rangeOutside, sidesFault, parametersFault, accepted, readFrame}
+use Rattle.frame_params.specs.Ranges.{rangeOutside}
+use Rattle.stream.specs.Stream.{sidesOutside, sidesFault, parametersFault, accepted, readFrame}
 use Rattle.stream.specs.RoundTrip.{frameBytes, Accepted}
 use Rattle.stream.proofs.Accepted.{bytes-take, accepted-good, accepted-only}
 use Rattle.frame_writer.specs.FrameWriter.{isTooWide, conditions, refusalOf}

@@ -6,7 +6,6 @@ use lib.ListN.{length, replicate}
 use lib.Ieee.{ofBits, lt, le}
 use Rattle.merge_radius.specs.MergeRadius.{isOff, isSized}
 use Rattle.stream.specs.declared.Header.{Header}
-use Rattle.stream.specs.Stream.{rangeOutside}
 use Rattle.stream.specs.RoundTrip.{frameBytes}
 use Rattle.frame_writer.specs.FrameWriter.{refusalOf}
 
@@ -51,5 +50,5 @@ wide-radius = 0x459c_4000
 pub numbers :
     number 5 0 nan 56 ∷ number 5 0 nan 55 ∷ number 5 256 nan 56 ∷ number 5 0 wide-radius 56 ∷ number 6 0 wide-radius 55 ∷ []
     ≡ 0 ∷ 19 ∷ 3 ∷ 5 ∷ 3 ∷ []
-unfolding refusalOf rangeOutside frameBytes ofBits lt le isOff isSized
+unfolding refusalOf frameBytes ofBits lt le isOff isSized
 numbers = refl

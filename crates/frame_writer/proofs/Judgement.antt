@@ -10,15 +10,16 @@ use mathlib.Core.List.{List}
 use lib.ListN.{length}
 use lib.Dec.{ltb, eqb}
 use borrow.Author.Tests.{ltb-false, eqb-true, not-false}
-use Rattle.lists.specs.Limits.{largestRadius}
 use Rattle.lists.proofs.Refusals.{all-clear}
 use Rattle.lists.proofs.Tests.{or-neither, or-either}
 use Rattle.ring.specs.Ring.{isRing}
 use Rattle.stream.specs.declared.Header.{Header}
-use Rattle.stream.specs.Stream.{largestStreamSide, mostPixels, sidesOutside, rangeOutside}
+use Rattle.frame_params.specs.Ranges.{rangeOutside}
+use Rattle.frame_params.proofs.Ranges.{inside}
+use Rattle.stream.specs.Stream.{largestStreamSide, mostPixels, sidesOutside}
 use Rattle.stream.specs.RoundTrip.{frameBytes}
 use Rattle.frame_writer.specs.FrameWriter.{isTooWide, conditions, refusalOf}
-use Rattle.frame_writer.specs.Internal.{Narrow}
+use Rattle.frame_writer.specs.Internal.{FieldsFit}
 
 -- ---- sides that are not refused
 module _ (w h : ℕ) (e : sidesOutside w h ≡ false) where
@@ -39,14 +40,11 @@ ring-narrow ring e =
 
 module _ (h : Header) where
   narrow : sidesOutside (h .width) (h .height) ≡ false
-      → (rangeOutside (h .ring) (h .window) (h .«centroid_radius») || isTooWide h) ≡ false → Narrow h
-  unfolding rangeOutside
+      → (rangeOutside (h .ring) (h .window) (h .«centroid_radius») || isTooWide h) ≡ false → FieldsFit h
   narrow s e =
       let sides = sides-small (h .width) (h .height) s in
       let both = or-neither (rangeOutside (h .ring) (h .window) (h .«centroid_radius»)) (isTooWide h) e in
-      let inner = or-neither (not (isRing (h .ring)) || ltb largestRadius (h .window)) (ltb largestRadius (h .«centroid_radius»))
-      (both .0) in
-      let first = or-neither (not (isRing (h .ring))) (ltb largestRadius (h .window)) (inner .0) in
+      let ranges = inside (h .ring) (h .window) (h .«centroid_radius») (both .0) in
       let search = or-neither (ltb 255 (h .«least_neighbours») || ltb 255 (h .levels) || ltb 65535 (h .«minimum_side»))
       (ltb 255 (h .«search_radius»)) (both .1) in
       let minimum = or-neither (ltb 255 (h .«least_neighbours») || ltb 255 (h .levels)) (ltb 65535 (h .«minimum_side»)) (search .0) in
@@ -54,10 +52,10 @@ module _ (h : Header) where
       record {
         width = omega (arith, sides .0);
         height = omega (arith, sides .1);
-        ring = ring-narrow (h .ring) (not-false (isRing (h .ring)) (first .0));
-        window = omega (arith, ltb-false largestRadius (h .window) (first .1));
+        ring = ring-narrow (h .ring) (ranges .ring-is);
+        window = omega (arith, ranges .in-window);
         «least_neighbours» = omega (arith, ltb-false 255 (h .«least_neighbours») (least .0));
-        «centroid_radius» = omega (arith, ltb-false largestRadius (h .«centroid_radius») (inner .1));
+        «centroid_radius» = omega (arith, ranges .in-radius);
         levels = omega (arith, ltb-false 255 (h .levels) (least .1));
         «minimum_side» = omega (arith, ltb-false 65535 (h .«minimum_side») (minimum .1));
         «search_radius» = omega (arith, ltb-false 255 (h .«search_radius») (search .1));
@@ -65,7 +63,7 @@ module _ (h : Header) where
 
   module _ (pixels : List ℕ) (places : ℕ) where
     pub record Passed : Type 0 where
-      pub narrow : Narrow h
+      pub narrow : FieldsFit h
       pub few : length pixels ≤ mostPixels
       pub enough : length (frameBytes h pixels) ≤ places
 

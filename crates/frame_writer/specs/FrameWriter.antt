@@ -11,7 +11,8 @@ use Rattle.lists.specs.Buffer.{front}
 use Rattle.lists.specs.Refusals.{lowest, unless, valuesUnless, resultOr, isMisfit}
 use Rattle.merge_radius.specs.MergeRadius.{radiusOutside}
 use Rattle.stream.specs.declared.Header.{Header}
-use Rattle.stream.specs.Stream.{sidesOutside, rangeOutside}
+use Rattle.frame_params.specs.Ranges.{rangeOutside}
+use Rattle.stream.specs.Stream.{sidesOutside}
 use Rattle.stream.specs.RoundTrip.{frameBytes}
 use Rattle.frame_writer.specs.declared.FrameWriting.{FrameWriting}
 use Rattle.frame_writer.specs.declared.FrameWriting.the-variants.{Written, Refused}
@@ -40,11 +41,11 @@ refusalOf h pixels places = lowest (conditions h pixels places)
 -- the number and the values of each case: 0 for no refusal, and how long the stream is
 abbrev pub numberOf : FrameWriting → ℕ
 numberOf (Written n) = 0
-numberOf (Refused k) = k
+numberOf (Refused number) = number
 
 abbrev pub valuesOf : FrameWriting → List ℕ
 valuesOf (Written n) = n ∷ []
-valuesOf (Refused k) = []
+valuesOf (Refused number) = []
 
 -- the promise of `write_frame`: the stream is at the start of the buffer, whose rest is unchanged; if refused, all of
 -- it is unchanged (RULES 30.3)

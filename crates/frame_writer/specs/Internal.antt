@@ -15,7 +15,7 @@ abbrev pub lengthOf : ℕ → ℕ
 lengthOf pixels = 23 + 33 * recordsFor pixels
 
 -- each field has enough bytes for its value
-pub record Narrow (h : Header) : Type 0 where
+pub record FieldsFit (h : Header) : Type 0 where
   pub width : h .width < 65536
   pub height : h .height < 65536
   pub ring : h .ring < 256

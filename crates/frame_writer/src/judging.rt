@@ -1,6 +1,6 @@
 // What is refused: what the reader would not accept, and a buffer that is too short.
 ghost use mathlib.Core.Path.{_≡_};
-ghost use Rattle.stream.specs.Stream.{sidesOutside, rangeOutside};
+ghost use Rattle.stream.specs.Stream.{sidesOutside};
 ghost use Rattle.frame_writer.specs.FrameWriter.{isTooWide, refusalOf};
 use crate::records;
 use stream::Header;
@@ -13,19 +13,6 @@ fn is_large(width: usize, height: usize) -> bool
         return true;
     }
     stream::LARGEST_STREAM_SIDE < height
-}
-
-// Whether ring, window or centroid radius is out of range.
-fn is_outside(header: Header) -> bool
-    ensures { λ r. ⌜ r ≡ rangeOutside (header .ring) (header .window) (header .«centroid_radius») ⌝ }
-{
-    if !ring::is_ring(header.ring) {
-        return true;
-    }
-    if lists::LARGEST_RADIUS < header.window {
-        return true;
-    }
-    lists::LARGEST_RADIUS < header.centroid_radius
 }
 
 // Whether a value is too wide for its field: a byte, or two for the minimum size.
@@ -54,7 +41,7 @@ pub(crate) fn refusal(header: Header, pixels: &[u8], places: usize) -> u8
     if pixels.len() != header.width * header.height {
         return 2;
     }
-    if is_outside(header) {
+    if frame_params::is_outside(header.ring, header.window, header.centroid_radius) {
         return 3;
     }
     if is_too_wide(header) {

@@ -5,7 +5,7 @@ ghost use lib.ListN.{length};
 ghost use Rattle.lists.specs.Tab.{tab};
 ghost use Rattle.stream.specs.RoundTrip.{frameBytes};
 ghost use Rattle.stream.specs.Stream.{mostPixels};
-ghost use Rattle.frame_writer.specs.Internal.{lengthOf, Narrow, halves16, halves32, headBytes, recordByte};
+ghost use Rattle.frame_writer.specs.Internal.{lengthOf, FieldsFit, halves16, halves32, headBytes, recordByte};
 use stream::Header;
 
 // A number of two bytes, and one of four: the lower half comes first in the stream.
@@ -57,7 +57,7 @@ fn bytes_32(bits: u32) -> Bytes32
 
 // The records of kinds 1 and 2.
 fn head_of(header: Header) -> [u8; 22]
-    requires { ⌜ Narrow header ⌝ }
+    requires { ⌜ FieldsFit header ⌝ }
     ensures { λ r. ⌜ r ≡ headBytes header ⌝ }
 {
     let width = bytes_16(header.width);
@@ -119,7 +119,7 @@ fn put_pixels(pixels: &[u8], out: &mut [u8])
 
 // Fills a buffer of exactly its length with the stream of a frame.
 pub(crate) fn put_frame(header: Header, pixels: &[u8], out: &mut [u8])
-    requires { ⌜ Narrow header × (length (now out) ≡ lengthOf (length (now pixels))) ⌝ }
+    requires { ⌜ FieldsFit header × (length (now out) ≡ lengthOf (length (now pixels))) ⌝ }
     ensures { λ _. ⌜ now (out .exit) ≡ frameBytes header (now (pixels .entry)) ⌝ }
 {
     let head = head_of(header);

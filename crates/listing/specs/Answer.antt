@@ -22,11 +22,11 @@ refusalOf count = lowest ((ltb mostCorners count, 10) ∷ [])
 -- the number (RULES 2.2) and the values of each case
 abbrev pub numberOf : Listing → ℕ
 numberOf (Text n) = 0
-numberOf (Refused k) = k
+numberOf (Refused number) = number
 
 abbrev pub valuesOf : Listing → List ℕ
 valuesOf (Text n) = n ∷ []
-valuesOf (Refused k) = []
+valuesOf (Refused number) = []
 
 -- the text of the first `count` corners of a buffer is at the start, and the answer is its length; if refused, nothing
 -- changes

@@ -8,7 +8,7 @@ use lib.Ieee.{Float, nan, fin, lt, le, add, sub, mul, div, toUnsigned}
 use Rattle.lists.specs.Tab.{tab}
 use Rattle.corner_list.specs.CornerList.{Slices, slices, isInside, placesOf, cornersOf, frontCorners}
 use Rattle.merge_radius.specs.MergeRadius.{isOff, isSized}
-use Rattle.merge_grid.specs.Grid.{gridOf, near, neighbours}
+use Rattle.merge_grid.specs.Grid.{gridOf, near, adjacentCells}
 use Rattle.merge.specs.Merge.{resultOf}
 use Rattle.merge.specs.Apart.{refusalApart}
 
@@ -41,7 +41,7 @@ pair-taken = refl
 
 pub one-left : frontCorners (resultOf three (cornersOf pair 2)) sevens
     ≡ slices (two ∷ seven ∷ seven ∷ []) (one ∷ seven ∷ seven ∷ []) (four ∷ seven ∷ seven ∷ []) (6 ∷ 7 ∷ 7 ∷ [])
-unfolding resultOf tab isOff gridOf near neighbours lt le add sub mul div toUnsigned
+unfolding resultOf tab isOff gridOf near adjacentCells lt le add sub mul div toUnsigned
 one-left = refl
 
 -- into a buffer of one place, though one is left

@@ -9,7 +9,7 @@ use lib.Ieee.{Float, fin, lt, le, add, sub, mul, div, toUnsigned}
 use Rattle.float32.specs.Float32.{zero}
 use Rattle.corner_list.specs.declared.Corner.{Corner}
 use Rattle.merge_radius.specs.MergeRadius.{isOff}
-use Rattle.merge_grid.specs.Grid.{positionOf, squared, gridOf, near, neighbours}
+use Rattle.merge_grid.specs.Grid.{positionOf, squared, gridOf, near, adjacentCells}
 use Rattle.merge_settle.specs.Settle.{merged}
 use Rattle.merge.specs.Merge.{resultOf}
 
@@ -30,7 +30,7 @@ module _ (s t u : Float) (k m n : ℕ) where
   one = fin false 1 (pos 0)
 
   pub all-stay : resultOf one given ≡ given
-  unfolding resultOf isOff gridOf near neighbours lt le add sub mul div toUnsigned
+  unfolding resultOf isOff gridOf near adjacentCells lt le add sub mul div toUnsigned
   all-stay = refl
 
   -- by distance alone

@@ -16,7 +16,7 @@ use Rattle.corner_list.proofs.Corners.{corners-front, corners-behind}
 use Rattle.merge_radius.specs.MergeRadius.{isOff, radiusOutside}
 use Rattle.merge.specs.declared.Merged.{Merged}
 use Rattle.merge.specs.declared.Merged.the-variants.{Kept, Refused}
-use Rattle.merge_refusal.specs.Refusals.{isOutside, refusalOf}
+use Rattle.merge_refusal.specs.Refusals.{cornerOutside, refusalOf}
 use Rattle.merge.specs.Merge.{resultOf, numberOf, Merges}
 use Rattle.merge.specs.Apart.{refusalApart, MergedApart}
 
@@ -40,7 +40,7 @@ pub apart-number : (radius : Float) (places count : ℕ) (b : Slices)
     → refusalApart radius places count b ≡ orElse (refusalOf radius (placesOf b) count b) (cond (ltb places count) 10 0)
 unfolding refusalApart refusalOf
 apart-number radius places count b =
-    more-reasons (not (isOff radius) && any isOutside (cornersOf b (min count (placesOf b)))) (radiusOutside radius)
+    more-reasons (not (isOff radius) && any cornerOutside (cornersOf b (min count (placesOf b)))) (radiusOutside radius)
     (ltb (placesOf b) count) (ltb places count)
 
 or-else-first : (k m : ℕ) → (k ≡ 0 → ⊥) → orElse k m ≡ k

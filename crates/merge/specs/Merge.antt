@@ -26,11 +26,11 @@ resultOf radius cs = cond (isOff radius) cs (merged (joins (gridOf radius cs)) [
 -- the number (RULES 2.2) and the values of each case
 abbrev pub numberOf : Merged → ℕ
 numberOf (Kept n) = 0
-numberOf (Refused k) = k
+numberOf (Refused number) = number
 
 abbrev pub valuesOf : Merged → List ℕ
 valuesOf (Kept n) = n ∷ []
-valuesOf (Refused k) = []
+valuesOf (Refused number) = []
 
 -- What a call promises that leaves the corners `left`, or is refused with the number k: the answer (how many are left),
 -- its number and values, and the buffer after: what is left at the start, the rest unchanged; if refused, all of it

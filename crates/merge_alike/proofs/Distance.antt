@@ -15,7 +15,7 @@ use Rattle.lists.proofs.Tests.{to-T}
 use Rattle.float32.specs.Value.{IsValue, dist}
 use Rattle.float32.proofs.Poly.{poly}
 use Rattle.float32.proofs.Values.{Sized, sized, mul-round}
-use Rattle.float32.proofs.Units.{Units, Small, rounded, units-near, round-units, add-units}
+use Rattle.float32.proofs.Units.{Units, BelowOverflow, rounded, units-near, round-units, add-units}
 use Rattle.float32.proofs.Approx.{sub-exact}
 use Rattle.float32.proofs.Bounds.{value-le}
 use Rattle.merge_grid.specs.declared.Position.{Position}
@@ -38,7 +38,7 @@ square-most : (a : ℕ) → a ≤ 262144 → a * a ≤ most
 square-most a h = mul-le-mul h h
 
 -- far below overflow
-small-units : (n : ℕ) → n ≤ 4 * most → Small binary32 (n * U)
+small-units : (n : ℕ) → n ≤ 4 * most → BelowOverflow binary32 (n * U)
 small-units n h = le-trans (over n U (pow-pos 137) h) (lit≤ tt)
   where
     over : (n U : ℕ) → 0 < U → n ≤ 4 * most → suc (n * U) ≤ (4 * most + 1) * U
@@ -125,7 +125,7 @@ module _ (r : Float) (R : ℕ) (small : R ≤ 262144) (v : IsValue r R 0 64) (p 
   abbrev B : ℕ
   B = rounded binary32 (down * down * U)
 
-  both-small : Small binary32 (A + B)
+  both-small : BelowOverflow binary32 (A + B)
   both-small = le-trans (over A B U (gap-most (p .x) (q .x) px qx) (gap-most (p .y) (q .y) py qy) (pow-pos 137)) (lit≤ tt)
     where
       over : (a b U : ℕ) → a ≤ 2 * most * U → b ≤ 2 * most * U → 0 < U → suc (a + b) ≤ (4 * most + 1) * U

@@ -14,7 +14,7 @@ use Rattle.float32.specs.Value.{IsValue}
 use Rattle.corner_list.specs.declared.Corner.{Corner}
 use Rattle.corner_list.specs.CornerList.{xOf, yOf}
 use Rattle.merge_grid.specs.declared.Grid.{Grid}
-use Rattle.merge_grid.specs.Grid.{positionOf, squared, near, neighbours, joins, gridOf}
+use Rattle.merge_grid.specs.Grid.{positionOf, squared, near, adjacentCells, joins, gridOf}
 use Rattle.merge_settle.specs.Settle.{settle, merged}
 use Rattle.merge.proofs.Result.{settle-all}
 use Rattle.merge_naive.specs.MergeNaive.{nearBy}
@@ -49,10 +49,10 @@ module _ (r : Float) (power : IsPower r) where
   near-joins : (g : Grid) → g .inverse ≡ div binary32 one r → g .square ≡ squared r → (m n : ℕ) → IsValue (g .left) m 0 64
       → IsValue (g .top) n 0 64
       → (c o : Corner) → Above m n c → Above m n o → nearBy (squared r) c o ≡ joins g c o
-  unfolding neighbours
+  unfolding adjacentCells
   near-joins g inverse square m n left top c o p q = rw square (pick (nearBy (squared r) c o) refl)
     where
-      pick : (b : Bool) → nearBy (squared r) c o ≡ b → b ≡ (b && neighbours g (positionOf c) (positionOf o))
+      pick : (b : Bool) → nearBy (squared r) c o ≡ b → b ≡ (b && adjacentCells g (positionOf c) (positionOf o))
       pick false e = refl
       pick true e =
           let cx = p .placed .column in

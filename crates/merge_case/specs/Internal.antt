@@ -5,4 +5,4 @@ use Rattle.merge.specs.declared.Merged.the-variants.{Kept, Refused}
 
 abbrev pub keptOf : Merged → ℕ
 keptOf (Kept n) = n
-keptOf (Refused k) = 0
+keptOf (Refused number) = 0

@@ -15,7 +15,7 @@ use Rattle.lists.proofs.Tab.{tab-add, map-tab}
 use Rattle.lists.proofs.Tests.{and-on}
 use Rattle.corner_list.specs.declared.Corner.{Corner}
 use Rattle.corner_list.specs.CornerList.{Slices, xOf, yOf, cornerAt, cornersOf}
-use Rattle.merge_grid.specs.Grid.{adjacent, squared, leastFrom, gridOf}
+use Rattle.merge_grid.specs.Grid.{withinOne, squared, leastFrom, gridOf}
 
 -- ---- cell numbers that differ by at most one
 
@@ -26,11 +26,11 @@ above-one a b = go (leb (b - a) 1) refl
     go true e = sym (le-leb b (a + 1) (omega (arith, leb-true (b - a) 1 e)))
     go false e = sym (lt-leb b (a + 1) (omega (arith, leb-false (b - a) 1 e)))
 
-pub adjacent-up : (a b : ℕ) → a < b → leb (b - a) 1 ≡ adjacent a b
-adjacent-up a b h = above-one a b ∙ and-on (leb a (b + 1)) (leb b (a + 1)) (le-leb a (b + 1) (omega arith))
+pub within-one-up : (a b : ℕ) → a < b → leb (b - a) 1 ≡ withinOne a b
+within-one-up a b h = above-one a b ∙ and-on (leb a (b + 1)) (leb b (a + 1)) (le-leb a (b + 1) (omega arith))
 
-pub adjacent-down : (a b : ℕ) → b ≤ a → leb (a - b) 1 ≡ adjacent a b
-adjacent-down a b h = above-one b a ∙ right (leb a (b + 1)) (le-leb b (a + 1) (omega arith))
+pub within-one-down : (a b : ℕ) → b ≤ a → leb (a - b) 1 ≡ withinOne a b
+within-one-down a b h = above-one b a ∙ right (leb a (b + 1)) (le-leb b (a + 1) (omega arith))
   where
     right : (t : Bool) → leb b (a + 1) ≡ true → t ≡ (t && leb b (a + 1))
     right true e = sym e

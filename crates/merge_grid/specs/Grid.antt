@@ -32,12 +32,12 @@ abbrev pub rowOf : Grid → Position → ℕ
 rowOf g p = cellOf (g .top) (g .inverse) (p .y)
 
 -- two cell numbers that differ by at most one
-abbrev pub adjacent : ℕ → ℕ → Bool
-adjacent a b = leb a (b + 1) && leb b (a + 1)
+abbrev pub withinOne : ℕ → ℕ → Bool
+withinOne a b = leb a (b + 1) && leb b (a + 1)
 
 -- two positions whose cell numbers differ by at most one each way
-unfoldable pub neighbours : Grid → Position → Position → Bool
-neighbours g p q = adjacent (columnOf g p) (columnOf g q) && adjacent (rowOf g p) (rowOf g q)
+unfoldable pub adjacentCells : Grid → Position → Position → Bool
+adjacentCells g p q = withinOne (columnOf g p) (columnOf g q) && withinOne (rowOf g p) (rowOf g q)
 
 abbrev pub squared : Float → Float
 squared d = mul binary32 d d
@@ -46,9 +46,9 @@ squared d = mul binary32 d d
 unfoldable pub near : Float → Position → Position → Bool
 near square p q = le (add binary32 (squared (sub binary32 (p .x) (q .x))) (squared (sub binary32 (p .y) (q .y)))) square
 
--- two positions whose corners join: near each other, and in neighbouring cells
+-- two positions whose corners join: near each other, and in adjacent cells
 abbrev pub meets : Grid → Position → Position → Bool
-meets g p q = near (g .square) p q && neighbours g p q
+meets g p q = near (g .square) p q && adjacentCells g p q
 
 -- two corners that join, whatever their strengths
 abbrev pub joins : Grid → Corner → Corner → Bool

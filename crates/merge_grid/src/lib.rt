@@ -8,7 +8,8 @@ ghost use lib.ListN.{getD};
 ghost use lib.Ieee.{Float, nan, inf};
 ghost use Rattle.lists.specs.Tab.{tab};
 ghost use Rattle.corner_list.specs.CornerList.{slices, cornersOf};
-ghost use Rattle.merge_grid.specs.Grid.{positionOf, positionAt, cellOf, columnOf, rowOf, adjacent, neighbours};
+ghost use Rattle.merge_grid.specs.Grid.{positionOf, positionAt, cellOf, columnOf, rowOf, withinOne};
+ghost use Rattle.merge_grid.specs.Grid.{adjacentCells};
 ghost use Rattle.merge_grid.specs.Grid.{near, meets, leastFrom, gridOf};
 use corner_list::Corner;
 
@@ -108,18 +109,18 @@ pub fn row_of(g: Grid, p: Position) -> usize
 }
 
 // Whether two cell numbers differ by at most one.
-fn is_adjacent(a: usize, b: usize) -> bool
-    ensures { λ r. ⌜ r ≡ adjacent a b ⌝ }
+fn is_within_one(a: usize, b: usize) -> bool
+    ensures { λ r. ⌜ r ≡ withinOne a b ⌝ }
 {
     if a < b { b - a <= 1 } else { a - b <= 1 }
 }
 
 // Whether the cells of two positions differ by at most one each way.
-fn are_neighbours(g: Grid, p: Position, q: Position) -> bool
-    ensures { λ r. ⌜ r ≡ neighbours g p q ⌝ }
+fn are_adjacent(g: Grid, p: Position, q: Position) -> bool
+    ensures { λ r. ⌜ r ≡ adjacentCells g p q ⌝ }
 {
-    if is_adjacent(column_of(g, p), column_of(g, q)) {
-        is_adjacent(row_of(g, p), row_of(g, q))
+    if is_within_one(column_of(g, p), column_of(g, q)) {
+        is_within_one(row_of(g, p), row_of(g, q))
     } else {
         false
     }
@@ -134,12 +135,12 @@ pub fn is_near(square: f32, p: Position, q: Position) -> bool
     dx * dx + dy * dy <= square
 }
 
-// Whether corners at two positions join: near enough, and in neighbouring cells.
+// Whether corners at two positions join: near enough, and in adjacent cells.
 pub fn is_joined(g: Grid, p: Position, q: Position) -> bool
     ensures { λ r. ⌜ r ≡ meets g p q ⌝ }
 {
     if is_near(g.square, p, q) {
-        are_neighbours(g, p, q)
+        are_adjacent(g, p, q)
     } else {
         false
     }

@@ -8,7 +8,7 @@ ghost use Prim.Native.Nat.{_<_, _≤_};
 ghost use Rattle.corner_list.specs.CornerList.{slices, placesOf, cornersOf};
 ghost use Rattle.merge_grid.specs.Grid.{positionAt, near};
 ghost use Rattle.merge_settle.specs.Settle.{Left};
-ghost use Rattle.merge_settle.specs.Internal.{IsFirst, Takes, Settled};
+ghost use Rattle.merge_settle.specs.Internal.{IsFirst, SettlesAt, Settled};
 ghost use Rattle.merge_naive.specs.MergeNaive.{nearBy, naiveOf, MergesNaive};
 use corner_list::Corner;
 use merge::Merged;
@@ -41,7 +41,7 @@ fn place_for(
     c: Corner,
 ) -> usize
     requires { ⌜ k < placesOf (slices (now xs) (now ys) (now strengths) (now neighbours)) ⌝ }
-    ensures { λ r. ⌜ Takes (nearBy square) k c
+    ensures { λ r. ⌜ SettlesAt (nearBy square) k c
         (slices (now (xs .entry)) (now (ys .entry)) (now (strengths .entry)) (now (neighbours .entry))) r ⌝ }
 {
     let i = first_near(xs, ys, square, k, merge_grid::position_of(c));

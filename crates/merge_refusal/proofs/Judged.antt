@@ -14,7 +14,7 @@ use Rattle.lists.proofs.Refusals.{lowest-none}
 use Rattle.corner_list.specs.declared.Corner.{Corner}
 use Rattle.corner_list.specs.CornerList.{Slices, isInside, cornersOf}
 use Rattle.merge_radius.specs.MergeRadius.{isOff, isSized}
-use Rattle.merge_refusal.specs.Refusals.{isOutside, refusalOf}
+use Rattle.merge_refusal.specs.Refusals.{cornerOutside, refusalOf}
 
 -- ---- the number does not change with another name for the places
 pub judged-held : (radius : Float) (held places count : ℕ) (b : Slices) (k : ℕ) → k ≡ refusalOf radius held count b → held ≡ places
@@ -28,11 +28,11 @@ module _ (radius : Float) (places count : ℕ) (b : Slices) where
   judged-off off = rw off
 
   module _ (on : isOff radius ≡ false) where
-    pub judged-corner : any isOutside (cornersOf b (min count places)) ≡ true → 4 ≡ refusalOf radius places count b
+    pub judged-corner : any cornerOutside (cornersOf b (min count places)) ≡ true → 4 ≡ refusalOf radius places count b
     unfolding refusalOf
     judged-corner e = rw (on, e)
 
-    module _ (inside : any isOutside (cornersOf b (min count places)) ≡ false) where
+    module _ (inside : any cornerOutside (cornersOf b (min count places)) ≡ false) where
       pub judged-radius : isSized radius ≡ false → 5 ≡ refusalOf radius places count b
       unfolding refusalOf
       judged-radius e = rw (on, inside, e)
@@ -43,7 +43,7 @@ module _ (radius : Float) (places count : ℕ) (b : Slices) where
 
   -- ---- no refusal: no test is met
   tests-none : refusalOf radius places count b ≡ 0
-      → (not (isOff radius) && any isOutside (cornersOf b (min count places))) ≡ false
+      → (not (isOff radius) && any cornerOutside (cornersOf b (min count places))) ≡ false
       × (not (isOff radius) && not (isSized radius)) ≡ false
       × ltb places count ≡ false
   unfolding refusalOf
@@ -51,7 +51,7 @@ module _ (radius : Float) (places count : ℕ) (b : Slices) where
       let on = not (isOff radius) in
       let count-test : List (Bool × ℕ) = (ltb places count, 10) ∷ [] in
       let radius-test : List (Bool × ℕ) = (on && not (isSized radius), 5) ∷ count-test in
-      let first = lowest-none (on && any isOutside (cornersOf b (min count places))) 4 radius-test (omega arith) e in
+      let first = lowest-none (on && any cornerOutside (cornersOf b (min count places))) 4 radius-test (omega arith) e in
       let second = lowest-none (on && not (isSized radius)) 5 count-test (omega arith) (first .1) in
       (first .0, second .0, lowest-none (ltb places count) 10 [] (omega arith) (second .1) .0)
 
@@ -65,13 +65,13 @@ module _ (radius : Float) (places count : ℕ) (b : Slices) where
   judged-allowed e on =
       let tests = tests-none e in
       let all : min count places ≡ count = omega (arith, judged-fits e) in
-      let none : any isOutside (cornersOf b count) ≡ false = rw (on, all) at (tests .0) in (
+      let none : any cornerOutside (cornersOf b count) ≡ false = rw (on, all) at (tests .0) in (
         not-false (isSized radius) (rw on at (tests .1)),
-        all-map _ _ inside (cornersOf b count) (any-none isOutside (cornersOf b count) none),
+        all-map _ _ inside (cornersOf b count) (any-none cornerOutside (cornersOf b count) none),
       )
     where
-      inside : (c : Corner) → (isOutside c ≡ true → ⊥) → isInside c ≡ true
-      inside c n = not-false (isInside c) (is-false (isOutside c) n)
+      inside : (c : Corner) → (cornerOutside c ≡ true → ⊥) → isInside c ≡ true
+      inside c n = not-false (isInside c) (is-false (cornerOutside c) n)
 
   -- ---- a list that the buffer has is not refused with an off radius, nor with a radius in range where its coordinates are
   module _ (fits : count ≤ places) where
@@ -85,6 +85,6 @@ module _ (radius : Float) (places count : ℕ) (b : Slices) where
         → refusalOf radius places count b ≡ 0
     judged-none-on on sized inside =
         let few : min count places ≡ count = omega arith in
-        let each : any isOutside (cornersOf b count) ≡ false = none-any isOutside (cornersOf b count)
+        let each : any cornerOutside (cornersOf b count) ≡ false = none-any cornerOutside (cornersOf b count)
         (all-map _ _ (λ c e o. true≢false (sym e ∙ not-true (isInside c) o)) (cornersOf b count) inside) in
-        sym (judged-count on (ap (λ (n : ℕ). any isOutside (cornersOf b n)) few ∙ each) sized) ∙ none
+        sym (judged-count on (ap (λ (n : ℕ). any cornerOutside (cornersOf b n)) few ∙ each) sized) ∙ none

@@ -11,8 +11,8 @@ use Rattle.corner_list.specs.CornerList.{isInside, cornersOf, Slices}
 use Rattle.merge_radius.specs.MergeRadius.{isOff, radiusOutside}
 
 -- a corner with a coordinate that is not finite or outside 0..largest
-abbrev pub isOutside : Corner → Bool
-isOutside c = not (isInside c)
+abbrev pub cornerOutside : Corner → Bool
+cornerOutside c = not (isInside c)
 
 -- The conditions for merging the corners cs, with their numbers (RULES 2.2); `lacks` says that a buffer has fewer
 -- places than the stated count:
@@ -21,7 +21,8 @@ isOutside c = not (isInside c)
 -- 10: a buffer lacks places
 -- With an off radius only 10 is checked.
 abbrev pub conditions : Float → List Corner → Bool → List (Bool × ℕ)
-conditions radius cs lacks = (not (isOff radius) && any isOutside cs, 4) ∷ (radiusOutside radius, 5) ∷ (lacks, 10) ∷ []
+conditions radius cs lacks =
+    (not (isOff radius) && any cornerOutside cs, 4) ∷ (radiusOutside radius, 5) ∷ (lacks, 10) ∷ []
 
 -- the number, 0 for none, for merging the first `count` corners of a buffer with a given number of places: 4 is checked
 -- for those that it has

@@ -5,11 +5,11 @@ ghost use Prim.Native.Nat.{min};
 ghost use lib.Dec.{ltb};
 ghost use Rattle.lists.specs.Places.{any};
 ghost use Rattle.corner_list.specs.CornerList.{slices, cornersOf, placesOf};
-ghost use Rattle.merge_refusal.specs.Refusals.{isOutside, refusalOf};
+ghost use Rattle.merge_refusal.specs.Refusals.{cornerOutside, refusalOf};
 
 // Whether one of the first n corners of a buffer is not inside.
 fn has_outside(xs: &[f32], ys: &[f32], strengths: &[f32], neighbours: &[u32], n: usize) -> bool
-    ensures { λ r. ⌜ r ≡ any isOutside
+    ensures { λ r. ⌜ r ≡ any cornerOutside
         (cornersOf (slices (now (xs .entry)) (now (ys .entry)) (now (strengths .entry))
         (now (neighbours .entry))) n) ⌝ }
 {

@@ -13,7 +13,7 @@ use lib.Dec.{ltb}
 use borrow.Author.Count.{below-more}
 use borrow.Author.Tests.{ltb-true, ltb-false, lt-ltb, le-ltb}
 use Rattle.lists.proofs.Tests.{and-none}
-use Rattle.merge_settle.specs.Internal.{IsFirst, Lowers, empty, PlaceListed}
+use Rattle.merge_settle.specs.Internal.{IsFirst, IsFirstAmong, empty, PlaceListed}
 
 -- ---- the lower of two places, by the tests
 module _ (i low : ℕ) (t : Bool) where
@@ -28,24 +28,24 @@ module _ (i low : ℕ) (t : Bool) where
 
 module _ (f : ℕ → Bool) where
   -- ---- one search after another
-  pub lowers-then : (L M : ℕ → Type 0) (n r s : ℕ) → Lowers f L n r → Lowers f M r s → Lowers f (λ i. L i ⊎ M i) n s
-  lowers-then L M n r s p q = record {
+  pub among-then : (L M : ℕ → Type 0) (n r s : ℕ) → IsFirstAmong f L n r → IsFirstAmong f M r s → IsFirstAmong f (λ i. L i ⊎ M i) n s
+  among-then L M n r s p q = record {
     at-most = omega (arith, p .at-most, q .at-most);
     passes = ⊎-elim (λ (e : s ≡ r). ⊎-elim (λ (d : r ≡ n). inl (e ∙ d)) (λ t. inr (ap f e ∙ t)) (p .passes)) (λ t. inr t) (q .passes);
     before = λ i l w. ⊎-elim (λ a. p .before i (omega (arith, q .at-most)) a) (λ b. q .before i l b) w;
   }
 
   -- two homes, by other names
-  pub lowers-two : (table : List ℕ) (g h g′ h′ n r s : ℕ) → g ≡ g′ → h ≡ h′ → Lowers f (PlaceListed table g) n r
-      → Lowers f (PlaceListed table h) r s
-      → Lowers f (λ i. PlaceListed table g′ i ⊎ PlaceListed table h′ i) n s
-  lowers-two table g h g′ h′ n r s d e p q =
-      lowers-then (PlaceListed table g′) (PlaceListed table h′) n r s (subst (λ (m : ℕ). Lowers f (PlaceListed table m) n r) d p)
-      (subst (λ (m : ℕ). Lowers f (PlaceListed table m) r s) e q)
+  pub among-two : (table : List ℕ) (g h g′ h′ n r s : ℕ) → g ≡ g′ → h ≡ h′ → IsFirstAmong f (PlaceListed table g) n r
+      → IsFirstAmong f (PlaceListed table h) r s
+      → IsFirstAmong f (λ i. PlaceListed table g′ i ⊎ PlaceListed table h′ i) n s
+  among-two table g h g′ h′ n r s d e p q =
+      among-then (PlaceListed table g′) (PlaceListed table h′) n r s (subst (λ (m : ℕ). IsFirstAmong f (PlaceListed table m) n r) d p)
+      (subst (λ (m : ℕ). IsFirstAmong f (PlaceListed table m) r s) e q)
 
   -- all that pass are looked at
-  pub lowers-first : (L : ℕ → Type 0) (n r : ℕ) → Lowers f L n r → ((i : ℕ) → i < n → f i ≡ true → L i) → IsFirst f n r
-  lowers-first L n r p all = record {
+  pub among-first : (L : ℕ → Type 0) (n r : ℕ) → IsFirstAmong f L n r → ((i : ℕ) → i < n → f i ≡ true → L i) → IsFirst f n r
+  among-first L n r p all = record {
     at-most = p .at-most;
     passes = λ l. ⊎-elim (λ (e : r ≡ n). absurd (let no : ⊥ = omega arith in no)) (λ t. t) (p .passes);
     before = λ i l t. p .before i l (all i (omega (arith, p .at-most)) t) t;
@@ -94,7 +94,7 @@ module _ (f : ℕ → Bool) where
       looking-read i is low′ e = looking-turn low′ (e ∙ ap (λ (n : ℕ). cond (ltb n low && f n) n low) (sym is))
 
       -- slot p is empty
-      pub looking-empty : getD table p 0 ≡ empty → p < length table → most ≤ empty → Lowers f (PlaceListed table home) most low
+      pub looking-empty : getD table p 0 ≡ empty → p < length table → most ≤ empty → IsFirstAmong f (PlaceListed table home) most low
       looking-empty e h small = record { at-most = at .at-most; passes = at .passes; before = none }
         where
           none : (i : ℕ) → i < low → PlaceListed table home i → f i ≡ true → ⊥
@@ -115,7 +115,7 @@ module _ (f : ℕ → Bool) where
               ]
 
       -- the table's end: every place is looked at
-      pub looking-end : (r : ℕ) → IsFirst f low r → Lowers f (PlaceListed table home) most r
+      pub looking-end : (r : ℕ) → IsFirst f low r → IsFirstAmong f (PlaceListed table home) most r
       looking-end r first = record {
         at-most = omega (arith, at .at-most, first .at-most);
         passes = ⊎-elim (λ (e : r ≡ low). subst (λ (m : ℕ). (m ≡ most) ⊎ (f m ≡ true)) (sym e) (at .passes)) (λ l. inr (first .passes l))

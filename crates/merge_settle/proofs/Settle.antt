@@ -15,7 +15,7 @@ use Rattle.corner_list.specs.declared.Corner.{Corner}
 use Rattle.corner_list.specs.CornerList.{Slices, placesOf, cornerAt, cornersOf, withCorner, frontCorners}
 use Rattle.corner_list.proofs.Corners.{with-corner-outside, corners-length, corners-at, corners-same, corners-set, corners-next}
 use Rattle.merge_settle.specs.Settle.{stronger, settle}
-use Rattle.merge_settle.specs.Internal.{IsFirst, countWith, Settled, Takes, empty}
+use Rattle.merge_settle.specs.Internal.{IsFirst, countWith, Settled, SettlesAt, empty}
 
 -- ---- lists
 
@@ -78,8 +78,8 @@ module _ (j : Corner → Corner → Bool) (k : ℕ) (c : Corner) (b : Slices) (f
   none : (m : ℕ) → m < i → j c (getD Kept m c) ≡ true → ⊥
   none m l t = first .before m l (ap (j c) (sym (corners-at b k m c (omega (arith, first .at-most)))) ∙ t)
 
-  pub takes-new : k ≤ i → Takes j k c b k
-  takes-new h =
+  pub settles-new : k ≤ i → SettlesAt j k c b k
+  settles-new h =
       let e : settle j Kept c ≡ Kept ++ (c ∷ []) = settle-none j c c Kept (λ m l. none m (omega (arith, many))) in
       record {
         settled = record {
@@ -104,8 +104,8 @@ module _ (j : Corner → Corner → Bool) (k : ℕ) (c : Corner) (b : Slices) (f
     as-many : (r : ℕ) → (r ≡ k → ⊥) → countWith k r ≡ length Kept
     as-many r n = ap (λ (t : Bool). cond t (k + 1) k) (ne-eqb r k n) ∙ sym many
 
-    pub takes-stronger : lt (o .strength) (c .strength) ≡ true → Takes j k c b i
-    takes-stronger t =
+    pub settles-stronger : lt (o .strength) (c .strength) ≡ true → SettlesAt j k c b i
+    settles-stronger t =
         let e : settle j Kept c ≡ set Kept i c = there true t in
         record {
           settled = record {
@@ -117,8 +117,8 @@ module _ (j : Corner → Corner → Bool) (k : ℕ) (c : Corner) (b : Slices) (f
         }
 
     -- it is dropped: r is no place of the buffer
-    pub takes-none : (r : ℕ) → placesOf b ≤ r → empty ≤ r → lt (o .strength) (c .strength) ≡ false → Takes j k c b r
-    takes-none r out far t =
+    pub settles-none : (r : ℕ) → placesOf b ≤ r → empty ≤ r → lt (o .strength) (c .strength) ≡ false → SettlesAt j k c b r
+    settles-none r out far t =
         let e : settle j Kept c ≡ Kept = there false t ∙ ap (set Kept i) (sym here) ∙ set-getD Kept i c in
         record {
           settled = record {
@@ -129,7 +129,7 @@ module _ (j : Corner → Corner → Bool) (k : ℕ) (c : Corner) (b : Slices) (f
         }
 
 -- ---- the corner put in the place that it takes
-pub settled-put : (j : Corner → Corner → Bool) (k : ℕ) (c : Corner) (b : Slices) (r n : ℕ) (b′ : Slices) → Takes j k c b r
+pub settled-put : (j : Corner → Corner → Bool) (k : ℕ) (c : Corner) (b : Slices) (r n : ℕ) (b′ : Slices) → SettlesAt j k c b r
     → n ≡ countWith k r
     → b′ ≡ withCorner r c b → Settled j k c b n b′
 settled-put j k c b r n b′ t e put = record { count = e ∙ t .settled .count; buffer = put ∙ t .settled .buffer }

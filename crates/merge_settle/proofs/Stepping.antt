@@ -16,7 +16,7 @@ use Rattle.corner_list.proofs.Corners.{corners-length, corners-at, corners-fron
 use Rattle.corner_list.proofs.Corners.{front-ys, front-strengths, front-neighbours, same-places}
 use Rattle.merge_settle.specs.declared.settling.Step.{Step}
 use Rattle.merge_settle.specs.Settle.{settle, merged, given, Left}
-use Rattle.merge_settle.specs.Internal.{Settled, step, start, IsStep, unsettled, Goes, Comes, Reaches}
+use Rattle.merge_settle.specs.Internal.{Settled, step, start, IsStep, unsettled, LeavesSame, StepAfter, StopAfter}
 use Rattle.merge_settle.proofs.Settle.{settle-longer, settle-one}
 
 -- ---- a corner of the list, where that is
@@ -64,9 +64,10 @@ module _ (n : ℕ) where
 
 module _ (j : Corner → Corner → Bool) where
   -- ---- one thing after another, and a corner settled
-  goes-on : (b : Slices) (k : ℕ) (r : List Corner) (b₁ : Slices) (k₁ : ℕ) (r₁ : List Corner) (b₂ : Slices) (k₂ : ℕ) (r₂ : List Corner)
-      → Goes j b k r b₁ k₁ r₁ → Goes j b₁ k₁ r₁ b₂ k₂ r₂ → Goes j b k r b₂ k₂ r₂
-  goes-on b k r b₁ k₁ r₁ b₂ k₂ r₂ p q = record {
+  leaves-same-then : (b : Slices) (k : ℕ) (r : List Corner) (b₁ : Slices) (k₁ : ℕ) (r₁ : List Corner) (b₂ : Slices) (k₂ : ℕ)
+      (r₂ : List Corner)
+      → LeavesSame j b k r b₁ k₁ r₁ → LeavesSame j b₁ k₁ r₁ b₂ k₂ r₂ → LeavesSame j b k r b₂ k₂ r₂
+  leaves-same-then b k r b₁ k₁ r₁ b₂ k₂ r₂ p q = record {
     more = omega (arith, p .more, q .more);
     leaves = q .leaves ∙ p .leaves;
     buffer =
@@ -78,8 +79,8 @@ module _ (j : Corner → Corner → Bool) where
     kept-is : cornersOf b′ k′ ≡ settle j (cornersOf b k) c
     kept-is = ap (λ (d : Slices). cornersOf d k′) (s .buffer) ∙ corners-front (settle j (cornersOf b k) c) b k′ (s .count)
 
-    goes-settled : (rest : List Corner) → Goes j b k (c ∷ rest) b′ k′ rest
-    goes-settled rest = record {
+    leaves-same-settled : (rest : List Corner) → LeavesSame j b k (c ∷ rest) b′ k′ rest
+    leaves-same-settled rest = record {
       more = omega (arith, s .count, settle-longer j c (cornersOf b k), corners-length b k);
       leaves = ap (λ (l : List Corner). merged j l rest) kept-is;
       buffer = s .buffer ∙ ap (λ (l : List Corner). frontCorners l b) (sym kept-is);
@@ -87,13 +88,13 @@ module _ (j : Corner → Corner → Bool) where
 
   -- ---- steps of merging a list of n, which is in the buffer `own` or in the one where the kept corners are
   module _ (apart : Bool) (own : Slices) (n : ℕ) (b₀ : Slices) (s₀ : Step) where
-    pub comes-none : n ≤ placesOf b₀ → IsStep n s₀ → Comes j apart own n b₀ s₀ b₀ s₀
-    comes-none h i = record {
+    pub stepped-none : n ≤ placesOf b₀ → IsStep n s₀ → StepAfter j apart own n b₀ s₀ b₀ s₀
+    stepped-none h i = record {
       is-step = i;
-      goes = record { more = omega arith; leaves = refl; buffer = corners-same b₀ (s₀ .kept) (omega (arith, i .few, i .upto)) };
+      leaves-same = record { more = omega arith; leaves = refl; buffer = corners-same b₀ (s₀ .kept) (omega (arith, i .few, i .upto)) };
     }
 
-    module _ (b : Slices) (s : Step) (at : Comes j apart own n b₀ s₀ b s) where
+    module _ (b : Slices) (s : Step) (at : StepAfter j apart own n b₀ s₀ b s) where
       abbrev Kept : List Corner
       Kept = cornersOf b (s .kept)
 
@@ -105,32 +106,32 @@ module _ (j : Corner → Corner → Bool) where
         kept-fit : s .kept ≤ placesOf b₀
         kept-fit = omega (arith, at .is-step .few, at .is-step .upto)
 
-        pub comes-xs : length (b .xs) ≡ length (b₀ .xs)
-        comes-xs = ap (λ (d : Slices). length (d .xs)) (at .goes .buffer) ∙ front-xs Kept b₀ (s .kept) (sym many) kept-fit
+        pub stepped-xs : length (b .xs) ≡ length (b₀ .xs)
+        stepped-xs = ap (λ (d : Slices). length (d .xs)) (at .leaves-same .buffer) ∙ front-xs Kept b₀ (s .kept) (sym many) kept-fit
 
-        pub comes-ys : length (b .ys) ≡ length (b₀ .ys)
-        comes-ys = ap (λ (d : Slices). length (d .ys)) (at .goes .buffer) ∙ front-ys Kept b₀ (s .kept) (sym many) kept-fit
+        pub stepped-ys : length (b .ys) ≡ length (b₀ .ys)
+        stepped-ys = ap (λ (d : Slices). length (d .ys)) (at .leaves-same .buffer) ∙ front-ys Kept b₀ (s .kept) (sym many) kept-fit
 
-        pub comes-strengths : length (b .strengths) ≡ length (b₀ .strengths)
-        comes-strengths =
-            ap (λ (d : Slices). length (d .strengths)) (at .goes .buffer) ∙ front-strengths Kept b₀ (s .kept) (sym many) kept-fit
+        pub stepped-strengths : length (b .strengths) ≡ length (b₀ .strengths)
+        stepped-strengths =
+            ap (λ (d : Slices). length (d .strengths)) (at .leaves-same .buffer) ∙ front-strengths Kept b₀ (s .kept) (sym many) kept-fit
 
-        pub comes-neighbours : length (b .neighbours) ≡ length (b₀ .neighbours)
-        comes-neighbours =
-            ap (λ (d : Slices). length (d .neighbours)) (at .goes .buffer) ∙ front-neighbours Kept b₀ (s .kept) (sym many) kept-fit
+        pub stepped-neighbours : length (b .neighbours) ≡ length (b₀ .neighbours)
+        stepped-neighbours =
+            ap (λ (d : Slices). length (d .neighbours)) (at .leaves-same .buffer) ∙ front-neighbours Kept b₀ (s .kept) (sym many) kept-fit
 
-        pub comes-places : n ≤ placesOf b
-        comes-places = omega (arith, same-places b b₀ comes-xs comes-ys comes-strengths comes-neighbours)
+        pub stepped-places : n ≤ placesOf b
+        stepped-places = omega (arith, same-places b b₀ stepped-xs stepped-ys stepped-strengths stepped-neighbours)
 
         -- so there is one for the next corner
-        pub comes-fits : s .done < n → s .kept < placesOf b
-        comes-fits h = omega (arith, at .is-step .few, comes-places)
+        pub stepped-fits : s .done < n → s .kept < placesOf b
+        stepped-fits h = omega (arith, at .is-step .few, stepped-places)
 
       -- the next corner of the list is settled
-      pub comes-turn : s .done < n → (c : Corner) → c ≡ cornerAt (given apart own b) (s .done) → (k : ℕ) (b′ : Slices)
+      pub stepped-turn : s .done < n → (c : Corner) → c ≡ cornerAt (given apart own b) (s .done) → (k : ℕ) (b′ : Slices)
           → Settled j (s .kept) c b k b′
-          → Comes j apart own n b₀ s₀ b′ (step (s .done + 1) k)
-      comes-turn h c is k b′ t =
+          → StepAfter j apart own n b₀ s₀ b′ (step (s .done + 1) k)
+      stepped-turn h c is k b′ t =
           let i : ℕ = s .done + 1 in
           let few : k ≤ i = omega (arith, at .is-step .few, t .count, settle-one j c Kept, many) in
           let short : length (settle j Kept c) ≤ i = omega (arith, t .count) in
@@ -139,54 +140,58 @@ module _ (j : Corner → Corner → Bool) where
           = unsettled-next n apart own b b′ (settle j Kept c) (s .done) c (t .buffer) short h is in
           record {
             is-step = record { few = few; upto = omega arith };
-            goes =
-                goes-on _ _ _ b (s .kept) (unsettled (given apart own b) n (s .done)) _ _ _ (at .goes)
-                (subst (λ (r : List Corner). Goes j b (s .kept) r b′ k rest) (sym first) (goes-settled b (s .kept) c b′ k t rest));
+            leaves-same =
+                leaves-same-then _ _ _ b (s .kept) (unsettled (given apart own b) n (s .done)) _ _ _ (at .leaves-same)
+                (subst (λ (r : List Corner). LeavesSame j b (s .kept) r b′ k rest) (sym first)
+                (leaves-same-settled b (s .kept) c b′ k t rest));
           }
 
     -- ---- parts of the list: at its end, for fewer kept corners, and one after another
-    pub reaches-end : (b : Slices) (i k most : ℕ) → Comes j apart own n b₀ s₀ b (step i k) → n ≤ i
-        → Reaches j apart own most n b₀ s₀ b (step n k)
-    reaches-end b i k most at h =
+    pub stops-end : (b : Slices) (i k most : ℕ) → StepAfter j apart own n b₀ s₀ b (step i k) → n ≤ i
+        → StopAfter j apart own most n b₀ s₀ b (step n k)
+    stops-end b i k most at h =
         let end : i ≡ n = omega (arith, at .is-step .upto) in
-        record { comes = subst (λ (m : ℕ). Comes j apart own n b₀ s₀ b (step m k)) end at; far = inl refl }
+        record { stepped = subst (λ (m : ℕ). StepAfter j apart own n b₀ s₀ b (step m k)) end at; far = inl refl }
 
-    module _ (b : Slices) (s : Step) (m : ℕ) (p : Reaches j apart own m n b₀ s₀ b s) where
+    module _ (b : Slices) (s : Step) (m : ℕ) (p : StopAfter j apart own m n b₀ s₀ b s) where
       -- another can follow
-      pub reaches-ready : n ≤ placesOf b₀ → (n ≤ placesOf b) × IsStep n s
-      reaches-ready h = (comes-places b s (p .comes) h, p .comes .is-step)
+      pub stops-ready : n ≤ placesOf b₀ → (n ≤ placesOf b) × IsStep n s
+      stops-ready h = (stepped-places b s (p .stepped) h, p .stepped .is-step)
 
-      pub reaches-done : (most : ℕ) → n ≤ s .done → Reaches j apart own most n b₀ s₀ b s
-      reaches-done most h = record { comes = p .comes; far = inl (omega (arith, p .comes .is-step .upto)) }
+      pub stops-done : (most : ℕ) → n ≤ s .done → StopAfter j apart own most n b₀ s₀ b s
+      stops-done most h = record { stepped = p .stepped; far = inl (omega (arith, p .stepped .is-step .upto)) }
 
-      pub reaches-less : (most : ℕ) → most ≤ m → Reaches j apart own most n b₀ s₀ b s
-      reaches-less most h = record { comes = p .comes; far = ⊎-elim inl (λ f. inr (omega arith)) (p .far) }
+      pub stops-less : (most : ℕ) → most ≤ m → StopAfter j apart own most n b₀ s₀ b s
+      stops-less most h = record { stepped = p .stepped; far = ⊎-elim inl (λ f. inr (omega arith)) (p .far) }
 
-      pub reaches-on : (most m′ : ℕ) (b′ : Slices) (s′ : Step) → Reaches j apart own m′ n b s b′ s′ → most ≤ m′
-          → Reaches j apart own most n b₀ s₀ b′ s′
-      reaches-on most m′ b′ s′ q h = record {
-        comes = record { is-step = q .comes .is-step; goes = goes-on _ _ _ _ _ _ _ _ _ (p .comes .goes) (q .comes .goes) };
+      pub stops-on : (most m′ : ℕ) (b′ : Slices) (s′ : Step) → StopAfter j apart own m′ n b s b′ s′ → most ≤ m′
+          → StopAfter j apart own most n b₀ s₀ b′ s′
+      stops-on most m′ b′ s′ q h = record {
+        stepped = record {
+          is-step = q .stepped .is-step;
+          leaves-same = leaves-same-then _ _ _ _ _ _ _ _ _ (p .stepped .leaves-same) (q .stepped .leaves-same);
+        };
         far = ⊎-elim inl (λ f. inr (omega arith)) (q .far);
       }
 
   -- the whole list
-  pub reaches-all : (apart : Bool) (own : Slices) (n : ℕ) (b b′ : Slices) (s : Step) → Reaches j apart own n n b start b′ s
+  pub stops-all : (apart : Bool) (own : Slices) (n : ℕ) (b b′ : Slices) (s : Step) → StopAfter j apart own n n b start b′ s
       → Left (merged j [] (cornersOf (given apart own b) n)) b (s .kept) b′
   unfolding tab
-  reaches-all apart own n b b′ s p =
-      let done : n ≤ s .done = ⊎-elim (λ (e : s .done ≡ n). omega arith) (λ f. omega (arith, p .comes .is-step .few)) (p .far) in
+  stops-all apart own n b b′ s p =
+      let done : n ≤ s .done = ⊎-elim (λ (e : s .done ≡ n). omega arith) (λ f. omega (arith, p .stepped .is-step .few)) (p .far) in
       let last : Slices = given apart own b′ in
       let none : unsettled last n (s .done) ≡ [] = drop-of-length-le (cornersOf last n) {i = s .done}
       (omega (arith, corners-length last n)) in
       let all : cornersOf b′ (s .kept) ≡ merged j [] (cornersOf (given apart own b) n)
-      = ap (merged j (cornersOf b′ (s .kept))) (sym none) ∙ p .comes .goes .leaves in
+      = ap (merged j (cornersOf b′ (s .kept))) (sym none) ∙ p .stepped .leaves-same .leaves in
       record {
         count = sym (corners-length b′ (s .kept)) ∙ ap length all;
-        buffer = p .comes .goes .buffer ∙ ap (λ (l : List Corner). frontCorners l b) all;
+        buffer = p .stepped .leaves-same .buffer ∙ ap (λ (l : List Corner). frontCorners l b) all;
       }
 
   -- as many as there are places for, by another name
-  pub reaches-held : (apart : Bool) (own : Slices) (n m : ℕ) (b b′ : Slices) (s : Step) → n ≡ m → Reaches j apart own n n b start b′ s
+  pub stops-held : (apart : Bool) (own : Slices) (n m : ℕ) (b b′ : Slices) (s : Step) → n ≡ m → StopAfter j apart own n n b start b′ s
       → Left (merged j [] (cornersOf (given apart own b) m)) b (s .kept) b′
-  reaches-held apart own n m b b′ s e p =
-      subst (λ (i : ℕ). Left (merged j [] (cornersOf (given apart own b) i)) b (s .kept) b′) e (reaches-all apart own n b b′ s p)
+  stops-held apart own n m b b′ s e p =
+      subst (λ (i : ℕ). Left (merged j [] (cornersOf (given apart own b) i)) b (s .kept) b′) e (stops-all apart own n b b′ s p)

@@ -26,8 +26,8 @@ slotsOf table = map (toBits binary32) table
 abbrev pub empty : ℕ
 empty = 0x3f80_0000
 
--- cells are grouped in pairs, across and down: cell 0, then 1 and 2, 3 and 4. So the neighbours of a cell n lie in pair
--- n / 2 or in the next
+-- cells are grouped in pairs, across and down: cell 0, then 1 and 2, 3 and 4. So cell n and those adjacent to it lie
+-- in pair n / 2 or in the next
 abbrev pub pairOf : ℕ → ℕ
 pairOf n = (n + 1) / 2
 
@@ -92,7 +92,7 @@ pub record IsFirst (f : ℕ → Bool) (n r : ℕ) : Type 0 where
   pub before : (i : ℕ) → i < r → f i ≡ true → ⊥
 
 -- r is at most n, is n or passes the test, and no smaller number among those looked at passes it
-pub record Lowers (f : ℕ → Bool) (Looked : ℕ → Type 0) (n r : ℕ) : Type 0 where
+pub record IsFirstAmong (f : ℕ → Bool) (Looked : ℕ → Type 0) (n r : ℕ) : Type 0 where
   pub at-most : r ≤ n
   pub passes : (r ≡ n) ⊎ (f r ≡ true)
   pub before : (i : ℕ) → i < r → Looked i → f i ≡ true → ⊥
@@ -108,7 +108,7 @@ countWith k r = cond (eqb r k) (k + 1) k
 
 -- Place r is where c goes among the first k corners of a buffer: put there, it is settled among them. If c is dropped,
 -- r is no place of the buffer, nor a listed one.
-pub record Takes (j : Corner → Corner → Bool) (k : ℕ) (c : Corner) (b : Slices) (r : ℕ) : Type 0 where
+pub record SettlesAt (j : Corner → Corner → Bool) (k : ℕ) (c : Corner) (b : Slices) (r : ℕ) : Type 0 where
   pub settled : Settled j k c b (countWith k r) (withCorner r c b)
   pub known : (r < placesOf b) ⊎ (empty ≤ r)
 
@@ -132,21 +132,21 @@ unsettled b n i = drop i (cornersOf b n)
 
 -- With the first k corners of b kept and `rest` still to be settled, merging leaves the same list as with the first k′
 -- of b′ kept and rest′ still to be settled. After the kept corners the buffer is unchanged.
-pub record Goes (j : Corner → Corner → Bool) (b : Slices) (k : ℕ) (rest : List Corner) (b′ : Slices) (k′ : ℕ)
+pub record LeavesSame (j : Corner → Corner → Bool) (b : Slices) (k : ℕ) (rest : List Corner) (b′ : Slices) (k′ : ℕ)
     (rest′ : List Corner) : Type 0 where
   pub more : k ≤ k′
   pub leaves : merged j (cornersOf b′ k′) rest′ ≡ merged j (cornersOf b k) rest
   pub buffer : b′ ≡ frontCorners (cornersOf b′ k′) b
 
 -- merging a list of n corners has gone from one step to another
-pub record Comes (j : Corner → Corner → Bool) (apart : Bool) (own : Slices) (n : ℕ) (b : Slices) (s : Step)
+pub record StepAfter (j : Corner → Corner → Bool) (apart : Bool) (own : Slices) (n : ℕ) (b : Slices) (s : Step)
     (b′ : Slices) (s′ : Step) : Type 0 where
   pub is-step : IsStep n s′
-  pub goes : Goes j b (s .kept) (unsettled (given apart own b) n (s .done)) b′ (s′ .kept)
+  pub leaves-same : LeavesSame j b (s .kept) (unsettled (given apart own b) n (s .done)) b′ (s′ .kept)
       (unsettled (given apart own b′) n (s′ .done))
 
 -- and is at the list's end, or keeps at least `most`
-pub record Reaches (j : Corner → Corner → Bool) (apart : Bool) (own : Slices) (most n : ℕ) (b : Slices)
+pub record StopAfter (j : Corner → Corner → Bool) (apart : Bool) (own : Slices) (most n : ℕ) (b : Slices)
     (s : Step) (b′ : Slices) (s′ : Step) : Type 0 where
-  pub comes : Comes j apart own n b s b′ s′
+  pub stepped : StepAfter j apart own n b s b′ s′
   pub far : (s′ .done ≡ n) ⊎ (most ≤ s′ .kept)

@@ -7,7 +7,8 @@ ghost use lib.ListN.{length};
 ghost use lib.Dec.{ltb};
 ghost use Rattle.corner_list.specs.CornerList.{slices, placesOf};
 ghost use Rattle.merge_grid.specs.Grid.{joins};
-ghost use Rattle.merge_settle.specs.Internal.{joinsAt, IsFirst, Lowers, Takes, empty, slotsOf, PlaceListed};
+ghost use Rattle.merge_settle.specs.Internal.{joinsAt, IsFirst, IsFirstAmong, SettlesAt, empty, slotsOf};
+ghost use Rattle.merge_settle.specs.Internal.{PlaceListed};
 ghost use Rattle.merge_settle.specs.Internal.{ListedAt, Indexed};
 use corner_list::Corner;
 use merge_grid::Grid;
@@ -51,7 +52,7 @@ fn lowest_from(
     p: Position,
 ) -> usize
     requires { ⌜ (home ≤ length (now table)) × (most ≤ empty) ⌝ }
-    ensures { λ r. ⌜ Lowers (joinsAt g p (now (xs .entry)) (now (ys .entry)))
+    ensures { λ r. ⌜ IsFirstAmong (joinsAt g p (now (xs .entry)) (now (ys .entry)))
         (PlaceListed (slotsOf (now (table .entry))) home) most r ⌝ }
 {
     let mut low = most;
@@ -77,7 +78,7 @@ fn lowest_of_two(
     p: Position,
 ) -> usize
     requires { ⌜ (0 < length (now table)) × (most ≤ empty) × (x + 1 < 2 ^ 64) ⌝ }
-    ensures { λ r. ⌜ Lowers (joinsAt g p (now (xs .entry)) (now (ys .entry)))
+    ensures { λ r. ⌜ IsFirstAmong (joinsAt g p (now (xs .entry)) (now (ys .entry)))
         (λ i. ListedAt (slotsOf (now (table .entry))) x y i
         ⊎ ListedAt (slotsOf (now (table .entry))) (x + 1) y i) most r ⌝ }
 {
@@ -138,7 +139,7 @@ pub(crate) fn place_for(
 ) -> usize
     requires { ⌜ k < placesOf (slices (now xs) (now ys) (now strengths) (now neighbours)) ⌝ }
     requires { ⌜ Indexed g floor (slotsOf (now table)) (now xs) (now ys) k ⌝ }
-    ensures { λ r. ⌜ Takes (joins g) k c
+    ensures { λ r. ⌜ SettlesAt (joins g) k c
         (slices (now (xs .entry)) (now (ys .entry)) (now (strengths .entry)) (now (neighbours .entry))) r ⌝ }
 {
     let i = find_joined(xs, ys, table, g, floor, k, merge_grid::position_of(c));

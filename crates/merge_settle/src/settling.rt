@@ -9,7 +9,7 @@ ghost use lib.ListN.{length};
 ghost use Rattle.corner_list.specs.CornerList.{slices, cornerAt, placesOf};
 ghost use Rattle.merge_grid.specs.Grid.{joins};
 ghost use Rattle.merge_settle.specs.Settle.{given};
-ghost use Rattle.merge_settle.specs.Internal.{slotsOf, Indexed, countWith, Settled, start, IsStep, Reaches};
+ghost use Rattle.merge_settle.specs.Internal.{slotsOf, Indexed, countWith, Settled, start, IsStep, StopAfter};
 use corner_list::Corner;
 use merge_grid::Grid;
 
@@ -114,7 +114,7 @@ fn merge_with(
     requires { ⌜ n ≤ placesOf (slices (now xs) (now ys) (now ss) (now ns)) ⌝ }
     requires { ⌜ 0 < length (now table) ⌝ }
     requires { ⌜ IsStep n s ⌝ }
-    ensures { λ r. ⌜ Reaches (joins g) apart
+    ensures { λ r. ⌜ StopAfter (joins g) apart
         (slices (now (lx .entry)) (now (ly .entry)) (now (ls .entry)) (now (ln .entry))) most n
         (slices (now (xs .entry)) (now (ys .entry)) (now (ss .entry)) (now (ns .entry))) s
         (slices (now (xs .exit)) (now (ys .exit)) (now (ss .exit)) (now (ns .exit))) r ⌝ }
@@ -169,7 +169,7 @@ fn merge_by(
 ) -> Step
     requires { ⌜ n ≤ placesOf (slices (now xs) (now ys) (now ss) (now ns)) ⌝ }
     requires { ⌜ 0 < length (now table) ⌝ }
-    ensures { λ r. ⌜ Reaches (joins g) apart
+    ensures { λ r. ⌜ StopAfter (joins g) apart
         (slices (now (lx .entry)) (now (ly .entry)) (now (ls .entry)) (now (ln .entry))) n n
         (slices (now (xs .entry)) (now (ys .entry)) (now (ss .entry)) (now (ns .entry))) start
         (slices (now (xs .exit)) (now (ys .exit)) (now (ss .exit)) (now (ns .exit))) r ⌝ }
@@ -210,7 +210,7 @@ fn merge_few(
     n: usize,
 ) -> Step
     requires { ⌜ n ≤ placesOf (slices (now xs) (now ys) (now ss) (now ns)) ⌝ }
-    ensures { λ r. ⌜ Reaches (joins g) apart
+    ensures { λ r. ⌜ StopAfter (joins g) apart
         (slices (now (lx .entry)) (now (ly .entry)) (now (ls .entry)) (now (ln .entry))) 512 n
         (slices (now (xs .entry)) (now (ys .entry)) (now (ss .entry)) (now (ns .entry))) start
         (slices (now (xs .exit)) (now (ys .exit)) (now (ss .exit)) (now (ns .exit))) r ⌝ }
@@ -237,7 +237,7 @@ fn merge_more(
 ) -> Step
     requires { ⌜ n ≤ placesOf (slices (now xs) (now ys) (now ss) (now ns)) ⌝ }
     requires { ⌜ IsStep n s ⌝ }
-    ensures { λ r. ⌜ Reaches (joins g) apart
+    ensures { λ r. ⌜ StopAfter (joins g) apart
         (slices (now (lx .entry)) (now (ly .entry)) (now (ls .entry)) (now (ln .entry))) 8192 n
         (slices (now (xs .entry)) (now (ys .entry)) (now (ss .entry)) (now (ns .entry))) s
         (slices (now (xs .exit)) (now (ys .exit)) (now (ss .exit)) (now (ns .exit))) r ⌝ }
@@ -263,7 +263,7 @@ fn merge_most(
 ) -> Step
     requires { ⌜ n ≤ placesOf (slices (now xs) (now ys) (now ss) (now ns)) ⌝ }
     requires { ⌜ IsStep n s ⌝ }
-    ensures { λ r. ⌜ Reaches (joins g) apart
+    ensures { λ r. ⌜ StopAfter (joins g) apart
         (slices (now (lx .entry)) (now (ly .entry)) (now (ls .entry)) (now (ln .entry))) n n
         (slices (now (xs .entry)) (now (ys .entry)) (now (ss .entry)) (now (ns .entry))) s
         (slices (now (xs .exit)) (now (ys .exit)) (now (ss .exit)) (now (ns .exit))) r ⌝ }
@@ -291,7 +291,7 @@ fn merge_up_to(
 ) -> Step
     requires { ⌜ n ≤ placesOf (slices (now xs) (now ys) (now ss) (now ns)) ⌝ }
     requires { ⌜ most ≤ n ⌝ }
-    ensures { λ r. ⌜ Reaches (joins g) apart
+    ensures { λ r. ⌜ StopAfter (joins g) apart
         (slices (now (lx .entry)) (now (ly .entry)) (now (ls .entry)) (now (ln .entry))) most n
         (slices (now (xs .entry)) (now (ys .entry)) (now (ss .entry)) (now (ns .entry))) start
         (slices (now (xs .exit)) (now (ys .exit)) (now (ss .exit)) (now (ns .exit))) r ⌝ }
@@ -325,7 +325,7 @@ pub(crate) fn merge_all(
     n: usize,
 ) -> Step
     requires { ⌜ n ≤ placesOf (slices (now xs) (now ys) (now ss) (now ns)) ⌝ }
-    ensures { λ r. ⌜ Reaches (joins g) apart
+    ensures { λ r. ⌜ StopAfter (joins g) apart
         (slices (now (lx .entry)) (now (ly .entry)) (now (ls .entry)) (now (ln .entry))) n n
         (slices (now (xs .entry)) (now (ys .entry)) (now (ss .entry)) (now (ns .entry))) start
         (slices (now (xs .exit)) (now (ys .exit)) (now (ss .exit)) (now (ns .exit))) r ⌝ }

@@ -22,7 +22,7 @@ use Rattle.corner_list.specs.CornerList.{Slices, xOf, yOf, strengthOf, neighbou
 use Rattle.corner_list.proofs.Corners.{slices-alike, same-places, corners-length, corners-front, corners-same, corners-again}
 use Rattle.corner_list.proofs.Corners.{front-xs, front-ys, front-strengths, front-neighbours}
 use Rattle.merge_radius.specs.MergeRadius.{isOff, radiusOutside}
-use Rattle.merge_refusal.specs.Refusals.{isOutside}
+use Rattle.merge_refusal.specs.Refusals.{cornerOutside}
 use Rattle.merge_refusal.proofs.Judged.{judged-fits}
 use Rattle.merge.specs.declared.Merged.{Merged}
 use Rattle.merge.specs.declared.Merged.the-variants.{Refused, Kept}
@@ -100,7 +100,7 @@ module _ (radius : Float) (count : ℕ) (cs : List Corner) (scratch : Slices) (n
 
   -- whether 4 refuses a list
   abbrev refused : List Corner → Bool
-  refused l = not (isOff radius) && any isOutside l
+  refused l = not (isOff radius) && any cornerOutside l
 
   abbrev outside : Bool
   outside = refused (take count cs)
@@ -132,9 +132,9 @@ module _ (radius : Float) (count : ℕ) (cs : List Corner) (scratch : Slices) (n
   unfolding refusalOf refusalFor
   same-number true e = rw e
   same-number false e =
-      let fewer = any-first isOutside n count cs (omega arith) in
-      let none : refused (take n cs) ≡ false = and-fewer (not (isOff radius)) (any isOutside (take count cs))
-      (any isOutside (take n cs)) fewer e in
+      let fewer = any-first cornerOutside n count cs (omega arith) in
+      let none : refused (take n cs) ≡ false = and-fewer (not (isOff radius)) (any cornerOutside (take count cs))
+      (any cornerOutside (take n cs)) fewer e in
       rw (seen, none, few-test count (sharedPlaces cs scratch) n is, e)
 
   -- the core lets through only what it has seen whole
@@ -202,7 +202,7 @@ module _ (radius : Float) (count : ℕ) (cs : List Corner) (scratch : Slices) (n
 
   -- judged, exchanged, merged, and exchanged again
   pub slice-merged : (o : Bool) (cs₁ : List Corner) (b₁ b₂ : Slices) (core-answer : Merged) (cs₂ : List Corner) (b₃ : Slices) (r : Merged)
-      → o ≡ any isOutside (take count cs)
+      → o ≡ any cornerOutside (take count cs)
       → (cs₁ ≡ front (cornersOf scratch n) cs) × (b₁ ≡ inside)
       → Merges radius (min n (placesOf b₁)) count b₁ core-answer b₂
       → (cs₂ ≡ front (cornersOf b₂ n) cs₁) × (b₃ ≡ frontCorners (take n cs₁) b₂)

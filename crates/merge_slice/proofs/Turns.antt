@@ -16,7 +16,7 @@ use Rattle.lists.proofs.Places.{any-append}
 use Rattle.corner_list.specs.declared.Corner.{Corner}
 use Rattle.corner_list.specs.CornerList.{Slices, cornerAt, cornersOf, frontCorners}
 use Rattle.corner_list.proofs.Corners.{corners-length, corners-behind}
-use Rattle.merge_refusal.specs.Refusals.{isOutside}
+use Rattle.merge_refusal.specs.Refusals.{cornerOutside}
 
 -- what a place past the end of a slice of corners is taken for
 abbrev pub nowhere : Corner
@@ -69,10 +69,11 @@ take-counted count l =
 
 -- ---- whether one of the first i corners is outside
 abbrev pub outsideUpto : List Corner → ℕ → Bool
-outsideUpto cs i = any isOutside (take i cs)
+outsideUpto cs i = any cornerOutside (take i cs)
 
-pub outside-turn : (cs : List Corner) (i : ℕ) → i < length cs → (outsideUpto cs i || isOutside (getD cs i nowhere)) ≡ outsideUpto cs (i + 1)
+pub outside-turn : (cs : List Corner) (i : ℕ) → i < length cs
+    → (outsideUpto cs i || cornerOutside (getD cs i nowhere)) ≡ outsideUpto cs (i + 1)
 outside-turn cs i l =
-    ap (λ (t : Bool). outsideUpto cs i || t) (sym (or-false (isOutside (getD cs i nowhere))))
-    ∙ sym (any-append isOutside (take i cs) (getD cs i nowhere ∷ []))
-    ∙ ap (any isOutside) (sym (take-suc cs i nowhere l) ∙ ap (λ (k : ℕ). take k cs) (sym (add-one i)))
+    ap (λ (t : Bool). outsideUpto cs i || t) (sym (or-false (cornerOutside (getD cs i nowhere))))
+    ∙ sym (any-append cornerOutside (take i cs) (getD cs i nowhere ∷ []))
+    ∙ ap (any cornerOutside) (sym (take-suc cs i nowhere l) ∙ ap (λ (k : ℕ). take k cs) (sym (add-one i)))

@@ -8,7 +8,7 @@ ghost use Rattle.lists.specs.Buffer.{front};
 ghost use Rattle.lists.specs.Places.{any};
 ghost use Rattle.corner_list.specs.CornerList.{slices, placesOf, cornersOf, frontCorners};
 ghost use Rattle.merge_radius.specs.MergeRadius.{isOff};
-ghost use Rattle.merge_refusal.specs.Refusals.{isOutside};
+ghost use Rattle.merge_refusal.specs.Refusals.{cornerOutside};
 ghost use Rattle.merge.specs.declared.Merged.the-variants.{Refused};
 ghost use Rattle.merge_slice.specs.MergeSlice.{MergesSlice};
 use corner_list::Corner;
@@ -33,7 +33,7 @@ fn shared_places(
 
 // Whether this corner or one before it is outside.
 fn either_outside(before: bool, c: Corner) -> bool
-    ensures { λ r. ⌜ r ≡ (before || isOutside c) ⌝ }
+    ensures { λ r. ⌜ r ≡ (before || cornerOutside c) ⌝ }
 {
     if before {
         return true;
@@ -43,7 +43,7 @@ fn either_outside(before: bool, c: Corner) -> bool
 
 // Whether one of the first `count` corners of a slice is outside; those past its end do not count.
 fn has_outside(corners: &[Corner], count: usize) -> bool
-    ensures { λ r. ⌜ r ≡ any isOutside (take count (now (corners .entry))) ⌝ }
+    ensures { λ r. ⌜ r ≡ any cornerOutside (take count (now (corners .entry))) ⌝ }
 {
     let mut outside = false;
     for i in 0..numbers::lesser(count, corners.len()) {

@@ -91,9 +91,9 @@ roiOf c s = unless Refused (refusalOf c s) (bounds (spanOn c (c .width) (s .x)) 
 abbrev pub numberOf : RoiAnswer → ℕ
 numberOf (Bounds x0 y0 x1 y1) = 0
 numberOf NoRoi = 0
-numberOf (Refused n) = n
+numberOf (Refused number) = number
 
 abbrev pub valuesOf : RoiAnswer → List ℕ
 valuesOf (Bounds x0 y0 x1 y1) = x0 ∷ y0 ∷ x1 ∷ y1 ∷ []
 valuesOf NoRoi = []
-valuesOf (Refused n) = []
+valuesOf (Refused number) = []

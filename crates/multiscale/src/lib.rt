@@ -128,9 +128,9 @@ impl RoiContext {
     pub fn compute_roi(self, c: Corner) -> RoiAnswer
         ensures { λ a. ⌜ Boxed self c a ⌝ }
     {
-        let n = self.refusal(c);
-        if n != 0 {
-            return RoiAnswer::Refused(n);
+        let number = self.refusal(c);
+        if number != 0 {
+            return RoiAnswer::Refused(number);
         }
         let Span::Ends(x0, x1) = self.span_on(self.width, c.x) else {
             return RoiAnswer::NoRoi;

@@ -32,7 +32,7 @@ use Rattle.detect.specs.Detect.{readIn, peaksBy, startAt}
 use Rattle.detect.specs.Exact.{fifthsAbove, exact}
 use Rattle.detect.proofs.Choice.{peak-above, peak-positive, peaks-are}
 use Rattle.center_of_mass.proofs.Peak.{peak-accepted}
-use Rattle.patch_corners.specs.declared.FrameParams.{FrameParams}
+use Rattle.frame_params.specs.declared.FrameParams.{FrameParams}
 use Rattle.patch_corners.specs.OneMap.{Choice, searchOn, computedChoice, exactChoice, IsChoice, localized, cornersIn}
 use Rattle.patch_corners.specs.MapCorners.{centred}
 use Rattle.patch_corners.proofs.Fine.{Fine, map-usual}

@@ -6,7 +6,7 @@ use Rattle.response.specs.Patch.{View, mapHeight, mapWidth, cells}
 use Rattle.accuracy.specs.Accurate.{Bytes}
 use Rattle.detect.specs.Detect.{peaksIn}
 use Rattle.agreement.proofs.Exactly.{found-exactly}
-use Rattle.patch_corners.specs.declared.FrameParams.{FrameParams}
+use Rattle.frame_params.specs.declared.FrameParams.{FrameParams}
 use Rattle.patch_corners.specs.OneMap.{IsChoice, choiceOf}
 use Rattle.patch_corners.specs.MapCorners.{searchWith}
 

@@ -14,7 +14,7 @@ use Rattle.response.specs.Patch.{View, cells}
 use Rattle.accuracy.specs.Accurate.{Bytes}
 use Rattle.accuracy.proofs.Cells.{map-small}
 use Rattle.center_of_mass.proofs.Weights.{Usual}
-use Rattle.patch_corners.specs.declared.FrameParams.{FrameParams}
+use Rattle.frame_params.specs.declared.FrameParams.{FrameParams}
 
 -- a map by the parameters' ring
 pub record Fine (p : FrameParams) (v : View) : Type 0 where

@@ -5,7 +5,7 @@ use mathlib.Core.List.{List, map}
 use Rattle.lists.specs.Places.{Place, sumOf}
 use Rattle.response.specs.Patch.{View, mapHeight, mapWidth, cells}
 use Rattle.detect.specs.Detect.{startAt, tiesAt}
-use Rattle.patch_corners.specs.declared.FrameParams.{FrameParams}
+use Rattle.frame_params.specs.declared.FrameParams.{FrameParams}
 use Rattle.patch_corners.specs.OneMap.{searchOn, choiceOf, cornersIn, tiesOn}
 use Rattle.patch_corners.specs.MapCorners.{centred, centresIn, tiesWith}
 use Rattle.patch_corners.proofs.Fine.{Fine}

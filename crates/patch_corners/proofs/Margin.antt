@@ -19,7 +19,7 @@ use Rattle.detect.proofs.Choice.{peaks-are}
 use Rattle.detect.proofs.Nearby.{map-alike, same-starts, same-ties}
 use Rattle.center_of_mass.specs.declared.Outcome.{Outcome}
 use Rattle.center_of_mass.proofs.Alike.{refined-alike}
-use Rattle.patch_corners.specs.declared.FrameParams.{FrameParams}
+use Rattle.frame_params.specs.declared.FrameParams.{FrameParams}
 use Rattle.patch_corners.specs.MapCorners.{centreOrSeed, centred, searchWith, centresIn, tiesWith}
 use Rattle.patch_corners.specs.Internal.{marginOf}
 

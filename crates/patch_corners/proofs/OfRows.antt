@@ -21,7 +21,7 @@ use Rattle.detect.specs.declared.Peaks.{Peaks}
 use Rattle.detect.specs.Peaks.{peakPlaces}
 use Rattle.detect.specs.Detect.{peakIn, peaksIn, startAt, startsIn, tiesAt, tiesIn, conditions, refusalOf, PeaksAdded}
 use Rattle.detect.proofs.Answers.{Clear, Sound, clear, sound, sound-clear, found-by}
-use Rattle.patch_corners.specs.declared.FrameParams.{FrameParams}
+use Rattle.frame_params.specs.declared.FrameParams.{FrameParams}
 use Rattle.patch_corners.specs.MapCorners.{centred, searchWith, peaksInRows, centresInRows, tiesInRows, RowCornersAdded, CornersAdded}
 use Rattle.patch_corners.specs.Internal.{lowered}
 use Rattle.patch_corners.proofs.PartOfRows.{down, part, part-size, peaks-there, starts-there, sum-there}

@@ -30,7 +30,7 @@ use Rattle.detect.specs.Detect.{readIn, peakIn, peaksIn, neighboursAt, startAt,
 use Rattle.detect.proofs.Window.{window-in}
 use Rattle.detect.proofs.Choice.{peaks-are}
 use Rattle.detect.proofs.Nearby.{any-alike}
-use Rattle.patch_corners.specs.declared.FrameParams.{FrameParams}
+use Rattle.frame_params.specs.declared.FrameParams.{FrameParams}
 use Rattle.patch_corners.specs.MapCorners.{searchWith}
 use Rattle.patch_corners.specs.Internal.{lowered}
 

@@ -24,7 +24,7 @@ use Rattle.detect.proofs.Nearby.{map-alike}
 use Rattle.center_of_mass.specs.declared.Outcome.{Outcome}
 use Rattle.center_of_mass.specs.CenterOfMass.{refined}
 use Rattle.center_of_mass.proofs.Alike.{refined-alike}
-use Rattle.patch_corners.specs.declared.FrameParams.{FrameParams}
+use Rattle.frame_params.specs.declared.FrameParams.{FrameParams}
 use Rattle.patch_corners.specs.MapCorners.{centreOrSeed, centred, searchWith, peaksInRows, centresInRows, tiesInRows}
 use Rattle.patch_corners.specs.Internal.{lowered}
 use Rattle.patch_corners.proofs.PartOfRows.{part, each-peak, whole-row}

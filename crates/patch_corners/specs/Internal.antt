@@ -6,7 +6,7 @@ use Rattle.corner_list.specs.CornerList.{Slices, cornerAt, placedCorners}
 use Rattle.corner_list.specs.declared.Corner.{Corner}
 use lib.Ieee.{binary32, add}
 use Rattle.float32.specs.Float32.{floatOf}
-use Rattle.patch_corners.specs.declared.FrameParams.{FrameParams}
+use Rattle.frame_params.specs.declared.FrameParams.{FrameParams}
 use Rattle.patch_corners.specs.OneMap.{atPlace}
 
 -- each of the n corners after the first `held` of a buffer, replaced by f of it: `centre_all`

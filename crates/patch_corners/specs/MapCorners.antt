@@ -11,12 +11,13 @@ use Rattle.corner_list.specs.CornerList.{Slices}
 use Rattle.corner_list.specs.declared.Corner.{Corner}
 use Rattle.detect.specs.declared.Search.{Search}
 use Rattle.detect.specs.declared.Peaks.{Peaks}
-use Rattle.detect.specs.Detect.{searchBy, peakIn, startAt, startsIn, tiesAt, tiesIn, conditions, PeaksAdded}
+use Rattle.detect.specs.Detect.{peakIn, startAt, startsIn, tiesAt, tiesIn, conditions, PeaksAdded}
 use Rattle.center_of_mass.specs.declared.Outcome.{Outcome}
 use Rattle.center_of_mass.specs.declared.Outcome.the-variants.{Accepted, Rejected, OutOfBounds, IllConditioned, Refused}
 use Rattle.center_of_mass.specs.CenterOfMass.{refined}
-use Rattle.patch_corners.specs.declared.FrameParams.{FrameParams}
+use Rattle.frame_params.specs.declared.FrameParams.{FrameParams}
 use Rattle.patch_corners.specs.OneMap.{atPlace}
+pub use Rattle.patch_corners.specs.OneMap.{searchWith}
 
 -- a corner, given the outcome around it: at its centre of mass if that is accepted; otherwise where it was, which is
 -- what the other outcomes return (RULES 5.3: the seed). So no peak of a given map is dropped
@@ -25,19 +26,14 @@ centreOrSeed (Accepted x y mass) c = atPlace x y c
 centreOrSeed (Rejected x y) c = c
 centreOrSeed (OutOfBounds x y) c = c
 centreOrSeed (IllConditioned x y) c = c
-centreOrSeed (Refused n) c = c
+centreOrSeed (Refused number) c = c
 
 -- in a map of w by h
 unfoldable pub centred : ℕ → List Float → ℕ → ℕ → Corner → Corner
 centred radius m w h c = centreOrSeed (refined radius (c .x) (c .y) true m w h) c
 
 -- ---- what is added, by computed or by exact values as the flag says (RULES 34.1)
--- what a map of w by h is searched with
-abbrev pub searchWith : FrameParams → Bool → ℕ → ℕ → Search
-searchWith p exact w h =
-    searchBy exact w h (p .ring) (p .threshold) (p .window) (p .«least_neighbours») (p .«centroid_radius»)
-
--- its peaks, each moved so
+-- the peaks of a map of w by h, each moved so
 abbrev pub centresIn : FrameParams → Bool → List Float → ℕ → ℕ → List Corner
 centresIn p exact m w h = map (centred (p .«centroid_radius») m w h) (startsIn m (searchWith p exact w h))
 

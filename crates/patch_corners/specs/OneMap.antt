@@ -12,12 +12,12 @@ use Rattle.response.specs.Patch.{View, mapWidth, mapHeight, cells}
 use Rattle.response.specs.Exact.{fifthsIn}
 use Rattle.corner_list.specs.declared.Corner.{Corner}
 use Rattle.detect.specs.declared.Search.{Search}
-use Rattle.detect.specs.Detect.{searchOf, peaksIn, startAt, tiesAt}
+use Rattle.detect.specs.Detect.{searchBy, peaksIn, startAt, tiesAt}
 use Rattle.detect.specs.Exact.{exactPeaks}
 use Rattle.center_of_mass.specs.declared.Outcome.{Outcome}
 use Rattle.center_of_mass.specs.declared.Outcome.the-variants.{Accepted, Rejected, OutOfBounds, IllConditioned, Refused}
 use Rattle.center_of_mass.specs.CenterOfMass.{refined}
-use Rattle.patch_corners.specs.declared.FrameParams.{FrameParams}
+use Rattle.frame_params.specs.declared.FrameParams.{FrameParams}
 
 -- the places of a map that are its peaks, in row order
 abbrev pub Choice : Type 0
@@ -34,19 +34,22 @@ centreOrNone (Accepted x y mass) c = atPlace x y c ∷ []
 centreOrNone (Rejected x y) c = []
 centreOrNone (OutOfBounds x y) c = []
 centreOrNone (IllConditioned x y) c = []
-centreOrNone (Refused n) c = []
+centreOrNone (Refused number) c = []
 
 -- a corner moved by a box's corner (RULES 9.3)
 abbrev pub moved : ℕ → ℕ → Corner → Corner
 moved x0 y0 c = atPlace (add binary32 (c .x) (floatOf x0)) (add binary32 (c .y) (floatOf y0)) c
 
+-- what a map of w by h is searched with (RULES 4.1), by computed or by exact values as the flag says (RULES 34.1)
+abbrev pub searchWith : FrameParams → Bool → ℕ → ℕ → Search
+searchWith p exact w h =
+    searchBy exact w h (p .ring) (p .threshold) (p .window) (p .«least_neighbours») (p .«centroid_radius»)
+
 -- ---- one map, with the parameters p
 module _ (p : FrameParams) where
-  -- what it is searched with (RULES 4.1)
+  -- what it is searched with, by computed values
   abbrev pub searchOn : View → Search
-  searchOn v =
-      searchOf (mapWidth v) (mapHeight v) (p .ring) (p .threshold) (p .window) (p .«least_neighbours»)
-      (p .«centroid_radius»)
+  searchOn v = searchWith p false (mapWidth v) (mapHeight v)
 
   -- the choice by computed values: what peak finding adds to its buffer (RULES 4.3)
   abbrev pub computedChoice : Choice

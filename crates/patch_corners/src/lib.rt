@@ -5,23 +5,9 @@ mod localizing; // corners put at their centres of mass
 ghost use Rattle.corner_list.specs.CornerList.{slices};
 ghost use Rattle.patch_corners.specs.MapCorners.{CornersAdded, RowCornersAdded};
 use detect::Peaks;
+use frame_params::FrameParams;
 use numbers::lesser;
 use numbers::minus;
-
-// The parameters of a frame (RULES 1.7): the ring's radius, the threshold of a peak, the radius of its window and the
-// least number of positive neighbours, the centroid's radius, the merge radius, the level count and the minimum size of
-// a level, and the search radius of a seed.
-pub struct FrameParams {
-    pub ring: u32,
-    pub threshold: f32,
-    pub window: u32,
-    pub least_neighbours: u32,
-    pub centroid_radius: u32,
-    pub merge_radius: f32,
-    pub levels: u32,
-    pub minimum_side: usize,
-    pub search_radius: u32,
-}
 
 // Adds the peaks in the rows a up to, not including, b of a map of w by h, by computed or by exact values, after the
 // first `held` of a buffer: each at its centre of mass if that is accepted, otherwise at the peak itself. The search
@@ -44,9 +30,9 @@ pub fn add_row_corners(
         (slices (now (xs .entry)) (now (ys .entry)) (now (strengths .entry)) (now (neighbours .entry)))
         r (slices (now (xs .exit)) (now (ys .exit)) (now (strengths .exit)) (now (neighbours .exit))) ⌝ }
 {
-    let no = detect::refusal(map.len(), w, h, p.ring, p.window, p.centroid_radius);
-    if no != 0 {
-        return Peaks::Refused(no);
+    let number = detect::refusal(map.len(), w, h, p.ring, p.window, p.centroid_radius);
+    if number != 0 {
+        return Peaks::Refused(number);
     }
     let border = p.ring as usize + p.window as usize + p.centroid_radius as usize;
     let end = lesser(lesser(b, h) + border, h);

@@ -13,7 +13,7 @@ use Rattle.lists.specs.Places.{All}
 use Rattle.lists.proofs.Tests.{and-parts}
 use Rattle.lists.proofs.Members.{all-map}
 use Rattle.pgm.specs.Header.{Character, isSpace, isDigit, inComment, bare, begins, leading, trailing, numberFrom, Field, fieldOf}
-use Rattle.pgm.specs.Header.{placeBehind}
+use Rattle.pgm.specs.Header.{behindFirst}
 use Rattle.pgm.specs.Header.{hasMagic, widthField, heightField, maxvalField, widthOf, heightOf, maxvalOf, hasSides, hasHeader}
 use Rattle.pgm.specs.Header.{rasterAt}
 use Rattle.pgm.specs.Pgm.{refusalOf, pixelsIn}
@@ -127,7 +127,7 @@ module _ (a t t′ : List ℕ) (header : hasHeader (a ++ t) ≡ true) (raster : 
   space = and-parts (maxvalField u .there) (begins isSpace (maxvalField u .rest)) (and-parts (hasSides u) _ header .1) .1
 
   -- characters from a place on, before a field and behind it
-  from-place : (k : ℕ) (cs : List Character) → All (far-off k) cs → begins isSpace cs ≡ true → k < placeBehind cs
+  from-place : (k : ℕ) (cs : List Character) → All (far-off k) cs → begins isSpace cs ≡ true → k < behindFirst cs
   from-place k [] h e = absurd (let z : _≡_ {A = ℕ} 0 1 = cc in let no : ⊥ = omega arith in no)
   from-place k (c ∷ cs) h e = omega (arith, h .0)
 

@@ -11,9 +11,9 @@ use Rattle.lists.proofs.Members.{all-map}
 use Rattle.pgm.specs.declared.header.Scanned.{Scanned}
 use Rattle.pgm.specs.declared.header.Digits.{Digits}
 use Rattle.pgm.specs.Header.{Character, inComment, bare, isSpace, isDigit, begins, leading, trailing, numberFrom, fieldOf}
-use Rattle.pgm.specs.Header.{placeBehind}
+use Rattle.pgm.specs.Header.{behindFirst}
 use Rattle.pgm.specs.Header.{widthField, heightField}
-use Rattle.pgm.specs.Internal.{capped, bareFrom, Reaches, Skipped, DigitsRead, FieldRead, FieldsRead}
+use Rattle.pgm.specs.Internal.{capped, bareFrom, Reaches, CommentsSkipped, DigitsRead, FieldRead, FieldsRead}
 
 module _ (upload : List ℕ) where
   -- ---- a field
@@ -34,7 +34,7 @@ module _ (upload : List ℕ) where
   field-from cs at r e = subst (λ (l : List Character). FieldRead upload (fieldOf l) r) e
 
   -- all three, one behind the other
-  pub fields-read : (start : ℕ) → Skipped upload 2 start → (width height maxval : Scanned)
+  pub fields-read : (start : ℕ) → CommentsSkipped upload 2 start → (width height maxval : Scanned)
       → FieldRead upload (fieldOf (bareFrom upload start)) width
       → FieldRead upload (fieldOf (bareFrom upload (width .end))) height → FieldRead upload (fieldOf (bareFrom upload (height .end))) maxval
       → FieldsRead upload width height maxval
@@ -78,6 +78,6 @@ bare-within inside at (c ∷ s) =
 
 -- the first of them
 pub first-within : (f : ℕ → Bool) (at end : ℕ) (cs : List Character) → begins f cs ≡ true → All (Within at end) cs
-    → (at < placeBehind cs) × (placeBehind cs ≤ end)
+    → (at < behindFirst cs) × (behindFirst cs ≤ end)
 first-within f at end [] e h = absurd (let z : _≡_ {A = ℕ} 0 1 = cc in let no : ⊥ = omega arith in no)
 first-within f at end (c ∷ cs) e h = (omega (arith, h .0 .0), omega (arith, h .0 .1))

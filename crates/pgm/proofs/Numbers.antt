@@ -10,7 +10,7 @@ use lib.ListN.{length, getD}
 use borrow.Author.Tests.{lt-ltb, le-ltb, ne-eqb}
 use Rattle.lists.specs.Limits.{largestSide}
 use Rattle.pgm.specs.Header.{Character, isDigit, leading, numberFrom}
-use Rattle.pgm.specs.Internal.{largestKept, capped, bareFrom, Plain, Skipped, DigitsRead}
+use Rattle.pgm.specs.Internal.{largestKept, capped, bareFrom, Plain, CommentsSkipped, DigitsRead}
 use Rattle.pgm.proofs.Scanning.{Passing, passing-none, passing-next, passing-stops, passing-ends, leading-past, leading-stops}
 use Rattle.pgm.proofs.Scanning.{leading-end}
 
@@ -61,7 +61,7 @@ module _ (upload : List ℕ) where
 
     module _ (some : at < length upload) (pass : Bool) (is : pass ≡ isDigit (getD upload at 0)) where
       pub reading-next : pass ≡ true → (number′ : ℕ) → number′ ≡ capped (10 * number + (getD upload at 0 - 48))
-          → (next : ℕ) → Skipped upload (at + 1) next → Reading from number′ next
+          → (next : ℕ) → CommentsSkipped upload (at + 1) next → Reading from number′ next
       reading-next e number′ n next skipped =
           record {
             passing = passing-next upload isDigit from at (r .passing) some pass is e next skipped;

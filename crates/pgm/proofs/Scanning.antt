@@ -11,8 +11,8 @@ use lib.ListN.{length, getD, drop, drop-of-length-le}
 use lib.Seq.{drop-cons}
 use borrow.Author.Tests.{eqb-false, ne-eqb}
 use Rattle.lists.proofs.Tests.{or-neither}
-use Rattle.pgm.specs.Header.{Character, inComment, bare, begins, leading, trailing, placeBehind}
-use Rattle.pgm.specs.Internal.{bareFrom, Plain, Reaches, Skipped}
+use Rattle.pgm.specs.Header.{Character, inComment, bare, begins, leading, trailing, behindFirst}
+use Rattle.pgm.specs.Internal.{bareFrom, Plain, Reaches, CommentsSkipped}
 
 module _ (upload : List ℕ) where
   abbrev codeAt : ℕ → ℕ
@@ -48,7 +48,7 @@ module _ (upload : List ℕ) where
       skipping-next some e inside′ goes =
           record { further = omega (arith, s .further); same = rw goes (sym (bare-ignored at some inside (sym is ∙ e)) ∙ s .same) }
 
-      pub skipping-stops : ignored ≡ false → Skipped upload from at
+      pub skipping-stops : ignored ≡ false → CommentsSkipped upload from at
       skipping-stops e =
           let neither = or-neither inside (eqb (codeAt at) 35) (sym is ∙ e) in
           record {
@@ -59,7 +59,7 @@ module _ (upload : List ℕ) where
             };
           }
 
-    pub skipping-ends : length upload ≤ at → Skipped upload from at
+    pub skipping-ends : length upload ≤ at → CommentsSkipped upload from at
     skipping-ends l =
         record {
           further = s .further;
@@ -109,7 +109,7 @@ module _ (upload : List ℕ) where
 
     module _ (from at : ℕ) (p : Passing from at) where
       pub passing-next : (some : at < length upload) (pass : Bool) → pass ≡ f (codeAt at) → pass ≡ true
-          → (next : ℕ) → Skipped upload (at + 1) next → Passing from next
+          → (next : ℕ) → CommentsSkipped upload (at + 1) next → Passing from next
       passing-next some pass is e next r =
           record {
             same = ap (trailing f) (r .reaches .same) ∙ sym (trailing-past at some (p .plain) pass is e) ∙ p .same;
@@ -125,10 +125,10 @@ module _ (upload : List ℕ) where
 
     -- the first of some characters stands where they begin
     pub first-at : (cs : List Character) (at : ℕ) → Reaches upload cs at → begins f cs ≡ true
-        → (placeBehind cs ≡ at + 1) × (at < length upload)
+        → (behindFirst cs ≡ at + 1) × (at < length upload)
     first-at cs at r e =
         elim (decLt at (length upload)) [
-          | yes l ↦ (ap placeBehind (sym (r .same) ∙ bare-first at l (r .plain)) ∙ sym (add-one at), l)
+          | yes l ↦ (ap behindFirst (sym (r .same) ∙ bare-first at l (r .plain)) ∙ sym (add-one at), l)
           | no g ↦
               let none : begins f cs ≡ false = ap (begins f) (sym (r .same)) ∙ begins-end at (omega arith) in
               absurd (let z : _≡_ {A = ℕ} 0 1 = cc in let no : ⊥ = omega arith in no)

@@ -109,9 +109,9 @@ module _ (upload : List ℕ) where
   hasHeader = hasSides && (maxvalField .there && begins isSpace (maxvalField .rest))
 
 -- "A raster": after the whitespace character with which these begin
-abbrev pub placeBehind : List Character → ℕ
-placeBehind [] = 0
-placeBehind (c ∷ cs) = suc (c .place)
+abbrev pub behindFirst : List Character → ℕ
+behindFirst [] = 0
+behindFirst (c ∷ cs) = suc (c .place)
 
 abbrev pub rasterAt : List ℕ → ℕ
-rasterAt upload = placeBehind (maxvalField upload .rest)
+rasterAt upload = behindFirst (maxvalField upload .rest)

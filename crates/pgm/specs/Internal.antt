@@ -38,7 +38,7 @@ pub record Reaches (upload : List ℕ) (cs : List Character) (at : ℕ) : Type 0
   pub plain : Plain upload at
 
 -- past the comments that begin at `from`
-pub record Skipped (upload : List ℕ) (from at : ℕ) : Type 0 where
+pub record CommentsSkipped (upload : List ℕ) (from at : ℕ) : Type 0 where
   pub further : from ≤ at
   pub reaches : Reaches upload (bareFrom upload from) at
 

@@ -36,11 +36,11 @@ pixelsIn upload =
 -- an answer's number, and its values: where the pixels are, and both sides
 abbrev pub numberOf : PgmImage → ℕ
 numberOf (Pixels at w h) = 0
-numberOf (Refused n) = n
+numberOf (Refused number) = number
 
 abbrev pub valuesOf : PgmImage → List ℕ
 valuesOf (Pixels at w h) = at ∷ w ∷ h ∷ []
-valuesOf (Refused n) = []
+valuesOf (Refused number) = []
 
 pub record PgmRead (upload : List ℕ) (r : PgmImage) : Type 0 where
   pub answer : r ≡ unless Refused (refusalOf upload) (Pixels (rasterAt upload) (widthOf upload) (heightOf upload))

@@ -5,7 +5,7 @@ ghost use mathlib.Core.Bool.{_&&_, _||_};
 ghost use Prim.Native.Nat.{_+_, _-_, _*_, _≤_};
 ghost use lib.Dec.{eqb};
 ghost use Rattle.pgm.specs.Header.{isSpace, isDigit, inComment, begins, trailing, fieldOf};
-ghost use Rattle.pgm.specs.Internal.{largestKept, capped, bareFrom, Plain, Reaches, Skipped, DigitsRead};
+ghost use Rattle.pgm.specs.Internal.{largestKept, capped, bareFrom, Plain, Reaches, CommentsSkipped, DigitsRead};
 ghost use Rattle.pgm.specs.Internal.{FieldRead};
 
 // The number that some digits give, up to 65,536, and the place after them.
@@ -74,7 +74,7 @@ fn goes_on(inside: bool, c: u8) -> bool
 
 // The place after the comments that begin at a place.
 pub(crate) fn skip_comments(upload: &[u8], from: usize) -> usize
-    ensures { λ at. ⌜ Skipped (now (upload .entry)) from at ⌝ }
+    ensures { λ at. ⌜ CommentsSkipped (now (upload .entry)) from at ⌝ }
 {
     let mut at = from;
     let mut inside = false;

@@ -5,7 +5,7 @@ use mathlib.Core.Path.{_≡_}
 use mathlib.Core.List.{List, [], _∷_}
 use lib.ListN.{length}
 use Rattle.lists.specs.Refusals.{valuesUnless, unless, resultOr}
-use Rattle.patch_corners.specs.declared.FrameParams.{FrameParams}
+use Rattle.frame_params.specs.declared.FrameParams.{FrameParams}
 use Rattle.patch_corners.specs.OneMap.{Choice}
 use Rattle.frame_pass.specs.Pass.{Pass, framePass}
 use Rattle.frame.specs.declared.FrameAnswer.{FrameAnswer}

@@ -5,7 +5,7 @@ ghost use Rattle.frame.specs.Frame.{buffers};
 ghost use Rattle.pgm_frame.specs.PgmFrame.{PhotographFound};
 use frame::FrameAnswer;
 use frame::find_corners_by;
-use patch_corners::FrameParams;
+use frame_params::FrameParams;
 use pgm::PgmImage;
 
 // Finds the corners of a binary PGM photograph, as `find_corners_by` does for its pixels.
@@ -35,7 +35,7 @@ pub fn find_pgm_corners_by(
 {
     let image = pgm::read_pgm(upload);
     match image {
-        PgmImage::Refused(n) => FrameAnswer::Refused(n),
+        PgmImage::Refused(number) => FrameAnswer::Refused(number),
         PgmImage::Pixels { at: _, w, h } => {
             let pixels = pgm::pgm_pixels(upload);
             find_corners_by(

@@ -13,7 +13,7 @@ use Rattle.lists.specs.Places.{flatMap}
 use Rattle.lists.proofs.Tests.{and-parts}
 use Rattle.corner_list.specs.declared.Corner.{Corner}
 use Rattle.merge_grid.specs.declared.Grid.{Grid}
-use Rattle.merge_grid.specs.Grid.{positionOf, columnOf, rowOf, adjacent, neighbours}
+use Rattle.merge_grid.specs.Grid.{positionOf, columnOf, rowOf, withinOne, adjacentCells}
 use Rattle.published.specs.MergeRs.{GridRs, widthRs, heightRs, columnRs, rowRs, indexRs, outAt, aroundRs, scannedRs}
 use Rattle.published.proofs.Indices.{In, range-in, in-range}
 use Rattle.published.proofs.Grid.{Holds}
@@ -33,38 +33,38 @@ same-cell w x y u v p q e =
     let rows : y * w ≡ v * w = ap (λ (n : ℕ). n * w) row in
     (omega arith, row)
 
-near-by : (a b side : ℕ) → b < side → adjacent a b ≡ true → (a - 1 ≤ b) × (b < min (a + 1) (side - 1) + 1)
+near-by : (a b side : ℕ) → b < side → withinOne a b ≡ true → (a - 1 ≤ b) × (b < min (a + 1) (side - 1) + 1)
 near-by a b side l e =
     let p = and-parts (leb a (b + 1)) (leb b (a + 1)) e in
     (omega (arith, leb-true a (b + 1) (p .0)), omega (arith, leb-true b (a + 1) (p .1)))
 
-by-near : (a b side : ℕ) → a - 1 ≤ b → b < min (a + 1) (side - 1) + 1 → adjacent a b ≡ true
+by-near : (a b side : ℕ) → a - 1 ≤ b → b < min (a + 1) (side - 1) + 1 → withinOne a b ≡ true
 by-near a b side p q = rw (le-leb a (b + 1) (omega arith), le-leb b (a + 1) (omega arith))
 
 module _ (g : GridRs) (G : Grid) (out : List Corner) (grid : ℕ → List ℕ) (h : Holds (indexRs g) (Placed g G) out grid)
     (c : Corner) (at : Placed g G c) where
-  neighbours-are : (o : Corner) → Placed g G o
-      → neighbours G (positionOf c) (positionOf o) ≡ (adjacent (columnRs g c) (columnRs g o) && adjacent (rowRs g c) (rowRs g o))
-  unfolding neighbours
-  neighbours-are o p = rw (at .0, at .1, p .0, p .1)
+  adjacent-are : (o : Corner) → Placed g G o
+      → adjacentCells G (positionOf c) (positionOf o) ≡ (withinOne (columnRs g c) (columnRs g o) && withinOne (rowRs g c) (rowRs g o))
+  unfolding adjacentCells
+  adjacent-are o p = rw (at .0, at .1, p .0, p .1)
 
   -- what is scanned of one row of cells
   abbrev line : ℕ → List ℕ
   line ny = flatMap (λ nx. grid (ny * widthRs g + nx)) (aroundRs (columnRs g c) (widthRs g))
 
-  pub near-scanned : (i : ℕ) → i < length out → neighbours G (positionOf c) (positionOf (outAt out i)) ≡ true → In i (scannedRs g grid c)
+  pub near-scanned : (i : ℕ) → i < length out → adjacentCells G (positionOf c) (positionOf (outAt out i)) ≡ true → In i (scannedRs g grid c)
   unfolding scannedRs
   near-scanned i l e =
       let o = outAt out i in
-      let p = and-parts (adjacent (columnRs g c) (columnRs g o)) (adjacent (rowRs g c) (rowRs g o))
-      (sym (neighbours-are o (h .good i l)) ∙ e) in
+      let p = and-parts (withinOne (columnRs g c) (columnRs g o)) (withinOne (rowRs g c) (rowRs g o))
+      (sym (adjacent-are o (h .good i l)) ∙ e) in
       let x = near-by (columnRs g c) (columnRs g o) (widthRs g) (omega arith) (p .0) in
       let y = near-by (rowRs g c) (rowRs g o) (heightRs g) (omega arith) (p .1) in
       range-in i line (rowRs g c - 1) _ (rowRs g o) (y .0) (y .1)
       (range-in i (λ nx. grid (rowRs g o * widthRs g + nx)) (columnRs g c - 1) _ (columnRs g o) (x .0) (x .1) (h .listed i l))
 
   pub scanned-near : (i : ℕ) → In i (scannedRs g grid c)
-      → (i < length out) × (neighbours G (positionOf c) (positionOf (outAt out i)) ≡ true)
+      → (i < length out) × (adjacentCells G (positionOf c) (positionOf (outAt out i)) ≡ true)
   unfolding scannedRs
   scanned-near i k =
       let row = in-range i line (rowRs g c - 1) (min (rowRs g c + 1) (heightRs g - 1) + 1) k in
@@ -74,7 +74,8 @@ module _ (g : GridRs) (G : Grid) (out : List Corner) (grid : ℕ → List ℕ) (
       let o = outAt out i in
       let cell = same-cell (widthRs g) (columnRs g o) (rowRs g o) (column .k) (row .k) (omega arith)
       (omega (arith, column .below)) (is .1) in
-      let x : adjacent (columnRs g c) (columnRs g o) ≡ true = rw (cell .0)
+      let x : withinOne (columnRs g c) (columnRs g o) ≡ true = rw (cell .0)
       (by-near (columnRs g c) (column .k) (widthRs g) (column .from) (column .below)) in
-      let y : adjacent (rowRs g c) (rowRs g o) ≡ true = rw (cell .1) (by-near (rowRs g c) (row .k) (heightRs g) (row .from) (row .below)) in
-      (is .0, neighbours-are o (h .good i (is .0)) ∙ rw (x, y))
+      let y : withinOne (rowRs g c) (rowRs g o) ≡ true = rw (cell .1)
+      (by-near (rowRs g c) (row .k) (heightRs g) (row .from) (row .below)) in
+      (is .0, adjacent-are o (h .good i (is .0)) ∙ rw (x, y))

@@ -16,7 +16,7 @@ use Rattle.lists.specs.Places.{All}
 use Rattle.lists.proofs.Tests.{and-parts}
 use Rattle.corner_list.specs.declared.Corner.{Corner}
 use Rattle.merge_grid.specs.declared.Grid.{Grid}
-use Rattle.merge_grid.specs.Grid.{positionOf, near, neighbours, joins}
+use Rattle.merge_grid.specs.Grid.{positionOf, near, adjacentCells, joins}
 use Rattle.merge_settle.specs.Settle.{stronger, settle, merged}
 use Rattle.merge_settle.proofs.Settle.{settle-none, settle-some, settle-one}
 use Rattle.published.specs.MergeRs.{GridRs, StateRs, widthRs, indexRs, columnRs, rowRs, nowhere, outAt}
@@ -48,7 +48,7 @@ module _ (g : GridRs) (G : Grid) (square : g .r2 ≡ G .square) where
     before : (i : ℕ) → i < length (s .out) → joins G c (outAt (s .out) i) ≡ true → hit ≤ i
     before i l e =
         let p = and-parts (near (G .square) (positionOf c) (positionOf (outAt (s .out) i)))
-        (neighbours G (positionOf c) (positionOf (outAt (s .out) i))) e in
+        (adjacentCells G (positionOf c) (positionOf (outAt (s .out) i))) e in
         best .before i (near-scanned g G (s .out) (s .grid) h c at i l (p .1)) (close-is c (outAt (s .out) i) ∙ p .0)
 
     -- and a hit is one that it joins

@@ -13,7 +13,7 @@ use Rattle.pyramid_levels.proofs.Sides.{side-base, side-next}
 use Rattle.pyramid_levels.proofs.Cells.{cells-next, cells-step, cells-mono}
 use Rattle.pyramid.specs.Pyramid.{halved, levelPixels, above}
 use Rattle.pyramid.specs.Build.{Built}
-use Rattle.pyramid.specs.Internal.{holderOf, Halving, LevelHalved, Filled}
+use Rattle.pyramid.specs.Internal.{holderOf, Halving, LevelHalved, LevelsFilled}
 use Rattle.pyramid.specs.declared.Pyramid.the-variants.{Levels, Refused}
 use Rattle.pyramid.proofs.Lengths.{above-last, length-above}
 use Rattle.pyramid.proofs.Above.{level-inside, part-is, level-built}
@@ -36,7 +36,7 @@ reach-base base d w h n =
     record { long = refl; last = omega arith; cols = side-base w; rows = side-base h; begins = refl; ends = refl; holds = refl }
 
 pub reach-all : (base d : List ℕ) (w h n k a b from to : ℕ) (s : List ℕ) → Reached base d w h n k a b from to s → n ≤ k + 1
-    → Filled base w h n d s
+    → LevelsFilled base w h n d s
 reach-all base d w h n k a b from to s r l = record { is = r .holds ∙ ap (λ (v : List ℕ). front v d) (above-last base w h n k l (r .last)) }
 
 module _ (base d : List ℕ) (w h n k a b from to : ℕ) (s : List ℕ) (sized : length base ≡ w * h) (fits : cellsAbove w h n ≤ length d)
@@ -92,6 +92,6 @@ module _ (base : List ℕ) (w h count minimumSide : ℕ) (d : List ℕ) where
   built-refused (suc n) e z = record { answer = rw e; number = sym e; values = rw e; buffer = rw e }
 
   pub built-filled : (n : ℕ) (s : List ℕ) → buildRefusalOf (ask (length base) (length d) w h count minimumSide) ≡ 0
-      → n ≡ levelCount w h count minimumSide → Filled base w h n d s
+      → n ≡ levelCount w h count minimumSide → LevelsFilled base w h n d s
       → Built base w h count minimumSide d (Levels n) s
   built-filled n s e q f = record { answer = rw (e, q); number = sym e; values = rw (e, q); buffer = f .is ∙ rw (e, q) }

@@ -14,7 +14,7 @@ use Rattle.lists.specs.Buffer.{placed}
 use Rattle.lists.proofs.Tab.{length-tab, tab-ext, tab-add, length-grid, grid-ext}
 use Rattle.lists.proofs.Buffer.{placed-none, placed-more, placed-before, put-placed}
 use Rattle.pyramid.specs.Pyramid.{boxOf, halfPixel, halved}
-use Rattle.pyramid.specs.Internal.{holderOf, Halving, Summed, RowHalved, LevelHalved}
+use Rattle.pyramid.specs.Internal.{holderOf, Halving, ColumnsSummed, RowHalved, LevelHalved}
 
 pub holder-buffer : (base levels : List ℕ) (k : ℕ) → (k ≡ 0 → ⊥) → levels ≡ holderOf base levels k
 holder-buffer base levels zero z = absurd (z refl)
@@ -83,7 +83,7 @@ module _ (base d : List ℕ) (k from w to : ℕ) (ok : Halving base d k from w 2
 
   -- by the column sums
   block-pixel : (x m : ℕ) (vs sums : List ℕ) → x + m ≤ w / 2
-      → Summed (holderOf base (placed to vs d) k) (from + 2 * x) (from + 2 * x + w) (2 * m) sums
+      → ColumnsSummed (holderOf base (placed to vs d) k) (from + 2 * x) (from + 2 * x + w) (2 * m) sums
       → (i : ℕ) → i < m → (getD sums (2 * i) 0 + getD sums (2 * i + 1) 0 + 2) / 4 ≡ rowOf (x + i)
   block-pixel x m vs sums p q i l = ap (λ (n : ℕ). n / 4) four ∙ sym (half-at (holderOf base d k) from w (x + i))
     where
@@ -108,13 +108,13 @@ module _ (base d : List ℕ) (k from w to : ℕ) (ok : Halving base d k from w 2
   block-inside s x m e p = omega (arith, ok .inside, holder-length base d s k e)
 
   block-tab : (x m n : ℕ) (s sums : List ℕ) → RowHalved base d k from w to x s → x + m ≤ w / 2
-      → Summed (holderOf base s k) (from + 2 * x) (from + 2 * x + w) (2 * m) sums → n ≡ m
+      → ColumnsSummed (holderOf base s k) (from + 2 * x) (from + 2 * x + w) (2 * m) sums → n ≡ m
       → tab n (λ i. (getD sums (2 * i) 0 + getD sums (2 * i + 1) 0 + 2) / 4) ≡ tab m (λ i. rowOf (x + i))
   block-tab x m n s sums e p q r = rw r (tab-ext m _ _ (block-pixel x m (tab x rowOf) sums p (rw (e .is) at q)))
 
   -- the block behind the columns before it
   pub row-put : (x m n : ℕ) (s sums ys : List ℕ) → RowHalved base d k from w to x s → x + m ≤ w / 2
-      → Summed (holderOf base s k) (from + 2 * x) (from + 2 * x + w) (2 * m) sums
+      → ColumnsSummed (holderOf base s k) (from + 2 * x) (from + 2 * x + w) (2 * m) sums
       → ys ≡ tab n (λ i. (getD sums (2 * i) 0 + getD sums (2 * i + 1) 0 + 2) / 4) → n ≡ m
       → RowHalved base d k from w to (x + m) (putMid (to + x) (to + x + m - (to + x)) s ys)
   row-put x m n s sums ys e p q t r =

@@ -14,11 +14,11 @@ use Rattle.pyramid.specs.declared.Pyramid.the-variants.{Levels, Refused}
 -- the number and the values of each case (RULES 6.4): 0 for no refusal, and how many levels there are
 abbrev pub numberOf : Pyramid → ℕ
 numberOf (Levels n) = 0
-numberOf (Refused k) = k
+numberOf (Refused number) = number
 
 abbrev pub valuesOf : Pyramid → List ℕ
 valuesOf (Levels n) = n ∷ []
-valuesOf (Refused k) = []
+valuesOf (Refused number) = []
 
 -- the promise of `build_pyramid`: r is the answer, and the level buffer d becomes e: the levels above the base at the
 -- start and the rest unchanged, or all of it unchanged if refused

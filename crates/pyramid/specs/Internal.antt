@@ -28,7 +28,7 @@ abbrev pub columnsAtOnce : ℕ
 columnsAtOnce = 128
 
 -- the sums of n columns of two rows, which begin at `top` and at `low`, at the start of the list for them
-pub record Summed (pixels : List ℕ) (top low n : ℕ) (sums : List ℕ) : Type 0 where
+pub record ColumnsSummed (pixels : List ℕ) (top low n : ℕ) (sums : List ℕ) : Type 0 where
   pub long : length sums ≡ columnsAtOnce
   pub each : (i : ℕ) → i < n → getD sums i 0 ≡ getD pixels (top + i) 0 + getD pixels (low + i) 0
   pub small : (i : ℕ) → i < n → getD sums i 0 ≤ 510
@@ -42,7 +42,7 @@ pub record LevelHalved (base levels : List ℕ) (k from w to n : ℕ) (levels′
   pub is : levels′ ≡ placed to (grid (w / 2) n (halfPixel (drop from (holderOf base levels k)) w)) levels
 
 -- levels 1 .. n - 1 of the pyramid over a base of w by h, at the start of the buffer
-pub record Filled (base : List ℕ) (w h n : ℕ) (levels levels′ : List ℕ) : Type 0 where
+pub record LevelsFilled (base : List ℕ) (w h n : ℕ) (levels levels′ : List ℕ) : Type 0 where
   pub is : levels′ ≡ front (above base w h n) levels
 
 -- ---- for callers

@@ -5,8 +5,8 @@ ghost use Prim.Native.Nat.{ℕ, _+_, _*_, _/_, _<_, _≤_};
 ghost use lib.ListN.{length, getD};
 ghost use Rattle.lists.specs.Tab.{tab};
 ghost use Rattle.pyramid_levels.specs.Levels.{cellsAbove};
-ghost use Rattle.pyramid.specs.Internal.{columnsAtOnce, holderOf, Halving, Summed, RowHalved, LevelHalved};
-ghost use Rattle.pyramid.specs.Internal.{Filled};
+ghost use Rattle.pyramid.specs.Internal.{columnsAtOnce, holderOf, Halving, ColumnsSummed, RowHalved, LevelHalved};
+ghost use Rattle.pyramid.specs.Internal.{LevelsFilled};
 
 // How many columns of two rows are added up at a time, and how many pixels of half size they give.
 const COLUMNS: usize = 128;
@@ -27,7 +27,7 @@ fn holder<'a>(base: &'a [u8], levels: &'a [u8], k: usize) -> &'a [u8]
 fn column_sums(pixels: &[u8], top: usize, low: usize, n: usize, sums: &mut [u16; COLUMNS])
     requires { ⌜ (n ≤ columnsAtOnce) × (top + n ≤ length (now pixels)) × (low + n ≤ length (now pixels))
         × (length (now sums) ≡ columnsAtOnce) ⌝ }
-    ensures { λ _. ⌜ Summed (now (pixels .entry)) top low n (now (sums .exit)) ⌝ }
+    ensures { λ _. ⌜ ColumnsSummed (now (pixels .entry)) top low n (now (sums .exit)) ⌝ }
 {
     let mut i = 0usize;
     while i < n {
@@ -96,7 +96,7 @@ fn halve(base: &[u8], k: usize, from: usize, w: usize, h: usize, levels: &mut [u
 // Levels 1 .. n - 1, one after the other, at the start of the level buffer.
 pub(crate) fn fill_levels(base: &[u8], width: usize, height: usize, n: usize, levels: &mut [u8])
     requires { ⌜ (length (now base) ≡ width * height) × (cellsAbove width height n ≤ length (now levels)) ⌝ }
-    ensures { λ _. ⌜ Filled (now (base .entry)) width height n (now (levels .entry)) (now (levels .exit)) ⌝ }
+    ensures { λ _. ⌜ LevelsFilled (now (base .entry)) width height n (now (levels .entry)) (now (levels .exit)) ⌝ }
 {
     let mut w = width;
     let mut h = height;

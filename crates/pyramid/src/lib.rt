@@ -29,7 +29,7 @@ pub fn build_pyramid(
     ensures { λ r. ⌜ Built (now (base .entry)) width height «num_levels» «min_size» (now (levels .entry)) r
         (now (levels .exit)) ⌝ }
 {
-    let no = build_refusal(
+    let number = build_refusal(
         base.len(),
         levels.len(),
         width,
@@ -37,8 +37,8 @@ pub fn build_pyramid(
         num_levels,
         min_size,
     );
-    if no != 0 {
-        return Pyramid::Refused(no);
+    if number != 0 {
+        return Pyramid::Refused(number);
     }
     let n = level_count(width, height, num_levels, min_size);
     halve::fill_levels(base, width, height, n, levels);
@@ -58,7 +58,7 @@ pub fn level<'a>(
     ensures { λ r. ⌜ now r ≡ levelIn (now (base .entry))
         (now (levels .entry)) width height «num_levels» «min_size» k ⌝ }
 {
-    let no = level_refusal(
+    let number = level_refusal(
         base.len(),
         levels.len(),
         width,
@@ -67,7 +67,7 @@ pub fn level<'a>(
         min_size,
         k,
     );
-    if no != 0 {
+    if number != 0 {
         return &base[..0];
     }
     if k == 0 {

@@ -9,7 +9,7 @@ use Rattle.lists.specs.Internal.{Sized}
 use Rattle.lists.proofs.Refusals.{lowest-none, sized-none}
 use Rattle.image_size.proofs.Judged.{passed}
 use Rattle.pyramid_levels.specs.Levels.{cellsAbove, capped}
-use Rattle.pyramid_levels.specs.Refusals.{Ask, levelsOf, isAbsent, isShort, buildRefusalOf, levelRefusalOf}
+use Rattle.pyramid_levels.specs.Refusals.{Ask, levelsOf, isAbsent, isLevelBufferShort, buildRefusalOf, levelRefusalOf}
 use Rattle.pyramid_levels.specs.Internal.{LevelsAccepted}
 use Rattle.pyramid_levels.proofs.Sides.{count-few}
 use Rattle.pyramid_levels.proofs.Cells.{cells-exact}
@@ -36,8 +36,8 @@ module _ (a : Ask) where
   pub accepted : buildRefusalOf a ≡ 0 → LevelsAccepted a
   unfolding buildRefusalOf
   accepted e =
-      let q = sized-none (a .pixels) (a .w) (a .h) ((isShort a, 9) ∷ []) e in
-      record { image = q .0; fits = ltb-false _ _ (lowest-none (isShort a) 9 [] (omega arith) (q .1) .0) }
+      let q = sized-none (a .pixels) (a .w) (a .h) ((isLevelBufferShort a, 9) ∷ []) e in
+      record { image = q .0; fits = ltb-false _ _ (lowest-none (isLevelBufferShort a) 9 [] (omega arith) (q .1) .0) }
 
   -- ---- level k
   module _ (k : ℕ) where
@@ -58,9 +58,11 @@ module _ (a : Ask) where
         → LevelsAccepted a × (k < levelsOf a)
     unfolding levelRefusalOf
     level-accepted e =
-        let q = sized-none (a .pixels) (a .w) (a .h) ((isAbsent a k, 3) ∷ (isShort a, 9) ∷ []) e in
-        let r = lowest-none (isAbsent a k) 3 ((isShort a, 9) ∷ []) (omega arith) (q .1) in
-        (record { image = q .0; fits = ltb-false _ _ (lowest-none (isShort a) 9 [] (omega arith) (r .1) .0) }, leb-false _ _ (r .0))
+        let q = sized-none (a .pixels) (a .w) (a .h) ((isAbsent a k, 3) ∷ (isLevelBufferShort a, 9) ∷ []) e in
+        let r = lowest-none (isAbsent a k) 3 ((isLevelBufferShort a, 9) ∷ []) (omega arith) (q .1) in (
+          record { image = q .0; fits = ltb-false _ _ (lowest-none (isLevelBufferShort a) 9 [] (omega arith) (r .1) .0) },
+          leb-false _ _ (r .0),
+        )
 
     -- there are at most so many levels
     pub level-few : levelRefusalOf a k ≡ 0 → k < mostLevels

@@ -79,7 +79,7 @@ count-some w h (suc n) minimumSide z e = let p : suc n - 1 ≡ n = omega arith i
 -- ---- a level that is built
 
 -- no side is below the minimum size, and none of a level above the base is 0
-pub record Standing (w h minimumSide k : ℕ) : Type 0 where
+pub record LargeEnough (w h minimumSide k : ℕ) : Type 0 where
   pub cols : minimumSide ≤ levelSide w k
   pub rows : minimumSide ≤ levelSide h k
   pub some-cols : (k ≡ 0 → ⊥) → 0 < levelSide w k
@@ -109,12 +109,13 @@ below-none : (w h minimumSide : ℕ) → isBelow w h minimumSide ≡ false → (
 below-none w h minimumSide e = let p = or-neither (ltb w minimumSide) (ltb h minimumSide) e in
     (ltb-false w minimumSide (p .0), ltb-false h minimumSide (p .1))
 
-pub built-level : (w h count minimumSide k : ℕ) → k < levelCount w h count minimumSide → Standing w h minimumSide k
+pub built-level : (w h count minimumSide k : ℕ) → k < levelCount w h count minimumSide → LargeEnough w h minimumSide k
 unfolding levelCount
 built-level w h zero minimumSide k l = absurd (let none : ⊥ = omega arith in none)
 built-level w h (suc n) minimumSide k l = go (isBelow w h minimumSide) refl k l
   where
-    go : (t : Bool) → isBelow w h minimumSide ≡ t → (k : ℕ) → k < cond t 0 (suc (halvings n w h minimumSide)) → Standing w h minimumSide k
+    go : (t : Bool) → isBelow w h minimumSide ≡ t → (k : ℕ) → k < cond t 0 (suc (halvings n w h minimumSide))
+        → LargeEnough w h minimumSide k
     go true e k l = absurd (let none : ⊥ = omega arith in none)
     go false e zero l =
         let p = below-none w h minimumSide e in

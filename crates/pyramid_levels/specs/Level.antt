@@ -11,11 +11,11 @@ use Rattle.pyramid_levels.specs.declared.LevelAnswer.the-variants.{Level
 -- the number and the values of each case (RULES 6.5): 0 for no refusal, and where the level begins with its sides
 abbrev pub numberOf : LevelAnswer → ℕ
 numberOf (Level from w h) = 0
-numberOf (Refused n) = n
+numberOf (Refused number) = number
 
 abbrev pub valuesOf : LevelAnswer → List ℕ
 valuesOf (Level from w h) = from ∷ w ∷ h ∷ []
-valuesOf (Refused n) = []
+valuesOf (Refused number) = []
 
 -- the answer for level k: where it begins, in the base or in the level buffer, and its sides
 unfoldable pub levelAnswer : Ask → ℕ → LevelAnswer

@@ -30,15 +30,16 @@ abbrev pub isAbsent : Ask → ℕ → Bool
 isAbsent a k = leb (levelsOf a) k
 
 -- 9: the level buffer is shorter than the pixels of the levels above the base
-abbrev pub isShort : Ask → Bool
-isShort a = ltb (a .places) (cellsAbove (a .w) (a .h) (levelsOf a))
+abbrev pub isLevelBufferShort : Ask → Bool
+isLevelBufferShort a = ltb (a .places) (cellsAbove (a .w) (a .h) (levelsOf a))
 
 -- the lowest number that refuses to build, 0 for none
 unfoldable pub buildRefusalOf : Ask → ℕ
-buildRefusalOf a = lowest ((isLarge (a .w) (a .h), 1) ∷ (isMisfit (a .pixels) (a .w) (a .h), 2) ∷ (isShort a, 9) ∷ [])
+buildRefusalOf a =
+    lowest ((isLarge (a .w) (a .h), 1) ∷ (isMisfit (a .pixels) (a .w) (a .h), 2) ∷ (isLevelBufferShort a, 9) ∷ [])
 
 -- the lowest number that refuses level k, 0 for none
 unfoldable pub levelRefusalOf : Ask → ℕ → ℕ
 levelRefusalOf a k =
     lowest ((isLarge (a .w) (a .h), 1) ∷ (isMisfit (a .pixels) (a .w) (a .h), 2) ∷ (isAbsent a k, 3)
-    ∷ (isShort a, 9) ∷ [])
+    ∷ (isLevelBufferShort a, 9) ∷ [])

@@ -87,9 +87,9 @@ pub fn build_refusal(
 ) -> u8
     ensures { λ r. ⌜ r ≡ buildRefusalOf (ask pixels places width height «num_levels» «min_size») ⌝ }
 {
-    let no = image_size::refusal(pixels, width, height);
-    if no != 0 {
-        return no;
+    let number = image_size::refusal(pixels, width, height);
+    if number != 0 {
+        return number;
     }
     if places < cells_above(width, height, num_levels, min_size) {
         return 9;
@@ -112,8 +112,8 @@ pub fn level_refusal(
     if k < level_count(width, height, num_levels, min_size) {
         return build_refusal(pixels, places, width, height, num_levels, min_size);
     }
-    let no = image_size::refusal(pixels, width, height);
-    if no != 0 { no } else { 3 }
+    let number = image_size::refusal(pixels, width, height);
+    if number != 0 { number } else { 3 }
 }
 
 // Where level k lies and its sides, for a base of `pixels` pixels and a level buffer of `places` places.
@@ -128,9 +128,9 @@ pub fn level_at(
 ) -> LevelAnswer
     ensures { λ r. ⌜ LevelFound (ask pixels places width height «num_levels» «min_size») k r ⌝ }
 {
-    let no = level_refusal(pixels, places, width, height, num_levels, min_size, k);
-    if no != 0 {
-        return LevelAnswer::Refused(no);
+    let number = level_refusal(pixels, places, width, height, num_levels, min_size, k);
+    if number != 0 {
+        return LevelAnswer::Refused(number);
     }
     LevelAnswer::Level {
         from: cells_before(width, height, k),

@@ -26,7 +26,7 @@ use crate::list_buffer::list_length;
 use crate::list_buffer::past_lengths;
 use crate::list_buffer::past_list;
 use frame::FrameAnswer;
-use patch_corners::FrameParams;
+use frame_params::FrameParams;
 
 // The longest map, and the longest level buffer.
 const CELLS: usize = 8192;

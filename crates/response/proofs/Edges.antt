@@ -14,7 +14,7 @@ use Rattle.lists.specs.Tab.{grid}
 use Rattle.ring.specs.Ring.{ringOf}
 use Rattle.response.specs.declared.rows.Field.{Field}
 use Rattle.response.specs.Response.{isWithin, inside}
-use Rattle.response.specs.Internal.{Cleared, Filled, Stretched, Placed, Part, responses, innerResponses}
+use Rattle.response.specs.Internal.{Cleared, Filled, Stretched, Placed, InnerPart, responses, innerResponses}
 use Rattle.response.proofs.Filling.{five, all-filled}
 use Rattle.response.proofs.Inside.{near-left, near-right, near-above, near-below, far-off}
 use Rattle.response.proofs.Inside.{out-left, out-right, out-above, out-below, at-outside}
@@ -118,7 +118,7 @@ module _ (img : List ℕ) (f : Field) (margin from to top end : ℕ) (own : ring
       ]
 
   -- and the others
-  pub part-inside : Part f from to top end
+  pub part-inside : InnerPart f from to top end
   part-inside =
       record {
         across = across .ends;

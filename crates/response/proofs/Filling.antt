@@ -7,11 +7,12 @@ use native.Mathlib.Decide.{decLt}
 use native.Mathlib.Omega.{arith}
 use lib.ListN.{length, getD, set, drop, replicate, length-set, length-append, length-drop, List·getD-append}
 use lib.Seq.{getD-drop, getD-append-add, ext-getD, getD-set-same, getD-set-other}
-use Rattle.lists.specs.Tab.{grid}
-use Rattle.lists.proofs.Tab.{length-grid, getD-grid}
+use lib.Arith.{lt-of-le-ne}
+use Rattle.lists.specs.Tab.{tab, grid}
+use Rattle.lists.proofs.Tab.{length-tab, getD-tab, length-grid, getD-grid}
 use lib.Ieee.{Float}
 use Rattle.float32.specs.Float32 as float32
-use Rattle.response.specs.Internal.{Bytes, Written, Filled, Cleared}
+use Rattle.response.specs.Internal.{Bytes, PlacesWritten, Filled, Cleared}
 
 -- ---- what holds of every element holds with another in a place
 pub set-all : (P : ℕ → Type 0) (l : List ℕ) (k q i : ℕ) → ((j : ℕ) → P (getD l j 0)) → P q → P (getD (set l k q) i 0)
@@ -29,13 +30,100 @@ bytes-none zero i = omega arith
 bytes-none (suc n) zero = omega arith
 bytes-none (suc n) (suc i) = bytes-none n i
 
+-- ---- the places from a up to b hold what f says, and still do when another gets what it should hold
+abbrev pub Between : (ℕ → ℕ) → ℕ → ℕ → List ℕ → Type 0
+Between f a b s = (i : ℕ) → a ≤ i → i < b → getD s i 0 ≡ f i
+
+between-set : (f : ℕ → ℕ) (s : List ℕ) (k a b c : ℕ) → k < length s → Between f a b s → ((i : ℕ) → i < c → (i ≡ k → ⊥) → i < b)
+    → Between f a c (set s k (f k))
+between-set f s k a b c l p wider i u v =
+    elim (decLt i k) [
+      | yes x ↦ let n : i ≡ k → ⊥ = λ e. absurd (omega arith) in getD-set-other s k i (f k) 0 n ∙ p i u (wider i v n)
+      | no x ↦ elim (decLt k i) [
+        | yes y ↦ let n : i ≡ k → ⊥ = λ e. absurd (omega arith) in getD-set-other s k i (f k) 0 n ∙ p i u (wider i v n)
+        | no y ↦ let e : i ≡ k = omega arith in rw e (getD-set-same s k (f k) 0 l)
+      ]
+    ]
+
+-- with k as it is, and with k more by one
+between-same : (f : ℕ → ℕ) (s : List ℕ) (k a b : ℕ) → k < length s → Between f a b s → Between f a b (set s k (f k))
+between-same f s k a b l p = between-set f s k a b b l p (λ i v n. v)
+
+between-more : (f : ℕ → ℕ) (s : List ℕ) (k a b : ℕ) → k < length s → b ≡ k + 1 → Between f a k s → Between f a b (set s k (f k))
+between-more f s k a b l e p = between-set f s k a k b l p (λ i v n. lt-of-le-ne (omega arith) n)
+
+-- sixteen places, filled four at a time: the first k of each quarter
+pub record Quarters (f : ℕ → ℕ) (k : ℕ) (s : List ℕ) : Type 0 where
+  pub long : length s ≡ 16
+  pub first : Between f 0 k s
+  pub second : Between f 4 (k + 4) s
+  pub third : Between f 8 (k + 8) s
+  pub fourth : Between f 12 (k + 12) s
+
+pub quarters-none : (f : ℕ → ℕ) (s : List ℕ) → length s ≡ 16 → Quarters f 0 s
+quarters-none f s e =
+    record {
+      long = e;
+      first = λ i u v. absurd (omega arith);
+      second = λ i u v. absurd (omega arith);
+      third = λ i u v. absurd (omega arith);
+      fourth = λ i u v. absurd (omega arith);
+    }
+
+pub quarters-set : (f : ℕ → ℕ) (k : ℕ) (s : List ℕ) → k < 4 → Quarters f k s
+    → Quarters f (k + 1) (set (set (set (set s (k + 4) (f (k + 4))) k (f k)) (k + 12) (f (k + 12))) (k + 8) (f (k + 8)))
+quarters-set f k s small q =
+    let s₁ : List ℕ = set s (k + 4) (f (k + 4)) in
+    let s₂ : List ℕ = set s₁ k (f k) in
+    let s₃ : List ℕ = set s₂ (k + 12) (f (k + 12)) in
+    let l₁ : length s₁ ≡ 16 = length-set s (k + 4) (f (k + 4)) ∙ q .long in
+    let l₂ : length s₂ ≡ 16 = length-set s₁ k (f k) ∙ l₁ in
+    let l₃ : length s₃ ≡ 16 = length-set s₂ (k + 12) (f (k + 12)) ∙ l₂ in
+    let a : k + 4 < length s = omega (arith, q .long) in
+    let b : k < length s₁ = omega arith in
+    let c : k + 12 < length s₂ = omega arith in
+    let d : k + 8 < length s₃ = omega arith in
+    record {
+      long = length-set s₃ (k + 8) (f (k + 8)) ∙ l₃;
+      first =
+          between-same f s₃ (k + 8) 0 (k + 1) d
+          (between-same f s₂ (k + 12) 0 (k + 1) c
+          (between-more f s₁ k 0 (k + 1) b refl (between-same f s (k + 4) 0 k a (q .first))));
+      second =
+          between-same f s₃ (k + 8) 4 (k + 1 + 4) d
+          (between-same f s₂ (k + 12) 4 (k + 1 + 4) c
+          (between-same f s₁ k 4 (k + 1 + 4) b (between-more f s (k + 4) 4 (k + 1 + 4) a (omega arith) (q .second))));
+      third =
+          between-more f s₃ (k + 8) 8 (k + 1 + 8) d (omega arith)
+          (between-same f s₂ (k + 12) 8 (k + 8) c (between-same f s₁ k 8 (k + 8) b (between-same f s (k + 4) 8 (k + 8) a (q .third))));
+      fourth =
+          between-same f s₃ (k + 8) 12 (k + 1 + 12) d
+          (between-more f s₂ (k + 12) 12 (k + 1 + 12) c (omega arith)
+          (between-same f s₁ k 12 (k + 12) b (between-same f s (k + 4) 12 (k + 12) a (q .fourth))));
+    }
+
+pub quarters-all : (f : ℕ → ℕ) (k : ℕ) (s : List ℕ) → Quarters f k s → 4 ≤ k → s ≡ tab 16 f
+quarters-all f k s q l =
+    ext-getD 0 s (tab 16 f) (q .long ∙ sym (length-tab 16 f))
+    (λ i v. here i (omega (arith, q .long)) ∙ sym (getD-tab 16 f i 0 (omega (arith, q .long))))
+  where
+    here : (i : ℕ) → i < 16 → getD s i 0 ≡ f i
+    here i v =
+        elim (decLt i 4) [
+          | yes x ↦ q .first i (omega arith) (omega arith)
+          | no x ↦ elim (decLt i 8) [
+            | yes y ↦ q .second i (omega arith) (omega arith)
+            | no y ↦ elim (decLt i 12) [ yes z ↦ q .third i (omega arith) (omega arith) | no z ↦ q .fourth i (omega arith) (omega arith) ]
+          ]
+        ]
+
 -- ---- places written one after the other
 module _ {A : Type 0} (d : A) (at : ℕ) (g : ℕ → A) (s : List A) where
-  pub written-none : Written d at 0 g s s
+  pub written-none : PlacesWritten d at 0 g s s
   written-none = record { long = refl; within = λ i p. absurd (omega arith); before = λ i p. refl; behind = λ i p. refl }
 
-  pub written-set : (i : ℕ) (t : List A) (v : A) → Written d at i g s t → at + i < length s → v ≡ g i
-      → Written d at (i + 1) g s (set t (at + i) v)
+  pub written-set : (i : ℕ) (t : List A) (v : A) → PlacesWritten d at i g s t → at + i < length s → v ≡ g i
+      → PlacesWritten d at (i + 1) g s (set t (at + i) v)
   written-set i t v w l e =
       record {
         long = length-set t (at + i) v ∙ w .long;
@@ -51,8 +139,8 @@ module _ {A : Type 0} (d : A) (at : ℕ) (g : ℕ → A) (s : List A) where
             | no q ↦ let same : j ≡ i = omega arith in rw same (getD-set-same t (at + i) v d (omega (arith, w .long)) ∙ e)
           ]
 
-  pub written-end : (i n : ℕ) (t : List A) → Written d at i g s t → i ≡ n → Written d at n g s t
-  written-end i n t w e = subst (λ (k : ℕ). Written d at k g s t) e w
+  pub written-end : (i n : ℕ) (t : List A) → PlacesWritten d at i g s t → i ≡ n → PlacesWritten d at n g s t
+  written-end i n t w e = subst (λ (k : ℕ). PlacesWritten d at k g s t) e w
 
 -- ---- parts of rows
 pub row-after : (w j k : ℕ) → j < k → j * w + w ≤ k * w
@@ -130,7 +218,7 @@ module _ {A : Type 0} (d : A) (w h : ℕ) (f : ℕ → ℕ → A) where
       then-below 0 w 0 top h s s₁ t above rows
 
   -- n places written in row k from column c on
-  module _ (at n c b k : ℕ) (g : ℕ → A) (s t : List A) (wr : Written d at n g s t) (is : at ≡ k * w + c) (end : b ≡ c + n)
+  module _ (at n c b k : ℕ) (g : ℕ → A) (s t : List A) (wr : PlacesWritten d at n g s t) (is : at ≡ k * w + c) (end : b ≡ c + n)
       (fits : b ≤ w) (lies : k < h)
       (right : (i : ℕ) → i < n → g i ≡ f (c + i) k) where
     here : (i j : ℕ) → c ≤ i → i < c + n → j ≡ k → getD t (j * w + i) d ≡ f i j
@@ -201,7 +289,7 @@ pub cleared-none : (w a b c : ℕ) (s : List Float) → Cleared w a b c c s s
 cleared-none w a b c s h f l none = filled-none float32.zero w h f a b c c s (λ i j p q u v. absurd (omega arith))
 
 pub cleared-row : (w a b c j : ℕ) (s t u : List Float) → a ≤ b → b ≤ w → c ≤ j → Cleared w a b c j s t
-    → Written float32.zero (j * w + a) (b - a) (λ _. float32.zero) t u → Cleared w a b c (j + 1) s u
+    → PlacesWritten float32.zero (j * w + a) (b - a) (λ _. float32.zero) t u → Cleared w a b c (j + 1) s u
 cleared-row w a b c j s t u o fits lies p wr h f l none =
     then-below float32.zero w h f a b c j (j + 1) s t u (p h f (omega arith) (λ i k x y z v. none i k x y z (omega arith)))
     (row-filled float32.zero w h f (j * w + a) (b - a) a b j (λ _. float32.zero) t u wr refl (omega arith) fits (omega arith)

@@ -11,7 +11,7 @@ use Rattle.lists.proofs.Tests.{and-none}
 use Rattle.float32.specs.Float32.{zero}
 use Rattle.ring.specs.Ring.{Ring}
 use Rattle.response.specs.Response.{isWithin, inside, response, responseAt}
-use Rattle.response.specs.Internal.{Inner, Span}
+use Rattle.response.specs.Internal.{Inner, InnerSpan}
 
 module _ (r w h x y : ℕ) where
   pub near-left : x < r → isWithin r w h x y ≡ false
@@ -61,7 +61,7 @@ off-edge h y radius l = omega arith
 
 module _ (w h : ℕ) (t : Ring) (radius x0 y n : ℕ) (e : t .radius ≡ radius) where
   -- none, where the row is too near the upper or the lower edge
-  span-none : ((i : ℕ) → inside w h t (x0 + i) y ≡ false) → Span w h t radius x0 y n n n
+  span-none : ((i : ℕ) → inside w h t (x0 + i) y ≡ false) → InnerSpan w h t radius x0 y n n n
   span-none out =
       record {
         ordered = le-refl n;
@@ -71,16 +71,16 @@ module _ (w h : ℕ) (t : Ring) (radius x0 y n : ℕ) (e : t .radius ≡ radius)
         outer-right = λ i p q. out i;
       }
 
-  pub span-above : y < radius → Span w h t radius x0 y n n n
+  pub span-above : y < radius → InnerSpan w h t radius x0 y n n n
   span-above l = span-none (λ i. out-above w h t (x0 + i) y (rw e l))
 
-  pub span-below : h ≤ y + radius → Span w h t radius x0 y n n n
+  pub span-below : h ≤ y + radius → InnerSpan w h t radius x0 y n n n
   span-below l = span-none (λ i. out-below w h t (x0 + i) y (rw e l))
 
   -- else those that lie the radius and more from either end, as the code finds them
   pub span-row : (l a r s m b : ℕ) → radius ≤ y → y + radius < h → l ≡ radius - x0 → a ≡ min n l → r ≡ w - radius → s ≡ r - x0
       → m ≡ min n s → b ≡ max a m
-      → Span w h t radius x0 y n a b
+      → InnerSpan w h t radius x0 y n a b
   span-row l a r s m b above below el ea er es em eb =
       record {
         ordered = omega arith;

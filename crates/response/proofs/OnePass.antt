@@ -19,7 +19,7 @@ use Rattle.float32.specs.Value.{dist, total}
 use Rattle.response.specs.declared.Held.{Held}
 use Rattle.response.specs.Response.{srOf, ringSumOf}
 use Rattle.response.specs.OnePass.{noPairs, withPair, passedAfter}
-use Rattle.response.specs.Internal.{Bytes, Small, RingSumsOf}
+use Rattle.response.specs.Internal.{Bytes, SumsBounded, RingSumsOf}
 use Rattle.response.proofs.Filling.{set-all}
 
 -- ---- two numbers below 2^15, compared as i16
@@ -35,7 +35,7 @@ module _ (a b : ℕ) (p : a < 32768) (q : b < 32768) where
       omega (arith, ltb-false a b t)
 
 -- ---- small
-pub small-none : Small 0 noPairs
+pub small-none : SumsBounded 0 noPairs
 small-none = record { sr-small = omega arith; dr-small = omega arith; sum-small = omega arith; first-small = none }
   where
     none : (i : ℕ) → getD (0 ∷ 0 ∷ 0 ∷ 0 ∷ []) i 0 ≤ 510
@@ -45,7 +45,7 @@ small-none = record { sr-small = omega arith; dr-small = omega arith; sum-small 
     none (suc (suc (suc zero))) = omega arith
     none (suc (suc (suc (suc i)))) = omega arith
 
-pub small-next : (k a b : ℕ) (h : Held) → a < 256 → b < 256 → Small k h → Small (k + 1) (withPair k a b h)
+pub small-next : (k a b : ℕ) (h : Held) → a < 256 → b < 256 → SumsBounded k h → SumsBounded (k + 1) (withPair k a b h)
 unfolding withPair
 small-next k a b h p q s =
     elim (decLt k 4) [
@@ -69,8 +69,9 @@ small-next k a b h p q s =
     ]
 
 -- ---- one pair more, as the code has it: before the fifth, and from there on
-pub stepped : (k a b : ℕ) (h r : Held) → a < 256 → b < 256 → Small k h → r ≡ withPair k a b h → (r ≡ withPair k a b h) × Small (k + 1) r
-stepped k a b h r p q s e = (e, subst (Small (k + 1)) (sym e) (small-next k a b h p q s))
+pub stepped : (k a b : ℕ) (h r : Held) → a < 256 → b < 256 → SumsBounded k h → r ≡ withPair k a b h
+    → (r ≡ withPair k a b h) × SumsBounded (k + 1) r
+stepped k a b h r p q s e = (e, subst (SumsBounded (k + 1)) (sym e) (small-next k a b h p q s))
 
 module _ (k a b : ℕ) (h : Held) (q d : ℕ) (sum-is : q ≡ a + b) (gap-is : d ≡ dist a b) where
   pub early : k < 4 → record { sr = h .sr; dr = h .dr + d; sum = h .sum + q; first = set (h .first) k q } ≡ withPair k a b h
@@ -99,11 +100,11 @@ pub passed-end : (s : List ℕ) (k n : ℕ) (h : Held) → h ≡ passedAfter s k
 passed-end s k n h e l = e ∙ ap (passedAfter s) l
 
 -- what is held of bytes is small
-pub passed-small : (s : List ℕ) → Bytes s → (n : ℕ) → Small n (passedAfter s n)
+pub passed-small : (s : List ℕ) → Bytes s → (n : ℕ) → SumsBounded n (passedAfter s n)
 unfolding passedAfter
 passed-small s b zero = small-none
 passed-small s b (suc n) =
-    subst (λ (k : ℕ). Small k (passedAfter s (suc n))) (add-one n)
+    subst (λ (k : ℕ). SumsBounded k (passedAfter s (suc n))) (add-one n)
     (small-next n (getD s n 0) (getD s (n + 8) 0) (passedAfter s n) (b n) (b (n + 8)) (passed-small s b n))
 
 -- ---- after each pair

@@ -16,7 +16,8 @@ use Rattle.ring.proofs.Places.{dx-le, dy-le, radius-pos}
 use Rattle.response.specs.Response.{samples, srOf, drOf, crossOf, responseOf, response}
 use Rattle.response.specs.declared.Held.{Held}
 use Rattle.response.specs.OnePass.{passedAfter}
-use Rattle.response.specs.Internal.{offsetAt, Bytes, Small, Framed, Inner, RingSumsOf, CellSumsOf, Long, Summed}
+use Rattle.response.specs.Internal.{offsetAt, Bytes, SumsBounded, ImageWithOffsets, Inner, RingSumsOf, CellSumsOf, SumPlaces}
+use Rattle.response.specs.Internal.{CellsSummed}
 use Rattle.response.proofs.Floats.{same-response}
 use Rattle.response.proofs.OnePass.{passed-all, passed-small}
 use Rattle.response.proofs.Indices.{area-le, row-above, row-below, place-add}
@@ -56,7 +57,7 @@ module _ (t : Ring) (is : IsRing t) (r : ℕ) (e : t .radius ≡ r) (w h x y : �
       )
 
 -- ---- the same with the offsets in an array
-module _ (img : List ℕ) (w h : ℕ) (t : Ring) (radius : ℕ) (off : List ℕ) (f : Framed img w h t radius off) (x y : ℕ)
+module _ (img : List ℕ) (w h : ℕ) (t : Ring) (radius : ℕ) (off : List ℕ) (f : ImageWithOffsets img w h t radius off) (x y : ℕ)
     (n : Inner w h radius x y) where
   offset-is : (k : ℕ) → k < 16 → getD off k 0 ≡ offsetAt t w k
   offset-is k l = rw (f .offsets) (getD-tab 16 (offsetAt t w) k 0 l)
@@ -109,11 +110,11 @@ gathered-bytes img base off b s e i =
     rw e (getD-tab-any (λ (n : ℕ). n < 256) 0 (omega arith) (λ k. getD img (base + getD off k 0) 0) (λ k. b (base + getD off k 0)) 16 i)
 
 -- so the sums of a ring are small, and so is what they differ by
-pub held-small : (s : List ℕ) (r : Held) → Bytes s → r ≡ passedAfter s 8 → Small 8 r
-held-small s r b e = subst (Small 8) (sym e) (passed-small s b 8)
+pub held-small : (s : List ℕ) (r : Held) → Bytes s → r ≡ passedAfter s 8 → SumsBounded 8 r
+held-small s r b e = subst (SumsBounded 8) (sym e) (passed-small s b 8)
 
 pub balanced : (img : List ℕ) (w : ℕ) (t : Ring) (x y : ℕ) (r : Held) (b q : ℕ)
-    → RingSumsOf (samples img w t x y) (r .sr) (r .dr) (r .sum) → Small 8 r
+    → RingSumsOf (samples img w t x y) (r .sr) (r .dr) (r .sum) → SumsBounded 8 r
     → b ≡ r .sr + 4096 - r .dr → q ≡ crossOf img w x y → CellSumsOf img w t x y b (r .sum) q
 balanced img w t x y r b q ring small is cross =
     record {
@@ -136,8 +137,8 @@ assembled img w t x y b m q v p e =
 
 -- ---- the sums of a run
 pub summed-set : (tile : List ℕ) (w : ℕ) (t : Ring) (radius y i : ℕ) (a b c : List ℕ) (p q r : ℕ) → i < 128
-    → Summed tile w t radius y i a b c
-    → CellSumsOf tile w t (radius + i) y p q r → Summed tile w t radius y (i + 1) (set a i p) (set b i q) (set c i r)
+    → CellsSummed tile w t radius y i a b c
+    → CellSumsOf tile w t (radius + i) y p q r → CellsSummed tile w t radius y (i + 1) (set a i p) (set b i q) (set c i r)
 summed-set tile w t radius y i a b c p q r small sums new =
     record {
       long =
@@ -149,7 +150,7 @@ summed-set tile w t radius y i a b c p q r small sums new =
       cells = cells;
     }
   where
-    long : Long a b c
+    long : SumPlaces a b c
     long = sums .long
 
     cells : (k : ℕ) → k < i + 1 → CellSumsOf tile w t (radius + k) y (getD (set a i p) k 0) (getD (set b i q) k 0) (getD (set c i r) k 0)
@@ -168,6 +169,6 @@ summed-set tile w t radius y i a b c p q r small sums new =
           new
     ]
 
-pub summed-end : (tile : List ℕ) (w : ℕ) (t : Ring) (radius y i n : ℕ) (a b c : List ℕ) → Summed tile w t radius y i a b c → i ≡ n
-    → Summed tile w t radius y n a b c
-summed-end tile w t radius y i n a b c sums e = subst (λ (k : ℕ). Summed tile w t radius y k a b c) e sums
+pub summed-end : (tile : List ℕ) (w : ℕ) (t : Ring) (radius y i n : ℕ) (a b c : List ℕ) → CellsSummed tile w t radius y i a b c → i ≡ n
+    → CellsSummed tile w t radius y n a b c
+summed-end tile w t radius y i n a b c sums e = subst (λ (k : ℕ). CellsSummed tile w t radius y k a b c) e sums

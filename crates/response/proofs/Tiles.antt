@@ -16,7 +16,8 @@ use Rattle.ring.proofs.Places.{dx-le, dy-le, radius-pos, radius-small}
 use Rattle.ring.proofs.Table.{ringOf-is}
 use Rattle.response.specs.declared.rows.Field.{Field}
 use Rattle.response.specs.Response.{samples, crossOf, response, responseOf}
-use Rattle.response.specs.Internal.{offsetAt, Framed, Inner, IsTile, Summed, Written, Filled, Placed, Part, responses}
+use Rattle.response.specs.Internal.{offsetAt, ImageWithOffsets, Inner, IsTile, CellsSummed, PlacesWritten, Filled, Placed, InnerPart}
+use Rattle.response.specs.Internal.{responses}
 use Rattle.response.proofs.Filling.{row-after, row-filled, then-below}
 use Rattle.response.proofs.Indices.{area-le}
 use Rattle.response.proofs.Inside.{at-inside}
@@ -54,7 +55,7 @@ module _ (img tile : List ℕ) (w s X Y n m : ℕ) (same : (u v : ℕ) → u < n
 
 -- ---- where a block lies
 pub tile-framed : (tile : List ℕ) (s r : ℕ) (off : List ℕ) → IsTile s tile → ringOf r .radius ≡ r → off ≡ tab 16 (offsetAt (ringOf r) s)
-    → Framed tile s 36 (ringOf r) r off
+    → ImageWithOffsets tile s 36 (ringOf r) r off
 tile-framed tile s r off is own e =
     record {
       image = record { narrow = omega (arith, is .narrow); low = omega arith; sized = is .long };
@@ -66,7 +67,7 @@ tile-framed tile s r off is own e =
 pub placed-still : (pixels : ℕ) (f : Field) (n m : ℕ) → Placed pixels f n → m ≡ n → Placed pixels f m
 placed-still pixels f n m p e = subst (λ (k : ℕ). Placed pixels f k) (sym e) p
 
-pub part-of : (f : Field) (a b c e a′ b′ c′ e′ : ℕ) → Part f a b c e → a ≤ a′ → b′ ≤ b → c ≤ c′ → e′ ≤ e → Part f a′ b′ c′ e′
+pub part-of : (f : Field) (a b c e a′ b′ c′ e′ : ℕ) → InnerPart f a b c e → a ≤ a′ → b′ ≤ b → c ≤ c′ → e′ ≤ e → InnerPart f a′ b′ c′ e′
 part-of f a b c e a′ b′ c′ e′ p l r u v =
     record {
       across = omega (arith, p .across);
@@ -81,7 +82,7 @@ module _ (pixels places : ℕ) (f : Field) (p : Placed pixels f places) where
   pub map-small : f .ph * f .pw ≤ largestMap
   map-small = area-le (f .ph) (f .pw) (omega (arith, p .down, p .image .low)) (omega (arith, p .across, p .image .narrow))
 
-  module _ (i j n m : ℕ) (part : Part f i (i + n) j (j + m)) (wide : 0 < n) (high : 0 < m) where
+  module _ (i j n m : ℕ) (part : InnerPart f i (i + n) j (j + m)) (wide : 0 < n) (high : 0 < m) where
     first-cell : Inner (f .w) (f .h) (f .radius) (f .x + i) (f .y + j)
     first-cell = part .inner i j (omega arith) (omega arith) (omega arith) (omega arith)
 
@@ -124,7 +125,7 @@ module _ (pixels places : ℕ) (f : Field) (p : Placed pixels f places) where
 -- ---- a row of a block
 module _ (img tile : List ℕ) (w : ℕ) (f : Field) (i j n m : ℕ) (is-ring : IsRing (ringOf (f .radius)))
     (own : ringOf (f .radius) .radius ≡ f .radius)
-    (part : Part f i (i + n) j (j + m)) (some : 0 < n) (k : ℕ) (below : k < m)
+    (part : InnerPart f i (i + n) j (j + m)) (some : 0 < n) (k : ℕ) (below : k < m)
     (same : (u v : ℕ) → u < n + f .radius + f .radius → v < m + f .radius + f .radius
     → pixel tile w u v ≡ pixel img (f .w) (f .x + i - f .radius + u) (f .y + j - f .radius + v)) where
   in-image : (p : ℕ) → p < n → Inner (f .w) (f .h) (f .radius) (f .x + (i + p)) (f .y + (j + k))
@@ -142,8 +143,8 @@ module _ (img tile : List ℕ) (w : ℕ) (f : Field) (i j n m : ℕ) (is-ring : 
       ∙ sym (at-inside (f .w) (f .h) (ringOf (f .radius)) (f .x + (i + p)) (f .y + (j + k)) img (f .radius) own (in-image p l))
 
   pub block-step : (a b c : List ℕ) (z at : ℕ) (s₀ s t : List Float) → n ≤ z
-      → Summed tile w (ringOf (f .radius)) (f .radius) (f .radius + k) z a b c
-      → Written zero at n (λ p. responseOf (getD a p 0) 4096 (getD b p 0) (getD c p 0)) s t → at ≡ (j + k) * f .pw + i
+      → CellsSummed tile w (ringOf (f .radius)) (f .radius) (f .radius + k) z a b c
+      → PlacesWritten zero at n (λ p. responseOf (getD a p 0) 4096 (getD b p 0) (getD c p 0)) s t → at ≡ (j + k) * f .pw + i
       → Filled zero (f .pw) (f .ph) (responses img f) i (i + n) j (j + k) s₀ s
       → Filled zero (f .pw) (f .ph) (responses img f) i (i + n) j (j + (k + 1)) s₀ t
   block-step a b c z at s₀ s t l sums wr is before =
@@ -157,7 +158,7 @@ module _ (img tile : List ℕ) (w : ℕ) (f : Field) (i j n m : ℕ) (is-ring : 
 
 -- ---- a row more of a tile
 pub tile-row : (img : List ℕ) (w k x y n j o : ℕ) (s t u : List ℕ) → j < 36 → n ≤ k → o ≡ (y + j) * w + x
-    → Filled 0 k 36 (λ p q. pixel img w (x + p) (y + q)) 0 n 0 j s t → Written 0 (j * k) n (λ i. getD img (o + i) 0) t u
+    → Filled 0 k 36 (λ p q. pixel img w (x + p) (y + q)) 0 n 0 j s t → PlacesWritten 0 (j * k) n (λ i. getD img (o + i) 0) t u
     → Filled 0 k 36 (λ p q. pixel img w (x + p) (y + q)) 0 n 0 (j + 1) s u
 tile-row img w k x y n j o s t u l fits is before wr =
     let f : ℕ → ℕ → ℕ = λ p q. pixel img w (x + p) (y + q) in
@@ -166,7 +167,7 @@ tile-row img w k x y n j o s t u l fits is before wr =
     (λ i q. ap (λ (v : ℕ). getD img v 0) (omega arith)))
 
 -- ---- one cell
-written-one : (at : ℕ) (v : Float) (s : List Float) → at < length s → Written zero at 1 (λ _. v) s (set s at v)
+written-one : (at : ℕ) (v : Float) (s : List Float) → at < length s → PlacesWritten zero at 1 (λ _. v) s (set s at v)
 written-one at v s l =
     record {
       long = length-set s at v;
@@ -176,7 +177,7 @@ written-one at v s l =
     }
 
 pub single-filled : (img : List ℕ) (f : Field) (i j : ℕ) (v : Float) (s : List Float) → ringOf (f .radius) .radius ≡ f .radius
-    → Part f i (i + 1) j (j + 1) → v ≡ response img (f .w) (ringOf (f .radius)) (f .x + i) (f .y + j) → f .ph * f .pw ≤ length s
+    → InnerPart f i (i + 1) j (j + 1) → v ≡ response img (f .w) (ringOf (f .radius)) (f .x + i) (f .y + j) → f .ph * f .pw ≤ length s
     → Filled zero (f .pw) (f .ph) (responses img f) i (i + 1) j (j + 1) s (set s (j * f .pw + i) v)
 single-filled img f i j v s own part is enough =
     let lies : j * f .pw + i < length s = omega (arith, row-after (f .pw) j (f .ph) (omega (arith, part .down)), part .across) in

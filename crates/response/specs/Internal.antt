@@ -21,7 +21,7 @@ abbrev pub offsetAt : Ring → ℕ → ℕ → ℕ
 offsetAt t w k = dy t k * w + dx t k
 
 -- an image, and a ring of that radius with the offsets of its places in the image
-pub record Framed (img : List ℕ) (w h : ℕ) (t : Ring) (radius : ℕ) (off : List ℕ) : Type 0 where
+pub record ImageWithOffsets (img : List ℕ) (w h : ℕ) (t : Ring) (radius : ℕ) (off : List ℕ) : Type 0 where
   pub image : Sized (length img) w h
   pub is-ring : IsRing t
   pub own-radius : t .radius ≡ radius
@@ -35,7 +35,7 @@ pub record Inner (w h radius x y : ℕ) : Type 0 where
   pub below : y + radius < h
 
 -- of n cells from column x0 on in row y, exactly those from place a up to place b have their ring in the image
-pub record Span (w h : ℕ) (t : Ring) (radius x0 y n a b : ℕ) : Type 0 where
+pub record InnerSpan (w h : ℕ) (t : Ring) (radius x0 y n a b : ℕ) : Type 0 where
   pub ordered : a ≤ b
   pub ends : b ≤ n
   pub outer-left : (i : ℕ) → i < a → inside w h t (x0 + i) y ≡ false
@@ -43,7 +43,7 @@ pub record Span (w h : ℕ) (t : Ring) (radius x0 y n a b : ℕ) : Type 0 where
   pub outer-right : (i : ℕ) → b ≤ i → i < n → inside w h t (x0 + i) y ≡ false
 
 -- the sums after k pairs, each at most its largest value: one more pair fits
-pub record Small (k : ℕ) (h : Held) : Type 0 where
+pub record SumsBounded (k : ℕ) (h : Held) : Type 0 where
   pub sr-small : h .sr ≤ 510 * k
   pub dr-small : h .dr ≤ 255 * k
   pub sum-small : h .sum ≤ 510 * k
@@ -86,7 +86,7 @@ eightsOf n = (n + 7) / 8 * 8
 
 -- s became t: the n places from `at` on hold what g says, and the others what they held (d stands for what lies past
 -- the end)
-pub record Written {A : Type 0} (d : A) (at n : ℕ) (g : ℕ → A) (s t : List A) : Type 0 where
+pub record PlacesWritten {A : Type 0} (d : A) (at n : ℕ) (g : ℕ → A) (s t : List A) : Type 0 where
   pub long : length t ≡ length s
   pub within : (i : ℕ) → i < n → getD t (at + i) d ≡ g i
   pub before : (i : ℕ) → i < at → getD t i d ≡ getD s i d
@@ -108,14 +108,14 @@ Cleared w a b c e s t =
     → Filled float32.zero w h f a b c e s t
 
 -- places for the sums of 128 cells
-pub record Long (balance sum cross : List ℕ) : Type 0 where
+pub record SumPlaces (balance sum cross : List ℕ) : Type 0 where
   pub balance-long : length balance ≡ 128
   pub sum-long : length sum ≡ 128
   pub cross-long : length cross ≡ 128
 
 -- the sums of the first n cells in row y of a tile whose ring lies in it
-pub record Summed (tile : List ℕ) (s : ℕ) (t : Ring) (radius y n : ℕ) (balance sum cross : List ℕ) : Type 0 where
-  pub long : Long balance sum cross
+pub record CellsSummed (tile : List ℕ) (s : ℕ) (t : Ring) (radius y n : ℕ) (balance sum cross : List ℕ) : Type 0 where
+  pub long : SumPlaces balance sum cross
   pub cells : (i : ℕ) → i < n → CellSumsOf tile s t (radius + i) y (getD balance i 0) (getD sum i 0) (getD cross i 0)
 
 -- of n cells from place x on, those from the a-th up to the b-th lie at least the radius from either end of w places
@@ -144,7 +144,7 @@ pub record Placed (pixels : ℕ) (f : Field) (places : ℕ) : Type 0 where
   pub enough : f .ph * f .pw ≤ places
 
 -- its cells in columns a up to b and rows c up to e have their ring in the image
-pub record Part (f : Field) (a b c e : ℕ) : Type 0 where
+pub record InnerPart (f : Field) (a b c e : ℕ) : Type 0 where
   pub across : b ≤ f .pw
   pub down : e ≤ f .ph
   pub inner : (i j : ℕ) → a ≤ i → i < b → c ≤ j → j < e → Inner (f .w) (f .h) (f .radius) (f .x + i) (f .y + j)

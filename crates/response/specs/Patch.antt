@@ -82,11 +82,11 @@ refusalOf v radius places =
 -- the number and the values of each case (RULES 3.8): 0 for no refusal, and the map's sides
 abbrev pub numberOf : Patch → ℕ
 numberOf (Cells pw ph) = 0
-numberOf (Refused n) = n
+numberOf (Refused number) = number
 
 abbrev pub valuesOf : Patch → List ℕ
 valuesOf (Cells pw ph) = pw ∷ ph ∷ []
-valuesOf (Refused n) = []
+valuesOf (Refused number) = []
 
 -- what is promised about a map of v with the cells cs: r is the answer, and the buffer d becomes e: the cells at its
 -- start and the rest unchanged; if the call is refused, all of it unchanged

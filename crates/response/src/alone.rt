@@ -5,7 +5,7 @@ ghost use lib.ListN.{length, getD};
 ghost use Rattle.lists.specs.Tab.{tab};
 ghost use Rattle.ring.specs.Ring.{ringOf};
 ghost use Rattle.response.specs.Response.{response};
-ghost use Rattle.response.specs.Internal.{Bytes, Framed, Inner};
+ghost use Rattle.response.specs.Internal.{Bytes, ImageWithOffsets, Inner};
 use crate::cell::ring_sums;
 use crate::cell::value;
 use crate::tile::wide;
@@ -51,7 +51,7 @@ pub(crate) fn alone(
     x: usize,
     y: usize,
 ) -> f32
-    requires { ⌜ Framed (now img) w h (ringOf radius) radius off × Inner w h radius x y ⌝ }
+    requires { ⌜ ImageWithOffsets (now img) w h (ringOf radius) radius off × Inner w h radius x y ⌝ }
     ensures { λ r. ⌜ r ≡ response (now (img .entry)) w (ringOf radius) x y ⌝ }
 {
     let ring = ring_sums(pick(img, (y - radius) * w + (x - radius), off), 8);

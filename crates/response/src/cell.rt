@@ -7,7 +7,7 @@ ghost use Rattle.lists.specs.Tab.{tab};
 ghost use Rattle.ring.specs.Ring.{ringOf};
 ghost use Rattle.response.specs.Response.{responseOf};
 ghost use Rattle.response.specs.OnePass.{withPair, RingPassed};
-ghost use Rattle.response.specs.Internal.{Bytes, Framed, Inner, Small, CellSumsOf};
+ghost use Rattle.response.specs.Internal.{Bytes, ImageWithOffsets, Inner, SumsBounded, CellSumsOf};
 use crate::Held;
 use numbers::lesser;
 
@@ -31,8 +31,8 @@ fn gap(a: u16, b: u16) -> u16
 // Adds pair k, whose samples are a and b. From the fifth pair on, its sum is compared with that of the pair a quarter
 // turn before.
 fn with_pair(h: Held, k: usize, a: u16, b: u16) -> Held
-    requires { ⌜ (k < 8) × Small k h × (a < 256) × (b < 256) ⌝ }
-    ensures { λ r. ⌜ (r ≡ withPair k a b h) × Small (k + 1) r ⌝ }
+    requires { ⌜ (k < 8) × SumsBounded k h × (a < 256) × (b < 256) ⌝ }
+    ensures { λ r. ⌜ (r ≡ withPair k a b h) × SumsBounded (k + 1) r ⌝ }
 {
     let mut first = h.first;
     let q = a + b;
@@ -76,16 +76,19 @@ pub(crate) fn ring_sums(s: [u16; 16], n: usize) -> Held
     h
 }
 
-// The pixels at the given offsets from `base`.
+// The pixels at the given offsets from `base`. The four of a quarter turn, which are compared with each other, are read
+// one after the other: the compiler keeps that order, and then fewer of them have to be held at a time.
 fn gather(tile: &[u16], base: usize, off: [usize; 16]) -> [u16; 16]
     requires { ⌜ ((k : ℕ) → k < 16 → base + getD off k 0 < length (now tile)) × (length (now tile) ≤ 16777216) ⌝ }
     ensures { λ r. ⌜ r ≡ tab 16 (λ k. getD (now (tile .entry)) (base + getD off k 0) 0) ⌝ }
 {
     let mut s = [0u16; 16];
     let mut k = 0usize;
-    while k < 16 {
-        let o = off[k];
-        s[k] = tile[base + o];
+    while k < 4 {
+        s[k + 4] = tile[base + off[k + 4]];
+        s[k] = tile[base + off[k]];
+        s[k + 12] = tile[base + off[k + 12]];
+        s[k + 8] = tile[base + off[k + 8]];
         k += 1;
     }
     s
@@ -119,7 +122,8 @@ pub(crate) fn cell_sums(
     x: usize,
     y: usize,
 ) -> CellSums
-    requires { ⌜ Bytes (now tile) × Framed (now tile) s 36 (ringOf radius) radius off × Inner s 36 radius x y ⌝ }
+    requires { ⌜ Bytes (now tile) × ImageWithOffsets (now tile) s 36 (ringOf radius) radius off
+        × Inner s 36 radius x y ⌝ }
     ensures { λ r. ⌜ CellSumsOf (now (tile .entry)) s (ringOf radius) x y (r .balance) (r .sum) (r .cross) ⌝ }
 {
     let base = (y - radius) * s + (x - radius);
@@ -131,12 +135,13 @@ pub(crate) fn cell_sums(
     }
 }
 
-// SR - DR - 16 |ring mean - cross mean|, by the operations of `chess_response_at_u8` in their order. SR - DR is
-// computed as the balance minus 4096: as a float, the difference of two whole numbers depends only on its value.
+// SR - DR - 16 |ring mean - cross mean|, with the bits that the operations of `chess_response_at_u8` give. SR - DR is
+// computed as the balance minus 4096: as a float, the difference of two whole numbers depends only on its value. The
+// factor 16 is taken into the means, since it changes no rounding: 16 ring means are the sum, and 16 fifths are a
+// division by 5 / 16.
 pub(crate) fn value(balance: u16, sum: u16, cross: u16) -> f32
     ensures { λ r. ⌜ r ≡ responseOf balance 4096 sum cross ⌝ }
 {
-    let mu_n = (sum as f32) / 16.0;
-    let mu_l = (cross as f32) / 5.0;
-    (balance as f32) - 4096.0 - 16.0 * float32::abs(mu_n - mu_l)
+    let fifths = (cross as f32) / 0.3125;
+    (balance as f32) - 4096.0 - float32::abs((sum as f32) - fifths)
 }

@@ -41,9 +41,9 @@ fn refusal(pixels: usize, w: usize, h: usize, ring: u32, pw: usize, ph: usize, p
     requires { ⌜ (pw ≤ w) × (ph ≤ h) ⌝ }
     ensures { λ r. ⌜ r ≡ refusalFor pixels w h ring (ph * pw) places ⌝ }
 {
-    let no = image_size::refusal(pixels, w, h);
-    if no != 0 {
-        return no;
+    let number = image_size::refusal(pixels, w, h);
+    if number != 0 {
+        return number;
     }
     if !ring::is_ring(ring) {
         return 3;
@@ -83,9 +83,9 @@ pub fn inner_patch(
     let down = side(h, y0, y1);
     let pw = beside(across, down);
     let ph = beside(down, across);
-    let no = refusal(img.len(), w, h, ring, pw, ph, map.len());
-    if no != 0 {
-        return Patch::Refused(no);
+    let number = refusal(img.len(), w, h, ring, pw, ph, map.len());
+    if number != 0 {
+        return Patch::Refused(number);
     }
     rows::fill(
         img,

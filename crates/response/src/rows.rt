@@ -11,7 +11,8 @@ ghost use Rattle.lists.specs.Tab.{tab, grid};
 ghost use Rattle.lists.specs.Internal.{Sized};
 ghost use Rattle.ring.specs.Ring.{ringOf};
 ghost use Rattle.response.specs.Response.{isWithin, responseAt};
-ghost use Rattle.response.specs.Internal.{IsTile, Filled, Written, Cleared, Stretched, Placed, Part, responses};
+ghost use Rattle.response.specs.Internal.{IsTile, Filled, PlacesWritten, Cleared, Stretched, Placed, InnerPart};
+ghost use Rattle.response.specs.Internal.{responses};
 ghost use Rattle.response.specs.Internal.{offsetAt, eightsOf};
 use crate::alone::alone;
 use crate::runs::eights;
@@ -38,7 +39,7 @@ struct Field {
 // Writes 0 to n places from `at` on.
 fn clear(map: &mut [f32], at: usize, n: usize)
     requires { ⌜ at + n ≤ length (now map) ⌝ }
-    ensures { λ _. ⌜ Written zero at n (λ _. zero) (now (map .entry)) (now (map .exit)) ⌝ }
+    ensures { λ _. ⌜ PlacesWritten zero at n (λ _. zero) (now (map .entry)) (now (map .exit)) ⌝ }
 {
     let mut i = 0usize;
     while i < n {
@@ -73,7 +74,7 @@ fn block(
     s: usize,
     map: &mut [f32],
 )
-    requires { ⌜ Placed (length (now img)) f (length (now map)) × Part f i (i + n) j (j + m) ⌝ }
+    requires { ⌜ Placed (length (now img)) f (length (now map)) × InnerPart f i (i + n) j (j + m) ⌝ }
     requires { ⌜ (off ≡ tab 16 (offsetAt (ringOf (f .radius)) s)) × (0 < n) × (n ≤ 128) × (0 < m) × (m ≤ 16)
         × IsTile s (now tile) × (eightsOf n + 20 ≤ s) ⌝ }
     ensures { λ _. ⌜ Filled zero (f .pw) (f .ph) (responses (now (img .entry)) f) i (i + n) j (j + m)
@@ -123,7 +124,7 @@ fn band(
     tile: &mut [u16],
     map: &mut [f32],
 )
-    requires { ⌜ Placed (length (now img)) f (length (now map)) × Part f a b j (j + m) × (a ≤ b) ⌝ }
+    requires { ⌜ Placed (length (now img)) f (length (now map)) × InnerPart f a b j (j + m) × (a ≤ b) ⌝ }
     requires { ⌜ (off ≡ tab 16 (offsetAt (ringOf (f .radius)) 148)) × (0 < m) × (m ≤ 16) × IsTile 148 (now tile) ⌝ }
     ensures { λ _. ⌜ Filled zero (f .pw) (f .ph) (responses (now (img .entry)) f) a b j (j + m)
         (now (map .entry)) (now (map .exit)) × IsTile 148 (now (tile .exit)) ⌝ }
@@ -147,7 +148,7 @@ fn large(
     e: usize,
     map: &mut [f32],
 )
-    requires { ⌜ Placed (length (now img)) f (length (now map)) × Part f a b c e × (a ≤ b) × (c ≤ e) ⌝ }
+    requires { ⌜ Placed (length (now img)) f (length (now map)) × InnerPart f a b c e × (a ≤ b) × (c ≤ e) ⌝ }
     requires { ⌜ off ≡ tab 16 (offsetAt (ringOf (f .radius)) 148) ⌝ }
     ensures { λ _. ⌜ Filled zero (f .pw) (f .ph) (responses (now (img .entry)) f) a b c e (now (map .entry))
         (now (map .exit)) ⌝ }
@@ -164,7 +165,7 @@ fn large(
 // Computes the responses of up to 16 by 16 cells from the map's column i and row j on. A small tile takes less time to
 // fill.
 fn small(img: &[u8], f: Field, i: usize, j: usize, n: usize, m: usize, map: &mut [f32])
-    requires { ⌜ Placed (length (now img)) f (length (now map)) × Part f i (i + n) j (j + m) ⌝ }
+    requires { ⌜ Placed (length (now img)) f (length (now map)) × InnerPart f i (i + n) j (j + m) ⌝ }
     requires { ⌜ (0 < n) × (n ≤ 16) × (0 < m) × (m ≤ 16) ⌝ }
     ensures { λ _. ⌜ Filled zero (f .pw) (f .ph) (responses (now (img .entry)) f) i (i + n) j (j + m)
         (now (map .entry)) (now (map .exit)) ⌝ }
@@ -176,7 +177,7 @@ fn small(img: &[u8], f: Field, i: usize, j: usize, n: usize, m: usize, map: &mut
 
 // Computes the response of the cell in the map's column i and row j.
 fn single(img: &[u8], f: Field, i: usize, j: usize, map: &mut [f32])
-    requires { ⌜ Placed (length (now img)) f (length (now map)) × Part f i (i + 1) j (j + 1) ⌝ }
+    requires { ⌜ Placed (length (now img)) f (length (now map)) × InnerPart f i (i + 1) j (j + 1) ⌝ }
     ensures { λ _. ⌜ Filled zero (f .pw) (f .ph) (responses (now (img .entry)) f) i (i + 1) j (j + 1)
         (now (map .entry)) (now (map .exit)) ⌝ }
 {
@@ -195,7 +196,7 @@ fn inner(
     e: usize,
     map: &mut [f32],
 )
-    requires { ⌜ Placed (length (now img)) f (length (now map)) × Part f a b c e × (a ≤ b) × (c ≤ e) ⌝ }
+    requires { ⌜ Placed (length (now img)) f (length (now map)) × InnerPart f a b c e × (a ≤ b) × (c ≤ e) ⌝ }
     requires { ⌜ off ≡ tab 16 (offsetAt (ringOf (f .radius)) 148) ⌝ }
     ensures { λ _. ⌜ Filled zero (f .pw) (f .ph) (responses (now (img .entry)) f) a b c e (now (map .entry))
         (now (map .exit)) ⌝ }

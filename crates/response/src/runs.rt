@@ -6,7 +6,8 @@ ghost use lib.ListN.{length, getD};
 ghost use Rattle.float32.specs.Float32.{zero};
 ghost use Rattle.ring.specs.Ring.{ringOf};
 ghost use Rattle.response.specs.Response.{responseOf};
-ghost use Rattle.response.specs.Internal.{Bytes, Framed, Written, Long, Summed, eightsOf};
+ghost use Rattle.response.specs.Internal.{Bytes, ImageWithOffsets, PlacesWritten, SumPlaces, CellsSummed};
+ghost use Rattle.response.specs.Internal.{eightsOf};
 use crate::cell::cell_sums;
 use crate::cell::value;
 
@@ -31,10 +32,10 @@ pub(crate) fn sums(
     sum: &mut [u16; 128],
     cross: &mut [u16; 128],
 )
-    requires { ⌜ Bytes (now tile) × Framed (now tile) s 36 (ringOf radius) radius off
-        × Long (now balance) (now sum) (now cross) ⌝ }
+    requires { ⌜ Bytes (now tile) × ImageWithOffsets (now tile) s 36 (ringOf radius) radius off
+        × SumPlaces (now balance) (now sum) (now cross) ⌝ }
     requires { ⌜ (radius ≤ 10) × (radius ≤ y) × (y + radius < 36) × (n ≤ 128) × (n + radius + radius ≤ s) ⌝ }
-    ensures { λ _. ⌜ Summed (now (tile .entry)) s (ringOf radius) radius y n (now (balance .exit))
+    ensures { λ _. ⌜ CellsSummed (now (tile .entry)) s (ringOf radius) radius y n (now (balance .exit))
         (now (sum .exit)) (now (cross .exit)) ⌝ }
 {
     let mut i = 0usize;
@@ -57,7 +58,7 @@ pub(crate) fn values(
     at: usize,
 )
     requires { ⌜ (n ≤ 128) × (at + n ≤ length (now map)) ⌝ }
-    ensures { λ _. ⌜ Written zero at n
+    ensures { λ _. ⌜ PlacesWritten zero at n
         (λ i. responseOf (getD (now (balance .entry)) i 0) 4096 (getD (now (sum .entry)) i 0)
         (getD (now (cross .entry)) i 0)) (now (map .entry)) (now (map .exit)) ⌝ }
 {

@@ -7,7 +7,7 @@ ghost use lib.ListN.{length, getD};
 ghost use Rattle.lists.specs.Limits.{largestSide, largestMap};
 ghost use Rattle.lists.specs.Tab.{tab, pixel};
 ghost use Rattle.ring.specs.Ring.{ringOf};
-ghost use Rattle.response.specs.Internal.{Bytes, IsTile, Filled, Written, offsetAt};
+ghost use Rattle.response.specs.Internal.{Bytes, IsTile, Filled, PlacesWritten, offsetAt};
 
 // The distance in places of a number of rows and columns, in rows of w places.
 fn offset(rows: u8, columns: u8, w: usize) -> usize
@@ -51,7 +51,7 @@ pub(crate) fn wide(b: u8) -> u16
 // Copies n pixels, from place `from` of the image on, to the places from `at` on.
 fn widen_row(img: &[u8], from: usize, n: usize, tile: &mut [u16], at: usize)
     requires { ⌜ (from + n ≤ length (now img)) × (at + n ≤ length (now tile)) × Bytes (now tile) ⌝ }
-    ensures { λ _. ⌜ Written 0 at n (λ i. getD (now (img .entry)) (from + i) 0) (now (tile .entry))
+    ensures { λ _. ⌜ PlacesWritten 0 at n (λ i. getD (now (img .entry)) (from + i) 0) (now (tile .entry))
         (now (tile .exit)) × Bytes (now (tile .exit)) ⌝ }
 {
     let mut i = 0usize;

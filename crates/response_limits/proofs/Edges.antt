@@ -13,7 +13,7 @@ use Rattle.lists.specs.Tab.{tab}
 use Rattle.lists.proofs.Tab.{length-tab, tab-ext, tab-add, part-length-to}
 use Rattle.ring.specs.Ring.{Ring}
 use Rattle.response.specs.Response.{inside}
-use Rattle.response.specs.Internal.{Inner, Span}
+use Rattle.response.specs.Internal.{Inner, InnerSpan}
 use Rattle.response_limits.specs.Limits.{lowAt, highAt}
 use Rattle.response_limits.specs.Internal.{EdgesCleared}
 
@@ -84,7 +84,7 @@ module _ (low high : List ℕ) (w h : ℕ) (t : Ring) (y : ℕ) where
     highs-shifted = shifted (λ k. highAt low high w h t k y)
 
   -- the inner cells between edges that are 0
-  module _ (radius from to : ℕ) (b : Span w h t radius 0 y w from to) (s : List ℤ) (c : EdgesCleared from to w s) (ys : List ℤ) (m : ℕ)
+  module _ (radius from to : ℕ) (b : InnerSpan w h t radius 0 y w from to) (s : List ℤ) (c : EdgesCleared from to w s) (ys : List ℤ) (m : ℕ)
       (k : m ≡ to - from) where
     outside : (i : ℕ) → inside w h t (0 + i) y ≡ false → inside w h t i y ≡ false
     outside i e = ap (λ (x : ℕ). inside w h t x y) (sym (zero-add i)) ∙ e
@@ -106,7 +106,7 @@ module _ (low high : List ℕ) (w h : ℕ) (t : Ring) (y : ℕ) where
     highs-put = row-put (λ i. highAt low high w h t i y) (λ i e. unfold highAt in (rw e))
 
 -- a cell between the edges
-pub span-inner : (w h : ℕ) (t : Ring) (radius y from to : ℕ) → Span w h t radius 0 y w from to → (i : ℕ) → i < to - from
+pub span-inner : (w h : ℕ) (t : Ring) (radius y from to : ℕ) → InnerSpan w h t radius 0 y w from to → (i : ℕ) → i < to - from
     → Inner w h radius (from + i) y
 span-inner w h t radius y from to b i l =
     subst (λ (x : ℕ). Inner w h radius x y) (zero-add (from + i)) (b .inner (from + i) (omega arith) (omega arith))

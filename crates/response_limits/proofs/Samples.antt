@@ -20,14 +20,14 @@ use Rattle.response.specs.Internal.{Inner}
 use Rattle.response.proofs.Samples as response
 use Rattle.response.proofs.Indices.{area-le}
 use Rattle.response_limits.specs.Limits.{lowAt, highAt}
-use Rattle.response_limits.specs.Internal.{Framed, SamplesOf, limitsOf}
+use Rattle.response_limits.specs.Internal.{ImageWithTable, SamplesOf, limitsOf}
 use Rattle.response_limits.specs.declared.cell.CellSamples.{CellSamples}
 use Rattle.response_limits.specs.declared.cell.CellLimits.{CellLimits}
 
 pub rows-small : (y w : ℕ) → y ≤ largestSide + 255 → w ≤ largestSide → y * w ≤ (largestSide + 255) * largestSide
 rows-small y w p q = mul-le-mul {n₂ = largestSide + 255} {m₂ = largestSide} p q
 
-module _ (img : List ℕ) (w h radius : ℕ) (t : RingOffsets) (f : Framed img w h radius t) (x y : ℕ) (n : Inner w h radius x y) where
+module _ (img : List ℕ) (w h radius : ℕ) (t : RingOffsets) (f : ImageWithTable img w h radius t) (x y : ℕ) (n : Inner w h radius x y) where
   column : (k : ℕ) → getD (t .columns) k 0 ≡ dx (ringOf radius) k
   column k = ap (λ (o : RingOffsets). getD (o .columns) k 0) (f .table)
 

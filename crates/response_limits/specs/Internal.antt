@@ -15,7 +15,7 @@ use Rattle.response_limits.specs.declared.cell.CellSamples.{CellSamples}
 use Rattle.response_limits.specs.declared.cell.CellLimits.{CellLimits}
 
 -- an image, and the table of the ring of that radius
-pub record Framed (img : List ℕ) (w h radius : ℕ) (t : RingOffsets) : Type 0 where
+pub record ImageWithTable (img : List ℕ) (w h radius : ℕ) (t : RingOffsets) : Type 0 where
   pub image : Sized (length img) w h
   pub table : t ≡ offsetsOf (ringOf radius)
   pub own-radius : ringOf radius .radius ≡ radius

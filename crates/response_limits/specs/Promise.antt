@@ -39,11 +39,11 @@ refusalOf low high w h ring lows highs = lowest (conditions low high w h ring lo
 -- number and values of each case: the results are in the buffers, so the answer itself has no values
 abbrev pub numberOf : Limits → ℕ
 numberOf Written = 0
-numberOf (Refused n) = n
+numberOf (Refused number) = number
 
 abbrev pub valuesOf : Limits → List ℕ
 valuesOf Written = []
-valuesOf (Refused n) = []
+valuesOf (Refused number) = []
 
 -- the promise of `response_limits`, for the images `low` and `high` of w by h: the buffers d and e become `lows` and
 -- `highs`

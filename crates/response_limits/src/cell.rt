@@ -8,7 +8,7 @@ ghost use Rattle.lists.specs.Limits.{largestSide};
 ghost use Rattle.lists.specs.Tab.{tab, pixel};
 ghost use Rattle.response.specs.Internal.{Inner};
 ghost use Rattle.response_limits.specs.Limits.{rangeAt, leastDist, srLeast, drLeast, ringRange};
-ghost use Rattle.response_limits.specs.Internal.{Framed, SamplesOf, gainOf, costOf, limitsOf};
+ghost use Rattle.response_limits.specs.Internal.{ImageWithTable, SamplesOf, gainOf, costOf, limitsOf};
 use ring::RingOffsets;
 
 // ---- for bytes, sixteen of which fill a vector register, and for wider numbers: a - b, or 0 if that is negative; and
@@ -183,7 +183,7 @@ pub(crate) fn samples(
     x: usize,
     y: usize,
 ) -> CellSamples
-    requires { ⌜ Framed (now img) w h radius t ⌝ }
+    requires { ⌜ ImageWithTable (now img) w h radius t ⌝ }
     requires { ⌜ Inner w h radius x y ⌝ }
     ensures { λ r. ⌜ SamplesOf (now (img .entry)) w radius x y r ⌝ }
 {

@@ -34,9 +34,9 @@ fn are_crossed(low: &[u8], high: &[u8]) -> bool
 fn refusal(low: &[u8], high: &[u8], w: usize, h: usize, ring: u32, lows: usize, highs: usize) -> u8
     ensures { λ r. ⌜ r ≡ refusalOf (now (low .entry)) (now (high .entry)) w h ring lows highs ⌝ }
 {
-    let no = image_size::refusal(low.len(), w, h);
-    if no != 0 {
-        return no;
+    let number = image_size::refusal(low.len(), w, h);
+    if number != 0 {
+        return number;
     }
     if high.len() != low.len() {
         return 2;
@@ -71,9 +71,9 @@ pub fn response_limits(
     ensures { λ r. ⌜ LimitsWritten (now (low .entry)) (now (high .entry)) w h ring (now (lows .entry))
         (now (highs .entry)) r (now (lows .exit)) (now (highs .exit)) ⌝ }
 {
-    let no = refusal(low, high, w, h, ring, lows.len(), highs.len());
-    if no != 0 {
-        return Limits::Refused(no);
+    let number = refusal(low, high, w, h, ring, lows.len(), highs.len());
+    if number != 0 {
+        return Limits::Refused(number);
     }
     rows::fill(low, high, w, h, ring, lows, highs);
     Limits::Written

@@ -7,9 +7,9 @@ ghost use lib.IntN.{pos};
 ghost use Rattle.lists.specs.Tab.{tab};
 ghost use Rattle.lists.specs.Internal.{Sized};
 ghost use Rattle.ring.specs.Ring.{ringOf};
-ghost use Rattle.response.specs.Internal.{Inner, Span};
+ghost use Rattle.response.specs.Internal.{Inner, InnerSpan};
 ghost use Rattle.response_limits.specs.Limits.{lowAt, highAt, lowMap, highMap};
-ghost use Rattle.response_limits.specs.Internal.{Framed, EdgesCleared};
+ghost use Rattle.response_limits.specs.Internal.{ImageWithTable, EdgesCleared};
 use crate::cell::difference;
 use crate::cell::limits;
 use crate::cell::samples;
@@ -32,7 +32,7 @@ fn run(
     lows: &mut [i32],
     highs: &mut [i32],
 )
-    requires { ⌜ Framed (now low) w h radius t × Framed (now high) w h radius t ⌝ }
+    requires { ⌜ ImageWithTable (now low) w h radius t × ImageWithTable (now high) w h radius t ⌝ }
     requires { ⌜ (length (now lows) ≤ 32) × (length (now highs) ≡ length (now lows)) × (x + length (now lows) ≤ w) ⌝ }
     requires { ⌜ ((i : ℕ) → i < length (now lows) → Inner w h radius (x + i) y) ⌝ }
     ensures { λ _. ⌜ now (lows .exit)
@@ -79,7 +79,7 @@ fn inner(
     lows: &mut [i32],
     highs: &mut [i32],
 )
-    requires { ⌜ Framed (now low) w h radius t × Framed (now high) w h radius t ⌝ }
+    requires { ⌜ ImageWithTable (now low) w h radius t × ImageWithTable (now high) w h radius t ⌝ }
     requires { ⌜ (length (now highs) ≡ length (now lows)) × (x + length (now lows) ≤ w) ⌝ }
     requires { ⌜ ((i : ℕ) → i < length (now lows) → Inner w h radius (x + i) y) ⌝ }
     ensures { λ _. ⌜ now (lows .exit)
@@ -118,7 +118,7 @@ struct Stretch {
 // Which cells of row y have their ring in the image.
 fn reach(w: usize, h: usize, radius: usize, y: usize) -> Stretch
     requires { ⌜ (ringOf radius .radius ≡ radius) × (y < h) ⌝ }
-    ensures { λ r. ⌜ Span w h (ringOf radius) radius 0 y w (r .from) (r .to) ⌝ }
+    ensures { λ r. ⌜ InnerSpan w h (ringOf radius) radius 0 y w (r .from) (r .to) ⌝ }
 {
     if y < radius {
         return Stretch { from: w, to: w };
@@ -166,7 +166,7 @@ fn row(
     lows: &mut [i32],
     highs: &mut [i32],
 )
-    requires { ⌜ Framed (now low) w h radius t × Framed (now high) w h radius t ⌝ }
+    requires { ⌜ ImageWithTable (now low) w h radius t × ImageWithTable (now high) w h radius t ⌝ }
     requires { ⌜ (length (now lows) ≡ w) × (length (now highs) ≡ w) × (y < h) ⌝ }
     ensures { λ _. ⌜ now (lows .exit)
         ≡ tab w (λ i. lowAt (now (low .entry)) (now (high .entry)) w h (ringOf radius) i y) ⌝ }

@@ -12,7 +12,7 @@ use Rattle.lists.proofs.Refusals.{lowest-none}
 use Rattle.retention.specs.declared.Holding.{Holding}
 use Rattle.retention.specs.declared.Holding.the-variants.{NotYet, Held, Gone, Refused}
 use Rattle.retention.specs.Retention.{known, stays, stateOf, isLate, refusalOf, numberOf, letterOf, valuesOf}
-use Rattle.retention.specs.Answer.{Told}
+use Rattle.retention.specs.Answer.{StateTold}
 
 -- an item that is not refused
 pub record Sound (kind start time : ℕ) : Type 0 where
@@ -61,7 +61,7 @@ module _ (kind start time : ℕ) where
   abbrev number : ℕ
   number = refusalOf kind start time
 
-  pub refused-told : (n : ℕ) → n ≡ number → (n ≡ 0 → ⊥) → Told kind start time (Refused n)
+  pub refused-told : (n : ℕ) → n ≡ number → (n ≡ 0 → ⊥) → StateTold kind start time (Refused n)
   refused-told zero e h = absurd (h refl)
   refused-told (suc n) e h =
       record {
@@ -70,5 +70,5 @@ module _ (kind start time : ℕ) where
         values = ap (λ (k : ℕ). valuesUnless k (valuesOf (stateOf kind start time))) e;
       }
 
-  pub state-told : (r : Holding) → number ≡ 0 → r ≡ stateOf kind start time → Told kind start time r
+  pub state-told : (r : Holding) → number ≡ 0 → r ≡ stateOf kind start time → StateTold kind start time r
   state-told r z e = record { answer = e ∙ rw z; number = ap numberOf e ∙ stated kind start time ∙ sym z; values = ap valuesOf e ∙ rw z }

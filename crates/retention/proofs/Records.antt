@@ -11,7 +11,7 @@ use Rattle.lists.proofs.Refusals.{lowest-none, lowest-le}
 use Rattle.retention.specs.declared.Holding.{Holding}
 use Rattle.retention.specs.Retention.{known, isLate}
 use Rattle.retention.specs.Stream.{timeOf, timeFault, kindAt, secondAt, recordFault, stateAt}
-use Rattle.retention.specs.Answer.{Told}
+use Rattle.retention.specs.Answer.{StateTold}
 use Rattle.retention.proofs.Items.{not-refused}
 
 -- a time, and a record, that is whole and has no fault
@@ -103,7 +103,7 @@ module _ (s : List ℕ) where
 
     -- what `holding` tells of it is what is printed of it
     pub record-told : (start time : ℕ) (r : Holding) → recordFault s at ≡ 0 → start ≡ secondAt s at → time ≡ timeOf s → time ≤ 2 ^ 40
-        → Told (kindAt s at) start time r → r ≡ stateAt s at
+        → StateTold (kindAt s at) start time r → r ≡ stateAt s at
     record-told start time r e p q l t =
         let w = whole e in
         let sound = not-refused (kindAt s at) start time (record { kind-is = w .kind-is; early = rw p (w .early); now-early = l }) in

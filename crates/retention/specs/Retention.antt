@@ -42,17 +42,17 @@ abbrev pub numberOf : Holding → ℕ
 numberOf NotYet = 0
 numberOf Held = 0
 numberOf Gone = 0
-numberOf (Refused n) = n
+numberOf (Refused number) = number
 
 -- N, H or G for not yet, held, gone (RULES 32.5); a refusal has none
 abbrev pub letterOf : Holding → ℕ
 letterOf NotYet = 78
 letterOf Held = 72
 letterOf Gone = 71
-letterOf (Refused n) = 0
+letterOf (Refused number) = 0
 
 abbrev pub valuesOf : Holding → List ℕ
 valuesOf NotYet = letterOf NotYet ∷ []
 valuesOf Held = letterOf Held ∷ []
 valuesOf Gone = letterOf Gone ∷ []
-valuesOf (Refused n) = []
+valuesOf (Refused number) = []

@@ -5,7 +5,7 @@ ghost use mathlib.Core.Path.{_≡_};
 ghost use Prim.Native.Nat.{_≤_, _^_};
 ghost use Rattle.retention.specs.Retention.{stateOf, refusalOf};
 ghost use Rattle.retention.specs.Retention.{stays as staysOf};
-ghost use Rattle.retention.specs.Answer.{Told};
+ghost use Rattle.retention.specs.Answer.{StateTold};
 
 // Whether an item that was received or issued is still held.
 fn stays(kind: u8, start: u64, time: u64) -> bool
@@ -51,7 +51,7 @@ fn refusal(kind: u8, start: u64, time: u64) -> u8
 
 // Whether an item of a kind, received or issued at the second `start`, is held at the second `time`.
 pub fn holding(kind: u8, start: u64, time: u64) -> Holding
-    ensures { λ r. ⌜ Told kind start time r ⌝ }
+    ensures { λ r. ⌜ StateTold kind start time r ⌝ }
 {
     let number = refusal(kind, start, time);
     if number != 0 {

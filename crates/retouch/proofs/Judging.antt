@@ -18,8 +18,8 @@ use Rattle.image_size.specs.ImageSize as image_size
 use Rattle.ring.specs.Ring.{ringOf, isRing}
 use Rattle.ring.proofs.Places.{ring-is}
 use Rattle.retouch.specs.Retouch.{touchedCount, changed, redone}
-use Rattle.retouch.specs.Promise.{isOutside, conditions, refusalOf, Retouches}
-use Rattle.retouch.specs.Internal.{Ready}
+use Rattle.retouch.specs.Promise.{placeOutside, conditions, refusalOf, Retouches}
+use Rattle.retouch.specs.Internal.{PixelChecked}
 use Rattle.retouch.specs.declared.Retouched.the-variants.{Redone, Refused}
 
 -- ---- the ladder
@@ -47,7 +47,7 @@ module _ (pixels cells w h ring : ℕ) (q : Place) where
         go false rest e = absurd (z e)
 
     -- else the rest of the table
-    pub by-rest : Sized cells w h → refusalOf pixels cells w h ring q ≡ lowest ((not (isRing ring), 3) ∷ (isOutside w h q, 14) ∷ [])
+    pub by-rest : Sized cells w h → refusalOf pixels cells w h ring q ≡ lowest ((not (isRing ring), 3) ∷ (placeOutside w h q, 14) ∷ [])
     unfolding refusalOf
     by-rest u =
         simp (
@@ -59,7 +59,7 @@ module _ (pixels cells w h ring : ℕ) (q : Place) where
 
 -- ---- no refusal
 pub ready : (img : List ℕ) (w h ring : ℕ) (q : Place) (m : List Float) → refusalOf (length img) (length m) w h ring q ≡ 0
-    → Ready img w h ring q m
+    → PixelChecked img w h ring q m
 unfolding refusalOf
 ready img w h ring q m e =
     let c = all-clear (conditions (length img) (length m) w h ring q) (omega arith, (omega arith, (omega arith, (omega arith, tt)))) e in
@@ -74,8 +74,8 @@ ready img w h ring q m e =
     }
 
 -- and the image with the pixel changed is as long
-pub ready-changed : (img : List ℕ) (w h ring : ℕ) (q : Place) (m : List Float) (value : ℕ) → Ready img w h ring q m
-    → Ready (changed img w q value) w h ring q m
+pub ready-changed : (img : List ℕ) (w h ring : ℕ) (q : Place) (m : List Float) (value : ℕ) → PixelChecked img w h ring q m
+    → PixelChecked (changed img w q value) w h ring q m
 ready-changed img w h ring q m value r =
     record {
       image = record { narrow = r .image .narrow; low = r .image .low; sized = length-set img (q .y * w + q .x) value ∙ r .image .sized };

@@ -23,7 +23,7 @@ use Rattle.response.specs.Patch.{View, responseIn, refusalOf, Patched}
 use Rattle.response.specs.declared.Patch.{Patch}
 use Rattle.response.proofs.Map.{Filled, accepted, filled, same-length, cell-at, box-cols, box-rows}
 use Rattle.response.proofs.Outcome.{allowed}
-use Rattle.retouch.specs.Internal.{Ready, fits, touchedBy, countBy, redoneBy}
+use Rattle.retouch.specs.Internal.{PixelChecked, fits, touchedBy, countBy, redoneBy}
 use Rattle.retouch.proofs.Touching.{Fitting, fitting, cell-across, cell-down, none-across, none-down, count-here, count-nowhere}
 use Rattle.retouch.proofs.Redoing.{redone-none, redone-one}
 
@@ -77,7 +77,7 @@ module _ (img : List ℕ) (w h ring : ℕ) (image : Sized (length img) w h) (kno
 abbrev Leaves : List ℕ → ℕ → ℕ → ℕ → Place → List Float → ℕ × ℕ → List Float → ℕ → Type 0
 Leaves img w h ring q m p m′ n = (m′ ≡ redoneBy (p ∷ []) img w h (ringOf ring) q m) × ((n ≡ countBy (p ∷ []) w h (ringOf ring) q) × (n ≤ 1))
 
-module _ (img : List ℕ) (w h ring : ℕ) (q : Place) (m : List Float) (g : Ready img w h ring q m) (p : ℕ × ℕ) where
+module _ (img : List ℕ) (w h ring : ℕ) (q : Place) (m : List Float) (g : PixelChecked img w h ring q m) (p : ℕ × ℕ) where
   own : ringOf ring .radius ≡ ring
   own = radius-is ring (g .known)
 

@@ -11,7 +11,7 @@ use lib.Ieee.{Float}
 use Rattle.lists.specs.Places.{Place, sumOf}
 use Rattle.ring.specs.Ring.{Ring, IsRing}
 use Rattle.retouch.specs.Retouch.{samplePlaces, touchedCount, redone}
-use Rattle.retouch.specs.Internal.{Ready, countBy, redoneBy}
+use Rattle.retouch.specs.Internal.{PixelChecked, countBy, redoneBy}
 use Rattle.retouch.proofs.Counting.{sum-append}
 use Rattle.retouch.proofs.Sampling.{nth, samples-apart, samples-many}
 use Rattle.retouch.proofs.Touching.{touched-none, touched-by-all, count-apart}
@@ -62,6 +62,6 @@ module _ (img : List ℕ) (w h : ℕ) (t : Ring) (is : IsRing t) (q : Place) (m�
               ∙ sym (touched-by-all w h t q),
         )
 
-pub ready-map : (img : List ℕ) (w h ring : ℕ) (q : Place) (m m′ : List Float) → Ready img w h ring q m → length m′ ≡ w * h
-    → Ready img w h ring q m′
+pub ready-map : (img : List ℕ) (w h ring : ℕ) (q : Place) (m m′ : List Float) → PixelChecked img w h ring q m → length m′ ≡ w * h
+    → PixelChecked img w h ring q m′
 ready-map img w h ring q m m′ r e = record { image = r .image; cells = e; known = r .known; column = r .column; row = r .row }

@@ -16,7 +16,7 @@ use Rattle.response.specs.Response.{inside, responseAt}
 use Rattle.retouch.specs.Retouch.{isAt}
 
 -- an image of w by h, a map of as many cells, one of the two rings, and a pixel of the image
-pub record Ready (img : List ℕ) (w h ring : ℕ) (q : Place) (m : List Float) : Type 0 where
+pub record PixelChecked (img : List ℕ) (w h ring : ℕ) (q : Place) (m : List Float) : Type 0 where
   pub image : Sized (length img) w h
   pub cells : length m ≡ w * h
   pub known : (ring ≡ 5) ⊎ (ring ≡ 10)

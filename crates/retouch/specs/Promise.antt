@@ -14,15 +14,15 @@ use Rattle.retouch.specs.declared.Retouched.{Retouched}
 use Rattle.retouch.specs.declared.Retouched.the-variants.{Redone, Refused}
 
 -- 14: the place is not in an image of w by h
-abbrev pub isOutside : ℕ → ℕ → Place → Bool
-isOutside w h q = leb w (q .x) || leb h (q .y)
+abbrev pub placeOutside : ℕ → ℕ → Place → Bool
+placeOutside w h q = leb w (q .x) || leb h (q .y)
 
 -- for an image with a given number of pixels and a map with a given number of cells. 1: a side above the largest; 2:
 -- not w * h pixels, or not w * h cells; 3: a ring that is not 5 or 10; 14: a place outside
 abbrev pub conditions : ℕ → ℕ → ℕ → ℕ → ℕ → Place → List (Bool × ℕ)
 conditions pixels cells w h ring q =
     (isLarge w h, 1) ∷ (isMisfit pixels w h || isMisfit cells w h, 2) ∷ (not (isRing ring), 3)
-    ∷ (isOutside w h q, 14) ∷ []
+    ∷ (placeOutside w h q, 14) ∷ []
 
 unfoldable pub refusalOf : ℕ → ℕ → ℕ → ℕ → ℕ → Place → ℕ
 refusalOf pixels cells w h ring q = lowest (conditions pixels cells w h ring q)
@@ -30,11 +30,11 @@ refusalOf pixels cells w h ring q = lowest (conditions pixels cells w h ring q)
 -- the number and the values of each case: 0 for no refusal, and how many cells were recomputed
 abbrev pub numberOf : Retouched → ℕ
 numberOf (Redone cells) = 0
-numberOf (Refused n) = n
+numberOf (Refused number) = number
 
 abbrev pub valuesOf : Retouched → List ℕ
 valuesOf (Redone cells) = cells ∷ []
-valuesOf (Refused n) = []
+valuesOf (Refused number) = []
 
 -- the promise of `retouch`, for the pixel q of an image of w by h and its new value: the image becomes `image`, and the
 -- map `map`; both are unchanged if the call is refused

@@ -6,7 +6,7 @@ ghost use lib.ListN.{getD};
 ghost use Rattle.lists.specs.Limits.{largestSide, largestRing};
 ghost use Rattle.ring.specs.Ring.{ringOf};
 ghost use Rattle.retouch.specs.Retouch.{samplePlaces, touchedCount, redone};
-ghost use Rattle.retouch.specs.Internal.{Ready, fits, countBy, redoneBy};
+ghost use Rattle.retouch.specs.Internal.{PixelChecked, fits, countBy, redoneBy};
 
 // A place of the square around a cell, counted from the square's corner.
 struct SquarePlace {
@@ -75,7 +75,7 @@ fn redo(
     row: usize,
     map: &mut [f32],
 ) -> usize
-    requires { ⌜ Ready (now img) w h ring (record { x = x; y = y }) (now map) ⌝ }
+    requires { ⌜ PixelChecked (now img) w h ring (record { x = x; y = y }) (now map) ⌝ }
     ensures { λ r. ⌜ now (map .exit)
         ≡ redoneBy ((column, row) ∷ []) (now (img .entry)) w h (ringOf ring) (record { x = x; y = y })
         (now (map .entry)) ⌝ }
@@ -106,7 +106,7 @@ pub(crate) fn redo_touched(
     y: usize,
     map: &mut [f32],
 ) -> usize
-    requires { ⌜ Ready (now img) w h ring (record { x = x; y = y }) (now map) ⌝ }
+    requires { ⌜ PixelChecked (now img) w h ring (record { x = x; y = y }) (now map) ⌝ }
     ensures { λ r. ⌜ now (map .exit)
         ≡ redone (now (img .entry)) w h (ringOf ring) (record { x = x; y = y }) (now (map .entry)) ⌝ }
     ensures { λ r. ⌜ r ≡ touchedCount w h (ringOf ring) (record { x = x; y = y }) ⌝ }

@@ -2,7 +2,7 @@
 mod cells; // cells.rt: the touched cells
 
 ghost use mathlib.Core.Path.{_≡_};
-ghost use Rattle.retouch.specs.Promise.{isOutside, refusalOf, Retouches};
+ghost use Rattle.retouch.specs.Promise.{placeOutside, refusalOf, Retouches};
 use crate::cells::redo_touched;
 
 // How many cells were recomputed, or the number of a refusal, which leaves image and map unchanged.
@@ -13,7 +13,7 @@ pub enum Retouched {
 
 // Whether an image of w by h has no pixel (x, y).
 fn is_outside(w: usize, h: usize, x: usize, y: usize) -> bool
-    ensures { λ r. ⌜ r ≡ isOutside w h (record { x = x; y = y }) ⌝ }
+    ensures { λ r. ⌜ r ≡ placeOutside w h (record { x = x; y = y }) ⌝ }
 {
     if w <= x {
         return true;
@@ -57,9 +57,9 @@ pub fn retouch(
     ensures { λ r. ⌜ Retouches w h ring (record { x = x; y = y }) value (now (img .entry))
         (now (map .entry)) r (now (img .exit)) (now (map .exit)) ⌝ }
 {
-    let no = refusal(img.len(), map.len(), w, h, ring, x, y);
-    if no != 0 {
-        return Retouched::Refused(no);
+    let number = refusal(img.len(), map.len(), w, h, ring, x, y);
+    if number != 0 {
+        return Retouched::Refused(number);
     }
     img[y * w + x] = value;
     let cells = redo_touched(img, w, h, ring, x, y, map);

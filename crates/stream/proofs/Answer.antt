@@ -10,14 +10,14 @@ use Rattle.stream.specs.declared.Header.{Header}
 use Rattle.stream.specs.declared.FrameStream.the-variants.{Frame, Refused}
 use Rattle.stream.specs.Stream.{mostPixels, Reading, accepted, refused, readFrame}
 use Rattle.stream.specs.Answer.{answerOf, numberOf, valuesOf, bufferAfter, FrameRead}
-use Rattle.stream.specs.Internal.{headerAt, pixelCount, pixelByte, Small, Judged}
+use Rattle.stream.specs.Internal.{headerAt, pixelCount, pixelByte, SidesInRange, Judged}
 use Rattle.stream.proofs.Order.{unless-faulty}
 
 pub pixels-are : (s : List ℕ) (header : Header) → header ≡ headerAt s → header .width * header .height ≡ pixelCount s
 unfolding headerAt pixelCount
 pixels-are s header e = rw e
 
-pub pixels-fit : (s : List ℕ) → Small s → pixelCount s ≤ mostPixels
+pub pixels-fit : (s : List ℕ) → SidesInRange s → pixelCount s ≤ mostPixels
 unfolding pixelCount
 pixels-fit s p = omega (arith, mul-le-mul (p .width) (p .height))
 

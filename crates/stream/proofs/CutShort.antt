@@ -16,7 +16,8 @@ use Rattle.lists.proofs.Places.{any-append}
 use Rattle.lists.proofs.Refusals.{lowest-le}
 use Rattle.merge_radius.specs.MergeRadius.{radiusOutside}
 use Rattle.stream.specs.Stream.{largestStreamSide, u8, u16, u32, known, bodyLength, Reading, refused, readRecord}
-use Rattle.stream.specs.Stream.{sidesFault, rangeOutside, parametersFault, paddingFault, bodyFault, recordFault}
+use Rattle.frame_params.specs.Ranges.{rangeOutside}
+use Rattle.stream.specs.Stream.{sidesFault, parametersFault, paddingFault, bodyFault, recordFault}
 use Rattle.stream.specs.Wanted.{wantedBody}
 use Rattle.stream.proofs.Meaning.{Open}
 use Rattle.stream.proofs.Records.{fault-same}

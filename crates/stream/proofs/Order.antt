@@ -20,7 +20,7 @@ use Rattle.stream.specs.Stream.{largestStreamSide, u16, bodyLength, body
 use Rattle.stream.specs.Stream.{recordFault}
 use Rattle.stream.specs.Stream.{Reading, accepted, refused, readRecord, readPixels, readParameters, readFrame}
 use Rattle.stream.specs.Wanted.{wantedHere, wantedRecord, wantedPixels, wantedParameters, wanted}
-use Rattle.stream.specs.Internal.{due, headerAt, pixelCount, pixelByte, leftAfter, Small, Judged, Stopped}
+use Rattle.stream.specs.Internal.{due, headerAt, pixelCount, pixelByte, leftAfter, SidesInRange, Judged, Stopped}
 use Rattle.stream.proofs.Records.{sound}
 use Rattle.stream.proofs.PixelPlaces.{one-fewer, pixels-more}
 
@@ -68,7 +68,7 @@ wanted-aside left (kind ∷ rest) = refl
 
 -- behind the sides
 pub record Sided (s : List ℕ) : Type 0 where
-  pub small : Small s
+  pub small : SidesInRange s
   pub long : 5 ≤ length s
   pub reading : readFrame s ≡ readParameters (take 4 (drop 1 s)) (drop 5 s)
   pub wanting : wanted s ≡ wantedParameters (take 4 (drop 1 s)) (drop 5 s)
@@ -86,7 +86,7 @@ unfoldable pub wantedBehind : List ℕ → ℕ → ℕ
 wantedBehind s i = wantedPixels (recordsFor (leftBehind s i)) (leftBehind s i) (drop (22 + 33 * i) s)
 
 pub record Passed (s : List ℕ) (i : ℕ) : Type 0 where
-  pub small : Small s
+  pub small : SidesInRange s
   pub long : 22 + 33 * i ≤ length s
   pub reading : readFrame s ≡ readBehind s i
   pub wanting : wanted s ≡ wantedBehind s i
@@ -117,7 +117,7 @@ leftAt {s} (sides p) = pixelCount s
 leftAt {s} (pixels i p) = leftBehind s i
 leftAt (end at left j w) = left
 
-pub record Standing (s : List ℕ) (kind at left : ℕ) : Type 0 where
+pub record AtStage (s : List ℕ) (kind at left : ℕ) : Type 0 where
   pub stage : Stage s
   pub kind-is : kind ≡ kindAt stage
   pub at-is : at ≡ placeAt stage
@@ -314,7 +314,7 @@ module _ {s : List ℕ} where
   stage-faulty (end at rest j w) m h = absurd (m refl)
 
   abbrev Next : Stage s → ℕ → Type 0
-  Next st due = Standing s due (placeAt st + 1 + bodyLength due) (leftAfter s due (leftAt st))
+  Next st due = AtStage s due (placeAt st + 1 + bodyLength due) (leftAfter s due (leftAt st))
 
   next-pixels : (i : ℕ) (p : Passed s i) → 0 < leftBehind s i → recordFault 3 (leftBehind s i) (drop (22 + 33 * i) s) ≡ 0
       → Next (pixels i p) 3
@@ -360,12 +360,12 @@ module _ {s : List ℕ} where
   stage-end (end at rest j w) e = (j, w)
 
 -- ---- and for the reader's own kind, place and pixels left
-pub standing-start : (s : List ℕ) → Standing s 0 0 0
-standing-start s = record { stage = start; kind-is = refl; at-is = refl; left-is = refl }
+pub at-stage-start : (s : List ℕ) → AtStage s 0 0 0
+at-stage-start s = record { stage = start; kind-is = refl; at-is = refl; left-is = refl }
 
-module _ {s : List ℕ} {kind at left : ℕ} (st : Standing s kind at left) where
-  pub standing-end : kind ≡ 4 → Stopped s (record { at = at; due = kind; left = left; fault = 0 })
-  standing-end e =
+module _ {s : List ℕ} {kind at left : ℕ} (st : AtStage s kind at left) where
+  pub at-stage-end : kind ≡ 4 → Stopped s (record { at = at; due = kind; left = left; fault = 0 })
+  at-stage-end e =
       let p = stage-end (st .stage) (sym (st .kind-is) ∙ e) in
       record { judged = p .0; wants = p .1 }
 
@@ -379,8 +379,8 @@ module _ {s : List ℕ} {kind at left : ℕ} (st : Standing s kind at left) wher
     going : kindAt (st .stage) ≡ 4 → ⊥
     going e = more (st .kind-is ∙ e)
 
-    pub standing-faulty : (n ≡ 0 → ⊥) → Stopped s (record { at = at; due = k; left = left; fault = n })
-    standing-faulty h =
+    pub at-stage-faulty : (n ≡ 0 → ⊥) → Stopped s (record { at = at; due = k; left = left; fault = n })
+    at-stage-faulty h =
         let f = stage-faulty (st .stage) going (λ e. h (fault-is ∙ e)) in
         record {
           judged = record { reading = f .reading ∙ ap refused (sym fault-is) ∙ sym (unless-faulty n _ h); whole = λ e. absurd (h e) };
@@ -388,12 +388,12 @@ module _ {s : List ℕ} {kind at left : ℕ} (st : Standing s kind at left) wher
         }
 
     module _ (e : n ≡ 0) where
-      pub standing-long : at + 1 + bodyLength k ≤ length s
-      standing-long = omega (arith, sound k left (drop at s) (sym n-is ∙ e) .long, length-drop at s)
+      pub at-stage-long : at + 1 + bodyLength k ≤ length s
+      at-stage-long = omega (arith, sound k left (drop at s) (sym n-is ∙ e) .long, length-drop at s)
 
-      pub standing-sides : 5 ≤ length s
-      standing-sides = stage-sides (st .stage) going (sym fault-is ∙ e)
+      pub at-stage-sides : 5 ≤ length s
+      at-stage-sides = stage-sides (st .stage) going (sym fault-is ∙ e)
 
-      pub standing-next : (b rest : ℕ) → b ≡ bodyLength k → rest ≡ leftAfter s k left → Standing s k (at + 1 + b) rest
-      standing-next b rest p q =
+      pub at-stage-next : (b rest : ℕ) → b ≡ bodyLength k → rest ≡ leftAfter s k left → AtStage s k (at + 1 + b) rest
+      at-stage-next b rest p q =
           rw (p, q, due-is, st .at-is, st .left-is) (stage-next (st .stage) going (sym fault-is ∙ e))

@@ -7,7 +7,8 @@ use lib.Dec.{eqb}
 use lib.Ieee.{Float, binary32, ofBits}
 use Rattle.lists.specs.Refusals.{lowest}
 use Rattle.merge_radius.specs.MergeRadius.{radiusOutside}
-use Rattle.stream.specs.Stream.{rangeOutside, parametersFault}
+use Rattle.frame_params.specs.Ranges.{rangeOutside}
+use Rattle.stream.specs.Stream.{parametersFault}
 use Rattle.stream.specs.Internal.{firstFault, rangeFault, radiusFault}
 
 -- the range before the radius

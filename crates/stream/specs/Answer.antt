@@ -10,13 +10,13 @@ use Rattle.stream.specs.Stream.{Reading, accepted, refused, readFrame}
 -- the answer to a reading: its sides and parameters, or its number
 abbrev pub answerOf : Reading → FrameStream
 answerOf (accepted header pixels) = Frame header
-answerOf (refused n) = Refused n
+answerOf (refused number) = Refused number
 
 -- the number and the values of each case: 0 for no refusal, and sides and parameters in the order of the stream (RULES
 -- 11.1)
 abbrev pub numberOf : FrameStream → ℕ
 numberOf (Frame h) = 0
-numberOf (Refused n) = n
+numberOf (Refused number) = number
 
 abbrev pub valuesOf : FrameStream → List ℕ
 valuesOf (Frame h) =
@@ -25,12 +25,12 @@ valuesOf (Frame h) =
     ∷ h .«merge_bits» ∷ h .levels
     ∷ h .«minimum_side» ∷ h .«search_radius»
     ∷ []
-valuesOf (Refused n) = []
+valuesOf (Refused number) = []
 
 -- the buffer after it: the pixels at the start; unchanged if the stream is refused
 abbrev pub bufferAfter : Reading → List ℕ → List ℕ
 bufferAfter (accepted header pixels) buffer = front pixels buffer
-bufferAfter (refused n) buffer = buffer
+bufferAfter (refused number) buffer = buffer
 
 pub record FrameRead (input buffer : List ℕ) (r : FrameStream) (after : List ℕ) : Type 0 where
   pub answer : r ≡ answerOf (readFrame input)

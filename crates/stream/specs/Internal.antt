@@ -11,7 +11,8 @@ use Rattle.lists.specs.Refusals.{lowest, unless}
 use Rattle.merge_radius.specs.MergeRadius.{radiusOutside}
 use Rattle.stream.specs.declared.Header.{Header}
 use Rattle.stream.specs.declared.judging.Stop.{Stop}
-use Rattle.stream.specs.Stream.{largestStreamSide, u8, u16, known, headerOf, rangeOutside, accepted, refused}
+use Rattle.frame_params.specs.Ranges.{rangeOutside}
+use Rattle.stream.specs.Stream.{largestStreamSide, u8, u16, known, headerOf, accepted, refused}
 use Rattle.stream.specs.Stream.{recordsFor, readFrame}
 use Rattle.stream.specs.Wanted.{wantedHere, wanted}
 
@@ -49,13 +50,13 @@ unfolding pixelCount
 leftAfter s kind left = cond (eqb kind 1) (pixelCount s) (cond (eqb kind 3) (left - 32) left)
 
 -- the sides are at most the largest
-pub record Small (s : List ℕ) : Type 0 where
+pub record SidesInRange (s : List ℕ) : Type 0 where
   pub width : u16 (take 4 (drop 1 s)) 0 ≤ largestStreamSide
   pub height : u16 (take 4 (drop 1 s)) 2 ≤ largestStreamSide
 
 -- the stream is complete up to its last pixel, and its sides are small
 pub record Whole (s : List ℕ) : Type 0 where
-  pub small : Small s
+  pub small : SidesInRange s
   pub long : 22 + 33 * recordsFor (pixelCount s) ≤ length s
 
 -- the number of the earliest fault

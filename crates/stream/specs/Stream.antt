@@ -5,10 +5,9 @@ use mathlib.Core.List.{List, [], _∷_, _++_}
 use lib.ListN.{length, getD, take, drop}
 use lib.Dec.{eqb, ltb, leb}
 use lib.Ieee.{binary32, ofBits}
-use Rattle.lists.specs.Limits.{largestRadius}
 use Rattle.lists.specs.Places.{any}
 use Rattle.lists.specs.Refusals.{lowest, unless}
-use Rattle.ring.specs.Ring.{isRing}
+use Rattle.frame_params.specs.Ranges.{rangeOutside}
 use Rattle.merge_radius.specs.MergeRadius.{radiusOutside}
 use Rattle.stream.specs.declared.Header.{Header}
 
@@ -83,13 +82,8 @@ sidesOutside width height = ltb largestStreamSide width || ltb largestStreamSide
 unfoldable pub sidesFault : ℕ → ℕ → ℕ
 sidesFault width height = lowest ((sidesOutside width height, 1) ∷ [])
 
--- ring not 5 or 10; window or centroid radius above the largest
-unfoldable pub rangeOutside : ℕ → ℕ → ℕ → Bool
-rangeOutside ring window centroid = not (isRing ring) || ltb largestRadius window || ltb largestRadius centroid
-
 -- 3, then 5
 unfoldable pub parametersFault : ℕ → ℕ → ℕ → ℕ → ℕ
-unfolding rangeOutside
 parametersFault ring window centroid merge =
     lowest ((rangeOutside ring window centroid, 3) ∷ (radiusOutside (ofBits binary32 merge), 5) ∷ [])
 

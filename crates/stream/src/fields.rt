@@ -69,13 +69,7 @@ fn first(a: u8, b: u8) -> u8
 fn range_fault(ring: u8, window: u8, centroid_radius: u8) -> u8
     ensures { λ r. ⌜ r ≡ rangeFault ring window «centroid_radius» ⌝ }
 {
-    if !ring::is_ring(ring as u32) {
-        return 3;
-    }
-    if lists::LARGEST_RADIUS < window as u32 {
-        return 3;
-    }
-    if lists::LARGEST_RADIUS < centroid_radius as u32 {
+    if frame_params::is_outside(ring as u32, window as u32, centroid_radius as u32) {
         return 3;
     }
     0

@@ -15,7 +15,7 @@ use Rattle.lists.proofs.Members.{Implies, any-none, at-block, any-more, keep-fe
 use Rattle.detect.specs.Peaks.{CellTests, same, window, beaten, positives, isPeak, peakPlaces}
 use Rattle.detect.specs.Internal.{Inside}
 use Rattle.detect.proofs.Window.{same-self, window-in}
-use Rattle.sure_peak.specs.SurePeak.{fifthsIn, byLimits, insideBorder, isSure}
+use Rattle.sure_peak.specs.SurePeak.{storedFifths, byLimits, insideBorder, isSure}
 use Rattle.sure_peak.specs.Internal.{sure}
 use Rattle.sure_peak.proofs.Judging.{inside}
 
@@ -34,8 +34,8 @@ le-lt (negsuc a) (negsuc b) (negsuc c) l e = let x = leb→le b a (l .le) in let
 
 -- ---- exact values f within two maps of w by h
 pub record Within (lows highs : List ℤ) (w h : ℕ) (f : Place → ℤ) : Type 0 where
-  pub least : (q : Place) → q .x < w → q .y < h → fifthsIn lows w q ≤ℤ f q
-  pub most : (q : Place) → q .x < w → q .y < h → f q ≤ℤ fifthsIn highs w q
+  pub least : (q : Place) → q .x < w → q .y < h → storedFifths lows w q ≤ℤ f q
+  pub most : (q : Place) → q .x < w → q .y < h → f q ≤ℤ storedFifths highs w q
 
 module _ (lows highs : List ℤ) (w h : ℕ) (f : Place → ℤ) (v : Within lows highs w h f) (threshold r least : ℕ) (p : Place) where
   abbrev limits : CellTests
@@ -50,8 +50,8 @@ module _ (lows highs : List ℤ) (w h : ℕ) (f : Place → ℤ) (v : Within low
     larger-too =
         any-more (λ q. values .larger q p) (λ q. limits .larger q p) (window w h r p)
         (window-in (Implies (λ q. values .larger q p) (λ q. limits .larger q p)) w h r p
-        (λ q i j e. lt-le (fifthsIn lows w p) (f q) (fifthsIn highs w q)
-        (le-lt (fifthsIn lows w p) (f p) (f q) (v .least p across down) e) (v .most q i j)))
+        (λ q i j e. lt-le (storedFifths lows w p) (f q) (storedFifths highs w q)
+        (le-lt (storedFifths lows w p) (f p) (f q) (v .least p across down) e) (v .most q i j)))
 
     -- what is surely above 0 is so
     positive-too : count (limits .positive) (window w h r p) ≤ count (values .positive) (window w h r p)
@@ -59,14 +59,14 @@ module _ (lows highs : List ℤ) (w h : ℕ) (f : Place → ℤ) (v : Within low
     positive-too =
         keep-fewer (limits .positive) (values .positive) (window w h r p)
         (window-in (Implies (limits .positive) (values .positive)) w h r p
-        (λ q i j e. lt-le (pos 0) (fifthsIn lows w q) (f q) e (v .least q i j)))
+        (λ q i j e. lt-le (pos 0) (storedFifths lows w q) (f q) e (v .least q i j)))
 
     peak-too : isPeak limits w h r least p ≡ true → isPeak values w h r least p ≡ true
     unfolding isPeak beaten positives
     peak-too e =
         let a = and-parts (limits .above p) _ e in
         let b = and-parts (not (any (λ q. limits .larger q p) (window w h r p))) _ (a .1) in
-        let above : values .above p ≡ true = lt-le (pos (5 * threshold)) (fifthsIn lows w p) (f p) (a .0) (v .least p across down) in
+        let above : values .above p ≡ true = lt-le (pos (5 * threshold)) (storedFifths lows w p) (f p) (a .0) (v .least p across down) in
         let top : any (λ q. values .larger q p) (window w h r p) ≡ false =
         is-false _ (λ t. false≢true (sym (not-true _ (b .0)) ∙ larger-too t)) in
         let many : leb least (count (values .positive) (window w h r p)) ≡ true =

@@ -1,34 +1,29 @@
 -- What each return of the ladder gives, what no refusal tells, and what a call answers. Assumes nothing.
-use mathlib.Core.Path.{_≡_, refl, sym, _∙_}
-use mathlib.Core.Bool.{Bool, true, false, cond, not, _&&_, _||_}
+use mathlib.Core.Path.{_≡_, refl, sym, ap, _∙_}
+use mathlib.Core.Bool.{Bool, true, false, cond, _&&_}
 use mathlib.Core.List.{List}
 use Prim.Native.Nat.{ℕ, zero, suc, _+_, _*_, _<_, _≤_}
 use native.Mathlib.Omega.{arith}
 use lib.Dec.{leb, ltb}
 use lib.ListN.{length}
 use lib.IntN.{ℤ}
-use borrow.Author.Tests.{leb-true, ltb-true, ltb-false, leb-false, not-false, eq-eqb, ne-eqb}
+use borrow.Author.Tests.{leb-true, ltb-true, leb-false, eq-eqb, ne-eqb}
 use Rattle.lists.specs.Limits.{largestRing, largestRadius}
 use Rattle.lists.specs.Places.{Place}
-use Rattle.lists.specs.Refusals.{lowest}
 use Rattle.lists.specs.Internal.{Sized}
 use Rattle.lists.proofs.Tests.{and-parts, and-none, or-neither}
 use Rattle.lists.proofs.Refusals.{all-clear, sized-of}
 use Rattle.image_size.proofs.Judged.{passed}
-use Rattle.ring.specs.Ring.{isRing}
 use Rattle.ring.proofs.Places.{ring-small}
+use Rattle.frame_params.specs.Ranges.{rangeOutside}
+use Rattle.frame_params.proofs.Ranges.{inside as inside-ranges}
 use Rattle.detect.specs.Peaks.{isPeak}
 use Rattle.detect.specs.Internal.{Inside}
-use Rattle.detect.specs.Detect as detect
-use Rattle.retouch.specs.Promise.{isOutside}
+use Rattle.retouch.specs.Promise.{placeOutside}
 use Rattle.sure_peak.specs.SurePeak.{isSure}
 use Rattle.sure_peak.specs.Internal.{sure}
-use Rattle.sure_peak.specs.Promise.{conditions, refusalOf, SureTold}
+use Rattle.sure_peak.specs.Promise.{conditions, refusalOf, SurePeakTold}
 use Rattle.sure_peak.specs.declared.Sure.the-variants.{Yes, No, Refused}
-
--- 3, of the parameters
-abbrev isBad : ℕ → ℕ → ℕ → Bool
-isBad ring window centroid = not (isRing ring) || (ltb largestRadius window || ltb largestRadius centroid)
 
 -- ---- the ladder
 module _ (lows highs w h ring window centroid : ℕ) (p : Place) (s : Sized lows w h) where
@@ -36,28 +31,18 @@ module _ (lows highs w h ring window centroid : ℕ) (p : Place) (s : Sized lows
   unfolding refusalOf
   by-length n = sym (passed lows w h _ s ∙ rw (ne-eqb highs (w * h) (λ e. n (e ∙ sym (s .sized)))))
 
-  module _ (same : highs ≡ lows) (n : ℕ) (e : n ≡ lowest (detect.conditions lows w h ring window centroid)) where
-    rest : refusalOf lows highs w h ring window centroid p ≡ cond (isBad ring window centroid) 3 (cond (isOutside w h p) 14 0)
+  module _ (same : highs ≡ lows) where
+    rest : refusalOf lows highs w h ring window centroid p
+        ≡ cond (rangeOutside ring window centroid) 3 (cond (placeOutside w h p) 14 0)
     unfolding refusalOf
     rest = passed lows w h _ s ∙ rw (eq-eqb highs (w * h) (same ∙ s .sized))
 
-    parameters : n ≡ cond (isBad ring window centroid) 3 0
-    unfolding detect.conditions
-    parameters = e ∙ passed lows w h _ s
+    pub by-parameters : rangeOutside ring window centroid ≡ true → 3 ≡ refusalOf lows highs w h ring window centroid p
+    by-parameters b = sym (rest ∙ ap (λ (t : Bool). cond t 3 (cond (placeOutside w h p) 14 0)) b)
 
-    pub by-parameters : (n ≡ 0 → ⊥) → n ≡ refusalOf lows highs w h ring window centroid p
-    by-parameters z = rw rest (go (isBad ring window centroid) parameters)
-      where
-        go : (b : Bool) → n ≡ cond b 3 0 → n ≡ cond b 3 (cond (isOutside w h p) 14 0)
-        go true q = q
-        go false q = absurd (z q)
-
-    pub by-place : n ≡ 0 → refusalOf lows highs w h ring window centroid p ≡ cond (isOutside w h p) 14 0
-    by-place z = rest ∙ go (isBad ring window centroid) parameters
-      where
-        go : (b : Bool) → n ≡ cond b 3 0 → _≡_ {A = ℕ} (cond b 3 (cond (isOutside w h p) 14 0)) (cond (isOutside w h p) 14 0)
-        go true q = absurd (let no : ⊥ = omega arith in no)
-        go false q = refl
+    pub by-place : rangeOutside ring window centroid ≡ false
+        → refusalOf lows highs w h ring window centroid p ≡ cond (placeOutside w h p) 14 0
+    by-place b = rest ∙ ap (λ (t : Bool). cond t 3 (cond (placeOutside w h p) 14 0)) b
 
 -- ---- no refusal: two maps, parameters in their ranges, and a place of the maps
 pub record Given (lows highs w h ring window centroid : ℕ) (p : Place) : Type 0 where
@@ -75,15 +60,14 @@ unfolding refusalOf
 given lows highs w h ring window centroid p e =
     let c = all-clear (conditions lows highs w h ring window centroid p)
     (omega arith, (omega arith, (omega arith, (omega arith, (omega arith, tt))))) e in
-    let parameters = or-neither (not (isRing ring)) (ltb largestRadius window || ltb largestRadius centroid) (c .1 .1 .1 .0) in
-    let radii = or-neither (ltb largestRadius window) (ltb largestRadius centroid) (parameters .1) in
+    let parameters = inside-ranges ring window centroid (c .1 .1 .1 .0) in
     let place = or-neither (leb w (p .x)) (leb h (p .y)) (c .1 .1 .1 .1 .0) in
     record {
       low-cells = sized-of lows w h (c .0) (c .1 .0);
       high-cells = sized-of highs w h (c .0) (c .1 .1 .0);
-      ring-small = ring-small ring (not-false (isRing ring) (parameters .0));
-      window-small = ltb-false 16 window (radii .0);
-      centroid-small = ltb-false 16 centroid (radii .1);
+      ring-small = ring-small ring (parameters .ring-is);
+      window-small = parameters .in-window;
+      centroid-small = parameters .in-radius;
       column = leb-false w (p .x) (place .0);
       row = leb-false h (p .y) (place .1);
     }
@@ -119,27 +103,27 @@ narrower w h border r p l i =
 -- ---- what a call answers
 module _ (lows highs : List ℤ) (w h ring threshold window least centroid : ℕ) (p : Place) (n : ℕ)
     (e : n ≡ refusalOf (length lows) (length highs) w h ring window centroid p) where
-  pub when-refused : (n ≡ 0 → ⊥) → SureTold lows highs w h ring threshold window least centroid p (Refused n)
+  pub when-refused : (n ≡ 0 → ⊥) → SurePeakTold lows highs w h ring threshold window least centroid p (Refused n)
   when-refused z = go n e z
     where
       go : (n : ℕ) → n ≡ refusalOf (length lows) (length highs) w h ring window centroid p → (n ≡ 0 → ⊥)
-          → SureTold lows highs w h ring threshold window least centroid p (Refused n)
+          → SurePeakTold lows highs w h ring threshold window least centroid p (Refused n)
       go zero e z = absurd (z refl)
       go (suc n) e z = record { answer = rw (← e); number = e; values = rw (← e) }
 
   module _ (z : n ≡ 0) where
     told : (b : Bool) → isSure lows highs w h ring threshold window least centroid p ≡ b
-        → SureTold lows highs w h ring threshold window least centroid p (cond b Yes No)
+        → SurePeakTold lows highs w h ring threshold window least centroid p (cond b Yes No)
     told true s = record { answer = rw (← e, z, s); number = sym z ∙ e; values = rw (← e, z, s) }
     told false s = record { answer = rw (← e, z, s); number = sym z ∙ e; values = rw (← e, z, s) }
 
     abbrev border : ℕ
     border = ring + window + centroid
 
-    pub outside-across : across w h border p ≡ false → SureTold lows highs w h ring threshold window least centroid p No
+    pub outside-across : across w h border p ≡ false → SurePeakTold lows highs w h ring threshold window least centroid p No
     outside-across a = told false (unfold isSure in (rw a))
 
-    pub outside-down : down w h border p ≡ false → SureTold lows highs w h ring threshold window least centroid p No
+    pub outside-down : down w h border p ≡ false → SurePeakTold lows highs w h ring threshold window least centroid p No
     outside-down d = told false (unfold isSure in (rw (d, and-none (across w h border p))))
 
     module _ (a : across w h border p ≡ true) (d : down w h border p ≡ true) (b : Bool)
@@ -148,8 +132,8 @@ module _ (lows highs : List ℤ) (w h ring threshold window least centroid : ℕ
       unfolding isSure
       judged = rw (a, d) (sym s)
 
-      pub is-sure : b ≡ true → SureTold lows highs w h ring threshold window least centroid p Yes
+      pub is-sure : b ≡ true → SurePeakTold lows highs w h ring threshold window least centroid p Yes
       is-sure t = told true (judged ∙ t)
 
-      pub not-sure : b ≡ false → SureTold lows highs w h ring threshold window least centroid p No
+      pub not-sure : b ≡ false → SurePeakTold lows highs w h ring threshold window least centroid p No
       not-sure t = told false (judged ∙ t)

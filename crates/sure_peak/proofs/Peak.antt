@@ -10,7 +10,7 @@ use lib.IntN.{ℤ, pos}
 use lib.Signed.{ltZ}
 use Rattle.lists.specs.Places.{Place, any, keep, count}
 use Rattle.detect.specs.Peaks.{window, beaten, positives, isPeak}
-use Rattle.sure_peak.specs.SurePeak.{fifthsIn}
+use Rattle.sure_peak.specs.SurePeak.{storedFifths}
 use Rattle.sure_peak.specs.Internal.{sure}
 
 -- ---- one passes a test exactly if their number is not 0
@@ -35,7 +35,7 @@ module _ {A : Type 0} (f : A → Bool) where
       pick false n r = r n
 
 -- ---- the three tests, of the low number of p
-module _ (lows highs : List ℤ) (w h r threshold least : ℕ) (p : Place) (low : ℤ) (e : low ≡ fifthsIn lows w p) where
+module _ (lows highs : List ℤ) (w h r threshold least : ℕ) (p : Place) (low : ℤ) (e : low ≡ storedFifths lows w p) where
   abbrev peak : Bool
   peak = isPeak (sure lows highs w threshold) w h r least p
 
@@ -44,13 +44,13 @@ module _ (lows highs : List ℤ) (w h r threshold least : ℕ) (p : Place) (low 
   when-low a = sym (rw (← e, a))
 
   module _ (above : ltZ (pos (5 * threshold)) low ≡ true) (n : ℕ)
-      (larger : n ≡ count (λ q. ltZ low (fifthsIn highs w q)) (window w h r p)) where
+      (larger : n ≡ count (λ q. ltZ low (storedFifths highs w q)) (window w h r p)) where
     pub when-beaten : (n ≡ 0 → ⊥) → false ≡ peak
     unfolding isPeak beaten
     when-beaten z =
-        sym (rw (← e, above, some-counted (λ q. ltZ low (fifthsIn highs w q)) (window w h r p) (λ c. z (larger ∙ c))))
+        sym (rw (← e, above, some-counted (λ q. ltZ low (storedFifths highs w q)) (window w h r p) (λ c. z (larger ∙ c))))
 
-    pub when-top : n ≡ 0 → (m : ℕ) → m ≡ count (λ q. ltZ (pos 0) (fifthsIn lows w q)) (window w h r p) → leb least m ≡ peak
+    pub when-top : n ≡ 0 → (m : ℕ) → m ≡ count (λ q. ltZ (pos 0) (storedFifths lows w q)) (window w h r p) → leb least m ≡ peak
     unfolding isPeak beaten positives
     when-top z m c =
-        sym (rw (← e, above, none-counted (λ q. ltZ low (fifthsIn highs w q)) (window w h r p) (sym larger ∙ z), c))
+        sym (rw (← e, above, none-counted (λ q. ltZ low (storedFifths highs w q)) (window w h r p) (sym larger ∙ z), c))

@@ -14,12 +14,12 @@ use Rattle.lists.proofs.Places.{count-block-le}
 use Rattle.lists.proofs.Rows.{rowPart, CountRows, rows-next, rows-all}
 use Rattle.detect.specs.Peaks.{window}
 use Rattle.detect.proofs.Window.{square-whole, count-square}
-use Rattle.sure_peak.specs.SurePeak.{fifthsIn}
+use Rattle.sure_peak.specs.SurePeak.{storedFifths}
 use Rattle.sure_peak.specs.Internal.{Windowed}
 
 module _ (m : List ℤ) (w h r : ℕ) (p : Place) (k : Windowed m w h r p) (v : ℤ) where
   abbrev test : Place → Bool
-  test q = ltZ v (fifthsIn m w q)
+  test q = ltZ v (storedFifths m w q)
 
   -- n cells above v were counted in the rows of the window above row yy
   abbrev pub Counted : ℕ → ℕ → Type 0

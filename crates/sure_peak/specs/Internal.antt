@@ -8,11 +8,11 @@ use Rattle.lists.specs.Places.{Place}
 use Rattle.lists.specs.Internal.{Sized}
 use Rattle.detect.specs.Internal.{Inside}
 use Rattle.detect.specs.Peaks.{CellTests}
-use Rattle.sure_peak.specs.SurePeak.{fifthsIn, byLimits}
+use Rattle.sure_peak.specs.SurePeak.{storedFifths, byLimits}
 
 -- the reading of two maps w wide by what is sure
 abbrev pub sure : List ℤ → List ℤ → ℕ → ℕ → CellTests
-sure lows highs w threshold = byLimits (fifthsIn lows w) (fifthsIn highs w) threshold
+sure lows highs w threshold = byLimits (storedFifths lows w) (storedFifths highs w) threshold
 
 -- a map of w by h, and a window of that radius around a place of it that lies in the map
 pub record Windowed (m : List ℤ) (w h r : ℕ) (p : Place) : Type 0 where

@@ -3,14 +3,12 @@ use Prim.Native.Nat.{ℕ}
 use mathlib.Core.Path.{_≡_}
 use mathlib.Core.Bool.{Bool, cond, not, _||_}
 use mathlib.Core.List.{List, [], _∷_}
-use lib.Dec.{ltb}
 use lib.ListN.{length}
 use lib.IntN.{ℤ}
-use Rattle.lists.specs.Limits.{largestRadius}
 use Rattle.lists.specs.Places.{Place}
 use Rattle.lists.specs.Refusals.{lowest, unless, valuesUnless, isLarge, isMisfit}
-use Rattle.ring.specs.Ring.{isRing}
-use Rattle.retouch.specs.Promise.{isOutside}
+use Rattle.frame_params.specs.Ranges.{rangeOutside}
+use Rattle.retouch.specs.Promise.{placeOutside}
 use Rattle.sure_peak.specs.SurePeak.{isSure}
 use Rattle.sure_peak.specs.declared.Sure.{Sure}
 use Rattle.sure_peak.specs.declared.Sure.the-variants.{Yes, No, Refused}
@@ -22,8 +20,8 @@ conditions lows highs w h ring window centroid p =
     (isLarge w h, 1)
     ∷ (isMisfit lows w h, 2)
     ∷ (isMisfit highs w h, 2)
-    ∷ (not (isRing ring) || (ltb largestRadius window || ltb largestRadius centroid), 3)
-    ∷ (isOutside w h p, 14)
+    ∷ (rangeOutside ring window centroid, 3)
+    ∷ (placeOutside w h p, 14)
     ∷ []
 
 unfoldable pub refusalOf : ℕ → ℕ → ℕ → ℕ → ℕ → ℕ → ℕ → Place → ℕ
@@ -33,15 +31,15 @@ refusalOf lows highs w h ring window centroid p = lowest (conditions lows highs 
 abbrev pub numberOf : Sure → ℕ
 numberOf Yes = 0
 numberOf No = 0
-numberOf (Refused n) = n
+numberOf (Refused number) = number
 
 abbrev pub valuesOf : Sure → List ℕ
 valuesOf Yes = 1 ∷ []
 valuesOf No = 0 ∷ []
-valuesOf (Refused n) = []
+valuesOf (Refused number) = []
 
 -- the promise of `sure_peak`, for the place p of two maps of w by h
-pub record SureTold (lows highs : List ℤ) (w h ring threshold window least centroid : ℕ) (p : Place)
+pub record SurePeakTold (lows highs : List ℤ) (w h ring threshold window least centroid : ℕ) (p : Place)
     (r : Sure) : Type 0 where
   pub answer : r
       ≡ unless Refused (refusalOf (length lows) (length highs) w h ring window centroid p)

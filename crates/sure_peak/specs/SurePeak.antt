@@ -10,8 +10,8 @@ use Rattle.lists.specs.Places.{Place}
 use Rattle.detect.specs.Peaks.{CellTests, isPeak}
 
 -- the number of fifths at a place of a map in row order
-abbrev pub fifthsIn : List ℤ → ℕ → Place → ℤ
-fifthsIn m w p = getD m (p .y * w + p .x) (pos 0)
+abbrev pub storedFifths : List ℤ → ℕ → Place → ℤ
+storedFifths m w p = getD m (p .y * w + p .x) (pos 0)
 
 -- the reading, by what is sure, of a map whose exact value at each place is known to lie from a low number of fifths up
 -- to a high one: a cell is above the threshold if its low number is above five times that; it can be larger than
@@ -32,4 +32,4 @@ insideBorder w h border p = (leb border (p .x) && ltb (p .x + border) w) && (leb
 unfoldable pub isSure : List ℤ → List ℤ → ℕ → ℕ → ℕ → ℕ → ℕ → ℕ → ℕ → Place → Bool
 isSure lows highs w h ring threshold window least centroid p =
     insideBorder w h (ring + window + centroid) p && isPeak
-    (byLimits (fifthsIn lows w) (fifthsIn highs w) threshold) w h window least p
+    (byLimits (storedFifths lows w) (storedFifths highs w) threshold) w h window least p

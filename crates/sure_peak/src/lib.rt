@@ -9,7 +9,7 @@ ghost use lib.IntN.{pos};
 ghost use lib.Signed.{ltZ};
 ghost use Rattle.lists.specs.Limits.{largestSide, largestBorder};
 ghost use Rattle.detect.specs.Peaks.{isPeak};
-ghost use Rattle.sure_peak.specs.Promise.{refusalOf, SureTold};
+ghost use Rattle.sure_peak.specs.Promise.{refusalOf, SurePeakTold};
 ghost use Rattle.sure_peak.specs.Internal.{sure, Windowed};
 use crate::window::count_window;
 
@@ -34,16 +34,15 @@ fn refusal(
 ) -> u8
     ensures { λ r. ⌜ r ≡ refusalOf lows highs w h ring window centroid (record { x = x; y = y }) ⌝ }
 {
-    let no = image_size::refusal(lows, w, h);
-    if no != 0 {
-        return no;
+    let number = image_size::refusal(lows, w, h);
+    if number != 0 {
+        return number;
     }
     if highs != lows {
         return 2;
     }
-    let parameters = detect::refusal(lows, w, h, ring, window, centroid);
-    if parameters != 0 {
-        return parameters;
+    if frame_params::is_outside(ring, window, centroid) {
+        return 3;
     }
     if w <= x {
         return 14;
@@ -117,12 +116,12 @@ pub fn sure_peak(
     x: usize,
     y: usize,
 ) -> Sure
-    ensures { λ r. ⌜ SureTold (now (lows .entry))
+    ensures { λ r. ⌜ SurePeakTold (now (lows .entry))
         (now (highs .entry)) w h ring threshold window least centroid (record { x = x; y = y }) r ⌝ }
 {
-    let no = refusal(lows.len(), highs.len(), w, h, ring, window, centroid, x, y);
-    if no != 0 {
-        return Sure::Refused(no);
+    let number = refusal(lows.len(), highs.len(), w, h, ring, window, centroid, x, y);
+    if number != 0 {
+        return Sure::Refused(number);
     }
     let border = ring as usize + window as usize + centroid as usize;
     if !is_inside(w, border, x) {

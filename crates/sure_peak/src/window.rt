@@ -5,7 +5,7 @@ ghost use lib.ListN.{length};
 ghost use lib.Signed.{ltZ};
 ghost use Rattle.lists.specs.Places.{count};
 ghost use Rattle.detect.specs.Peaks.{window};
-ghost use Rattle.sure_peak.specs.SurePeak.{fifthsIn};
+ghost use Rattle.sure_peak.specs.SurePeak.{storedFifths};
 ghost use Rattle.sure_peak.specs.Internal.{Windowed};
 
 // How many of the cells are above v.
@@ -35,7 +35,7 @@ pub(crate) fn count_window(
     v: i32,
 ) -> u32
     requires { ⌜ Windowed (now map) w h r (record { x = x; y = y }) ⌝ }
-    ensures { λ n. ⌜ n ≡ count (λ q. ltZ v (fifthsIn (now (map .entry)) w q))
+    ensures { λ n. ⌜ n ≡ count (λ q. ltZ v (storedFifths (now (map .entry)) w q))
         (window w h r (record { x = x; y = y })) ⌝ }
 {
     let x0 = x - r;

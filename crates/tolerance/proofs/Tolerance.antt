@@ -25,7 +25,7 @@ use Rattle.center_of_mass.specs.declared.Outcome.the-variants.{Accepted, Reject
 use Rattle.center_of_mass.specs.CenterOfMass.{noSums, cellsAbout, windowSums, refined}
 use Rattle.center_of_mass.proofs.Weights.{Usual, unitsAt, sx-is, sy-is}
 use Rattle.center_of_mass.proofs.Range.{Inside, window-few, window-weighs, Weighing, weighing}
-use Rattle.patch_corners.specs.declared.FrameParams.{FrameParams}
+use Rattle.frame_params.specs.declared.FrameParams.{FrameParams}
 use Rattle.patch_corners.specs.OneMap.{Choice, searchOn, centreOrNone, localized}
 use Rattle.patch_corners.proofs.Fine.{Fine, map-usual}
 use Rattle.frame_pass.specs.Pass.{lookedAt}

@@ -13,7 +13,7 @@ use Rattle.response.specs.Exact.{fifthsIn}
 use Rattle.corner_list.specs.declared.Corner.{Corner}
 use Rattle.detect.specs.Detect.{startAt}
 use Rattle.center_of_mass.specs.CenterOfMass.{cellsAbout}
-use Rattle.patch_corners.specs.declared.FrameParams.{FrameParams}
+use Rattle.frame_params.specs.declared.FrameParams.{FrameParams}
 use Rattle.patch_corners.specs.OneMap.{Choice, searchOn, localized}
 
 -- ---- the cells that the centroid sums, the centre included (RULES 33.1): its window around the seed (x, y), which is

@@ -7,9 +7,9 @@ use lib.ListN.{length}
 use Rattle.patch_corners.specs.OneMap.{choiceOf}
 use Rattle.frame_pass.proofs.Inside.{corners-inside}
 use Rattle.frame_pass.proofs.Refusals.{admitted, admitted-sound}
-use Rattle.frame.specs.Internal.{Ready}
+use Rattle.frame.specs.Internal.{FrameChecked}
 use Rattle.frame.proofs.Levels.{ready-kept, levels-most, seeds-few, searched}
-use Rattle.frame.proofs.Entry.{found-refused, merge-free, entry-closed}
+use Rattle.frame.proofs.Entry.{found-refused, entry-merged}
 use Rattle.frame.proofs.find_corners_by.Statement.{statement}
 use Rattle.frame.proofs.find_corners_by.Tie as tie
 use Landmarks.*
@@ -40,7 +40,7 @@ add-found-requires c κs =
     let sound = admitted-sound (a .p) (a .img .now) (a .w) (a .h) _ _ taken
     (λ i. shared-slice-known-from-add-found-requires c .shared-slice-known .given i .fits) in
     let seeds = add-seeds-from-add-found-requires c .add-seeds in
-    let ready : Ready (a .p) (a .img .now) (a .w) (a .h) (length (a .map .now)) = record { sound = sound; enough = taken .enough } in
+    let ready : FrameChecked (a .p) (a .img .now) (a .w) (a .h) (length (a .map .now)) = record { sound = sound; enough = taken .enough } in
     let kept = seeds .kept .1 .1 .1 .1 .1 .1 .1 in (
       ready-kept _ _ _ _ _ _ ready (search kept),
       (
@@ -54,31 +54,11 @@ add-found-requires c κs =
       ),
     )
 
-finish-corners-requires : tie.Need-finish-corners-requires
-finish-corners-requires c κs =
-    let a = start-from-finish-corners-requires c .args in
-    let none = sym (refusal-from-finish-corners-requires c .refusal .ensures) ∙ if1-from-finish-corners-requires c .if1 .left in
-    let taken = admitted (a .p) (length (a .img .now)) (a .w) (a .h) (length (a .map .now)) (length (a .levels .now)) none in
-    let sound = admitted-sound (a .p) (a .img .now) (a .w) (a .h) _ _ taken
-    (λ i. shared-slice-known-from-finish-corners-requires c .shared-slice-known .given i .fits) in
-    let seeds = add-seeds-from-finish-corners-requires c .add-seeds in
-    let corners = add-found-from-finish-corners-requires c .add-found in
-    let seeds-kept = seeds .kept .1 .1 .1 .1 .1 .1 .1 in
-    let corners-kept = corners .kept .1 .1 .1 .1 .1 .1 .1 .1 .1 .1 .1 in
-    let found = searched (choiceOf (a .p) (a .exact)) (a .p) (a .img .now) (a .w) (a .h) _ _ _ _ _ _ _ (seeds .ensures) _
-    (added-from-finish-corners-requires c .added .ensures)
-    (corners .ensures) _ (lists-of-from-finish-corners-requires c .lists-of .ensures) in
-    merge-free (choiceOf (a .p) (a .exact)) (a .p) (a .img .now) (a .w) (a .h) (a .map .now) (a .levels .now) _ _ _
-    (build-from-finish-corners-requires c .build .ensures .counted) _ _ _ found
-    (record { xs = search seeds-kept; ys = search seeds-kept; strengths = search seeds-kept; neighbours = search seeds-kept })
-    (record { xs = search corners-kept; ys = search corners-kept; strengths = search corners-kept; neighbours = search corners-kept })
-    taken (corners-inside (a .p) (a .img .now) (a .w) (a .h) (choiceOf (a .p) (a .exact)) sound .1)
-
 same-length : tie.Need-same-length
 same-length c =
     omega (
       arith,
-      finish-corners-from-same-length c .finish-corners .kept,
+      merge-by-table-from-same-length c .merge-by-table .kept,
       add-found-from-same-length c .add-found .kept,
       add-seeds-from-same-length c .add-seeds .kept,
     )
@@ -99,17 +79,40 @@ same-length-6 : tie.Need-same-length-6
 same-length-6 c = omega (arith, clear-list-from-same-length-6 c .clear-list .kept, add-seeds-from-same-length-6 c .add-seeds .kept)
 
 same-length-7 : tie.Need-same-length-7
-same-length-7 c = omega (arith, finish-corners-from-same-length-7 c .finish-corners .kept, add-found-from-same-length-7 c .add-found .kept)
+same-length-7 c =
+    omega (
+      arith,
+      clear-list2-from-same-length-7 c .clear-list2 .kept,
+      merge-by-table-from-same-length-7 c .merge-by-table .kept,
+      add-found-from-same-length-7 c .add-found .kept,
+    )
 
 same-length-8 : tie.Need-same-length-8
-same-length-8 c = omega (arith, finish-corners-from-same-length-8 c .finish-corners .kept, add-found-from-same-length-8 c .add-found .kept)
+same-length-8 c =
+    omega (
+      arith,
+      clear-list2-from-same-length-8 c .clear-list2 .kept,
+      merge-by-table-from-same-length-8 c .merge-by-table .kept,
+      add-found-from-same-length-8 c .add-found .kept,
+    )
 
 same-length-9 : tie.Need-same-length-9
-same-length-9 c = omega (arith, finish-corners-from-same-length-9 c .finish-corners .kept, add-found-from-same-length-9 c .add-found .kept)
+same-length-9 c =
+    omega (
+      arith,
+      clear-list2-from-same-length-9 c .clear-list2 .kept,
+      merge-by-table-from-same-length-9 c .merge-by-table .kept,
+      add-found-from-same-length-9 c .add-found .kept,
+    )
 
 same-length-10 : tie.Need-same-length-10
 same-length-10 c =
-    omega (arith, finish-corners-from-same-length-10 c .finish-corners .kept, add-found-from-same-length-10 c .add-found .kept)
+    omega (
+      arith,
+      clear-list2-from-same-length-10 c .clear-list2 .kept,
+      merge-by-table-from-same-length-10 c .merge-by-table .kept,
+      add-found-from-same-length-10 c .add-found .kept,
+    )
 
 returns-2 : tie.Need-returns-2
 returns-2 c =
@@ -123,19 +126,24 @@ returns-2 c =
     let found = searched (choiceOf (a .p) (a .exact)) (a .p) (a .img .now) (a .w) (a .h) _ _ _ _ _ _ _ (seeds .ensures) _
     (added-from-returns-2 c .added .ensures)
     (corners .ensures) _ (lists-of-from-returns-2 c .lists-of .ensures) in
-    let finished = finish-corners-from-returns-2 c .finish-corners .ensures in
+    let taken = admitted (a .p) (length (a .img .now)) (a .w) (a .h) (length (a .map .now)) (length (a .levels .now)) none in
+    let sound = admitted-sound (a .p) (a .img .now) (a .w) (a .h) _ _ taken
+    (λ i. shared-slice-known-from-returns-2 c .shared-slice-known .given i .fits) in
     let searched-map = corners .last .1 .1 .1 .1 .1 .1 .1 .1 .1 .1 .1 .0 in
-    entry-closed (choiceOf (a .p) (a .exact)) (a .p) (a .img .now) (a .w) (a .h) (a .map .now) (a .levels .now) _ _ _
+    entry-merged (choiceOf (a .p) (a .exact)) (a .p) (a .img .now) (a .w) (a .h) (a .map .now) (a .levels .now) _ _ _
     (built .counted) _ _ _ found
     (record { xs = search seeds-kept; ys = search seeds-kept; strengths = search seeds-kept; neighbours = search seeds-kept })
     (record { xs = search corners-kept; ys = search corners-kept; strengths = search corners-kept; neighbours = search corners-kept })
-    none searched-map (omega (arith, corners .kept, seeds .kept)) _ (built .fills) (built .long) _ (finished .1)
-    _ (clear-levels-from-returns-2 c .clear-levels .ensures) _ (clear-list-from-returns-2 c .clear-list .ensures)
-    _ _ (finished .0) _ (c .answer-of .ensures)
+    none taken (corners-inside (a .p) (a .img .now) (a .w) (a .h) (choiceOf (a .p) (a .exact)) sound .1)
+    searched-map (omega (arith, corners .kept, seeds .kept)) _ (built .fills) (built .long) _ _ _
+    (merge-by-table-from-returns-2 c .merge-by-table .ensures) _ (clear-levels-from-returns-2 c .clear-levels .ensures)
+    _ (clear-list-from-returns-2 c .clear-list .ensures) _ (kept-from-returns-2 c .kept .ensures)
+    _ (clear-list2-from-returns-2 c .clear-list2 .ensures) _ (c .answer-of .ensures)
 
 pub find-corners-by-spec : {M : Type 1} → statement M
 find-corners-by-spec =
     tie.close (tie.spec
     (λ c κs. search needs) returns build-requires add-seeds-requires (λ c κs. search needs) add-found-requires (λ c κs. search needs)
-    (λ c κs. search needs) (λ c κs. search needs) finish-corners-requires (λ c κs. search needs) same-length same-length-2 same-length-3
-    same-length-4 same-length-5 same-length-6 same-length-7 same-length-8 same-length-9 same-length-10 returns-2)
+    (λ c κs. search needs) (λ c κs. search needs) (λ c κs. search needs) (λ c κs. search needs) (λ c κs. search needs)
+    (λ c κs. search needs) same-length same-length-2 same-length-3 same-length-4 same-length-5 same-length-6 same-length-7 same-length-8
+    same-length-9 same-length-10 returns-2)

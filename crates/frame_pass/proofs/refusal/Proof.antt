@@ -7,7 +7,8 @@ use borrow.Author.Tests.{lt-ltb, le-ltb, not-true, not-false}
 use Rattle.lists.specs.Internal.{Sized}
 use Rattle.image_size.proofs.Judged.{refused, sized, passed}
 use Rattle.merge_radius.specs.MergeRadius.{radiusOutside}
-use Rattle.frame_pass.specs.Refusals.{parametersFit, conditions}
+use Rattle.frame_params.specs.Ranges.{parametersFit}
+use Rattle.frame_pass.specs.Refusals.{conditions}
 use Rattle.frame_pass.proofs.Refusals.{short, enough}
 use Rattle.frame_pass.proofs.refusal.Statement.{statement}
 use Rattle.frame_pass.proofs.refusal.Tie as tie

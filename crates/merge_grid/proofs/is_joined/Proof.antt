@@ -6,7 +6,7 @@ use Rattle.merge_grid.proofs.is_joined.Statement.{statement}
 use Rattle.merge_grid.proofs.is_joined.Tie as tie
 
 returns : tie.Need-returns
-returns c = c .are-neighbours .ensures ∙ and-on _ _ (sym (c .before .before .is-near .ensures) ∙ c .before .if1 .taken)
+returns c = c .are-adjacent .ensures ∙ and-on _ _ (sym (c .before .before .is-near .ensures) ∙ c .before .if1 .taken)
 
 returns-2 : tie.Need-returns-2
 returns-2 c = and-off _ _ (sym (c .before .is-near .ensures) ∙ c .if1 .left)

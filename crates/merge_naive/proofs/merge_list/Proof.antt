@@ -6,9 +6,10 @@ use native.Mathlib.Omega.{arith}
 use mathlib.Core.Path.{sym, _∙_}
 use mathlib.Core.Bool.{false}
 use Rattle.corner_list.specs.CornerList.{slices}
-use Rattle.merge_settle.specs.Internal.{start, step, Comes}
-use Rattle.merge_settle.proofs.Stepping.{comes-none, comes-xs, comes-ys, comes-strengths, comes-neighbours, comes-fits, comes-turn}
-use Rattle.merge_settle.proofs.Stepping.{reaches-end, reaches-all}
+use Rattle.merge_settle.specs.Internal.{start, step, StepAfter}
+use Rattle.merge_settle.proofs.Stepping.{stepped-none, stepped-xs, stepped-ys, stepped-strengths, stepped-neighbours, stepped-fits}
+use Rattle.merge_settle.proofs.Stepping.{stepped-turn}
+use Rattle.merge_settle.proofs.Stepping.{stops-end, stops-all}
 use Rattle.merge_naive.specs.MergeNaive.{nearBy}
 use Rattle.merge_naive.proofs.Naive.{left-off, left-on}
 use Rattle.merge_naive.proofs.merge_list.Statement.{statement}
@@ -18,7 +19,7 @@ use Landmarks.*
 abbrev Inv-loop : tie.InvT-loop
 Inv-loop xs₀ ys₀ strengths₀ neighbours₀ n radius square k₀ i₀ xs ys strengths neighbours k i =
     let first = slices xs₀ ys₀ strengths₀ neighbours₀ in
-    Comes (nearBy square) false first n first start (slices xs ys strengths neighbours) (step i k)
+    StepAfter (nearBy square) false first n first start (slices xs ys strengths neighbours) (step i k)
 
 abbrev μ-loop : tie.MeasureT-loop
 μ-loop xs₀ ys₀ strengths₀ neighbours₀ n radius square k₀ i₀ xs ys strengths neighbours k i = n - i
@@ -27,12 +28,12 @@ returns : tie.Need-returns Inv-loop μ-loop
 returns c = left-off _ _ _ (sym (c .before .is-off .ensures) ∙ c .if1 .taken) (start-from-returns c .pre)
 
 loop-holds : tie.Need-loop-holds Inv-loop μ-loop
-loop-holds c = comes-none _ _ _ _ _ _ (start-from-loop-holds c .pre) (record { few = omega arith; upto = omega arith })
+loop-holds c = stepped-none _ _ _ _ _ _ (start-from-loop-holds c .pre) (record { few = omega arith; upto = omega arith })
 
 settle-corner-requires : tie.Need-settle-corner-requires Inv-loop μ-loop
 settle-corner-requires c κs =
     let turn = loop-test-from-settle-corner-requires c in
-    comes-fits _ _ _ _ _ _ _ _ (turn .before .loop .inv) (start-from-settle-corner-requires c .pre) (turn .loop-test .taken)
+    stepped-fits _ _ _ _ _ _ _ _ (turn .before .loop .inv) (start-from-settle-corner-requires c .pre) (turn .loop-test .taken)
 
 add-i : tie.Need-add-i Inv-loop μ-loop
 add-i c = omega (arith, loop-test-from-add-i c .loop-test .taken, start-from-add-i c .fits .n)
@@ -44,26 +45,26 @@ loop-again : tie.Need-loop-again Inv-loop μ-loop
 loop-again c =
     let turn = loop-test-from-loop-again c in
     let settled = settle-corner-from-loop-again c .settle-corner in
-    comes-turn _ _ _ _ _ _ _ _ (turn .before .loop .inv) (turn .loop-test .taken) _
+    stepped-turn _ _ _ _ _ _ _ _ (turn .before .loop .inv) (turn .loop-test .taken) _
     (corner-at-from-loop-again c .corner-at .ensures) _ _ (settled .ensures)
 
 same-length : tie.Need-same-length Inv-loop μ-loop
-same-length c = comes-xs _ _ _ _ _ _ _ _ (c .before .loop .inv) (start-from-same-length c .pre)
+same-length c = stepped-xs _ _ _ _ _ _ _ _ (c .before .loop .inv) (start-from-same-length c .pre)
 
 same-length-2 : tie.Need-same-length-2 Inv-loop μ-loop
-same-length-2 c = comes-ys _ _ _ _ _ _ _ _ (c .before .loop .inv) (start-from-same-length-2 c .pre)
+same-length-2 c = stepped-ys _ _ _ _ _ _ _ _ (c .before .loop .inv) (start-from-same-length-2 c .pre)
 
 same-length-3 : tie.Need-same-length-3 Inv-loop μ-loop
-same-length-3 c = comes-strengths _ _ _ _ _ _ _ _ (c .before .loop .inv) (start-from-same-length-3 c .pre)
+same-length-3 c = stepped-strengths _ _ _ _ _ _ _ _ (c .before .loop .inv) (start-from-same-length-3 c .pre)
 
 same-length-4 : tie.Need-same-length-4 Inv-loop μ-loop
-same-length-4 c = comes-neighbours _ _ _ _ _ _ _ _ (c .before .loop .inv) (start-from-same-length-4 c .pre)
+same-length-4 c = stepped-neighbours _ _ _ _ _ _ _ _ (c .before .loop .inv) (start-from-same-length-4 c .pre)
 
 returns-2 : tie.Need-returns-2 Inv-loop μ-loop
 returns-2 c =
     let on = if1-from-returns-2 c in
     left-on _ _ _ _ _ (sym (on .before .is-off .ensures) ∙ on .if1 .left)
-    (reaches-all _ _ _ _ _ _ _ (reaches-end _ _ _ _ _ _ _ _ _ _ (c .before .loop .inv) (c .loop-test .left)))
+    (stops-all _ _ _ _ _ _ _ (stops-end _ _ _ _ _ _ _ _ _ _ (c .before .loop .inv) (c .loop-test .left)))
 
 pub merge-list-spec : {M : Type 1} → statement M
 merge-list-spec =

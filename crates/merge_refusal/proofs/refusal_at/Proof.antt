@@ -5,7 +5,7 @@ use Prim.Native.Nat.{ℕ, min}
 use mathlib.Core.Path.{_≡_, sym, ap, _∙_}
 use Rattle.lists.specs.Places.{any}
 use Rattle.corner_list.specs.CornerList.{slices, cornersOf}
-use Rattle.merge_refusal.specs.Refusals.{isOutside}
+use Rattle.merge_refusal.specs.Refusals.{cornerOutside}
 use Rattle.merge_refusal.proofs.Judged.{judged-off, judged-corner, judged-radius, judged-count}
 use Rattle.merge_refusal.proofs.refusal_at.Statement.{statement}
 use Rattle.merge_refusal.proofs.refusal_at.Tie as tie
@@ -17,11 +17,11 @@ returns c = c .crowding .ensures ∙ judged-off _ _ _ _ (sym (c .before .before 
 -- whether a corner is outside, of those that the buffer has
 tested : (c : tie.After-has-outside)
     → let a = start-from-has-outside c .args in
-    any isOutside (cornersOf (slices (a .xs .now) (a .ys .now) (a .strengths .now) (a .neighbours .now))
+    any cornerOutside (cornersOf (slices (a .xs .now) (a .ys .now) (a .strengths .now) (a .neighbours .now))
     (min (a .count) (a .places))) ≡ c .has-outside .result
 tested c =
     let a = start-from-has-outside c .args in
-    ap (λ (n : ℕ). any isOutside (cornersOf (slices (a .xs .now) (a .ys .now) (a .strengths .now) (a .neighbours .now)) n))
+    ap (λ (n : ℕ). any cornerOutside (cornersOf (slices (a .xs .now) (a .ys .now) (a .strengths .now) (a .neighbours .now)) n))
     (sym (c .before .lesser .ensures))
     ∙ sym (c .has-outside .ensures)
 

@@ -6,7 +6,7 @@ use Prim.Native.Nat.{min}
 use native.Mathlib.Omega.{arith}
 use mathlib.Core.Path.{ap, _∙_}
 use Rattle.float32.specs.Float32.{zero}
-use Rattle.merge_settle.proofs.Stepping.{reaches-held}
+use Rattle.merge_settle.proofs.Stepping.{stops-held}
 use Rattle.merge_settle.proofs.Slots.{wiped-same}
 use Rattle.merge_settle.proofs.settle_list.Statement.{statement}
 use Rattle.merge_settle.proofs.settle_list.Tie as tie
@@ -38,7 +38,7 @@ returns c =
     let held = lesser-from-returns c in
     let cleared = clear-from-returns c in
     let table = done .merge-all .last .1 .1 .1 .1 .1 .1 .1 .1 .1 .0 in (
-      reaches-held _ _ _ _ _ _ _ _ (held .lesser .ensures ∙ ap (min _) (held .before .places .ensures)) (done .merge-all .ensures),
+      stops-held _ _ _ _ _ _ _ _ (held .lesser .ensures ∙ ap (min _) (held .before .places .ensures)) (done .merge-all .ensures),
       cleared .clear .ensures ∙ wiped-same zero (start-from-returns c .args .table .now) table
           (let kept = done .merge-all .kept in search kept),
     )

@@ -63,7 +63,7 @@ use Rattle.corner_list.specs.declared.Corner.{Corner}
 use Rattle.corner_list.specs.CornerList.{xOf, yOf, strengthOf, neighboursOf}
 use Rattle.corner_list.proofs.Corner as T
 use Rattle.corner_list.proofs.Corner.Laws as T′
-use Rattle.merge_refusal.specs.Refusals.{isOutside}
+use Rattle.merge_refusal.specs.Refusals.{cornerOutside}
 use Rattle.merge_slice.proofs.Turns.{nowhere, outsideUpto, outside-turn}
 use Rattle.merge_slice.proofs.Turns.{take-counted}
 use Rattle.numbers.proofs.lesser as lesser
@@ -225,7 +225,7 @@ module _ {M : Type 1} (𝓤 : URA M) (H : Heap 𝓤) (A : Atoms 𝓤) (W : Given
       qed W Had ∵
       suffices ! _ (ends-at 𝓤 H A f.ended stayed (f.clauses 𝓤 H A mem run) W (((κ0, tt), (q0, tt), tt, args, vals), tt)
       (vbool (outsideUpto L0 (i .0))) (outsideUpto L0 (i .0)) (tt, (tt, tt)) (tt, (tt, tt))) $
-      says ! (ap (outsideUpto L0) e ∙ ap (any isOutside) (take-counted count L0)) $
+      says ! (ap (outsideUpto L0) e ∙ ap (any cornerOutside) (take-counted count L0)) $
       nothing ! $ move ! (1 ∷ 0 ∷ []) $ join ! $ frame ! $ nothing ! $ owned ! usize (Is usize) (uint-makes 𝓤 H A W w64) count _ (refl, count-fits) $ fjoin ! $
       move ! (1 ∷ 2 ∷ []) $ fjoin ! $ pureI ! (at-slice T.the-row (ref0 γ0 L0) (s0 ∷ [])) (tt, (tt, tt)) (refl, fits0) $ fjoin ! $ fjoin ! $ frame ! $
       feqI ! (List Val) (vbool (outsideUpto L0 (i .0)) ∷ []) (vbool (outsideUpto L0 (i .0)) ∷ []) refl $ done !
@@ -331,8 +331,8 @@ module _ {M : Type 1} (𝓤 : URA M) (H : Heap 𝓤) (A : Atoms 𝓤) (W : Given
         (ensured 𝓤 H A either-outside.ended (either-outside.clauses 𝓤 H A mem run) tt (outsideUpto L0 (i .0), (old-c i, tt)) tt r)))) (id⊢ 𝓤 _) $ await ! tt $
         pick ! (λ r1. split ! $ move ! (1 ∷ []) $
         use1 W (some (λ (zs : Unit {0} × (Unit {0} × Unit {0})). ‵ (lasts either-outside.ended tt (outsideUpto L0 (i .0), (old-c i, tt)) zs) ⊛ raw
-        (fact 𝓤 (r1 ≡ ((outsideUpto L0 (i .0)) || isOutside (old-c i)))))) (id⊢ 𝓤 _) $ pick ! (λ zs1. split ! $ move ! (1 ∷ []) $
-        heard ! (r1 ≡ ((outsideUpto L0 (i .0)) || isOutside (old-c i))) (λ e1. move ! (1 ∷ []) $ split ! $ move ! (1 ∷ []) $
+        (fact 𝓤 (r1 ≡ ((outsideUpto L0 (i .0)) || cornerOutside (old-c i)))))) (id⊢ 𝓤 _) $ pick ! (λ zs1. split ! $ move ! (1 ∷ []) $
+        heard ! (r1 ≡ ((outsideUpto L0 (i .0)) || cornerOutside (old-c i))) (λ e1. move ! (1 ∷ []) $ split ! $ move ! (1 ∷ []) $
         peeks ! bool (Is bool) (shows 𝓤 H A bool) r1 (w1 ∷ []) (λ is1. land ! (from ! (stop !)) (store ! 23 refl (bool-lawful 𝓤 H A W .typed r1 _ is1 .0)) $
         rewrite ! 23 (λ (u : Val). ‵ (fat fullShare tyBool l3 0 u)) (ap only is1) refl $
         rewrite ! 23 (λ (x : Bool). ‵ (fat fullShare tyBool l3 0 (vbool x))) (e1 ∙ outside-turn L0 (i .0) (within0 i less)) refl $

@@ -56,7 +56,7 @@ use Rattle.corner_list.specs.declared.Corner.{Corner}
 use Rattle.corner_list.specs.CornerList.{Slices, slices, placesOf, cornersOf, frontCorners}
 use Rattle.corner_list.proofs.Corner as T
 use Rattle.merge_radius.specs.MergeRadius.{isOff}
-use Rattle.merge_refusal.specs.Refusals.{isOutside}
+use Rattle.merge_refusal.specs.Refusals.{cornerOutside}
 use Rattle.merge.specs.declared.Merged.{Merged}
 use Rattle.merge.specs.declared.Merged.the-variants.{Refused}
 use Rattle.merge.specs.Merge.{Merges}
@@ -470,7 +470,7 @@ module _ {M : Type 1} (𝓤 : URA M) (H : Heap 𝓤) (A : Atoms 𝓤) (W : Given
         ‵ (fat fullShare slice3 l4 0 s3) ∷ ‵ (fdies slice3 l4) ∷ ‵ (fat fullShare slice2 l3 0 s2) ∷ ‵ (fdies slice2 l3) ∷ ‵ (fat fullShare slice1 l2 0 s1) ∷
         ‵ (fdies slice1 l2) ∷ ‵ (fat fullShare slice0 l1 0 s0) ∷ ‵ (fdies slice0 l1) ∷ ‵ (froom merged l0 0) ∷ ‵ (fdies merged l0) ∷ []
 
-    from-41 : (r1 : Bool) (e1 : r1 ≡ any isOutside (take count L0)) (r2 : ℕ)
+    from-41 : (r1 : Bool) (e1 : r1 ≡ any cornerOutside (take count L0)) (r2 : ℕ)
         (e2 : r2 ≡ min count (min (length L0) (min (length L1) (min (length L2) (min (length L3) (length L4))))))
         (zs3 : List Corner × (List Float × (List Float × (List Float × (List ℕ × (Unit {0} × Unit {0}))))))
         (e3 : Exchanges r2 L0 (slices L1 L2 L3 L4) (zs3 .0) (slices (zs3 .1 .0) (zs3 .1 .1 .0) (zs3 .1 .1 .1 .0) (zs3 .1 .1 .1 .1 .0)))
@@ -523,7 +523,7 @@ module _ {M : Type 1} (𝓤 : URA M) (H : Heap 𝓤) (A : Atoms 𝓤) (W : Given
         (slice-merged radius count L0 (slices L1 L2 L3 L4) r2 e2 r1 _ _ _ r4 _ _ r6 e1 e3 e4 e5 e6) (g50 ∙ g30) (g51 ∙ (g41 ∙ g31)) (g52 ∙ (g42 ∙ g32))
         (g53 ∙ (g43 ∙ g33)) (g54 ∙ (g44 ∙ g34))))))))
 
-    from-30 : (r1 : Bool) (e1 : r1 ≡ any isOutside (take count L0)) (w2 : Val) (r2 : ℕ)
+    from-30 : (r1 : Bool) (e1 : r1 ≡ any cornerOutside (take count L0)) (w2 : Val) (r2 : ℕ)
         (e2 : r2 ≡ min count (min (length L0) (min (length L1) (min (length L2) (min (length L3) (length L4)))))) (is2 : Is usize r2 (w2 ∷ []))
         (zs3 : List Corner × (List Float × (List Float × (List Float × (List ℕ × (Unit {0} × Unit {0}))))))
         (e3 : Exchanges r2 L0 (slices L1 L2 L3 L4) (zs3 .0) (slices (zs3 .1 .0) (zs3 .1 .1 .0) (zs3 .1 .1 .1 .0) (zs3 .1 .1 .1 .1 .0)))
@@ -637,7 +637,7 @@ module _ {M : Type 1} (𝓤 : URA M) (H : Heap 𝓤) (A : Atoms 𝓤) (W : Given
         95 ∷ 96 ∷ 97 ∷ 98 ∷ 99 ∷ 100 ∷ 101 ∷ 102 ∷ 103 ∷ 104 ∷ 105 ∷ 106 ∷ []) $
         from-41 r1 e1 r2 e2 zs3 e3 g30 g31 g32 g33 g34 w4 r4 zs4 e4 g41 g42 g43 g44 is4 zs5 e5 g50 g51 g52 g53 g54))))))))))))))))))))
 
-    from-21 : (r1 : Bool) (e1 : r1 ≡ any isOutside (take count L0)) (w2 : Val) (r2 : ℕ)
+    from-21 : (r1 : Bool) (e1 : r1 ≡ any cornerOutside (take count L0)) (w2 : Val) (r2 : ℕ)
         (e2 : r2 ≡ min count (min (length L0) (min (length L1) (min (length L2) (min (length L3) (length L4)))))) (is2 : Is usize r2 (w2 ∷ []))
         (zs3 : List Corner × (List Float × (List Float × (List Float × (List ℕ × (Unit {0} × Unit {0}))))))
         (e3 : Exchanges r2 L0 (slices L1 L2 L3 L4) (zs3 .0) (slices (zs3 .1 .0) (zs3 .1 .1 .0) (zs3 .1 .1 .1 .0) (zs3 .1 .1 .1 .1 .0)))
@@ -735,7 +735,7 @@ module _ {M : Type 1} (𝓤 : URA M) (H : Heap 𝓤) (A : Atoms 𝓤) (W : Given
         ∷ 95 ∷ 96 ∷ 97 ∷ 98 ∷ 99 ∷ 100 ∷ 101 ∷ 102 ∷ 103 ∷ 104 ∷ 105 ∷ 106 ∷ []) $
         from-30 r1 e1 w2 r2 e2 is2 zs3 e3 g30 g31 g32 g33 g34 w4 r4 zs4 e4 g41 g42 g43 g44 is4)))))))))))))))))
 
-    from-10 : (r1 : Bool) (e1 : r1 ≡ any isOutside (take count L0)) (w2 : Val) (r2 : ℕ)
+    from-10 : (r1 : Bool) (e1 : r1 ≡ any cornerOutside (take count L0)) (w2 : Val) (r2 : ℕ)
         (e2 : r2 ≡ min count (min (length L0) (min (length L1) (min (length L2) (min (length L3) (length L4)))))) (is2 : Is usize r2 (w2 ∷ []))
         → Sq W (At L0 L1 L2 L3 L4 (‵ (fat fullShare tyBool l8 0 (vbool r1))) (‵ (fat fullShare word l9 0 (vint w64 r2))) (‵ (froom merged l10 0)))
         (runs (𝓣 .C) (𝓣 .Λ) En Mir.t-10 (atRet En Post))
@@ -836,7 +836,7 @@ module _ {M : Type 1} (𝓤 : URA M) (H : Heap 𝓤) (A : Atoms 𝓤) (W : Given
         ∷ 65 ∷ 66 ∷ 67 ∷ 68 ∷ 69 ∷ 70 ∷ 71 ∷ 72 ∷ 73 ∷ 74 ∷ 75 ∷ 76 ∷ 77 ∷ 78 ∷ 79 ∷ 80 ∷ 81 ∷ 82 ∷ 83 ∷ 84 ∷ 85 ∷ 86 ∷ 87 ∷ 88 ∷ 89 ∷ 90 ∷ 91 ∷ 92 ∷ 93 ∷ 94 ∷
         95 ∷ 96 ∷ 97 ∷ 98 ∷ 99 ∷ 100 ∷ 101 ∷ 102 ∷ 103 ∷ 104 ∷ 105 ∷ 106 ∷ []) $ from-21 r1 e1 w2 r2 e2 is2 zs3 e3 g30 g31 g32 g33 g34))))))))))))))))))))
 
-    from-4 : (r1 : Bool) (e1 : r1 ≡ any isOutside (take count L0))
+    from-4 : (r1 : Bool) (e1 : r1 ≡ any cornerOutside (take count L0))
         → Sq W (At L0 L1 L2 L3 L4 (‵ (fat fullShare tyBool l8 0 (vbool r1))) (‵ (froom word l9 0)) (‵ (froom merged l10 0)))
         (runs (𝓣 .C) (𝓣 .Λ) En Mir.t-4 (atRet En Post))
     from-4 r1 e1 =
@@ -924,8 +924,8 @@ module _ {M : Type 1} (𝓤 : URA M) (H : Heap 𝓤) (A : Atoms 𝓤) (W : Given
         (ensured 𝓤 H A has-outside.ended (has-outside.clauses 𝓤 H A mem run) (ν10 ∷ [], tt) (ref0 δ10 L0, (count, tt)) tt r)))) (id⊢ 𝓤 _) $ await ! tt $
         pick ! (λ r1. split ! $ move ! (1 ∷ []) $
         use1 W (some (λ (zs : Unit {0} × (Unit {0} × Unit {0})). ‵ (lasts has-outside.ended (ν10 ∷ [], tt) (ref0 δ10 L0, (count, tt)) zs) ⊛ raw
-        (fact 𝓤 (r1 ≡ any isOutside (take count L0))))) (id⊢ 𝓤 _) $ pick ! (λ zs1. split ! $ move ! (1 ∷ []) $
-        heard ! (r1 ≡ any isOutside (take count L0)) (λ e1. move ! (1 ∷ []) $ split ! $ move ! (1 ∷ []) $
+        (fact 𝓤 (r1 ≡ any cornerOutside (take count L0))))) (id⊢ 𝓤 _) $ pick ! (λ zs1. split ! $ move ! (1 ∷ []) $
+        heard ! (r1 ≡ any cornerOutside (take count L0)) (λ e1. move ! (1 ∷ []) $ split ! $ move ! (1 ∷ []) $
         peeks ! bool (Is bool) (shows 𝓤 H A bool) r1 (w1 ∷ []) (λ is1. land ! (from ! (stop !)) (init ! 90 refl (bool-lawful 𝓤 H A W .typed r1 _ is1 .0)) $
         rewrite ! 90 (λ (u : Val). ‵ (fat fullShare tyBool l8 0 u)) (ap only is1) refl $ move ! (1 ∷ []) $ split ! $ lft-end ! tt $ move ! (0 ∷ 4 ∷ []) $
         use2 W (later (‵ (MutSlice (named 0) κ0 T.the-row .own (ref0 γ0 L0) (s0 ∷ [])) ⊛ ‵ (flft κ0 q0)))

@@ -8,7 +8,7 @@ use Rattle.lists.specs.Limits.{largestMap}
 use Rattle.lists.specs.Places.{Place}
 use Rattle.lists.proofs.Places.{in-map}
 use Rattle.response.proofs.Indices.{area-le}
-use Rattle.retouch.specs.Internal.{Ready}
+use Rattle.retouch.specs.Internal.{PixelChecked}
 use Rattle.retouch.proofs.Judging.{ready, ready-changed, when-refused, when-redone}
 use Rattle.retouch.proofs.retouch.Statement.{statement}
 use Rattle.retouch.proofs.retouch.Tie as tie
@@ -21,7 +21,7 @@ abbrev pixel : tie.Start → Place
 pixel a = record { x = a .args .x; y = a .args .y }
 
 granted : (c : tie.Else1)
-    → Ready (start c .args .img .now) (start c .args .w) (start c .args .h) (start c .args .ring) (pixel (start c))
+    → PixelChecked (start c .args .img .now) (start c .args .w) (start c .args .h) (start c .args .ring) (pixel (start c))
     (start c .args .map .now)
 granted c = ready _ _ _ _ _ _ (sym (c .before .refusal .ensures) ∙ c .if1 .left)
 

@@ -1,10 +1,10 @@
 -- `sure_peak::refusal` meets its contract: each return is the first condition of the table that holds. Assumes nothing.
-use mathlib.Core.Path.{_≡_}
+use mathlib.Core.Path.{_≡_, sym, _∙_}
 use mathlib.Core.Bool.{cond}
 use borrow.Author.Tests.{le-leb, lt-leb}
 use Rattle.lists.specs.Internal.{Sized}
 use Rattle.image_size.proofs.Judged.{refused, sized}
-use Rattle.retouch.specs.Promise.{isOutside}
+use Rattle.retouch.specs.Promise.{placeOutside}
 use Rattle.sure_peak.specs.Promise.{refusalOf}
 use Rattle.sure_peak.proofs.Judging.{by-length, by-parameters, by-place}
 use borrow.Author.Needs.{needs}
@@ -25,16 +25,16 @@ returns-2 c = by-length _ _ _ _ _ _ _ _ (image (c .before)) (c .if2 .taken)
 returns-3 : tie.Need-returns-3
 returns-3 c =
     let equal = c .before .before in
-    by-parameters _ _ _ _ _ _ _ _ (image (equal .before)) (equal .if2 .left) _ (c .before .refusal2 .ensures) (c .if3 .taken)
+    by-parameters _ _ _ _ _ _ _ _ (image (equal .before)) (equal .if2 .left) (sym (c .before .is-outside .ensures) ∙ c .if3 .taken)
 
 -- past the parameters
 place : (c : tie.Else3)
     → let a = c .before .before .before .before .before .args in
     refusalOf (a .lows) (a .highs) (a .w) (a .h) (a .ring) (a .window) (a .centroid) (record { x = a .x; y = a .y })
-    ≡ cond (isOutside (a .w) (a .h) (record { x = a .x; y = a .y })) 14 0
+    ≡ cond (placeOutside (a .w) (a .h) (record { x = a .x; y = a .y })) 14 0
 place c =
     let equal = c .before .before in
-    by-place _ _ _ _ _ _ _ _ (image (equal .before)) (equal .if2 .left) _ (c .before .refusal2 .ensures) (c .if3 .left)
+    by-place _ _ _ _ _ _ _ _ (image (equal .before)) (equal .if2 .left) (sym (c .before .is-outside .ensures) ∙ c .if3 .left)
 
 returns-4 : tie.Need-returns-4
 returns-4 c = rw (place (c .before), le-leb _ _ (c .if4 .taken))

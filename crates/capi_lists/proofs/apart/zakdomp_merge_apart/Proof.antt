@@ -1,7 +1,7 @@
 -- `capi_lists::zakdomp_merge_apart` meets its contract: the answer of the function that it calls, taken apart. Assumes nothing.
 mod Landmarks
 use borrow.Author.Needs.{needs}
-use Rattle.capi_lists.proofs.Merging.{merged-apart}
+use Rattle.capi_lists.proofs.Merges.{merged-apart}
 use Rattle.capi_lists.proofs.apart.zakdomp_merge_apart.Statement.{statement}
 use Rattle.capi_lists.proofs.apart.zakdomp_merge_apart.Tie as tie
 use Landmarks.*

@@ -1,7 +1,7 @@
 -- `capi_lists::zakdomp_merge_naive` meets its contract: the answer of the function that it calls, taken apart. Assumes nothing.
 mod Landmarks
 use borrow.Author.Needs.{needs}
-use Rattle.capi_lists.proofs.Merging.{merged-naively}
+use Rattle.capi_lists.proofs.Merges.{merged-naively}
 use Rattle.capi_lists.proofs.naive.zakdomp_merge_naive.Statement.{statement}
 use Rattle.capi_lists.proofs.naive.zakdomp_merge_naive.Tie as tie
 use Landmarks.*

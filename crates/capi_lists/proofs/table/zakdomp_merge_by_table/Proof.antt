@@ -1,7 +1,7 @@
 -- `capi_lists::zakdomp_merge_by_table` meets its contract: the answer of the function that it calls, taken apart. Assumes nothing.
 mod Landmarks
 use borrow.Author.Needs.{needs}
-use Rattle.capi_lists.proofs.Merging.{merged-by-table}
+use Rattle.capi_lists.proofs.Merges.{merged-by-table}
 use Rattle.capi_lists.proofs.table.zakdomp_merge_by_table.Statement.{statement}
 use Rattle.capi_lists.proofs.table.zakdomp_merge_by_table.Tie as tie
 use Landmarks.*

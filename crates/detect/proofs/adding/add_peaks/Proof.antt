@@ -94,7 +94,7 @@ loop-holds c =
     _ (asked .are-too-many .ensures) (c .before .if1 .left))
 
 peak-at-requires : tie.Need-peak-at-requires Inv-loop μ-loop
-peak-at-requires c κs = let l = listed (c .before) in (start l .pre, (l .list-peaks .ensures, c .before .loop .inv .standing))
+peak-at-requires c κs = let l = listed (c .before) in (start l .pre, (l .list-peaks .ensures, c .before .loop .inv .search-start))
 
 same-length-2 : tie.Need-same-length-2 Inv-loop μ-loop
 same-length-2 c = search needs

@@ -48,7 +48,7 @@ loop-holds : tie.Need-loop-holds Inv-loop μ-loop
 loop-holds c = counting-first _ _ _ _
 
 peak-at-requires : tie.Need-peak-at-requires Inv-loop μ-loop
-peak-at-requires c κs = let s = given (c .before) in (s .pre .0, (s .pre .1, c .before .loop .inv .standing))
+peak-at-requires c κs = let s = given (c .before) in (s .pre .0, (s .pre .1, c .before .loop .inv .search-start))
 
 returns-3 : tie.Need-returns-3 Inv-loop μ-loop
 returns-3 c =

@@ -1,44 +1,44 @@
--- `detect::neighbors::has_few` meets its contract: the centre, which is positive, is counted with the others. Assumes nothing.
-use mathlib.Core.Path.{_≡_}
+-- `detect::neighbors::has_few` meets its contract, for each radius that it names. Assumes nothing.
 use mathlib.Core.Bool.{false≢true}
 use native.Mathlib.Omega.{arith}
 use lib.Ieee.{ofBits}
 use borrow.Author.Needs.{needs}
-use Rattle.detect.specs.declared.neighbors.Asked.the-variants.{Positive}
-use Rattle.detect.specs.Internal.{place}
-use Rattle.detect.proofs.OtherWindow.{asked-so, counted-more}
-use Rattle.detect.proofs.WindowRows.{positives-are, others-few}
 use Rattle.detect.proofs.neighbors.has_few.Statement.{statement}
 use Rattle.detect.proofs.neighbors.has_few.Tie as tie
 
--- the function's start, from where the radius is named
-abbrev start : tie.After-with-window → tie.Start
-start c = c .before .before .before .before .before
+-- the function's start, from where the value is known to be positive
+abbrev start : tie.Then1 → tie.Start
+start c = c .before .before
 
-returns : tie.Need-returns
-returns c = λ e. absurd (false≢true e)
-
-count-square-requires : tie.Need-count-square-requires
-count-square-requires c κs =
-    let given = start c .pre in
-    asked-so _ _ _ _ (c .with-window .ensures) _ (given .1 .0) (given .0) (omega arith) (omega (arith, given .0 .inside)) _ (given .1 .1)
-
-returns-2 : tie.Need-returns-2
+are-few-requires : tie.Need-are-few-requires
 unfolding ofBits
-returns-2 c = λ e.
-    let counted = c .before in
-    let named = counted .before in
-    let a = start named .args in
-    let given = start named .pre in
-    let wide : a .s .window ≡ 2 = omega arith in
-    let more =
-    counted-more (a .map .now) (a .s) _ _ (named .with-window .ensures) (place (a .x) (a .y)) (given .1 .0) wide Positive (a .v) _
-    (counted .count-square .ensures) (named .before .if2 .taken)
-    in
-    others-few _ _ more _ _ (positives-are _ _ _ _ _ (given .0) (given .1 .0) (given .1 .1)) e
+are-few-requires c κs =
+    let positive = c .before .before in
+    let given = start positive .pre in
+    (given .0, (given .1 .0, (given .1 .1, (positive .if1 .taken, omega arith))))
 
-returns-3 : tie.Need-returns-3
-returns-3 c = λ e. absurd (false≢true e)
+are-few-requires-2 : tie.Need-are-few-requires-2
+unfolding ofBits
+are-few-requires-2 c κs =
+    let positive = c .before .before .before .before in
+    let given = start positive .pre in
+    (given .0, (given .1 .0, (given .1 .1, (positive .if1 .taken, omega arith))))
+
+are-few-requires-3 : tie.Need-are-few-requires-3
+unfolding ofBits
+are-few-requires-3 c κs =
+    let positive = c .before .before .before .before .before .before in
+    let given = start positive .pre in
+    (given .0, (given .1 .0, (given .1 .1, (positive .if1 .taken, omega arith))))
+
+returns-4 : tie.Need-returns-4
+returns-4 c = λ e. absurd (false≢true e)
+
+returns-5 : tie.Need-returns-5
+returns-5 c = λ e. absurd (false≢true e)
 
 pub has-few-spec : {M : Type 1} → statement M
-has-few-spec = tie.close (tie.spec returns (λ c κs. search needs) count-square-requires returns-2 returns-3)
+has-few-spec =
+    tie.close (tie.spec
+    are-few-requires (λ c. search needs) are-few-requires-2 (λ c. search needs) are-few-requires-3 (λ c. search needs) returns-4
+    returns-5)

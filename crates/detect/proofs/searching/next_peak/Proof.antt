@@ -53,7 +53,7 @@ skip-requires : tie.Need-skip-requires Inv-loop μ-loop
 skip-requires c κs =
     let at = c .before in
     let s = start at .pre .0 in
-    (s, (omega arith, (at .loop .inv .0 .left, low-fewer _ _ _ _ _ (at .loop .inv .1) (omega arith))))
+    (s, ((at .loop .inv .0 .top, omega arith), (at .loop .inv .0 .left, low-fewer _ _ _ _ _ (at .loop .inv .1) (omega arith))))
 
 peak-test-requires : tie.Need-peak-test-requires Inv-loop μ-loop
 peak-test-requires c κs =

@@ -1,13 +1,13 @@
 -- `detect::table::number_of` meets its contract: the sides are at most 4,096, and a window has fewer than 2,048 cells. Assumes nothing.
 use native.Mathlib.Omega.{arith}
 use borrow.Author.Needs.{needs}
-use Rattle.detect.specs.Internal.{Small}
+use Rattle.detect.specs.Internal.{SpotInRange}
 use Rattle.detect.proofs.FirstPeaks.{numbered-here}
 use Rattle.detect.proofs.table.number_of.Statement.{statement}
 use Rattle.detect.proofs.table.number_of.Tie as tie
 
 -- a peak before the last row has a number of its own
-small : (c : tie.Then1) → Small (c .before .before .args .p)
+small : (c : tie.Then1) → SpotInRange (c .before .before .args .p)
 small c = c .before .before .pre (c .if1 .taken)
 
 mul-result : tie.Need-mul-result

@@ -49,46 +49,14 @@ shared-slice-known-from-add-found-requires c =
 abbrev pub start-from-add-found-requires : tie.After-add-found-arg9 → tie.Start
 start-from-add-found-requires c = shared-slice-known-from-add-found-requires c .before
 
-abbrev pub lists-of-from-finish-corners-requires : tie.After-finish-corners-arg5 → tie.After-lists-of
-lists-of-from-finish-corners-requires c =
+abbrev pub merge-by-table-from-same-length : tie.After-answer-of → tie.After-merge-by-table
+merge-by-table-from-same-length c =
     c .before .before .before .before .before .before .before .before .before .before .before .before .before .before .before .before
-    .before .before .before .before .before .before
-
-abbrev pub add-found-from-finish-corners-requires : tie.After-finish-corners-arg5 → tie.After-add-found
-add-found-from-finish-corners-requires c =
-    lists-of-from-finish-corners-requires c .before .before .before .before .before .before .before .before .before .before .before
-
-abbrev pub added-from-finish-corners-requires : tie.After-finish-corners-arg5 → tie.After-added
-added-from-finish-corners-requires c =
-    add-found-from-finish-corners-requires c .before .before .before .before .before .before .before .before .before .before
-
-abbrev pub add-seeds-from-finish-corners-requires : tie.After-finish-corners-arg5 → tie.After-add-seeds
-add-seeds-from-finish-corners-requires c =
-    added-from-finish-corners-requires c .before .before .before .before .before .before .before .before .before .before .before
-
-abbrev pub build-from-finish-corners-requires : tie.After-finish-corners-arg5 → tie.After-build
-build-from-finish-corners-requires c =
-    add-seeds-from-finish-corners-requires c .before .before .before .before .before .before .before .before .before
-
-abbrev pub if1-from-finish-corners-requires : tie.After-finish-corners-arg5 → tie.Else1
-if1-from-finish-corners-requires c = build-from-finish-corners-requires c .before .before
-
-abbrev pub refusal-from-finish-corners-requires : tie.After-finish-corners-arg5 → tie.After-refusal
-refusal-from-finish-corners-requires c = if1-from-finish-corners-requires c .before
-
-abbrev pub shared-slice-known-from-finish-corners-requires : tie.After-finish-corners-arg5 → tie.After-shared-slice-known
-shared-slice-known-from-finish-corners-requires c =
-    refusal-from-finish-corners-requires c .before .before .before .before .before .before .before .before .before .before .before
-
-abbrev pub start-from-finish-corners-requires : tie.After-finish-corners-arg5 → tie.Start
-start-from-finish-corners-requires c = shared-slice-known-from-finish-corners-requires c .before
-
-abbrev pub finish-corners-from-same-length : tie.After-answer-of → tie.After-finish-corners
-finish-corners-from-same-length c = c .before .before .before .before .before .before .before .before .before .before .before
+    .before .before .before .before .before .before .before .before .before
 
 abbrev pub add-found-from-same-length : tie.After-answer-of → tie.After-add-found
 add-found-from-same-length c =
-    finish-corners-from-same-length c .before .before .before .before .before .before .before .before .before .before .before .before
+    merge-by-table-from-same-length c .before .before .before .before .before .before .before .before .before .before .before .before
     .before .before .before .before .before .before .before .before .before .before .before .before .before .before .before .before .before
     .before .before .before .before .before
 
@@ -100,7 +68,8 @@ add-seeds-from-same-length c =
 abbrev pub clear-levels-from-same-length-2 : tie.After-answer-of → tie.After-clear-levels
 clear-levels-from-same-length-2 c =
     c .before .before .before .before .before .before .before .before .before .before .before .before .before .before .before .before
-    .before .before .before .before .before .before .before .before .before .before .before .before .before .before .before .before
+    .before .before .before .before .before .before .before .before .before .before .before .before .before .before .before .before .before
+    .before .before .before .before .before .before .before .before .before .before .before .before .before
 
 abbrev pub build-from-same-length-2 : tie.After-answer-of → tie.After-build
 build-from-same-length-2 c =
@@ -111,7 +80,8 @@ build-from-same-length-2 c =
 abbrev pub clear-list-from-same-length-3 : tie.After-answer-of → tie.After-clear-list
 clear-list-from-same-length-3 c =
     c .before .before .before .before .before .before .before .before .before .before .before .before .before .before .before .before
-    .before .before .before .before .before .before .before .before .before
+    .before .before .before .before .before .before .before .before .before .before .before .before .before .before .before .before .before
+    .before .before .before .before .before .before
 
 abbrev pub add-seeds-from-same-length-3 : tie.After-answer-of → tie.After-add-seeds
 add-seeds-from-same-length-3 c =
@@ -122,7 +92,8 @@ add-seeds-from-same-length-3 c =
 abbrev pub clear-list-from-same-length-4 : tie.After-answer-of → tie.After-clear-list
 clear-list-from-same-length-4 c =
     c .before .before .before .before .before .before .before .before .before .before .before .before .before .before .before .before
-    .before .before .before .before .before .before .before .before .before
+    .before .before .before .before .before .before .before .before .before .before .before .before .before .before .before .before .before
+    .before .before .before .before .before .before
 
 abbrev pub add-seeds-from-same-length-4 : tie.After-answer-of → tie.After-add-seeds
 add-seeds-from-same-length-4 c =
@@ -133,7 +104,8 @@ add-seeds-from-same-length-4 c =
 abbrev pub clear-list-from-same-length-5 : tie.After-answer-of → tie.After-clear-list
 clear-list-from-same-length-5 c =
     c .before .before .before .before .before .before .before .before .before .before .before .before .before .before .before .before
-    .before .before .before .before .before .before .before .before .before
+    .before .before .before .before .before .before .before .before .before .before .before .before .before .before .before .before .before
+    .before .before .before .before .before .before
 
 abbrev pub add-seeds-from-same-length-5 : tie.After-answer-of → tie.After-add-seeds
 add-seeds-from-same-length-5 c =
@@ -144,7 +116,8 @@ add-seeds-from-same-length-5 c =
 abbrev pub clear-list-from-same-length-6 : tie.After-answer-of → tie.After-clear-list
 clear-list-from-same-length-6 c =
     c .before .before .before .before .before .before .before .before .before .before .before .before .before .before .before .before
-    .before .before .before .before .before .before .before .before .before
+    .before .before .before .before .before .before .before .before .before .before .before .before .before .before .before .before .before
+    .before .before .before .before .before .before
 
 abbrev pub add-seeds-from-same-length-6 : tie.After-answer-of → tie.After-add-seeds
 add-seeds-from-same-length-6 c =
@@ -152,48 +125,75 @@ add-seeds-from-same-length-6 c =
     .before .before .before .before .before .before .before .before .before .before .before .before .before .before .before .before .before
     .before .before .before .before .before .before .before .before .before .before .before
 
-abbrev pub finish-corners-from-same-length-7 : tie.After-answer-of → tie.After-finish-corners
-finish-corners-from-same-length-7 c = c .before .before .before .before .before .before .before .before .before .before .before
+abbrev pub clear-list2-from-same-length-7 : tie.After-answer-of → tie.After-clear-list2
+clear-list2-from-same-length-7 c = c .before .before .before .before .before .before .before .before .before
+
+abbrev pub merge-by-table-from-same-length-7 : tie.After-answer-of → tie.After-merge-by-table
+merge-by-table-from-same-length-7 c =
+    clear-list2-from-same-length-7 c .before .before .before .before .before .before .before .before .before .before .before .before .before
+    .before .before .before
 
 abbrev pub add-found-from-same-length-7 : tie.After-answer-of → tie.After-add-found
 add-found-from-same-length-7 c =
-    finish-corners-from-same-length-7 c .before .before .before .before .before .before .before .before .before .before .before .before
+    merge-by-table-from-same-length-7 c .before .before .before .before .before .before .before .before .before .before .before .before
     .before .before .before .before .before .before .before .before .before .before .before .before .before .before .before .before .before
     .before .before .before .before .before
 
-abbrev pub finish-corners-from-same-length-8 : tie.After-answer-of → tie.After-finish-corners
-finish-corners-from-same-length-8 c = c .before .before .before .before .before .before .before .before .before .before .before
+abbrev pub clear-list2-from-same-length-8 : tie.After-answer-of → tie.After-clear-list2
+clear-list2-from-same-length-8 c = c .before .before .before .before .before .before .before .before .before
+
+abbrev pub merge-by-table-from-same-length-8 : tie.After-answer-of → tie.After-merge-by-table
+merge-by-table-from-same-length-8 c =
+    clear-list2-from-same-length-8 c .before .before .before .before .before .before .before .before .before .before .before .before .before
+    .before .before .before
 
 abbrev pub add-found-from-same-length-8 : tie.After-answer-of → tie.After-add-found
 add-found-from-same-length-8 c =
-    finish-corners-from-same-length-8 c .before .before .before .before .before .before .before .before .before .before .before .before
+    merge-by-table-from-same-length-8 c .before .before .before .before .before .before .before .before .before .before .before .before
     .before .before .before .before .before .before .before .before .before .before .before .before .before .before .before .before .before
     .before .before .before .before .before
 
-abbrev pub finish-corners-from-same-length-9 : tie.After-answer-of → tie.After-finish-corners
-finish-corners-from-same-length-9 c = c .before .before .before .before .before .before .before .before .before .before .before
+abbrev pub clear-list2-from-same-length-9 : tie.After-answer-of → tie.After-clear-list2
+clear-list2-from-same-length-9 c = c .before .before .before .before .before .before .before .before .before
+
+abbrev pub merge-by-table-from-same-length-9 : tie.After-answer-of → tie.After-merge-by-table
+merge-by-table-from-same-length-9 c =
+    clear-list2-from-same-length-9 c .before .before .before .before .before .before .before .before .before .before .before .before .before
+    .before .before .before
 
 abbrev pub add-found-from-same-length-9 : tie.After-answer-of → tie.After-add-found
 add-found-from-same-length-9 c =
-    finish-corners-from-same-length-9 c .before .before .before .before .before .before .before .before .before .before .before .before
+    merge-by-table-from-same-length-9 c .before .before .before .before .before .before .before .before .before .before .before .before
     .before .before .before .before .before .before .before .before .before .before .before .before .before .before .before .before .before
     .before .before .before .before .before
 
-abbrev pub finish-corners-from-same-length-10 : tie.After-answer-of → tie.After-finish-corners
-finish-corners-from-same-length-10 c = c .before .before .before .before .before .before .before .before .before .before .before
+abbrev pub clear-list2-from-same-length-10 : tie.After-answer-of → tie.After-clear-list2
+clear-list2-from-same-length-10 c = c .before .before .before .before .before .before .before .before .before
+
+abbrev pub merge-by-table-from-same-length-10 : tie.After-answer-of → tie.After-merge-by-table
+merge-by-table-from-same-length-10 c =
+    clear-list2-from-same-length-10 c .before .before .before .before .before .before .before .before .before .before .before .before
+    .before .before .before .before
 
 abbrev pub add-found-from-same-length-10 : tie.After-answer-of → tie.After-add-found
 add-found-from-same-length-10 c =
-    finish-corners-from-same-length-10 c .before .before .before .before .before .before .before .before .before .before .before .before
+    merge-by-table-from-same-length-10 c .before .before .before .before .before .before .before .before .before .before .before .before
     .before .before .before .before .before .before .before .before .before .before .before .before .before .before .before .before .before
     .before .before .before .before .before
 
-abbrev pub finish-corners-from-returns-2 : tie.After-answer-of → tie.After-finish-corners
-finish-corners-from-returns-2 c = c .before .before .before .before .before .before .before .before .before .before .before
+abbrev pub clear-list2-from-returns-2 : tie.After-answer-of → tie.After-clear-list2
+clear-list2-from-returns-2 c = c .before .before .before .before .before .before .before .before .before
+
+abbrev pub kept-from-returns-2 : tie.After-answer-of → tie.After-kept
+kept-from-returns-2 c = clear-list2-from-returns-2 c .before .before .before .before .before
+
+abbrev pub merge-by-table-from-returns-2 : tie.After-answer-of → tie.After-merge-by-table
+merge-by-table-from-returns-2 c =
+    kept-from-returns-2 c .before .before .before .before .before .before .before .before .before .before .before
 
 abbrev pub clear-list-from-returns-2 : tie.After-answer-of → tie.After-clear-list
 clear-list-from-returns-2 c =
-    finish-corners-from-returns-2 c .before .before .before .before .before .before .before .before .before .before .before .before .before
+    merge-by-table-from-returns-2 c .before .before .before .before .before .before .before .before .before .before .before .before .before
     .before
 
 abbrev pub clear-levels-from-returns-2 : tie.After-answer-of → tie.After-clear-levels
@@ -221,6 +221,9 @@ if1-from-returns-2 c = build-from-returns-2 c .before .before
 abbrev pub refusal-from-returns-2 : tie.After-answer-of → tie.After-refusal
 refusal-from-returns-2 c = if1-from-returns-2 c .before
 
+abbrev pub shared-slice-known-from-returns-2 : tie.After-answer-of → tie.After-shared-slice-known
+shared-slice-known-from-returns-2 c =
+    refusal-from-returns-2 c .before .before .before .before .before .before .before .before .before .before .before
+
 abbrev pub start-from-returns-2 : tie.After-answer-of → tie.Start
-start-from-returns-2 c =
-    refusal-from-returns-2 c .before .before .before .before .before .before .before .before .before .before .before .before
+start-from-returns-2 c = shared-slice-known-from-returns-2 c .before

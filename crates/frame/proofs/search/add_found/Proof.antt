@@ -13,7 +13,7 @@ use Rattle.detect.specs.declared.Peaks.the-variants.{Added}
 use Rattle.patch_corners.specs.OneMap.{choiceOf}
 use Rattle.frame_pass.specs.Pass.{cornersAbout, tiesAbout}
 use Rattle.frame_pass.proofs.Ties.{seeds-tied}
-use Rattle.frame.specs.Internal.{Adds}
+use Rattle.frame.specs.Internal.{AddsCorners}
 use Rattle.frame.proofs.Adding.{adds-held, turn-none, turn-more, turn-full, turns-all, sum-fits}
 use Rattle.frame.proofs.Levels.{found-whole, found-boxes}
 use Rattle.frame.proofs.search.add_found.Statement.{statement}
@@ -24,7 +24,7 @@ abbrev Inv-loop : tie.InvT-loop
 Inv-loop img w h p exact n sx sy ss sn m map₀ cx₀ cy₀ cs₀ cn₀ k held₀ ties₀ i₀ map cx cy cs cn held ties i =
     (i ≤ m) × (length map ≡ length map₀) × (length cx ≡ length cx₀) × (length cy ≡ length cy₀) × (length cs ≡ length cs₀)
     × (length cn ≡ length cn₀)
-    × Adds (flatMap (cornersAbout p img w h (choiceOf p exact) k) (cornersOf (slices sx sy ss sn) i))
+    × AddsCorners (flatMap (cornersAbout p img w h (choiceOf p exact) k) (cornersOf (slices sx sy ss sn) i))
     (sumOf (tiesAbout p img w h (choiceOf p exact) k) (cornersOf (slices sx sy ss sn) i)) 0 (slices cx₀ cy₀ cs₀ cn₀)
     (Added held ties) (slices cx cy cs cn)
 

@@ -9,7 +9,8 @@ use lib.Ieee.{binary32, ofBits}
 use borrow.Author.Needs.{needs}
 use borrow.Author.Tests.{lt-ltb, le-ltb, eq-eqb, ne-eqb}
 use Rattle.merge_radius.specs.MergeRadius.{radiusOutside}
-use Rattle.stream.specs.Stream.{sidesOutside, rangeOutside}
+use Rattle.frame_params.specs.Ranges.{rangeOutside}
+use Rattle.stream.specs.Stream.{sidesOutside}
 use Rattle.stream.specs.RoundTrip.{frameBytes}
 use Rattle.frame_writer.specs.FrameWriter.{isTooWide, refusalOf}
 use Rattle.frame_writer.proofs.Bytes.{frame-long}

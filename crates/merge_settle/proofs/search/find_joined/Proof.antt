@@ -4,7 +4,7 @@ use borrow.Author.Needs.{needs}
 use native.Mathlib.Omega.{arith}
 use mathlib.Core.Path.{ap}
 use Prim.Native.Nat.{ℕ, _/_}
-use Rattle.merge_settle.proofs.First.{lowers-then, lowers-first}
+use Rattle.merge_settle.proofs.First.{among-then, among-first}
 use Rattle.merge_settle.proofs.Slots.{some-floats}
 use Rattle.merge_settle.proofs.Nearby.{all-near}
 use Rattle.merge_settle.proofs.search.find_joined.Statement.{statement}
@@ -36,7 +36,7 @@ returns c =
     let holds = asked .index-holds .ensures (cells .before .if1 .taken) in
     let row = asked .before .row-of .ensures in
     let half : ℕ → ℕ = λ n. n / 2 in
-    lowers-first _ _ _ _ (lowers-then _ _ _ _ _ _ (c .before .lowest-of-two .ensures) (c .lowest-of-two2 .ensures))
+    among-first _ _ _ _ (among-then _ _ _ _ _ _ (c .before .lowest-of-two .ensures) (c .lowest-of-two2 .ensures))
     (all-near _ _ _ _ _ _ (start asked .pre) _ _ _ (ap half (cells .column-of .ensures)) (ap half row) (holds .1)
     (omega (arith, row, holds .0)))
 

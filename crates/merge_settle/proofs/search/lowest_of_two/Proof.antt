@@ -1,7 +1,7 @@
 -- `merge_settle::search::lowest_of_two` meets its contract. Assumes nothing.
 use borrow.Author.Needs.{needs}
 use native.Mathlib.Omega.{arith}
-use Rattle.merge_settle.proofs.First.{lowers-two}
+use Rattle.merge_settle.proofs.First.{among-two}
 use Rattle.merge_settle.proofs.Slots.{home-in, home-slots}
 use Rattle.merge_settle.proofs.search.lowest_of_two.Statement.{statement}
 use Rattle.merge_settle.proofs.search.lowest_of_two.Tie as tie
@@ -21,7 +21,7 @@ returns : tie.Need-returns
 returns c =
     let first = c .before .before in
     let t = start (first .before) .args .table .now in
-    lowers-two _ _ _ _ _ _ _ _ _ (home-slots t _ _ _ (first .before .home-of .ensures)) (home-slots t _ _ _ (c .before .home-of2 .ensures))
+    among-two _ _ _ _ _ _ _ _ _ (home-slots t _ _ _ (first .before .home-of .ensures)) (home-slots t _ _ _ (c .before .home-of2 .ensures))
     (first .lowest-from .ensures) (c .lowest-from2 .ensures)
 
 pub lowest-of-two-spec : {M : Type 1} → statement M

@@ -5,7 +5,7 @@ use native.Mathlib.Omega.{arith}
 use borrow.Author.Needs.{needs}
 use borrow.Fn.Kinds.{In}
 use borrow.Fn.PlainCycle.{Measures, is, falls, and}
-use Rattle.merge_settle.proofs.Stepping.{reaches-ready, reaches-done, reaches-less, reaches-on}
+use Rattle.merge_settle.proofs.Stepping.{stops-ready, stops-done, stops-less, stops-on}
 use Rattle.merge_settle.proofs.settling.merge_up_to.Reads as reads
 use Rattle.merge_settle.proofs.settling.merge_up_to.Kinds as kinds
 use Rattle.merge_settle.proofs.settling.+merge_up_to.Lts-merge_up_to as lts
@@ -61,7 +61,7 @@ module _ (t : ℕ) where
   returns : lts.Need-returns claims given reads.Post
   returns c =
       let few = merge-few-from-returns c in
-      reaches-less _ _ _ _ _ _ _ _ _ (few .merge-few .ensures) _ (omega (arith, if1-from-returns c .if1 .taken))
+      stops-less _ _ _ _ _ _ _ _ _ (few .merge-few .ensures) _ (omega (arith, if1-from-returns c .if1 .taken))
 
   merge-up-to-requires : lts.Need-merge-up-to-requires claims given reads.Post
   merge-up-to-requires c κs =
@@ -81,11 +81,11 @@ module _ (t : ℕ) where
   same-length-8 c = search needs
 
   returns-2 : lts.Need-returns-2 claims given reads.Post
-  returns-2 c = reaches-done _ _ _ _ _ _ _ _ _ (merge-up-to-from-returns-2 c .merge-up-to .ensures) _ (c .if2 .taken)
+  returns-2 c = stops-done _ _ _ _ _ _ _ _ _ (merge-up-to-from-returns-2 c .merge-up-to .ensures) _ (c .if2 .taken)
 
   merge-more-requires : lts.Need-merge-more-requires claims given reads.Post
   merge-more-requires c κs = let p = called (if2-from-merge-more-requires c) in
-      reaches-ready _ _ _ _ _ _ _ _ _ (p .merge-up-to .ensures) (start p .pre .1 .0)
+      stops-ready _ _ _ _ _ _ _ _ _ (p .merge-up-to .ensures) (start p .pre .1 .0)
 
   same-length-9 : lts.Need-same-length-9 claims given reads.Post
   same-length-9 c = search needs
@@ -103,12 +103,12 @@ module _ (t : ℕ) where
   returns-3 c =
       let more = merge-more-from-returns-3 c in
       let low = if3-from-returns-3 c in
-      reaches-on _ _ _ _ _ _ _ _ _ (called (low .before) .merge-up-to .ensures) _ _ _ _ (more .merge-more .ensures)
+      stops-on _ _ _ _ _ _ _ _ _ (called (low .before) .merge-up-to .ensures) _ _ _ _ (more .merge-more .ensures)
       (omega (arith, low .if3 .taken))
 
   merge-most-requires : lts.Need-merge-most-requires claims given reads.Post
   merge-most-requires c κs = let p = called (if2-from-merge-most-requires c) in
-      reaches-ready _ _ _ _ _ _ _ _ _ (p .merge-up-to .ensures) (start p .pre .1 .0)
+      stops-ready _ _ _ _ _ _ _ _ _ (p .merge-up-to .ensures) (start p .pre .1 .0)
 
   same-length-13 : lts.Need-same-length-13 claims given reads.Post
   same-length-13 c = search needs
@@ -126,7 +126,7 @@ module _ (t : ℕ) where
   returns-4 c =
       let most = merge-most-from-returns-4 c in
       let p = called (if2-from-returns-4 c) in
-      reaches-on _ _ _ _ _ _ _ _ _ (p .merge-up-to .ensures) _ _ _ _ (most .merge-most .ensures) (omega (arith, start p .pre .1 .1))
+      stops-on _ _ _ _ _ _ _ _ _ (p .merge-up-to .ensures) _ _ _ _ (most .merge-most .ensures) (omega (arith, start p .pre .1 .1))
 
 pub +merge-up-to-spec : {M : Type 1} → statement M
 +merge-up-to-spec =

@@ -9,9 +9,10 @@ use mathlib.Core.Logic.{inr}
 use lib.ListN.{length}
 use Rattle.corner_list.specs.CornerList.{slices}
 use Rattle.merge_grid.specs.Grid.{joins}
-use Rattle.merge_settle.specs.Internal.{slotsOf, Indexed, step, Comes}
-use Rattle.merge_settle.proofs.Stepping.{comes-none, comes-xs, comes-ys, comes-strengths, comes-neighbours, comes-fits, comes-turn}
-use Rattle.merge_settle.proofs.Stepping.{reaches-end}
+use Rattle.merge_settle.specs.Internal.{slotsOf, Indexed, step, StepAfter}
+use Rattle.merge_settle.proofs.Stepping.{stepped-none, stepped-xs, stepped-ys, stepped-strengths, stepped-neighbours, stepped-fits}
+use Rattle.merge_settle.proofs.Stepping.{stepped-turn}
+use Rattle.merge_settle.proofs.Stepping.{stops-end}
 use Rattle.merge_settle.proofs.settling.merge_with.Statement.{statement}
 use Rattle.merge_settle.proofs.settling.merge_with.Tie as tie
 use Landmarks.*
@@ -19,7 +20,7 @@ use Landmarks.*
 abbrev Inv-loop : tie.InvT-loop
 Inv-loop lx ly ls ln apart xs₀ ys₀ strengths₀ neighbours₀ table₀ g n most done k₀ floor₀ low₀ i₀ xs ys strengths neighbours table
     k floor low i =
-    Comes (joins g) apart (slices lx ly ls ln) n (slices xs₀ ys₀ strengths₀ neighbours₀) (step done k₀)
+    StepAfter (joins g) apart (slices lx ly ls ln) n (slices xs₀ ys₀ strengths₀ neighbours₀) (step done k₀)
     (slices xs ys strengths neighbours) (step i k)
     × Indexed g floor (slotsOf table) xs ys k × (length table ≡ length table₀)
 
@@ -31,25 +32,25 @@ loop-holds : tie.Need-loop-holds Inv-loop μ-loop
 loop-holds c =
     let listed = c .before .before in
     let pre = start-from-loop-holds c .pre in
-    (comes-none _ _ _ _ _ _ (pre .0) (pre .1 .1), listed .list-kept .ensures, refl)
+    (stepped-none _ _ _ _ _ _ (pre .0) (pre .1 .1), listed .list-kept .ensures, refl)
 
 same-length : tie.Need-same-length Inv-loop μ-loop
-same-length c = comes-xs _ _ _ _ _ _ _ _ (c .before .before .loop .inv .0) (start-from-same-length c .pre .0)
+same-length c = stepped-xs _ _ _ _ _ _ _ _ (c .before .before .loop .inv .0) (start-from-same-length c .pre .0)
 
 same-length-2 : tie.Need-same-length-2 Inv-loop μ-loop
-same-length-2 c = comes-ys _ _ _ _ _ _ _ _ (c .before .before .loop .inv .0) (start-from-same-length-2 c .pre .0)
+same-length-2 c = stepped-ys _ _ _ _ _ _ _ _ (c .before .before .loop .inv .0) (start-from-same-length-2 c .pre .0)
 
 same-length-3 : tie.Need-same-length-3 Inv-loop μ-loop
-same-length-3 c = comes-strengths _ _ _ _ _ _ _ _ (c .before .before .loop .inv .0) (start-from-same-length-3 c .pre .0)
+same-length-3 c = stepped-strengths _ _ _ _ _ _ _ _ (c .before .before .loop .inv .0) (start-from-same-length-3 c .pre .0)
 
 same-length-4 : tie.Need-same-length-4 Inv-loop μ-loop
-same-length-4 c = comes-neighbours _ _ _ _ _ _ _ _ (c .before .before .loop .inv .0) (start-from-same-length-4 c .pre .0)
+same-length-4 c = stepped-neighbours _ _ _ _ _ _ _ _ (c .before .before .loop .inv .0) (start-from-same-length-4 c .pre .0)
 
 same-length-5 : tie.Need-same-length-5 Inv-loop μ-loop
 same-length-5 c = omega (arith, c .before .before .loop .inv .2, list-kept-from-same-length-5 c .list-kept .kept)
 
 returns : tie.Need-returns Inv-loop μ-loop
-returns c = record { comes = c .before .before .loop .inv .0; far = inr (c .if1 .taken) }
+returns c = record { stepped = c .before .before .loop .inv .0; far = inr (c .if1 .taken) }
 
 refresh-requires : tie.Need-refresh-requires Inv-loop μ-loop
 refresh-requires c κs = loop-from-refresh-requires c .loop .inv .1
@@ -57,7 +58,7 @@ refresh-requires c κs = loop-from-refresh-requires c .loop .inv .1
 settle-corner-requires : tie.Need-settle-corner-requires Inv-loop μ-loop
 settle-corner-requires c κs =
     let turn = loop-test-from-settle-corner-requires c in
-    let fits = comes-fits _ _ _ _ _ _ _ _ (turn .before .loop .inv .0) (start-from-settle-corner-requires c .pre .0)
+    let fits = stepped-fits _ _ _ _ _ _ _ _ (turn .before .loop .inv .0) (start-from-settle-corner-requires c .pre .0)
     (turn .loop-test .taken) in
     (fits, refresh-from-settle-corner-requires c .refresh .ensures)
 
@@ -73,26 +74,26 @@ loop-again c =
     let inv = turn .before .loop .inv in
     let read = given-at-from-loop-again c .given-at .ensures in
     let settled = settle-corner-from-loop-again c .settle-corner in
-    let step = comes-turn _ _ _ _ _ _ _ _ (inv .0) (turn .loop-test .taken) _ read _ _ (settled .ensures .0) in
+    let step = stepped-turn _ _ _ _ _ _ _ _ (inv .0) (turn .loop-test .taken) _ read _ _ (settled .ensures .0) in
     (step, settled .ensures .1, omega (arith, settled .kept, refresh-from-loop-again c .refresh .kept, inv .2))
 
 same-length-6 : tie.Need-same-length-6 Inv-loop μ-loop
-same-length-6 c = comes-xs _ _ _ _ _ _ _ _ (c .before .loop .inv .0) (start-from-same-length-6 c .pre .0)
+same-length-6 c = stepped-xs _ _ _ _ _ _ _ _ (c .before .loop .inv .0) (start-from-same-length-6 c .pre .0)
 
 same-length-7 : tie.Need-same-length-7 Inv-loop μ-loop
-same-length-7 c = comes-ys _ _ _ _ _ _ _ _ (c .before .loop .inv .0) (start-from-same-length-7 c .pre .0)
+same-length-7 c = stepped-ys _ _ _ _ _ _ _ _ (c .before .loop .inv .0) (start-from-same-length-7 c .pre .0)
 
 same-length-8 : tie.Need-same-length-8 Inv-loop μ-loop
-same-length-8 c = comes-strengths _ _ _ _ _ _ _ _ (c .before .loop .inv .0) (start-from-same-length-8 c .pre .0)
+same-length-8 c = stepped-strengths _ _ _ _ _ _ _ _ (c .before .loop .inv .0) (start-from-same-length-8 c .pre .0)
 
 same-length-9 : tie.Need-same-length-9 Inv-loop μ-loop
-same-length-9 c = comes-neighbours _ _ _ _ _ _ _ _ (c .before .loop .inv .0) (start-from-same-length-9 c .pre .0)
+same-length-9 c = stepped-neighbours _ _ _ _ _ _ _ _ (c .before .loop .inv .0) (start-from-same-length-9 c .pre .0)
 
 same-length-10 : tie.Need-same-length-10 Inv-loop μ-loop
 same-length-10 c = omega (arith, c .before .loop .inv .2, list-kept-from-same-length-10 c .list-kept .kept)
 
 returns-2 : tie.Need-returns-2 Inv-loop μ-loop
-returns-2 c = reaches-end _ _ _ _ _ _ _ _ _ _ (c .before .loop .inv .0) (c .loop-test .left)
+returns-2 c = stops-end _ _ _ _ _ _ _ _ _ _ (c .before .loop .inv .0) (c .loop-test .left)
 
 pub merge-with-spec : {M : Type 1} → statement M
 merge-with-spec =

@@ -3,7 +3,7 @@ mod Landmarks
 use mathlib.Core.Path.{refl}
 use native.Mathlib.Omega.{arith}
 use borrow.Author.Needs.{needs}
-use Rattle.response.specs.Internal.{Small}
+use Rattle.response.specs.Internal.{SumsBounded}
 use Rattle.response.proofs.Samples.{
   sample-lt,
   corner-small,
@@ -31,7 +31,7 @@ pick-requires c κs = sample-lt _ _ _ _ _ _ (c .before .pre .0) _ _ (c .before .
 ring-sums-requires : tie.Need-ring-sums-requires
 ring-sums-requires c κs = c .pick .ensures .1
 
-small : (c : tie.After-ring-sums) → Small 8 (c .ring-sums .result)
+small : (c : tie.After-ring-sums) → SumsBounded 8 (c .ring-sums .result)
 small c = held-small _ _ (c .before .pick .ensures .1) (c .ring-sums .ensures)
 
 add-value : tie.Need-add-value

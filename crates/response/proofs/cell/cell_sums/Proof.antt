@@ -4,7 +4,7 @@ use mathlib.Core.Path.{refl}
 use Prim.Native.Nat.{_+_, _*_, _-_}
 use native.Mathlib.Omega.{arith}
 use borrow.Author.Needs.{needs}
-use Rattle.response.specs.Internal.{Bytes, Small}
+use Rattle.response.specs.Internal.{Bytes, SumsBounded}
 use Rattle.response.proofs.Samples.{
   sample-lt,
   pixels-small,
@@ -39,7 +39,7 @@ bytes c =
     gathered-bytes (a .tile .now) ((a .y - a .radius) * a .s + (a .x - a .radius)) (a .off) (c .before .before .pre .0) _
     (c .gather .ensures)
 
-small : (c : tie.After-ring-sums) → Small 8 (c .ring-sums .result)
+small : (c : tie.After-ring-sums) → SumsBounded 8 (c .ring-sums .result)
 small c = held-small _ _ (bytes (c .before)) (c .ring-sums .ensures)
 
 ring-sums-requires : tie.Need-ring-sums-requires

@@ -3,13 +3,13 @@ use Prim.Native.Nat.{_-_, _≤_, min}
 use mathlib.Core.Path.{_≡_}
 use borrow.Author.Needs.{needs}
 use Rattle.response.specs.OnePass.{passedAfter}
-use Rattle.response.specs.Internal.{Small}
+use Rattle.response.specs.Internal.{SumsBounded}
 use Rattle.response.proofs.OnePass.{small-none, passed-none, passed-next, passed-end}
 use Rattle.response.proofs.cell.ring_sums.Statement.{statement}
 use Rattle.response.proofs.cell.ring_sums.Tie as tie
 
 abbrev Inv-loop : tie.InvT-loop
-Inv-loop n s last h₀ k₀ h k = (k ≤ last) × (last ≡ min n 8) × (h ≡ passedAfter s k) × Small k h
+Inv-loop n s last h₀ k₀ h k = (k ≤ last) × (last ≡ min n 8) × (h ≡ passedAfter s k) × SumsBounded k h
 
 abbrev μ-loop : tie.MeasureT-loop
 μ-loop n s last h₀ k₀ h k = last - k

@@ -8,7 +8,7 @@ use lib.ListN.{length}
 use Rattle.lists.specs.Limits.{largestSide, largestMap}
 use Rattle.float32.specs.Float32.{zero}
 use Rattle.ring.proofs.Table.{ringOf-is}
-use Rattle.response.specs.Internal.{Filled, Long, responses}
+use Rattle.response.specs.Internal.{Filled, SumPlaces, responses}
 use Rattle.response.proofs.Filling.{filled-none, filled-to}
 use Rattle.response.proofs.Tiles.{
   tile-framed,
@@ -29,7 +29,7 @@ use Landmarks.*
 
 abbrev Inv-loop : tie.InvT-loop
 Inv-loop img f off i j n m tile s map₀ r balance₀ sum₀ cross₀ k₀ map balance sum cross k =
-    (k ≤ m) × Filled zero (f .pw) (f .ph) (responses img f) i (i + n) j (j + k) map₀ map × Long balance sum cross
+    (k ≤ m) × Filled zero (f .pw) (f .ph) (responses img f) i (i + n) j (j + k) map₀ map × SumPlaces balance sum cross
 
 abbrev μ-loop : tie.MeasureT-loop
 μ-loop img f off i j n m tile s map₀ r balance₀ sum₀ cross₀ k₀ map balance sum cross k = m - k

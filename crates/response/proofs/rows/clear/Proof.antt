@@ -4,13 +4,13 @@ use Prim.Native.Nat.{_-_, _≤_}
 use borrow.Author.Needs.{needs}
 use lib.Ieee.{ofBits}
 use Rattle.float32.specs.Float32.{zero}
-use Rattle.response.specs.Internal.{Written}
+use Rattle.response.specs.Internal.{PlacesWritten}
 use Rattle.response.proofs.Filling.{written-none, written-set, written-end}
 use Rattle.response.proofs.rows.clear.Statement.{statement}
 use Rattle.response.proofs.rows.clear.Tie as tie
 
 abbrev Inv-loop : tie.InvT-loop
-Inv-loop map₀ at n i₀ map i = (i ≤ n) × Written zero at i (λ _. zero) map₀ map
+Inv-loop map₀ at n i₀ map i = (i ≤ n) × PlacesWritten zero at i (λ _. zero) map₀ map
 
 abbrev μ-loop : tie.MeasureT-loop
 μ-loop map₀ at n i₀ map i = n - i

@@ -3,14 +3,14 @@ use Prim.Native.Nat.{_-_, _≤_}
 use native.Mathlib.Omega.{arith}
 use borrow.Author.Needs.{needs}
 use Rattle.ring.specs.Ring.{ringOf}
-use Rattle.response.specs.Internal.{Summed}
+use Rattle.response.specs.Internal.{CellsSummed}
 use Rattle.response.proofs.Samples.{summed-set, summed-end}
 use Rattle.response.proofs.runs.sums.Statement.{statement}
 use Rattle.response.proofs.runs.sums.Tie as tie
 
 abbrev Inv-loop : tie.InvT-loop
 Inv-loop tile s radius off y n balance₀ sum₀ cross₀ i₀ balance sum cross i =
-    (i ≤ n) × Summed tile s (ringOf radius) radius y i balance sum cross
+    (i ≤ n) × CellsSummed tile s (ringOf radius) radius y i balance sum cross
 
 abbrev μ-loop : tie.MeasureT-loop
 μ-loop tile s radius off y n balance₀ sum₀ cross₀ i₀ balance sum cross i = n - i

@@ -5,7 +5,7 @@ use borrow.Author.Needs.{needs}
 use lib.ListN.{getD}
 use Rattle.float32.specs.Float32.{zero}
 use Rattle.response.specs.Response.{responseOf}
-use Rattle.response.specs.Internal.{Written}
+use Rattle.response.specs.Internal.{PlacesWritten}
 use Rattle.response.proofs.Filling.{written-none, written-set, written-end}
 use Rattle.response.proofs.runs.values.Statement.{statement}
 use Rattle.response.proofs.runs.values.Tie as tie
@@ -13,7 +13,7 @@ use Landmarks.*
 
 abbrev Inv-loop : tie.InvT-loop
 Inv-loop balance sum cross n map₀ at i₀ map i =
-    (i ≤ n) × Written zero at i (λ k. responseOf (getD balance k 0) 4096 (getD sum k 0) (getD cross k 0)) map₀ map
+    (i ≤ n) × PlacesWritten zero at i (λ k. responseOf (getD balance k 0) 4096 (getD sum k 0) (getD cross k 0)) map₀ map
 
 abbrev μ-loop : tie.MeasureT-loop
 μ-loop balance sum cross n map₀ at i₀ map i = n - i

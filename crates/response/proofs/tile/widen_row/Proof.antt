@@ -5,14 +5,14 @@ use Prim.Native.Nat.{_+_, _-_, _≤_}
 use native.Mathlib.Omega.{arith}
 use borrow.Author.Needs.{needs}
 use lib.ListN.{getD}
-use Rattle.response.specs.Internal.{Bytes, Written}
+use Rattle.response.specs.Internal.{Bytes, PlacesWritten}
 use Rattle.response.proofs.Filling.{bytes-set, written-none, written-set, written-end}
 use Rattle.response.proofs.tile.widen_row.Statement.{statement}
 use Rattle.response.proofs.tile.widen_row.Tie as tie
 use Landmarks.*
 
 abbrev Inv-loop : tie.InvT-loop
-Inv-loop img from n tile₀ at i₀ tile i = (i ≤ n) × Written 0 at i (λ k. getD img (from + k) 0) tile₀ tile × Bytes tile
+Inv-loop img from n tile₀ at i₀ tile i = (i ≤ n) × PlacesWritten 0 at i (λ k. getD img (from + k) 0) tile₀ tile × Bytes tile
 
 abbrev μ-loop : tie.MeasureT-loop
 μ-loop img from n tile₀ at i₀ tile i = n - i

@@ -4,26 +4,26 @@ use Prim.Native.Nat.{_+_, _-_, _≤_}
 use native.Mathlib.Omega.{arith}
 use lib.ListN.{length}
 use Rattle.stream.specs.Stream.{bodyLength}
-use Rattle.stream.proofs.Order.{Standing, standing-start, standing-end, standing-faulty, standing-long, standing-sides}
-use Rattle.stream.proofs.Order.{standing-next}
+use Rattle.stream.proofs.Order.{AtStage, at-stage-start, at-stage-end, at-stage-faulty, at-stage-long, at-stage-sides}
+use Rattle.stream.proofs.Order.{at-stage-next}
 use borrow.Author.Needs.{needs}
 use Rattle.stream.proofs.judging.judge.Statement.{statement}
 use Rattle.stream.proofs.judging.judge.Tie as tie
 
 abbrev Inv-loop : tie.InvT-loop
-Inv-loop input at₀ kind₀ left₀ at kind left = Standing input kind at left
+Inv-loop input at₀ kind₀ left₀ at kind left = AtStage input kind at left
 
 abbrev μ-loop : tie.MeasureT-loop
 μ-loop input at₀ kind₀ left₀ at kind left = length input - at
 
 loop-holds : tie.Need-loop-holds Inv-loop μ-loop
-loop-holds c = standing-start (c .before .args .input .now)
+loop-holds c = at-stage-start (c .before .args .input .now)
 
 returns : tie.Need-returns Inv-loop μ-loop
 returns c =
     let fault = c .before in
     let at = fault .before .before .before in
-    standing-faulty (at .loop .inv) (fault .before .before .loop-test .taken) _ _ (fault .before .due-after .ensures)
+    at-stage-faulty (at .loop .inv) (fault .before .before .loop-test .taken) _ _ (fault .before .due-after .ensures)
     (fault .record-fault .ensures) (c .if1 .taken)
 
 -- the record without fault ends in the stream
@@ -32,7 +32,7 @@ long : (c : tie.Else1 Inv-loop μ-loop)
     ≤ length (c .before .before .before .before .before .before .args .input .now)
 long c =
     let due = c .before .before in
-    standing-long (due .before .before .loop .inv) (due .before .loop-test .taken) _ _ (due .due-after .ensures)
+    at-stage-long (due .before .before .loop .inv) (due .before .loop-test .taken) _ _ (due .due-after .ensures)
     (c .before .record-fault .ensures) (c .if1 .left)
 
 add-at : tie.Need-add-at Inv-loop μ-loop
@@ -45,7 +45,7 @@ left-after-requires : tie.Need-left-after-requires Inv-loop μ-loop
 left-after-requires c κs =
     let sound = c .before in
     let due = sound .before .before in
-    standing-sides (due .before .before .loop .inv) (due .before .loop-test .taken) _ _ (due .due-after .ensures)
+    at-stage-sides (due .before .before .loop .inv) (due .before .loop-test .taken) _ _ (due .due-after .ensures)
     (sound .before .record-fault .ensures) (sound .if1 .left)
 
 loop-less : tie.Need-loop-less Inv-loop μ-loop
@@ -55,12 +55,12 @@ loop-again : tie.Need-loop-again Inv-loop μ-loop
 loop-again c =
     let sound = c .before .before in
     let due = sound .before .before in
-    standing-next (due .before .before .loop .inv) (due .before .loop-test .taken) _ _ (due .due-after .ensures)
+    at-stage-next (due .before .before .loop .inv) (due .before .loop-test .taken) _ _ (due .due-after .ensures)
     (sound .before .record-fault .ensures) (sound .if1 .left)
     (c .before .body-length .result) (c .left-after .result) (c .before .body-length .ensures) (c .left-after .ensures)
 
 returns-2 : tie.Need-returns-2 Inv-loop μ-loop
-returns-2 c = standing-end (c .before .loop .inv) (c .loop-test .left)
+returns-2 c = at-stage-end (c .before .loop .inv) (c .loop-test .left)
 
 pub judge-spec : {M : Type 1} → statement M
 judge-spec =

@@ -12,7 +12,7 @@ use Rattle.lists.specs.Limits.{largestMap, largestWindow}
 use Rattle.lists.specs.Places.{count}
 use Rattle.lists.proofs.Rows.{CountRows, rows-start}
 use Rattle.detect.specs.Peaks.{window}
-use Rattle.sure_peak.specs.SurePeak.{fifthsIn}
+use Rattle.sure_peak.specs.SurePeak.{storedFifths}
 use Rattle.sure_peak.proofs.Signed.{read, test-read}
 use Rattle.sure_peak.proofs.WindowRows.{row-in, row-small, count-next, count-fits, centre-in, centre-small, centre-counted}
 use Rattle.sure_peak.proofs.WindowRows.{centre-off, centre-not}
@@ -103,7 +103,7 @@ module _ (c : tie.After-if12 Inv-loop μ-loop) where
 
   abbrev passing : ℤ → ℕ
   passing v = let a = start end .args in
-      count (λ q. ltZ v (fifthsIn (a .map .now) (a .w) q)) (window (a .w) (a .h) (a .r) (record { x = a .x; y = a .y }))
+      count (λ q. ltZ v (storedFifths (a .map .now) (a .w) q)) (window (a .w) (a .h) (a .r) (record { x = a .x; y = a .y }))
 
 sub-result : tie.Need-sub-result Inv-loop μ-loop
 sub-result c =

@@ -1,0 +1,4 @@
+pub mod Patch
+pub mod Limits
+pub mod Retouching
+pub mod Levels

@@ -1,0 +1,5 @@
+pub mod Internal
+pub mod Peaks
+pub mod Enough
+pub mod Sure
+pub mod Centroid

@@ -1,4 +1,0 @@
-pub mod Holding
-pub mod Photo
-pub mod Writing
-pub mod Retouching
