@@ -2,7 +2,6 @@
 // returns 0, or the number of a refusal, which leaves buffers and results as they were. include/zakdomp.h declares
 // them.
 mod apart; // zakdomp_merge_apart: the list that merging would leave, in a separate buffer
-mod merged; // number_of, kept_of: the answer of a merge, taken apart
 mod merging; // zakdomp_merge: corners merged in place
 mod naive; // zakdomp_merge_naive: corners merged in place by distance alone
 mod showing; // zakdomp_show_corner: the corner at a place of a list

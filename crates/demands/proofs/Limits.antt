@@ -29,7 +29,8 @@ use Rattle.response_limits.specs.Promise.{refusalOf}
 use Rattle.response_limits.proofs.Contained as contained
 use Rattle.sure_peak.specs.SurePeak.{byLimits, isSure}
 use Rattle.sure_peak.proofs.Exact.{Within, listed, sure-inside, sure-peak}
-use Rattle.demands.specs.Limits.{LimitsCall, SureCall, InImage, lowCell, highCell, exactCell, LimitsContain, LimitsExact}
+use Rattle.demands.specs.Limits.{LimitsCall, SureCall, lowCell, highCell, exactCell, LimitsContain, LimitsExact}
+use Rattle.demands.specs.Retouch.{InImage}
 use Rattle.demands.specs.Limits.{SurePeakExact}
 
 -- ---- the promise taken apart
@@ -49,17 +50,17 @@ module _ (c : LimitsCall) where
   highs-are : c .highs′ ≡ front (highMap (c .low) (c .high) (c .w) (c .h) (ringOf (c .ring))) (c .highs)
   highs-are = c .promise .highs-are ∙ rw none
 
-  low-is : (p : Place) → InImage c p → lowCell c p ≡ lowAt (c .low) (c .high) (c .w) (c .h) (ringOf (c .ring)) (p .x) (p .y)
+  low-is : (p : Place) → InImage (c .w) (c .h) p → lowCell c p ≡ lowAt (c .low) (c .high) (c .w) (c .h) (ringOf (c .ring)) (p .x) (p .y)
   low-is p at = ap (λ (m : List ℤ). getD m (p .y * c .w + p .x) (pos 0)) lows-are ∙ at-front (c .w) (c .h) _ (c .lows) p (at .0) (at .1)
 
-  high-is : (p : Place) → InImage c p → highCell c p ≡ highAt (c .low) (c .high) (c .w) (c .h) (ringOf (c .ring)) (p .x) (p .y)
+  high-is : (p : Place) → InImage (c .w) (c .h) p → highCell c p ≡ highAt (c .low) (c .high) (c .w) (c .h) (ringOf (c .ring)) (p .x) (p .y)
   high-is p at = ap (λ (m : List ℤ). getD m (p .y * c .w + p .x) (pos 0)) highs-are ∙ at-front (c .w) (c .h) _ (c .highs) p (at .0) (at .1)
 
   module _ (img : List ℕ) (b : Between (c .low) (c .high) img) where
-    inside-low : (p : Place) → InImage c p → lowCell c p ≤ℤ exactCell c img p
+    inside-low : (p : Place) → InImage (c .w) (c .h) p → lowCell c p ≤ℤ exactCell c img p
     inside-low p at = rw (low-is p at) (contained.at-least (c .low) (c .high) img b (c .w) (c .h) (ringOf (c .ring)) (p .x) (p .y))
 
-    inside-high : (p : Place) → InImage c p → exactCell c img p ≤ℤ highCell c p
+    inside-high : (p : Place) → InImage (c .w) (c .h) p → exactCell c img p ≤ℤ highCell c p
     inside-high p at = rw (high-is p at) (contained.at-most (c .low) (c .high) img b (c .w) (c .h) (ringOf (c .ring)) (p .x) (p .y))
 
 -- ---- the statements on the maps

@@ -60,7 +60,7 @@ module _ (c : RetouchCall) where
   as-long : length (c .map′) ≡ length (c .map)
   as-long = ap length map-redone ∙ redone-length (c .img′) (c .w) (c .h) t (c .pixel) (c .map) ∙ mul-comm (c .h) (c .w) ∙ sym (given .cells)
 
-  cell-after : (p : Place) → InImage c p
+  cell-after : (p : Place) → InImage (c .w) (c .h) p
       → cellAfter c p ≡ cond (touched (c .w) (c .h) t (c .pixel) p) (responseAt (c .img′) (c .w) (c .h) t (p .x) (p .y)) (cellBefore c p)
   cell-after p at =
       let here : p .y * c .w + p .x < length (c .map) = rw (given .cells) (in-map (c .w) (c .h) (p .x) (p .y) (at .0) (at .1)) in

@@ -22,6 +22,7 @@ use Rattle.response_limits.specs.Promise.{LimitsWritten}
 use Rattle.sure_peak.specs.declared.Sure.the-variants.{Yes}
 use Rattle.sure_peak.specs.SurePeak.{byLimits}
 use Rattle.sure_peak.specs.Promise.{SurePeakTold}
+use Rattle.demands.specs.Retouch.{InImage}
 
 -- a call of `response_limits` that was not refused, with its promise word for word
 pub record LimitsCall : Type 0 where
@@ -36,10 +37,7 @@ pub record LimitsCall : Type 0 where
   pub highs′ : List ℤ
   pub promise : LimitsWritten low high w h ring lows highs Written lows′ highs′
 
--- a cell of its maps, its two numbers, and the paper's exact value for an image with the same sides
-abbrev pub InImage : LimitsCall → Place → Type 0
-InImage c p = (p .x < c .w) × (p .y < c .h)
-
+-- the two numbers of a cell of its maps, and the paper's exact value for an image with the same sides
 abbrev pub lowCell : LimitsCall → Place → ℤ
 lowCell c p = getD (c .lows′) (p .y * c .w + p .x) (pos 0)
 
@@ -51,14 +49,14 @@ exactCell c img p = fifthsAt img (c .w) (c .h) (ringOf (c .ring)) (p .x) (p .y)
 
 -- "Every image lying between the two has its exact response inside."
 pub record LimitsContain : Type 0 where
-  pub call : (c : LimitsCall) (img : List ℕ) → Between (c .low) (c .high) img → (p : Place) → InImage c p
+  pub call : (c : LimitsCall) (img : List ℕ) → Between (c .low) (c .high) img → (p : Place) → InImage (c .w) (c .h) p
       → (lowCell c p ≤ℤ exactCell c img p) × (exactCell c img p ≤ℤ highCell c p)
   pub any-ring : (t : Ring) (low high img : List ℕ) → Between low high img → (w h x y : ℕ)
       → (lowAt low high w h t x y ≤ℤ fifthsAt img w h t x y) × (fifthsAt img w h t x y ≤ℤ highAt low high w h t x y)
 
 -- "Where low equals high everywhere, both numbers are that response."
 pub record LimitsExact : Type 0 where
-  pub call : (c : LimitsCall) → c .low ≡ c .high → (p : Place) → InImage c p
+  pub call : (c : LimitsCall) → c .low ≡ c .high → (p : Place) → InImage (c .w) (c .h) p
       → (lowCell c p ≡ exactCell c (c .low) p) × (highCell c p ≡ exactCell c (c .low) p)
   pub any-ring : (t : Ring) (img : List ℕ) (w h x y : ℕ)
       → (lowAt img img w h t x y ≡ fifthsAt img w h t x y) × (highAt img img w h t x y ≡ fifthsAt img w h t x y)

@@ -32,9 +32,11 @@ pub record RetouchCall : Type 0 where
   pub map′ : List Float
   pub promise : Retouches w h ring pixel value img map (Redone count) img′ map′
 
--- a cell of its map, and its value before and after
-abbrev pub InImage : RetouchCall → Place → Type 0
-InImage c p = (p .x < c .w) × (p .y < c .h)
+-- a place of an image of w by h
+abbrev pub InImage : ℕ → ℕ → Place → Type 0
+InImage w h p = (p .x < w) × (p .y < h)
+
+-- the value of a cell of its map, before and after
 
 abbrev pub cellBefore : RetouchCall → Place → Float
 cellBefore c p = getD (c .map) (p .y * c .w + p .x) nan
@@ -46,10 +48,10 @@ cellAfter c p = getD (c .map′) (p .y * c .w + p .x) nan
 -- other map gets those cells and no more"
 pub record OnlyTouched : Type 0 where
   pub pixel-changed : (c : RetouchCall) → c .img′ ≡ changed (c .img) (c .w) (c .pixel) (c .value)
-  pub recomputed : (c : RetouchCall) (p : Place) → InImage c p
+  pub recomputed : (c : RetouchCall) (p : Place) → InImage (c .w) (c .h) p
       → touched (c .w) (c .h) (ringOf (c .ring)) (c .pixel) p ≡ true
       → cellAfter c p ≡ responseAt (c .img′) (c .w) (c .h) (ringOf (c .ring)) (p .x) (p .y)
-  pub kept : (c : RetouchCall) (p : Place) → InImage c p → touched (c .w) (c .h) (ringOf (c .ring)) (c .pixel) p ≡ false
+  pub kept : (c : RetouchCall) (p : Place) → InImage (c .w) (c .h) p → touched (c .w) (c .h) (ringOf (c .ring)) (c .pixel) p ≡ false
       → cellAfter c p ≡ cellBefore c p
   pub as-long : (c : RetouchCall) → length (c .map′) ≡ length (c .map)
 

@@ -39,7 +39,7 @@ use Rattle.frame.specs.declared.FrameAnswer.the-variants.{Corners, Refus
 use Rattle.frame.specs.declared.search.Lists.{Lists}
 use Rattle.frame.specs.Frame.{Buffers, buffers, tooMany, refusalOf, paddedCorners, finished, wiped, leftByNumber}
 use Rattle.frame.specs.Frame.{numberOf, valuesOf, FrameFound, wiped}
-use Rattle.frame.specs.Internal.{Searched, keptOf}
+use Rattle.frame.specs.Internal.{Searched}
 use Rattle.frame.proofs.Numbers.{number-before, number-ten, number-none}
 use Rattle.frame.proofs.Padded.{SameLengths, padded-none, cleared-front, cleared-none}
 
@@ -119,10 +119,10 @@ module _ (radius : Float) (n : ℕ) (c : Slices) (m : List Float) (free : merge.
   map-cleared : m′ ≡ wipedFrom 0 float32.zero m
   map-cleared = done .cleared ∙ ap (λ (k : ℕ). resultOr k (wipedFrom 0 float32.zero m) m) free
 
-  merge-done : (k : ℕ) → k ≡ keptOf kept → (c″ : Slices) → c″ ≡ clearedFrom k c′ → Merging radius n c k c″
+  merge-done : (k : ℕ) → k ≡ merge.keptOf kept 0 → (c″ : Slices) → c″ ≡ clearedFrom k c′ → Merging radius n c k c″
   merge-done k e c″ is =
       let done = merges-done radius (placesOf c) n c c′ kept (cornersOf c n) refl free (done .merges) in
-      record { count = e ∙ ap keptOf (done .0); is = is ∙ ap (clearedFrom k) (done .1) }
+      record { count = e ∙ ap (λ (a : Merged). merge.keptOf a 0) (done .0); is = is ∙ ap (clearedFrom k) (done .1) }
 
 -- ---- after the search of n levels, which answered `answer` and left s′ and c′
 module _ (choose : Choice) (p : FrameParams) (img : List ℕ) (w h : ℕ) (m : List Float) (levels : List ℕ) (s c : Slices) (n : ℕ)
@@ -237,7 +237,7 @@ module _ (choose : Choice) (p : FrameParams) (img : List ℕ) (w h : ℕ) (m : L
         → length levels₁ ≡ length levels
         → (m′ : List Float) (kept : Merged) (c₁ : Slices) → MergesByTable (p .«merge_radius») (answer .corners) c′ m₁ kept c₁ m′
         → (levels′ : List ℕ) → levels′ ≡ cond (answer .fit) levels₁ (replicate (length levels₁) 0)
-        → (s″ : Slices) → s″ ≡ clearedFrom (answer .seeds) s′ → (k : ℕ) → k ≡ keptOf kept → (c″ : Slices) → c″ ≡ clearedFrom k c₁
+        → (s″ : Slices) → s″ ≡ clearedFrom (answer .seeds) s′ → (k : ℕ) → k ≡ merge.keptOf kept 0 → (c″ : Slices) → c″ ≡ clearedFrom k c₁
         → (r : FrameAnswer) → r ≡ cond (answer .fit) (Corners k (answer .ties)) (Refused 10)
         → FrameFound choose p img w h (buffers m levels s c) r (buffers m′ levels′ s″ c″)
     entry-merged none ad inside m₁ em levels₁ el ll m′ kept c₁ merges levels′ wl s″ ws k ek c″ wc r is =

@@ -19,9 +19,6 @@ use Rattle.lists.specs.Tab.{grid}
 use Rattle.response.specs.Patch.{View, responseIn}
 use Rattle.frame_pass.specs.Pass.{levelView, cornersAbout, tiesAbout, seedsOf}
 use Rattle.frame_pass.specs.Theorems.{SoundFrame}
-use Rattle.merge.specs.declared.Merged.{Merged}
-use Rattle.merge.specs.declared.Merged.the-variants.{Kept}
-use Rattle.merge.specs.declared.Merged.the-variants as merged
 use Rattle.frame.specs.declared.search.Lists.{Lists}
 
 -- an image and parameters that no rule refuses, and a map buffer with a place for each pixel
@@ -105,10 +102,3 @@ pub record Searched (seeds found : List Corner) (ties : ℕ) (s c : Slices) (ans
   pub short : answer .fit ≡ false
       → (answer .seeds ≡ 0) × (answer .corners ≡ 0)
       × ((ltb (placesOf s) (length seeds) || ltb (placesOf c) (length found)) ≡ true)
-
--- ---- merging
-
--- how many corners are left
-abbrev pub keptOf : Merged → ℕ
-keptOf (Kept k) = k
-keptOf (merged.Refused number) = 0

@@ -18,8 +18,8 @@ use numbers::minus;
 // The rows of a band: it takes a megabyte at most, so it stays in the cache.
 const ROWS: usize = 64;
 
-// A map with more cells goes by bands: it takes 16 MB, more than a cache has for it.
-const ONE_MAP: usize = 4194304;
+// A map with more cells goes by bands: it takes 4 MB, more than the cache nearest to a core has for it.
+const ONE_MAP: usize = 1048576;
 
 // The border that no peak lies in.
 fn border(p: FrameParams) -> usize

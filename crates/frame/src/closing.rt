@@ -1,21 +1,9 @@
-// The end of a frame: what merging left, the levels if a list does not fit, and the answer.
+// The end of a frame: the levels if a list does not fit, and the answer.
 ghost use mathlib.Core.Path.{_≡_};
 ghost use mathlib.Core.Bool.{cond};
 ghost use lib.ListN.{length, replicate};
 ghost use Rattle.frame.specs.declared.FrameAnswer.the-variants.{Corners, Refused};
-ghost use Rattle.frame.specs.Internal.{keptOf};
 use crate::FrameAnswer;
-use merge::Merged;
-
-// How many corners merging left, 0 if it was refused.
-pub(crate) fn kept(m: Merged) -> usize
-    ensures { λ k. ⌜ k ≡ keptOf m ⌝ }
-{
-    let Merged::Kept(k) = m else {
-        return 0;
-    };
-    k
-}
 
 // Clears the level buffer if a list does not fit.
 pub(crate) fn clear_levels(levels: &mut [u8], fit: bool)

@@ -94,7 +94,7 @@ pub fn find_corners_by(
     closing::clear_levels(levels, found.fit);
     clearing::clear_list(sx, sy, ss, sn, found.seeds);
     let merged = merge::table::merge_by_table(cx, cy, cs, cn, map, found.corners, p.merge_radius);
-    let k = closing::kept(merged);
+    let k = merge::answers::kept_of(merged, 0);
     clearing::clear_list(cx, cy, cs, cn, k);
     closing::answer_of(found.fit, k, found.ties)
 }

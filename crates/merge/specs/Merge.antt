@@ -3,7 +3,7 @@ use Prim.Native.Nat.{ℕ}
 use mathlib.Core.Path.{_≡_}
 use mathlib.Core.Bool.{cond}
 use mathlib.Core.List.{List, [], _∷_}
-use lib.ListN.{length}
+use lib.ListN.{length, getD}
 use lib.Ieee.{Float}
 use Rattle.lists.specs.Refusals.{valuesUnless, unless, resultOr}
 use Rattle.corner_list.specs.declared.Corner.{Corner}
@@ -31,6 +31,10 @@ numberOf (Refused number) = number
 abbrev pub valuesOf : Merged → List ℕ
 valuesOf (Kept n) = n ∷ []
 valuesOf (Refused number) = []
+
+-- how many corners are left, or what was there before if refused
+abbrev pub keptOf : Merged → ℕ → ℕ
+keptOf a before = getD (valuesOf a) 0 before
 
 -- What a call promises that leaves the corners `left`, or is refused with the number k: the answer (how many are left),
 -- its number and values, and the buffer after: what is left at the start, the rest unchanged; if refused, all of it

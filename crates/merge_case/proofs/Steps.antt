@@ -11,7 +11,7 @@ use Rattle.corner_list.specs.declared.Corner.{Corner}
 use Rattle.corner_list.specs.CornerList.{Slices, placesOf, cornersOf, withCorner}
 use Rattle.corner_list.proofs.Corners.{corners-front, corners-next}
 use Rattle.merge.specs.declared.Merged.{Merged}
-use Rattle.merge.specs.Merge.{Merges}
+use Rattle.merge.specs.Merge.{Merges, keptOf}
 use Rattle.merge_naive.specs.MergeNaive.{MergesNaive}
 use Rattle.merge_naive.specs.Case.{one, first, second, third, three, two}
 use Rattle.merge_naive.proofs.Case.{by-distance, by-cells}
@@ -20,7 +20,6 @@ use Rattle.listing.specs.declared.Listing.the-variants.{Text}
 use Rattle.listing.specs.Text.{cornersText}
 use Rattle.listing.specs.Answer.{CornersWritten}
 use Rattle.listing.proofs.Texts.{listed}
-use Rattle.merge_case.specs.Internal.{keptOf}
 
 -- ---- the three corners, one behind the other
 pub three-put : (b b₁ b₂ b₃ : Slices) (c d e : Corner) → 3 ≤ placesOf b → c ≡ first → d ≡ second → e ≡ third
@@ -36,16 +35,16 @@ three-put b b₁ b₂ b₃ c d e fits is-first is-second is-third put put′ put
 
 -- ---- what is left of them
 module _ (b : Slices) (fits : 3 ≤ placesOf b) (is : cornersOf b 3 ≡ three) (cells : Bool) (answer : Merged) (r : ℕ)
-    (kept : r ≡ keptOf answer) (b′ : Slices) where
+    (kept : r ≡ keptOf answer 0) (b′ : Slices) where
   pub left-by-cells : cells ≡ true → Merges one (placesOf b) 3 b answer b′ → cornersOf b′ r ≡ cond cells three two
   left-by-cells e m =
       let done = by-cells b fits is answer b′ m in
-      ap (cornersOf b′) (kept ∙ ap keptOf (done .0)) ∙ done .1 ∙ ap (λ (t : Bool). cond t three two) (sym e)
+      ap (cornersOf b′) (kept ∙ ap (λ (a : Merged). keptOf a 0) (done .0)) ∙ done .1 ∙ ap (λ (t : Bool). cond t three two) (sym e)
 
   pub left-by-distance : cells ≡ false → MergesNaive one 3 b answer b′ → cornersOf b′ r ≡ cond cells three two
   left-by-distance e m =
       let done = by-distance b fits is answer b′ m in
-      ap (cornersOf b′) (kept ∙ ap keptOf (done .0)) ∙ done .1 ∙ ap (λ (t : Bool). cond t three two) (sym e)
+      ap (cornersOf b′) (kept ∙ ap (λ (a : Merged). keptOf a 0) (done .0)) ∙ done .1 ∙ ap (λ (t : Bool). cond t three two) (sym e)
 
 -- ---- the text stands first in its buffer
 module _ (b : Slices) (count : ℕ) (before : List ℕ) (r : Listing) (after : List ℕ) (w : CornersWritten b count before r after) (end : ℕ)

@@ -5,14 +5,13 @@ use corner_list::Corner;
 use listing::LONGEST;
 use listing::Listing;
 use listing::MOST_CORNERS;
-use merge::Merged;
+use merge::answers::kept_of;
 ghost use mathlib.Core.Path.{_≡_};
 ghost use mathlib.Core.Bool.{cond, false};
 ghost use Prim.Native.Nat.{_≤_};
 ghost use Rattle.corner_list.specs.CornerList.{slices, placesOf, cornersOf};
 ghost use Rattle.listing.specs.Text.{cornersText};
 ghost use Rattle.merge_naive.specs.Case.{corner, three, two};
-ghost use Rattle.merge_case.specs.Internal.{keptOf};
 
 // A corner of strength 1 without neighbours.
 fn unit_corner(x: f32, y: f32) -> Corner
@@ -45,16 +44,6 @@ fn put_case(xs: &mut [f32], ys: &mut [f32], strengths: &mut [f32], neighbours: &
     corner_list::put_corner(xs, ys, strengths, neighbours, 2, unit_corner(0.0, 100.0));
 }
 
-// How many corners are left.
-fn kept_of(a: Merged) -> usize
-    ensures { λ r. ⌜ r ≡ keptOf a ⌝ }
-{
-    match a {
-        Merged::Kept(n) => n,
-        Merged::Refused(_) => 0,
-    }
-}
-
 // Merges the three corners of a buffer, by cells or by distance alone, and returns how many are left.
 fn merge_case(
     xs: &mut [f32],
@@ -69,9 +58,15 @@ fn merge_case(
         (now (neighbours .exit))) r ≡ cond cells three two ⌝ }
 {
     if cells {
-        return kept_of(merge::merge_corners_simple(xs, ys, strengths, neighbours, 3, 1.0));
+        return kept_of(
+            merge::merge_corners_simple(xs, ys, strengths, neighbours, 3, 1.0),
+            0,
+        );
     }
-    kept_of(merge_naive::merge_corners_naive(xs, ys, strengths, neighbours, 3, 1.0))
+    kept_of(
+        merge_naive::merge_corners_naive(xs, ys, strengths, neighbours, 3, 1.0),
+        0,
+    )
 }
 
 // Writes a text that is the listing of what is left.

@@ -137,7 +137,7 @@ returns-2 c =
     none taken (corners-inside (a .p) (a .img .now) (a .w) (a .h) (choiceOf (a .p) (a .exact)) sound .1)
     searched-map (omega (arith, corners .kept, seeds .kept)) _ (built .fills) (built .long) _ _ _
     (merge-by-table-from-returns-2 c .merge-by-table .ensures) _ (clear-levels-from-returns-2 c .clear-levels .ensures)
-    _ (clear-list-from-returns-2 c .clear-list .ensures) _ (kept-from-returns-2 c .kept .ensures)
+    _ (clear-list-from-returns-2 c .clear-list .ensures) _ (kept-of-from-returns-2 c .kept-of .ensures)
     _ (clear-list2-from-returns-2 c .clear-list2 .ensures) _ (c .answer-of .ensures)
 
 pub find-corners-by-spec : {M : Type 1} → statement M

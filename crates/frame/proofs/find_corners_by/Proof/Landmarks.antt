@@ -184,12 +184,12 @@ add-found-from-same-length-10 c =
 abbrev pub clear-list2-from-returns-2 : tie.After-answer-of → tie.After-clear-list2
 clear-list2-from-returns-2 c = c .before .before .before .before .before .before .before .before .before
 
-abbrev pub kept-from-returns-2 : tie.After-answer-of → tie.After-kept
-kept-from-returns-2 c = clear-list2-from-returns-2 c .before .before .before .before .before
+abbrev pub kept-of-from-returns-2 : tie.After-answer-of → tie.After-kept-of
+kept-of-from-returns-2 c = clear-list2-from-returns-2 c .before .before .before .before .before
 
 abbrev pub merge-by-table-from-returns-2 : tie.After-answer-of → tie.After-merge-by-table
 merge-by-table-from-returns-2 c =
-    kept-from-returns-2 c .before .before .before .before .before .before .before .before .before .before .before
+    kept-of-from-returns-2 c .before .before .before .before .before .before .before .before .before .before .before
 
 abbrev pub clear-list-from-returns-2 : tie.After-answer-of → tie.After-clear-list
 clear-list-from-returns-2 c =

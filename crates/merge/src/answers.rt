@@ -1,11 +1,11 @@
-// The answer of a merge taken apart: all merges have the same.
-use merge::Merged;
+// The answer of a merge taken apart, for callers that keep its number and its value in separate variables. All merges
+// have the same answer.
 ghost use mathlib.Core.Path.{_≡_};
-ghost use lib.ListN.{getD};
-ghost use Rattle.merge.specs.Merge.{numberOf, valuesOf};
+ghost use Rattle.merge.specs.Merge.{numberOf, keptOf};
+use crate::Merged;
 
 // The number of an answer, 0 if corners were merged.
-pub(crate) fn number_of(a: Merged) -> u8
+pub fn number_of(a: Merged) -> u8
     ensures { λ r. ⌜ r ≡ numberOf a ⌝ }
 {
     match a {
@@ -15,8 +15,8 @@ pub(crate) fn number_of(a: Merged) -> u8
 }
 
 // How many corners are left, or `before` if refused.
-pub(crate) fn kept_of(a: Merged, before: usize) -> usize
-    ensures { λ r. ⌜ r ≡ getD (valuesOf a) 0 before ⌝ }
+pub fn kept_of(a: Merged, before: usize) -> usize
+    ensures { λ r. ⌜ r ≡ keptOf a before ⌝ }
 {
     match a {
         Merged::Kept(n) => n,
