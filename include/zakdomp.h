@@ -414,7 +414,9 @@ static inline float *zakdomp_make_buffers(zakdomp_lists *found, size_t cells, si
 }
 
 /* The corners of an image of w by h pixels, in lists that are made as long as they have to be. They stay until the next
- * call with the same struct, or zakdomp_free. If it is refused, count and ties are 0.
+ * call with the same struct, or zakdomp_free. If it is refused, count and ties are 0. Nothing bounds the number of
+ * seeds, and so the time: for images from strangers, more than one level and a large search radius, call
+ * zakdomp_find_corners with lists of your own.
  *   img     w * h pixels, in row order
  *   params  those of zakdomp_params_default, changed or not
  * Refusals: 1, 3, 5, and ZAKDOMP_NO_MEMORY, which is 255, if there is no memory for the buffers. */
