@@ -36,7 +36,7 @@
 #endif
 
 /* The version of this header and of the library, as semantic versioning counts; CHANGELOG.md says what each brought. */
-#define ZAKDOMP_VERSION "0.1.0"
+#define ZAKDOMP_VERSION "0.2.0"
 
 #ifdef __cplusplus
 extern "C" {

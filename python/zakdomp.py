@@ -53,7 +53,7 @@ if TYPE_CHECKING:
 else:
     Buffer = WriteableBuffer = Any
 
-__version__ = "0.1.0"
+__version__ = "0.2.0"
 
 REFUSALS = {
     1: "a side is above 4096, or above 96 in a stream",
