@@ -382,7 +382,7 @@ typedef struct zakdomp_lists {
 
 /* The defaults, which are those of Rust and Python too: ring 5, threshold 0, window 2, least_neighbours 2,
  * centroid_radius 2, merge_radius 3, levels 1, minimum_side 1, search_radius 3, the computed choice. For a photograph
- * the threshold should be set. */
+ * the threshold should be set; 300 is a good start (docs/PHOTOGRAPHS.md). */
 static inline zakdomp_params zakdomp_params_default(void) {
     const zakdomp_params params = {5, 0, 2, 2, 2, 3, 1, 1, 3, 0};
     return params;
