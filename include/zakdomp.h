@@ -321,8 +321,8 @@ uint8_t zakdomp_levels(const uint8_t *img, size_t img_length, size_t w, size_t h
                        uint8_t *level_buffer, size_t level_buffer_length, size_t *built);
 
 /* What the program `corners` prints for a frame stream of at most 96 by 96 pixels, at the start of `output`, which has
- * ZAKDOMP_LONGEST bytes. For a refused stream it is the line `refused N`, with a number as above, or 7 for a stream that
- * is cut short or has padding that is not 0, or 11 for a record out of order. Returns the length of the text. */
+ * ZAKDOMP_LONGEST bytes. For a refused stream it is the line `refused N`, with a number as above, 7 for a stream that is
+ * cut short or has padding that is not 0, or 11 for a record out of order. Returns the length of the text. */
 #define ZAKDOMP_LONGEST 40972
 size_t zakdomp_corners(const uint8_t *input, size_t input_length, uint8_t *output);
 
