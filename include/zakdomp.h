@@ -36,7 +36,7 @@
 #endif
 
 /* The version of this header and of the library, as semantic versioning counts; CHANGELOG.md says what each brought. */
-#define ZAKDOMP_VERSION "0.1.0"
+#define ZAKDOMP_VERSION "0.2.0"
 
 #ifdef __cplusplus
 extern "C" {
@@ -321,8 +321,8 @@ uint8_t zakdomp_levels(const uint8_t *img, size_t img_length, size_t w, size_t h
                        uint8_t *level_buffer, size_t level_buffer_length, size_t *built);
 
 /* What the program `corners` prints for a frame stream of at most 96 by 96 pixels, at the start of `output`, which has
- * ZAKDOMP_LONGEST bytes. For a refused stream it is the line `refused N`, with a number as above, or 7 for a stream that
- * is cut short or has padding that is not 0, or 11 for a record out of order. Returns the length of the text. */
+ * ZAKDOMP_LONGEST bytes. For a refused stream it is the line `refused N`, with a number as above, 7 for a stream that is
+ * cut short or has padding that is not 0, or 11 for a record out of order. Returns the length of the text. */
 #define ZAKDOMP_LONGEST 40972
 size_t zakdomp_corners(const uint8_t *input, size_t input_length, uint8_t *output);
 
@@ -382,7 +382,7 @@ typedef struct zakdomp_lists {
 
 /* The defaults, which are those of Rust and Python too: ring 5, threshold 0, window 2, least_neighbours 2,
  * centroid_radius 2, merge_radius 3, levels 1, minimum_side 1, search_radius 3, the computed choice. For a photograph
- * the threshold should be set. */
+ * the threshold should be set; 300 is a good start (docs/PHOTOGRAPHS.md). */
 static inline zakdomp_params zakdomp_params_default(void) {
     const zakdomp_params params = {5, 0, 2, 2, 2, 3, 1, 1, 3, 0};
     return params;
@@ -414,7 +414,9 @@ static inline float *zakdomp_make_buffers(zakdomp_lists *found, size_t cells, si
 }
 
 /* The corners of an image of w by h pixels, in lists that are made as long as they have to be. They stay until the next
- * call with the same struct, or zakdomp_free. If it is refused, count and ties are 0.
+ * call with the same struct, or zakdomp_free. If it is refused, count and ties are 0. Nothing bounds the number of
+ * seeds, and so the time: for images from strangers, more than one level and a large search radius, call
+ * zakdomp_find_corners with lists of your own.
  *   img     w * h pixels, in row order
  *   params  those of zakdomp_params_default, changed or not
  * Refusals: 1, 3, 5, and ZAKDOMP_NO_MEMORY, which is 255, if there is no memory for the buffers. */

@@ -1,9 +1,9 @@
 """The corners of a chessboard in a grey image, by the proved library libzakdomp.so.
 
-    find_corners(pixels, width, height, threshold=30)  ->  [Corner(x, y, strength, neighbours), ..]
-    find(pixels, width, height, threshold=30)          ->  Frame(corners, ties), and so `find_pgm` of a photograph
-    find_corners_pgm(upload, threshold=30)             ->  the same of a photograph, the bytes of a binary PGM file
-    find_exact(pixels, width, height, threshold=30)    ->  the Frame of the exact choice; `find_exact_pgm`,
+    find_corners(pixels, width, height, threshold=300) ->  [Corner(x, y, strength, neighbours), ..]
+    find(pixels, width, height, threshold=300)         ->  Frame(corners, ties), and so `find_pgm` of a photograph
+    find_corners_pgm(upload, threshold=300)            ->  the same of a photograph, the bytes of a binary PGM file
+    find_exact(pixels, width, height, threshold=300)   ->  the Frame of the exact choice; `find_exact_pgm`,
                                                            `find_exact_corners` and `find_exact_corners_pgm` are to it
                                                            as those without `exact` are to `find`
     read_pgm(upload)                                   ->  Photograph(at, width, height, pixels)
@@ -16,7 +16,7 @@
                                                            `strike(place, change)`
     merged(corners, radius)                            ->  the corners that merging would leave, to try several radii
     merge_naive(corners, radius)                       ->  the corners that are left when merged by distance alone
-    write_stream(pixels, width, height, threshold=30)  ->  the bytes that the program `corners` reads
+    write_stream(pixels, width, height, threshold=300) ->  the bytes that the program `corners` reads
     holding(kind, start, time), holdings(stream)       ->  "N" not yet, "H" held or "G" gone, for an item and for each
                                                            of a stream
 
@@ -28,7 +28,7 @@ several threads: each keeps its buffers for its next call.
 The library is looked for in the file that the environment variable ZAKDOMP_LIBRARY names, beside this file, and where
 `tools/shared` of the repository makes it.
 
-    python3 zakdomp.py photo.pgm --threshold 30
+    python3 zakdomp.py photo.pgm --threshold 300
 
 prints the corners of a photograph as the program `corners` does; a refusal is a line on standard error, and the exit
 status 1.
@@ -53,7 +53,7 @@ if TYPE_CHECKING:
 else:
     Buffer = WriteableBuffer = Any
 
-__version__ = "0.1.0"
+__version__ = "0.2.0"
 
 REFUSALS = {
     1: "a side is above 4096, or above 96 in a stream",

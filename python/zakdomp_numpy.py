@@ -1,6 +1,6 @@
 """The finder for numpy: an image as a two-dimensional array, and corners as a structured array.
 
-    corners = zakdomp_numpy.find_corners(image, threshold=30)
+    corners = zakdomp_numpy.find_corners(image, threshold=300)
     corners["x"], corners["strength"].max()
 
 `image` is anything that numpy makes a two-dimensional array of bytes from, rows first, in any layout. The parameters

@@ -287,7 +287,7 @@ class Installed(Folder):
                  os.path.join(self.prefix, "include"),
                  os.path.join(self.lib, "libzakdomp.a"))
         lines = [tuple(map(float, line.split())) for line in self.ran("./a", given=board()).splitlines()]
-        due = [corner[:3] for corner in zakdomp.find_corners_pgm(board(), threshold=30)]
+        due = [corner[:3] for corner in zakdomp.find_corners_pgm(board(), threshold=300)]
         self.assertGreater(len(due), 0)
         self.assertEqual(lines, [tuple(round(number, 6) for number in corner) for corner in due])
         self.assertEqual(subprocess.run(["./a"], cwd=self.folder, input=b"GIF89a", check=False).returncode, 1)

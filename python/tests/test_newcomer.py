@@ -80,7 +80,7 @@ class FirstLines(Newcomer):
         with open(self.path("examples", "board.txt"), encoding="utf-8") as file:
             self.assertTrue(run.stdout.decode().startswith(file.read()))
         with open(self.path("board.pgm"), "rb") as file:
-            due = zakdomp.listing(zakdomp.find_corners_pgm(file.read(), threshold=100))
+            due = zakdomp.listing(zakdomp.find_corners_pgm(file.read(), threshold=300))
         self.assertEqual(run.stdout.decode().count(due), 2)
         self.assertEqual(self.names(), ["board-corners.png", "marked.png"])
         self.assertTrue(os.path.exists(self.path("november", "invoice.csv")))
@@ -153,7 +153,7 @@ class OnePhotograph(Newcomer):
     def test_corners_and_a_picture(self):
         self.put("a b.PGM", board())
         status, said, told = self.run_on("a b.PGM")
-        self.assertEqual((status, said), (0, zakdomp.listing(zakdomp.find_corners_pgm(board(), threshold=100))))
+        self.assertEqual((status, said), (0, zakdomp.listing(zakdomp.find_corners_pgm(board(), threshold=300))))
         self.assertIn("run: the picture is 'a b-corners.png'\n", told)
         first = self.content("a b-corners.png")
         self.assertEqual(first[:8], b"\x89PNG\r\n\x1a\n")

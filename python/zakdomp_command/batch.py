@@ -17,7 +17,7 @@ from zakdomp_command.progress import Bar
 from zakdomp_command.runners import Runner, alone, processes
 from zakdomp_command.uploads import Order, Outcome
 
-EXAMPLE = "example: zakdomp batch uploads --out november --threshold 100 --jobs 2"
+EXAMPLE = "example: zakdomp batch uploads --out november --threshold 300 --jobs 2"
 DESCRIPTION = """Writes DIR/corners with a corner file for each photograph of a folder, and DIR/invoice.csv with a line
 for each upload, whatever it is: name, sides, corners and ties, or the number and words of its refusal; how many
 corners the exact choice has, whether both have the same list, and the corners that are in only one list; what was

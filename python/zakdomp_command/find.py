@@ -8,7 +8,7 @@ from zakdomp_command.marks import drawing
 from zakdomp_command.png import png
 from zakdomp_command.svg import svg
 
-EXAMPLE = "example: zakdomp find board.pgm --threshold 100 --format csv --png board.png"
+EXAMPLE = "example: zakdomp find board.pgm --threshold 300 --format csv --png board.png"
 DESCRIPTION = """Prints the corners of a photograph, and draws them over it: circles, large and yellow for strong
 corners, small and blue for weak ones; squares if the peak ties with another cell of its window. Standard error says how
 many corners are computed, how many the exact choice has, which uses responses without rounding, and whether both lists

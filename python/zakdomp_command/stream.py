@@ -6,7 +6,7 @@ from typing import Any
 import zakdomp
 from zakdomp_command import files, looks, parameters, uploads
 
-EXAMPLE = "example: zakdomp stream board.pgm --threshold 100 | corners"
+EXAMPLE = "example: zakdomp stream small.pgm --threshold 300 | corners"
 DESCRIPTION = "Writes the frame stream of a photograph of at most 96 by 96 pixels and of the parameters."
 
 
