@@ -51,7 +51,8 @@ pub record OnlyTouched : Type 0 where
   pub recomputed : (c : RetouchCall) (p : Place) → InImage (c .w) (c .h) p
       → touched (c .w) (c .h) (ringOf (c .ring)) (c .pixel) p ≡ true
       → cellAfter c p ≡ responseAt (c .img′) (c .w) (c .h) (ringOf (c .ring)) (p .x) (p .y)
-  pub kept : (c : RetouchCall) (p : Place) → InImage (c .w) (c .h) p → touched (c .w) (c .h) (ringOf (c .ring)) (c .pixel) p ≡ false
+  pub kept : (c : RetouchCall) (p : Place) → InImage (c .w) (c .h) p
+      → touched (c .w) (c .h) (ringOf (c .ring)) (c .pixel) p ≡ false
       → cellAfter c p ≡ cellBefore c p
   pub as-long : (c : RetouchCall) → length (c .map′) ≡ length (c .map)
 
