@@ -17,7 +17,7 @@ use Rattle.response.specs.Response.{samples, srOf, drOf, crossOf, respon
 use Rattle.response.specs.declared.Held.{Held}
 use Rattle.response.specs.OnePass.{passedAfter}
 use Rattle.response.specs.Internal.{offsetAt, Bytes, SumsBounded, ImageWithOffsets, Inner, RingSumsOf, CellSumsOf, SumPlaces}
-use Rattle.response.specs.Internal.{CellsSummed}
+use Rattle.response.specs.Internal.{CellsSummed, blockColumns}
 use Rattle.response.proofs.Floats.{same-response}
 use Rattle.response.proofs.OnePass.{passed-all, passed-small}
 use Rattle.response.proofs.Indices.{area-le, row-above, row-below, place-add}
@@ -136,7 +136,7 @@ assembled img w t x y b m q v p e =
     (omega (arith, p .dr-small)) m q ∙ (rw (p .sum-is, p .cross-is))
 
 -- ---- the sums of a run
-pub summed-set : (tile : List ℕ) (w : ℕ) (t : Ring) (radius y i : ℕ) (a b c : List ℕ) (p q r : ℕ) → i < 128
+pub summed-set : (tile : List ℕ) (w : ℕ) (t : Ring) (radius y i : ℕ) (a b c : List ℕ) (p q r : ℕ) → i < blockColumns
     → CellsSummed tile w t radius y i a b c
     → CellSumsOf tile w t (radius + i) y p q r → CellsSummed tile w t radius y (i + 1) (set a i p) (set b i q) (set c i r)
 summed-set tile w t radius y i a b c p q r small sums new =

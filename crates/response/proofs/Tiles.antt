@@ -4,6 +4,7 @@ use mathlib.Core.List.{List}
 use Prim.Native.Nat.{ℕ, _+_, _*_, _-_, _<_, _≤_}
 use native.Mathlib.Nat.{mul-comm, mul-le-mul-right}
 use native.Mathlib.Omega.{arith}
+use native.Mathlib.Decide.{decLt}
 use lib.Ieee.{Float}
 use lib.ListN.{length, getD, set, length-set}
 use lib.Seq.{getD-set-same, getD-set-other}
@@ -11,13 +12,13 @@ use Rattle.lists.specs.Limits.{largestSide, largestMap}
 use Rattle.float32.specs.Float32.{zero}
 use Rattle.lists.specs.Tab.{tab, pixel}
 use Rattle.lists.proofs.Tab.{tab-ext}
-use Rattle.ring.specs.Ring.{Ring, ringOf, dx, dy, IsRing}
-use Rattle.ring.proofs.Places.{dx-le, dy-le, radius-pos, radius-small}
+use Rattle.ring.specs.Ring.{Ring, ring5, ringOf, dx, dy, IsRing}
+use Rattle.ring.proofs.Places.{dx-le, dy-le, radius-pos, radius-small, selects-first}
 use Rattle.ring.proofs.Table.{ringOf-is}
 use Rattle.response.specs.declared.rows.Field.{Field}
 use Rattle.response.specs.Response.{samples, crossOf, response, responseOf}
 use Rattle.response.specs.Internal.{offsetAt, ImageWithOffsets, Inner, IsTile, CellsSummed, PlacesWritten, Filled, Placed, InnerPart}
-use Rattle.response.specs.Internal.{responses}
+use Rattle.response.specs.Internal.{responses, tileRows}
 use Rattle.response.proofs.Filling.{row-after, row-filled, then-below}
 use Rattle.response.proofs.Indices.{area-le}
 use Rattle.response.proofs.Inside.{at-inside}
@@ -55,7 +56,7 @@ module _ (img tile : List ℕ) (w s X Y n m : ℕ) (same : (u v : ℕ) → u < n
 
 -- ---- where a block lies
 pub tile-framed : (tile : List ℕ) (s r : ℕ) (off : List ℕ) → IsTile s tile → ringOf r .radius ≡ r → off ≡ tab 16 (offsetAt (ringOf r) s)
-    → ImageWithOffsets tile s 36 (ringOf r) r off
+    → ImageWithOffsets tile s tileRows (ringOf r) r off
 tile-framed tile s r off is own e =
     record {
       image = record { narrow = omega (arith, is .narrow); low = omega arith; sized = is .long };
@@ -63,6 +64,14 @@ tile-framed tile s r off is own e =
       own-radius = own;
       offsets = e;
     }
+
+-- a radius that selects a ring of that radius is 5 or 10
+pub other-ring : (r : ℕ) → ringOf r .radius ≡ r → (r ≡ 5 → ⊥) → r ≡ 10
+unfolding ring5
+other-ring r own first = elim (decLt r 10) [
+  | yes l ↦ absurd (first (sym own ∙ ap (λ (t : Ring). t .radius) (selects-first r (λ e. absurd (omega arith)))))
+  | no g ↦ omega (arith, own, radius-small r)
+]
 
 pub placed-still : (pixels : ℕ) (f : Field) (n m : ℕ) → Placed pixels f n → m ≡ n → Placed pixels f m
 placed-still pixels f n m p e = subst (λ (k : ℕ). Placed pixels f k) (sym e) p
@@ -157,13 +166,13 @@ module _ (img tile : List ℕ) (w : ℕ) (f : Field) (i j n m : ℕ) (is-ring : 
       ∙ cell-is p q)))
 
 -- ---- a row more of a tile
-pub tile-row : (img : List ℕ) (w k x y n j o : ℕ) (s t u : List ℕ) → j < 36 → n ≤ k → o ≡ (y + j) * w + x
-    → Filled 0 k 36 (λ p q. pixel img w (x + p) (y + q)) 0 n 0 j s t → PlacesWritten 0 (j * k) n (λ i. getD img (o + i) 0) t u
-    → Filled 0 k 36 (λ p q. pixel img w (x + p) (y + q)) 0 n 0 (j + 1) s u
+pub tile-row : (img : List ℕ) (w k x y n j o : ℕ) (s t u : List ℕ) → j < tileRows → n ≤ k → o ≡ (y + j) * w + x
+    → Filled 0 k tileRows (λ p q. pixel img w (x + p) (y + q)) 0 n 0 j s t → PlacesWritten 0 (j * k) n (λ i. getD img (o + i) 0) t u
+    → Filled 0 k tileRows (λ p q. pixel img w (x + p) (y + q)) 0 n 0 (j + 1) s u
 tile-row img w k x y n j o s t u l fits is before wr =
     let f : ℕ → ℕ → ℕ = λ p q. pixel img w (x + p) (y + q) in
-    then-below 0 k 36 f 0 n 0 j (j + 1) s t u before
-    (row-filled 0 k 36 f (j * k) n 0 n j (λ i. getD img (o + i) 0) t u wr (omega arith) (omega arith) fits l
+    then-below 0 k tileRows f 0 n 0 j (j + 1) s t u before
+    (row-filled 0 k tileRows f (j * k) n 0 n j (λ i. getD img (o + i) 0) t u wr (omega arith) (omega arith) fits l
     (λ i q. ap (λ (v : ℕ). getD img v 0) (omega arith)))
 
 -- ---- one cell

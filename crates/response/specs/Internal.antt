@@ -6,7 +6,7 @@ use mathlib.Core.List.{List, [], _∷_}
 use lib.Dec.{ltb}
 use lib.ListN.{length, getD}
 use lib.Ieee.{Float}
-use Rattle.lists.specs.Limits.{largestSide}
+use Rattle.lists.specs.Limits.{largestSide, largestRing}
 use Rattle.float32.specs.Float32 as float32
 use Rattle.lists.specs.Tab.{tab}
 use Rattle.lists.specs.Refusals.{lowest, isLarge, isMisfit}
@@ -74,10 +74,43 @@ pub record CellSumsOf (img : List ℕ) (w : ℕ) (t : Ring) (x y balance sum cro
 abbrev pub Bytes : List ℕ → Type 0
 Bytes l = (i : ℕ) → getD l i 0 < 256
 
--- a tile: 36 rows of s places that hold bytes
+-- the most columns, and rows, of cells of a block
+abbrev pub blockColumns : ℕ
+blockColumns = 192
+
+abbrev pub blockRows : ℕ
+blockRows = 16
+
+-- the most columns, or rows, of a small block
+abbrev pub smallSide : ℕ
+smallSide = 16
+
+-- how many more columns, and rows, a tile has than its block: the largest ring's radius on either side
+abbrev pub beyond : ℕ
+beyond = 2 * largestRing
+
+-- the places of a row of a large tile, and of a small one
+abbrev pub largeRow : ℕ
+largeRow = blockColumns + beyond
+
+abbrev pub smallRow : ℕ
+smallRow = smallSide + beyond
+
+-- the rows of a tile
+abbrev pub tileRows : ℕ
+tileRows = blockRows + beyond
+
+-- the places of a large tile, and of a small one
+abbrev pub largeTile : ℕ
+largeTile = largeRow * tileRows
+
+abbrev pub smallTile : ℕ
+smallTile = smallRow * tileRows
+
+-- a tile: rows of s places that hold bytes
 pub record IsTile (s : ℕ) (l : List ℕ) : Type 0 where
-  pub long : length l ≡ s * 36
-  pub narrow : s ≤ 148
+  pub long : length l ≡ s * tileRows
+  pub narrow : s ≤ largeRow
   pub bytes : Bytes l
 
 -- n rounded up to a multiple of 8
@@ -107,11 +140,20 @@ Cleared w a b c e s t =
     → ((i j : ℕ) → a ≤ i → i < b → c ≤ j → j < e → f i j ≡ float32.zero)
     → Filled float32.zero w h f a b c e s t
 
--- places for the sums of 128 cells
+-- places for the sums of a row of a block
 pub record SumPlaces (balance sum cross : List ℕ) : Type 0 where
-  pub balance-long : length balance ≡ 128
-  pub sum-long : length sum ≡ 128
-  pub cross-long : length cross ≡ 128
+  pub balance-long : length balance ≡ blockColumns
+  pub sum-long : length sum ≡ blockColumns
+  pub cross-long : length cross ≡ blockColumns
+
+-- row y of a tile with rows of s places: the ring of a radius lies in the tile for n cells from column `radius` on
+pub record CellsInRow (tile : List ℕ) (s radius y n : ℕ) : Type 0 where
+  pub is-tile : IsTile s tile
+  pub own-radius : ringOf radius .radius ≡ radius
+  pub above : radius ≤ y
+  pub below : y + radius < tileRows
+  pub few : n ≤ blockColumns
+  pub across : n + radius + radius ≤ s
 
 -- the sums of the first n cells in row y of a tile whose ring lies in it
 pub record CellsSummed (tile : List ℕ) (s : ℕ) (t : Ring) (radius y n : ℕ) (balance sum cross : List ℕ) : Type 0 where

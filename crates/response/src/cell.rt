@@ -3,11 +3,12 @@ ghost use mathlib.Core.Path.{_≡_};
 ghost use Prim.Native.Nat.{ℕ, _+_, _-_, _<_, _≤_, max};
 ghost use lib.ListN.{length, getD};
 ghost use Rattle.float32.specs.Value.{dist};
+ghost use Rattle.lists.specs.Limits.{largestMap};
 ghost use Rattle.lists.specs.Tab.{tab};
 ghost use Rattle.ring.specs.Ring.{ringOf};
 ghost use Rattle.response.specs.Response.{responseOf};
 ghost use Rattle.response.specs.OnePass.{withPair, RingPassed};
-ghost use Rattle.response.specs.Internal.{Bytes, ImageWithOffsets, Inner, SumsBounded, CellSumsOf};
+ghost use Rattle.response.specs.Internal.{Bytes, ImageWithOffsets, Inner, SumsBounded, CellSumsOf, tileRows};
 use crate::Held;
 use numbers::lesser;
 
@@ -79,7 +80,7 @@ pub(crate) fn ring_sums(s: [u16; 16], n: usize) -> Held
 // The pixels at the given offsets from `base`. The four of a quarter turn, which are compared with each other, are read
 // one after the other: the compiler keeps that order, and then fewer of them have to be held at a time.
 fn gather(tile: &[u16], base: usize, off: [usize; 16]) -> [u16; 16]
-    requires { ⌜ ((k : ℕ) → k < 16 → base + getD off k 0 < length (now tile)) × (length (now tile) ≤ 16777216) ⌝ }
+    requires { ⌜ ((k : ℕ) → k < 16 → base + getD off k 0 < length (now tile)) × (length (now tile) ≤ largestMap) ⌝ }
     ensures { λ r. ⌜ r ≡ tab 16 (λ k. getD (now (tile .entry)) (base + getD off k 0) 0) ⌝ }
 {
     let mut s = [0u16; 16];
@@ -97,7 +98,7 @@ fn gather(tile: &[u16], base: usize, off: [usize; 16]) -> [u16; 16]
 // The sum of the cross around the pixel at `mid`, in rows of s places.
 fn cross(tile: &[u16], s: usize, mid: usize) -> u16
     requires { ⌜ Bytes (now tile) × (s ≤ mid) × (1 ≤ mid) × (mid + s < length (now tile))
-        × (mid + 1 < length (now tile)) × (length (now tile) ≤ 16777216) ⌝ }
+        × (mid + 1 < length (now tile)) × (length (now tile) ≤ largestMap) ⌝ }
     ensures { λ r. ⌜ r ≡ getD (now (tile .entry)) mid 0 + getD (now (tile .entry)) (mid - s) 0 + getD
         (now (tile .entry)) (mid + s) 0 + getD (now (tile .entry)) (mid + 1) 0 + getD (now (tile .entry))
         (mid - 1) 0 ⌝ }
@@ -122,8 +123,8 @@ pub(crate) fn cell_sums(
     x: usize,
     y: usize,
 ) -> CellSums
-    requires { ⌜ Bytes (now tile) × ImageWithOffsets (now tile) s 36 (ringOf radius) radius off
-        × Inner s 36 radius x y ⌝ }
+    requires { ⌜ Bytes (now tile) × ImageWithOffsets (now tile) s tileRows (ringOf radius) radius off
+        × Inner s tileRows radius x y ⌝ }
     ensures { λ r. ⌜ CellSumsOf (now (tile .entry)) s (ringOf radius) x y (r .balance) (r .sum) (r .cross) ⌝ }
 {
     let base = (y - radius) * s + (x - radius);

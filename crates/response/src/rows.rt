@@ -7,18 +7,24 @@ ghost use Prim.Native.Nat.{_+_, _*_, _<_, _≤_};
 ghost use lib.ListN.{length, drop};
 ghost use Rattle.lists.specs.Limits.{largestMap};
 ghost use Rattle.float32.specs.Float32.{zero};
-ghost use Rattle.lists.specs.Tab.{tab, grid};
+ghost use Rattle.lists.specs.Tab.{grid};
 ghost use Rattle.lists.specs.Internal.{Sized};
 ghost use Rattle.ring.specs.Ring.{ringOf};
 ghost use Rattle.response.specs.Response.{isWithin, responseAt};
 ghost use Rattle.response.specs.Internal.{IsTile, Filled, PlacesWritten, Cleared, Stretched, Placed, InnerPart};
 ghost use Rattle.response.specs.Internal.{responses};
-ghost use Rattle.response.specs.Internal.{offsetAt, eightsOf};
+ghost use Rattle.response.specs.Internal.{eightsOf, blockColumns, blockRows, smallSide, beyond, largeRow};
 use crate::alone::alone;
 use crate::runs::eights;
-use crate::runs::sums;
+use crate::runs::row_sums;
 use crate::runs::values;
-use crate::tile::offsets;
+use crate::tile::BLOCK_COLUMNS;
+use crate::tile::BLOCK_ROWS;
+use crate::tile::LARGE_ROW;
+use crate::tile::LARGE_TILE;
+use crate::tile::SMALL_ROW;
+use crate::tile::SMALL_SIDE;
+use crate::tile::SMALL_TILE;
 use crate::tile::offsets_in;
 use crate::tile::widen;
 use numbers::greater;
@@ -65,7 +71,6 @@ fn clear_part(map: &mut [f32], w: usize, a: usize, b: usize, c: usize, e: usize)
 fn block(
     img: &[u8],
     f: Field,
-    off: [usize; 16],
     i: usize,
     j: usize,
     n: usize,
@@ -75,8 +80,8 @@ fn block(
     map: &mut [f32],
 )
     requires { ⌜ Placed (length (now img)) f (length (now map)) × InnerPart f i (i + n) j (j + m) ⌝ }
-    requires { ⌜ (off ≡ tab 16 (offsetAt (ringOf (f .radius)) s)) × (0 < n) × (n ≤ 128) × (0 < m) × (m ≤ 16)
-        × IsTile s (now tile) × (eightsOf n + 20 ≤ s) ⌝ }
+    requires { ⌜ (0 < n) × (n ≤ blockColumns) × (0 < m) × (m ≤ blockRows) × IsTile s (now tile)
+        × (eightsOf n + beyond ≤ s) ⌝ }
     ensures { λ _. ⌜ Filled zero (f .pw) (f .ph) (responses (now (img .entry)) f) i (i + n) j (j + m)
         (now (map .entry)) (now (map .exit)) × IsTile s (now (tile .exit)) ⌝ }
 {
@@ -91,16 +96,15 @@ fn block(
         tile,
         s,
     );
-    let mut balance = [0u16; 128];
-    let mut sum = [0u16; 128];
-    let mut cross = [0u16; 128];
+    let mut balance = [0u16; BLOCK_COLUMNS];
+    let mut sum = [0u16; BLOCK_COLUMNS];
+    let mut cross = [0u16; BLOCK_COLUMNS];
     let mut k = 0usize;
     while k < m {
-        sums(
+        row_sums(
             tile,
             s,
             r,
-            off,
             r + k,
             eights(n),
             &mut balance,
@@ -116,7 +120,6 @@ fn block(
 fn band(
     img: &[u8],
     f: Field,
-    off: [usize; 16],
     a: usize,
     b: usize,
     j: usize,
@@ -125,54 +128,42 @@ fn band(
     map: &mut [f32],
 )
     requires { ⌜ Placed (length (now img)) f (length (now map)) × InnerPart f a b j (j + m) × (a ≤ b) ⌝ }
-    requires { ⌜ (off ≡ tab 16 (offsetAt (ringOf (f .radius)) 148)) × (0 < m) × (m ≤ 16) × IsTile 148 (now tile) ⌝ }
+    requires { ⌜ (0 < m) × (m ≤ blockRows) × IsTile largeRow (now tile) ⌝ }
     ensures { λ _. ⌜ Filled zero (f .pw) (f .ph) (responses (now (img .entry)) f) a b j (j + m)
-        (now (map .entry)) (now (map .exit)) × IsTile 148 (now (tile .exit)) ⌝ }
+        (now (map .entry)) (now (map .exit)) × IsTile largeRow (now (tile .exit)) ⌝ }
 {
     let mut i = a;
     while i < b {
-        let n = lesser(128, b - i);
-        block(img, f, off, i, j, n, m, tile, 148, map);
+        let n = lesser(BLOCK_COLUMNS, b - i);
+        block(img, f, i, j, n, m, tile, LARGE_ROW, map);
         i += n;
     }
 }
 
 // Computes the responses in columns a up to b and rows c up to e, of which there may be many.
-fn large(
-    img: &[u8],
-    f: Field,
-    off: [usize; 16],
-    a: usize,
-    b: usize,
-    c: usize,
-    e: usize,
-    map: &mut [f32],
-)
+fn large(img: &[u8], f: Field, a: usize, b: usize, c: usize, e: usize, map: &mut [f32])
     requires { ⌜ Placed (length (now img)) f (length (now map)) × InnerPart f a b c e × (a ≤ b) × (c ≤ e) ⌝ }
-    requires { ⌜ off ≡ tab 16 (offsetAt (ringOf (f .radius)) 148) ⌝ }
     ensures { λ _. ⌜ Filled zero (f .pw) (f .ph) (responses (now (img .entry)) f) a b c e (now (map .entry))
         (now (map .exit)) ⌝ }
 {
-    let mut tile = [0u16; 5328];
+    let mut tile = [0u16; LARGE_TILE];
     let mut j = c;
     while j < e {
-        let m = lesser(16, e - j);
-        band(img, f, off, a, b, j, m, &mut tile, map);
+        let m = lesser(BLOCK_ROWS, e - j);
+        band(img, f, a, b, j, m, &mut tile, map);
         j += m;
     }
 }
 
-// Computes the responses of up to 16 by 16 cells from the map's column i and row j on. A small tile takes less time to
-// fill.
+// Computes the responses of a small block, from the map's column i and row j on. A small tile takes less time to fill.
 fn small(img: &[u8], f: Field, i: usize, j: usize, n: usize, m: usize, map: &mut [f32])
     requires { ⌜ Placed (length (now img)) f (length (now map)) × InnerPart f i (i + n) j (j + m) ⌝ }
-    requires { ⌜ (0 < n) × (n ≤ 16) × (0 < m) × (m ≤ 16) ⌝ }
+    requires { ⌜ (0 < n) × (n ≤ smallSide) × (0 < m) × (m ≤ smallSide) ⌝ }
     ensures { λ _. ⌜ Filled zero (f .pw) (f .ph) (responses (now (img .entry)) f) i (i + n) j (j + m)
         (now (map .entry)) (now (map .exit)) ⌝ }
 {
-    let mut tile = [0u16; 1296];
-    let off = offsets_in(f.radius as u32, 36);
-    block(img, f, off, i, j, n, m, &mut tile, 36, map);
+    let mut tile = [0u16; SMALL_TILE];
+    block(img, f, i, j, n, m, &mut tile, SMALL_ROW, map);
 }
 
 // Computes the response of the cell in the map's column i and row j.
@@ -186,18 +177,8 @@ fn single(img: &[u8], f: Field, i: usize, j: usize, map: &mut [f32])
 }
 
 // Computes the responses in columns a up to b and rows c up to e.
-fn inner(
-    img: &[u8],
-    f: Field,
-    off: [usize; 16],
-    a: usize,
-    b: usize,
-    c: usize,
-    e: usize,
-    map: &mut [f32],
-)
+fn inner(img: &[u8], f: Field, a: usize, b: usize, c: usize, e: usize, map: &mut [f32])
     requires { ⌜ Placed (length (now img)) f (length (now map)) × InnerPart f a b c e × (a ≤ b) × (c ≤ e) ⌝ }
-    requires { ⌜ off ≡ tab 16 (offsetAt (ringOf (f .radius)) 148) ⌝ }
     ensures { λ _. ⌜ Filled zero (f .pw) (f .ph) (responses (now (img .entry)) f) a b c e (now (map .entry))
         (now (map .exit)) ⌝ }
 {
@@ -211,11 +192,11 @@ fn inner(
         single(img, f, a, c, map);
         return;
     }
-    if most <= 16 {
+    if most <= SMALL_SIDE {
         small(img, f, a, c, n, m, map);
         return;
     }
-    large(img, f, off, a, b, c, e, map);
+    large(img, f, a, b, c, e, map);
 }
 
 // A part of a row or of a column of cells, from one place up to another.
@@ -266,16 +247,7 @@ pub(crate) fn fill(
         pw,
         ph,
     };
-    inner(
-        img,
-        f,
-        offsets(ring),
-        columns.from,
-        columns.to,
-        rows.from,
-        rows.to,
-        map,
-    );
+    inner(img, f, columns.from, columns.to, rows.from, rows.to, map);
     clear_part(map, pw, 0, pw, 0, rows.from);
     clear_part(map, pw, 0, columns.from, rows.from, rows.to);
     clear_part(map, pw, columns.to, pw, rows.from, rows.to);

@@ -1,13 +1,36 @@
-// A tile: the pixels of a block of cells and up to 10 more on each side, in 36 rows. The rows have 148 places for up to
-// 128 by 16 cells, and 36 for up to 16 by 16. The pixels are copied once as u16, so that no loop over cells has to
-// widen them.
+// A tile: the pixels of a block of cells and up to 10 more on each side. They are copied once as u16, so that no loop
+// over cells has to widen them.
 ghost use mathlib.Core.Path.{_≡_};
 ghost use Prim.Native.Nat.{_+_, _*_, _<_, _≤_};
 ghost use lib.ListN.{length, getD};
 ghost use Rattle.lists.specs.Limits.{largestSide, largestMap};
 ghost use Rattle.lists.specs.Tab.{tab, pixel};
 ghost use Rattle.ring.specs.Ring.{ringOf};
-ghost use Rattle.response.specs.Internal.{Bytes, IsTile, Filled, PlacesWritten, offsetAt};
+ghost use Rattle.response.specs.Internal.{Bytes, IsTile, Filled, PlacesWritten, offsetAt, tileRows};
+
+// The most columns, and rows, of cells of a block.
+pub(crate) const BLOCK_COLUMNS: usize = 192;
+
+pub(crate) const BLOCK_ROWS: usize = 16;
+
+// The most columns, or rows, of a small block.
+pub(crate) const SMALL_SIDE: usize = 16;
+
+// How many more columns, and rows, a tile has than its block: the largest ring's radius on either side.
+const BEYOND: usize = 20;
+
+// The places of a row of a large tile, and of a small one.
+pub(crate) const LARGE_ROW: usize = BLOCK_COLUMNS + BEYOND;
+
+pub(crate) const SMALL_ROW: usize = SMALL_SIDE + BEYOND;
+
+// The rows of a tile.
+const TILE_ROWS: usize = BLOCK_ROWS + BEYOND;
+
+// The places of a large tile, and of a small one.
+pub(crate) const LARGE_TILE: usize = LARGE_ROW * TILE_ROWS;
+
+pub(crate) const SMALL_TILE: usize = SMALL_ROW * TILE_ROWS;
 
 // The distance in places of a number of rows and columns, in rows of w places.
 fn offset(rows: u8, columns: u8, w: usize) -> usize
@@ -32,13 +55,6 @@ pub(crate) fn offsets_in(ring: u32, w: usize) -> [usize; 16]
         k += 1;
     }
     off
-}
-
-// The same for the tile of a large block.
-pub(crate) fn offsets(ring: u32) -> [usize; 16]
-    ensures { λ r. ⌜ r ≡ tab 16 (offsetAt (ringOf ring) 148) ⌝ }
-{
-    offsets_in(ring, 148)
 }
 
 // A byte as a u16.
@@ -73,8 +89,8 @@ pub(crate) fn widen(
     s: usize,
 )
     requires { ⌜ (x + n ≤ w) × ((y + m) * w ≤ length (now img)) × (length (now img) ≤ largestMap)
-        × (y + m ≤ largestSide) × (n ≤ s) × (m ≤ 36) × IsTile s (now tile) ⌝ }
-    ensures { λ _. ⌜ Filled 0 s 36 (λ i j. pixel (now (img .entry)) w (x + i) (y + j)) 0 n 0 m
+        × (y + m ≤ largestSide) × (n ≤ s) × (m ≤ tileRows) × IsTile s (now tile) ⌝ }
+    ensures { λ _. ⌜ Filled 0 s tileRows (λ i j. pixel (now (img .entry)) w (x + i) (y + j)) 0 n 0 m
         (now (tile .entry)) (now (tile .exit)) × IsTile s (now (tile .exit)) ⌝ }
 {
     let mut j = 0usize;

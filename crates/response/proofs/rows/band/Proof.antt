@@ -5,7 +5,7 @@ use Prim.Native.Nat.{_+_, _-_, _≤_}
 use native.Mathlib.Omega.{arith}
 use borrow.Author.Needs.{needs}
 use Rattle.float32.specs.Float32.{zero}
-use Rattle.response.specs.Internal.{IsTile, Filled, responses}
+use Rattle.response.specs.Internal.{IsTile, Filled, responses, largeRow}
 use Rattle.response.proofs.Filling.{filled-none, filled-to, then-beside}
 use Rattle.response.proofs.Tiles.{placed-still, part-of}
 use Rattle.response.proofs.rows.band.Statement.{statement}
@@ -13,18 +13,18 @@ use Rattle.response.proofs.rows.band.Tie as tie
 use Landmarks.*
 
 abbrev Inv-loop : tie.InvT-loop
-Inv-loop img f off a b j m tile₀ map₀ i₀ tile map i =
-    (a ≤ i) × (i ≤ b) × Filled zero (f .pw) (f .ph) (responses img f) a i j (j + m) map₀ map × IsTile 148 tile
+Inv-loop img f a b j m tile₀ map₀ i₀ tile map i =
+    (a ≤ i) × (i ≤ b) × Filled zero (f .pw) (f .ph) (responses img f) a i j (j + m) map₀ map × IsTile largeRow tile
 
 abbrev μ-loop : tie.MeasureT-loop
-μ-loop img f off a b j m tile₀ map₀ i₀ tile map i = b - i
+μ-loop img f a b j m tile₀ map₀ i₀ tile map i = b - i
 
 loop-holds : tie.Need-loop-holds Inv-loop μ-loop
 loop-holds c = (
   search needs,
   search needs,
   filled-none zero _ _ _ _ _ _ _ _ (λ i j p q u v. absurd (omega arith)),
-  start-from-loop-holds c .pre .1 .3,
+  start-from-loop-holds c .pre .1 .2,
 )
 
 block-requires : tie.Need-block-requires Inv-loop μ-loop
@@ -37,7 +37,7 @@ block-requires c κs =
         placed-still _ _ _ _ (pre .0 .0) (at .inv .2 .long),
         part-of _ _ _ _ _ _ _ _ _ (pre .0 .1) (at .inv .0) (omega (arith, count, left)) (omega arith) (omega arith),
       ),
-      (pre .1 .0, omega (arith, count, left), omega (arith, count), pre .1 .1, pre .1 .2, at .inv .3, omega (arith, count)),
+      (omega (arith, count, left), omega (arith, count), pre .1 .0, pre .1 .1, at .inv .3, omega (arith, count)),
     )
 
 loop-again : tie.Need-loop-again Inv-loop μ-loop
@@ -53,7 +53,7 @@ loop-again c =
     )
 
 same-length : tie.Need-same-length Inv-loop μ-loop
-same-length c = c .before .loop .inv .3 .long ∙ sym (start-from-same-length c .pre .1 .3 .long)
+same-length c = c .before .loop .inv .3 .long ∙ sym (start-from-same-length c .pre .1 .2 .long)
 
 same-length-2 : tie.Need-same-length-2 Inv-loop μ-loop
 same-length-2 c = c .before .loop .inv .2 .long

@@ -26,13 +26,10 @@ inner-requires c κs =
     let start = start-from-inner-requires c in
     let rows = reach2-from-inner-requires c .reach2 .ensures in
     let columns = reach-from-inner-requires c .reach .ensures in (
-      (
-        placed start,
-        part-inside (start .args .img .now) (field start) (start .args .margin) _ _ _ _ (start .pre .0 .1) columns rows,
-        columns .ordered,
-        rows .ordered,
-      ),
-      c .before .offsets .ensures,
+      placed start,
+      part-inside (start .args .img .now) (field start) (start .args .margin) _ _ _ _ (start .pre .0 .1) columns rows,
+      columns .ordered,
+      rows .ordered,
     )
 
 clear-part-requires : tie.Need-clear-part-requires
@@ -95,5 +92,5 @@ returns c =
 pub fill-spec : {M : Type 1} → statement M
 fill-spec =
     tie.close (tie.spec
-    (λ c κs. search needs) (λ c κs. search needs) (λ c κs. search needs) inner-requires clear-part-requires clear-part-requires-2
-    clear-part-requires-3 clear-part-requires-4 same-length returns)
+    (λ c κs. search needs) (λ c κs. search needs) inner-requires clear-part-requires clear-part-requires-2 clear-part-requires-3
+    clear-part-requires-4 same-length returns)

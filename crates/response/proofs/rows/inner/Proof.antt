@@ -5,6 +5,7 @@ use Prim.Native.Nat.{ℕ, _-_, _<_, _≤_, min, max}
 use native.Mathlib.Omega.{arith}
 use borrow.Author.Needs.{needs}
 use Rattle.float32.specs.Float32.{zero}
+use Rattle.response.specs.Internal.{smallSide}
 use Rattle.response.proofs.Filling.{filled-none, filled-to}
 use Rattle.response.proofs.Tiles.{part-of}
 use Rattle.response.proofs.rows.inner.Statement.{statement}
@@ -19,7 +20,7 @@ module _ (n m g l : ℕ) (greater : g ≡ max n m) (lesser : l ≡ min n m) wher
   one-each : (l ≡ 0 → ⊥) → g ≡ 1 → (n ≡ 1) × (m ≡ 1)
   one-each some e = (omega arith, omega arith)
 
-  few-each : (l ≡ 0 → ⊥) → g ≤ 16 → (0 < n) × (n ≤ 16) × (0 < m) × (m ≤ 16)
+  few-each : (l ≡ 0 → ⊥) → g ≤ smallSide → (0 < n) × (n ≤ smallSide) × (0 < m) × (m ≤ smallSide)
   few-each some e = (omega arith, omega arith, omega arith, omega arith)
 
 returns : tie.Need-returns
@@ -41,8 +42,8 @@ single-requires : tie.Need-single-requires
 single-requires c κs =
     let pre = start-from-single-requires c .pre in
     let each = only (c .before) in (
-      pre .0 .0,
-      part-of _ _ _ _ _ _ _ _ _ (pre .0 .1) (omega arith) (omega (arith, each, pre .0 .2)) (omega arith) (omega (arith, each, pre .0 .3)),
+      pre .0,
+      part-of _ _ _ _ _ _ _ _ _ (pre .1) (omega arith) (omega (arith, each, pre .2)) (omega arith) (omega (arith, each, pre .3)),
     )
 
 same-length : tie.Need-same-length
@@ -52,7 +53,7 @@ returns-2 : tie.Need-returns-2
 returns-2 c =
     let pre = start-from-returns-2 c .pre in
     let each = only (if2-from-returns-2 c) in
-    filled-to zero _ _ _ _ _ _ _ _ _ _ _ (omega (arith, each, pre .0 .2)) (omega (arith, each, pre .0 .3))
+    filled-to zero _ _ _ _ _ _ _ _ _ _ _ (omega (arith, each, pre .2)) (omega (arith, each, pre .3))
     (single-from-returns-2 c .single .ensures)
 
 small-requires : tie.Need-small-requires
@@ -61,7 +62,7 @@ small-requires c κs =
     let least = lesser-from-small-requires c in
     let each = few-each _ _ _ _ (least .before .greater .ensures) (least .lesser .ensures) (if1-from-small-requires c .if1 .left)
     (c .before .if3 .taken) in (
-      (pre .0 .0, part-of _ _ _ _ _ _ _ _ _ (pre .0 .1) (omega arith) (omega (arith, pre .0 .2)) (omega arith) (omega (arith, pre .0 .3))),
+      (pre .0, part-of _ _ _ _ _ _ _ _ _ (pre .1) (omega arith) (omega (arith, pre .2)) (omega arith) (omega (arith, pre .3))),
       each,
     )
 
@@ -71,7 +72,7 @@ same-length-2 c = search needs
 returns-3 : tie.Need-returns-3
 returns-3 c =
     let pre = start-from-returns-3 c .pre in
-    filled-to zero _ _ _ _ _ _ _ _ _ _ _ (omega (arith, pre .0 .2)) (omega (arith, pre .0 .3)) (small-from-returns-3 c .small .ensures)
+    filled-to zero _ _ _ _ _ _ _ _ _ _ _ (omega (arith, pre .2)) (omega (arith, pre .3)) (small-from-returns-3 c .small .ensures)
 
 same-length-3 : tie.Need-same-length-3
 same-length-3 c = search needs

@@ -5,7 +5,7 @@ use Prim.Native.Nat.{_-_, _≤_}
 use native.Mathlib.Omega.{arith}
 use borrow.Author.Needs.{needs}
 use Rattle.float32.specs.Float32.{zero}
-use Rattle.response.specs.Internal.{IsTile, Filled, responses}
+use Rattle.response.specs.Internal.{IsTile, Filled, responses, largeRow, largeTile}
 use Rattle.response.proofs.Filling.{bytes-none, filled-none, filled-to, then-below}
 use Rattle.response.proofs.Tiles.{placed-still, part-of}
 use Rattle.response.proofs.rows.large.Statement.{statement}
@@ -13,18 +13,18 @@ use Rattle.response.proofs.rows.large.Tie as tie
 use Landmarks.*
 
 abbrev Inv-loop : tie.InvT-loop
-Inv-loop img f off a b c e map₀ tile₀ j₀ map tile j =
-    (c ≤ j) × (j ≤ e) × Filled zero (f .pw) (f .ph) (responses img f) a b c j map₀ map × IsTile 148 tile
+Inv-loop img f a b c e map₀ tile₀ j₀ map tile j =
+    (c ≤ j) × (j ≤ e) × Filled zero (f .pw) (f .ph) (responses img f) a b c j map₀ map × IsTile largeRow tile
 
 abbrev μ-loop : tie.MeasureT-loop
-μ-loop img f off a b c e map₀ tile₀ j₀ map tile j = e - j
+μ-loop img f a b c e map₀ tile₀ j₀ map tile j = e - j
 
 loop-holds : tie.Need-loop-holds Inv-loop μ-loop
 loop-holds c = (
   search needs,
-  c .before .before .pre .0 .3,
+  c .before .before .pre .3,
   filled-none zero _ _ _ _ _ _ _ _ (λ i j p q u v. absurd (omega arith)),
-  record { long = refl; narrow = omega arith; bytes = bytes-none 5328 },
+  record { long = refl; narrow = omega arith; bytes = bytes-none largeTile },
 )
 
 band-requires : tie.Need-band-requires Inv-loop μ-loop
@@ -34,11 +34,11 @@ band-requires c κs =
     let count = lesser-from-band-requires c .lesser .ensures in
     let left = loop-test-from-band-requires c .loop-test .taken in (
       (
-        placed-still _ _ _ _ (pre .0 .0) (at .inv .2 .long),
-        part-of _ _ _ _ _ _ _ _ _ (pre .0 .1) (omega arith) (omega arith) (at .inv .0) (omega (arith, count, left)),
-        pre .0 .2,
+        placed-still _ _ _ _ (pre .0) (at .inv .2 .long),
+        part-of _ _ _ _ _ _ _ _ _ (pre .1) (omega arith) (omega arith) (at .inv .0) (omega (arith, count, left)),
+        pre .2,
       ),
-      (pre .1, omega (arith, count, left), omega (arith, count), at .inv .3),
+      (omega (arith, count, left), omega (arith, count), at .inv .3),
     )
 
 loop-again : tie.Need-loop-again Inv-loop μ-loop

@@ -3,26 +3,22 @@ mod Landmarks
 use mathlib.Core.Path.{refl}
 use native.Mathlib.Omega.{arith}
 use borrow.Author.Needs.{needs}
+use Rattle.response.specs.Internal.{smallTile}
 use Rattle.response.proofs.Filling.{bytes-none}
-use Rattle.response.proofs.Tiles.{radius-le}
 use Rattle.response.proofs.rows.small.Statement.{statement}
 use Rattle.response.proofs.rows.small.Tie as tie
 use Landmarks.*
-
-cast-offsets-in : tie.Need-cast-offsets-in
-cast-offsets-in c = omega (arith, radius-le _ _ _ (start-from-cast-offsets-in c .pre .0 .0))
 
 block-requires : tie.Need-block-requires
 block-requires c κs =
     let pre = start-from-block-requires c .pre in (
       pre .0,
       (
-        offsets-in-from-block-requires c .offsets-in .ensures,
         pre .1 .0,
         omega (arith, pre .1 .1),
         pre .1 .2,
         pre .1 .3,
-        record { long = refl; narrow = omega arith; bytes = bytes-none 1296 },
+        record { long = refl; narrow = omega arith; bytes = bytes-none smallTile },
         omega (arith, pre .1 .1),
       ),
     )
@@ -34,4 +30,4 @@ returns : tie.Need-returns
 returns c = block-from-returns c .block .ensures .0
 
 pub small-spec : {M : Type 1} → statement M
-small-spec = tie.close (tie.spec cast-offsets-in (λ c κs. search needs) (λ c. search needs) block-requires same-length returns)
+small-spec = tie.close (tie.spec (λ c. search needs) block-requires same-length returns)

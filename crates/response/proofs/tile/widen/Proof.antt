@@ -8,7 +8,7 @@ use borrow.Author.Needs.{needs}
 use lib.ListN.{length}
 use Rattle.lists.specs.Limits.{largestMap}
 use Rattle.lists.specs.Tab.{pixel}
-use Rattle.response.specs.Internal.{IsTile, Filled}
+use Rattle.response.specs.Internal.{IsTile, Filled, tileRows, largeTile}
 use Rattle.response.proofs.Filling.{filled-none, filled-to, row-after}
 use Rattle.response.proofs.Tiles.{tile-row}
 use Rattle.response.proofs.tile.widen.Statement.{statement}
@@ -16,13 +16,14 @@ use Rattle.response.proofs.tile.widen.Tie as tie
 use Landmarks.*
 
 abbrev Inv-loop : tie.InvT-loop
-Inv-loop img w x y n m tile₀ s j₀ tile j = (j ≤ m) × Filled 0 s 36 (λ p q. pixel img w (x + p) (y + q)) 0 n 0 j tile₀ tile × IsTile s tile
+Inv-loop img w x y n m tile₀ s j₀ tile j =
+    (j ≤ m) × Filled 0 s tileRows (λ p q. pixel img w (x + p) (y + q)) 0 n 0 j tile₀ tile × IsTile s tile
 
 abbrev μ-loop : tie.MeasureT-loop
 μ-loop img w x y n m tile₀ s j₀ tile j = m - j
 
 loop-holds : tie.Need-loop-holds Inv-loop μ-loop
-loop-holds c = (search needs, filled-none 0 _ 36 _ 0 _ 0 0 _ (λ i j p q u v. absurd (omega arith)), c .before .before .pre .6)
+loop-holds c = (search needs, filled-none 0 _ tileRows _ 0 _ 0 0 _ (λ i j p q u v. absurd (omega arith)), c .before .before .pre .6)
 
 -- where a row of the image ends
 row-end : (c : tie.Start Inv-loop μ-loop) (j : ℕ) → j < c .args .m
@@ -42,11 +43,11 @@ add-widen-row-2 c =
 
 -- where a row of the tile ends
 tile-end : (c : tie.Start Inv-loop μ-loop) (j : ℕ) → j < c .args .m
-    → (j * c .args .s + c .args .s ≤ length (c .args .tile .now)) × (j * c .args .s + c .args .s ≤ 5328)
+    → (j * c .args .s + c .args .s ≤ length (c .args .tile .now)) × (j * c .args .s + c .args .s ≤ largeTile)
 tile-end c j l =
     let a = c .args in
-    let row = row-after (a .s) j 36 (omega (arith, c .pre .5)) in
-    (omega (arith, row, c .pre .6 .long, mul-comm (a .s) 36), omega (arith, row, c .pre .6 .narrow))
+    let row = row-after (a .s) j tileRows (omega (arith, c .pre .5)) in
+    (omega (arith, row, c .pre .6 .long, mul-comm (a .s) tileRows), omega (arith, row, c .pre .6 .narrow))
 
 mul-widen-row-2 : tie.Need-mul-widen-row-2 Inv-loop μ-loop
 mul-widen-row-2 c = omega (arith, tile-end (start-from-mul-widen-row-2 c) (loop-from-mul-widen-row-2 c .loop .j) (search needs))
@@ -75,7 +76,7 @@ same-length : tie.Need-same-length Inv-loop μ-loop
 same-length c = c .before .loop .inv .1 .long
 
 returns : tie.Need-returns Inv-loop μ-loop
-returns c = (filled-to 0 _ 36 _ _ _ _ _ _ _ _ _ refl (search needs) (c .before .loop .inv .1), c .before .loop .inv .2)
+returns c = (filled-to 0 _ tileRows _ _ _ _ _ _ _ _ _ refl (search needs) (c .before .loop .inv .1), c .before .loop .inv .2)
 
 pub widen-spec : {M : Type 1} → statement M
 widen-spec =

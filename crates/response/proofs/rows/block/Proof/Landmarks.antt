@@ -30,23 +30,23 @@ module _ {Inv : tie.InvT-loop} {μ : tie.MeasureT-loop} where
   abbrev pub start-from-widen-requires : tie.After-widen-arg Inv μ → tie.Start Inv μ
   start-from-widen-requires c = c .before .before .before .before .before .before
 
-  abbrev pub start-from-add-sums : tie.After-sums-arg Inv μ → tie.Start Inv μ
-  start-from-add-sums c = c .before .before .before .before .before .before .before .before .before .before .before .before
+  abbrev pub start-from-add-row-sums : tie.After-row-sums-arg Inv μ → tie.Start Inv μ
+  start-from-add-row-sums c = c .before .before .before .before .before .before .before .before .before .before .before .before
 
-  abbrev pub start-from-eights-requires : tie.After-sums-arg Inv μ → tie.Start Inv μ
+  abbrev pub start-from-eights-requires : tie.After-row-sums-arg Inv μ → tie.Start Inv μ
   start-from-eights-requires c = c .before .before .before .before .before .before .before .before .before .before .before .before
 
-  abbrev pub eights-from-sums-requires : tie.After-cross Inv μ → tie.After-eights Inv μ
-  eights-from-sums-requires c = c .before .before .before
+  abbrev pub eights-from-row-sums-requires : tie.After-cross Inv μ → tie.After-eights Inv μ
+  eights-from-row-sums-requires c = c .before .before .before
 
-  abbrev pub loop-from-sums-requires : tie.After-cross Inv μ → tie.At-loop Inv μ
-  loop-from-sums-requires c = eights-from-sums-requires c .before .before .before
+  abbrev pub loop-from-row-sums-requires : tie.After-cross Inv μ → tie.At-loop Inv μ
+  loop-from-row-sums-requires c = eights-from-row-sums-requires c .before .before .before
 
-  abbrev pub widen-from-sums-requires : tie.After-cross Inv μ → tie.After-widen Inv μ
-  widen-from-sums-requires c = loop-from-sums-requires c .before .before .before
+  abbrev pub widen-from-row-sums-requires : tie.After-cross Inv μ → tie.After-widen Inv μ
+  widen-from-row-sums-requires c = loop-from-row-sums-requires c .before .before .before
 
-  abbrev pub start-from-sums-requires : tie.After-cross Inv μ → tie.Start Inv μ
-  start-from-sums-requires c = widen-from-sums-requires c .before .before .before .before .before .before .before
+  abbrev pub start-from-row-sums-requires : tie.After-cross Inv μ → tie.Start Inv μ
+  start-from-row-sums-requires c = widen-from-row-sums-requires c .before .before .before .before .before .before .before
 
   abbrev pub loop-test-from-add-values : tie.After-values-arg Inv μ → tie.In-loop Inv μ
   loop-test-from-add-values c = c .before .before .before .before .before .before .before .before .before .before
@@ -79,11 +79,11 @@ module _ {Inv : tie.InvT-loop} {μ : tie.MeasureT-loop} where
   abbrev pub start-from-add-k : tie.After-slice-known4 Inv μ → tie.Start Inv μ
   start-from-add-k c = loop-test-from-add-k c .before .before .before .before .before .before .before .before .before .before .before
 
-  abbrev pub sums-from-loop-again : tie.After-slice-known4 Inv μ → tie.After-sums Inv μ
-  sums-from-loop-again c = c .before .before .before .before .before .before .before .before
+  abbrev pub row-sums-from-loop-again : tie.After-slice-known4 Inv μ → tie.After-row-sums Inv μ
+  row-sums-from-loop-again c = c .before .before .before .before .before .before .before .before
 
   abbrev pub eights-from-loop-again : tie.After-slice-known4 Inv μ → tie.After-eights Inv μ
-  eights-from-loop-again c = sums-from-loop-again c .before .before .before .before
+  eights-from-loop-again c = row-sums-from-loop-again c .before .before .before .before
 
   abbrev pub loop-test-from-loop-again : tie.After-slice-known4 Inv μ → tie.In-loop Inv μ
   loop-test-from-loop-again c = eights-from-loop-again c .before .before

@@ -3,7 +3,7 @@
 use Rattle.response.proofs.rows.fill.Tie as tie
 
 abbrev pub reach2-from-inner-requires : tie.After-inner-arg → tie.After-reach2
-reach2-from-inner-requires c = c .before .before
+reach2-from-inner-requires c = c .before
 
 abbrev pub reach-from-inner-requires : tie.After-inner-arg → tie.After-reach
 reach-from-inner-requires c = reach2-from-inner-requires c .before
@@ -15,7 +15,7 @@ abbrev pub inner-from-clear-part-requires : tie.After-clear-part-arg → tie.Aft
 inner-from-clear-part-requires c = c .before .before .before
 
 abbrev pub reach2-from-clear-part-requires : tie.After-clear-part-arg → tie.After-reach2
-reach2-from-clear-part-requires c = inner-from-clear-part-requires c .before .before .before
+reach2-from-clear-part-requires c = inner-from-clear-part-requires c .before .before
 
 abbrev pub start-from-clear-part-requires : tie.After-clear-part-arg → tie.Start
 start-from-clear-part-requires c = reach2-from-clear-part-requires c .before .before .before .before
@@ -27,7 +27,7 @@ abbrev pub inner-from-clear-part-requires-2 : tie.After-clear-part-arg2 → tie.
 inner-from-clear-part-requires-2 c = clear-part-from-clear-part-requires-2 c .before .before .before .before
 
 abbrev pub reach2-from-clear-part-requires-2 : tie.After-clear-part-arg2 → tie.After-reach2
-reach2-from-clear-part-requires-2 c = inner-from-clear-part-requires-2 c .before .before .before
+reach2-from-clear-part-requires-2 c = inner-from-clear-part-requires-2 c .before .before
 
 abbrev pub reach-from-clear-part-requires-2 : tie.After-clear-part-arg2 → tie.After-reach
 reach-from-clear-part-requires-2 c = reach2-from-clear-part-requires-2 c .before
@@ -45,7 +45,7 @@ abbrev pub inner-from-clear-part-requires-3 : tie.After-clear-part-arg3 → tie.
 inner-from-clear-part-requires-3 c = clear-part-from-clear-part-requires-3 c .before .before .before .before
 
 abbrev pub reach2-from-clear-part-requires-3 : tie.After-clear-part-arg3 → tie.After-reach2
-reach2-from-clear-part-requires-3 c = inner-from-clear-part-requires-3 c .before .before .before
+reach2-from-clear-part-requires-3 c = inner-from-clear-part-requires-3 c .before .before
 
 abbrev pub reach-from-clear-part-requires-3 : tie.After-clear-part-arg3 → tie.After-reach
 reach-from-clear-part-requires-3 c = reach2-from-clear-part-requires-3 c .before
@@ -66,7 +66,7 @@ abbrev pub inner-from-clear-part-requires-4 : tie.After-clear-part-arg4 → tie.
 inner-from-clear-part-requires-4 c = clear-part-from-clear-part-requires-4 c .before .before .before .before
 
 abbrev pub reach2-from-clear-part-requires-4 : tie.After-clear-part-arg4 → tie.After-reach2
-reach2-from-clear-part-requires-4 c = inner-from-clear-part-requires-4 c .before .before .before
+reach2-from-clear-part-requires-4 c = inner-from-clear-part-requires-4 c .before .before
 
 abbrev pub start-from-clear-part-requires-4 : tie.After-clear-part-arg4 → tie.Start
 start-from-clear-part-requires-4 c = reach2-from-clear-part-requires-4 c .before .before .before .before
@@ -84,7 +84,7 @@ abbrev pub inner-from-returns : tie.After-slice-known6 → tie.After-inner
 inner-from-returns c = clear-part-from-returns c .before .before .before .before
 
 abbrev pub reach2-from-returns : tie.After-slice-known6 → tie.After-reach2
-reach2-from-returns c = inner-from-returns c .before .before .before
+reach2-from-returns c = inner-from-returns c .before .before
 
 abbrev pub reach-from-returns : tie.After-slice-known6 → tie.After-reach
 reach-from-returns c = reach2-from-returns c .before

@@ -2,14 +2,8 @@
 -- `A-from-B` is the place where A was bound, seen from the need or the place B. Assumes nothing.
 use Rattle.response.proofs.rows.small.Tie as tie
 
-abbrev pub start-from-cast-offsets-in : tie.After-struct-known → tie.Start
-start-from-cast-offsets-in c = c .before .before .before
-
-abbrev pub offsets-in-from-block-requires : tie.After-block-arg → tie.After-offsets-in
-offsets-in-from-block-requires c = c .before .before
-
 abbrev pub start-from-block-requires : tie.After-block-arg → tie.Start
-start-from-block-requires c = offsets-in-from-block-requires c .before .before .before .before
+start-from-block-requires c = c .before .before .before .before
 
 abbrev pub block-from-returns : tie.After-slice-known2 → tie.After-block
 block-from-returns c = c .before .before .before
