@@ -13,19 +13,20 @@ use Rattle.frame.specs.declared.FrameAnswer.the-variants.{Corners, Refused}
 use Rattle.frame.specs.Frame.{Buffers, refusalOf, numberOf, valuesOf, FrameFound}
 use Rattle.capi_frame.specs.Finding.{CornersFound}
 
-pub corners-found : (choose : Choice) (p : FrameParams) (img : List ℕ) (w h : ℕ) (b : Buffers) (count ties : ℕ) (a : FrameAnswer)
-    (r : ℕ) (b′ : Buffers)
-    (count′ ties′ : ℕ) → FrameFound choose p img w h b a b′ → r ≡ numberOf a → count′ ≡ getD (valuesOf a) 0 count
-    → ties′ ≡ getD (valuesOf a) 1 ties
-    → CornersFound choose p img w h b count ties r b′ count′ ties′
-corners-found choose p img w h b count ties a r b′ count′ ties′ f n x y =
-    let number = refusalOf choose p img w h b in
-    let found = length (framePass p img w h choose .corners) in
-    let tied = framePass p img w h choose .ties in
-    record {
-      answer =
-          subst (λ (o : FrameAnswer). FrameFound choose p img w h b o b′)
-          (answer numberOf a number (f .number) r n (λ k. unless Refused k (Corners found tied)) (f .answer)) f;
-      count-is = value numberOf a number (f .number) r n valuesOf (found ∷ tied ∷ []) (f .values) 0 count count′ x;
-      ties-are = value numberOf a number (f .number) r n valuesOf (found ∷ tied ∷ []) (f .values) 1 ties ties′ y;
-    }
+module _ (choice : FrameParams → Choice) (q p : FrameParams) (same : p ≡ q) (img : List ℕ) (w h : ℕ) (b : Buffers) (count ties : ℕ)
+    (a : FrameAnswer) (r : ℕ) (b′ : Buffers) (count′ ties′ : ℕ) where
+  pub corners-found : FrameFound (choice p) p img w h b a b′ → r ≡ numberOf a → count′ ≡ getD (valuesOf a) 0 count
+      → ties′ ≡ getD (valuesOf a) 1 ties
+      → CornersFound (choice q) q img w h b count ties r b′ count′ ties′
+  corners-found found n x y =
+      let f = subst (λ (o : FrameParams). FrameFound (choice o) o img w h b a b′) same found in
+      let pass = framePass q img w h (choice q) in
+      let number = refusalOf (choice q) q img w h b in
+      let corners = length (pass .corners) in
+      record {
+        answer =
+            subst (λ (o : FrameAnswer). FrameFound (choice q) q img w h b o b′)
+            (answer numberOf a number (f .number) r n (λ k. unless Refused k (Corners corners (pass .ties))) (f .answer)) f;
+        count-is = value numberOf a number (f .number) r n valuesOf (corners ∷ pass .ties ∷ []) (f .values) 0 count count′ x;
+        ties-are = value numberOf a number (f .number) r n valuesOf (corners ∷ pass .ties ∷ []) (f .values) 1 ties ties′ y;
+      }

@@ -5,16 +5,14 @@ use frame::answers::number_of;
 use frame::answers::ties_of;
 use frame::find_corners_by;
 use frame_params::FrameParams;
+ghost use mathlib.Core.Path.{_≡_};
 ghost use Rattle.corner_list.specs.CornerList.{slices};
-ghost use Rattle.patch_corners.specs.OneMap.{choiceOf, computedChoice, exactChoice};
+ghost use Rattle.patch_corners.specs.OneMap.{computedChoice, exactChoice};
 ghost use Rattle.frame.specs.Frame.{buffers, params};
 ghost use Rattle.capi_frame.specs.Finding.{CornersFound};
 
-// Finds the corners of an image, by computed or by exact values, and takes the answer apart.
-fn find(
-    img: &[u8],
-    w: usize,
-    h: usize,
+// The nine numbers as parameters.
+fn params_of(
     ring: u32,
     threshold: f32,
     window: u32,
@@ -24,35 +22,11 @@ fn find(
     level_count: u32,
     minimum_side: usize,
     search_radius: u32,
-    exact: bool,
-    map: &mut [f32],
-    levels: &mut [u8],
-    sx: &mut [f32],
-    sy: &mut [f32],
-    ss: &mut [f32],
-    sn: &mut [u32],
-    cx: &mut [f32],
-    cy: &mut [f32],
-    cs: &mut [f32],
-    cn: &mut [u32],
-    count: &mut usize,
-    ties: &mut u64,
-) -> u8
-    ensures { λ r. ⌜ CornersFound (choiceOf
-        (params ring threshold window «least_neighbours» «centroid_radius» «merge_radius» «level_count»
-        «minimum_side» «search_radius») exact)
-        (params ring threshold window «least_neighbours» «centroid_radius» «merge_radius» «level_count»
-        «minimum_side» «search_radius») (now (img .entry)) w h
-        (buffers (now (map .entry)) (now (levels .entry))
-        (slices (now (sx .entry)) (now (sy .entry)) (now (ss .entry)) (now (sn .entry)))
-        (slices (now (cx .entry)) (now (cy .entry)) (now (cs .entry)) (now (cn .entry))))
-        (now (count .entry)) (now (ties .entry)) r
-        (buffers (now (map .exit)) (now (levels .exit))
-        (slices (now (sx .exit)) (now (sy .exit)) (now (ss .exit)) (now (sn .exit)))
-        (slices (now (cx .exit)) (now (cy .exit)) (now (cs .exit)) (now (cn .exit))))
-        (now (count .exit)) (now (ties .exit)) ⌝ }
+) -> FrameParams
+    ensures { λ p. ⌜ p ≡ params ring threshold window «least_neighbours» «centroid_radius» «merge_radius»
+        «level_count» «minimum_side» «search_radius» ⌝ }
 {
-    let p = FrameParams {
+    FrameParams {
         ring,
         threshold,
         window,
@@ -62,27 +36,7 @@ fn find(
         levels: level_count,
         minimum_side,
         search_radius,
-    };
-    let a = find_corners_by(
-        img,
-        w,
-        h,
-        p,
-        exact,
-        map,
-        levels,
-        sx,
-        sy,
-        ss,
-        sn,
-        cx,
-        cy,
-        cs,
-        cn,
-    );
-    *count = count_of(a, *count);
-    *ties = ties_of(a, *ties);
-    number_of(a)
+    }
 }
 
 // Finds the corners of an image of w by h pixels. They are written to the start of the corner buffer (cx, cy, cs, cn).
@@ -128,10 +82,7 @@ pub extern "C" fn zakdomp_find_corners(
         (slices (now (cx .exit)) (now (cy .exit)) (now (cs .exit)) (now (cn .exit))))
         (now (count .exit)) (now (ties .exit)) ⌝ }
 {
-    find(
-        img,
-        w,
-        h,
+    let p = params_of(
         ring,
         threshold,
         window,
@@ -141,6 +92,12 @@ pub extern "C" fn zakdomp_find_corners(
         level_count,
         minimum_side,
         search_radius,
+    );
+    let a = find_corners_by(
+        img,
+        w,
+        h,
+        p,
         false,
         map,
         levels,
@@ -152,9 +109,10 @@ pub extern "C" fn zakdomp_find_corners(
         cy,
         cs,
         cn,
-        count,
-        ties,
-    )
+    );
+    *count = count_of(a, *count);
+    *ties = ties_of(a, *ties);
+    number_of(a)
 }
 
 // The same, with peaks chosen by the exact values of the paper's formula.
@@ -199,10 +157,7 @@ pub extern "C" fn zakdomp_find_exact_corners(
         (slices (now (cx .exit)) (now (cy .exit)) (now (cs .exit)) (now (cn .exit))))
         (now (count .exit)) (now (ties .exit)) ⌝ }
 {
-    find(
-        img,
-        w,
-        h,
+    let p = params_of(
         ring,
         threshold,
         window,
@@ -212,6 +167,12 @@ pub extern "C" fn zakdomp_find_exact_corners(
         level_count,
         minimum_side,
         search_radius,
+    );
+    let a = find_corners_by(
+        img,
+        w,
+        h,
+        p,
         true,
         map,
         levels,
@@ -223,7 +184,8 @@ pub extern "C" fn zakdomp_find_exact_corners(
         cy,
         cs,
         cn,
-        count,
-        ties,
-    )
+    );
+    *count = count_of(a, *count);
+    *ties = ties_of(a, *ties);
+    number_of(a)
 }

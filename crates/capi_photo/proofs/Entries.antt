@@ -13,19 +13,20 @@ use Rattle.frame.specs.Frame.{Buffers, numberOf, valuesOf}
 use Rattle.pgm_frame.specs.PgmFrame.{passOn, refusalOf, PhotographFound}
 use Rattle.capi_photo.specs.Photographs.{PhotographCorners}
 
-pub photograph-corners : (choose : Choice) (p : FrameParams) (upload : List ℕ) (b : Buffers) (count ties : ℕ) (a : FrameAnswer)
-    (r : ℕ) (b′ : Buffers)
-    (count′ ties′ : ℕ) → PhotographFound choose p upload b a b′ → r ≡ numberOf a → count′ ≡ getD (valuesOf a) 0 count
-    → ties′ ≡ getD (valuesOf a) 1 ties
-    → PhotographCorners choose p upload b count ties r b′ count′ ties′
-photograph-corners choose p upload b count ties a r b′ count′ ties′ f n x y =
-    let number = refusalOf choose p upload b in
-    let found = length (passOn choose p upload .corners) in
-    let tied = passOn choose p upload .ties in
-    record {
-      answer =
-          subst (λ (o : FrameAnswer). PhotographFound choose p upload b o b′)
-          (answer numberOf a number (f .number) r n (λ k. unless Refused k (Corners found tied)) (f .answer)) f;
-      count-is = value numberOf a number (f .number) r n valuesOf (found ∷ tied ∷ []) (f .values) 0 count count′ x;
-      ties-are = value numberOf a number (f .number) r n valuesOf (found ∷ tied ∷ []) (f .values) 1 ties ties′ y;
-    }
+module _ (choice : FrameParams → Choice) (q p : FrameParams) (same : p ≡ q) (upload : List ℕ) (b : Buffers) (count ties : ℕ)
+    (a : FrameAnswer) (r : ℕ) (b′ : Buffers) (count′ ties′ : ℕ) where
+  pub photograph-corners : PhotographFound (choice p) p upload b a b′ → r ≡ numberOf a → count′ ≡ getD (valuesOf a) 0 count
+      → ties′ ≡ getD (valuesOf a) 1 ties
+      → PhotographCorners (choice q) q upload b count ties r b′ count′ ties′
+  photograph-corners found n x y =
+      let f = subst (λ (o : FrameParams). PhotographFound (choice o) o upload b a b′) same found in
+      let pass = passOn (choice q) q upload in
+      let number = refusalOf (choice q) q upload b in
+      let corners = length (pass .corners) in
+      record {
+        answer =
+            subst (λ (o : FrameAnswer). PhotographFound (choice q) q upload b o b′)
+            (answer numberOf a number (f .number) r n (λ k. unless Refused k (Corners corners (pass .ties))) (f .answer)) f;
+        count-is = value numberOf a number (f .number) r n valuesOf (corners ∷ pass .ties ∷ []) (f .values) 0 count count′ x;
+        ties-are = value numberOf a number (f .number) r n valuesOf (corners ∷ pass .ties ∷ []) (f .values) 1 ties ties′ y;
+      }

@@ -4,14 +4,14 @@ use frame::answers::number_of;
 use frame::answers::ties_of;
 use frame_params::FrameParams;
 use pgm_frame::find_pgm_corners_by;
+ghost use mathlib.Core.Path.{_≡_};
 ghost use Rattle.corner_list.specs.CornerList.{slices};
-ghost use Rattle.patch_corners.specs.OneMap.{choiceOf, computedChoice, exactChoice};
+ghost use Rattle.patch_corners.specs.OneMap.{computedChoice, exactChoice};
 ghost use Rattle.frame.specs.Frame.{buffers, params};
 ghost use Rattle.capi_photo.specs.Photographs.{PhotographCorners};
 
-// Finds the corners of an upload, by computed or by exact values, and takes the answer apart.
-fn find(
-    upload: &[u8],
+// The nine numbers as parameters.
+fn params_of(
     ring: u32,
     threshold: f32,
     window: u32,
@@ -21,35 +21,11 @@ fn find(
     level_count: u32,
     minimum_side: usize,
     search_radius: u32,
-    exact: bool,
-    map: &mut [f32],
-    levels: &mut [u8],
-    sx: &mut [f32],
-    sy: &mut [f32],
-    ss: &mut [f32],
-    sn: &mut [u32],
-    cx: &mut [f32],
-    cy: &mut [f32],
-    cs: &mut [f32],
-    cn: &mut [u32],
-    count: &mut usize,
-    ties: &mut u64,
-) -> u8
-    ensures { λ r. ⌜ PhotographCorners
-        (choiceOf (params ring threshold window «least_neighbours» «centroid_radius» «merge_radius»
-        «level_count» «minimum_side» «search_radius») exact)
-        (params ring threshold window «least_neighbours» «centroid_radius» «merge_radius» «level_count»
-        «minimum_side» «search_radius») (now (upload .entry))
-        (buffers (now (map .entry)) (now (levels .entry))
-        (slices (now (sx .entry)) (now (sy .entry)) (now (ss .entry)) (now (sn .entry)))
-        (slices (now (cx .entry)) (now (cy .entry)) (now (cs .entry)) (now (cn .entry))))
-        (now (count .entry)) (now (ties .entry)) r
-        (buffers (now (map .exit)) (now (levels .exit))
-        (slices (now (sx .exit)) (now (sy .exit)) (now (ss .exit)) (now (sn .exit)))
-        (slices (now (cx .exit)) (now (cy .exit)) (now (cs .exit)) (now (cn .exit))))
-        (now (count .exit)) (now (ties .exit)) ⌝ }
+) -> FrameParams
+    ensures { λ p. ⌜ p ≡ params ring threshold window «least_neighbours» «centroid_radius» «merge_radius»
+        «level_count» «minimum_side» «search_radius» ⌝ }
 {
-    let p = FrameParams {
+    FrameParams {
         ring,
         threshold,
         window,
@@ -59,25 +35,7 @@ fn find(
         levels: level_count,
         minimum_side,
         search_radius,
-    };
-    let a = find_pgm_corners_by(
-        upload,
-        p,
-        exact,
-        map,
-        levels,
-        sx,
-        sy,
-        ss,
-        sn,
-        cx,
-        cy,
-        cs,
-        cn,
-    );
-    *count = count_of(a, *count);
-    *ties = ties_of(a, *ties);
-    number_of(a)
+    }
 }
 
 // Finds the corners of an upload, as `zakdomp_find_corners` does for its pixels.
@@ -120,8 +78,7 @@ pub extern "C" fn zakdomp_find_corners_pgm(
         (slices (now (cx .exit)) (now (cy .exit)) (now (cs .exit)) (now (cn .exit))))
         (now (count .exit)) (now (ties .exit)) ⌝ }
 {
-    find(
-        upload,
+    let p = params_of(
         ring,
         threshold,
         window,
@@ -131,6 +88,10 @@ pub extern "C" fn zakdomp_find_corners_pgm(
         level_count,
         minimum_side,
         search_radius,
+    );
+    let a = find_pgm_corners_by(
+        upload,
+        p,
         false,
         map,
         levels,
@@ -142,9 +103,10 @@ pub extern "C" fn zakdomp_find_corners_pgm(
         cy,
         cs,
         cn,
-        count,
-        ties,
-    )
+    );
+    *count = count_of(a, *count);
+    *ties = ties_of(a, *ties);
+    number_of(a)
 }
 
 // The same, with peaks chosen by the exact values of the paper's formula.
@@ -187,8 +149,7 @@ pub extern "C" fn zakdomp_find_exact_corners_pgm(
         (slices (now (cx .exit)) (now (cy .exit)) (now (cs .exit)) (now (cn .exit))))
         (now (count .exit)) (now (ties .exit)) ⌝ }
 {
-    find(
-        upload,
+    let p = params_of(
         ring,
         threshold,
         window,
@@ -198,18 +159,9 @@ pub extern "C" fn zakdomp_find_exact_corners_pgm(
         level_count,
         minimum_side,
         search_radius,
-        true,
-        map,
-        levels,
-        sx,
-        sy,
-        ss,
-        sn,
-        cx,
-        cy,
-        cs,
-        cn,
-        count,
-        ties,
-    )
+    );
+    let a = find_pgm_corners_by(upload, p, true, map, levels, sx, sy, ss, sn, cx, cy, cs, cn);
+    *count = count_of(a, *count);
+    *ties = ties_of(a, *ties);
+    number_of(a)
 }

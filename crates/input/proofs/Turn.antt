@@ -1,10 +1,11 @@
 -- A turn of a reader that reads what it wants, again and again. Assumes nothing.
-use Prim.Native.Nat.{ℕ, zero, suc, _+_, _<_, _≤_}
+use Prim.Native.Nat.{ℕ, zero, suc, _+_, _-_, _<_, _≤_}
 use native.Mathlib.Omega.{arith}
 use mathlib.Core.Path.{_≡_, refl, sym, ap, _∙_, subst}
 use mathlib.Core.List.{List}
 use lib.ListN.{length, take}
 use lib.IntN.{ℤ, pos, negsuc}
+use lib.Seq.{length-take-le}
 use Rattle.input.specs.declared.Input.{Input}
 use Rattle.input.specs.Input.{cameBy, startOf, askedOf, ReadOn}
 use Rattle.input.specs.Reading.{Ends, Read}
@@ -78,3 +79,48 @@ module _
         none-ends (r .answer) _ (omega (arith, counted, same))
         (rw (ap (λ (n : ℕ). take n after) same ∙ as-before, ← wants) some);
   }
+
+-- ---- the turns of a reader with a buffer of `longest` bytes: what came lies in it
+pub record Came (longest : ℕ) (s : List ℕ) (i : Input) : Type 0 where
+  pub long : length s ≡ longest
+  pub few : i .count ≤ longest
+  pub some : Brought (i .answer)
+
+-- one turn, with n bytes in the buffer and `more` wanted, never more than have their places
+module _ (wanted : List ℕ → ℕ) (longest : ℕ) (within : (s : List ℕ) → 0 < wanted s → length s + wanted s ≤ longest) (s : List ℕ)
+    (i : Input) (came : Came longest s i) (n : ℕ) (counts : n ≡ i .count) (more : ℕ) (told : more ≡ wanted (take n s)) where
+  wants : more ≡ wanted (take (i .count) s)
+  wants = told ∙ ap (λ (m : ℕ). wanted (take m s)) counts
+
+  pub all-came : more ≡ 0 → Read wanted i s
+  all-came z = decided wanted i s (omega (arith, came .long, came .few)) (came .some) (sym wants ∙ z)
+
+  module _ (some : more ≡ 0 → ⊥) where
+    pub room : i .count + more ≤ length s
+    room =
+        omega (
+          arith,
+          wants,
+          within (take (i .count) s) (omega (arith, wants)),
+          length-take-le (i .count) s (omega (arith, came .long, came .few)),
+          came .long,
+        )
+
+    -- what a read leaves
+    module _ (j : Input) (after : List ℕ) (read : ReadOn i more s j after) (m : ℕ) (recounts : m ≡ j .count) where
+      pub ended : m ≡ n → Read wanted j after
+      ended same = none-came i more s j after read room wanted (omega arith) wants (sym recounts ∙ same ∙ counts)
+
+      module _ (grows : m ≡ n → ⊥) where
+        grown : j .count ≡ i .count → ⊥
+        grown e = grows (recounts ∙ e ∙ sym counts)
+
+        pub goes-on : Came longest after j
+        goes-on = record {
+          long = read .long ∙ came .long;
+          few = omega (arith, most i more s j after read room, room, came .long);
+          some = brought i more s j after read room grown;
+        }
+
+        pub less : longest - j .count < longest - i .count
+        less = omega (arith, more-came i more s j after read room grown, goes-on .few)

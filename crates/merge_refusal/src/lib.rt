@@ -28,37 +28,6 @@ fn crowding(places: usize, count: usize) -> u8
     if places < count { 10 } else { 0 }
 }
 
-// The number of the refusal if only `places` places of the buffer count, 0 for none.
-fn refusal_at(
-    xs: &[f32],
-    ys: &[f32],
-    strengths: &[f32],
-    neighbours: &[u32],
-    places: usize,
-    count: usize,
-    radius: f32,
-) -> u8
-    ensures { λ r. ⌜ r ≡ refusalOf radius places count
-        (slices (now (xs .entry)) (now (ys .entry)) (now (strengths .entry)) (now (neighbours .entry))) ⌝ }
-{
-    if merge_radius::is_off(radius) {
-        return crowding(places, count);
-    }
-    if has_outside(
-        xs,
-        ys,
-        strengths,
-        neighbours,
-        numbers::lesser(count, places),
-    ) {
-        return 4;
-    }
-    if merge_radius::is_sized(radius) {
-        return crowding(places, count);
-    }
-    5
-}
-
 // The number of the refusal for merging the first `count` corners of a buffer of at most `places` places, 0 for none.
 pub fn refusal(
     xs: &[f32],
@@ -78,5 +47,14 @@ pub fn refusal(
         places,
         corner_list::places(xs.len(), ys.len(), strengths.len(), neighbours.len()),
     );
-    refusal_at(xs, ys, strengths, neighbours, held, count, radius)
+    if merge_radius::is_off(radius) {
+        return crowding(held, count);
+    }
+    if has_outside(xs, ys, strengths, neighbours, numbers::lesser(count, held)) {
+        return 4;
+    }
+    if merge_radius::is_sized(radius) {
+        return crowding(held, count);
+    }
+    5
 }

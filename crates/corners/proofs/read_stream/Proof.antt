@@ -1,100 +1,28 @@
 -- `corners::read_stream` meets its contract. The invariant: the bytes that came lie in the buffer. The measure is what is left of it.
 -- Assumes the contract of `read`.
-use Prim.Native.Nat.{ℕ, _+_, _-_, _<_, _≤_}
+mod Landmarks
+use Prim.Native.Nat.{_-_}
 use native.Mathlib.Omega.{arith}
-use mathlib.Core.Path.{_≡_, sym, ap, _∙_, subst}
-use mathlib.Core.List.{List}
-use lib.ListN.{length, take}
+use mathlib.Core.Path.{sym, _∙_, subst}
 use lib.Seq.{length-take-le}
 use borrow.Author.Needs.{needs}
 use Rattle.input.specs.declared.Input.{Input}
-use Rattle.input.specs.Input.{ReadOn}
-use Rattle.input.specs.Reading.{Read}
-use Rattle.input.proofs.Turn.{Brought, decided, brought, most, more-came, none-came}
+use Rattle.input.proofs.Turn.{Came, all-came, ended, goes-on, less}
 use Rattle.stream.specs.Wanted.{wanted}
 use Rattle.stream.proofs.Decided.{frame-wants}
 use Rattle.stream.specs.Stream.{longestStream}
 use Rattle.corners.proofs.read_stream.Statement.{statement}
 use Rattle.corners.proofs.read_stream.Tie as tie
-
-record Came (s : List ℕ) (i : Input) : Type 0 where
-  long : length s ≡ longestStream
-  few : i .count ≤ longestStream
-  some : Brought (i .answer)
-
--- ---- one turn, with so many bytes in the buffer and `more` wanted
-module _ (s : List ℕ) (i : Input) (came : Came s i) (n : ℕ) (counts : n ≡ i .count) (more : ℕ) (told : more ≡ wanted (take n s)) where
-  wants : more ≡ wanted (take (i .count) s)
-  wants = told ∙ ap (λ (m : ℕ). wanted (take m s)) counts
-
-  all-came : more ≡ 0 → Read wanted i s
-  all-came z = decided wanted i s (omega (arith, came .long, came .few)) (came .some) (sym wants ∙ z)
-
-  module _ (some : more ≡ 0 → ⊥) where
-    fits : i .count + more ≤ length s
-    fits =
-        omega (
-          arith,
-          wants,
-          frame-wants (take (i .count) s) .total (omega (arith, wants)),
-          length-take-le (i .count) s (omega (arith, came .long, came .few)),
-          came .long,
-        )
-
-    -- what a read leaves
-    module _ (j : Input) (after : List ℕ) (read : ReadOn i more s j after) (m : ℕ) (recounts : m ≡ j .count) where
-      ended : m ≡ n → Read wanted j after
-      ended same = none-came i more s j after read fits wanted (omega arith) wants (sym recounts ∙ same ∙ counts)
-
-      module _ (grows : m ≡ n → ⊥) where
-        grown : j .count ≡ i .count → ⊥
-        grown e = grows (recounts ∙ e ∙ sym counts)
-
-        goes-on : Came after j
-        goes-on = record {
-          long = read .long ∙ came .long;
-          few = omega (arith, most i more s j after read fits, fits, came .long);
-          some = brought i more s j after read fits grown;
-        }
-
-        less : longestStream - j .count < longestStream - i .count
-        less = omega (arith, more-came i more s j after read fits grown, goes-on .few)
+use Landmarks.*
 
 abbrev Inv-loop : tie.InvT-loop
-Inv-loop stream₀ input₀ stream input = Came stream input
+Inv-loop stream₀ input₀ stream input = Came longestStream stream input
 
 abbrev μ-loop : tie.MeasureT-loop
 μ-loop stream₀ input₀ stream input = longestStream - input .count
 
--- from one place of the code back to another
-abbrev at-loop : tie.After-wanted Inv-loop μ-loop → tie.At-loop Inv-loop μ-loop
-at-loop c = c .before .before .before
-
-abbrev start : tie.After-wanted Inv-loop μ-loop → tie.Start Inv-loop μ-loop
-start c = at-loop c .before .before .before
-
-abbrev at-else : tie.After-count2 Inv-loop μ-loop → tie.Else1 Inv-loop μ-loop
-at-else c = c .before .before .before .before .before
-
-abbrev at-wanted : tie.After-count2 Inv-loop μ-loop → tie.After-wanted Inv-loop μ-loop
-at-wanted c = at-else c .before
-
--- what a call promises at such a place
-counted : (c : tie.After-wanted Inv-loop μ-loop) → c .before .before .count .result ≡ at-loop c .loop .input .count
-counted c = c .before .before .count .ensures
-
-goes :
-    (c : tie.After-count2 Inv-loop μ-loop)
-    → ReadOn
-    (at-loop (at-wanted c) .loop .input)
-    (at-wanted c .wanted .result)
-    (at-loop (at-wanted c) .loop .stream)
-    (c .before .before .before .read-on .result)
-    (c .before .before .before .read-on .last .1 .1 .0)
-goes c = c .before .before .before .read-on .ensures
-
 loop-holds : tie.Need-loop-holds Inv-loop μ-loop
-loop-holds c = subst (λ (i : Input). Came (c .before .before .args .stream .now) i) (sym (c .begin .ensures))
+loop-holds c = subst (λ (i : Input). Came longestStream (c .before .before .args .stream .now) i) (sym (c .begin .ensures))
     (record { long = c .before .before .pre; few = omega arith; some = tt })
 
 slice-reshare-prefix-wanted : tie.Need-slice-reshare-prefix-wanted Inv-loop μ-loop
@@ -104,36 +32,35 @@ slice-aggregate-wanted : tie.Need-slice-aggregate-wanted Inv-loop μ-loop
 slice-aggregate-wanted c = sym (length-take-le _ _ (slice-reshare-prefix-wanted (c .before)))
 
 same-length : tie.Need-same-length Inv-loop μ-loop
-same-length c = at-loop (c .before) .loop .inv .long ∙ sym (start (c .before) .pre)
+same-length c = loop-from-same-length c .loop .inv .long ∙ sym (start-from-same-length c .pre)
 
 returns : tie.Need-returns Inv-loop μ-loop
-returns c = all-came _ _ (at-loop (c .before) .loop .inv) _ (counted (c .before)) _ (c .before .wanted .ensures) (c .if1 .taken)
+returns c =
+    all-came wanted longestStream (λ s. frame-wants s .total) _ _ (loop-from-returns c .loop .inv) _
+    (count-from-returns c .count .ensures) _ (c .before .wanted .ensures) (c .if1 .taken)
 
 same-length-2 : tie.Need-same-length-2 Inv-loop μ-loop
-same-length-2 c = goes (c .before) .long ∙ at-loop (at-wanted (c .before)) .loop .inv .long ∙ sym (start (at-wanted (c .before)) .pre)
+same-length-2 c =
+    read-on-from-same-length-2 c .read-on .ensures .long ∙ loop-from-same-length-2 c .loop .inv .long
+    ∙ sym (start-from-same-length-2 c .pre)
 
 returns-2 : tie.Need-returns-2 Inv-loop μ-loop
 returns-2 c =
-    let w = at-wanted (c .before) in
-    ended _ _ (at-loop w .loop .inv) _ (counted w) _ (w .wanted .ensures) (at-else (c .before) .if1 .left) _ _
-    (goes (c .before)) _ (c .before .count2 .ensures)
-    (c .if2 .taken)
-
--- the invariant after a turn
-again : tie.Need-loop-again Inv-loop μ-loop
-again c =
-    let w = at-wanted (c .before) in
-    goes-on _ _ (at-loop w .loop .inv) _ (counted w) _ (w .wanted .ensures) (at-else (c .before) .if1 .left) _ _ (goes (c .before)) _
-    (c .before .count2 .ensures) (c .if2 .left)
+    ended wanted longestStream (λ s. frame-wants s .total) _ _ (loop-from-returns-2 c .loop .inv) _
+    (count-from-returns-2 c .count .ensures) _ (wanted-from-returns-2 c .wanted .ensures) (if1-from-returns-2 c .if1 .left) _ _
+    (read-on-from-returns-2 c .read-on .ensures) _ (c .before .count2 .ensures) (c .if2 .taken)
 
 loop-less : tie.Need-loop-less Inv-loop μ-loop
 loop-less c =
-    let w = at-wanted (c .before) in
-    less _ _ (at-loop w .loop .inv) _ (counted w) _ (w .wanted .ensures) (at-else (c .before) .if1 .left) _ _ (goes (c .before)) _
-    (c .before .count2 .ensures) (c .if2 .left)
+    less wanted longestStream (λ s. frame-wants s .total) _ _ (loop-from-loop-less c .loop .inv) _
+    (count-from-loop-less c .count .ensures) _ (wanted-from-loop-less c .wanted .ensures) (if1-from-loop-less c .if1 .left) _ _
+    (read-on-from-loop-less c .read-on .ensures) _ (c .before .count2 .ensures) (c .if2 .left)
 
 loop-again : tie.Need-loop-again Inv-loop μ-loop
-loop-again c = again c
+loop-again c =
+    goes-on wanted longestStream (λ s. frame-wants s .total) _ _ (loop-from-loop-again c .loop .inv) _
+    (count-from-loop-again c .count .ensures) _ (wanted-from-loop-again c .wanted .ensures) (if1-from-loop-again c .if1 .left) _ _
+    (read-on-from-loop-again c .read-on .ensures) _ (c .before .count2 .ensures) (c .if2 .left)
 
 pub read-stream-spec : {M : Type 1} → statement M
 read-stream-spec =

@@ -2,10 +2,13 @@
 use native.Mathlib.Omega.{arith}
 use mathlib.Core.Path.{_≡_, sym, _∙_}
 use mathlib.Core.Bool.{true, false}
+use mathlib.Core.List.{[], _∷_}
 use borrow.Author.Needs.{needs}
 use borrow.Author.Tests.{lt-ltb, le-ltb, not-true, not-false}
+use Rattle.lists.specs.Refusals.{lowest}
 use Rattle.lists.specs.Internal.{Sized}
 use Rattle.image_size.proofs.Judged.{refused, sized, passed}
+use Rattle.pyramid_levels.specs.Refusals.{ask, isLevelBufferShort}
 use Rattle.merge_radius.specs.MergeRadius.{radiusOutside}
 use Rattle.frame_params.specs.Ranges.{parametersFit}
 use Rattle.frame_pass.specs.Refusals.{conditions}
@@ -54,39 +57,32 @@ returns-4 c =
     let else2 = at-else2 (c .before) in
     rw (passed _ _ _ _ (image (at-else1 else2)), fit else2, inside (c .before), lt-ltb _ _ (c .if4 .taken))
 
--- past 8
+-- past 8, what is left of the table
 abbrev at-else3 : tie.After-cells-above → tie.Else3
 at-else3 c = c .before .before
 
-returns-5 : tie.Need-returns-5
+abbrev args : tie.After-cells-above → tie.Start
+args c = at-else1 (at-else2 (at-else3 c)) .before .before
+
+last : (c : tie.After-cells-above)
+    → let a = args c .args in
+    lowest (conditions (a .p) (a .pixels) (a .w) (a .h) (a .cells) (a .places))
+    ≡ lowest ((isLevelBufferShort (ask (a .pixels) (a .places) (a .w) (a .h) (a .p .levels) (a .p .«minimum_side»)), 9) ∷ [])
 unfolding conditions
-returns-5 c =
-    let else3 = at-else3 (c .before) in
+last c =
+    let else3 = at-else3 c in
     let else2 = at-else2 else3 in
-    let s = image (at-else1 else2) in
-    let p = at-else1 else2 .before .before .args .p in
-    rw (
-      passed _ _ _ _ s,
-      fit else2,
-      inside else3,
-      le-ltb _ _ (c .before .before .if4 .left),
-      short p _ _ _ _ s _ (c .before .cells-above .ensures) (c .if5 .taken),
-    )
+    rw (passed _ _ _ _ (image (at-else1 else2)), fit else2, inside else3, le-ltb _ _ (c .before .if4 .left))
+
+returns-5 : tie.Need-returns-5
+returns-5 c =
+    let p = c .before in
+    rw (last p, short (args p .args .p) _ _ _ _ (image (at-else1 (at-else2 (at-else3 p)))) _ (p .cells-above .ensures) (c .if5 .taken))
 
 returns-6 : tie.Need-returns-6
-unfolding conditions
 returns-6 c =
-    let else3 = at-else3 (c .before) in
-    let else2 = at-else2 else3 in
-    let s = image (at-else1 else2) in
-    let p = at-else1 else2 .before .before .args .p in
-    rw (
-      passed _ _ _ _ s,
-      fit else2,
-      inside else3,
-      le-ltb _ _ (c .before .before .if4 .left),
-      enough p _ _ _ _ s _ (c .before .cells-above .ensures) (c .if5 .left),
-    )
+    let p = c .before in
+    rw (last p, enough (args p .args .p) _ _ _ _ (image (at-else1 (at-else2 (at-else3 p)))) _ (p .cells-above .ensures) (c .if5 .left))
 
 pub refusal-spec : {M : Type 1} → statement M
 refusal-spec =

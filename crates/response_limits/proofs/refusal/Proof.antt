@@ -51,52 +51,35 @@ returns-4 c =
       c .if4 .taken,
     )
 
-mul-if5 : tie.Need-mul-if5
-mul-if5 c = let s = image (c .before .before .before .before .before) in omega (arith, area-le _ _ (s .narrow) (s .low))
-
-returns-5 : tie.Need-returns-5
-returns-5 c =
-    let ringed = c .before in
-    let ranged = ringed .before .before in
+-- past the ring, what is left of that
+places : (c : tie.Else4)
+    → let a = c .before .before .before .before .before .before .before .before .before .args in
+    refusalOf (a .low .now) (a .high .now) (a .w) (a .h) (a .ring) (a .lows) (a .highs)
+    ≡ lowest ((ltb (a .lows) (a .w * a .h), 8) ∷ (ltb (a .highs) (a .w * a .h), 8) ∷ [])
+places c =
+    let ranged = c .before .before in
     rw (
       rest (ranged .before .before),
       ← ranged .before .are-crossed .ensures,
       ranged .if3 .left,
-      ← ringed .before .is-ring .ensures,
-      ringed .if4 .left,
-      lt-ltb _ _ (c .if5 .taken),
+      ← c .before .is-ring .ensures,
+      c .if4 .left,
     )
+
+mul-if5 : tie.Need-mul-if5
+mul-if5 c = let s = image (c .before .before .before .before .before) in omega (arith, area-le _ _ (s .narrow) (s .low))
+
+returns-5 : tie.Need-returns-5
+returns-5 c = rw (places (c .before), lt-ltb _ _ (c .if5 .taken))
 
 mul-if6 : tie.Need-mul-if6
 mul-if6 c = let s = image (c .before .before .before .before .before .before) in omega (arith, area-le _ _ (s .narrow) (s .low))
 
 returns-6 : tie.Need-returns-6
-returns-6 c =
-    let ringed = c .before .before in
-    let ranged = ringed .before .before in
-    rw (
-      rest (ranged .before .before),
-      ← ranged .before .are-crossed .ensures,
-      ranged .if3 .left,
-      ← ringed .before .is-ring .ensures,
-      ringed .if4 .left,
-      le-ltb _ _ (c .before .if5 .left),
-      lt-ltb _ _ (c .if6 .taken),
-    )
+returns-6 c = rw (places (c .before .before), le-ltb _ _ (c .before .if5 .left), lt-ltb _ _ (c .if6 .taken))
 
 returns-7 : tie.Need-returns-7
-returns-7 c =
-    let ringed = c .before .before in
-    let ranged = ringed .before .before in
-    rw (
-      rest (ranged .before .before),
-      ← ranged .before .are-crossed .ensures,
-      ranged .if3 .left,
-      ← ringed .before .is-ring .ensures,
-      ringed .if4 .left,
-      le-ltb _ _ (c .before .if5 .left),
-      le-ltb _ _ (c .if6 .left),
-    )
+returns-7 c = rw (places (c .before .before), le-ltb _ _ (c .before .if5 .left), le-ltb _ _ (c .if6 .left))
 
 pub refusal-spec : {M : Type 1} → statement M
 refusal-spec =

@@ -1,9 +1,10 @@
--- `capi_photo::find` meets its contract: the answer of the function that it calls, taken apart. Assumes nothing.
+-- `capi_photo::zakdomp_find_exact_corners_pgm` meets its contract: the answer of the function that it calls, taken apart. Assumes nothing.
 mod Landmarks
 use borrow.Author.Needs.{needs}
+use Rattle.patch_corners.specs.OneMap.{exactChoice}
 use Rattle.capi_photo.proofs.Entries.{photograph-corners}
-use Rattle.capi_photo.proofs.find.Statement.{statement}
-use Rattle.capi_photo.proofs.find.Tie as tie
+use Rattle.capi_photo.proofs.zakdomp_find_exact_corners_pgm.Statement.{statement}
+use Rattle.capi_photo.proofs.zakdomp_find_exact_corners_pgm.Tie as tie
 use Landmarks.*
 
 same-length : tie.Need-same-length
@@ -38,11 +39,13 @@ same-length-10 c = search needs
 
 returns : tie.Need-returns
 returns c =
-    photograph-corners _ _ _ _ _ _ _ _ _ _ _ (find-pgm-corners-by-from-returns c .find-pgm-corners-by .ensures) (c .number-of .ensures)
+    photograph-corners exactChoice _ _ (params-of-from-returns c .params-of .ensures) _ _ _ _ _ _ _ _ _
+    (find-pgm-corners-by-from-returns c .find-pgm-corners-by .ensures) (c .number-of .ensures)
     (count-of-from-returns c .count-of .ensures) (c .before .ties-of .ensures)
 
-pub find-spec : {M : Type 1} → statement M
-find-spec =
+pub zakdomp-find-exact-corners-pgm-spec : {M : Type 1} → statement M
+zakdomp-find-exact-corners-pgm-spec =
     tie.close (tie.spec
-    (λ c κs. search needs) (λ c κs. search needs) (λ c κs. search needs) (λ c κs. search needs) same-length same-length-2 same-length-3
-    same-length-4 same-length-5 same-length-6 same-length-7 same-length-8 same-length-9 same-length-10 returns)
+    (λ c κs. search needs) (λ c κs. search needs) (λ c κs. search needs) (λ c κs. search needs) (λ c κs. search needs) same-length
+    same-length-2 same-length-3 same-length-4 same-length-5 same-length-6 same-length-7 same-length-8 same-length-9 same-length-10
+    returns)
