@@ -10,7 +10,7 @@ use Rattle.ring.specs.Ring.{ringOf}
 use Rattle.ring.specs.Offsets.{offsetsOf}
 use Rattle.ring.specs.declared.RingOffsets.{RingOffsets}
 use Rattle.response.specs.Response.{samples, crossOf}
-use Rattle.response_limits.specs.Limits.{rangeAt, srLeast, drLeast, ringRange, leastDist, times}
+use Rattle.response_limits.specs.Limits.{rangeAt, srLeast, drLeast, ringRange, leastDist, times, lowAt, highAt}
 use Rattle.response_limits.specs.declared.cell.CellSamples.{CellSamples}
 use Rattle.response_limits.specs.declared.cell.CellLimits.{CellLimits}
 
@@ -50,3 +50,8 @@ pub record EdgesCleared (from to n : ℕ) (s : List ℤ) : Type 0 where
   pub long : length s ≡ n
   pub before : take from s ≡ tab from (λ _. pos 0)
   pub behind : drop to s ≡ tab (n - to) (λ _. pos 0)
+
+-- the limits of the cells of row y from column x on, in two buffers that they fill
+pub record CellsWritten (low high : List ℕ) (w h radius x y : ℕ) (lows highs lows′ highs′ : List ℤ) : Type 0 where
+  pub lows-are : lows′ ≡ tab (length lows) (λ i. lowAt low high w h (ringOf radius) (x + i) y)
+  pub highs-are : highs′ ≡ tab (length highs) (λ i. highAt low high w h (ringOf radius) (x + i) y)

@@ -9,7 +9,7 @@ ghost use Rattle.lists.specs.Internal.{Sized};
 ghost use Rattle.ring.specs.Ring.{ringOf};
 ghost use Rattle.response.specs.Internal.{Inner, InnerSpan};
 ghost use Rattle.response_limits.specs.Limits.{lowAt, highAt, lowMap, highMap};
-ghost use Rattle.response_limits.specs.Internal.{ImageWithTable, EdgesCleared};
+ghost use Rattle.response_limits.specs.Internal.{ImageWithTable, CellsWritten, EdgesCleared};
 use crate::cell::difference;
 use crate::cell::limits;
 use crate::cell::samples;
@@ -35,12 +35,8 @@ fn run(
     requires { ⌜ ImageWithTable (now low) w h radius t × ImageWithTable (now high) w h radius t ⌝ }
     requires { ⌜ (length (now lows) ≤ 32) × (length (now highs) ≡ length (now lows)) × (x + length (now lows) ≤ w) ⌝ }
     requires { ⌜ ((i : ℕ) → i < length (now lows) → Inner w h radius (x + i) y) ⌝ }
-    ensures { λ _. ⌜ now (lows .exit)
-        ≡ tab (length (now (lows .entry)))
-        (λ i. lowAt (now (low .entry)) (now (high .entry)) w h (ringOf radius) (x + i) y) ⌝ }
-    ensures { λ _. ⌜ now (highs .exit)
-        ≡ tab (length (now (highs .entry)))
-        (λ i. highAt (now (low .entry)) (now (high .entry)) w h (ringOf radius) (x + i) y) ⌝ }
+    ensures { λ _. ⌜ CellsWritten (now (low .entry)) (now (high .entry)) w h radius x y (now (lows .entry))
+        (now (highs .entry)) (now (lows .exit)) (now (highs .exit)) ⌝ }
 {
     let n = lows.len();
     let mut a = [0u16; 32];
@@ -82,12 +78,8 @@ fn inner(
     requires { ⌜ ImageWithTable (now low) w h radius t × ImageWithTable (now high) w h radius t ⌝ }
     requires { ⌜ (length (now highs) ≡ length (now lows)) × (x + length (now lows) ≤ w) ⌝ }
     requires { ⌜ ((i : ℕ) → i < length (now lows) → Inner w h radius (x + i) y) ⌝ }
-    ensures { λ _. ⌜ now (lows .exit)
-        ≡ tab (length (now (lows .entry)))
-        (λ i. lowAt (now (low .entry)) (now (high .entry)) w h (ringOf radius) (x + i) y) ⌝ }
-    ensures { λ _. ⌜ now (highs .exit)
-        ≡ tab (length (now (highs .entry)))
-        (λ i. highAt (now (low .entry)) (now (high .entry)) w h (ringOf radius) (x + i) y) ⌝ }
+    ensures { λ _. ⌜ CellsWritten (now (low .entry)) (now (high .entry)) w h radius x y (now (lows .entry))
+        (now (highs .entry)) (now (lows .exit)) (now (highs .exit)) ⌝ }
 {
     let n = lows.len();
     let mut i = 0usize;

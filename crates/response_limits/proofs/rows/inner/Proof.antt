@@ -66,9 +66,9 @@ loop-again c =
     let e = p .lesser .ensures in (
       ends p,
       prefix-over _ _ _ _ _ (turn p .loop .inv .1) (le-refl _) _ _ _ (search needs) (ends p)
-          (lows-shifted _ _ _ _ _ _ _ _ _ _ (run .0)) (lows-long p),
+          (lows-shifted _ _ _ _ _ _ _ _ _ _ (run .lows-are)) (lows-long p),
       prefix-over _ _ _ _ _ (turn p .loop .inv .2) (le-refl _) _ _ _ (search needs) (ends p)
-          (highs-shifted _ _ _ _ _ _ _ _ _ _ (run .1)) (highs-long p),
+          (highs-shifted _ _ _ _ _ _ _ _ _ _ (run .highs-are)) (highs-long p),
     )
 
 same-length : tie.Need-same-length Inv-loop μ-loop
@@ -81,7 +81,10 @@ returns : tie.Need-returns Inv-loop μ-loop
 returns c =
     let i = c .before .loop .inv in
     let pre = c .before .before .before .before .pre in
-    (prefix-all _ _ _ _ _ (i .1) (search needs) refl, prefix-all _ _ _ _ _ (i .2) (search needs) (sym (pre .1 .0 .0)))
+    record {
+      lows-are = prefix-all _ _ _ _ _ (i .1) (search needs) refl;
+      highs-are = prefix-all _ _ _ _ _ (i .2) (search needs) (sym (pre .1 .0 .0));
+    }
 
 pub inner-spec : {M : Type 1} → statement M
 inner-spec =

@@ -87,10 +87,10 @@ same-length-2 c = search needs
 
 returns : tie.Need-returns Inv-loop μ-loop Inv-loop2 μ-loop2
 returns c =
-    let i = c .before .loop2 .inv in (
-      prefix-all _ _ _ _ _ (i .1) (search needs) refl,
-      prefix-all _ _ _ _ _ (i .2) (search needs) (sym (c .before .before .before .before .before .before .pre .1 .0 .1)),
-    )
+    let i = c .before .loop2 .inv in record {
+      lows-are = prefix-all _ _ _ _ _ (i .1) (search needs) refl;
+      highs-are = prefix-all _ _ _ _ _ (i .2) (search needs) (sym (c .before .before .before .before .before .before .pre .1 .0 .1));
+    }
 
 pub run-spec : {M : Type 1} → statement M
 run-spec =
