@@ -13,10 +13,11 @@ import sys
 CRATES = pathlib.Path('crates')
 WIDTH = 136
 SEARCHES = 'search needs|omega arith|refl'
+ANSWERS = rf'{SEARCHES}|omega \(arith, [\w-]+ c\)'  # what a closing list may have, also if a need keeps its declaration
 NEED = re.compile(rf'(?<=\n\n)((?!same-length)\S+) : tie\.Need-[^\n]*\n\1((?: \S+)+) = ({SEARCHES})\n\n')
 CLOSING = re.compile(
-    rf'^(\S+) =\s+tie\.close\s+\(tie\.spec((?:\s+(?:[^\s()]+|\(λ [^().]*\. (?:{SEARCHES})\)))+)\)$', re.M)
-PART = re.compile(r'\([^()]*\)|[^\s()]+')
+    rf'^(\S+) =\s+tie\.close\s+\(tie\.spec((?:\s+(?:[^\s()]+|\(λ [^().]*\. (?:{ANSWERS})\)))+)\)$', re.M)
+PART = re.compile(r'\((?:[^()]|\([^()]*\))*\)|[^\s()]+')
 
 
 def mentions(name, text):

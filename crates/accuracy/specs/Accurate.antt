@@ -1,15 +1,14 @@
 -- What is promised about a computed response and its exact value.
-use Prim.Native.Nat.{ℕ, _*_, _<_}
+use Prim.Native.Nat.{ℕ, _*_}
 use mathlib.Core.Path.{_≡_}
 use mathlib.Core.Logic.{_↔_}
-use mathlib.Core.List.{List}
 use lib.Dec.{T}
-use lib.ListN.{getD}
 use lib.IntN.{ℤ, pos, _*ℤ_}
 use lib.Signed.{_<ℤ_}
 use lib.Ieee.{Float, lt}
 use Rattle.float32.specs.Float32.{zero}
 use Rattle.float32.specs.Value.{IsValue, Within, plusPart, minusPart}
+pub use Rattle.response.specs.Response.{Bytes}
 
 -- about the float x, for an exact value of E fifths
 pub record Accurate (x : Float) (E : ℤ) : Type 0 where
@@ -21,7 +20,3 @@ pub record Accurate (x : Float) (E : ℤ) : Type 0 where
   pub level : E ≡ pos 0 → x ≡ zero
   -- if E / 5 is an integer z, x is z
   pub exact : (z : ℤ) → E ≡ pos 5 *ℤ z → IsValue x (plusPart z) (minusPart z) 1
-
--- an image of bytes
-abbrev pub Bytes : List ℕ → Type 0
-Bytes img = (i : ℕ) → getD img i 0 < 256

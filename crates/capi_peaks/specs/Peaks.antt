@@ -1,4 +1,4 @@
--- What `zakdomp_peaks` promises, by the promise of `detect_peaks_from_response_with_refine_radius`.
+-- What `zakdomp_peaks` promises, by the promise of `find_peaks` of `detect`.
 use Prim.Native.Nat.{ℕ}
 use mathlib.Core.Path.{_≡_}
 use mathlib.Core.Bool.{Bool}

@@ -36,8 +36,8 @@ fn ties_of(a: Peaks, before: u64) -> u64
     }
 }
 
-// Writes the peaks of a map after the first `held` corners of a buffer. `added` gets their number, and `ties` the
-// number of their ties.
+// Writes the peaks of a map, by computed values, after the first `held` corners of a buffer. `added` gets their number,
+// and `ties` the number of their ties.
 #[no_mangle]
 pub extern "C" fn zakdomp_peaks(
     map: &[f32],
@@ -64,7 +64,7 @@ pub extern "C" fn zakdomp_peaks(
         r (slices (now (xs .exit)) (now (ys .exit)) (now (strengths .exit)) (now (neighbours .exit)))
         (now (added .exit)) (now (ties .exit)) ⌝ }
 {
-    let a = detect::detect_peaks_from_response_with_refine_radius(
+    let a = detect::find_peaks(
         map,
         w,
         h,
@@ -73,6 +73,7 @@ pub extern "C" fn zakdomp_peaks(
         window,
         least_neighbours,
         centroid_radius,
+        false,
         xs,
         ys,
         strengths,

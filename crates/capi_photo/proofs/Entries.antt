@@ -1,32 +1,26 @@
 -- The promise from that of the function that is called. Assumes nothing.
 use Prim.Native.Nat.{ℕ}
 use mathlib.Core.Path.{_≡_, subst}
-use mathlib.Core.List.{List, [], _∷_}
-use lib.ListN.{length, getD}
-use Rattle.lists.specs.Refusals.{unless}
-use Rattle.lists.proofs.Answers.{answer, value}
+use mathlib.Core.Bool.{Bool}
+use mathlib.Core.List.{List}
+use lib.ListN.{getD}
 use Rattle.frame_params.specs.declared.FrameParams.{FrameParams}
-use Rattle.patch_corners.specs.OneMap.{Choice}
+use Rattle.patch_corners.specs.OneMap.{choiceOf}
 use Rattle.frame.specs.declared.FrameAnswer.{FrameAnswer}
-use Rattle.frame.specs.declared.FrameAnswer.the-variants.{Corners, Refused}
 use Rattle.frame.specs.Frame.{Buffers, numberOf, valuesOf}
+use Rattle.frame.proofs.Apart.{taken-apart}
 use Rattle.pgm_frame.specs.PgmFrame.{passOn, refusalOf, PhotographFound}
 use Rattle.capi_photo.specs.Photographs.{PhotographCorners}
 
-module _ (choice : FrameParams → Choice) (q p : FrameParams) (same : p ≡ q) (upload : List ℕ) (b : Buffers) (count ties : ℕ)
-    (a : FrameAnswer) (r : ℕ) (b′ : Buffers) (count′ ties′ : ℕ) where
-  pub photograph-corners : PhotographFound (choice p) p upload b a b′ → r ≡ numberOf a → count′ ≡ getD (valuesOf a) 0 count
+module _ (exact : Bool) {q p : FrameParams} (same : p ≡ q) {upload : List ℕ} {b b′ : Buffers} {count ties : ℕ}
+    {a : FrameAnswer} {r count′ ties′ : ℕ} where
+  pub photograph-corners : PhotographFound (choiceOf p exact) p upload b a b′ → r ≡ numberOf a → count′ ≡ getD (valuesOf a) 0 count
       → ties′ ≡ getD (valuesOf a) 1 ties
-      → PhotographCorners (choice q) q upload b count ties r b′ count′ ties′
+      → PhotographCorners exact q upload b count ties r b′ count′ ties′
   photograph-corners found n x y =
-      let f = subst (λ (o : FrameParams). PhotographFound (choice o) o upload b a b′) same found in
-      let pass = passOn (choice q) q upload in
-      let number = refusalOf (choice q) q upload b in
-      let corners = length (pass .corners) in
+      let f = subst (λ (o : FrameParams). PhotographFound (choiceOf o exact) o upload b a b′) same found in
       record {
-        answer =
-            subst (λ (o : FrameAnswer). PhotographFound (choice q) q upload b o b′)
-            (answer numberOf a number (f .number) r n (λ k. unless Refused k (Corners corners (pass .ties))) (f .answer)) f;
-        count-is = value numberOf a number (f .number) r n valuesOf (corners ∷ pass .ties ∷ []) (f .values) 0 count count′ x;
-        ties-are = value numberOf a number (f .number) r n valuesOf (corners ∷ pass .ties ∷ []) (f .values) 1 ties ties′ y;
+        parts =
+            taken-apart (λ o. PhotographFound (choiceOf q exact) q upload b o b′) (passOn (choiceOf q exact) q upload)
+            (refusalOf (choiceOf q exact) q upload b) a f (f .number) (f .answer) (f .values) n x y;
       }

@@ -72,7 +72,7 @@ slice-is radius count cs cs′ b b′ n f =
 pub bit-for-bit : BitForBit
 bit-for-bit = record {
   «chess_response_u8_patch» = map-is;
-  «detect_peaks_from_response_with_refine_radius» = λ {m} {w} {h} p. added-are m w h p;
+  «find_peaks» = λ {m} {w} {h} p. added-are m w h p;
   refine = refined-is;
   «build_pyramid» = λ base w h count least d e n f k l.
       level-found base w h count least d e n (built base w h count least d _ e f n refl) k l;

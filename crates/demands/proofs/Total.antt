@@ -58,7 +58,7 @@ use Rattle.corner_strike.specs.declared.striking.Strike.the-variants as struck
 use Rattle.corner_strike.specs.Striking as striking
 use Rattle.corner_strike.specs.Editions.{Edition}
 use Rattle.frame_params.specs.declared.FrameParams.{FrameParams}
-use Rattle.patch_corners.specs.OneMap.{Choice, choiceOf, computedChoice, exactChoice}
+use Rattle.patch_corners.specs.OneMap.{Choice, choiceOf}
 use Rattle.frame_params.specs.Ranges.{parametersFit}
 use Rattle.frame_pass.specs.Refusals.{conditions}
 use Rattle.frame_pass.specs.Pass.{framePass}
@@ -351,7 +351,6 @@ total = record {
   «inner_patch» = λ img w h ring x0 y0 x1 y1 margin d e r f. response-refuses (viewOf img w h ring x0 y0 x1 y1) _ ring d e r f;
   «build_pyramid» = build-refuses;
   «level_at» = level-refuses;
-  «detect_peaks_from_response_with_refine_radius» = search-refuses detect.searchOf;
   «find_peaks» = λ exact. search-refuses (detect.searchBy exact);
   «has_peaks» = λ m w h ring t window least radius wanted r f. unfold detect.conditions in
       (enough-refuses (detect.conditions (length m) w h ring window radius) m _ wanted r f);
@@ -368,13 +367,9 @@ total = record {
   «merge_corner_slice» = λ radius count cs cs′ b b′ r f. slice-refuses radius count cs b _ r (f .answer);
   «show_corner» = show-refuses;
   «strike_corner» = strike-refuses;
-  «find_corners» = frame-refuses computedChoice;
-  «find_exact_corners» = frame-refuses exactChoice;
-  «find_corners_by» = λ exact. frame-refuses (λ p. choiceOf p exact);
+  «find_corners» = λ exact. frame-refuses (λ p. choiceOf p exact);
   «read_pgm» = pgm-refuses;
-  «find_pgm_corners» = photograph-refuses computedChoice;
-  «find_exact_pgm_corners» = photograph-refuses exactChoice;
-  «find_pgm_corners_by» = λ exact. photograph-refuses (λ p. choiceOf p exact);
+  «find_pgm_corners» = λ exact. photograph-refuses (λ p. choiceOf p exact);
   «read_frame» = stream-refuses;
   «write_frame» = writer-refuses;
   «write_corners» = listing-refuses;

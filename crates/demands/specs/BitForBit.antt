@@ -41,8 +41,8 @@ use Rattle.frame.specs.Frame.{passOf}
 pub record BitForBit : Type 0 where
   -- "Response maps": at the start of the buffer, in row order
   pub «chess_response_u8_patch» : (c : ResponseCall) → mapOf c ≡ cells (viewIn c)
-  -- "peaks": after the corners that the buffer held
-  pub «detect_peaks_from_response_with_refine_radius» : {m : List Float} {w h : ℕ} (p : PeakCall m w h)
+  -- "peaks": after the corners that the buffer held, by computed values
+  pub «find_peaks» : {m : List Float} {w h : ℕ} (p : PeakCall m w h)
       → programList p ≡ startsIn m (searchIn p)
   -- "centroids"
   pub refine : (radius : ℕ) (x y : Float) (hasMap : Bool) (m : List Float) (w h : ℕ) (r : Outcome)

@@ -25,8 +25,8 @@ use Rattle.frame.specs.Frame.{Buffers, FrameFound}
 use Rattle.demands.specs.PeakCall.{PeakCall, searchIn}
 use Rattle.demands.specs.PeaksAlike.{programList, position, nameOf}
 
--- a call that finished, with its promise word for word: of `find_corners`, which chooses by computed values, or of
--- `find_exact_corners`
+-- a call of `find_corners` that finished, with its promise word for word: by computed or by exact values, as its flag
+-- says
 pub record CallBy (choose : FrameParams → Choice) : Type 0 where
   pub parameters : FrameParams
   pub img : List ℕ

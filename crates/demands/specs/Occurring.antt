@@ -27,9 +27,10 @@ use Rattle.corner_strike.specs.Editions.{Edition, edition}
 use Rattle.corner_strike.specs.Showing as showing
 use Rattle.corner_strike.specs.Striking as striking
 use Rattle.frame_params.specs.declared.FrameParams.{FrameParams}
-use Rattle.patch_corners.specs.OneMap.{Choice, choiceOf, computedChoice, exactChoice}
+use Rattle.frame_params.specs.Params.{params}
+use Rattle.patch_corners.specs.OneMap.{Choice, choiceOf}
 use Rattle.patch_corners.specs.MapCorners.{centresIn, centresInRows}
-use Rattle.frame.specs.Frame.{Buffers, buffers, params}
+use Rattle.frame.specs.Frame.{Buffers, buffers}
 use Rattle.frame.specs.Frame as frame
 use Rattle.pgm.specs.Pgm as pgm
 use Rattle.pgm_frame.specs.PgmFrame as photograph
@@ -234,8 +235,6 @@ occurring =
     ∷ row (build [] 4097 0 [] ∷ build [] 1 1 [] ∷ build (replicate 4 0) 2 2 [] ∷ []) (1 ∷ 2 ∷ 9 ∷ [])
     -- level_at
     ∷ row (level 0 0 4097 0 0 ∷ level 0 0 1 1 0 ∷ level 0 0 0 0 2 ∷ level 4 0 2 2 0 ∷ []) (1 ∷ 2 ∷ 3 ∷ 9 ∷ [])
-    -- detect_peaks_from_response_with_refine_radius
-    ∷ row (peakNumbers (peaks detect.searchOf)) (1 ∷ 2 ∷ 3 ∷ 10 ∷ [])
     -- find_peaks, by computed and by exact values
     ∷ row (peakNumbers (peaks (detect.searchBy false))) (1 ∷ 2 ∷ 3 ∷ 10 ∷ [])
     ∷ row (peakNumbers (peaks (detect.searchBy true))) (1 ∷ 2 ∷ 3 ∷ 10 ∷ [])
@@ -270,21 +269,13 @@ occurring =
     ∷ strike (onePlace zero) (edition 1 4294967295) 0 4294967295
     ∷ [])
     (10 ∷ 16 ∷ 17 ∷ 18 ∷ [])
-    -- find_corners
-    ∷ row (frameNumbers computedChoice) (1 ∷ 2 ∷ 3 ∷ 5 ∷ 8 ∷ 9 ∷ 10 ∷ [])
-    -- find_exact_corners
-    ∷ row (frameNumbers exactChoice) (1 ∷ 2 ∷ 3 ∷ 5 ∷ 8 ∷ 9 ∷ 10 ∷ [])
-    -- find_corners_by, by computed and by exact values
+    -- find_corners, by computed and by exact values
     ∷ row (frameNumbers (λ p. choiceOf p false)) (1 ∷ 2 ∷ 3 ∷ 5 ∷ 8 ∷ 9 ∷ 10 ∷ [])
     ∷ row (frameNumbers (λ p. choiceOf p true)) (1 ∷ 2 ∷ 3 ∷ 5 ∷ 8 ∷ 9 ∷ 10 ∷ [])
     -- read_pgm
     ∷ row (pgm.refusalOf (bytesOf "P5 4097 0") ∷ pgm.refusalOf [] ∷ pgm.refusalOf (bytesOf "P5 0 0 0\n") ∷ [])
     (1 ∷ 12 ∷ 13 ∷ [])
-    -- find_pgm_corners
-    ∷ row (photographNumbers computedChoice) (1 ∷ 3 ∷ 5 ∷ 8 ∷ 9 ∷ 10 ∷ 12 ∷ 13 ∷ [])
-    -- find_exact_pgm_corners
-    ∷ row (photographNumbers exactChoice) (1 ∷ 3 ∷ 5 ∷ 8 ∷ 9 ∷ 10 ∷ 12 ∷ 13 ∷ [])
-    -- find_pgm_corners_by, by computed and by exact values
+    -- find_pgm_corners, by computed and by exact values
     ∷ row (photographNumbers (λ p. choiceOf p false)) (1 ∷ 3 ∷ 5 ∷ 8 ∷ 9 ∷ 10 ∷ 12 ∷ 13 ∷ [])
     ∷ row (photographNumbers (λ p. choiceOf p true)) (1 ∷ 3 ∷ 5 ∷ 8 ∷ 9 ∷ 10 ∷ 12 ∷ 13 ∷ [])
     -- read_frame

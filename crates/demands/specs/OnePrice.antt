@@ -1,6 +1,6 @@
 -- The exact pass as a program (RULES 34): "A corner tipped over by rounding puts two prices on one photograph." A call
--- of `find_exact_corners` has the exact list, so comparing it with a call of `find_corners` on the same frame tells
--- whether rounding tipped a corner.
+-- of `find_corners` by exact values has the exact list, so comparing it with one by computed values on the same frame
+-- tells whether rounding tipped a corner.
 use Prim.Native.Nat.{ℕ}
 use mathlib.Core.Path.{_≡_}
 use mathlib.Core.Logic.{_↔_}
@@ -14,7 +14,7 @@ use Rattle.patch_corners.specs.OneMap.{exactChoice}
 use Rattle.frame_pass.specs.Pass.{Pass, framePass}
 use Rattle.demands.specs.FrameExact.{CallBy, FrameCall, frameList, exactCorners, mapsIn, Alike, WithoutTie}
 
--- a call of `find_exact_corners` that finished
+-- a call of `find_corners` by exact values that finished
 abbrev pub ExactCall : Type 0
 ExactCall = CallBy exactChoice
 

@@ -1,5 +1,5 @@
--- A call of `detect_peaks_from_response_with_refine_radius` on a map m of w by h cells that added corners to its
--- buffer, with its promise word for word.
+-- A call of `find_peaks` by computed values, on a map m of w by h cells, that added corners to its buffer, with its
+-- promise word for word.
 use Prim.Native.Nat.{ℕ}
 use mathlib.Core.List.{List}
 use lib.ListN.{length}

@@ -1,6 +1,6 @@
--- Request 1, "PGM photographs": what a call of `find_pgm_corners` or `find_exact_pgm_corners` leaves is what the frame
--- of the upload's pixels leaves, so demands 2 and 3 hold for it; and what the reader `read_pgm` makes of uploads.
--- `Total` says which numbers they give.
+-- Request 1, "PGM photographs": what a call of `find_pgm_corners` leaves is what the frame of the upload's pixels
+-- leaves, so demands 2 and 3 hold for it; and what the reader `read_pgm` makes of uploads. `Total` says which numbers
+-- they give.
 use Prim.Native.Nat.{ℕ, _+_, _*_, _≤_}
 use mathlib.Core.Path.{_≡_}
 use mathlib.Core.List.{List, [], _∷_, _++_, map}
@@ -23,8 +23,8 @@ use Rattle.demands.specs.Texts.{bytesOf}
 
 -- ---- the frame of a photograph
 
--- a call that finished, with its promise word for word: of `find_pgm_corners`, which chooses by computed values, or of
--- `find_exact_pgm_corners`
+-- a call of `find_pgm_corners` that finished, with its promise word for word: by computed or by exact values, as its
+-- flag says
 pub record PhotographCall (choose : FrameParams → Choice) : Type 0 where
   pub parameters : FrameParams
   pub upload : List ℕ
@@ -37,8 +37,8 @@ pub record PhotographCall (choose : FrameParams → Choice) : Type 0 where
   pub ties : ℕ
   pub promise : PhotographFound (choose parameters) parameters upload before (Corners count ties) after
 
--- "The frame is the image's pixels": it is a call of `find_corners` or `find_exact_corners` on them (`CallBy`), to
--- which demands 2 and 3 and request 14 apply
+-- "The frame is the image's pixels": it is a call of `find_corners` on them (`CallBy`), to which demands 2 and 3 and
+-- request 14 apply
 pub record OnPixels {choose : FrameParams → Choice} (c : PhotographCall choose) : Type 0 where
   pub accepted : refusalOf (c .upload) ≡ 0
   pub pixels : Bytes (pixelsIn (c .upload))
@@ -82,8 +82,7 @@ pub record BehindUnread : Type 0 where
   -- in what the reader makes of it
   pub reader : (upload : List ℕ) → refusalOf upload ≡ 0 → (behind : List ℕ)
       → ReadAs (withBehind upload behind) (rasterAt upload) (widthOf upload) (heightOf upload) (pixelsIn upload)
-  -- and in what a call of `find_pgm_corners` or `find_exact_pgm_corners` answers and leaves in the same buffers,
-  -- finished or not
+  -- and in what a call of `find_pgm_corners` answers and leaves in the same buffers, finished or not
   pub frame : (choose : Choice) (p : FrameParams) (upload : List ℕ) → refusalOf upload ≡ 0
       → (behind : List ℕ) (b b₁ b₂ : Buffers) (r₁ r₂ : FrameAnswer)
       → PhotographFound choose p upload b r₁ b₁ → PhotographFound choose p (withBehind upload behind) b r₂ b₂

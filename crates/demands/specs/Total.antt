@@ -78,7 +78,7 @@ use Rattle.corner_strike.specs.declared.striking.Strike.{Strike}
 use Rattle.corner_strike.specs.declared.striking.Strike.the-variants as striking
 use Rattle.corner_strike.specs.Striking.{Strikes}
 use Rattle.frame_params.specs.declared.FrameParams.{FrameParams}
-use Rattle.patch_corners.specs.OneMap.{Choice, choiceOf, computedChoice, exactChoice}
+use Rattle.patch_corners.specs.OneMap.{Choice, choiceOf}
 use Rattle.patch_corners.specs.MapCorners.{CornersAdded, RowCornersAdded}
 use Rattle.frame.specs.declared.FrameAnswer.{FrameAnswer}
 use Rattle.frame.specs.declared.FrameAnswer.the-variants as frame
@@ -147,7 +147,6 @@ pub record Total : Type 0 where
       → Refuses pyramid.Refused (1 ∷ 2 ∷ 9 ∷ []) r
   pub «level_at» : (a : Ask) (k : ℕ) (r : LevelAnswer) → LevelFound a k r
       → Refuses levels.Refused (1 ∷ 2 ∷ 3 ∷ 9 ∷ []) r
-  pub «detect_peaks_from_response_with_refine_radius» : PeaksRefuse detect.searchOf
   pub «find_peaks» : (exact : Bool) → PeaksRefuse (detect.searchBy exact)
   pub «has_peaks» : (m : List Float) (w h ring : ℕ) (threshold : Float) (window least radius wanted : ℕ) (r : Enough)
       → HasPeaks m w h ring threshold window least radius wanted r
@@ -185,14 +184,10 @@ pub record Total : Type 0 where
   pub «strike_corner» : (b b′ : Slices) (e e′ : Edition) (place change : ℕ) (r : Strike)
       → Strikes b e place change r b′ e′
       → Refuses striking.Refused (10 ∷ 16 ∷ 17 ∷ 18 ∷ []) r
-  pub «find_corners» : FrameRefuses computedChoice
-  pub «find_exact_corners» : FrameRefuses exactChoice
-  pub «find_corners_by» : (exact : Bool) → FrameRefuses (λ p. choiceOf p exact)
+  pub «find_corners» : (exact : Bool) → FrameRefuses (λ p. choiceOf p exact)
   pub «read_pgm» : (upload : List ℕ) (r : PgmImage) → PgmRead upload r
       → Refuses pgm.Refused (1 ∷ 12 ∷ 13 ∷ []) r
-  pub «find_pgm_corners» : PhotographRefuses computedChoice
-  pub «find_exact_pgm_corners» : PhotographRefuses exactChoice
-  pub «find_pgm_corners_by» : (exact : Bool) → PhotographRefuses (λ p. choiceOf p exact)
+  pub «find_pgm_corners» : (exact : Bool) → PhotographRefuses (λ p. choiceOf p exact)
   pub «read_frame» : (input pixels pixels′ : List ℕ) (r : FrameStream) → FrameRead input pixels r pixels′
       → Refuses stream.Refused (1 ∷ 3 ∷ 5 ∷ 6 ∷ 7 ∷ 11 ∷ []) r
   pub «write_frame» : (h : Header) (pixels out out′ : List ℕ) (r : FrameWriting) → FrameWritten h pixels out r out′

@@ -19,7 +19,7 @@ use Rattle.detect.specs.declared.Search.{Search}
 use Rattle.detect.specs.declared.searching.Spot.{Spot}
 use Rattle.detect.specs.Detect.{readIn, peaksIn}
 use Rattle.detect.specs.Internal.{place, placeBehind, placeOf, spotOf, startOf, peaksFrom, Searchable, NextFound, SpotInRange}
-use Rattle.detect.specs.Internal.{Numbered}
+use Rattle.detect.specs.Internal.{counts, Numbered}
 use Rattle.detect.specs.Internal.{PeaksListed, IsSearchStart, NextListed}
 use Rattle.detect.proofs.Cells.{inside-few}
 use Rattle.detect.proofs.Choice.{peaks-at-most}
@@ -40,20 +40,20 @@ abbrev atNumber : Spot → ℕ
 atNumber f = f .y * 4096 + f .x
 
 abbrev countedNumber : Spot → ℕ
-countedNumber f = atNumber f * 2048 + f .neighbours
+countedNumber f = atNumber f * counts + f .neighbours
 
-spot-number : (f : Spot) → SpotInRange f → spotOf (countedNumber f * 2048 + f .ties) ≡ f
+spot-number : (f : Spot) → SpotInRange f → spotOf (countedNumber f * counts + f .ties) ≡ f
 spot-number f k =
     rw (
-      high 2048 (countedNumber f) (f .ties) (k .ties),
-      low 2048 (countedNumber f) (f .ties) (k .ties),
-      high 2048 (atNumber f) (f .neighbours) (k .neighbours),
-      low 2048 (atNumber f) (f .neighbours) (k .neighbours),
+      high counts (countedNumber f) (f .ties) (k .ties),
+      low counts (countedNumber f) (f .ties) (k .ties),
+      high counts (atNumber f) (f .neighbours) (k .neighbours),
+      low counts (atNumber f) (f .neighbours) (k .neighbours),
       low 4096 (f .y) (f .x) (k .x),
       high 4096 (f .y) (f .x) (k .x),
     )
 
-pub numbered-here : (f : Spot) (y1 : ℕ) → SpotInRange f → f .y < y1 → Numbered f y1 (countedNumber f * 2048 + f .ties)
+pub numbered-here : (f : Spot) (y1 : ℕ) → SpotInRange f → f .y < y1 → Numbered f y1 (countedNumber f * counts + f .ties)
 numbered-here f y1 k i = record { here = λ _. spot-number f k; past = λ o. absurd (let no : ⊥ = omega arith in no) }
 
 -- a peak has a number of its own

@@ -6,7 +6,7 @@ use mathlib.Core.List.{List, [], _∷_, _++_}
 use lib.ListN.{length, getD}
 use lib.Dec.{ltb}
 use lib.Ieee.{Float, nan, lt, le, eq}
-use Rattle.lists.specs.Limits.{largestSide, largestBorder}
+use Rattle.lists.specs.Limits.{largestSide, largestRadius, largestBorder}
 use Rattle.lists.specs.Places.{Place, row, block, any, keep, count}
 use Rattle.float32.specs.Float32 as float32
 use Rattle.detect.specs.declared.Search.{Search}
@@ -34,11 +34,15 @@ pub record Searchable (m : List Float) (s : Search) : Type 0 where
   pub size : length m ≡ s .w * s .h
   pub wide : s .w ≤ largestSide
   pub high : s .h ≤ largestSide
-  pub radius : s .window ≤ 16
+  pub radius : s .window ≤ largestRadius
   pub inside : s .window ≤ s .border
   pub narrow : s .border ≤ largestBorder
 
 -- ---- the window
+
+-- the cells of a row of the largest one
+abbrev pub largestRow : ℕ
+largestRow = 2 * largestRadius + 1
 
 -- whether a cell of value u is counted for a centre of value v: it is above 0, it is at least v, or it equals v
 abbrev pub isCounted : Asked → Float → Float → Bool
@@ -85,6 +89,10 @@ numberOf (Peak n k) = 0
 abbrev pub valuesOf : PeakTest → List ℕ
 valuesOf No = []
 valuesOf (Peak n k) = n ∷ k ∷ []
+
+-- how many cells are compared at a time
+abbrev pub runCells : ℕ
+runCells = 16
 
 -- the first n cells are at or below t
 pub record Below (cells : List Float) (t : Float) (n : ℕ) : Type 0 where
@@ -141,23 +149,26 @@ pub record NextFound (m : List Float) (s : Search) (p : Place) (f : Spot) : Type
 abbrev pub placeBehind : Place → Place
 placeBehind p = place (p .x + 1) (p .y)
 
--- the peak that a number encodes: each count has 2,048 numbers, more than a window has cells, and a row 4,096 places,
--- as many as the largest side
+-- how many numbers a count has: more than a window has cells
+abbrev pub counts : ℕ
+counts = 2048
+
+-- the peak that a number encodes; a row has as many places as the largest side
 abbrev pub spotOf : ℕ → Spot
 spotOf a =
     record {
-      x = a / 2048 / 2048 % largestSide;
-      y = a / 2048 / 2048 / largestSide;
-      neighbours = a / 2048 % 2048;
-      ties = a % 2048;
+      x = a / counts / counts % largestSide;
+      y = a / counts / counts / largestSide;
+      neighbours = a / counts % counts;
+      ties = a % counts;
     }
 
 -- f has a number of its own
 pub record SpotInRange (f : Spot) : Type 0 where
   pub x : f .x < largestSide
   pub y : f .y < largestSide
-  pub neighbours : f .neighbours < 2048
-  pub ties : f .ties < 2048
+  pub neighbours : f .neighbours < counts
+  pub ties : f .ties < counts
 
 -- a is the number of f or, from row y1 on, that of a place past the last row of any map
 pub record Numbered (f : Spot) (y1 a : ℕ) : Type 0 where

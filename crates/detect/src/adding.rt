@@ -23,11 +23,11 @@ use corner_list::Corner;
 
 // The number of peaks that the small and the large table hold, and the least number of cells of a map that gets the
 // large one. For a smaller map, clearing the large table would take longer than the search.
-const FEW: usize = 512;
+pub(crate) const FEW: usize = 512;
 
-const MANY: usize = 4096;
+pub(crate) const MANY: usize = 4096;
 
-const LARGE_MAP: usize = 65536;
+pub(crate) const LARGE_MAP: usize = 65536;
 
 // A column or a row as a coordinate.
 fn coordinate(n: usize) -> f32
@@ -140,7 +140,7 @@ fn are_too_many(map: &[f32], s: Search, table: &[u64], n: usize, places: usize, 
 // Adds the corners that the peaks start as to a buffer, after the first `held`, and sums their ties. The map is
 // searched once if the table has a place for each peak. Peaks that do not fit the table are searched for again to write
 // them.
-fn add_peaks(
+pub(crate) fn add_peaks(
     map: &[f32],
     s: Search,
     table: &mut [u64],
@@ -176,63 +176,4 @@ fn add_peaks(
         x = p.x + 1;
         y = p.y;
     }
-}
-
-// The same with a table of 4 KB.
-fn add_few(
-    map: &[f32],
-    s: Search,
-    xs: &mut [f32],
-    ys: &mut [f32],
-    strengths: &mut [f32],
-    neighbours: &mut [u32],
-    held: usize,
-) -> Peaks
-    requires { ⌜ Searchable (now map) s ⌝ }
-    ensures { λ r. ⌜ PeaksAdded [] (startsIn (now (map .entry)) s) (tiesIn (now (map .entry)) s) held
-        (slices (now (xs .entry)) (now (ys .entry)) (now (strengths .entry)) (now (neighbours .entry)))
-        r (slices (now (xs .exit)) (now (ys .exit)) (now (strengths .exit)) (now (neighbours .exit))) ⌝ }
-{
-    let mut table = [0u64; FEW];
-    add_peaks(map, s, &mut table, xs, ys, strengths, neighbours, held)
-}
-
-// The same with a table of 32 KB.
-fn add_many(
-    map: &[f32],
-    s: Search,
-    xs: &mut [f32],
-    ys: &mut [f32],
-    strengths: &mut [f32],
-    neighbours: &mut [u32],
-    held: usize,
-) -> Peaks
-    requires { ⌜ Searchable (now map) s ⌝ }
-    ensures { λ r. ⌜ PeaksAdded [] (startsIn (now (map .entry)) s) (tiesIn (now (map .entry)) s) held
-        (slices (now (xs .entry)) (now (ys .entry)) (now (strengths .entry)) (now (neighbours .entry)))
-        r (slices (now (xs .exit)) (now (ys .exit)) (now (strengths .exit)) (now (neighbours .exit))) ⌝ }
-{
-    let mut table = [0u64; MANY];
-    add_peaks(map, s, &mut table, xs, ys, strengths, neighbours, held)
-}
-
-// The same with the table that suits the size of the map.
-pub(crate) fn add_by_table(
-    map: &[f32],
-    s: Search,
-    xs: &mut [f32],
-    ys: &mut [f32],
-    strengths: &mut [f32],
-    neighbours: &mut [u32],
-    held: usize,
-) -> Peaks
-    requires { ⌜ Searchable (now map) s ⌝ }
-    ensures { λ r. ⌜ PeaksAdded [] (startsIn (now (map .entry)) s) (tiesIn (now (map .entry)) s) held
-        (slices (now (xs .entry)) (now (ys .entry)) (now (strengths .entry)) (now (neighbours .entry)))
-        r (slices (now (xs .exit)) (now (ys .exit)) (now (strengths .exit)) (now (neighbours .exit))) ⌝ }
-{
-    if map.len() < LARGE_MAP {
-        return add_few(map, s, xs, ys, strengths, neighbours, held);
-    }
-    add_many(map, s, xs, ys, strengths, neighbours, held)
 }

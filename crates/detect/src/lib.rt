@@ -15,7 +15,11 @@ ghost use Rattle.float32.specs.Float32.{lift};
 ghost use Rattle.detect.specs.Fifths.{betweenFifths};
 ghost use Rattle.lists.specs.Refusals.{lowest};
 ghost use Rattle.corner_list.specs.CornerList.{slices};
-ghost use Rattle.detect.specs.Detect.{searchBy, searchOf, startsIn, tiesIn, conditions, PeaksAdded};
+ghost use Rattle.detect.specs.Detect.{searchBy, startsIn, tiesIn, conditions, PeaksAdded};
+use adding::FEW;
+use adding::LARGE_MAP;
+use adding::MANY;
+use adding::add_peaks;
 
 // What a map is searched with: its sides, the border that no peak lies in, the window's radius, the lifted threshold,
 // the least number of positive neighbours, and whether peaks are chosen by exact values. Public because the promise
@@ -96,7 +100,7 @@ fn search_of(
 
 // Finds the peaks of a map of w by h, in row order, adds the corners that they start as to a buffer, after the first
 // `held`, and sums their ties. With `exact` the peaks of a response map are those of its exact values (RULES 34). The
-// table of the first peaks is on the stack: 4 KB for a map with fewer than 65,536 cells, 32 KB for a larger one.
+// table of the first peaks is on the stack, where both have a place: 4 KB for a small map, 32 KB for a larger one.
 pub fn find_peaks(
     map: &[f32],
     w: usize,
@@ -133,45 +137,10 @@ pub fn find_peaks(
         refine_radius,
         exact,
     );
-    adding::add_by_table(map, s, xs, ys, strengths, neighbours, held)
-}
-
-// The same, with peaks chosen by computed values.
-pub fn detect_peaks_from_response_with_refine_radius(
-    map: &[f32],
-    w: usize,
-    h: usize,
-    ring: u32,
-    threshold: f32,
-    window: u32,
-    least_neighbours: u32,
-    refine_radius: u32,
-    xs: &mut [f32],
-    ys: &mut [f32],
-    strengths: &mut [f32],
-    neighbours: &mut [u32],
-    held: usize,
-) -> Peaks
-    ensures { λ r. ⌜ PeaksAdded (conditions (length (now (map .entry))) w h ring window «refine_radius»)
-        (startsIn (now (map .entry)) (searchOf w h ring threshold window «least_neighbours» «refine_radius»))
-        (tiesIn (now (map .entry)) (searchOf w h ring threshold window «least_neighbours» «refine_radius»))
-        held (slices (now (xs .entry)) (now (ys .entry)) (now (strengths .entry)) (now (neighbours .entry)))
-        r (slices (now (xs .exit)) (now (ys .exit)) (now (strengths .exit)) (now (neighbours .exit))) ⌝ }
-{
-    find_peaks(
-        map,
-        w,
-        h,
-        ring,
-        threshold,
-        window,
-        least_neighbours,
-        refine_radius,
-        false,
-        xs,
-        ys,
-        strengths,
-        neighbours,
-        held,
-    )
+    if map.len() < LARGE_MAP {
+        let mut table = [0u64; FEW];
+        return add_peaks(map, s, &mut table, xs, ys, strengths, neighbours, held);
+    }
+    let mut table = [0u64; MANY];
+    add_peaks(map, s, &mut table, xs, ys, strengths, neighbours, held)
 }

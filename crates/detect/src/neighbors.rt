@@ -11,7 +11,7 @@ ghost use Rattle.detect.specs.Peaks.{valueAt, slack, largerBy, beaten, t
 ghost use Rattle.detect.specs.Internal.{Inside};
 ghost use Rattle.detect.specs.declared.WindowTest.the-variants.{Top};
 ghost use Rattle.detect.specs.Detect.{neighboursAt, testAt, WindowTested};
-ghost use Rattle.detect.specs.Internal.{place, Searchable, isCounted, countedAt, withWindow, Beside};
+ghost use Rattle.detect.specs.Internal.{place, Searchable, largestRow, isCounted, countedAt, withWindow, Beside};
 use crate::Search;
 use crate::WindowTest;
 
@@ -64,7 +64,7 @@ fn is_counted(asked: Asked, v: f32, u: f32) -> bool
 
 // How many of the cells are counted.
 fn count_cells(cells: &[f32], asked: Asked, v: f32) -> u32
-    requires { ⌜ length (now cells) ≤ 33 ⌝ }
+    requires { ⌜ length (now cells) ≤ largestRow ⌝ }
     ensures { λ n. ⌜ n ≡ count (isCounted asked v) (now (cells .entry)) ⌝ }
 {
     let mut n: u32 = 0;

@@ -8,8 +8,8 @@ ghost use Rattle.lists.specs.Limits.{largestSide};
 ghost use Rattle.lists.specs.Places.{count};
 ghost use Rattle.detect.specs.Peaks.{valueAt, isLow};
 ghost use Rattle.detect.specs.Internal.{Inside};
-ghost use Rattle.detect.specs.Internal.{place, peakTest, Searchable, Below, LowRow, LowRows, PlacesSkipped};
-ghost use Rattle.detect.specs.Internal.{NextFound};
+ghost use Rattle.detect.specs.Internal.{place, peakTest, Searchable, runCells, Below, LowRow, LowRows};
+ghost use Rattle.detect.specs.Internal.{PlacesSkipped, NextFound};
 use crate::Search;
 use crate::neighbors::Asked;
 use crate::neighbors::count_neighbors;
@@ -18,6 +18,15 @@ use crate::neighbors::is_beaten;
 use crate::neighbors::is_overtopped;
 use crate::neighbors::ties_of;
 use crate::neighbors::window_test;
+
+// How many cells are compared at a time: as many as pay, on boards and in noise (docs/changes/peaks.md).
+const RUN: usize = 16;
+
+// The weight of the first of them.
+const HEAVIEST: u8 = RUN as u8;
+
+// From this width on it pays to test a whole row first.
+const WIDE_MAP: usize = 2048;
 
 // What a search found: a place of the map, column x of row y, and how many positive neighbours and ties the peak there
 // has.
@@ -90,14 +99,14 @@ pub(crate) fn count_low(cells: &[f32], t: f32) -> u32
     n
 }
 
-// How many cells at the start are at or below t, counted in whole blocks of 16.
+// How many cells at the start are at or below t, counted in whole runs.
 fn blocks_below(cells: &[f32], t: f32) -> usize
     ensures { λ n. ⌜ Below (now (cells .entry)) t n ⌝ }
 {
     let mut i = 0;
-    while 16 <= cells.len() - i {
-        let e = i + 16;
-        if count_low(&cells[i..e], t) != 16 {
+    while RUN <= cells.len() - i {
+        let e = i + RUN;
+        if count_low(&cells[i..e], t) as usize != RUN {
             return i;
         }
         i = e;
@@ -119,20 +128,20 @@ fn heavier(a: u8, b: u8) -> u8
     if a < b { b } else { a }
 }
 
-// How many of 16 cells come before the first that is not at or below t: that cell has the greatest weight. The loop has
-// no early exit, so that a compiler can compare several cells at a time and no branch has to be predicted.
+// How many cells of a run come before the first that is not at or below t: that cell has the greatest weight. The loop
+// has no early exit, so that a compiler can compare several cells at a time and no branch has to be predicted.
 fn front_below(cells: &[f32], t: f32) -> usize
-    requires { ⌜ length (now cells) ≡ 16 ⌝ }
+    requires { ⌜ length (now cells) ≡ runCells ⌝ }
     ensures { λ n. ⌜ Below (now (cells .entry)) t n ⌝ }
 {
     let mut greatest: u8 = 0;
     let mut i: u8 = 0;
-    while i < 16 {
+    while i < HEAVIEST {
         let at = i as usize;
-        greatest = heavier(greatest, weight_of(cells[at], t, 16 - i));
+        greatest = heavier(greatest, weight_of(cells[at], t, HEAVIEST - i));
         i += 1;
     }
-    (16 - greatest) as usize
+    (HEAVIEST - greatest) as usize
 }
 
 // Whether the first of the cells is above t. A fast path; correctness does not depend on it.
@@ -151,8 +160,8 @@ fn cells_below(cells: &[f32], t: f32) -> usize
         return 0;
     }
     let mut n = blocks_below(cells, t);
-    if 16 <= cells.len() - n {
-        let e = n + 16;
+    if RUN <= cells.len() - n {
+        let e = n + RUN;
         return n + front_below(&cells[n..e], t);
     }
     while n < cells.len() {
@@ -173,7 +182,7 @@ fn is_low_row(map: &[f32], s: Search, y: usize) -> bool
     ensures { λ b. ⌜ (b ≡ true → LowRow (now (map .entry)) s y) ⌝ }
 {
     let w = s.w;
-    if w < 2048 {
+    if w < WIDE_MAP {
         return false;
     }
     if numbers::minus(s.h + s.window, s.border) <= y {

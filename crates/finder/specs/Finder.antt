@@ -8,8 +8,9 @@ use Rattle.lists.specs.Refusals.{unless}
 use Rattle.float32.specs.Float32 as float32
 use Rattle.corner_list.specs.CornerList.{Slices, slices}
 use Rattle.frame_params.specs.declared.FrameParams.{FrameParams}
+use Rattle.frame_params.specs.Params.{params}
 use Rattle.patch_corners.specs.OneMap.{computedChoice}
-use Rattle.frame.specs.Frame.{Buffers, buffers, params, refusalOf, passOf}
+use Rattle.frame.specs.Frame.{Buffers, buffers, refusalOf, passOf}
 use Rattle.stream.specs.declared.Header.{Header}
 use Rattle.stream.specs.Stream.{mostPixels, Reading, accepted, refused, readFrame}
 use Rattle.listing.specs.Text.{cornersText, refusedText}

@@ -67,11 +67,12 @@ fn list_frame(pixels: &[u8], header: Header, out: &mut [u8; LONGEST]) -> usize
     let mut cy = [0.0f32; MOST_CORNERS];
     let mut cs = [0.0f32; MOST_CORNERS];
     let mut cn = [0u32; MOST_CORNERS];
-    let answer = frame_choice::find_corners(
+    let answer = frame::find_corners(
         pixels,
         header.width,
         header.height,
         params_of(header),
+        false,
         &mut map,
         &mut levels,
         &mut sx,

@@ -8,3 +8,4 @@ pub mod Levels
 pub mod Entry
 pub mod Callers
 pub mod InBands
+pub mod Apart

@@ -7,7 +7,7 @@ use lib.ListN.{length, replicate}
 use lib.Dec.{ltb, eqb}
 use lib.Ieee.{Float}
 use Rattle.lists.specs.Buffer.{front, wipedFrom}
-use Rattle.lists.specs.Refusals.{lowest, valuesUnless, unless}
+use Rattle.lists.specs.Refusals.{lowest, valuesUnless, unless, resultOr}
 use Rattle.float32.specs.Float32 as float32
 use Rattle.pyramid.specs.Pyramid.{above}
 use Rattle.corner_list.specs.CornerList.{Slices, slices, xOf, yOf, strengthOf, neighboursOf, placesOf}
@@ -29,21 +29,6 @@ pub record Buffers : Type 0 where
 
 abbrev pub buffers : List Float → List ℕ → Slices → Slices → Buffers
 buffers m levels seeds corners = record { map = m; levels = levels; seeds = seeds; corners = corners }
-
--- parameters, in the order in which they are given
-abbrev pub params : ℕ → Float → ℕ → ℕ → ℕ → Float → ℕ → ℕ → ℕ → FrameParams
-params ring threshold window least centroid radius levels minimum search =
-    record {
-      ring = ring;
-      threshold = threshold;
-      window = window;
-      «least_neighbours» = least;
-      «centroid_radius» = centroid;
-      «merge_radius» = radius;
-      levels = levels;
-      «minimum_side» = minimum;
-      «search_radius» = search;
-    }
 
 -- ---- refusals
 
@@ -111,8 +96,8 @@ valuesOf (Corners n ties) = n ∷ ties ∷ []
 valuesOf (Refused number) = []
 
 -- What is promised about a frame with a choice of peaks: the answer (how many corners and how many ties there are,
--- RULES 23.3), its number and values, and the buffers after. `find_corners` promises it for computed values,
--- `find_exact_corners` for exact ones (RULES 34.1)
+-- RULES 23.3), its number and values, and the buffers after. `find_corners` promises it for the choice of its flag:
+-- by computed or by exact values (RULES 34.1)
 pub record FrameFound (choose : Choice) (p : FrameParams) (img : List ℕ) (w h : ℕ) (b : Buffers)
     (r : FrameAnswer) (b′ : Buffers) : Type 0 where
   pub answer : r
@@ -123,3 +108,10 @@ pub record FrameFound (choose : Choice) (p : FrameParams) (img : List ℕ) (w h 
       ≡ valuesUnless (refusalOf choose p img w h b)
       (length (framePass p img w h choose .corners) ∷ framePass p img w h choose .ties ∷ [])
   pub left : b′ ≡ buffersAfter choose p img w h b
+
+-- What a function for C promises that takes an answer apart: what is promised about the answer holds for that of the
+-- number r; corners and ties are counted as the pass has them, or as before if r is a refusal
+pub record TakenApart (Promised : FrameAnswer → Type 0) (q : Pass) (count ties r count′ ties′ : ℕ) : Type 0 where
+  pub answer : Promised (unless Refused r (Corners (length (q .corners)) (q .ties)))
+  pub count-is : count′ ≡ resultOr r (length (q .corners)) count
+  pub ties-are : ties′ ≡ resultOr r (q .ties) ties

@@ -39,7 +39,7 @@ fn build(img: &[u8], w: usize, h: usize, p: FrameParams, levels: &mut [u8]) -> u
 // Finds the corners of an image of w by h pixels. They are written to the start of the corner buffer, the seeds of the
 // last level to the start of theirs, and the levels above the base to the start of the level buffer. With `exact` the
 // peaks of each map are chosen by exact values, otherwise by computed ones.
-pub fn find_corners_by(
+pub fn find_corners(
     img: &[u8],
     w: usize,
     h: usize,

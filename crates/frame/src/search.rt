@@ -62,8 +62,8 @@ fn add_patch(
     neighbours: &mut [u32],
     held: usize,
 ) -> Peaks
-    requires { ⌜ FrameChecked p (now img) w h (length (now map)) ⌝ }
-    requires { ⌜ (held ≤ placesOf (slices (now xs) (now ys) (now strengths) (now neighbours))) × (k ≤ lastLevel) ⌝ }
+    requires { ⌜ FrameChecked p (now img) w h (length (now map))
+        × (held ≤ placesOf (slices (now xs) (now ys) (now strengths) (now neighbours))) × (k ≤ lastLevel) ⌝ }
     ensures { λ r. ⌜ AddsCorners (cornersAbout p (now (img .entry)) w h (choiceOf p exact) k seed)
         (tiesAbout p (now (img .entry)) w h (choiceOf p exact) k seed)
         held (slices (now (xs .entry)) (now (ys .entry)) (now (strengths .entry)) (now (neighbours .entry))) r

@@ -1,5 +1,6 @@
 // The parameters of a frame, and whether they are in their ranges: condition 3.
 ghost use mathlib.Core.Path.{_≡_};
+ghost use Rattle.frame_params.specs.Params.{params};
 ghost use Rattle.frame_params.specs.Ranges.{rangeOutside, parametersFit};
 
 // The parameters of a frame (RULES 1.7): the ring's radius, the threshold of a peak, the radius of its window and the
@@ -15,6 +16,34 @@ pub struct FrameParams {
     pub levels: u32,
     pub minimum_side: usize,
     pub search_radius: u32,
+}
+
+// The nine numbers as parameters.
+pub fn params_of(
+    ring: u32,
+    threshold: f32,
+    window: u32,
+    least_neighbours: u32,
+    centroid_radius: u32,
+    merge_radius: f32,
+    levels: u32,
+    minimum_side: usize,
+    search_radius: u32,
+) -> FrameParams
+    ensures { λ p. ⌜ p ≡ params ring threshold window «least_neighbours» «centroid_radius» «merge_radius» levels
+        «minimum_side» «search_radius» ⌝ }
+{
+    FrameParams {
+        ring,
+        threshold,
+        window,
+        least_neighbours,
+        centroid_radius,
+        merge_radius,
+        levels,
+        minimum_side,
+        search_radius,
+    }
 }
 
 // Whether ring, window or centroid radius is out of range.

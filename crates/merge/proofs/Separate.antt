@@ -18,13 +18,9 @@ use Rattle.merge.specs.declared.Merged.{Merged}
 use Rattle.merge.specs.declared.Merged.the-variants.{Kept, Refused}
 use Rattle.merge_refusal.specs.Refusals.{cornerOutside, refusalOf}
 use Rattle.merge.specs.Merge.{resultOf, numberOf, Merges}
-use Rattle.merge.specs.Apart.{refusalApart, MergedApart}
+use Rattle.merge.specs.Apart.{refusalApart, orElse, MergedApart}
 
 -- ---- the number
-
--- a number, and another where it is 0
-abbrev pub orElse : ℕ → ℕ → ℕ
-orElse k m = unless (λ (i : ℕ). i) k m
 
 -- two tables that differ in the last condition: one more reason for it
 more-reasons : (four five ten more : Bool)
@@ -43,9 +39,12 @@ apart-number radius places count b =
     more-reasons (not (isOff radius) && any cornerOutside (cornersOf b (min count (placesOf b)))) (radiusOutside radius)
     (ltb (placesOf b) count) (ltb places count)
 
-or-else-first : (k m : ℕ) → (k ≡ 0 → ⊥) → orElse k m ≡ k
+pub or-else-first : (k m : ℕ) → (k ≡ 0 → ⊥) → k ≡ orElse k m
 or-else-first zero m h = absurd (h refl)
 or-else-first (suc k) m h = refl
+
+pub or-else-next : (k m n : ℕ) → k ≡ 0 → n ≡ m → n ≡ orElse k m
+or-else-next k m n z e = e ∙ ap (λ (i : ℕ). orElse i m) (sym z)
 
 or-else-none : (k : ℕ) → orElse k 0 ≡ k
 or-else-none zero = refl
@@ -56,23 +55,16 @@ or-else-zero zero m e = e
 or-else-zero (suc k) m e = absurd (let no : ⊥ = omega arith in no)
 
 module _ (radius : Float) (places count : ℕ) (b : Slices) where
-  -- the two judgements, one after the other
-  module _ (held k : ℕ) (own : k ≡ refusalOf radius held count b) (all : held ≡ placesOf b) where
-    is-own : k ≡ refusalOf radius (placesOf b) count b
-    is-own = own ∙ ap (λ (n : ℕ). refusalOf radius n count b) all
-
-    pub apart-refused : (k ≡ 0 → ⊥) → k ≡ refusalApart radius places count b
-    apart-refused h =
-        sym (apart-number radius places count b ∙ ap (λ (n : ℕ). orElse n (cond (ltb places count) 10 0)) (sym is-own)
-        ∙ or-else-first k _ h)
-
-    pub apart-passed : (m : ℕ) → k ≡ 0 → m ≡ cond (ltb places count) 10 0 → m ≡ refusalApart radius places count b
-    apart-passed m z e =
-        e ∙ sym (apart-number radius places count b ∙ ap (λ (n : ℕ). orElse n (cond (ltb places count) 10 0)) (sym is-own ∙ z))
-
-  -- by another name for the places
-  pub apart-held : (held k : ℕ) → k ≡ refusalApart radius held count b → held ≡ places → k ≡ refusalApart radius places count b
-  apart-held held k e is = e ∙ ap (λ (n : ℕ). refusalApart radius n count b) is
+  -- the two judgements, one after the other: the first by the places that the original has at most, the second by another name for those
+  -- of the separate buffer
+  pub apart-judged : (k : ℕ) → k ≡ refusalOf radius (min (length (b .xs)) (placesOf b)) count b → (free n : ℕ)
+      → n ≡ orElse k (cond (ltb free count) 10 0) → free ≡ places
+      → n ≡ refusalApart radius places count b
+  apart-judged k own free n e is =
+      let all : min (length (b .xs)) (placesOf b) ≡ placesOf b = omega arith in
+      e ∙ ap (λ (i : ℕ). orElse i (cond (ltb free count) 10 0)) (own ∙ ap (λ (i : ℕ). refusalOf radius i count b) all)
+      ∙ ap (λ (i : ℕ). orElse (refusalOf radius (placesOf b) count b) (cond (ltb i count) 10 0)) is
+      ∙ sym (apart-number radius places count b)
 
   -- no refusal: the separate buffer has the places
   pub apart-fits : refusalApart radius places count b ≡ 0 → count ≤ places

@@ -4,7 +4,7 @@ use Prim.Native.Nat.{ℕ, min}
 use mathlib.Core.Bool.{_||_}
 use lib.Dec.{ltb}
 use lib.Ieee.{Float}
-use Rattle.lists.specs.Refusals.{lowest}
+use Rattle.lists.specs.Refusals.{lowest, unless}
 use Rattle.corner_list.specs.CornerList.{Slices, placesOf, cornersOf}
 use Rattle.merge.specs.Merge.{resultOf, Leaves}
 use Rattle.merge.specs.declared.Merged.{Merged}
@@ -16,6 +16,10 @@ use Rattle.merge_refusal.specs.Refusals.{conditions}
 unfoldable pub refusalApart : Float → ℕ → ℕ → Slices → ℕ
 refusalApart radius places count b =
     lowest (conditions radius (cornersOf b (min count (placesOf b))) (ltb (placesOf b) count || ltb places count))
+
+-- a number, and another if it is 0: the place of 10 in that table is after the refusals of merging in place
+abbrev pub orElse : ℕ → ℕ → ℕ
+orElse k m = unless (λ (i : ℕ). i) k m
 
 -- What merging the first `count` corners of a buffer b apart promises about the answer, its number and values, and
 -- about the separate buffer d after: the list that is left of b's corners at the start, the rest unchanged; if refused,

@@ -1,11 +1,13 @@
 // The list that merging a buffer would leave, written to a separate buffer. The merged buffer is only read. After the
 // list, the separate buffer stays as it was, so a corner is written only when it is kept.
 ghost use mathlib.Core.Path.{_≡_};
+ghost use mathlib.Core.Bool.{cond};
 ghost use Prim.Native.Nat.{_≤_};
+ghost use lib.Dec.{ltb};
 ghost use Rattle.corner_list.specs.CornerList.{slices, cornersOf, placesOf, frontCorners};
 ghost use Rattle.merge_settle.specs.Settle.{Left};
 ghost use Rattle.merge.specs.Merge.{resultOf};
-ghost use Rattle.merge.specs.Apart.{refusalApart, MergedApart};
+ghost use Rattle.merge.specs.Apart.{orElse, MergedApart};
 use crate::Merged;
 
 // Copies the first n corners of a buffer into another.
@@ -73,21 +75,11 @@ fn merge_into(
     )
 }
 
-// The number of the refusal of merging the first `count` corners of a buffer into a separate one with a given number of
-// places, 0 for none.
-fn refusal_apart(
-    xs: &[f32],
-    ys: &[f32],
-    strengths: &[f32],
-    neighbours: &[u32],
-    places: usize,
-    count: usize,
-    radius: f32,
-) -> u8
-    ensures { λ r. ⌜ r ≡ refusalApart radius places count
-        (slices (now (xs .entry)) (now (ys .entry)) (now (strengths .entry)) (now (neighbours .entry))) ⌝ }
+// The number of the refusal of merging `count` corners into a separate buffer with a given number of places, 0 for
+// none: `number`, that of merging them in place, or else 10 if they do not fit.
+fn refusal_apart(number: u8, places: usize, count: usize) -> u8
+    ensures { λ r. ⌜ r ≡ orElse number (cond (ltb places count) 10 0) ⌝ }
 {
-    let number = merge_refusal::refusal(xs, ys, strengths, neighbours, xs.len(), count, radius);
     if number != 0 {
         return number;
     }
@@ -113,7 +105,8 @@ pub fn merge_apart(
         (slices (now (mx .exit)) (now (my .exit)) (now (ms .exit)) (now (mn .exit))) ⌝ }
 {
     let places = corner_list::places(mx.len(), my.len(), ms.len(), mn.len());
-    let number = refusal_apart(xs, ys, strengths, neighbours, places, count, radius);
+    let own = merge_refusal::refusal(xs, ys, strengths, neighbours, xs.len(), count, radius);
+    let number = refusal_apart(own, places, count);
     if number != 0 {
         return Merged::Refused(number);
     }

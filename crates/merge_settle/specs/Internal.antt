@@ -121,6 +121,10 @@ step i k = record { done = i; kept = k }
 abbrev pub start : Step
 start = step 0 0
 
+-- how many may be kept before merging without a borrowed table takes its largest
+abbrev pub manyKept : ℕ
+manyKept = 8192
+
 -- at most as many are kept as are settled, and at most n are settled
 pub record IsStep (n : ℕ) (s : Step) : Type 0 where
   pub few : s .kept ≤ s .done

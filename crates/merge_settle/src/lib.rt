@@ -10,6 +10,10 @@ ghost use Rattle.float32.specs.Float32.{zero};
 ghost use Rattle.corner_list.specs.CornerList.{slices};
 ghost use Rattle.merge_settle.specs.Settle.{Settles};
 use merge_grid::Grid;
+use settling::Step;
+use settling::merge_up_to;
+use settling::merge_with;
+use settling::slots_for;
 
 // Settles the first n corners of a list, or as many as the buffer xs to ns has places for, by a grid, and returns how
 // many are kept: they are then at the start of that buffer. The list is in that buffer too or, if `apart`, in a buffer
@@ -37,7 +41,30 @@ pub fn settle_list(
 {
     let places = corner_list::places(xs.len(), ys.len(), ss.len(), ns.len());
     let held = numbers::lesser(n, places);
-    let s = settling::merge_all(lx, ly, ls, ln, apart, xs, ys, ss, ns, table, g, held);
+    let slots = slots_for(table.len(), held);
+    if 0 < slots {
+        index::clear(&mut table[..slots]);
+        let s = Step { done: 0, kept: 0 };
+        let t = merge_with(
+            lx,
+            ly,
+            ls,
+            ln,
+            apart,
+            xs,
+            ys,
+            ss,
+            ns,
+            &mut table[..slots],
+            g,
+            held,
+            s,
+            held,
+        );
+        clearing::clear(table, 0);
+        return t.kept;
+    }
+    let s = merge_up_to(lx, ly, ls, ln, apart, xs, ys, ss, ns, g, held, held);
     clearing::clear(table, 0);
     s.kept
 }

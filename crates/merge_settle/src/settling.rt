@@ -1,17 +1,29 @@
 // The kept corners are at the start of a buffer, xs to ns, and each corner of the list is settled among them. If the
 // list is merged in place, it is in that buffer too; if it is merged apart, it is in a buffer of its own, lx to ln. The
-// index of the kept corners is a borrowed table, or one on the stack, whose size depends on how many are kept: merging
-// begins with a small table, and goes on with a larger one when they outgrow it.
+// index of the kept corners is a borrowed table, or one on the stack, whose size depends on the list and on how many
+// are kept: merging goes on with the largest table when they outgrow the one before.
 ghost use mathlib.Core.Path.{_≡_};
-ghost use mathlib.Core.Bool.{true};
 ghost use Prim.Native.Nat.{_+_, _^_, _<_, _≤_};
 ghost use lib.ListN.{length};
 ghost use Rattle.corner_list.specs.CornerList.{slices, cornerAt, placesOf};
 ghost use Rattle.merge_grid.specs.Grid.{joins};
 ghost use Rattle.merge_settle.specs.Settle.{given};
-ghost use Rattle.merge_settle.specs.Internal.{slotsOf, Indexed, countWith, Settled, start, IsStep, StopAfter};
+ghost use Rattle.merge_settle.specs.Internal.{slotsOf, Indexed, countWith, Settled, start, manyKept};
+ghost use Rattle.merge_settle.specs.Internal.{IsStep, StopAfter};
 use corner_list::Corner;
 use merge_grid::Grid;
+
+// The lists that the small table on the stack is for, and the kept corners that the middle one is for.
+const FEW: usize = 512;
+
+const MANY: usize = 8192;
+
+// How many slots the tables on the stack have: 8 KB, 128 KB and 512 KB.
+const SMALL_TABLE: usize = 4 * FEW;
+
+const MIDDLE_TABLE: usize = 4 * MANY;
+
+const LARGEST_TABLE: usize = 131072;
 
 // How far merging a list has come: how many of its corners are settled, and how many of these are kept.
 pub(crate) struct Step {
@@ -95,7 +107,7 @@ fn floor_of(
 }
 
 // Merges on from a step, with a table for the index: to the end of a list of n corners, or until `most` are kept.
-fn merge_with(
+pub(crate) fn merge_with(
     lx: &[f32],
     ly: &[f32],
     ls: &[f32],
@@ -136,24 +148,23 @@ fn merge_with(
     Step { done: n, kept: k }
 }
 
-// Whether a borrowed table has enough slots for a list of n corners: more than two for each, or as many as the largest
-// on the stack.
-fn is_enough(slots: usize, n: usize) -> bool
-    ensures { λ r. ⌜ (r ≡ true → 0 < slots) ⌝ }
+// How many slots of a borrowed table are used for a list of n corners: four for each corner and four more, or all. None
+// if it is too short: if it has at most two slots for each, and fewer than the largest table on the stack.
+pub(crate) fn slots_for(slots: usize, n: usize) -> usize
+    ensures { λ r. ⌜ r ≤ slots ⌝ }
 {
-    if n < slots / 2 { true } else { 131072 <= slots }
+    if n < slots / 4 {
+        return n * 4 + 4;
+    }
+    if n < slots / 2 {
+        return slots;
+    }
+    if LARGEST_TABLE <= slots { slots } else { 0 }
 }
 
-// How many of its slots are used: four for each corner and four more, or all.
-fn slots_for(slots: usize, n: usize) -> usize
-    requires { ⌜ 0 < slots ⌝ }
-    ensures { λ r. ⌜ (0 < r) × (r ≤ slots) ⌝ }
-{
-    if n < slots / 4 { n * 4 + 4 } else { slots }
-}
-
-// Merges a list of n corners with a borrowed table.
-fn merge_by(
+// Merges a list of n corners from the start, until `manyKept` are kept: a short list with the small table, any other
+// with the middle one. A long list of which few stay pays for clearing the middle table, some five microseconds.
+fn merge_some(
     lx: &[f32],
     ly: &[f32],
     ls: &[f32],
@@ -163,90 +174,25 @@ fn merge_by(
     ys: &mut [f32],
     ss: &mut [f32],
     ns: &mut [u32],
-    table: &mut [f32],
     g: Grid,
     n: usize,
 ) -> Step
     requires { ⌜ n ≤ placesOf (slices (now xs) (now ys) (now ss) (now ns)) ⌝ }
-    requires { ⌜ 0 < length (now table) ⌝ }
     ensures { λ r. ⌜ StopAfter (joins g) apart
-        (slices (now (lx .entry)) (now (ly .entry)) (now (ls .entry)) (now (ln .entry))) n n
+        (slices (now (lx .entry)) (now (ly .entry)) (now (ls .entry)) (now (ln .entry))) manyKept n
         (slices (now (xs .entry)) (now (ys .entry)) (now (ss .entry)) (now (ns .entry))) start
         (slices (now (xs .exit)) (now (ys .exit)) (now (ss .exit)) (now (ns .exit))) r ⌝ }
 {
     let s = Step { done: 0, kept: 0 };
-    let slots = slots_for(table.len(), n);
-    crate::index::clear(&mut table[..slots]);
-    merge_with(
-        lx,
-        ly,
-        ls,
-        ln,
-        apart,
-        xs,
-        ys,
-        ss,
-        ns,
-        &mut table[..slots],
-        g,
-        n,
-        s,
-        n,
-    )
+    if n <= FEW {
+        let mut t = [1.0; SMALL_TABLE];
+        return merge_with(lx, ly, ls, ln, apart, xs, ys, ss, ns, &mut t, g, n, s, MANY);
+    }
+    let mut t = [1.0; MIDDLE_TABLE];
+    merge_with(lx, ly, ls, ln, apart, xs, ys, ss, ns, &mut t, g, n, s, MANY)
 }
 
-// Merges with a table of 8 KB, until 512 corners are kept.
-fn merge_few(
-    lx: &[f32],
-    ly: &[f32],
-    ls: &[f32],
-    ln: &[u32],
-    apart: bool,
-    xs: &mut [f32],
-    ys: &mut [f32],
-    ss: &mut [f32],
-    ns: &mut [u32],
-    g: Grid,
-    n: usize,
-) -> Step
-    requires { ⌜ n ≤ placesOf (slices (now xs) (now ys) (now ss) (now ns)) ⌝ }
-    ensures { λ r. ⌜ StopAfter (joins g) apart
-        (slices (now (lx .entry)) (now (ly .entry)) (now (ls .entry)) (now (ln .entry))) 512 n
-        (slices (now (xs .entry)) (now (ys .entry)) (now (ss .entry)) (now (ns .entry))) start
-        (slices (now (xs .exit)) (now (ys .exit)) (now (ss .exit)) (now (ns .exit))) r ⌝ }
-{
-    let s = Step { done: 0, kept: 0 };
-    let mut t = [1.0; 2048];
-    merge_with(lx, ly, ls, ln, apart, xs, ys, ss, ns, &mut t, g, n, s, 512)
-}
-
-// Merges on with a table of 128 KB, until 8,192 corners are kept.
-fn merge_more(
-    lx: &[f32],
-    ly: &[f32],
-    ls: &[f32],
-    ln: &[u32],
-    apart: bool,
-    xs: &mut [f32],
-    ys: &mut [f32],
-    ss: &mut [f32],
-    ns: &mut [u32],
-    g: Grid,
-    n: usize,
-    s: Step,
-) -> Step
-    requires { ⌜ n ≤ placesOf (slices (now xs) (now ys) (now ss) (now ns)) ⌝ }
-    requires { ⌜ IsStep n s ⌝ }
-    ensures { λ r. ⌜ StopAfter (joins g) apart
-        (slices (now (lx .entry)) (now (ly .entry)) (now (ls .entry)) (now (ln .entry))) 8192 n
-        (slices (now (xs .entry)) (now (ys .entry)) (now (ss .entry)) (now (ns .entry))) s
-        (slices (now (xs .exit)) (now (ys .exit)) (now (ss .exit)) (now (ns .exit))) r ⌝ }
-{
-    let mut t = [1.0; 32768];
-    merge_with(lx, ly, ls, ln, apart, xs, ys, ss, ns, &mut t, g, n, s, 8192)
-}
-
-// Merges on with a table of 512 KB, to the end.
+// Merges on with the largest table, to the end.
 fn merge_most(
     lx: &[f32],
     ly: &[f32],
@@ -268,14 +214,14 @@ fn merge_most(
         (slices (now (xs .entry)) (now (ys .entry)) (now (ss .entry)) (now (ns .entry))) s
         (slices (now (xs .exit)) (now (ys .exit)) (now (ss .exit)) (now (ns .exit))) r ⌝ }
 {
-    let mut t = [1.0; 131072];
+    let mut t = [1.0; LARGEST_TABLE];
     merge_with(lx, ly, ls, ln, apart, xs, ys, ss, ns, &mut t, g, n, s, n)
 }
 
-// Merges to the end of a list of n corners, or until `most` are kept: with smaller tables first, as far as they go.
+// Merges to the end of a list of n corners, or until `most` are kept: with a smaller table first, as far as it goes.
 // Recursive only so that LLVM does not inline the functions with the tables: so a table takes stack only while it is
 // used.
-fn merge_up_to(
+pub(crate) fn merge_up_to(
     lx: &[f32],
     ly: &[f32],
     ls: &[f32],
@@ -296,42 +242,12 @@ fn merge_up_to(
         (slices (now (xs .entry)) (now (ys .entry)) (now (ss .entry)) (now (ns .entry))) start
         (slices (now (xs .exit)) (now (ys .exit)) (now (ss .exit)) (now (ns .exit))) r ⌝ }
 {
-    if most < 512 {
-        return merge_few(lx, ly, ls, ln, apart, xs, ys, ss, ns, g, n);
+    if most <= MANY {
+        return merge_some(lx, ly, ls, ln, apart, xs, ys, ss, ns, g, n);
     }
     let s = merge_up_to(lx, ly, ls, ln, apart, xs, ys, ss, ns, g, n, most / 16);
     if n <= s.done {
         return s;
     }
-    if most < 8192 {
-        return merge_more(lx, ly, ls, ln, apart, xs, ys, ss, ns, g, n, s);
-    }
     merge_most(lx, ly, ls, ln, apart, xs, ys, ss, ns, g, n, s)
-}
-
-// Merges a list of n corners: with the borrowed table, or with those on the stack.
-pub(crate) fn merge_all(
-    lx: &[f32],
-    ly: &[f32],
-    ls: &[f32],
-    ln: &[u32],
-    apart: bool,
-    xs: &mut [f32],
-    ys: &mut [f32],
-    ss: &mut [f32],
-    ns: &mut [u32],
-    table: &mut [f32],
-    g: Grid,
-    n: usize,
-) -> Step
-    requires { ⌜ n ≤ placesOf (slices (now xs) (now ys) (now ss) (now ns)) ⌝ }
-    ensures { λ r. ⌜ StopAfter (joins g) apart
-        (slices (now (lx .entry)) (now (ly .entry)) (now (ls .entry)) (now (ln .entry))) n n
-        (slices (now (xs .entry)) (now (ys .entry)) (now (ss .entry)) (now (ns .entry))) start
-        (slices (now (xs .exit)) (now (ys .exit)) (now (ss .exit)) (now (ns .exit))) r ⌝ }
-{
-    if is_enough(table.len(), n) {
-        return merge_by(lx, ly, ls, ln, apart, xs, ys, ss, ns, table, g, n);
-    }
-    merge_up_to(lx, ly, ls, ln, apart, xs, ys, ss, ns, g, n, n)
 }

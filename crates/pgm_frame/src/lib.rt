@@ -1,15 +1,15 @@
 // The corners of an uploaded photograph: the frame pass on its pixels.
 ghost use Rattle.corner_list.specs.CornerList.{slices};
-ghost use Rattle.patch_corners.specs.OneMap.{choiceOf, computedChoice, exactChoice};
+ghost use Rattle.patch_corners.specs.OneMap.{choiceOf};
 ghost use Rattle.frame.specs.Frame.{buffers};
 ghost use Rattle.pgm_frame.specs.PgmFrame.{PhotographFound};
 use frame::FrameAnswer;
-use frame::find_corners_by;
+use frame::find_corners;
 use frame_params::FrameParams;
 use pgm::PgmImage;
 
-// Finds the corners of a binary PGM photograph, as `find_corners_by` does for its pixels.
-pub fn find_pgm_corners_by(
+// Finds the corners of a binary PGM photograph, as `find_corners` does for its pixels.
+pub fn find_pgm_corners(
     upload: &[u8],
     p: FrameParams,
     exact: bool,
@@ -38,7 +38,7 @@ pub fn find_pgm_corners_by(
         PgmImage::Refused(number) => FrameAnswer::Refused(number),
         PgmImage::Pixels { at: _, w, h } => {
             let pixels = pgm::pgm_pixels(upload);
-            find_corners_by(
+            find_corners(
                 pixels,
                 w,
                 h,
@@ -57,72 +57,4 @@ pub fn find_pgm_corners_by(
             )
         }
     }
-}
-
-// The corners by computed values, as `find_corners` finds them.
-pub fn find_pgm_corners(
-    upload: &[u8],
-    p: FrameParams,
-    map: &mut [f32],
-    levels: &mut [u8],
-    sx: &mut [f32],
-    sy: &mut [f32],
-    ss: &mut [f32],
-    sn: &mut [u32],
-    cx: &mut [f32],
-    cy: &mut [f32],
-    cs: &mut [f32],
-    cn: &mut [u32],
-) -> FrameAnswer
-    ensures { λ r. ⌜ PhotographFound (computedChoice p) p (now (upload .entry))
-        (buffers (now (map .entry)) (now (levels .entry))
-        (slices (now (sx .entry)) (now (sy .entry)) (now (ss .entry)) (now (sn .entry)))
-        (slices (now (cx .entry)) (now (cy .entry)) (now (cs .entry)) (now (cn .entry))))
-        r
-        (buffers (now (map .exit)) (now (levels .exit))
-        (slices (now (sx .exit)) (now (sy .exit)) (now (ss .exit)) (now (sn .exit)))
-        (slices (now (cx .exit)) (now (cy .exit)) (now (cs .exit)) (now (cn .exit)))) ⌝ }
-{
-    find_pgm_corners_by(
-        upload,
-        p,
-        false,
-        map,
-        levels,
-        sx,
-        sy,
-        ss,
-        sn,
-        cx,
-        cy,
-        cs,
-        cn,
-    )
-}
-
-// The corners by exact values, as `find_exact_corners` finds them.
-pub fn find_exact_pgm_corners(
-    upload: &[u8],
-    p: FrameParams,
-    map: &mut [f32],
-    levels: &mut [u8],
-    sx: &mut [f32],
-    sy: &mut [f32],
-    ss: &mut [f32],
-    sn: &mut [u32],
-    cx: &mut [f32],
-    cy: &mut [f32],
-    cs: &mut [f32],
-    cn: &mut [u32],
-) -> FrameAnswer
-    ensures { λ r. ⌜ PhotographFound (exactChoice p) p (now (upload .entry))
-        (buffers (now (map .entry)) (now (levels .entry))
-        (slices (now (sx .entry)) (now (sy .entry)) (now (ss .entry)) (now (sn .entry)))
-        (slices (now (cx .entry)) (now (cy .entry)) (now (cs .entry)) (now (cn .entry))))
-        r
-        (buffers (now (map .exit)) (now (levels .exit))
-        (slices (now (sx .exit)) (now (sy .exit)) (now (ss .exit)) (now (sn .exit)))
-        (slices (now (cx .exit)) (now (cy .exit)) (now (cs .exit)) (now (cn .exit)))) ⌝ }
-{
-    find_pgm_corners_by(upload, p, true, map, levels, sx, sy, ss, sn, cx, cy, cs, cn)
 }

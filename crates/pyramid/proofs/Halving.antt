@@ -14,7 +14,7 @@ use Rattle.lists.specs.Buffer.{placed}
 use Rattle.lists.proofs.Tab.{length-tab, tab-ext, tab-add, length-grid, grid-ext}
 use Rattle.lists.proofs.Buffer.{placed-none, placed-more, placed-before, put-placed}
 use Rattle.pyramid.specs.Pyramid.{boxOf, halfPixel, halved}
-use Rattle.pyramid.specs.Internal.{holderOf, Halving, ColumnsSummed, RowHalved, LevelHalved}
+use Rattle.pyramid.specs.Internal.{pixelsAtOnce, holderOf, boxAt, Halving, MeansMade, Run, RunHalved, RowHalved, LevelHalved}
 
 pub holder-buffer : (base levels : List ℕ) (k : ℕ) → (k ≡ 0 → ⊥) → levels ≡ holderOf base levels k
 holder-buffer base levels zero z = absurd (z refl)
@@ -66,7 +66,18 @@ half-alike s t w x y y′ e l =
     at : (i p q : ℕ) → i < 2 * w → p ≡ 2 * y * w + i → q ≡ 2 * y′ * w + i → getD s p 0 ≡ getD t q 0
     at i p q l c d = ap (λ (n : ℕ). getD s n 0) c ∙ e i l ∙ ap (λ (n : ℕ). getD t n 0) (sym d)
 
--- ---- a block of m pixels from column x on, of the two rows that begin at `from`
+-- ---- a run of n pairs of columns
+
+-- its half-size pixels, made apart and put at their place
+pub run-put : (base d : List ℕ) (k top w to n size : ℕ) (made ys : List ℕ) → to + n ≤ length d
+    → MeansMade (holderOf base d k) top (top + w) n made → ys ≡ tab size (λ i. getD made i 0) → size ≡ n
+    → RunHalved base d k top w to n (putMid to (to + n - to) d ys)
+run-put base d k top w to n size made ys fits m e z =
+    let y : ys ≡ tab n (boxAt (holderOf base d k) top (top + w)) = e ∙ rw z (tab-ext n _ _ (m .each)) in
+    let l : to + n - to ≡ length ys = omega (arith, ap length y, length-tab n (boxAt (holderOf base d k) top (top + w))) in
+    record { is = put-placed to (to + n - to) ys d l ∙ ap (λ (v : List ℕ). placed to v d) y }
+
+-- ---- a run of m pairs from column x on, of the two rows that begin at `from`
 
 pub row-none : (base d : List ℕ) (k from w to : ℕ) → RowHalved base d k from w to 0 d
 unfolding tab
@@ -81,52 +92,41 @@ module _ (base d : List ℕ) (k from w to : ℕ) (ok : Halving base d k from w 2
       → getD (holderOf base (placed to vs d) k) a 0 ≡ getD (holderOf base d k) b 0
   block-read vs a b e l = kept base d vs k to a b (omega (arith, ok .fits)) e (λ z. omega (arith, ok .behind z))
 
-  -- by the column sums
-  block-pixel : (x m : ℕ) (vs sums : List ℕ) → x + m ≤ w / 2
-      → ColumnsSummed (holderOf base (placed to vs d) k) (from + 2 * x) (from + 2 * x + w) (2 * m) sums
-      → (i : ℕ) → i < m → (getD sums (2 * i) 0 + getD sums (2 * i + 1) 0 + 2) / 4 ≡ rowOf (x + i)
-  block-pixel x m vs sums p q i l = ap (λ (n : ℕ). n / 4) four ∙ sym (half-at (holderOf base d k) from w (x + i))
-    where
-      at : ℕ → ℕ
-      at n = getD (holderOf base d k) n 0
+  run-pixel : (x m : ℕ) (vs : List ℕ) → x + m ≤ w / 2 → (i : ℕ) → i < m
+      → boxAt (holderOf base (placed to vs d) k) (from + 2 * x) (from + 2 * x + w) i ≡ rowOf (x + i)
+  run-pixel x m vs p i l =
+      rw (
+        block-read vs (from + 2 * x + 2 * i) (from + 2 * (x + i)) (omega arith) (omega arith),
+        block-read vs (from + 2 * x + 2 * i + 1) (from + 2 * (x + i) + 1) (omega arith) (omega arith),
+        block-read vs (from + 2 * x + w + 2 * i) (from + w + 2 * (x + i)) (omega arith) (omega arith),
+        block-read vs (from + 2 * x + w + 2 * i + 1) (from + w + 2 * (x + i) + 1) (omega arith) (omega arith),
+      ) (sym (half-at (holderOf base d k) from w (x + i)))
 
-      four : getD sums (2 * i) 0 + getD sums (2 * i + 1) 0 + 2
-          ≡ at (from + 2 * (x + i)) + at (from + 2 * (x + i) + 1) + at (from + w + 2 * (x + i)) + at (from + w + 2 * (x + i) + 1) + 2
-      four =
-          omega (
-            arith,
-            q .each (2 * i) (omega arith),
-            q .each (2 * i + 1) (omega arith),
-            block-read vs (from + 2 * x + 2 * i) (from + 2 * (x + i)) (omega arith) (omega arith),
-            block-read vs (from + 2 * x + (2 * i + 1)) (from + 2 * (x + i) + 1) (omega arith) (omega arith),
-            block-read vs (from + 2 * x + w + 2 * i) (from + w + 2 * (x + i)) (omega arith) (omega arith),
-            block-read vs (from + 2 * x + w + (2 * i + 1)) (from + w + 2 * (x + i) + 1) (omega arith) (omega arith),
-          )
+  -- its columns lie in the two rows, and there is a place for it
+  pub run-ok : (s : List ℕ) (x m : ℕ) → length s ≡ length d → x + m ≤ w / 2 → m ≤ pixelsAtOnce
+      → Run base s k (from + 2 * x) w (to + x) m
+  run-ok s x m e p few =
+      record {
+        few = few;
+        inside = omega (arith, ok .inside, holder-length base d s k e);
+        fits = omega (arith, ok .fits);
+      }
 
-  -- the block's columns lie in the two rows
-  pub block-inside : (s : List ℕ) (x m : ℕ) → length s ≡ length d → x + m ≤ w / 2 → from + 2 * x + w + 2 * m ≤ length (holderOf base s k)
-  block-inside s x m e p = omega (arith, ok .inside, holder-length base d s k e)
-
-  block-tab : (x m n : ℕ) (s sums : List ℕ) → RowHalved base d k from w to x s → x + m ≤ w / 2
-      → ColumnsSummed (holderOf base s k) (from + 2 * x) (from + 2 * x + w) (2 * m) sums → n ≡ m
-      → tab n (λ i. (getD sums (2 * i) 0 + getD sums (2 * i + 1) 0 + 2) / 4) ≡ tab m (λ i. rowOf (x + i))
-  block-tab x m n s sums e p q r = rw r (tab-ext m _ _ (block-pixel x m (tab x rowOf) sums p (rw (e .is) at q)))
-
-  -- the block behind the columns before it
-  pub row-put : (x m n : ℕ) (s sums ys : List ℕ) → RowHalved base d k from w to x s → x + m ≤ w / 2
-      → ColumnsSummed (holderOf base s k) (from + 2 * x) (from + 2 * x + w) (2 * m) sums
-      → ys ≡ tab n (λ i. (getD sums (2 * i) 0 + getD sums (2 * i + 1) 0 + 2) / 4) → n ≡ m
-      → RowHalved base d k from w to (x + m) (putMid (to + x) (to + x + m - (to + x)) s ys)
-  row-put x m n s sums ys e p q t r =
-      let z : ys ≡ tab m (λ i. rowOf (x + i)) = t ∙ block-tab x m n s sums e p q r in
-      let l : to + x + m - (to + x) ≡ length ys = omega (arith, ap length z, length-tab m (λ i. rowOf (x + i))) in
+  -- the run behind the columns before it
+  pub row-put : (x m : ℕ) (s s′ : List ℕ) → RowHalved base d k from w to x s → x + m ≤ w / 2
+      → RunHalved base s k (from + 2 * x) w (to + x) m s′ → RowHalved base d k from w to (x + m) s′
+  row-put x m s s′ e p r =
       record {
         is =
-            put-placed (to + x) (to + x + m - (to + x)) ys s l
-            ∙ ap (placed (to + x) ys) (e .is)
-            ∙ placed-more to (to + x) (tab x rowOf) ys d (omega (arith, ok .fits)) (omega (arith, length-tab x rowOf))
-            ∙ ap (λ (v : List ℕ). placed to v d) (ap (λ (v : List ℕ). tab x rowOf ++ v) z ∙ sym (tab-add x m rowOf));
+            r .is
+            ∙ ap₂ (placed (to + x)) z (e .is)
+            ∙ placed-more to (to + x) (tab x rowOf) (tab m (λ i. rowOf (x + i))) d (omega (arith, ok .fits))
+            (omega (arith, length-tab x rowOf))
+            ∙ ap (λ (v : List ℕ). placed to v d) (sym (tab-add x m rowOf));
       }
+    where
+      z : tab m (boxAt (holderOf base s k) (from + 2 * x) (from + 2 * x + w)) ≡ tab m (λ i. rowOf (x + i))
+      z = tab-ext m _ _ (rw (e .is) (run-pixel x m (tab x rowOf) p))
 
 -- ---- row y of the level that begins at `from`
 

@@ -9,7 +9,7 @@ use Rattle.lists.specs.Buffer.{front, placed}
 use Rattle.pyramid_levels.specs.Levels.{levelCount}
 use Rattle.pyramid_levels.specs.Refusals.{ask}
 use Rattle.pyramid_levels.specs.Internal.{LevelsAccepted}
-use Rattle.pyramid.specs.Pyramid.{halfPixel, above}
+use Rattle.pyramid.specs.Pyramid.{boxOf, halfPixel, above}
 
 -- the slice that has level k
 abbrev pub holderOf : List ℕ → List ℕ → ℕ → List ℕ
@@ -23,15 +23,31 @@ pub record Halving (base levels : List ℕ) (k from w h to : ℕ) : Type 0 where
   pub behind : (k ≡ 0 → ⊥) → from + w * h ≤ to
   pub fits : to + w / 2 * (h / 2) ≤ length levels
 
--- how many columns of two rows are added up at a time
-abbrev pub columnsAtOnce : ℕ
-columnsAtOnce = 128
+-- how many half-size pixels are made at a time
+abbrev pub pixelsAtOnce : ℕ
+pixelsAtOnce = 16
 
--- the sums of n columns of two rows, which begin at `top` and at `low`, at the start of the list for them
-pub record ColumnsSummed (pixels : List ℕ) (top low n : ℕ) (sums : List ℕ) : Type 0 where
-  pub long : length sums ≡ columnsAtOnce
-  pub each : (i : ℕ) → i < n → getD sums i 0 ≡ getD pixels (top + i) 0 + getD pixels (low + i) 0
-  pub small : (i : ℕ) → i < n → getD sums i 0 ≤ 510
+-- the half-size pixel of pair i of the columns of two rows, which begin at `top` and at `low`
+abbrev pub boxAt : List ℕ → ℕ → ℕ → ℕ → ℕ
+boxAt pixels top low i =
+    boxOf (getD pixels (top + 2 * i) 0) (getD pixels (top + 2 * i + 1) 0)
+    (getD pixels (low + 2 * i) 0) (getD pixels (low + 2 * i + 1) 0)
+
+-- those of n pairs, at the start of the list for them
+pub record MeansMade (pixels : List ℕ) (top low n : ℕ) (out : List ℕ) : Type 0 where
+  pub long : length out ≡ pixelsAtOnce
+  pub each : (i : ℕ) → i < n → getD out i 0 ≡ boxAt pixels top low i
+
+-- a run of n pairs of columns of level k, in the row that begins at `top` and the row w places further on, and a place
+-- for its half-size pixels from `to` on
+pub record Run (base levels : List ℕ) (k top w to n : ℕ) : Type 0 where
+  pub few : n ≤ pixelsAtOnce
+  pub inside : top + w + 2 * n ≤ length (holderOf base levels k)
+  pub fits : to + n ≤ length levels
+
+-- its half-size pixels placed at `to`
+pub record RunHalved (base levels : List ℕ) (k top w to n : ℕ) (levels′ : List ℕ) : Type 0 where
+  pub is : levels′ ≡ placed to (tab n (boxAt (holderOf base levels k) top (top + w))) levels
 
 -- the first n half-size pixels of level k's two rows that begin at `from`, placed at `to`
 pub record RowHalved (base levels : List ℕ) (k from w to n : ℕ) (levels′ : List ℕ) : Type 0 where

@@ -5,13 +5,12 @@ ghost use Prim.Native.Nat.{ℕ, _+_, _*_, _/_, _<_, _≤_};
 ghost use lib.ListN.{length, getD};
 ghost use Rattle.lists.specs.Tab.{tab};
 ghost use Rattle.pyramid_levels.specs.Levels.{cellsAbove};
-ghost use Rattle.pyramid.specs.Internal.{columnsAtOnce, holderOf, Halving, ColumnsSummed, RowHalved, LevelHalved};
-ghost use Rattle.pyramid.specs.Internal.{LevelsFilled};
+ghost use Rattle.pyramid.specs.Pyramid.{boxOf};
+ghost use Rattle.pyramid.specs.Internal.{pixelsAtOnce, holderOf, Halving, Run, MeansMade, RunHalved, RowHalved};
+ghost use Rattle.pyramid.specs.Internal.{LevelHalved, LevelsFilled};
 
-// How many columns of two rows are added up at a time, and how many pixels of half size they give.
-const COLUMNS: usize = 128;
-
-const PIXELS: usize = COLUMNS / 2;
+// How many pixels of half size are made at a time: as many as a vector register holds.
+const PIXELS: usize = 16;
 
 // The slice that has level k.
 fn holder<'a>(base: &'a [u8], levels: &'a [u8], k: usize) -> &'a [u8]
@@ -23,56 +22,75 @@ fn holder<'a>(base: &'a [u8], levels: &'a [u8], k: usize) -> &'a [u8]
     levels
 }
 
-// The sums of n columns of two rows, which begin at top and at low.
-fn column_sums(pixels: &[u8], top: usize, low: usize, n: usize, sums: &mut [u16; COLUMNS])
-    requires { ⌜ (n ≤ columnsAtOnce) × (top + n ≤ length (now pixels)) × (low + n ≤ length (now pixels))
-        × (length (now sums) ≡ columnsAtOnce) ⌝ }
-    ensures { λ _. ⌜ ColumnsSummed (now (pixels .entry)) top low n (now (sums .exit)) ⌝ }
+// The mean of four pixels.
+fn mean(a: u8, b: u8, c: u8, d: u8) -> u8
+    ensures { λ r. ⌜ r ≡ boxOf a b c d ⌝ }
+{
+    ((a as u16 + b as u16 + c as u16 + d as u16 + 2) / 4) as u8
+}
+
+// The half-size pixels of n pairs of columns of two rows, which begin at top and at low.
+fn means(pixels: &[u8], top: usize, low: usize, n: usize, out: &mut [u8; PIXELS])
+    requires { ⌜ (n ≤ pixelsAtOnce) × (top + 2 * n ≤ length (now pixels)) × (low + 2 * n ≤ length (now pixels))
+        × (length (now out) ≡ pixelsAtOnce) ⌝ }
+    ensures { λ _. ⌜ MeansMade (now (pixels .entry)) top low n (now (out .exit)) ⌝ }
 {
     let mut i = 0usize;
     while i < n {
-        let a = top + i;
-        let b = low + i;
-        sums[i] = pixels[a] as u16 + pixels[b] as u16;
+        let a = top + 2 * i;
+        let b = low + 2 * i;
+        out[i] = mean(pixels[a], pixels[a + 1], pixels[b], pixels[b + 1]);
         i += 1;
     }
 }
 
-// The half-size pixels of pairs of columns, from their sums.
-fn pair_means(sums: &[u16; COLUMNS], out: &mut [u8])
-    requires { ⌜ length (now out) ≤ columnsAtOnce / 2 ⌝ }
-    requires { ⌜ ((i : ℕ) → i < 2 * length (now out) → getD (now sums) i 0 ≤ 510) ⌝ }
-    ensures { λ _. ⌜ now (out .exit)
-        ≡ tab (length (now (out .entry)))
-        (λ i. (getD (now (sums .entry)) (2 * i) 0 + getD (now (sums .entry)) (2 * i + 1) 0 + 2) / 4) ⌝ }
+// Copies the first of the pixels, as many as `out` has places.
+fn copy(pixels: &[u8; PIXELS], out: &mut [u8])
+    requires { ⌜ length (now out) ≤ pixelsAtOnce ⌝ }
+    ensures { λ _. ⌜ now (out .exit) ≡ tab (length (now (out .entry))) (λ i. getD (now (pixels .entry)) i 0) ⌝ }
 {
     let n = out.len();
     let mut i = 0usize;
     while i < n {
-        let a = 2 * i;
-        let b = a + 1;
-        out[i] = ((sums[a] + sums[b] + 2) / 4) as u8;
+        out[i] = pixels[i];
         i += 1;
     }
 }
 
-// Two rows of level k, which begin at `from`, at half size from `to` on, up to PIXELS at a time. First come the sums of
-// the columns, then the means of pairs: each loop handles as many columns at once as a vector register holds, and what
-// the buffer holds is read before it is written.
+// The half-size pixels of n pairs of columns of level k, in the row that begins at `top` and the row w places further
+// on, from `at` on. What the buffer holds is read before it is written.
+fn run(base: &[u8], k: usize, top: usize, w: usize, levels: &mut [u8], at: usize, n: usize)
+    requires { ⌜ Run (now base) (now levels) k top w at n ⌝ }
+    ensures { λ _. ⌜ RunHalved (now (base .entry)) (now (levels .entry)) k top w at n (now (levels .exit)) ⌝ }
+{
+    let mut made = [0u8; PIXELS];
+    means(holder(base, levels, k), top, top + w, n, &mut made);
+    let e = at + n;
+    copy(&made, &mut levels[at..e]);
+}
+
+// The same. A whole run has its number written out: so the compiler makes code for it without a loop, with vectors.
+fn halve_run(base: &[u8], k: usize, top: usize, w: usize, levels: &mut [u8], at: usize, n: usize)
+    requires { ⌜ Run (now base) (now levels) k top w at n ⌝ }
+    ensures { λ _. ⌜ RunHalved (now (base .entry)) (now (levels .entry)) k top w at n (now (levels .exit)) ⌝ }
+{
+    if n == PIXELS {
+        run(base, k, top, w, levels, at, PIXELS);
+        return;
+    }
+    run(base, k, top, w, levels, at, n);
+}
+
+// Two rows of level k, which begin at `from`, at half size from `to` on, run by run.
 fn halve_rows(base: &[u8], k: usize, from: usize, w: usize, levels: &mut [u8], to: usize)
     requires { ⌜ Halving (now base) (now levels) k from w 2 to ⌝ }
     ensures { λ _. ⌜ RowHalved (now (base .entry)) (now (levels .entry)) k from w to (w / 2) (now (levels .exit)) ⌝ }
 {
     let n = w / 2;
-    let mut sums = [0u16; COLUMNS];
     let mut x = 0usize;
     while x < n {
         let m = numbers::lesser(PIXELS, n - x);
-        let top = from + 2 * x;
-        column_sums(holder(base, levels, k), top, top + w, 2 * m, &mut sums);
-        let a = to + x;
-        let e = a + m;
-        pair_means(&sums, &mut levels[a..e]);
+        halve_run(base, k, from + 2 * x, w, levels, to + x, m);
         x += m;
     }
 }

@@ -18,7 +18,6 @@ use crate::fields::past;
 use crate::fields::past_bytes;
 use crate::fields::past_length;
 use crate::fields::word;
-use crate::list_buffer::LIST;
 use crate::list_buffer::counts;
 use crate::list_buffer::due_list;
 use crate::list_buffer::floats;
@@ -65,7 +64,7 @@ fn are_maps_due(
     due_bytes(body, next, part(levels, 0, m)) != BAD
 }
 
-// With a seed buffer too: the place of what is expected in the map.
+// With a seed buffer too: the place of what is expected in the map, if this buffer holds what is expected in it.
 fn with_seeds(body: &[u8], lengths: usize, map: &mut [f32], levels: &mut [u8]) -> usize {
     let nx = list_length(body, lengths, 0);
     let ny = list_length(body, lengths, 1);
@@ -85,10 +84,12 @@ fn with_seeds(body: &[u8], lengths: usize, map: &mut [f32], levels: &mut [u8]) -
         &mut strengths[..ns],
         &mut neighbours[..nn],
     );
-    due_seeds(body, next, lengths, &xs, &ys, &strengths, &neighbours)
+    let due = past_maps(body, next);
+    let end = due_list(body, due, lengths, &xs, &ys, &strengths, &neighbours);
+    and(next, end != BAD)
 }
 
-// With a corner buffer too.
+// With a corner buffer too, with which the body ends.
 fn with_corners(
     body: &[u8],
     lengths: usize,
@@ -107,11 +108,12 @@ fn with_corners(
     let mut ys = floats(body, BAD);
     let mut strengths = floats(body, BAD);
     let mut neighbours = counts(body, BAD);
-    let answer = frame_choice::find_corners(
+    let answer = frame::find_corners(
         bytes_at(body, 44),
         count(body, 0),
         count(body, 1),
         parameters(body),
+        false,
         map,
         levels,
         sx,
@@ -124,7 +126,9 @@ fn with_corners(
         &mut neighbours[..nn],
     );
     let next = due_frame(body, past_lengths(body, lengths), answer);
-    due_corners(body, next, lengths, &xs, &ys, &strengths, &neighbours)
+    let due = past_list(body, past_maps(body, next));
+    let end = due_list(body, due, lengths, &xs, &ys, &strengths, &neighbours);
+    and(next, end == body.len())
 }
 
 fn parameters(body: &[u8]) -> FrameParams {
@@ -146,37 +150,6 @@ fn due_frame(body: &[u8], at: usize, answer: FrameAnswer) -> usize {
         FrameAnswer::Corners(n, _) => due_answer(body, at, 0, n),
         FrameAnswer::Refused(number) => due_answer(body, at, number, 0),
     }
-}
-
-// The place of what is expected in the map, if the corner buffer holds what is expected in it, with which the body
-// ends.
-fn due_corners(
-    body: &[u8],
-    at: usize,
-    lengths: usize,
-    xs: &[f32; LIST],
-    ys: &[f32; LIST],
-    strengths: &[f32; LIST],
-    neighbours: &[u32; LIST],
-) -> usize {
-    let due = past_list(body, past_maps(body, at));
-    let end = due_list(body, due, lengths, xs, ys, strengths, neighbours);
-    and(at, end == body.len())
-}
-
-// The same if the seed buffer holds what is expected in it.
-fn due_seeds(
-    body: &[u8],
-    at: usize,
-    lengths: usize,
-    xs: &[f32; LIST],
-    ys: &[f32; LIST],
-    strengths: &[f32; LIST],
-    neighbours: &[u32; LIST],
-) -> usize {
-    let due = past_maps(body, at);
-    let end = due_list(body, due, lengths, xs, ys, strengths, neighbours);
-    and(at, end != BAD)
 }
 
 // Past what is expected in the map and in the level buffer.

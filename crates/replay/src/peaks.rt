@@ -38,7 +38,7 @@ fn with_list(body: &[u8], lengths: usize, map: &[f32]) -> bool {
     let mut strengths = floats(body, BAD);
     let mut neighbours = counts(body, BAD);
     let held = past_lengths(body, lengths);
-    let answer = detect::detect_peaks_from_response_with_refine_radius(
+    let answer = detect::find_peaks(
         map,
         count(body, 0),
         count(body, 1),
@@ -47,6 +47,7 @@ fn with_list(body: &[u8], lengths: usize, map: &[f32]) -> bool {
         word(body, 4),
         word(body, 5),
         word(body, 6),
+        false,
         &mut xs[..nx],
         &mut ys[..ny],
         &mut strengths[..ns],

@@ -15,6 +15,7 @@ use Rattle.ring.specs.Ring.{Ring, dx, dy, isRing, IsRing, ringOf}
 use Rattle.response.specs.declared.Held.{Held}
 use Rattle.response.specs.declared.rows.Field.{Field}
 use Rattle.response.specs.Response.{isWithin, inside, samples, srOf, drOf, ringSumOf, crossOf, responseAt}
+pub use Rattle.response.specs.Response.{Bytes}
 
 -- the offset of place k of a ring from the corner of the ring's square, in an image w wide
 abbrev pub offsetAt : Ring → ℕ → ℕ → ℕ
@@ -69,10 +70,6 @@ pub record CellSumsOf (img : List ℕ) (w : ℕ) (t : Ring) (x y balance sum cro
   pub cross-is : cross ≡ crossOf img w x y
 
 -- ---- the pixels of a block, and a map that is filled part by part
-
--- every number of a list is a byte, though its type is wider
-abbrev pub Bytes : List ℕ → Type 0
-Bytes l = (i : ℕ) → getD l i 0 < 256
 
 -- the most columns, and rows, of cells of a block
 abbrev pub blockColumns : ℕ

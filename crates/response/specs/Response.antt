@@ -1,6 +1,6 @@
 -- The ChESS response of a cell, from the ChESS paper's SR, DR and means, in the f32 operations of
 -- `chess_response_at_u8` and in their order.
-use Prim.Native.Nat.{ℕ, _+_, _*_, _-_}
+use Prim.Native.Nat.{ℕ, _+_, _*_, _-_, _<_}
 use mathlib.Core.Bool.{Bool, false, cond, _&&_}
 use mathlib.Core.List.{List}
 use lib.Dec.{leb, ltb}
@@ -11,6 +11,10 @@ use Rattle.float32.specs.Float32.{zero, abs, floatOf}
 use Rattle.float32.specs.Value.{dist, total}
 use Rattle.lists.specs.Tab.{tab, pixel}
 use Rattle.ring.specs.Ring.{Ring, dx, dy}
+
+-- every number of a list is a byte, as those of an image are
+abbrev pub Bytes : List ℕ → Type 0
+Bytes img = (i : ℕ) → getD img i 0 < 256
 
 -- ---- whole numbers, from sixteen samples s
 

@@ -42,12 +42,10 @@ pub(crate) fn count_window(
     let x1 = x + r + 1;
     let y1 = y + r + 1;
     let mut n: u32 = 0;
-    let mut yy = y - r;
-    while yy < y1 {
+    for yy in y - r..y1 {
         let a = yy * w + x0;
         let e = yy * w + x1;
         n += count_above(&map[a..e], v);
-        yy += 1;
     }
     if v < map[y * w + x] { n - 1 } else { n }
 }

@@ -1,4 +1,5 @@
 -- `detect::find_peaks` meets its contract, answer by answer. Assumes nothing.
+mod Landmarks
 use Prim.Native.Nat.{ℕ}
 use mathlib.Core.Path.{sym, _∙_}
 use mathlib.Core.Bool.{Bool}
@@ -14,17 +15,11 @@ use Rattle.detect.specs.Internal.{Searchable}
 use Rattle.detect.proofs.Answers.{Clear, clear, searchable, found-refused, found-clear}
 use Rattle.detect.proofs.find_peaks.Statement.{statement}
 use Rattle.detect.proofs.find_peaks.Tie as tie
+use Landmarks.*
 
--- ---- places of the code: the function's start, from where no condition held; the parameters of the search, from where the peaks are
--- added; and that, from the return
+-- the function's start, from where no condition held
 abbrev start : tie.Else1 → tie.Start
-start c = c .before .before .before .before .before .before .before
-
-abbrev searched : tie.After-add-by-table-arg4 → tie.After-search-of
-searched c = c .before .before .before .before
-
-abbrev added : tie.After-slice-known8 → tie.After-add-by-table
-added c = c .before .before .before .before .before .before .before .before
+start c = start-from-else1 c
 
 -- ---- what it was given
 abbrev conditions-of : tie.Else1 → List (Bool × ℕ)
@@ -62,8 +57,8 @@ adds c =
 returns : tie.Need-returns
 returns c = found-refused _ _ _ _ _ _ (c .before .refusal .ensures) (c .if1 .taken)
 
-add-by-table-requires : tie.Need-add-by-table-requires
-add-by-table-requires c κs = can-search (searched c)
+add-peaks-requires : tie.Need-add-peaks-requires
+add-peaks-requires c κs = can-search (search-of-from-add-peaks-requires c)
 
 same-length : tie.Need-same-length
 same-length c = search needs
@@ -78,10 +73,32 @@ same-length-4 : tie.Need-same-length-4
 same-length-4 c = search needs
 
 returns-2 : tie.Need-returns-2
-returns-2 c = let add = added c in adds (searched (add .before)) (add .add-by-table .result) _ (add .add-by-table .ensures)
+returns-2 c =
+    let add = add-peaks-from-returns-2 c in
+    adds (search-of-from-returns-2 c) (add .add-peaks .result) _ (add .add-peaks .ensures)
+
+add-peaks-requires-2 : tie.Need-add-peaks-requires-2
+add-peaks-requires-2 c κs = can-search (search-of-from-add-peaks-requires-2 c)
+
+same-length-5 : tie.Need-same-length-5
+same-length-5 c = search needs
+
+same-length-6 : tie.Need-same-length-6
+same-length-6 c = search needs
+
+same-length-7 : tie.Need-same-length-7
+same-length-7 c = search needs
+
+same-length-8 : tie.Need-same-length-8
+same-length-8 c = search needs
+
+returns-3 : tie.Need-returns-3
+returns-3 c =
+    let add = add-peaks2-from-returns-3 c in
+    adds (search-of-from-returns-3 c) (add .add-peaks2 .result) _ (add .add-peaks2 .ensures)
 
 pub find-peaks-spec : {M : Type 1} → statement M
 find-peaks-spec =
     tie.close (tie.spec
-    (λ c κs. search needs) returns (λ c κs. search needs) add-by-table-requires same-length same-length-2 same-length-3 same-length-4
-    returns-2)
+    (λ c κs. search needs) returns (λ c κs. search needs) (λ c. search needs) add-peaks-requires same-length same-length-2 same-length-3
+    same-length-4 returns-2 (λ c. search needs) add-peaks-requires-2 same-length-5 same-length-6 same-length-7 same-length-8 returns-3)

@@ -6,10 +6,6 @@ use Rattle.capi_peaks.proofs.peaks.zakdomp_peaks.Statement.{statement}
 use Rattle.capi_peaks.proofs.peaks.zakdomp_peaks.Tie as tie
 use Landmarks.*
 
-detect-peaks-from-response-with-refine-radius-requires :
-    tie.Need-detect-peaks-from-response-with-refine-radius-requires
-detect-peaks-from-response-with-refine-radius-requires c κs = search needs
-
 same-length : tie.Need-same-length
 same-length c = search needs
 
@@ -24,12 +20,12 @@ same-length-4 c = search needs
 
 returns : tie.Need-returns
 returns c =
-    let found = detect-peaks-from-response-with-refine-radius-from-returns c in
-    peaks-found _ _ _ _ _ _ _ _ _ _ _ _ (found .detect-peaks-from-response-with-refine-radius .ensures) (c .number-of .ensures)
+    let found = find-peaks-from-returns c in
+    peaks-found _ _ _ _ _ _ _ _ _ _ _ _ (found .find-peaks .ensures) (c .number-of .ensures)
     (added-of-from-returns c .added-of .ensures) (c .before .ties-of .ensures)
 
 pub zakdomp-peaks-spec : {M : Type 1} → statement M
 zakdomp-peaks-spec =
     tie.close (tie.spec
-    detect-peaks-from-response-with-refine-radius-requires (λ c κs. search needs) (λ c κs. search needs) (λ c κs. search needs)
-    same-length same-length-2 same-length-3 same-length-4 returns)
+    (λ c κs. search needs) (λ c κs. search needs) (λ c κs. search needs) (λ c κs. search needs) same-length same-length-2 same-length-3
+    same-length-4 returns)

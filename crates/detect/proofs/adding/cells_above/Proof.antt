@@ -42,21 +42,6 @@ returns c =
 loop-holds : tie.Need-loop-holds Inv-loop μ-loop
 loop-holds c = rows-start _ _ _ _ _ _ _ _
 
-mul-a : tie.Need-mul-a Inv-loop μ-loop
-mul-a c = omega (arith, small c)
-
-add-a : tie.Need-add-a Inv-loop μ-loop
-add-a c = omega (arith, small c)
-
-mul-e : tie.Need-mul-e Inv-loop μ-loop
-mul-e c = omega (arith, small c)
-
-add-e : tie.Need-add-e Inv-loop μ-loop
-add-e c = omega (arith, small c)
-
-mul-count-low : tie.Need-mul-count-low Inv-loop μ-loop
-mul-count-low c = omega (arith, small c)
-
 part-count-low-end : tie.Need-part-count-low-end Inv-loop μ-loop
 part-count-low-end c = row-in _ _ (start (c .before) .pre) _ (in-rows c) _ (omega arith)
 
@@ -89,6 +74,7 @@ returns-2 c =
 pub cells-above-spec : {M : Type 1} → statement M
 cells-above-spec =
     tie.close (tie.spec
-    Inv-loop μ-loop (λ c κs. search needs) (λ c κs. search needs) returns loop-holds mul-a add-a mul-e add-e (λ c. search needs)
-    mul-count-low (λ c. search needs) (λ c. search needs) part-count-low-end (λ c κs. search needs) (λ c. search needs) sub-n-2 add-n
-    (λ c. search needs) (λ c. search needs) loop-again returns-2)
+    Inv-loop μ-loop (λ c κs. search needs) (λ c κs. search needs) returns loop-holds (λ c. omega (arith, small c))
+    (λ c. omega (arith, small c)) (λ c. omega (arith, small c)) (λ c. omega (arith, small c)) (λ c. search needs)
+    (λ c. omega (arith, small c)) (λ c. search needs) (λ c. search needs) part-count-low-end (λ c κs. search needs) (λ c. search needs)
+    sub-n-2 add-n (λ c. search needs) (λ c. search needs) loop-again returns-2)

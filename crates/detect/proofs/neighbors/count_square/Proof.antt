@@ -48,21 +48,6 @@ fits c =
 loop-holds : tie.Need-loop-holds Inv-loop μ-loop
 loop-holds c = rows-start (isCounted (c .before .args .asked) (c .before .args .v)) _ _ _ _ _ _ _
 
-mul-a : tie.Need-mul-a Inv-loop μ-loop
-mul-a c = omega (arith, small c)
-
-add-a : tie.Need-add-a Inv-loop μ-loop
-add-a c = omega (arith, small c)
-
-mul-e : tie.Need-mul-e Inv-loop μ-loop
-mul-e c = omega (arith, small c)
-
-add-e : tie.Need-add-e Inv-loop μ-loop
-add-e c = omega (arith, small c)
-
-mul-count-cells : tie.Need-mul-count-cells Inv-loop μ-loop
-mul-count-cells c = omega (arith, small c)
-
 part-count-cells-end : tie.Need-part-count-cells-end Inv-loop μ-loop
 part-count-cells-end c = row-in _ _ (start (c .before) .pre .0) _ (in-rows c) _ (omega arith)
 
@@ -85,5 +70,6 @@ pub count-square-spec : {M : Type 1} → statement M
 count-square-spec =
     tie.close (tie.spec
     Inv-loop μ-loop (λ c. search needs) (λ c. search needs) (λ c. search needs) (λ c. search needs) (λ c. search needs)
-    (λ c. search needs) loop-holds mul-a add-a mul-e add-e mul-count-cells (λ c. search needs) (λ c. search needs) part-count-cells-end
+    (λ c. search needs) loop-holds (λ c. omega (arith, small c)) (λ c. omega (arith, small c)) (λ c. omega (arith, small c))
+    (λ c. omega (arith, small c)) (λ c. omega (arith, small c)) (λ c. search needs) (λ c. search needs) part-count-cells-end
     (λ c κs. search needs) add-n (λ c. search needs) (λ c. search needs) loop-again returns)

@@ -35,21 +35,6 @@ module _ (c : tie.In-loop Inv-loop μ-loop) where
 loop-holds : tie.Need-loop-holds Inv-loop μ-loop
 loop-holds c = let a = c .before .before .args in any-start (beats (a .exact) (a .v)) _ _ _ _ _ _ _
 
-mul-a : tie.Need-mul-a Inv-loop μ-loop
-mul-a c = omega (arith, small c)
-
-add-a : tie.Need-add-a Inv-loop μ-loop
-add-a c = omega (arith, small c)
-
-mul-e : tie.Need-mul-e Inv-loop μ-loop
-mul-e c = omega (arith, small c)
-
-add-e : tie.Need-add-e Inv-loop μ-loop
-add-e c = omega (arith, small c)
-
-mul-any-larger : tie.Need-mul-any-larger Inv-loop μ-loop
-mul-any-larger c = omega (arith, small c)
-
 part-any-larger-end : tie.Need-part-any-larger-end Inv-loop μ-loop
 part-any-larger-end c = row-in _ _ (start (c .before) .pre .0) _ (in-rows c) _ (omega arith)
 
@@ -77,5 +62,6 @@ pub is-local-max-spec : {M : Type 1} → statement M
 is-local-max-spec =
     tie.close (tie.spec
     Inv-loop μ-loop (λ c κs. search needs) (λ c. search needs) (λ c. search needs) (λ c. search needs) (λ c. search needs)
-    (λ c. search needs) (λ c. search needs) loop-holds mul-a add-a mul-e add-e mul-any-larger (λ c. search needs) (λ c. search needs)
+    (λ c. search needs) (λ c. search needs) loop-holds (λ c. omega (arith, small c)) (λ c. omega (arith, small c))
+    (λ c. omega (arith, small c)) (λ c. omega (arith, small c)) (λ c. omega (arith, small c)) (λ c. search needs) (λ c. search needs)
     part-any-larger-end (λ c κs. search needs) returns (λ c. search needs) (λ c. search needs) loop-again returns-2)

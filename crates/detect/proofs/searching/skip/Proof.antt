@@ -76,21 +76,6 @@ returns-2 c =
 loop-holds : tie.Need-loop-holds Inv-loop μ-loop
 loop-holds c = skipped-none _ _ _ _
 
-mul-a : tie.Need-mul-a Inv-loop μ-loop
-mul-a c = omega (arith, small c)
-
-add-a : tie.Need-add-a Inv-loop μ-loop
-add-a c = omega (arith, small c)
-
-mul-e : tie.Need-mul-e Inv-loop μ-loop
-mul-e c = omega (arith, small c)
-
-add-e : tie.Need-add-e Inv-loop μ-loop
-add-e c = omega (arith, small c)
-
-mul-cells-below : tie.Need-mul-cells-below Inv-loop μ-loop
-mul-cells-below c = omega (arith, small c)
-
 part-cells-below-end : tie.Need-part-cells-below-end Inv-loop μ-loop
 part-cells-below-end c = row-in _ _ (start c .pre .0) _ (in-rows c) _ (omega arith)
 
@@ -126,6 +111,7 @@ returns-5 c = c .before .loop .inv
 pub skip-spec : {M : Type 1} → statement M
 skip-spec =
     tie.close (tie.spec
-    Inv-loop μ-loop (λ c κs. search needs) returns returns-2 loop-holds mul-a add-a mul-e add-e mul-cells-below (λ c. search needs)
-    (λ c. search needs) part-cells-below-end (λ c κs. search needs) add-x returns-3 value-at-requires is-overtopped-requires returns-4
-    (λ c. search needs) (λ c. omega arith) loop-again returns-5)
+    Inv-loop μ-loop (λ c κs. search needs) returns returns-2 loop-holds (λ c. omega (arith, small c)) (λ c. omega (arith, small c))
+    (λ c. omega (arith, small c)) (λ c. omega (arith, small c)) (λ c. omega (arith, small c)) (λ c. search needs) (λ c. search needs)
+    part-cells-below-end (λ c κs. search needs) add-x returns-3 value-at-requires is-overtopped-requires returns-4 (λ c. search needs)
+    (λ c. omega arith) loop-again returns-5)

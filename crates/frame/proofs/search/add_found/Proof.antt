@@ -60,7 +60,8 @@ add-patch-requires c κs =
     let start = start-from-add-patch-requires c in
     let turn = loop-from-add-patch-requires c .loop .inv in (
       record { sound = start .pre .0 .sound; enough = omega (arith, start .pre .0 .enough, turn .1) },
-      (adds-held _ _ _ _ _ _ (turn .6), omega (arith, minus-from-add-patch-requires c .minus .ensures, start .pre .1 .0)),
+      adds-held _ _ _ _ _ _ (turn .6),
+      omega (arith, minus-from-add-patch-requires c .minus .ensures, start .pre .1 .0),
     )
 
 same-length-6 : tie.Need-same-length-6 Inv-loop μ-loop

@@ -14,7 +14,7 @@ use Landmarks.*
 returns : tie.Need-returns
 returns c =
     about-none (choiceOf (start-from-returns c .args .p) (start-from-returns c .args .exact)) _ _ _ _ _ _ _ (c .before .box-of .ensures)
-    (c .match .keys2) _ _ (start-from-returns c .pre .1 .0)
+    (c .match .keys2) _ _ (start-from-returns c .pre .1)
 
 int-to-float-shift : tie.Need-int-to-float-shift
 unfolding inFloat
@@ -29,7 +29,7 @@ int-to-float-shift c =
 shift-requires : tie.Need-shift-requires
 shift-requires c κs =
     let call = add-patch-corners-from-shift-requires c .add-patch-corners in
-    let fit = moved-fits _ _ _ _ _ _ (call .ensures) (start-from-shift-requires c .pre .1 .0) _
+    let fit = moved-fits _ _ _ _ _ _ (call .ensures) (start-from-shift-requires c .pre .1) _
     (added-from-shift-requires c .added .ensures) in
     omega (arith, fit, call .kept)
 
@@ -46,7 +46,7 @@ int-to-float-shift-2 c =
 shift-requires-2 : tie.Need-shift-requires-2
 shift-requires-2 c κs =
     let call = add-patch-corners-from-shift-requires-2 c .add-patch-corners in
-    let fit = moved-fits _ _ _ _ _ _ (call .ensures) (start-from-shift-requires-2 c .pre .1 .0) _
+    let fit = moved-fits _ _ _ _ _ _ (call .ensures) (start-from-shift-requires-2 c .pre .1) _
     (added-from-shift-requires-2 c .added .ensures) in
     omega (arith, fit, call .kept)
 

@@ -4,7 +4,7 @@ use borrow.Author.Needs.{needs}
 use mathlib.Core.Path.{_≡_, sym, _∙_}
 use Rattle.corner_list.specs.CornerList.{slices, placesOf}
 use Rattle.merge.specs.Apart.{refusalApart}
-use Rattle.merge.proofs.Separate.{apart-held, apart-fits}
+use Rattle.merge.proofs.Separate.{apart-judged, apart-fits}
 use Rattle.merge.proofs.Answer.{leaves-refused, leaves-kept}
 use Rattle.merge.proofs.apart.merge_apart.Statement.{statement}
 use Rattle.merge.proofs.apart.merge_apart.Tie as tie
@@ -15,7 +15,8 @@ judged : (c : tie.After-refusal-apart)
     → let a = start-from-refusal-apart c .args in
     c .refusal-apart .result ≡ refusalApart (a .radius) (placesOf (slices (a .mx .now) (a .my .now) (a .ms .now) (a .mn .now))) (a .count)
     (slices (a .xs .now) (a .ys .now) (a .strengths .now) (a .neighbours .now))
-judged c = apart-held _ _ _ _ _ _ (c .refusal-apart .ensures) (places-from-refusal-apart c .places .ensures)
+judged c =
+    apart-judged _ _ _ _ _ (c .before .refusal .ensures) _ _ (c .refusal-apart .ensures) (places-from-refusal-apart c .places .ensures)
 
 returns : tie.Need-returns
 returns c = leaves-refused _ _ _ _ (judged (c .before)) (c .if1 .taken)
@@ -46,5 +47,5 @@ returns-2 c =
 pub merge-apart-spec : {M : Type 1} → statement M
 merge-apart-spec =
     tie.close (tie.spec
-    (λ c κs. search needs) (λ c κs. search needs) returns merge-into-requires same-length same-length-2 same-length-3 same-length-4
-    returns-2)
+    (λ c κs. search needs) (λ c κs. search needs) (λ c κs. search needs) returns merge-into-requires same-length same-length-2
+    same-length-3 same-length-4 returns-2)

@@ -9,8 +9,7 @@ use Rattle.merge_settle.proofs.Stepping.{stops-ready, stops-done, stops
 use Rattle.merge_settle.proofs.settling.merge_up_to.Reads as reads
 use Rattle.merge_settle.proofs.settling.merge_up_to.Kinds as kinds
 use Rattle.merge_settle.proofs.settling.+merge_up_to.Lts-merge_up_to as lts
-use Rattle.merge_settle.proofs.settling.merge_few.Reads as merge-few-reads
-use Rattle.merge_settle.proofs.settling.merge_more.Reads as merge-more-reads
+use Rattle.merge_settle.proofs.settling.merge_some.Reads as merge-some-reads
 use Rattle.merge_settle.proofs.settling.merge_most.Reads as merge-most-reads
 use Rattle.merge_settle.proofs.settling.+merge_up_to.{statement}
 use Rattle.merge_settle.proofs.settling.+merge_up_to.Tie.{close}
@@ -26,12 +25,10 @@ module _ (t : ℕ) where
 
   abbrev claims : lts.Claims
   claims = (
-    merge-few-reads.Asked,
-    merge-few-reads.Learnt,
+    merge-some-reads.Asked,
+    merge-some-reads.Learnt,
     and 8 kinds.ps (falls 8 kinds.ps _<_ μ-merge-up-to t) reads.Pre,
     reads.Post,
-    merge-more-reads.Asked,
-    merge-more-reads.Learnt,
     merge-most-reads.Asked,
     merge-most-reads.Learnt,
   )
@@ -43,8 +40,8 @@ module _ (t : ℕ) where
   abbrev called : lts.Else2 claims given reads.Post → lts.After-merge-up-to claims given reads.Post
   called c = merge-up-to-from-else2 c
 
-  merge-few-requires : lts.Need-merge-few-requires claims given reads.Post
-  merge-few-requires c κs = search needs
+  merge-some-requires : lts.Need-merge-some-requires claims given reads.Post
+  merge-some-requires c κs = search needs
 
   same-length : lts.Need-same-length claims given reads.Post
   same-length c = search needs
@@ -60,8 +57,8 @@ module _ (t : ℕ) where
 
   returns : lts.Need-returns claims given reads.Post
   returns c =
-      let few = merge-few-from-returns c in
-      stops-less _ _ _ _ _ _ _ _ _ (few .merge-few .ensures) _ (omega (arith, if1-from-returns c .if1 .taken))
+      let some = merge-some-from-returns c in
+      stops-less _ _ _ _ _ _ _ _ _ (some .merge-some .ensures) _ (if1-from-returns c .if1 .taken)
 
   merge-up-to-requires : lts.Need-merge-up-to-requires claims given reads.Post
   merge-up-to-requires c κs =
@@ -83,8 +80,8 @@ module _ (t : ℕ) where
   returns-2 : lts.Need-returns-2 claims given reads.Post
   returns-2 c = stops-done _ _ _ _ _ _ _ _ _ (merge-up-to-from-returns-2 c .merge-up-to .ensures) _ (c .if2 .taken)
 
-  merge-more-requires : lts.Need-merge-more-requires claims given reads.Post
-  merge-more-requires c κs = let p = called (if2-from-merge-more-requires c) in
+  merge-most-requires : lts.Need-merge-most-requires claims given reads.Post
+  merge-most-requires c κs = let p = called (if2-from-merge-most-requires c) in
       stops-ready _ _ _ _ _ _ _ _ _ (p .merge-up-to .ensures) (start p .pre .1 .0)
 
   same-length-9 : lts.Need-same-length-9 claims given reads.Post
@@ -101,38 +98,15 @@ module _ (t : ℕ) where
 
   returns-3 : lts.Need-returns-3 claims given reads.Post
   returns-3 c =
-      let more = merge-more-from-returns-3 c in
-      let low = if3-from-returns-3 c in
-      stops-on _ _ _ _ _ _ _ _ _ (called (low .before) .merge-up-to .ensures) _ _ _ _ (more .merge-more .ensures)
-      (omega (arith, low .if3 .taken))
-
-  merge-most-requires : lts.Need-merge-most-requires claims given reads.Post
-  merge-most-requires c κs = let p = called (if2-from-merge-most-requires c) in
-      stops-ready _ _ _ _ _ _ _ _ _ (p .merge-up-to .ensures) (start p .pre .1 .0)
-
-  same-length-13 : lts.Need-same-length-13 claims given reads.Post
-  same-length-13 c = search needs
-
-  same-length-14 : lts.Need-same-length-14 claims given reads.Post
-  same-length-14 c = search needs
-
-  same-length-15 : lts.Need-same-length-15 claims given reads.Post
-  same-length-15 c = search needs
-
-  same-length-16 : lts.Need-same-length-16 claims given reads.Post
-  same-length-16 c = search needs
-
-  returns-4 : lts.Need-returns-4 claims given reads.Post
-  returns-4 c =
-      let most = merge-most-from-returns-4 c in
-      let p = called (if2-from-returns-4 c) in
+      let most = merge-most-from-returns-3 c in
+      let p = called (if2-from-returns-3 c) in
       stops-on _ _ _ _ _ _ _ _ _ (p .merge-up-to .ensures) _ _ _ _ (most .merge-most .ensures) (omega (arith, start p .pre .1 .1))
 
 pub +merge-up-to-spec : {M : Type 1} → statement M
 +merge-up-to-spec =
     close μ-merge-up-to λ t.
     lts.spec (claims t) (given t) reads.Post
-    (merge-few-requires t)
+    (merge-some-requires t)
     (same-length t)
     (same-length-2 t)
     (same-length-3 t)
@@ -144,15 +118,9 @@ pub +merge-up-to-spec : {M : Type 1} → statement M
     (same-length-7 t)
     (same-length-8 t)
     (returns-2 t)
-    (merge-more-requires t)
+    (merge-most-requires t)
     (same-length-9 t)
     (same-length-10 t)
     (same-length-11 t)
     (same-length-12 t)
     (returns-3 t)
-    (merge-most-requires t)
-    (same-length-13 t)
-    (same-length-14 t)
-    (same-length-15 t)
-    (same-length-16 t)
-    (returns-4 t)

@@ -56,4 +56,5 @@ with-corners-spec =
     (λ c κs. search needs) (λ c κs. search needs) array-borrow-prefix-xs slice-aggregate-find-corners array-borrow-prefix-ys
     slice-aggregate-find-corners-2 array-borrow-prefix-strengths slice-aggregate-find-corners-3 array-borrow-prefix-neighbours
     slice-aggregate-find-corners-4 (λ c κs. search needs) (λ c κs. search needs) (λ c κs. search needs) (λ c κs. search needs)
-    same-length same-length-2 same-length-3 same-length-4 same-length-5 same-length-6 (λ c. search needs))
+    (λ c κs. search needs) (λ c κs. search needs) (λ c κs. search needs) same-length same-length-2 same-length-3 same-length-4
+    same-length-5 same-length-6 (λ c. search needs))

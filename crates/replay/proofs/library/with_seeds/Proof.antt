@@ -43,4 +43,4 @@ with-seeds-spec =
     (λ c κs. search needs) (λ c κs. search needs) (λ c κs. search needs) (λ c κs. search needs) array-borrow-prefix-xs
     slice-aggregate-with-corners array-borrow-prefix-ys slice-aggregate-with-corners-2 array-borrow-prefix-strengths
     slice-aggregate-with-corners-3 array-borrow-prefix-neighbours slice-aggregate-with-corners-4 (λ c κs. search needs)
-    (λ c κs. search needs) same-length same-length-2 (λ c. search needs))
+    (λ c κs. search needs) (λ c κs. search needs) (λ c κs. search needs) same-length same-length-2 (λ c. search needs))

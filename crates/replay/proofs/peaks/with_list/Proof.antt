@@ -8,34 +8,26 @@ use Rattle.replay.proofs.peaks.with_list.Tie as tie
 array-borrow-prefix-xs : tie.Need-array-borrow-prefix-xs
 array-borrow-prefix-xs c = search needs
 
-slice-aggregate-detect-peaks-from-response-with-refine-radius :
-    tie.Need-slice-aggregate-detect-peaks-from-response-with-refine-radius
-slice-aggregate-detect-peaks-from-response-with-refine-radius c = sym (length-take-le _ _ (array-borrow-prefix-xs (c .before)))
+slice-aggregate-find-peaks : tie.Need-slice-aggregate-find-peaks
+slice-aggregate-find-peaks c = sym (length-take-le _ _ (array-borrow-prefix-xs (c .before)))
 
 array-borrow-prefix-ys : tie.Need-array-borrow-prefix-ys
 array-borrow-prefix-ys c = search needs
 
-slice-aggregate-detect-peaks-from-response-with-refine-radius-2 :
-    tie.Need-slice-aggregate-detect-peaks-from-response-with-refine-radius-2
-slice-aggregate-detect-peaks-from-response-with-refine-radius-2 c = sym (length-take-le _ _ (array-borrow-prefix-ys (c .before)))
+slice-aggregate-find-peaks-2 : tie.Need-slice-aggregate-find-peaks-2
+slice-aggregate-find-peaks-2 c = sym (length-take-le _ _ (array-borrow-prefix-ys (c .before)))
 
 array-borrow-prefix-strengths : tie.Need-array-borrow-prefix-strengths
 array-borrow-prefix-strengths c = search needs
 
-slice-aggregate-detect-peaks-from-response-with-refine-radius-3 :
-    tie.Need-slice-aggregate-detect-peaks-from-response-with-refine-radius-3
-slice-aggregate-detect-peaks-from-response-with-refine-radius-3 c = sym (length-take-le _ _ (array-borrow-prefix-strengths (c .before)))
+slice-aggregate-find-peaks-3 : tie.Need-slice-aggregate-find-peaks-3
+slice-aggregate-find-peaks-3 c = sym (length-take-le _ _ (array-borrow-prefix-strengths (c .before)))
 
 array-borrow-prefix-neighbours : tie.Need-array-borrow-prefix-neighbours
 array-borrow-prefix-neighbours c = search needs
 
-slice-aggregate-detect-peaks-from-response-with-refine-radius-4 :
-    tie.Need-slice-aggregate-detect-peaks-from-response-with-refine-radius-4
-slice-aggregate-detect-peaks-from-response-with-refine-radius-4 c = sym (length-take-le _ _ (array-borrow-prefix-neighbours (c .before)))
-
-detect-peaks-from-response-with-refine-radius-requires :
-    tie.Need-detect-peaks-from-response-with-refine-radius-requires
-detect-peaks-from-response-with-refine-radius-requires c κs = search needs
+slice-aggregate-find-peaks-4 : tie.Need-slice-aggregate-find-peaks-4
+slice-aggregate-find-peaks-4 c = sym (length-take-le _ _ (array-borrow-prefix-neighbours (c .before)))
 
 pub with-list-spec : {M : Type 1} → statement M
 with-list-spec =
@@ -43,9 +35,7 @@ with-list-spec =
     (λ c κs. search needs) (λ c κs. search needs) (λ c κs. search needs) (λ c κs. search needs) (λ c κs. search needs)
     (λ c κs. search needs) (λ c κs. search needs) (λ c κs. search needs) (λ c κs. search needs) (λ c κs. search needs)
     (λ c κs. search needs) (λ c κs. search needs) (λ c κs. search needs) (λ c κs. search needs) (λ c κs. search needs)
-    (λ c κs. search needs) array-borrow-prefix-xs slice-aggregate-detect-peaks-from-response-with-refine-radius array-borrow-prefix-ys
-    slice-aggregate-detect-peaks-from-response-with-refine-radius-2 array-borrow-prefix-strengths
-    slice-aggregate-detect-peaks-from-response-with-refine-radius-3 array-borrow-prefix-neighbours
-    slice-aggregate-detect-peaks-from-response-with-refine-radius-4 (λ c κs. search needs)
-    detect-peaks-from-response-with-refine-radius-requires (λ c κs. search needs) (λ c κs. search needs) (λ c κs. search needs)
+    (λ c κs. search needs) array-borrow-prefix-xs slice-aggregate-find-peaks array-borrow-prefix-ys slice-aggregate-find-peaks-2
+    array-borrow-prefix-strengths slice-aggregate-find-peaks-3 array-borrow-prefix-neighbours slice-aggregate-find-peaks-4
+    (λ c κs. search needs) (λ c κs. search needs) (λ c κs. search needs) (λ c κs. search needs) (λ c κs. search needs)
     (λ c. search needs))

@@ -50,21 +50,6 @@ fits c =
 loop-holds : tie.Need-loop-holds Inv-loop μ-loop
 loop-holds c = rows-start (ltZ (toZ w32 (ofZ w32 (c .args .v)))) _ _ _ _ _ _ _
 
-mul-a : tie.Need-mul-a Inv-loop μ-loop
-mul-a c = omega (arith, small c)
-
-add-a : tie.Need-add-a Inv-loop μ-loop
-add-a c = omega (arith, small c)
-
-mul-e : tie.Need-mul-e Inv-loop μ-loop
-mul-e c = omega (arith, small c)
-
-add-e : tie.Need-add-e Inv-loop μ-loop
-add-e c = omega (arith, small c)
-
-mul-count-above : tie.Need-mul-count-above Inv-loop μ-loop
-mul-count-above c = omega (arith, small c)
-
 part-count-above-end : tie.Need-part-count-above-end Inv-loop μ-loop
 part-count-above-end c = row-in _ _ _ _ _ (start (c .before) .pre) (stored (start (c .before))) _ (c .loop-test .taken)
 
@@ -129,6 +114,7 @@ pub count-window-spec : {M : Type 1} → statement M
 count-window-spec =
     tie.close (tie.spec
     Inv-loop μ-loop (λ c. search needs) (λ c. search needs) (λ c. search needs) (λ c. search needs) (λ c. search needs)
-    (λ c. search needs) loop-holds mul-a add-a mul-e add-e mul-count-above (λ c. search needs) (λ c. search needs) part-count-above-end
+    (λ c. search needs) loop-holds (λ c. omega (arith, small c)) (λ c. omega (arith, small c)) (λ c. omega (arith, small c))
+    (λ c. omega (arith, small c)) (λ c. omega (arith, small c)) (λ c. search needs) (λ c. search needs) part-count-above-end
     (λ c κs. search needs) add-n (λ c. search needs) (λ c. search needs) loop-again mul-if1 add-if1 mul-if1-2 shared-slice-copy-out-if1
     sub-result returns returns-2)

@@ -5,6 +5,5 @@ use Rattle.capi_peaks.proofs.peaks.zakdomp_peaks.Tie as tie
 abbrev pub added-of-from-returns : tie.After-number-of → tie.After-added-of
 added-of-from-returns c = c .before .before .before
 
-abbrev pub detect-peaks-from-response-with-refine-radius-from-returns : tie.After-number-of → tie.After-detect-peaks-from-response-with-refine-radius
-detect-peaks-from-response-with-refine-radius-from-returns c =
-    added-of-from-returns c .before .before .before .before .before .before .before .before .before .before
+abbrev pub find-peaks-from-returns : tie.After-number-of → tie.After-find-peaks
+find-peaks-from-returns c = added-of-from-returns c .before .before .before .before .before .before .before .before .before .before

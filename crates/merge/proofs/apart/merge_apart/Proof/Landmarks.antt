@@ -12,7 +12,7 @@ abbrev pub if1-from-returns-2 : tie.After-slice-known8 → tie.Else1
 if1-from-returns-2 c = merge-into-from-returns-2 c .before .before .before .before .before
 
 abbrev pub places-from-refusal-apart : tie.After-refusal-apart → tie.After-places
-places-from-refusal-apart c = c .before
+places-from-refusal-apart c = c .before .before
 
 abbrev pub start-from-refusal-apart : tie.After-refusal-apart → tie.Start
 start-from-refusal-apart c = places-from-refusal-apart c .before .before .before .before .before .before .before .before .before

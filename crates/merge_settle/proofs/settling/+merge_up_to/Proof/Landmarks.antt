@@ -4,11 +4,11 @@ use borrow.Fn.Kinds
 use Rattle.merge_settle.proofs.settling.+merge_up_to.Lts-merge_up_to as tie
 
 module _ {claims : tie.Claims} {given : Kinds.In 8 tie.ps} {post : Kinds.Out 8 tie.ps tie.r} where
-  abbrev pub merge-few-from-returns : tie.After-slice-known8 claims given post → tie.After-merge-few claims given post
-  merge-few-from-returns c = c .before .before .before .before .before .before .before .before
+  abbrev pub merge-some-from-returns : tie.After-slice-known8 claims given post → tie.After-merge-some claims given post
+  merge-some-from-returns c = c .before .before .before .before .before .before .before .before
 
   abbrev pub if1-from-returns : tie.After-slice-known8 claims given post → tie.Then1 claims given post
-  if1-from-returns c = merge-few-from-returns c .before .before .before .before .before
+  if1-from-returns c = merge-some-from-returns c .before .before .before .before .before
 
   abbrev pub if1-from-merge-up-to-requires : tie.After-merge-up-to-arg4 claims given post → tie.Else1 claims given post
   if1-from-merge-up-to-requires c = c .before .before .before .before
@@ -20,23 +20,14 @@ module _ {claims : tie.Claims} {given : Kinds.In 8 tie.ps} {post : Kinds.Out 8 t
   abbrev pub merge-up-to-from-returns-2 : tie.Then2 claims given post → tie.After-merge-up-to claims given post
   merge-up-to-from-returns-2 c = c .before .before .before .before .before .before .before .before .before .before
 
-  abbrev pub if2-from-merge-more-requires : tie.After-merge-more-arg4 claims given post → tie.Else2 claims given post
-  if2-from-merge-more-requires c = c .before .before .before .before .before
-
-  abbrev pub merge-more-from-returns-3 : tie.After-slice-known16 claims given post → tie.After-merge-more claims given post
-  merge-more-from-returns-3 c = c .before .before .before .before .before .before .before .before
-
-  abbrev pub if3-from-returns-3 : tie.After-slice-known16 claims given post → tie.Then3 claims given post
-  if3-from-returns-3 c = merge-more-from-returns-3 c .before .before .before .before .before
-
   abbrev pub if2-from-merge-most-requires : tie.After-merge-most-arg4 claims given post → tie.Else2 claims given post
-  if2-from-merge-most-requires c = c .before .before .before .before .before
+  if2-from-merge-most-requires c = c .before .before .before .before
 
-  abbrev pub merge-most-from-returns-4 : tie.After-slice-known20 claims given post → tie.After-merge-most claims given post
-  merge-most-from-returns-4 c = c .before .before .before .before .before .before .before .before
+  abbrev pub merge-most-from-returns-3 : tie.After-slice-known16 claims given post → tie.After-merge-most claims given post
+  merge-most-from-returns-3 c = c .before .before .before .before .before .before .before .before
 
-  abbrev pub if2-from-returns-4 : tie.After-slice-known20 claims given post → tie.Else2 claims given post
-  if2-from-returns-4 c = merge-most-from-returns-4 c .before .before .before .before .before .before
+  abbrev pub if2-from-returns-3 : tie.After-slice-known16 claims given post → tie.Else2 claims given post
+  if2-from-returns-3 c = merge-most-from-returns-3 c .before .before .before .before .before
 
   abbrev pub start-from-merge-up-to : tie.After-merge-up-to claims given post → tie.Start claims given post
   start-from-merge-up-to c =
