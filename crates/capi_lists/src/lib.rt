@@ -1,6 +1,8 @@
 // Lists of corners for C: each function takes numbers, slices as pointer and length, and pointers for its results. It
 // returns 0, or the number of a refusal, which leaves buffers and results as they were. include/zakdomp.h declares
 // them.
+#![tactic(auto)]
+
 mod apart; // zakdomp_merge_apart: the list that merging would leave, in a separate buffer
 mod merging; // zakdomp_merge: corners merged in place
 mod naive; // zakdomp_merge_naive: corners merged in place by distance alone

@@ -7,7 +7,7 @@ ghost use Rattle.capi_peaks.specs.Internal.{located};
 use center_of_mass::{CenterOfMassRefiner, Outcome};
 
 // A seed or its centre of mass, and the mass, which is 0 if the seed did not move.
-#[derive(Drop)]
+#[derive(Clone, Copy)]
 struct Seed {
     x: f32,
     y: f32,

@@ -1,17 +1,19 @@
 // The centre of mass of a response map around a seed.
+#![tactic(auto)]
+
 ghost use Rattle.std.specs.Prelude.{◌≡◌, ◌+◌, ◌*◌, ◌≤◌, ◌<◌, length};
 ghost use Rattle.lists.specs.Limits.{largest_side, largest_radius};
 ghost use Rattle.lists.specs.Places.{row, block};
 ghost use Rattle.center_of_mass.specs.CenterOfMass.{no_sums, with_cells, seed_fits, refusal_of, centre_on, outcome_of};
 ghost use Rattle.center_of_mass.specs.Promise.{Refined};
 
-#[derive(Drop)]
+#[derive(Clone, Copy)]
 pub struct CenterOfMassRefiner {
     pub radius: u32,
 }
 
 // The floats are the centre of mass and the mass, or the seed unchanged. `Refused` holds the number of the refusal.
-#[derive(Drop)]
+#[derive(Clone, Copy)]
 pub enum Outcome {
     Accepted(f32, f32, f32),
     Rejected(f32, f32),
@@ -21,7 +23,7 @@ pub enum Outcome {
 }
 
 // The sums over some cells: column times weight, row times weight, weight.
-#[derive(Drop)]
+#[derive(Clone, Copy)]
 struct Sums {
     sx: f32,
     sy: f32,
@@ -29,7 +31,7 @@ struct Sums {
 }
 
 // The window's centre on one axis, if the whole window lies within the side.
-#[derive(Drop)]
+#[derive(Clone, Copy)]
 enum Centre {
     At(usize),
     Outside,

@@ -1,4 +1,6 @@
 // Clears the unused end of a buffer: a frame leaves its buffers so (RULES 9.6).
+#![tactic(auto)]
+
 ghost use Rattle.std.specs.Prelude.{◌≡◌, length, replicate};
 ghost use Rattle.lists.specs.Buffer.{wiped_from};
 ghost use Rattle.float32.specs.Float32.{zero};

@@ -1,10 +1,12 @@
 // Corners, and lists of them in a buffer of four slices.
+#![tactic(auto)]
+
 ghost use Rattle.std.specs.Prelude.{◌≡◌, min, get_or};
 ghost use Rattle.std.specs.Float.{nan};
 ghost use Rattle.corner_list.specs.CornerList.{is_inside, slices, corner_at, with_corner};
 
 // Where a corner is, in pixels, the response at its peak, and how many neighbours of that peak are above 0.
-#[derive(Drop)]
+#[derive(Clone, Copy)]
 pub struct Corner {
     pub x: f32,
     pub y: f32,

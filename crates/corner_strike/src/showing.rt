@@ -7,7 +7,7 @@ ghost use Rattle.corner_strike.specs.Showing.{refusal_of, Shows};
 use corner_list::Corner;
 
 // The corner with the list's change number, or the number of the refusal.
-#[derive(Drop)]
+#[derive(Clone, Copy)]
 pub enum Shown {
     Found(Corner, u32),
     Refused(u8),

@@ -7,7 +7,7 @@ ghost use Rattle.corner_strike.specs.Striking.{refusal_of, Strikes};
 use corner_list::Corner;
 
 // The list's count and change number after the strike, or the number of the refusal.
-#[derive(Drop)]
+#[derive(Clone, Copy)]
 pub enum Strike {
     Struck(usize, u32),
     Refused(u8),

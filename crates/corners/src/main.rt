@@ -1,5 +1,7 @@
 // The program `corners`: prints the listing of the frame stream that it reads from standard input. It reads no more
 // bytes than decide the listing. If it cannot read or write, it says so in a line on standard error.
+#![tactic(auto)]
+
 mod writing;
 
 ghost use Rattle.std.specs.Prelude.{◌≡◌, false, length};

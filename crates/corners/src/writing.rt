@@ -8,7 +8,7 @@ ghost use Rattle.stream.specs.Wanted.{wanted};
 
 use input::Input;
 
-#[derive(Drop)]
+#[derive(Clone, Copy)]
 pub(crate) struct Output {
     // Whether a text was written to its end.
     written: bool,

@@ -10,7 +10,7 @@ use crate::Search;
 use crate::searching::next_peak;
 
 // The answer: whether there are at least `wanted` peaks and how many rows were looked at, or the number of the refusal.
-#[derive(Drop)]
+#[derive(Clone, Copy)]
 pub enum Enough {
     Yes(usize),
     No(usize),

@@ -1,4 +1,6 @@
 // Peaks of a response map, added to a buffer of corners (RULES 4).
+#![tactic(auto)]
+
 mod adding;
 mod enough; // has_peaks: whether there are as many as wanted
 mod fifths; // the threshold of the choice by exact values
@@ -19,7 +21,7 @@ pub use enough::{Enough, has_peaks};
 // What a map is searched with: its sides, the border that no peak lies in, the window's radius, the lifted threshold,
 // the least number of positive neighbours, and whether peaks are chosen by exact values. Public because the promise
 // mentions it.
-#[derive(Drop)]
+#[derive(Clone, Copy)]
 pub struct Search {
     pub w: usize,
     pub h: usize,
@@ -32,14 +34,14 @@ pub struct Search {
 
 // What the window around a cell says about the cell: one of the window's cells is larger, or none is and this many
 // equal it. Public because promises mention it.
-#[derive(Drop)]
+#[derive(Clone, Copy)]
 pub enum WindowTest {
     Beaten,
     Top(u32),
 }
 
 // The answer: how many peaks were added to the buffer and how many ties they have, or the number of the refusal.
-#[derive(Drop)]
+#[derive(Clone, Copy)]
 pub enum Peaks {
     Added(usize, u64),
     Refused(u8),

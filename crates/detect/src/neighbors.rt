@@ -15,7 +15,7 @@ ghost use Rattle.detect.specs.Internal.{OfFive, OfSquare};
 use crate::{Search, WindowTest};
 
 // What is counted in a window: the cells above 0, those with at least the centre's value, or those that equal it.
-#[derive(Drop)]
+#[derive(Clone, Copy)]
 pub(crate) enum Asked {
     Positive,
     AtLeast,

@@ -27,7 +27,7 @@ const WIDE_MAP: usize = 2048;
 
 // What a search found: a place of the map, column x of row y, and how many positive neighbours and ties the peak there
 // has.
-#[derive(Drop)]
+#[derive(Clone, Copy)]
 pub(crate) struct Spot {
     pub(crate) x: usize,
     pub(crate) y: usize,
@@ -36,7 +36,7 @@ pub(crate) struct Spot {
 }
 
 // Whether a cell is a peak, and then how many positive neighbours and ties it has.
-#[derive(Drop)]
+#[derive(Clone, Copy)]
 enum PeakTest {
     No,
     Peak(u32, u32),

@@ -1,4 +1,6 @@
 // From the bytes of a frame stream to the bytes of its listing: reader, frame pass and listing, one after the other.
+#![tactic(auto)]
+
 ghost use Rattle.std.specs.Prelude.{◌≡◌, ◌≤◌};
 ghost use Rattle.lists.specs.Buffer.{Written};
 ghost use Rattle.corner_list.specs.CornerList.{slices, corners_of};

@@ -1,4 +1,6 @@
 // Operations on f32 that Rust's `std` has and Rattle lacks, or lacks for some values. Each is total.
+#![tactic(auto)]
+
 ghost use Rattle.std.specs.Prelude.{◌≡◌, from_bits, to_bits};
 ghost use Rattle.std.specs.Float.{binary32};
 ghost use Rattle.std.specs.Float.Ieee.{to_unsigned};
@@ -70,7 +72,7 @@ pub fn cut_off(x: f32) -> usize
 }
 
 // A float rounded to a whole number: not negative, negative (its absolute value), or not rounded.
-#[derive(Drop)]
+#[derive(Clone, Copy)]
 pub enum Rounded {
     Natural(usize),
     Negative(usize),

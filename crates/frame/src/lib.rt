@@ -1,4 +1,6 @@
 // The frame pass: from an image and its parameters to the list of its corners, over borrowed buffers.
+#![tactic(auto)]
+
 pub mod answers; // number_of, count_of, ties_of: an answer taken apart
 mod bands; // the corners of a whole image, by bands of rows
 mod box_corners; // the corners of one box
@@ -19,7 +21,7 @@ use pyramid::Pyramid;
 
 // How many corners are in the corner buffer and how many ties the peaks found before merging have, or the number of the
 // refusal.
-#[derive(Drop)]
+#[derive(Clone, Copy)]
 pub enum FrameAnswer {
     Corners(usize, u64),
     Refused(u8),

@@ -160,7 +160,7 @@ pub(crate) fn add_seeds<'a>(
 
 // Whether both lists fit their buffers, how many seeds and corners are at their start, and the ties of the corners'
 // peaks. All are 0 if a list does not fit.
-#[derive(Drop)]
+#[derive(Clone, Copy)]
 pub(crate) struct Lists {
     pub fit: bool,
     pub seeds: usize,

@@ -1,4 +1,6 @@
 // The parameters of a frame, and whether they are in their ranges: condition 3.
+#![tactic(auto)]
+
 ghost use Rattle.std.specs.Prelude.{◌≡◌};
 ghost use Rattle.frame_params.specs.Params.{params};
 ghost use Rattle.frame_params.specs.Ranges.{range_outside, parameters_fit};
@@ -6,7 +8,7 @@ ghost use Rattle.frame_params.specs.Ranges.{range_outside, parameters_fit};
 // The parameters of a frame (RULES 1.7): the ring's radius, the threshold of a peak, the radius of its window and the
 // least number of positive neighbours, the centroid's radius, the merge radius, the level count and the minimum size of
 // a level, and the search radius of a seed.
-#[derive(Drop)]
+#[derive(Clone, Copy)]
 pub struct FrameParams {
     pub ring: u32,
     pub threshold: f32,

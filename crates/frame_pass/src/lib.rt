@@ -1,5 +1,7 @@
 // The refusals of a frame before its pass. The frame pass over lists is defined in specs/, and proofs/ has what is true
 // of it.
+#![tactic(auto)]
+
 ghost use Rattle.std.specs.Prelude.{◌≡◌};
 ghost use Rattle.lists.specs.Refusals.{lowest};
 ghost use Rattle.frame_pass.specs.Refusals.{conditions};

@@ -1,4 +1,6 @@
 // Writes the frame stream: the one stream of sides, parameters and pixels that the reader would accept (RULES 30).
+#![tactic(auto)]
+
 mod judging; // refusal: what the reader would not accept, and a buffer that is too short
 mod records; // the bytes of the records
 
@@ -7,7 +9,7 @@ ghost use Rattle.frame_writer.specs.FrameWriter.{FrameWritten};
 use stream::Header;
 
 // The length of the stream at the start of the buffer, or the number of the refusal.
-#[derive(Drop)]
+#[derive(Clone, Copy)]
 pub enum FrameWriting {
     Written(usize),
     Refused(u8),

@@ -8,13 +8,13 @@ ghost use Rattle.frame_writer.specs.Internal.{length_of, FieldsFit, halves16, ha
 use stream::Header;
 
 // A number of two bytes, and one of four: the lower half comes first in the stream.
-#[derive(Drop)]
+#[derive(Clone, Copy)]
 struct Bytes16 {
     low: u8,
     high: u8,
 }
 
-#[derive(Drop)]
+#[derive(Clone, Copy)]
 struct Bytes32 {
     low: Bytes16,
     high: Bytes16,
@@ -125,7 +125,7 @@ pub(crate) fn put_frame(header: Header, pixels: &[u8], out: &mut [u8])
 {
     let head = head_of(header);
     let last = out.len() - 1;
-    bytes::copy(&head, &mut out[..22]);
+    out[..22].copy_from_slice(&head);
     put_pixels(pixels, &mut out[22..last]);
     out[last] = 4;
 }

@@ -1,4 +1,6 @@
 // Conditions 1 and 2, which are checked first for every image and every map.
+#![tactic(auto)]
+
 ghost use Rattle.std.specs.Prelude.{◌≡◌};
 ghost use Rattle.lists.specs.Refusals.{is_large};
 ghost use Rattle.image_size.specs.ImageSize.{refusal_of};

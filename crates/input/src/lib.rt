@@ -1,10 +1,12 @@
 // Standard input, read as far as its reader needs. Only this crate makes an `Input`, and only reading can bring one to
 // its end or to a failure.
+#![tactic(auto)]
+
 ghost use Rattle.std.specs.Prelude.{◌≡◌};
 ghost use Rattle.input.specs.Input.{begun, is_below0, ReadOn};
 
 // How far standard input was read.
-#[derive(Drop)]
+#[derive(Clone, Copy)]
 pub struct Input {
     // How many bytes came. They are at the start of the reader's buffer.
     count: usize,

@@ -1,4 +1,6 @@
 // The text of a corner list, and of a refusal.
+#![tactic(auto)]
+
 ghost use Rattle.std.specs.Prelude.{◌≡◌, [], ◌∷◌, ◌+◌, ◌*◌, ◌≤◌, ◌<◌, length};
 ghost use Rattle.std.specs.Float.{binary32};
 ghost use Rattle.std.specs.Float.Ieee.{to_bits};
@@ -16,7 +18,7 @@ pub const MOST_CORNERS: usize = 512;
 pub const LONGEST: usize = 12 + MOST_CORNERS * 80;
 
 // The number of bytes written, or the number of the refusal.
-#[derive(Drop)]
+#[derive(Clone, Copy)]
 pub enum Listing {
     Text(usize),
     Refused(u8),

@@ -1,5 +1,6 @@
 // Lists made by counting, scans of places, buffers and numbered conditions: see specs/ and proofs/. The only code is
 // the limits of the rules, as specs/Limits.antt has them.
+#![tactic(auto)]
 
 // The largest side of an image or a map.
 pub const LARGEST_SIDE: usize = 4096;

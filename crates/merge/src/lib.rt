@@ -4,6 +4,8 @@
 // strictly stronger, and is dropped if not. If it joins none, it is kept after the others. So two corners nearer than
 // the radius may both stay, and the strongest of several need not: the grid decides which corners are compared, and the
 // list's order which one is joined.
+#![tactic(auto)]
+
 pub mod answers; // number_of, kept_of: the answer of a merge, taken apart
 pub mod apart; // merge_apart: the list that merging would leave, in a separate buffer
 pub mod table; // merge_by_table: merging in place with a borrowed table
@@ -16,7 +18,7 @@ ghost use Rattle.merge_settle.specs.Settle.{Left};
 ghost use Rattle.merge.specs.Merge.{result_of, Merges};
 
 // The answer of merging: how many corners are left, or the number of the refusal.
-#[derive(Drop)]
+#[derive(Clone, Copy)]
 pub enum Merged {
     Kept(usize),
     Refused(u8),

@@ -1,6 +1,8 @@
 // The program `merge_case`: prints what two merges leave of the corners (1 - 2^-24, 0), (2, 0) and (0, 100) with radius
 // 1, as listings. By distance alone two are left; by cells, as the frame merges, all three. If it cannot write, it says
 // so in a line on standard error.
+#![tactic(auto)]
+
 ghost use Rattle.std.specs.Prelude.{◌≡◌, cond, false, ◌≤◌};
 ghost use Rattle.corner_list.specs.CornerList.{slices, places_of, corners_of};
 ghost use Rattle.listing.specs.Text.{corners_text};

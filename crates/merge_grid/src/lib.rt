@@ -1,5 +1,7 @@
 // Which corners join when a list is merged: those near each other whose grid cells differ by at most one each way. No
 // grid is stored; the cell numbers decide. Only a corner's position counts, not its strength.
+#![tactic(auto)]
+
 ghost use Rattle.std.specs.Prelude.{◌≡◌, false, List, [], ◌∷◌, ℕ, get_or, Float};
 ghost use Rattle.std.specs.Float.{nan, inf};
 ghost use Rattle.lists.specs.Tab.{tab};
@@ -11,14 +13,14 @@ ghost use Rattle.merge_grid.specs.Grid.{near, meets, least_from, grid_of};
 use corner_list::Corner;
 
 // Where a corner is, in pixels.
-#[derive(Drop)]
+#[derive(Clone, Copy)]
 pub struct Position {
     pub x: f32,
     pub y: f32,
 }
 
 // The least coordinates of a list of corners, 1 / radius, and the radius squared.
-#[derive(Drop)]
+#[derive(Clone, Copy)]
 pub struct Grid {
     pub left: f32,
     pub top: f32,

@@ -3,6 +3,8 @@
 // its place and with its own neighbours; otherwise it is dropped. If there is no such place, it is kept after the
 // others. The time of a call grows with the length of the list times that of the kept list; the frame merges by cells
 // (`merge`).
+#![tactic(auto)]
+
 ghost use Rattle.std.specs.Prelude.{◌≡◌, ◌<◌, ◌≤◌};
 ghost use Rattle.corner_list.specs.CornerList.{slices, places_of, corners_of};
 ghost use Rattle.merge_grid.specs.Grid.{position_at, near};

@@ -1,4 +1,6 @@
 // The radius within which corners are merged.
+#![tactic(auto)]
+
 ghost use Rattle.std.specs.Prelude.{◌≡◌};
 ghost use Rattle.merge_radius.specs.MergeRadius.{is_off, is_sized, radius_outside};
 

@@ -1,4 +1,6 @@
 // The refusals of merging corners.
+#![tactic(auto)]
+
 ghost use Rattle.std.specs.Prelude.{◌≡◌, cond, min, ltb};
 ghost use Rattle.lists.specs.Places.{any};
 ghost use Rattle.corner_list.specs.CornerList.{slices, corners_of, places_of};

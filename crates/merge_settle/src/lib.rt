@@ -1,5 +1,7 @@
 // Settling a list of corners, one after the other, among those kept so far: the code of merging, which does not know
 // the radius and refuses nothing.
+#![tactic(auto)]
+
 mod index;
 mod search;
 mod settling;

@@ -25,7 +25,7 @@ const MIDDLE_TABLE: usize = 4 * MANY;
 const LARGEST_TABLE: usize = 131072;
 
 // How far merging a list has come: how many of its corners are settled, and how many of these are kept.
-#[derive(Drop)]
+#[derive(Clone, Copy)]
 pub(crate) struct Step {
     pub(crate) done: usize,
     pub(crate) kept: usize,

@@ -1,5 +1,7 @@
 // Merging corners that lie in one slice. The core works on four slices, one for each field. So the corners are swapped
 // with the elements of four borrowed slices, merged there, and swapped back.
+#![tactic(auto)]
+
 ghost use Rattle.std.specs.Prelude.{◌≡◌, cond, not, ◌&&◌, ◌||◌, ◌≤◌, min, length, take};
 ghost use Rattle.lists.specs.Buffer.{front};
 ghost use Rattle.lists.specs.Places.{any};

@@ -1,5 +1,7 @@
 // The box of the base image in which a corner of a coarser level, the seed, is looked for again: its region of interest
 // (ROI).
+#![tactic(auto)]
+
 ghost use Rattle.std.specs.Prelude.{◌≡◌, ◌*◌, ◌≤◌};
 ghost use Rattle.lists.specs.Limits.{largest_search, largest_side, largest_border};
 ghost use Rattle.multiscale.specs.Multiscale.{parameters_fit, refusal_of, border as border_of, roi_radius, span_about};
@@ -10,7 +12,7 @@ ghost use Rattle.multiscale.specs.Internal.{SoundContext};
 use corner_list::Corner;
 
 // The base's sides, the radii of ring, window, centroid and search, and the number of the seed's level.
-#[derive(Drop)]
+#[derive(Clone, Copy)]
 pub struct RoiContext {
     pub width: usize,
     pub height: usize,
@@ -22,7 +24,7 @@ pub struct RoiContext {
 }
 
 // The box from column x0 and row y0 up to, not including, column x1 and row y1; no box; or the number of the refusal.
-#[derive(Drop)]
+#[derive(Clone, Copy)]
 pub enum RoiAnswer {
     Bounds(usize, usize, usize, usize),
     NoRoi,
@@ -30,7 +32,7 @@ pub enum RoiAnswer {
 }
 
 // The box's ends on one axis.
-#[derive(Drop)]
+#[derive(Clone, Copy)]
 enum Span {
     Ends(usize, usize),
     Nothing,

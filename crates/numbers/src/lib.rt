@@ -1,4 +1,6 @@
 // Lengths and places compared.
+#![tactic(auto)]
+
 ghost use Rattle.std.specs.Prelude.{◌≡◌, ◌-◌, min, max};
 
 // The lesser of two numbers.

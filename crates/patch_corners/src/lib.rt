@@ -1,5 +1,7 @@
 // The corners of a given map, added to a buffer: the map's peaks, each at its centre of mass. The corners of one map of
 // a frame, for any choice of its peaks, are defined in specs/OneMap.antt.
+#![tactic(auto)]
+
 mod localizing; // corners put at their centres of mass
 
 ghost use Rattle.corner_list.specs.CornerList.{slices};

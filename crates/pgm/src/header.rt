@@ -6,14 +6,14 @@ ghost use Rattle.pgm.specs.Internal.{largest_kept, capped, bare_from, Plain, Rea
 ghost use Rattle.pgm.specs.Internal.{FieldRead};
 
 // The number that some digits give, up to 65,536, and the place after them.
-#[derive(Drop)]
+#[derive(Clone, Copy)]
 pub(crate) struct Digits {
     pub number: usize,
     pub end: usize,
 }
 
 // A field: whether its whitespace and its number are there, the number up to 65,536, and the place after it.
-#[derive(Drop)]
+#[derive(Clone, Copy)]
 pub(crate) struct Scanned {
     pub there: bool,
     pub number: usize,

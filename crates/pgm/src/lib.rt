@@ -1,4 +1,6 @@
 // Binary PGM photographs: where the pixels of an upload are, and its sides.
+#![tactic(auto)]
+
 mod header; // header.rt: the fields of a header
 
 ghost use Rattle.std.specs.Prelude.{◌≡◌, ◌&&◌, ◌≤◌};
@@ -10,7 +12,7 @@ ghost use Rattle.pgm.specs.Internal.{largest_kept, conditions_by, FieldsRead};
 use header::Scanned;
 
 // Where the pixels begin in the upload and both sides, or the number of the refusal.
-#[derive(Drop)]
+#[derive(Clone, Copy)]
 pub enum PgmImage {
     Pixels { at: usize, w: usize, h: usize },
     Refused(u8),

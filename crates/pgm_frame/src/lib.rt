@@ -1,4 +1,6 @@
 // The corners of an uploaded photograph: the frame pass on its pixels.
+#![tactic(auto)]
+
 ghost use Rattle.corner_list.specs.CornerList.{slices};
 ghost use Rattle.patch_corners.specs.OneMap.{choice_of};
 ghost use Rattle.frame.specs.Frame.{buffers};

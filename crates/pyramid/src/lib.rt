@@ -1,5 +1,7 @@
 // The box-filter image pyramid: builds the levels above the base in a buffer, one after the other, and returns one of
 // them.
+#![tactic(auto)]
+
 mod halve; // halve.rt: the levels themselves
 
 ghost use Rattle.std.specs.Prelude.{◌≡◌};
@@ -9,7 +11,7 @@ ghost use Rattle.pyramid.specs.Level.{level_in};
 use pyramid_levels::{build_refusal, cells_before, level_count, level_refusal};
 
 // How many levels the pyramid has, or the number of a refusal.
-#[derive(Drop)]
+#[derive(Clone, Copy)]
 pub enum Pyramid {
     Levels(usize),
     Refused(u8),

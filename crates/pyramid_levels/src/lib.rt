@@ -1,4 +1,6 @@
 // The levels of an image pyramid: how many there are, how many pixels they have, and where each lies.
+#![tactic(auto)]
+
 mod count; // count.rt: which levels are built, and capped sums
 
 ghost use Rattle.std.specs.Prelude.{◌≡◌};
@@ -7,7 +9,7 @@ ghost use Rattle.pyramid_levels.specs.Refusals.{ask, build_refusal_of, level_ref
 ghost use Rattle.pyramid_levels.specs.Level.{LevelFound};
 
 // Where a level begins, in the base or in the level buffer, and its sides, or the number of a refusal.
-#[derive(Drop)]
+#[derive(Clone, Copy)]
 pub enum LevelAnswer {
     Level {
         from: usize,

@@ -2,6 +2,8 @@
 // record's call is made again, and its answer and every buffer that it borrows are compared bit for bit, NaN matching
 // NaN. The folder `data` holds the sample of seed 1. The file `stdout` says how many records each of its files has, and
 // that none differs.
+#![tactic(auto)]
+
 mod boxes;
 mod buffers;
 mod centroids;
@@ -25,7 +27,7 @@ use tally::{ended, print, sum, with};
 const LONGEST: usize = 25027;
 
 // What comes next in a file.
-#[derive(Drop)]
+#[derive(Clone, Copy)]
 enum Next {
     // A record: whether the answer is the same.
     Record(bool),

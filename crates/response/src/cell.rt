@@ -107,7 +107,7 @@ fn cross(tile: &[u16], s: usize, mid: usize) -> u16
 
 // The whole numbers of a cell's response: SR - DR, plus 4096 so that it is not negative, the sum of the ring, and the
 // sum of the cross.
-#[derive(Drop)]
+#[derive(Clone, Copy)]
 pub(crate) struct CellSums {
     pub(crate) balance: u16,
     pub(crate) sum: u16,

@@ -1,4 +1,6 @@
 // The ChESS response map of a box of an image.
+#![tactic(auto)]
+
 mod alone; // alone.rt: the response of one cell straight from the image
 mod cell; // cell.rt: the response of one cell
 mod rows; // rows.rt: a map, edges and blocks
@@ -14,7 +16,7 @@ use numbers::{lesser, minus};
 
 // What is kept from the pairs of opposite samples read so far: SR, DR and the sum, and the sums of the first four
 // pairs. Public because a promise mentions it.
-#[derive(Drop)]
+#[derive(Clone, Copy)]
 pub struct Held {
     pub sr: u16,
     pub dr: u16,
@@ -55,7 +57,7 @@ fn refusal(pixels: usize, w: usize, h: usize, ring: u32, pw: usize, ph: usize, p
 }
 
 // A map of w by h cells at the start of the buffer, or the number of a refusal, which leaves the buffer as it was.
-#[derive(Drop)]
+#[derive(Clone, Copy)]
 pub enum Patch {
     Cells { w: usize, h: usize },
     Refused(u8),

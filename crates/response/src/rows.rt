@@ -20,7 +20,7 @@ use crate::tile::{
 use numbers::{greater, lesser, minus};
 
 // A map of pw by ph cells of an image of w by h, with a ring of that radius. Its first cell is the image's cell (x, y).
-#[derive(Drop)]
+#[derive(Clone, Copy)]
 struct Field {
     w: usize,
     h: usize,
@@ -189,7 +189,7 @@ fn inner(img: &[u8], f: Field, a: usize, b: usize, c: usize, e: usize, map: &mut
 }
 
 // A part of a row or of a column of cells, from one place up to another.
-#[derive(Drop)]
+#[derive(Clone, Copy)]
 struct Stretch {
     from: usize,
     to: usize,

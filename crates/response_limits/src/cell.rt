@@ -123,14 +123,14 @@ fn cost(p: [u8; 16], q: [u8; 16], c: u16, d: u16) -> u16
 }
 
 // The samples of a cell, and the sum of its cross.
-#[derive(Drop)]
+#[derive(Clone, Copy)]
 pub(crate) struct CellSamples {
     pub(crate) ring: [u8; 16],
     pub(crate) cross: u16,
 }
 
 // The low limit of a cell is low_gain - low_cost, and the high one high_gain - high_cost.
-#[derive(Drop)]
+#[derive(Clone, Copy)]
 pub(crate) struct CellLimits {
     pub(crate) low_gain: u16,
     pub(crate) low_cost: u16,

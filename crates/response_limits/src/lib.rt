@@ -1,5 +1,7 @@
 // What the exact response of each cell can be, in fifths, if each pixel is known between a low and a high value (RULES
 // 28).
+#![tactic(auto)]
+
 mod cell; // cell.rt: the limits of one cell
 mod rows; // rows.rt: runs and rows of cells
 
@@ -9,7 +11,7 @@ ghost use Rattle.response_limits.specs.Promise.{is_crossed, refusal_of, LimitsWr
 use crate::cell::{byte_greater, byte_minus};
 
 // Both maps were written, or the number of a refusal, which leaves both buffers unchanged.
-#[derive(Drop)]
+#[derive(Clone, Copy)]
 pub enum Limits {
     Written,
     Refused(u8),

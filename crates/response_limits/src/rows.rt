@@ -95,7 +95,7 @@ fn inner(
 }
 
 // A part of a row, from one place up to another.
-#[derive(Drop)]
+#[derive(Clone, Copy)]
 struct Stretch {
     from: usize,
     to: usize,

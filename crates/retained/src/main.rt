@@ -1,5 +1,7 @@
 // The program `retained`: prints which items of the stream that it reads from standard input are held. It reads no more
 // bytes than decide the letters. If it cannot read or write, it says so in a line on standard error.
+#![tactic(auto)]
+
 mod writing;
 
 ghost use Rattle.std.specs.Prelude.{◌≡◌, false, length};

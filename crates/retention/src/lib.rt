@@ -1,5 +1,7 @@
 // What may be deleted: whether an item is held at a time, and the list for a stream of items. A stream is eight bytes
 // of time and then records, each one byte for the kind and eight bytes for the second of receipt or issue.
+#![tactic(auto)]
+
 pub mod item; // holding: whether an item is held
 mod list; // list_holdings: what is printed for a stream
 mod reading; // wanted: how much of a stream must be read
@@ -18,7 +20,7 @@ pub const MOST_RECORDS: usize = 65536;
 const LATEST: u64 = 1099511627776;
 
 // An item at a time, or the number of the refusal.
-#[derive(Drop)]
+#[derive(Clone, Copy)]
 pub enum Holding {
     NotYet,
     Held,

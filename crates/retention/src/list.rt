@@ -45,7 +45,7 @@ fn put_refusal(out: &mut [u8], at: usize, number: u8) -> usize
     let mut text = [0u8; listing::LONGEST];
     let n = listing::write_refusal(number, &mut text);
     let end = at + n;
-    bytes::copy(&text[..n], &mut out[at..end]);
+    out[at..end].copy_from_slice(&text[..n]);
     end
 }
 

@@ -7,7 +7,7 @@ ghost use Rattle.retention.specs.Wanted.{items, item_fault, wanted_record, wante
 const ITEMS: usize = crate::MOST_RECORDS + 1;
 
 // How many items are complete and without fault, and how many bytes of the next are needed.
-#[derive(Drop)]
+#[derive(Clone, Copy)]
 pub struct Standing {
     pub passed: usize,
     pub bytes: usize,

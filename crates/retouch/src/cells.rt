@@ -6,7 +6,7 @@ ghost use Rattle.retouch.specs.Retouch.{sample_places, touched_count, redone};
 ghost use Rattle.retouch.specs.Internal.{PixelChecked, fits, count_by, redone_by};
 
 // A place of the square around a cell, counted from the square's corner.
-#[derive(Drop)]
+#[derive(Clone, Copy)]
 struct SquarePlace {
     column: usize,
     row: usize,

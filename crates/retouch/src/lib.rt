@@ -1,4 +1,6 @@
 // Changes a pixel of an image, and recomputes the cells of its map that depend on the pixel.
+#![tactic(auto)]
+
 mod cells; // cells.rt: the touched cells
 
 ghost use Rattle.std.specs.Prelude.{◌≡◌};
@@ -7,7 +9,7 @@ ghost use Rattle.retouch.specs.Promise.{place_outside, refusal_of, Retouches};
 use crate::cells::redo_touched;
 
 // How many cells were recomputed, or the number of a refusal, which leaves image and map unchanged.
-#[derive(Drop)]
+#[derive(Clone, Copy)]
 pub enum Retouched {
     Redone(usize),
     Refused(u8),

@@ -1,4 +1,6 @@
 // The two rings of sixteen sampling places around a centre.
+#![tactic(auto)]
+
 ghost use Rattle.std.specs.Prelude.{◌≡◌};
 ghost use Rattle.ring.specs.Ring.{ring_of, is_ring};
 ghost use Rattle.ring.specs.Offsets.{offsets_of};
@@ -6,7 +8,7 @@ ghost use Rattle.ring.specs.Offsets.{offsets_of};
 // A ring's radius, and the columns and rows of its places in order, clockwise from the top. Both are counted from the
 // corner of the ring's square, so that none is negative: the place that lies dx columns to the right of the centre and
 // dy rows below it has column dx + radius and row dy + radius.
-#[derive(Drop)]
+#[derive(Clone, Copy)]
 pub struct RingOffsets {
     pub radius: u32,
     pub columns: [u8; 16],

@@ -6,7 +6,7 @@ use crate::{kinds, pixels};
 
 // Where checking ends: the place of a record, the kind expected there, the pixels that have not come yet, and the
 // record's fault. Without a fault it is the end of the stream.
-#[derive(Drop)]
+#[derive(Clone, Copy)]
 pub(crate) struct Stop {
     pub at: usize,
     pub due: u8,

@@ -1,5 +1,7 @@
 // The frame stream: sides, parameters and pixels in records, each with one byte for the kind and a body of fixed length
 // (RULES 11).
+#![tactic(auto)]
+
 mod fields; // the header that the records of kinds 1 and 2 state, and their faults
 mod judging; // the records in their order, up to the earliest fault
 mod kinds; // a record: its kind, its length and its faults
@@ -11,7 +13,7 @@ ghost use Rattle.stream.specs.Answer.{FrameRead};
 pub use reading::wanted;
 
 // Sides and parameters. Threshold and merge radius are the 32 bits as read: a NaN may have any pattern.
-#[derive(Drop)]
+#[derive(Clone, Copy)]
 pub struct Header {
     pub width: usize,
     pub height: usize,
@@ -27,7 +29,7 @@ pub struct Header {
 }
 
 // The header of a frame whose pixels are at the start of the buffer, or the number of the earliest fault.
-#[derive(Drop)]
+#[derive(Clone, Copy)]
 pub enum FrameStream {
     Frame(Header),
     Refused(u8),

@@ -1,4 +1,6 @@
 // Whether a place is a peak by exact values in every image between two, by the limits of the cells (RULES 28).
+#![tactic(auto)]
+
 mod window; // window.rt: the cells around a place
 
 ghost use Rattle.std.specs.Prelude.{◌≡◌, ◌&&◌, ◌*◌, ◌+◌, ◌≤◌, leb, ltb, pos};
@@ -11,7 +13,7 @@ ghost use Rattle.sure_peak.specs.Internal.{sure, Windowed};
 use crate::window::count_window;
 
 // Whether the place is a sure peak, or the number of the refusal.
-#[derive(Drop)]
+#[derive(Clone, Copy)]
 pub enum Sure {
     Yes,
     No,

@@ -1,1 +1,2 @@
 // No code: how far an accepted centre of mass lies from the exact one. See specs/ and proofs/.
+#![tactic(auto)]
