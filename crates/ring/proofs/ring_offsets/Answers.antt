@@ -9,4 +9,4 @@ returns-in-10 c = rw (selects-second _ c.in-10.is)
 
 pub returns-in_default : goal.returns-in_default
 unfolding ring5
-returns-in_default c = rw (selects-first _ c.in_default.rest.1)
+returns-in_default c = rw (selects-first _ c.in_default.in_default-own.rest.1)
