@@ -10,6 +10,7 @@ use Rattle.center_of_mass.proofs.Window.{rows_in}
 use Rattle.center_of_mass.proofs.Axis.{window-in}
 use Rattle.center_of_mass.proofs.Outcomes.{no-column, no_row, with-mass, no-mass}
 use Rattle.center_of_mass.proofs.centre_of_mass.Goals as goal
+use Rattle.center_of_mass.proofs.centre_of_mass.Goals.{In-At-down}
 
 pub returns-in_default : goal.returns-in_default
 returns-in_default c =
@@ -21,24 +22,24 @@ returns-in_default-down c =
 
 -- before the sums: the function's entry, and both centres, about which the window lies within the map
 
-abbrev cx : goal.In-At-down → ℕ
+abbrev cx : In-At-down → ℕ
 cx c = c.in-At.cx
 
-abbrev cy : goal.In-At-down → ℕ
+abbrev cy : In-At-down → ℕ
 cy c = c.in-At-down.cy
 
-column-at : (c : goal.In-At-down) → centre_on c.args.r c.args.w c.args.x ≡ At (cx c)
+column-at : (c : In-At-down) → centre_on c.args.r c.args.w c.args.x ≡ At (cx c)
 column-at c =
     sym c.centre_on-across.ensures
     ∙ c.in-At.is
 
-row_at : (c : goal.In-At-down) → centre_on c.args.r c.args.h c.args.y ≡ At (cy c)
+row_at : (c : In-At-down) → centre_on c.args.r c.args.h c.args.y ≡ At (cy c)
 row_at c = sym c.centre_on-down.ensures ∙ c.in-At-down.is
 
-columns-in : (c : goal.In-At-down) → (c.args.r ≤ cx c) × (cx c + c.args.r < c.args.w)
+columns-in : (c : In-At-down) → (c.args.r ≤ cx c) × (cx c + c.args.r < c.args.w)
 columns-in c = window-in _ _ _ _ (sym (column-at c))
 
-rows-in-map : (c : goal.In-At-down) → (c.args.r ≤ cy c) × (cy c + c.args.r < c.args.h)
+rows-in-map : (c : In-At-down) → (c.args.r ≤ cy c) × (cy c + c.args.r < c.args.h)
 rows-in-map c = window-in _ _ _ _ (sym (row_at c))
 
 pub overflow_sub-cx : goal.overflow_sub-cx
@@ -72,12 +73,12 @@ window_sums-s-requires c =
 pub returns-then-s : goal.returns-then-s
 unfolding of_bits
 returns-then-s c =
-    with-mass c.args.r c.args.x c.args.y c.args.map.now c.args.w c.args.h (cx c.before.before.before.before.before) (cy c.before.before.before.before.before) (column-at c.before.before.before.before.before) (row_at c.before.before.before.before.before)
+    with-mass c.args.r c.args.x c.args.y c.args.map.now c.args.w c.args.h (cx (goal.at.returns-then-s c).In-At-down) (cy (goal.at.returns-then-s c).In-At-down) (column-at (goal.at.returns-then-s c).In-At-down) (row_at (goal.at.returns-then-s c).In-At-down)
     c.window_sums-s.result c.window_sums-s.ensures
     c.if-s.true
 
 pub returns : goal.returns
 unfolding of_bits
 returns c =
-    no-mass c.args.r c.args.x c.args.y c.args.map.now c.args.w c.args.h (cx c.before.before.before) (cy c.before.before.before) (column-at c.before.before.before) (row_at c.before.before.before) c.window_sums-s.result
+    no-mass c.args.r c.args.x c.args.y c.args.map.now c.args.w c.args.h (cx (goal.at.returns c).In-At-down) (cy (goal.at.returns c).In-At-down) (column-at (goal.at.returns c).In-At-down) (row_at (goal.at.returns c).In-At-down) c.window_sums-s.result
     c.window_sums-s.ensures c.if-s.false

@@ -10,9 +10,10 @@ use Rattle.lists.specs.Places.{row}
 use Rattle.center_of_mass.specs.CenterOfMass.{with_cells}
 use Rattle.center_of_mass.proofs.Window.{one_cell, no_cell, row_small}
 use Rattle.center_of_mass.proofs.row_sums.Goals as goal
+use Rattle.center_of_mass.proofs.row_sums.Goals.{In-loop-x}
 
 -- the row begins within the map, so its cells have small numbers
-start_small : (c : goal.In-loop-x) → c.args.y * c.args.w ≤ largest_map
+start_small : (c : In-loop-x) → c.args.y * c.args.w ≤ largest_map
 start_small c =
     row_small c.args.y c.args.w c.requires.2
     c.requires.1

@@ -6,7 +6,7 @@ use Rattle.clearing.proofs.Wiping.{Wiping, wiping-none, wiping-set, wiping-all}
 use Rattle.clearing.proofs.clear.Given as goal
 
 abbrev pub invariant-loop-i : goal.invariant-loop-i
-invariant-loop-i l = Wiping l.d l.i-end zero l.initial.d l.i
+invariant-loop-i l = Wiping l.n l.i zero l.initial.d l.d
 
 abbrev pub decreases-loop-i : goal.decreases-loop-i
-decreases-loop-i l = l.initial.i - l.i-end
+decreases-loop-i l = l.i-end - l.i

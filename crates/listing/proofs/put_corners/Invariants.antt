@@ -8,7 +8,7 @@ use borrow.Author.Rules.{rules}
 use Rattle.listing.proofs.put_corners.Given as goal
 
 abbrev pub invariant-loop-i : goal.invariant-loop-i
-invariant-loop-i l = Lines (corner_at (slices l.xs l.ys l.strengths l.neighbours)) l.count l.out l.initial.out l.i l.initial.i l.at
+invariant-loop-i l = Lines (corner_at (slices l.xs l.ys l.strengths l.neighbours)) l.count l.initial.at l.initial.out l.i l.at l.out
 
 abbrev pub decreases-loop-i : goal.decreases-loop-i
 decreases-loop-i l = l.count - l.i

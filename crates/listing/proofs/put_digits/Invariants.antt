@@ -5,7 +5,7 @@ use borrow.Author.Rules.{rules}
 use Rattle.listing.proofs.put_digits.Given as goal
 
 abbrev pub invariant-loop-i : goal.invariant-loop-i
-invariant-loop-i l = Ahead l.at l.base l.count l.out l.i l.initial.i l.initial.out l.rest
+invariant-loop-i l = Ahead l.base l.count l.n l.at l.i l.rest l.initial.out l.out
 
 abbrev pub decreases-loop-i : goal.decreases-loop-i
 decreases-loop-i l = l.i

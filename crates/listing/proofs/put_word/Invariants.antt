@@ -8,7 +8,7 @@ use borrow.Author.Rules.{rules}
 use Rattle.listing.proofs.put_word.Given as goal
 
 abbrev pub invariant-loop-i : goal.invariant-loop-i
-invariant-loop-i l = Wrote (take l.i l.at) l.out l.initial.out (l.out + l.i) l.initial.i
+invariant-loop-i l = Wrote (take l.i l.word) l.at l.initial.out (l.at + l.i) l.out
 
 abbrev pub decreases-loop-i : goal.decreases-loop-i
-decreases-loop-i l = length l.at - l.i
+decreases-loop-i l = length l.word - l.i

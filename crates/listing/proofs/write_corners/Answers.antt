@@ -11,5 +11,5 @@ returns-then-count-gt-MOST_CORNERS c =
 pub returns : goal.returns
 returns c =
     all-written (slices c.args.xs.now c.args.ys.now c.args.strengths.now c.args.neighbours.now) c.args.count c.args.out.now
-    c.if-count-gt-MOST_CORNERS.left c.put_corners.result
+    c.if-count-gt-MOST_CORNERS.false c.put_corners.result
     c.put_corners.new.out c.put_corners.ensures

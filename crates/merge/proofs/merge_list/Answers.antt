@@ -6,9 +6,10 @@ use mathlib.Core.List.{[]}
 use Rattle.corner_list.specs.CornerList.{Slices, slices}
 use Rattle.merge.proofs.Answer.{left-off, left-on, left-all, left-settled}
 use Rattle.merge.proofs.merge_list.Goals as goal
+use Rattle.merge.proofs.merge_list.Goals.{Start}
 
 -- the buffer at the start
-abbrev buffer : goal.Start → Slices
+abbrev buffer : Start → Slices
 buffer c = slices c.args.xs.now c.args.ys.now c.args.strengths.now c.args.neighbours.now
 
 pub shape_of-table-then-is_off : goal.shape_of-table-then-is_off
@@ -16,7 +17,7 @@ shape_of-table-then-is_off c = search rules
 
 pub returns-then-is_off : goal.returns-then-is_off
 returns-then-is_off c = (
-  left-off _ (buffer c.before.before.before.before.before.before.before.before.before.before.before) _ _ _ _ (sym c.is_off.ensures ∙ c.if-is_off.taken) (left-all _ _ c.requires),
+  left-off _ (buffer (goal.at.returns-then-is_off c).Start) _ _ _ _ (sym c.is_off.ensures ∙ c.if-is_off.true) (left-all _ _ c.requires),
   c.clear.ensures,
 )
 
@@ -39,7 +40,7 @@ pub returns : goal.returns
 returns c =
     let settled = left-settled c.grid_of-g.result false (slices [] [] [] []) _ _ _ _ c.requires
     c.settle_list.ensures.settles in (
-      left-on _ (buffer c.before.before.before.before.before.before.before.before.before.before.before.before.before.before.before.before.before.before.before.before.before.before.before.before.before.before.before.before) _ _ _ _ _ (sym c.is_off.ensures ∙ c.if-is_off.left)
+      left-on _ (buffer (goal.at.returns c).Start) _ _ _ _ _ (sym c.is_off.ensures ∙ c.if-is_off.false)
           c.grid_of-g.ensures settled,
       c.settle_list.ensures.table_after,
     )

@@ -23,7 +23,7 @@ returns-then-number-ne0 c = leaves-refused _ _ _ _ c.refusal-number.ensures c.if
 
 pub merge_list-requires : goal.merge_list-requires
 merge_list-requires c =
-    omega (arith, judged-fits _ _ _ _ (sym c.refusal-number.ensures ∙ c.if-number-ne0.left))
+    omega (arith, judged-fits _ _ _ _ (sym c.refusal-number.ensures ∙ c.if-number-ne0.false))
 
 pub shape_of-xs : goal.shape_of-xs
 shape_of-xs c = search rules
@@ -39,4 +39,4 @@ shape_of-neighbours c = search rules
 
 pub returns : goal.returns
 returns c =
-    leaves_kept _ _ _ _ _ _ c.refusal-number.ensures c.if-number-ne0.left c.merge_list.ensures.left
+    leaves_kept _ _ _ _ _ _ c.refusal-number.ensures c.if-number-ne0.false c.merge_list.ensures.left

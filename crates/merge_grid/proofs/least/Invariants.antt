@@ -11,7 +11,7 @@ use Rattle.merge_grid.proofs.Cells.{numbers, least_more, least-all}
 use Rattle.merge_grid.proofs.least.Given as goal
 
 abbrev pub invariant-loop-i : goal.invariant-loop-i
-invariant-loop-i l = (l.initial.i ≡ least_from (inf false) (numbers l.vs l.i)) × (l.i ≤ l.held) × (l.held ≡ min l.n (length l.vs))
+invariant-loop-i l = (l.m ≡ least_from (inf false) (numbers l.vs l.i)) × (l.i ≤ l.held) × (l.held ≡ min l.n (length l.vs))
 
 abbrev pub decreases-loop-i : goal.decreases-loop-i
 decreases-loop-i l = l.held - l.i

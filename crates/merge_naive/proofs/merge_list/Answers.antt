@@ -48,5 +48,5 @@ shape_of-neighbours c = stepped-neighbours _ _ _ _ _ _ _ _ c.loop-i.invariant c.
 
 pub returns : goal.returns
 returns c =
-    left-on _ _ _ _ _ (sym c.is_off.ensures ∙ c.if-is_off.left)
+    left-on _ _ _ _ _ (sym c.is_off.ensures ∙ c.if-is_off.false)
     (stops-all _ _ _ _ _ _ _ (stops_end _ _ _ _ _ _ _ _ _ _ c.loop-i.invariant c.loop-i-test.false))

@@ -13,8 +13,8 @@ use Rattle.merge_naive.proofs.Naive.{left-off, left-on}
 use Rattle.merge_naive.proofs.merge_list.Given as goal
 
 abbrev pub invariant-loop-i : goal.invariant-loop-i
-invariant-loop-i l = let first = slices l.initial.xs l.xs l.initial.ys l.ys in
-    StepAfter (near_by l.initial.neighbours) false first l.initial.strengths first start (slices l.radius l.square l.initial.k l.k) (step l.i l.initial.i)
+invariant-loop-i l = let first = slices l.initial.xs l.initial.ys l.initial.strengths l.initial.neighbours in
+    StepAfter (near_by l.square) false first l.n first start (slices l.xs l.ys l.strengths l.neighbours) (step l.i l.k)
 
 abbrev pub decreases-loop-i : goal.decreases-loop-i
-decreases-loop-i l = l.initial.strengths - l.i
+decreases-loop-i l = l.n - l.i

@@ -6,7 +6,7 @@ use Rattle.merge_settle.proofs.Settle.{settled-put}
 use Rattle.merge_naive.proofs.settle_corner.Goals as goal
 
 pub overflow_add-result : goal.overflow_add-result
-overflow_add-result c = omega (arith, c.requires, c.good)
+overflow_add-result c = omega (arith, c.requires, c.well_formed)
 
 pub shape_of-xs-then-at-k : goal.shape_of-xs-then-at-k
 shape_of-xs-then-at-k c = search rules

@@ -11,18 +11,19 @@ use Rattle.float32.specs.Float32.{zero}
 use Rattle.merge_settle.proofs.Stepping.{stops-held}
 use Rattle.merge_settle.proofs.Slots.{wiped-same}
 use Rattle.merge_settle.proofs.settle_list.Goals as goal
+use Rattle.merge_settle.proofs.settle_list.Goals.{After-merge_with-arg-then-slots-gt0-3-1, Then-slots-gt0}
 
 pub slice_bounds-clear-end : goal.slice_bounds-clear-end
 slice_bounds-clear-end c = search rules
 
 pub slice_bounds-clear-end-then-slots-gt0 : goal.slice_bounds-clear-end-then-slots-gt0
-slice_bounds-clear-end-then-slots-gt0 c = sym (length-take-le _ _ (slice-relend-prefix-clear c.before))
+slice_bounds-clear-end-then-slots-gt0 c = sym (length-take-le _ _ (slice-relend-prefix-clear (goal.at.slice_bounds-clear-end-then-slots-gt0 c).Then-slots-gt0))
 
 pub slice_bounds-merge_with-end : goal.slice_bounds-merge_with-end
 slice_bounds-merge_with-end c = search rules
 
 pub slice_bounds-merge_with-end-then-slots-gt0 : goal.slice_bounds-merge_with-end-then-slots-gt0
-slice_bounds-merge_with-end-then-slots-gt0 c = sym (length-take-le _ _ (slice-relend-prefix-merge-with c.before))
+slice_bounds-merge_with-end-then-slots-gt0 c = sym (length-take-le _ _ (slice-relend-prefix-merge-with (goal.at.slice_bounds-merge_with-end-then-slots-gt0 c).After-merge_with-arg-then-slots-gt0-3-1))
 
 pub merge_with-t-requires : goal.merge_with-t-requires
 merge_with-t-requires c =

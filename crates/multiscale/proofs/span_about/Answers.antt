@@ -6,6 +6,7 @@ use Rattle.multiscale.specs.Multiscale.{low_end, high_end}
 use Rattle.multiscale.proofs.Axis.{too-low, too-high, narrow, wide, low-clipped, low_free, high-clipped, high-free, in_order}
 use borrow.Author.Rules.{rules}
 use Rattle.multiscale.proofs.span_about.Goals as goal
+use Rattle.multiscale.proofs.span_about.Goals.{Joined-c-r, Joined-side-b}
 
 pub returns-then-c-b : goal.returns-then-c-b
 returns-then-c-b c = too-low _ _ _ _ c.if-c-b.true
@@ -17,25 +18,25 @@ pub returns-then-side-c-2 : goal.returns-then-side-c-2
 returns-then-side-c-2 c = too-high _ _ _ _ c.if-c-b.false (omega arith)
 
 -- the ends, where the arms have met
-abbrev low-is : (c : goal.Joined-c-r)
+abbrev low-is : (c : Joined-c-r)
     → c.if-c-r.low ≡ low_end c.args.b c.args.r
     c.args.c
 low-is c = ⊎_elim (λ w. w.1 ∙ low-clipped _ _ _ w.0.taken) (λ w. w.1 ∙ low_free _ _ _ w.0.left) c.if-c-r.branch
 
-abbrev high_is : (c : goal.Joined-side-b)
+abbrev high_is : (c : Joined-side-b)
     → c.if-side-b.high ≡ high_end c.args.b c.args.r
     c.args.side c.args.c
 high_is c = ⊎_elim (λ w. w.1 ∙ high-clipped _ _ _ _ w.0.taken) (λ w. w.1 ∙ high-free _ _ _ _ w.0.left) c.if-side-b.branch
 
 pub overflow_sub-high-2 : goal.overflow_sub-high-2
-overflow_sub-high-2 c = rw (low-is c.before.before.before, high_is c.before.before) (in_order _ _ _ _ (omega arith) (omega arith))
+overflow_sub-high-2 c = rw (low-is (goal.at.overflow_sub-high-2 c).Joined-c-r, high_is (goal.at.overflow_sub-high-2 c).Joined-side-b) (in_order _ _ _ _ (omega arith) (omega arith))
 
 pub returns-then-high-low : goal.returns-then-high-low
 returns-then-high-low c =
-    narrow _ _ _ _ _ _ (low-is c.before.before.before.before) (high_is c.before.before.before) (omega arith)
+    narrow _ _ _ _ _ _ (low-is (goal.at.returns-then-high-low c).Joined-c-r) (high_is (goal.at.returns-then-high-low c).Joined-side-b) (omega arith)
     (omega arith) c.if-high-low.true
 
 pub returns : goal.returns
 returns c =
-    wide _ _ _ _ _ _ (low-is c.before.before.before.before) (high_is c.before.before.before) (omega arith)
+    wide _ _ _ _ _ _ (low-is (goal.at.returns c).Joined-c-r) (high_is (goal.at.returns c).Joined-side-b) (omega arith)
     (omega arith) c.if-high-low.false

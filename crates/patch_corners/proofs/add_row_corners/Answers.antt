@@ -8,9 +8,10 @@ use Rattle.detect.proofs.Answers.{clear, found-refused}
 use Rattle.patch_corners.proofs.Centring.{found-not, found-fits, found-changed}
 use Rattle.patch_corners.proofs.OfRows.{low, border-small, Cut, part_end, part_small, part-order, low-top, rows-added}
 use Rattle.patch_corners.proofs.add_row_corners.Goals as goal
+use Rattle.patch_corners.proofs.add_row_corners.Goals.{After-lesser-top}
 
 -- the rows that are searched
-cut : (c : goal.After-lesser-top)
+cut : (c : After-lesser-top)
     →
     Cut c.args.p c.args.map.now c.args.w c.args.h c.args.a c.args.b c.lesser-end.result c.lesser-top.result
 cut c =
@@ -77,13 +78,13 @@ shape_of-neighbours-in_default c = search rules
 
 pub returns-in_default : goal.returns-in_default
 returns-in_default c =
-    rows-added _ c.args.exact _ _ _ _ _ _ _ (cut c.before.before.before.before.before.before.before.before.before.before.before.before.before.before.before.before) _ _ _ _
+    rows-added _ c.args.exact _ _ _ _ _ _ _ (cut (goal.at.returns-in_default c).After-lesser-top) _ _ _ _
     (found-not _ _ _ _ _ _ _ _ c.find_peaks-f.ensures _ c.in_default.is)
 
 pub centre_all-requires : goal.centre_all-requires
 centre_all-requires c = (
   found-fits (λ z. z) _ _ _ _ _ _ _ c.find_peaks-f.ensures (clear _ _ _ _ _ _) _ _ c.in-Added.is,
-  low-top _ c.args.exact _ _ _ _ _ _ _ (cut c.before.before.before.before.before.before.before.before.before.before.before.before.before.before.before.before.before.before.before.before.before),
+  low-top _ c.args.exact _ _ _ _ _ _ _ (cut (goal.at.centre_all-requires c).After-lesser-top),
 )
 
 pub shape_of-xs : goal.shape_of-xs
@@ -100,6 +101,6 @@ shape_of-neighbours c = search rules
 
 pub returns : goal.returns
 returns c =
-    rows-added _ c.args.exact _ _ _ _ _ _ _ (cut c.before.before.before.before.before.before.before.before.before.before.before.before.before.before.before.before.before.before.before.before.before.before.before.before.before.before.before.before.before.before) _ _ _ _
+    rows-added _ c.args.exact _ _ _ _ _ _ _ (cut (goal.at.returns c).After-lesser-top) _ _ _ _
     (found-changed _ _ _ _ _ _ _ _ c.find_peaks-f.ensures (clear _ _ _ _ _ _) _ _ c.in-Added.is _
     c.centre_all.ensures)

@@ -3,6 +3,7 @@ use native.Mathlib.Omega.{arith}
 use borrow.Author.Rules.{rules}
 use Rattle.pgm.proofs.Judging.{Located, located, located-pixels, refused-pixels}
 use Rattle.pgm.proofs.pgm_pixels.Goals as goal
+use Rattle.pgm.proofs.pgm_pixels.Goals.{In-Pixels}
 
 pub returns-in_default : goal.returns-in_default
 returns-in_default c =
@@ -10,7 +11,7 @@ returns-in_default c =
     c.enum_told.given.1
 
 -- where the pixels are
-pixels : (c : goal.In-Pixels)
+pixels : (c : In-Pixels)
     → Located c.args.upload.now c.in-Pixels.at
     c.in-Pixels.w
     c.in-Pixels.h
@@ -26,4 +27,4 @@ pub slice_bounds-result-end-2 : goal.slice_bounds-result-end-2
 slice_bounds-result-end-2 c = (pixels c).inside
 
 pub returns : goal.returns
-returns c = located-pixels _ _ _ _ (pixels c.before)
+returns c = located-pixels _ _ _ _ (pixels (goal.at.returns c).In-Pixels)

@@ -8,6 +8,7 @@ use Rattle.pyramid_levels.specs.Refusals.{ask, level_refusal_of}
 use Rattle.pyramid_levels.proofs.Refusals.{level-few}
 use Rattle.pyramid.proofs.Lookup.{Between, level-refused, level-base, level-between, level-higher}
 use Rattle.pyramid.proofs.level.Goals as goal
+use Rattle.pyramid.proofs.level.Goals.{After-cells_before-end, Else-number-ne0}
 
 pub returns-then-number-ne0 : goal.returns-then-number-ne0
 returns-then-number-ne0 c =
@@ -16,19 +17,19 @@ returns-then-number-ne0 c =
 -- the entry
 
 -- nothing refuses the level
-free : (c : goal.Else-number-ne0)
+free : (c : Else-number-ne0)
     →
     level_refusal_of (ask (length c.args.base.now) (length c.args.levels.now) c.args.width c.args.height c.args.num_levels c.args.min_size) c.args.k ≡ 0
 free c = sym c.level_refusal-number.ensures ∙ c.if-number-ne0.false
 
 pub returns-then-k-eq0 : goal.returns-then-k-eq0
-returns-then-k-eq0 c = level-base c.args.base.now c.args.levels.now _ _ _ _ _ (free c.before) c.if-k-eq0.true
+returns-then-k-eq0 c = level-base c.args.base.now c.args.levels.now _ _ _ _ _ (free (goal.at.returns-then-k-eq0 c).Else-number-ne0) c.if-k-eq0.true
 
 pub overflow_add-k : goal.overflow_add-k
-overflow_add-k c = record { fits = omega (arith, level-few _ _ (free c.before.before)) }
+overflow_add-k c = record { fits = omega (arith, level-few _ _ (free (goal.at.overflow_add-k c).Else-number-ne0)) }
 
 -- where the level begins and ends
-between : (c : goal.After-cells_before-end)
+between : (c : After-cells_before-end)
     → Between c.args.levels.now c.args.width
     c.args.height c.args.k
     c.cells_before-from.result c.cells_before-end.result
@@ -47,4 +48,4 @@ slice_bounds-result-end-2 c = (between c).ranges
 
 pub returns : goal.returns
 returns c =
-    level-higher c.args.base.now c.args.levels.now _ _ _ _ _ (free c.before.before.before.before) _ _ c.if-k-eq0.false (between c.before)
+    level-higher c.args.base.now c.args.levels.now _ _ _ _ _ (free (goal.at.returns c).Else-number-ne0) _ _ c.if-k-eq0.false (between (goal.at.returns c).After-cells_before-end)

@@ -9,7 +9,7 @@ use Rattle.pyramid_levels.proofs.Cells.{cells-last, capped-next, capped-stop, ce
 use Rattle.pyramid_levels.proofs.cells_before.Given as goal
 
 abbrev pub invariant-loop-k : goal.invariant-loop-k
-invariant-loop-k l = (l.k ≤ l.n - 1) × (l.initial.sum ≡ level_side l.width l.k) × (l.sum ≡ level_side l.height l.k) × (l.initial.k ≡ capped (cells_above l.width l.height (suc l.k))) × (l.k < 64)
+invariant-loop-k l = (l.k ≤ l.n - 1) × (l.w ≡ level_side l.width l.k) × (l.h ≡ level_side l.height l.k) × (l.sum ≡ capped (cells_above l.width l.height (suc l.k))) × (l.k < 64)
 
 abbrev pub decreases-loop-k : goal.decreases-loop-k
 decreases-loop-k l = 64 - l.k

@@ -7,6 +7,7 @@ use Rattle.pyramid_levels.proofs.Refusals.{level-accepted, level-few}
 use Rattle.pyramid_levels.proofs.Answers.{level-refused, level-found}
 use borrow.Author.Rules.{rules}
 use Rattle.pyramid_levels.proofs.level_at.Goals as goal
+use Rattle.pyramid_levels.proofs.level_at.Goals.{Else-number-ne0}
 
 pub returns-then-number-ne0 : goal.returns-then-number-ne0
 returns-then-number-ne0 c = level-refused _ _ _ (sym c.level_refusal-number.ensures) c.if-number-ne0.true
@@ -14,17 +15,17 @@ returns-then-number-ne0 c = level-refused _ _ _ (sym c.level_refusal-number.ensu
 -- the entry
 
 -- nothing refuses the level
-free : (c : goal.Else-number-ne0) →
+free : (c : Else-number-ne0) →
     level_refusal_of (ask c.args.pixels c.args.places c.args.width c.args.height c.args.num_levels c.args.min_size) c.args.k ≡ 0
 free c = sym c.level_refusal-number.ensures ∙ c.if-number-ne0.false
 
 pub overflow_shr-result : goal.overflow_shr-result
-overflow_shr-result c = omega (arith, level-few _ _ (free c.before))
+overflow_shr-result c = omega (arith, level-few _ _ (free (goal.at.overflow_shr-result c).Else-number-ne0))
 
 pub overflow_shr-result-2 : goal.overflow_shr-result-2
-overflow_shr-result-2 c = omega (arith, level-few _ _ (free c.before))
+overflow_shr-result-2 c = omega (arith, level-few _ _ (free (goal.at.overflow_shr-result-2 c).Else-number-ne0))
 
 pub returns : goal.returns
 returns c =
-    let i = (level-accepted _ _ (free c.before)).0.image in
-    level-found _ _ _ (free c.before) (c.cells_before.ensures ∙ cells-exact _ _ _ i.narrow i.low)
+    let i = (level-accepted _ _ (free (goal.at.returns c).Else-number-ne0)).0.image in
+    level-found _ _ _ (free (goal.at.returns c).Else-number-ne0) (c.cells_before.ensures ∙ cells-exact _ _ _ i.narrow i.low)

@@ -21,12 +21,10 @@ pub returns-then-is_too_small : goal.returns-then-is_too_small
 returns-then-is_too_small c = counted_stop _ _ _ _ _ _ c.loop-n.invariant.1 (sym c.is_too_small.ensures ∙ c.if-is_too_small.true)
 
 pub loop-n-preserved : goal.loop-n-preserved
-loop-n-preserved c =
-    (
+loop-n-preserved c = (
   search rules,
   counted-more _ _ _ _ _ _ c.loop-n.invariant.1 c.loop-n-test.true
-      (sym c.is_too_small.ensures ∙ c.if-is_too_small.false),)
-
+      (sym c.is_too_small.ensures ∙ c.if-is_too_small.false),
 )
 
 pub loop-n-smaller : goal.loop-n-smaller

@@ -7,26 +7,27 @@ use Rattle.ring.specs.Ring.{ring_of}
 use Rattle.response.specs.Patch.{View, besides, map_width, map_height, refusal_of}
 use Rattle.response.proofs.Outcome.{Taken, taken, image, cols-in, rows_in, cols-le, rows-le, number_is, when-refused, when-filled}
 use Rattle.response.proofs.inner_patch.Goals as goal
+use Rattle.response.proofs.inner_patch.Goals.{After-beside-ph, After-refusal-number, Else-number-ne0}
 
 -- ---- where the sides are known
 
-abbrev view : goal.After-beside-ph → View
+abbrev view : After-beside-ph → View
 view c =
     
     record { img = c.args.img.now; w = c.args.w; h = c.args.h; ring = ring_of c.args.ring; x0 = c.args.x0; y0 = c.args.y0; x1 = c.args.x1; y1 = c.args.y1 }
 
-width : (c : goal.After-beside-ph) → c.beside-pw.result ≡ map_width (view c)
+width : (c : After-beside-ph) → c.beside-pw.result ≡ map_width (view c)
 width c = c.beside-pw.ensures ∙ ap₂ besides c.side-across.ensures c.side-down.ensures
 
-height : (c : goal.After-beside-ph) → c.beside-ph.result ≡ map_height (view c)
+height : (c : After-beside-ph) → c.beside-ph.result ≡ map_height (view c)
 height c = c.beside-ph.ensures ∙ ap₂ besides c.side-down.ensures c.side-across.ensures
 
-number : (c : goal.After-refusal-number)
+number : (c : After-refusal-number)
     → c.refusal-number.result ≡ refusal_of (view c.before) c.args.ring (length c.args.map.now)
 number c = number_is (view c.before) _ _ _ _ _ c.refusal-number.ensures (width c.before) (height c.before)
 
 -- ---- nothing refuses
-allowed : (c : goal.Else-number-ne0) → Taken (length (view c.before.before).img) (view c.before.before).w (view c.before.before).h
+allowed : (c : Else-number-ne0) → Taken (length (view c.before.before).img) (view c.before.before).w (view c.before.before).h
     c.args.ring (c.beside-ph.result * c.beside-pw.result)
     (length c.args.map.now)
 allowed c = taken _ _ _ _ _ _ (sym c.refusal-number.ensures ∙ c.if-number-ne0.false)
@@ -35,13 +36,13 @@ pub refusal-number-requires : goal.refusal-number-requires
 refusal-number-requires c = (rw (width c) (cols-le (view c)), rw (height c) (rows-le (view c)))
 
 pub returns-then-number-ne0 : goal.returns-then-number-ne0
-returns-then-number-ne0 c = when-refused _ _ _ _ _ (number c.before) c.if-number-ne0.true
+returns-then-number-ne0 c = when-refused _ _ _ _ _ (number (goal.at.returns-then-number-ne0 c).After-refusal-number) c.if-number-ne0.true
 
 pub fill-requires : goal.fill-requires
 fill-requires c =
-    let t = allowed c.before.before.before in record { sized = image _ _ _ _ _ _ t; pw_bound = ((
-        rw (c.lesser.ensures, width c.before.before.before.before.before) (cols-in (view c.before.before.before.before.before)),
-        rw (c.lesser-2.ensures, height c.before.before.before.before.before) (rows_in (view c.before.before.before.before.before)),
+    let t = allowed (goal.at.fill-requires c).Else-number-ne0 in record { sized = image _ _ _ _ _ _ t; pw_bound = ((
+        rw (c.lesser.ensures, width (goal.at.fill-requires c).After-beside-ph) (cols-in (view (goal.at.fill-requires c).After-beside-ph)),
+        rw (c.lesser-2.ensures, height (goal.at.fill-requires c).After-beside-ph) (rows_in (view (goal.at.fill-requires c).After-beside-ph)),
         t.enough,
       ), ) }
 
@@ -50,6 +51,6 @@ shape_of-map c = search rules
 
 pub returns : goal.returns
 returns c =
-    when-filled _ _ _ _ _ _ _ _ _ _ (number c.before.before.before.before.before.before.before) c.if-number-ne0.false (width c.before.before.before.before.before.before.before.before) (height c.before.before.before.before.before.before.before.before)
+    when-filled _ _ _ _ _ _ _ _ _ _ (number (goal.at.returns c).After-refusal-number) c.if-number-ne0.false (width (goal.at.returns c).After-beside-ph) (height (goal.at.returns c).After-beside-ph)
     c.lesser.ensures
     c.lesser-2.ensures c.fill.ensures

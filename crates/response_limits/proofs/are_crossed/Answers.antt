@@ -9,12 +9,10 @@ pub loop-i-init : goal.loop-i-init
 loop-i-init c = (search rules, compared-none _ _)
 
 pub loop-i-preserved : goal.loop-i-preserved
-loop-i-preserved c =
-    (
+loop-i-preserved c = (
   search rules,
   compared-next _ _ _ _ c.loop-i.invariant.1 (search rules) _ _ c.byte_minus.ensures
-      c.byte_greater-most.ensures,)
-
+      c.byte_greater-most.ensures,
 )
 
 pub returns : goal.returns

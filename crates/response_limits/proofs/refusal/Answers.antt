@@ -16,20 +16,21 @@ use Rattle.response_limits.specs.Promise.{is_crossed, refusal_of}
 use Rattle.response_limits.proofs.Judging.{by_length, by-rest}
 use borrow.Author.Rules.{rules}
 use Rattle.response_limits.proofs.refusal.Goals as goal
+use Rattle.response_limits.proofs.refusal.Goals.{Else-high-low, Else-not-is_ring, Else-number-ne0}
 
 pub returns-then-number-ne0 : goal.returns-then-number-ne0
 unfolding refusal_of
 returns-then-number-ne0 c = refused _ _ _ _ _ c.refusal-number.ensures c.if-number-ne0.true
 
 -- past the test of the low image
-image : (c : goal.Else-number-ne0) → Sized (length c.args.low.now) c.args.w c.args.h
+image : (c : Else-number-ne0) → Sized (length c.args.low.now) c.args.w c.args.h
 image c = sized _ _ _ _ c.refusal-number.ensures c.if-number-ne0.false
 
 pub returns-then-high-low : goal.returns-then-high-low
-returns-then-high-low c = by_length _ _ _ _ _ _ _ (image c.before) c.if-high-low.true
+returns-then-high-low c = by_length _ _ _ _ _ _ _ (image (goal.at.returns-then-high-low c).Else-number-ne0) c.if-high-low.true
 
 -- past that of the high one, what is left of the table
-rest : (c : goal.Else-high-low)
+rest : (c : Else-high-low)
     →
     refusal_of c.args.low.now c.args.high.now c.args.w c.args.h c.args.ring c.args.lows c.args.highs
     ≡ lowest ((is_crossed c.args.low.now c.args.high.now, 15) ∷ (not (is_ring c.args.ring), 3) ∷ (ltb c.args.lows (c.args.w * c.args.h), 8)
@@ -37,12 +38,12 @@ rest : (c : goal.Else-high-low)
 rest c = by-rest _ _ _ _ _ _ _ (image c.before) c.if-high-low.false
 
 pub returns-then-are_crossed : goal.returns-then-are_crossed
-returns-then-are_crossed c = rw (rest c.before.before, ← c.are_crossed.ensures, c.if-are_crossed.true)
+returns-then-are_crossed c = rw (rest (goal.at.returns-then-are_crossed c).Else-high-low, ← c.are_crossed.ensures, c.if-are_crossed.true)
 
 pub returns-then-not-is_ring : goal.returns-then-not-is_ring
 returns-then-not-is_ring c =
     rw (
-      rest c.before.before.before.before,
+      rest (goal.at.returns-then-not-is_ring c).Else-high-low,
       ← c.are_crossed.ensures,
       c.if-are_crossed.false,
       ← c.is_ring.ensures,
@@ -50,7 +51,7 @@ returns-then-not-is_ring c =
     )
 
 -- past the ring, what is left of that
-places : (c : goal.Else-not-is_ring)
+places : (c : Else-not-is_ring)
     →
     refusal_of c.args.low.now c.args.high.now c.args.w c.args.h c.args.ring c.args.lows c.args.highs
     ≡ lowest ((ltb c.args.lows (c.args.w * c.args.h), 8) ∷ (ltb c.args.highs (c.args.w * c.args.h), 8) ∷ [])
@@ -64,16 +65,16 @@ places c =
     )
 
 pub overflow_mul-w : goal.overflow_mul-w
-overflow_mul-w c = let s = image c.before.before.before.before.before in omega (arith, area-le _ _ s.narrow s.low)
+overflow_mul-w c = let s = image (goal.at.overflow_mul-w c).Else-number-ne0 in omega (arith, area-le _ _ s.narrow s.low)
 
 pub returns-then-lows-w : goal.returns-then-lows-w
-returns-then-lows-w c = rw (places c.before, lt-ltb _ _ c.if-lows-w.true)
+returns-then-lows-w c = rw (places (goal.at.returns-then-lows-w c).Else-not-is_ring, lt-ltb _ _ c.if-lows-w.true)
 
 pub overflow_mul-w-2 : goal.overflow_mul-w-2
-overflow_mul-w-2 c = let s = image c.before.before.before.before.before.before in omega (arith, area-le _ _ s.narrow s.low)
+overflow_mul-w-2 c = let s = image (goal.at.overflow_mul-w-2 c).Else-number-ne0 in omega (arith, area-le _ _ s.narrow s.low)
 
 pub returns-then-highs-w : goal.returns-then-highs-w
-returns-then-highs-w c = rw (places c.before.before, le-ltb _ _ c.if-lows-w.false, lt-ltb _ _ c.if-highs-w.true)
+returns-then-highs-w c = rw (places (goal.at.returns-then-highs-w c).Else-not-is_ring, le-ltb _ _ c.if-lows-w.false, lt-ltb _ _ c.if-highs-w.true)
 
 pub returns : goal.returns
-returns c = rw (places c.before.before, le-ltb _ _ c.if-lows-w.false, le-ltb _ _ c.if-highs-w.false)
+returns c = rw (places (goal.at.returns c).Else-not-is_ring, le-ltb _ _ c.if-lows-w.false, le-ltb _ _ c.if-highs-w.false)

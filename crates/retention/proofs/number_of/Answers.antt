@@ -5,6 +5,7 @@ use native.Mathlib.Omega.{arith}
 use borrow.Author.Rules.{rules}
 use Rattle.retention.proofs.Numbers.{Above, above-none, above-fits, above-next, above-all}
 use Rattle.retention.proofs.number_of.Goals as goal
+use Rattle.retention.proofs.number_of.Goals.{After-wide}
 
 pub loop-i-init : goal.loop-i-init
 loop-i-init c = above-none c.args.bytes.now
@@ -16,7 +17,7 @@ pub bounds-bytes-i : goal.bounds-bytes-i
 bounds-bytes-i c = omega (arith, c.loop-i.invariant.rest)
 
 -- the byte that was read
-byte : (c : goal.After-wide) → c.wide.result < 256
+byte : (c : After-wide) → c.wide.result < 256
 byte c = rw c.wide.ensures (c.shared_slice_known-in-loop-i-1.given _).fits
 
 pub overflow_add-n : goal.overflow_add-n

@@ -11,21 +11,22 @@ use Rattle.response.proofs.Indices.{area-le}
 use Rattle.retouch.specs.Internal.{PixelChecked}
 use Rattle.retouch.proofs.Judging.{ready, ready-changed, when-refused, when-redone}
 use Rattle.retouch.proofs.retouch.Goals as goal
+use Rattle.retouch.proofs.retouch.Goals.{After-refusal-number, Else-number-ne0, Start}
 
 -- ---- nothing refuses
 
-abbrev pixel : goal.Start → Place
+abbrev pixel : Start → Place
 pixel a = record { x = a.args.x; y = a.args.y }
 
-granted : (c : goal.Else-number-ne0)
+granted : (c : Else-number-ne0)
     → PixelChecked c.args.img.now c.args.w c.args.h c.args.ring (pixel c.before.before.before.before)
     c.args.map.now
 granted c = ready _ _ _ _ _ _ (sym c.refusal-number.ensures ∙ c.if-number-ne0.false)
 
-stored : (c : goal.Else-number-ne0) → c.args.y * c.args.w + c.args.x < length c.args.img.now
+stored : (c : Else-number-ne0) → c.args.y * c.args.w + c.args.x < length c.args.img.now
 stored c = let g = granted c in rw g.image.sized (in_map _ _ _ _ g.column g.row)
 
-near : (c : goal.Else-number-ne0) → c.args.y * c.args.w + c.args.x < largest_map
+near : (c : Else-number-ne0) → c.args.y * c.args.w + c.args.x < largest_map
 near c = let g = granted c in omega (arith, stored c, g.image.sized, area-le _ _ g.image.narrow g.image.low)
 
 pub returns-then-number-ne0 : goal.returns-then-number-ne0
@@ -41,7 +42,7 @@ pub bounds-img-y : goal.bounds-img-y
 bounds-img-y c = stored c
 
 pub redo_touched-cells-requires : goal.redo_touched-cells-requires
-redo_touched-cells-requires c = ready-changed _ _ _ _ _ _ _ (granted c.before.before)
+redo_touched-cells-requires c = ready-changed _ _ _ _ _ _ _ (granted (goal.at.redo_touched-cells-requires c).After-refusal-number)
 
 pub shape_of-img : goal.shape_of-img
 shape_of-img c = search rules

@@ -12,6 +12,7 @@ use Rattle.sure_peak.proofs.WindowRows.{centre-in, centre-small}
 use Rattle.sure_peak.proofs.Peak.{when-low, when-beaten, when-top}
 use borrow.Author.Rules.{rules}
 use Rattle.sure_peak.proofs.is_sure.Goals as goal
+use Rattle.sure_peak.proofs.is_sure.Goals.{After-low-1}
 
 pub overflow_mul-low : goal.overflow_mul-low
 overflow_mul-low c = omega (arith, centre-small _ _ _ _ _ c.requires.0 (pos 0))
@@ -26,7 +27,7 @@ pub bounds-lows-y : goal.bounds-lows-y
 bounds-lows-y c = centre-in _ _ _ _ _ c.requires.0 (pos 0)
 
 -- the low number of the place, as it was read
-module _ (c : goal.After-low-1) where
+module _ (c : After-low-1) where
   abbrev cell : ℤ
   cell = get_or c.args.lows.now (c.args.y * c.args.w + c.args.x) (pos 0)
 
@@ -36,17 +37,17 @@ module _ (c : goal.After-low-1) where
 pub returns-then-not-exceeds : goal.returns-then-not-exceeds
 returns-then-not-exceeds c =
     when-low c.args.lows.now c.args.highs.now c.args.w c.args.h c.args.r c.args.threshold c.args.least (record { x = c.args.x; y = c.args.y }) _
-    (same c.before.before)
+    (same (goal.at.returns-then-not-exceeds c).After-low-1)
     (sym c.exceeds.ensures ∙ not-true _ c.if-not-exceeds.true-raw)
 
 pub returns-then-count_window-ne0 : goal.returns-then-count_window-ne0
 returns-then-count_window-ne0 c =
     when-beaten c.args.lows.now c.args.highs.now c.args.w c.args.h c.args.r c.args.threshold c.args.least (record { x = c.args.x; y = c.args.y }) _
-    (same c.before.before.before.before) (sym c.exceeds.ensures ∙ not-false _ c.if-not-exceeds.false-raw) _
+    (same (goal.at.returns-then-count_window-ne0 c).After-low-1) (sym c.exceeds.ensures ∙ not-false _ c.if-not-exceeds.false-raw) _
     c.count_window.ensures c.if-count_window-ne0.true
 
 pub returns : goal.returns
 returns c =
     when-top c.args.lows.now c.args.highs.now c.args.w c.args.h c.args.r c.args.threshold c.args.least (record { x = c.args.x; y = c.args.y }) _
-    (same c.before.before.before.before.before) (sym c.exceeds.ensures ∙ not-false _ c.if-not-exceeds.false-raw) _
+    (same (goal.at.returns c).After-low-1) (sym c.exceeds.ensures ∙ not-false _ c.if-not-exceeds.false-raw) _
     c.count_window.ensures c.if-count_window-ne0.false _ c.count_window-2.ensures

@@ -12,12 +12,13 @@ use Rattle.detect.specs.Internal.{Inside}
 use Rattle.sure_peak.proofs.Judging.{Given, given, inside, narrower, when-refused, outside-across, outside-down, is-sure, not-sure}
 use borrow.Author.Rules.{rules}
 use Rattle.sure_peak.proofs.sure_peak.Goals as goal
+use Rattle.sure_peak.proofs.sure_peak.Goals.{Else-not-is_inside-2, Else-number-ne0}
 
 pub returns-then-number-ne0 : goal.returns-then-number-ne0
 returns-then-number-ne0 c = when-refused _ _ _ _ _ _ _ _ _ _ _ c.refusal-number.ensures c.if-number-ne0.true
 
 -- ---- nothing refuses
-module _ (c : goal.Else-number-ne0) where
+module _ (c : Else-number-ne0) where
   abbrev place : Place
   place = record { x = c.args.x; y = c.args.y }
 
@@ -40,7 +41,7 @@ returns-then-not-is_inside c =
     (sym c.is_inside.ensures ∙ not-true _ c.if-not-is_inside.true-raw)
 
 pub is_inside-requires-2 : goal.is_inside-requires-2
-is_inside-requires-2 c = let g = granted c.before.before in (narrow c.before.before, omega (arith, g.row, g.low-cells.low))
+is_inside-requires-2 c = let g = granted (goal.at.is_inside-requires-2 c).Else-number-ne0 in (narrow (goal.at.is_inside-requires-2 c).Else-number-ne0, omega (arith, g.row, g.low-cells.low))
 
 pub returns-then-not-is_inside-2 : goal.returns-then-not-is_inside-2
 returns-then-not-is_inside-2 c =
@@ -48,7 +49,7 @@ returns-then-not-is_inside-2 c =
     (sym c.is_inside-2.ensures ∙ not-true _ c.if-not-is_inside-2.true-raw)
 
 -- ---- inside the border
-module _ (c : goal.Else-not-is_inside-2) where
+module _ (c : Else-not-is_inside-2) where
   across : (leb (border c.before.before.before.before) c.args.x && ltb (c.args.x + border c.before.before.before.before) c.args.w) ≡ true
   across = sym c.is_inside.ensures ∙ not-false _ c.if-not-is_inside.false-raw
 
@@ -60,17 +61,17 @@ module _ (c : goal.Else-not-is_inside-2) where
 
 pub is_sure-requires : goal.is_sure-requires
 is_sure-requires c =
-    let g = granted c.before.before.before.before in (
+    let g = granted (goal.at.is_sure-requires c).Else-number-ne0 in (
       record { cells = g.low-cells; radius = g.window-small; inside = within c },
       record { cells = g.high-cells; radius = g.window-small; inside = within c },
     )
 
 pub returns-then-is_sure : goal.returns-then-is_sure
 returns-then-is_sure c =
-    is-sure _ _ _ _ _ _ _ _ _ _ _ c.refusal-number.ensures c.if-number-ne0.left (across c.before.before) (down c.before.before) _ c.is_sure.ensures
+    is-sure _ _ _ _ _ _ _ _ _ _ _ c.refusal-number.ensures c.if-number-ne0.false (across (goal.at.returns-then-is_sure c).Else-not-is_inside-2) (down (goal.at.returns-then-is_sure c).Else-not-is_inside-2) _ c.is_sure.ensures
     c.if-is_sure.true
 
 pub returns : goal.returns
 returns c =
-    not-sure _ _ _ _ _ _ _ _ _ _ _ c.refusal-number.ensures c.if-number-ne0.left (across c.before.before) (down c.before.before) _
+    not-sure _ _ _ _ _ _ _ _ _ _ _ c.refusal-number.ensures c.if-number-ne0.false (across (goal.at.returns c).Else-not-is_inside-2) (down (goal.at.returns c).Else-not-is_inside-2) _
     c.is_sure.ensures c.if-is_sure.false

@@ -8,7 +8,7 @@ use Rattle.corner_strike.proofs.Removing.{moving-neighbours}
 use Rattle.corner_strike.proofs.striking.remove_corner.Given as goal
 
 abbrev pub invariant-loop-at : goal.invariant-loop-at
-invariant-loop-at l = Moving (slices l.initial.xs l.xs l.initial.ys l.ys) l.initial.strengths l.strengths l.at (slices l.count l.place l.last l.initial.at)
+invariant-loop-at l = Moving (slices l.initial.xs l.initial.ys l.initial.strengths l.initial.neighbours) l.count l.place l.at (slices l.xs l.ys l.strengths l.neighbours)
 
 abbrev pub decreases-loop-at : goal.decreases-loop-at
-decreases-loop-at l = l.initial.neighbours - l.at
+decreases-loop-at l = l.last - l.at

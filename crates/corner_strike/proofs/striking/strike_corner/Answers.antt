@@ -5,12 +5,13 @@ use Rattle.corner_list.specs.CornerList.{Slices, slices, places_of}
 use Rattle.corner_strike.specs.Editions.{edition}
 use Rattle.corner_strike.proofs.Judging.{Strikable, strike-granted, strike-refused, strike-struck}
 use Rattle.corner_strike.proofs.striking.strike_corner.Goals as goal
+use Rattle.corner_strike.proofs.striking.strike_corner.Goals.{Else-number-ne0, Start}
 
-abbrev buffer : goal.Start → Slices
+abbrev buffer : Start → Slices
 buffer s = slices s.args.xs.now s.args.ys.now s.args.strengths.now s.args.neighbours.now
 
 -- nothing refuses
-granted : (c : goal.Else-number-ne0)
+granted : (c : Else-number-ne0)
     →
     Strikable (places_of (buffer c.before.before.before.before.before.before.before.before.before)) (edition c.args.count.now c.args.change.now) c.args.place c.args.shown
 granted c =
@@ -21,13 +22,13 @@ pub returns-then-number-ne0 : goal.returns-then-number-ne0
 returns-then-number-ne0 c = strike-refused _ _ _ _ c.places-places.ensures _ _ c.refusal-number.ensures c.if-number-ne0.true
 
 pub remove_corner-requires : goal.remove_corner-requires
-remove_corner-requires c = let g = granted c.before.before.before.before in (g.inside, g.fits)
+remove_corner-requires c = let g = granted (goal.at.remove_corner-requires c).Else-number-ne0 in (g.inside, g.fits)
 
 pub overflow_sub-left : goal.overflow_sub-left
-overflow_sub-left c = omega (arith, (granted c.before.before.before.before.before.before.before.before.before.before.before.before.before).inside)
+overflow_sub-left c = omega (arith, (granted (goal.at.overflow_sub-left c).Else-number-ne0).inside)
 
 pub overflow_add-raised : goal.overflow_add-raised
-overflow_add-raised c = omega (arith, (granted c.before.before.before.before.before.before.before.before.before.before.before.before.before).not-largest)
+overflow_add-raised c = omega (arith, (granted (goal.at.overflow_add-raised c).Else-number-ne0).not-largest)
 
 pub shape_of-xs : goal.shape_of-xs
 shape_of-xs c = search rules
@@ -43,5 +44,5 @@ shape_of-neighbours c = search rules
 
 pub returns : goal.returns
 returns c =
-    strike-struck _ _ _ _ c.places-places.ensures _ _ _ c.refusal-number.ensures c.if-number-ne0.left
+    strike-struck _ _ _ _ c.places-places.ensures _ _ _ c.refusal-number.ensures c.if-number-ne0.false
     c.remove_corner.ensures

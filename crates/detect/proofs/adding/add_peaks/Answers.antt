@@ -11,17 +11,18 @@ use Rattle.detect.proofs.Scanning.{next-inside}
 use Rattle.detect.proofs.Answers.{fits-behind, short-behind, found-short}
 use Rattle.detect.proofs.Writing.{Writing, writing-first, writing-place, writing-few, writing-less, writing-next, writing-all}
 use Rattle.detect.proofs.adding.add_peaks.Goals as goal
+use Rattle.detect.proofs.adding.add_peaks.Goals.{Else-y1-p, Start}
 
 -- ---- places of the code: the function's start, from the listing; the listing, from the test of the peaks' number and from a turn; the
 -- turn, from its peak; the peak, from where the turn goes on; that, from where its corner was put; and this, from what follows
 
 -- what the function was given, from where a turn goes on, and its buffer
 
-abbrev buffer : goal.Start → Slices
+abbrev buffer : Start → Slices
 buffer c = slices c.args.xs.now c.args.ys.now c.args.strengths.now c.args.neighbours.now
 
 -- ---- in a turn that goes on the next peak lies inside the border, and there is a place for its corner
-module _ (c : goal.Else-y1-p) where
+module _ (c : Else-y1-p) where
   abbrev peak : Place
   peak = place c.peak_at-p.result.x c.peak_at-p.result.y
 
@@ -46,13 +47,13 @@ shape_of-table-then-are_too_many c = search rules
 pub returns-then-are_too_many : goal.returns-then-are_too_many
 returns-then-are_too_many c =
     found-short _ _ _ _
-    (short-behind c.args.map.now c.args.s (buffer c.before.before.before.before.before.before.before.before.before.before.before.before.before) _ _ c.places.ensures
+    (short-behind c.args.map.now c.args.s (buffer (goal.at.returns-then-are_too_many c).Start) _ _ c.places.ensures
     _ c.are_too_many.ensures c.if-are_too_many.true)
 
 pub loop-s-init : goal.loop-s-init
 loop-s-init c =
     writing-first _ _ _ _ _ _
-    (fits-behind c.args.map.now c.args.s (buffer c.before.before.before.before.before.before.before.before.before.before.before.before.before.before) _ _ c.places.ensures
+    (fits-behind c.args.map.now c.args.s (buffer (goal.at.loop-s-init c).Start) _ _ c.places.ensures
     _ c.are_too_many.ensures c.if-are_too_many.false)
 
 pub peak_at-p-requires : goal.peak_at-p-requires
@@ -78,27 +79,27 @@ returns-then-y1-p c =
     writing-all _ _ _ _ _ _ _ _ _ _ c.loop-s.invariant _ c.peak_at-p.ensures (omega arith)
 
 pub overflow_add-held : goal.overflow_add-held
-overflow_add-held c = omega (arith, space c.before.before.before.before, c.well_formed)
+overflow_add-held c = omega (arith, space (goal.at.overflow_add-held c).Else-y1-p, c.well_formed)
 
 pub start_at-requires : goal.start_at-requires
-start_at-requires c = record { searchable = c.requires; inside = inside c.before.before.before.before; counted = c.peak_at-p.ensures.next.counted (high c.before.before.before.before) }
+start_at-requires c = record { searchable = c.requires; inside = inside (goal.at.start_at-requires c).Else-y1-p; counted = c.peak_at-p.ensures.next.counted (high (goal.at.start_at-requires c).Else-y1-p) }
 
 pub overflow_add-ties : goal.overflow_add-ties
 overflow_add-ties c =
     omega
-    (arith, writing-few _ _ _ _ _ _ _ _ _ _ c.loop-s.invariant _ c.peak_at-p.ensures (high c.before.before.before.before.before.before.before.before.before.before.before.before.before.before.before) c.requires)
+    (arith, writing-few _ _ _ _ _ _ _ _ _ _ c.loop-s.invariant _ c.peak_at-p.ensures (high (goal.at.overflow_add-ties c).Else-y1-p) c.requires)
 
 pub overflow_add-i : goal.overflow_add-i
-overflow_add-i c = omega (arith, space c.before.before.before.before.before.before.before.before.before.before.before.before.before.before.before, c.good)
+overflow_add-i c = omega (arith, space (goal.at.overflow_add-i c).Else-y1-p, c.well_formed)
 
 pub overflow_add-x : goal.overflow_add-x
-overflow_add-x c = omega (arith, small c.before.before.before.before.before.before.before.before.before.before.before.before.before.before.before.before)
+overflow_add-x c = omega (arith, small (goal.at.overflow_add-x c).Else-y1-p)
 
 pub loop-s-smaller : goal.loop-s-smaller
 loop-s-smaller c =
-    writing-less _ _ _ _ _ _ _ _ _ _ c.loop-s.invariant _ c.peak_at-p.ensures (high c.before.before.before.before.before.before.before.before.before.before.before.before.before.before.before.before)
+    writing-less _ _ _ _ _ _ _ _ _ _ c.loop-s.invariant _ c.peak_at-p.ensures (high (goal.at.loop-s-smaller c).Else-y1-p)
 
 pub loop-s-preserved : goal.loop-s-preserved
 loop-s-preserved c =
-    writing-next _ _ _ _ _ _ _ _ _ _ c.loop-s.invariant _ c.peak_at-p.ensures (high c.before.before.before.before.before.before.before.before.before.before.before.before.before.before.before.before)
+    writing-next _ _ _ _ _ _ _ _ _ _ c.loop-s.invariant _ c.peak_at-p.ensures (high (goal.at.loop-s-preserved c).Else-y1-p)
     _ c.start_at.ensures _ c.put_corner.ensures

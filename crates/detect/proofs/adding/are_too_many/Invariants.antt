@@ -6,7 +6,7 @@ use Rattle.detect.proofs.FirstPeaks.{Counting, counting-first, counting-next, co
 use Rattle.detect.proofs.adding.are_too_many.Given as goal
 
 abbrev pub invariant-loop-i : goal.invariant-loop-i
-invariant-loop-i l = Counting l.map l.s l.table l.n l.i (place l.y l.initial.i)
+invariant-loop-i l = Counting l.map l.s l.table l.n l.i (place l.x l.y)
 
 abbrev pub decreases-loop-i : goal.decreases-loop-i
 decreases-loop-i l = l.free + 1 - l.i

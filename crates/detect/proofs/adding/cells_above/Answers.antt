@@ -5,11 +5,12 @@ use Rattle.lists.proofs.Rows.{rows_start}
 use Rattle.detect.proofs.Cells.{row_in, row_small}
 use Rattle.detect.proofs.Above.{HighRows, high-some, high-next, high-few, high-all, high-none}
 use Rattle.detect.proofs.adding.cells_above.Goals as goal
+use Rattle.detect.proofs.adding.cells_above.Goals.{In-loop-y}
 
 -- the function's start, from the loop
 
 -- ---- in a turn the row at hand is one of the map's, and where it begins is a small number
-module _ (c : goal.In-loop-y) where
+module _ (c : In-loop-y) where
   in_rows : c.loop-y.y < c.args.s.h
   in_rows = omega arith
 

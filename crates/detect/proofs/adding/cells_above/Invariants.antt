@@ -6,7 +6,7 @@ use Rattle.detect.proofs.Above.{HighRows, high-some, high-next, high-few, high-a
 use Rattle.detect.proofs.adding.cells_above.Given as goal
 
 abbrev pub invariant-loop-y : goal.invariant-loop-y
-invariant-loop-y l = HighRows l.map l.s l.initial.y l.y
+invariant-loop-y l = HighRows l.map l.s l.n l.y
 
 abbrev pub decreases-loop-y : goal.decreases-loop-y
 decreases-loop-y l = l.y1 - l.y

@@ -2,9 +2,10 @@
 use Rattle.std.proofs.Common.{◌≡◌, ◌-◌, ◌*◌, ap₂, arith, rules}
 use Rattle.detect.proofs.Cells.{inside-few}
 use Rattle.detect.proofs.adding.cells_inside.Goals as goal
+use Rattle.detect.proofs.adding.cells_inside.Goals.{After-minus-2}
 
 -- what is multiplied, from the second difference
-sides : (c : goal.After-minus-2)
+sides : (c : After-minus-2)
     →
     c.minus.result * c.minus-2.result ≡ (c.args.s.w - 2 * c.args.s.border) * (c.args.s.h - 2 * c.args.s.border)
 sides c = ap₂ (λ a b. a * b) c.minus.ensures c.minus-2.ensures

@@ -5,7 +5,7 @@ use Rattle.detect.proofs.Counting.{Searching, searching-first, searching-yes, se
 use Rattle.detect.proofs.enough.search_for.Given as goal
 
 abbrev pub invariant-loop-i : goal.invariant-loop-i
-invariant-loop-i l = Searching l.map l.s l.initial.i l.i (place l.initial.rows l.rows) × (l.i ≤ l.wanted)
+invariant-loop-i l = Searching l.map l.s l.rows l.i (place l.x l.y) × (l.i ≤ l.wanted)
 
 abbrev pub decreases-loop-i : goal.decreases-loop-i
 decreases-loop-i l = l.wanted - l.i

@@ -4,9 +4,10 @@ use lib.Ieee.{of_bits}
 use Rattle.detect.specs.Fifths.{fifths_under}
 use Rattle.detect.proofs.Thresholds.{CutOff, lifted-cut}
 use Rattle.detect.proofs.fifths.fifths_under.Goals as goal
+use Rattle.detect.proofs.fifths.fifths_under.Goals.{After-f32_to_f64_with_nan}
 
 -- the product, cut off
-cuts : (c : goal.After-f32_to_f64_with_nan) → CutOff c.f32_to_f64_with_nan.result
+cuts : (c : After-f32_to_f64_with_nan) → CutOff c.f32_to_f64_with_nan.result
 unfolding of_bits
 cuts c =
     rw (c.f32_to_f64_with_nan.ensures, c.lifted-t.ensures)
@@ -23,5 +24,5 @@ truncating_f64_to_u64-requires c = record { lower_bound = (cuts c).above; upper_
 pub returns : goal.returns
 unfolding of_bits
 returns c =
-    c.truncating_f64_to_u64.ensures ∙ (cuts c.before).is
+    c.truncating_f64_to_u64.ensures ∙ (cuts (goal.at.returns c).After-f32_to_f64_with_nan).is
     ∙ ap fifths_under (c.f32_to_f64_with_nan.ensures ∙ c.lifted-t.ensures)

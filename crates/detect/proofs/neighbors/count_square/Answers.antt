@@ -8,14 +8,15 @@ use Rattle.detect.specs.Internal.{is_counted}
 use Rattle.detect.proofs.Cells.{row_in, row_small}
 use Rattle.detect.proofs.WindowRows.{count_next, count_fits, count-all}
 use Rattle.detect.proofs.neighbors.count_square.Goals as goal
+use Rattle.detect.proofs.neighbors.count_square.Goals.{After-count_cells-n, At-loop-yy, In-loop-yy}
 
 -- ---- places of the code: the function's start, from the loop, what is asked of a cell there, and the turn, from where its row was asked
 
-abbrev test : goal.At-loop-yy → Float → Bool
+abbrev test : At-loop-yy → Float → Bool
 test c = is_counted c.args.asked c.args.v
 
 -- ---- in a turn the row at hand is one of the map's, and where it begins is a small number
-module _ (c : goal.In-loop-yy) where
+module _ (c : In-loop-yy) where
   in_rows : c.loop-yy.yy < c.args.s.h
   in_rows = omega arith
 
@@ -23,7 +24,7 @@ module _ (c : goal.In-loop-yy) where
   small = row_small _ _ c.requires.searchable _ in_rows
 
 -- so few are counted
-fits : (c : goal.After-count_cells-n) → c.loop-yy.n + c.count_cells-n.result ≤ 1089
+fits : (c : After-count_cells-n) → c.loop-yy.n + c.count_cells-n.result ≤ 1089
 fits c =
     count_fits _ _ _ _ _ c.requires.searchable c.requires.inside c.requires.v_value _ c.loop-yy-test.taken (test c.before.before.before) _ c.loop-yy.invariant
     _ c.count_cells-n.ensures
@@ -39,12 +40,12 @@ overflow_add-n c = omega (arith, fits c)
 
 pub loop-yy-preserved : goal.loop-yy-preserved
 loop-yy-preserved c =
-    count_next _ _ _ _ _ c.requires.searchable c.requires.inside c.requires.v_value _ c.loop-yy-test.taken (test c.before.before.before) _ c.loop-yy.invariant
+    count_next _ _ _ _ _ c.requires.searchable c.requires.inside c.requires.v_value _ c.loop-yy-test.taken (test (goal.at.loop-yy-preserved c).At-loop-yy) _ c.loop-yy.invariant
     _ c.count_cells-n.ensures
 
 pub returns : goal.returns
 returns c =
-    count-all _ _ _ _ _ c.requires.searchable c.requires.inside c.requires.v_value _ c.loop-yy-test.false (test c.before) _ c.loop-yy.invariant
+    count-all _ _ _ _ _ c.requires.searchable c.requires.inside c.requires.v_value _ c.loop-yy-test.false (test (goal.at.returns c).At-loop-yy) _ c.loop-yy.invariant
 
 pub overflow_mul-a : goal.overflow_mul-a
 overflow_mul-a c = omega (arith, small c)

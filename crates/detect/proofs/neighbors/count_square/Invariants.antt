@@ -8,7 +8,7 @@ use Rattle.detect.proofs.WindowRows.{count_next, count_fits, count-all}
 use Rattle.detect.proofs.neighbors.count_square.Given as goal
 
 abbrev pub invariant-loop-yy : goal.invariant-loop-yy
-invariant-loop-yy l = CountRows (is_counted l.asked l.v) l.map l.w nan l.x0 l.x1 l.n l.y1 l.initial.yy l.yy
+invariant-loop-yy l = CountRows (is_counted l.asked l.v) l.map l.w nan l.x0 l.x1 l.initial.yy l.y1 l.n l.yy
 
 abbrev pub decreases-loop-yy : goal.decreases-loop-yy
 decreases-loop-yy l = l.y1 - l.yy

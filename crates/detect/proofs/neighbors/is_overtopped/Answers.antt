@@ -5,13 +5,14 @@ use mathlib.Core.Bool.{false≢true}
 use Rattle.detect.proofs.Cells.{cell-small}
 use Rattle.detect.proofs.Overtopping.{beside-before, beside-behind, overtopped}
 use Rattle.detect.proofs.neighbors.is_overtopped.Goals as goal
+use Rattle.detect.proofs.neighbors.is_overtopped.Goals.{Else-s-lt1}
 
 pub returns-then-s-lt1 : goal.returns-then-s-lt1
 returns-then-s-lt1 c = λ e. absurd (false≢true e)
 
 -- the function's start, from where the window has cells
 
-wide : (c : goal.Else-s-lt1) → 1 ≤ c.args.s.window
+wide : (c : Else-s-lt1) → 1 ≤ c.args.s.window
 wide c = omega arith
 
 pub overflow_mul-i : goal.overflow_mul-i
@@ -25,5 +26,5 @@ most_beside-requires c = record { le_w = beside-before _ _ _ _ c.requires.search
 
 pub returns : goal.returns
 returns c =
-    overtopped c.args.map.now c.args.s c.args.x c.args.y c.requires.searchable c.requires.inside (wide c.before.before.before) c.args.v c.requires.v_value _ refl
+    overtopped c.args.map.now c.args.s c.args.x c.args.y c.requires.searchable c.requires.inside (wide (goal.at.returns c).Else-s-lt1) c.args.v c.requires.v_value _ refl
     _ c.most_beside.ensures _ c.bar_of.ensures _ c.is_larger.ensures

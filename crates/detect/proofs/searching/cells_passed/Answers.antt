@@ -5,6 +5,7 @@ use Rattle.detect.specs.Internal.{Passed}
 use Rattle.detect.proofs.Passing.{without-mark}
 use Rattle.detect.proofs.Marks.{Marked, marked-none, marked_next, marked_all}
 use Rattle.detect.proofs.searching.cells_passed.Goals as goal
+use Rattle.detect.proofs.searching.cells_passed.Goals.{After-mark_of-marks}
 
 pub loop-i-init : goal.loop-i-init
 loop-i-init c = (omega arith, marked-none _)
@@ -12,7 +13,7 @@ loop-i-init c = (omega arith, marked-none _)
 -- ---- places of the code: the function's start, from a turn of the loop, and the turn, from where the mark is known
 
 -- the marks with that of one cell more
-next : (c : goal.After-mark_of-marks)
+next : (c : After-mark_of-marks)
     → 
     
     Marked (λ k. Passed c.args.map.now c.args.w c.args.t c.args.beside c.args.exact (c.args.at + k)) (c.loop-i.i + 1) (c.loop-i.marks + c.mark_of-marks.result)
@@ -32,8 +33,6 @@ pub rival-u-requires : goal.rival-u-requires
 rival-u-requires c =
     record { i_in_bounds = omega (arith, c.requires.within); le_w = (λ e. let around = c.requires.around e in
       (around.0, omega (arith, around.1), omega (arith, around.2)), ) }
-
-)
 
 pub bounds-map-k : goal.bounds-map-k
 bounds-map-k c = omega (arith, c.requires.within)

@@ -5,11 +5,12 @@ use Rattle.lists.specs.Limits.{largest_map}
 use Rattle.detect.proofs.Cells.{row_in, row_small}
 use Rattle.detect.proofs.Rows.{low-row}
 use Rattle.detect.proofs.searching.is_low_row.Goals as goal
+use Rattle.detect.proofs.searching.is_low_row.Goals.{Else-minus-y}
 
 -- the function's start, from where the map is wide and has the row
 
 -- there the row is one of the map's, and where it begins is a small number
-module _ (c : goal.Else-minus-y) where
+module _ (c : Else-minus-y) where
   in_rows : c.args.y < c.args.s.h
   in_rows = omega (arith, c.minus.ensures, c.requires.inside)
 
@@ -43,4 +44,4 @@ slice_bounds-count_low-end c = row_in _ _ c.requires _ (in_rows c) _ (omega arit
 pub returns : goal.returns
 returns c =
     λ e.
-    low-row _ _ _ _ (omega arith) (row_in _ _ c.requires _ (in_rows c.before.before) _ (omega arith)) c.count_low.ensures (leb-true _ _ e)
+    low-row _ _ _ _ (omega arith) (row_in _ _ c.requires _ (in_rows (goal.at.returns c).Else-minus-y) _ (omega arith)) c.count_low.ensures (leb-true _ _ e)

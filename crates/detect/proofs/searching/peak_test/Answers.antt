@@ -6,12 +6,13 @@ use Rattle.detect.specs.Internal.{place}
 use Rattle.detect.proofs.WindowRows.{positives-are}
 use Rattle.detect.proofs.Tested.{tested_low, tested-beaten, tested-few, tested-peak}
 use Rattle.detect.proofs.searching.peak_test.Goals as goal
+use Rattle.detect.proofs.searching.peak_test.Goals.{After-count_neighbors-neighbours}
 
 -- ---- places of the code, each from a later one: the function's start, the value, the test that saves time, the
 -- window's, and whether it is beaten
 
 -- what was counted
-neighbours : (c : goal.After-count_neighbors-neighbours)
+neighbours : (c : After-count_neighbors-neighbours)
     →
     c.count_neighbors-neighbours.result ≡ neighbours_at c.args.map.now c.args.s (place c.args.x c.args.y)
 neighbours c =
@@ -31,10 +32,10 @@ returns-then-is_beaten c =
 
 pub returns-then-s-neighbours : goal.returns-then-s-neighbours
 returns-then-s-neighbours c =
-    tested-peak c.args.map.now c.args.s (place c.args.x c.args.y) _ c.value_at-v.ensures _ (neighbours c.before.before)
-    c.if-v-s.left (omega arith) _ c.is_beaten.ensures c.if-is_beaten.false
+    tested-peak c.args.map.now c.args.s (place c.args.x c.args.y) _ c.value_at-v.ensures _ (neighbours (goal.at.returns-then-s-neighbours c).After-count_neighbors-neighbours)
+    c.if-v-s.false (omega arith) _ c.is_beaten.ensures c.if-is_beaten.false
     _ (c.ties_of-ties.ensures ∙ ap ties_of c.window_test-t.ensures)
 
 pub returns-else-s-neighbours : goal.returns-else-s-neighbours
 returns-else-s-neighbours c =
-    tested-few c.args.map.now c.args.s (place c.args.x c.args.y) _ c.value_at-v.ensures _ (neighbours c.before.before) (omega arith)
+    tested-few c.args.map.now c.args.s (place c.args.x c.args.y) _ c.value_at-v.ensures _ (neighbours (goal.at.returns-else-s-neighbours c).After-count_neighbors-neighbours) (omega arith)

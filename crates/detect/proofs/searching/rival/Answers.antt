@@ -16,7 +16,6 @@ returns-then-beside c =
 pub returns : goal.returns
 returns c =
     record {
-  of_four = λ e. absurd (false≢true (sym c.if-beside.false ∙ e));
-  itself = λ e. refl;}
-
-}
+      of_four = λ e. absurd (false≢true (sym c.if-beside.false ∙ e));
+      itself = λ e. refl;
+    }

@@ -3,10 +3,11 @@ use Rattle.std.proofs.Common.{◌-◌, arith, rules}
 use Rattle.detect.specs.Internal.{place, Inside, PlacesSkipped}
 use Rattle.detect.proofs.Rows.{skipped-none, skipped-cell}
 use Rattle.detect.proofs.searching.skip_cells.Goals as goal
+use Rattle.detect.proofs.searching.skip_cells.Goals.{In-loop-x}
 
 -- the function's start, from a turn of the loop, and the cell of that turn
 
-inside : (c : goal.In-loop-x) →
+inside : (c : In-loop-x) →
     Inside c.args.s.w c.args.s.h c.args.s.border (place c.loop-x.x c.args.y)
 inside c =
     record {
@@ -27,7 +28,7 @@ returns-then-may_be_peak c = c.loop-x.invariant
 
 pub loop-x-preserved : goal.loop-x-preserved
 loop-x-preserved c =
-    let i = inside c.before.before in
+    let i = inside (goal.at.loop-x-preserved c).In-loop-x in
     skipped-cell c.args.map.now c.args.s c.args.x c.args.y _ c.loop-x.invariant (omega (arith, i.right)) (omega (arith, i.bottom))
     (c.may_be_peak.ensures c.if-may_be_peak.false)
 

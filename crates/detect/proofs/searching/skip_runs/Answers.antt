@@ -7,12 +7,13 @@ use Rattle.detect.proofs.Cells.{row_in, row_small}
 use Rattle.detect.proofs.Passing.{run_in, run-skipped}
 use Rattle.detect.proofs.Rows.{below-few, skipped-none, skipped-below, skipped-on}
 use Rattle.detect.proofs.searching.skip_runs.Goals as goal
+use Rattle.detect.proofs.searching.skip_runs.Goals.{After-blocks_below-x, After-run_passed-n, Else-x1-x-lt-RUN, In-loop-x}
 
 -- ---- places of the code: the function's start, from a turn of the loop; the turn, from where runs were skipped; and that place, from
 -- where a run is left
 
 -- the row is one of the map's, and where it begins is a small number
-module _ (c : goal.In-loop-x) where
+module _ (c : In-loop-x) where
   in_rows : c.args.y < c.args.s.h
   in_rows = omega (arith, c.requires.border_le_y.1)
 
@@ -23,7 +24,7 @@ module _ (c : goal.In-loop-x) where
   edge = omega (arith, c.minus-x1.ensures)
 
 -- where the search stands after the runs at or below the threshold
-module _ (c : goal.After-blocks_below-x) where
+module _ (c : After-blocks_below-x) where
   few : c.blocks_below-x.result ≤ c.minus-x1.result - c.loop-x.x
   few =
       below-few c.args.map.now c.args.s c.loop-x.x c.args.y _ _ c.args.s.threshold c.blocks_below-x.ensures
@@ -36,7 +37,7 @@ module _ (c : goal.After-blocks_below-x) where
       (omega (arith, c.loop-x-test.true)) c.requires.border_le_y.1 c.blocks_below-x.ensures)
 
 -- a run is left there
-module _ (c : goal.Else-x1-x-lt-RUN) where
+module _ (c : Else-x1-x-lt-RUN) where
   left : c.args.s.border ≤ c.loop-x.x + c.blocks_below-x.result
   left = omega (arith, c.requires.border_le_x.0, (after c.before).onward)
 
@@ -50,21 +51,21 @@ pub slice_bounds-blocks_below-end : goal.slice_bounds-blocks_below-end
 slice_bounds-blocks_below-end c = row_in _ _ c.requires.searchable _ (in_rows c) _ (edge c)
 
 pub overflow_add-x : goal.overflow_add-x
-overflow_add-x c = omega (arith, few c, edge c.before.before)
+overflow_add-x c = omega (arith, few c, edge (goal.at.overflow_add-x c).In-loop-x)
 
 pub overflow_sub-x1-in-loop-x : goal.overflow_sub-x1-in-loop-x
 overflow_sub-x1-in-loop-x c = omega (arith, few c, c.loop-x.invariant.1)
 
 pub returns-then-x1-x-lt-RUN : goal.returns-then-x1-x-lt-RUN
 returns-then-x1-x-lt-RUN c =
-    (after c.before, omega (arith, few c.before, c.loop-x.invariant.1, c.minus-x1.ensures))
+    (after (goal.at.returns-then-x1-x-lt-RUN c).After-blocks_below-x, omega (arith, few (goal.at.returns-then-x1-x-lt-RUN c).After-blocks_below-x, c.loop-x.invariant.1, c.minus-x1.ensures))
 
 pub run_passed-n-requires : goal.run_passed-n-requires
 run_passed-n-requires c =
     run_in _ _ c.requires.searchable _ _ (left c) (room c) c.requires.border_le_y.0 c.requires.border_le_y.1
 
 -- and after the cells of that run that are passed over
-passed : (c : goal.After-run_passed-n)
+passed : (c : After-run_passed-n)
     →
     PlacesSkipped c.args.map.now c.args.s (place c.args.x c.args.y)
     (place (c.loop-x.x + c.blocks_below-x.result + c.run_passed-n.result) c.args.y)
@@ -74,14 +75,14 @@ passed c =
     c.run_passed-n.ensures)
 
 pub returns-then-n-lt-RUN : goal.returns-then-n-lt-RUN
-returns-then-n-lt-RUN c = (passed c.before, omega (arith, room c.before.before, c.run_passed-n.ensures.within))
+returns-then-n-lt-RUN c = (passed (goal.at.returns-then-n-lt-RUN c).After-run_passed-n, omega (arith, room (goal.at.returns-then-n-lt-RUN c).Else-x1-x-lt-RUN, c.run_passed-n.ensures.within))
 
 pub loop-x-preserved : goal.loop-x-preserved
 loop-x-preserved c =
     let whole : c.run_passed-n.result ≡ run_cells = omega (arith, c.run_passed-n.ensures.within) in (
       subst (λ (n : ℕ). PlacesSkipped c.args.map.now c.args.s (place c.args.x c.args.y)
-          (place (c.loop-x.x + c.blocks_below-x.result + n) c.args.y)) whole (passed c.before),
-      omega (arith, room c.before.before, c.minus-x1.ensures),
+          (place (c.loop-x.x + c.blocks_below-x.result + n) c.args.y)) whole (passed (goal.at.loop-x-preserved c).After-run_passed-n),
+      omega (arith, room (goal.at.loop-x-preserved c).Else-x1-x-lt-RUN, c.minus-x1.ensures),
     )
 
 pub returns : goal.returns
@@ -103,13 +104,13 @@ pub offset_bounds-map-a : goal.offset_bounds-map-a
 offset_bounds-map-a c = omega (arith, small c)
 
 pub overflow_mul-y : goal.overflow_mul-y
-overflow_mul-y c = omega (arith, small c.before.before.before)
+overflow_mul-y c = omega (arith, small (goal.at.overflow_mul-y c).In-loop-x)
 
 pub overflow_add-y : goal.overflow_add-y
-overflow_add-y c = omega (arith, small c.before.before.before, room c)
+overflow_add-y c = omega (arith, small (goal.at.overflow_add-y c).In-loop-x, room c)
 
 pub overflow_add-result : goal.overflow_add-result
-overflow_add-result c = omega (arith, room c.before.before)
+overflow_add-result c = omega (arith, room (goal.at.overflow_add-result c).Else-x1-x-lt-RUN)
 
 pub overflow_add-x-in-loop-x : goal.overflow_add-x-in-loop-x
-overflow_add-x-in-loop-x c = omega (arith, room c.before.before)
+overflow_add-x-in-loop-x c = omega (arith, room (goal.at.overflow_add-x-in-loop-x c).Else-x1-x-lt-RUN)

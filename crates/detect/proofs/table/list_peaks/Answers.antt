@@ -4,11 +4,12 @@ use Rattle.detect.specs.Internal.{place}
 use Rattle.detect.proofs.Scanning.{next-inside}
 use Rattle.detect.proofs.FirstPeaks.{Listing, found-small, listing-first, listing-put, listing-next}
 use Rattle.detect.proofs.table.list_peaks.Goals as goal
+use Rattle.detect.proofs.table.list_peaks.Goals.{After-number_of}
 
 -- ---- places of the code: the turn that a number was made in, and the function's start
 
 -- the table is as long as it was
-long : (c : goal.After-number_of)
+long : (c : After-number_of)
     → length (set c.loop-n.table c.loop-n.n c.number_of.result) ≡ length c.args.table.now
 long c = length-set c.loop-n.table c.loop-n.n c.number_of.result ∙ c.loop-n.invariant.1
 
@@ -21,7 +22,7 @@ number_of-requires c =
     found-small _ _ c.requires _ _ c.next_peak-p.ensures (omega arith)
 
 pub shape_of-table-then-y1-p : goal.shape_of-table-then-y1-p
-shape_of-table-then-y1-p c = long c.before.before
+shape_of-table-then-y1-p c = long (goal.at.shape_of-table-then-y1-p c).After-number_of
 
 pub returns-then-y1-p : goal.returns-then-y1-p
 returns-then-y1-p c =
@@ -34,13 +35,13 @@ overflow_add-x c =
     omega (arith, i.right)
 
 pub loop-n-smaller : goal.loop-n-smaller
-loop-n-smaller c = omega (arith, long c.before.before.before, c.loop-n.invariant.1)
+loop-n-smaller c = omega (arith, long (goal.at.loop-n-smaller c).After-number_of, c.loop-n.invariant.1)
 
 pub loop-n-preserved : goal.loop-n-preserved
 loop-n-preserved c = (
   listing-next _ _ _ _ _ _ _ c.loop-n.invariant.0 c.requires.high c.loop-n-test.true c.next_peak-p.ensures
       _ c.minus-y1.ensures c.number_of.ensures (omega arith),
-  long c.before.before.before,
+  long (goal.at.loop-n-preserved c).After-number_of,
 )
 
 pub shape_of-table : goal.shape_of-table

@@ -5,7 +5,7 @@ use Rattle.detect.proofs.FirstPeaks.{Listing, found-small, listing-first, listin
 use Rattle.detect.proofs.table.list_peaks.Given as goal
 
 abbrev pub invariant-loop-n : goal.invariant-loop-n
-invariant-loop-n l = Listing l.map l.s l.initial.y l.n (place l.y l.initial.n) × (length l.initial.y ≡ length l.initial.table)
+invariant-loop-n l = Listing l.map l.s l.table l.n (place l.x l.y) × (length l.table ≡ length l.initial.table)
 
 abbrev pub decreases-loop-n : goal.decreases-loop-n
-decreases-loop-n l = length l.initial.y - l.n
+decreases-loop-n l = length l.table - l.n

@@ -13,10 +13,10 @@ use Rattle.frame.proofs.InBands.{bands-tied}
 use Rattle.frame.proofs.bands.add_image_corners.Given as goal
 
 abbrev pub invariant-loop-j : goal.invariant-loop-j
-invariant-loop-j l = (l.held ≤ l.h) × (length l.initial.cn ≡ length l.initial.map) × (length l.cn ≡ length l.map) × (length l.initial.j ≡ length l.initial.cx) × (length l.j ≡ length l.cx)
-    × (length l.initial.held ≡ length l.initial.cy) × RowsHeld (whole l.img l.w l.h (ring_of l.p.ring)) l.w l.held l.initial.cn
-    × AddsCorners (corners_to l.p l.img l.w l.h l.exact l.held) (ties_to l.p l.img l.w l.h l.exact l.held) 0 (slices l.map l.initial.cx l.cx l.initial.cy) (Added l.initial.ties l.ties)
-    (slices l.cn l.initial.j l.j l.initial.held)
+invariant-loop-j l = (l.j ≤ l.h) × (length l.map ≡ length l.initial.map) × (length l.cx ≡ length l.initial.cx) × (length l.cy ≡ length l.initial.cy) × (length l.cs ≡ length l.initial.cs)
+    × (length l.cn ≡ length l.initial.cn) × RowsHeld (whole l.img l.w l.h (ring_of l.p.ring)) l.w l.j l.map
+    × AddsCorners (corners_to l.p l.img l.w l.h l.exact l.j) (ties_to l.p l.img l.w l.h l.exact l.j) 0 (slices l.initial.cx l.initial.cy l.initial.cs l.initial.cn) (Added l.held l.ties)
+    (slices l.cx l.cy l.cs l.cn)
 
 abbrev pub decreases-loop-j : goal.decreases-loop-j
-decreases-loop-j l = l.h - l.held
+decreases-loop-j l = l.h - l.j

@@ -5,7 +5,7 @@ use Rattle.frame.proofs.Moving.{Raising, raising-none, raising-set, raising-all}
 use Rattle.frame.proofs.shifting.shift.Given as goal
 
 abbrev pub invariant-loop-i : goal.invariant-loop-i
-invariant-loop-i l = Raising (λ z. add binary32 z l.n) l.d l.held l.i l.initial.d l.initial.i
+invariant-loop-i l = Raising (λ z. add binary32 z l.by) l.held l.n l.i l.initial.d l.d
 
 abbrev pub decreases-loop-i : goal.decreases-loop-i
-decreases-loop-i l = l.held - l.i
+decreases-loop-i l = l.n - l.i

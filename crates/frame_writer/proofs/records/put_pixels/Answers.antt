@@ -15,12 +15,11 @@ pub loop-j-smaller : goal.loop-j-smaller
 loop-j-smaller c = omega (arith, c.loop-j.invariant.1.long)
 
 pub loop-j-preserved : goal.loop-j-preserved
-loop-j-preserved c =
-    (
-      omega (arith, c.loop-j.invariant.1.long),
-      prefix-set _ _ c.loop-j.j c.loop-j.out c.record_byte.result c.loop-j.invariant.1
-          (omega (arith, c.loop-j.invariant.1.long)) c.record_byte.ensures,
-    )
+loop-j-preserved c = (
+  omega (arith, c.loop-j.invariant.1.long),
+  prefix-set _ _ c.loop-j.j c.loop-j.out c.record_byte.result c.loop-j.invariant.1
+      (omega (arith, c.loop-j.invariant.1.long)) c.record_byte.ensures,
+)
 
 pub shape_of-out : goal.shape_of-out
 shape_of-out c = c.loop-j.invariant.1.long

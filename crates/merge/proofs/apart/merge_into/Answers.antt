@@ -5,9 +5,10 @@ use mathlib.Core.Bool.{true}
 use Rattle.corner_list.specs.CornerList.{Slices, slices}
 use Rattle.merge.proofs.Answer.{left-off, left-on, left-copied, left-settled}
 use Rattle.merge.proofs.apart.merge_into.Goals as goal
+use Rattle.merge.proofs.apart.merge_into.Goals.{Start}
 
 -- the buffer of the list
-abbrev list : goal.Start → Slices
+abbrev list : Start → Slices
 list c = slices c.args.xs.now c.args.ys.now c.args.strengths.now c.args.neighbours.now
 
 pub shape_of-mx-then-is_off : goal.shape_of-mx-then-is_off
@@ -24,8 +25,8 @@ shape_of-mn-then-is_off c = search rules
 
 pub returns-then-is_off : goal.returns-then-is_off
 returns-then-is_off c =
-    left-off _ (list c.before.before.before.before.before.before.before.before.before.before.before.before.before.before.before.before.before.before.before.before.before.before.before) _ _ _ _ (sym c.is_off.ensures ∙ c.if-is_off.taken)
-    (left-copied (list c.before.before.before.before.before.before.before.before.before.before.before.before.before.before.before.before.before.before.before.before.before.before.before) _ _ _ c.copy_list.ensures)
+    left-off _ (list (goal.at.returns-then-is_off c).Start) _ _ _ _ (sym c.is_off.ensures ∙ c.if-is_off.true)
+    (left-copied (list (goal.at.returns-then-is_off c).Start) _ _ _ c.copy_list.ensures)
 
 pub shape_of-mx : goal.shape_of-mx
 shape_of-mx c = search rules
@@ -41,5 +42,5 @@ shape_of-mn c = search rules
 
 pub returns : goal.returns
 returns c =
-    left-on _ (list c.before.before.before.before.before.before.before.before.before.before.before.before.before.before.before.before.before.before.before.before.before.before.before.before.before.before) _ _ _ _ _ (sym c.is_off.ensures ∙ c.if-is_off.left) c.grid_of-g.ensures
-    (left-settled c.grid_of-g.result true (list c.before.before.before.before.before.before.before.before.before.before.before.before.before.before.before.before.before.before.before.before.before.before.before.before.before.before) _ _ _ _ c.requires c.settle_list.ensures.settles)
+    left-on _ (list (goal.at.returns c).Start) _ _ _ _ _ (sym c.is_off.ensures ∙ c.if-is_off.false) c.grid_of-g.ensures
+    (left-settled c.grid_of-g.result true (list (goal.at.returns c).Start) _ _ _ _ c.requires c.settle_list.ensures.settles)

@@ -23,7 +23,7 @@ returns-then-number-ne0 c = by-table-refused _ _ _ c.args.table.now _ c.refusal-
 
 pub merge_list-requires : goal.merge_list-requires
 merge_list-requires c =
-    omega (arith, judged-fits _ _ _ _ (sym c.refusal-number.ensures ∙ c.if-number-ne0.left))
+    omega (arith, judged-fits _ _ _ _ (sym c.refusal-number.ensures ∙ c.if-number-ne0.false))
 
 pub shape_of-xs : goal.shape_of-xs
 shape_of-xs c = search rules
@@ -42,5 +42,5 @@ shape_of-table c = search rules
 
 pub returns : goal.returns
 returns c =
-    by-table-kept _ _ _ c.args.table.now _ c.refusal-number.ensures c.if-number-ne0.left _ _
+    by-table-kept _ _ _ c.args.table.now _ c.refusal-number.ensures c.if-number-ne0.false _ _
     c.merge_list.ensures.0 _ c.merge_list.ensures.1

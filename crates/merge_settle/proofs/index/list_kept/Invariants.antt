@@ -9,7 +9,7 @@ use Rattle.merge_settle.proofs.Indexing.{indexed-none, indexed-turn, indexed-few
 use Rattle.merge_settle.proofs.index.list_kept.Given as goal
 
 abbrev pub invariant-loop-i : goal.invariant-loop-i
-invariant-loop-i l = Indexed l.table l.g (slots_of l.initial.i) l.xs l.ys l.i × (length l.initial.i ≡ length l.initial.table)
+invariant-loop-i l = Indexed l.g l.floor (slots_of l.table) l.xs l.ys l.i × (length l.table ≡ length l.initial.table)
 
 abbrev pub decreases-loop-i : goal.decreases-loop-i
-decreases-loop-i l = l.floor - l.i
+decreases-loop-i l = l.k - l.i

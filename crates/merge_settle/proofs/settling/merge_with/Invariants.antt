@@ -13,9 +13,9 @@ use Rattle.merge_settle.proofs.Stepping.{stops_end}
 use Rattle.merge_settle.proofs.settling.merge_with.Given as goal
 
 abbrev pub invariant-loop-i : goal.invariant-loop-i
-invariant-loop-i l = StepAfter (joins l.ss) l.apart (slices l.lx l.ly l.ls l.ln) l.initial.ns (slices l.initial.xs l.xs l.initial.ys l.ys) (step l.initial.table l.table)
-    (slices l.done l.initial.k l.k l.initial.floor) (step l.i l.initial.low)
-    × Indexed l.ss l.low (slots_of l.floor) l.done l.initial.k l.initial.low × (length l.floor ≡ length l.initial.ss)
+invariant-loop-i l = StepAfter (joins l.g) l.apart (slices l.lx l.ly l.ls l.ln) l.n (slices l.initial.xs l.initial.ys l.initial.ss l.initial.ns) (step l.done l.initial.k)
+    (slices l.xs l.ys l.ss l.ns) (step l.i l.k)
+    × Indexed l.g l.floor (slots_of l.table) l.xs l.ys l.k × (length l.table ≡ length l.initial.table)
 
 abbrev pub decreases-loop-i : goal.decreases-loop-i
-decreases-loop-i l = l.initial.ns - l.i
+decreases-loop-i l = l.n - l.i

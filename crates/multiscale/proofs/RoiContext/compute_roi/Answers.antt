@@ -6,12 +6,13 @@ use Rattle.multiscale.proofs.Contexts.{sound}
 use Rattle.multiscale.proofs.Promised.{refused, no-columns, no_rows, a-box}
 use borrow.Author.Rules.{rules}
 use Rattle.multiscale.proofs.RoiContext.compute_roi.Goals as goal
+use Rattle.multiscale.proofs.RoiContext.compute_roi.Goals.{Else-number-ne0}
 
 pub returns-then-number-ne0 : goal.returns-then-number-ne0
 returns-then-number-ne0 c = refused _ _ _ c.refusal-number.ensures c.if-number-ne0.true
 
 -- the context is not refused
-clear : (c : goal.Else-number-ne0) → SoundContext c.args.self
+clear : (c : Else-number-ne0) → SoundContext c.args.self
 clear c = sound c.args.self c.args.c (sym c.refusal-number.ensures ∙ c.if-number-ne0.false)
 
 pub span_on-requires : goal.span_on-requires
@@ -23,7 +24,7 @@ returns-in_default c =
     (sym c.span_on.ensures ∙ c.in_default.is)
 
 pub span_on-requires-2 : goal.span_on-requires-2
-span_on-requires-2 c = let k = clear c.before.before.before.before in (k, k.height)
+span_on-requires-2 c = let k = clear (goal.at.span_on-requires-2 c).Else-number-ne0 in (k, k.height)
 
 pub returns-in_default-span_on : goal.returns-in_default-span_on
 returns-in_default-span_on c =

@@ -10,8 +10,8 @@ use Rattle.patch_corners.proofs.Changing.{changing-xs, changing-ys, changing-str
 use Rattle.patch_corners.proofs.localizing.centre_all.Given as goal
 
 abbrev pub invariant-loop-i : goal.invariant-loop-i
-invariant-loop-i l = Changing (λ c. centred l.radius l.map l.w l.h (lowered l.top c)) l.initial.strengths l.strengths l.i (slices l.initial.xs l.xs l.initial.ys l.ys)
-    (slices l.neighbours l.held l.n l.initial.i)
+invariant-loop-i l = Changing (λ c. centred l.radius l.map l.w l.h (lowered l.top c)) l.held l.n l.i (slices l.initial.xs l.initial.ys l.initial.strengths l.initial.neighbours)
+    (slices l.xs l.ys l.strengths l.neighbours)
 
 abbrev pub decreases-loop-i : goal.decreases-loop-i
-decreases-loop-i l = l.strengths - l.i
+decreases-loop-i l = l.n - l.i

@@ -7,7 +7,7 @@ pub returns-then-c-eq32 : goal.returns-then-c-eq32
 returns-then-c-eq32 c = rw c.if-c-eq32.true
 
 pub returns-in-9-to-13 : goal.returns-in-9-to-13
-returns-in-9-to-13 c = space-control _ c.if-c-lt9.false (omega arith)
+returns-in-9-to-13 c = space-control _ c.in-9-to-13.if-c-lt9-own.false (omega arith)
 
 pub returns-in_default : goal.returns-in_default
 returns-in_default c = space-none _ c.if-c-eq32.false (λ low high. let no : ⊥ = omega arith in no)

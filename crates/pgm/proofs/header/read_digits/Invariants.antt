@@ -9,7 +9,7 @@ use Rattle.pgm.proofs.Numbers.{Reading, reading-none, reading-next, reading-stop
 use Rattle.pgm.proofs.header.read_digits.Given as goal
 
 abbrev pub invariant-loop-at : goal.invariant-loop-at
-invariant-loop-at l = Reading l.upload l.from l.initial.at l.at
+invariant-loop-at l = Reading l.upload l.from l.number l.at
 
 abbrev pub decreases-loop-at : goal.decreases-loop-at
 decreases-loop-at l = length l.upload - l.at

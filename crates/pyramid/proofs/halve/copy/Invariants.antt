@@ -6,7 +6,7 @@ use Rattle.lists.proofs.Tab.{Prefix, prefix-none, prefix-set, prefix-all}
 use Rattle.pyramid.proofs.halve.copy.Given as goal
 
 abbrev pub invariant-loop-i : goal.invariant-loop-i
-invariant-loop-i l = (l.i ≤ l.out) × Prefix l.out (λ j. get_or l.pixels j 0) l.i l.initial.i
+invariant-loop-i l = (l.i ≤ l.n) × Prefix l.n (λ j. get_or l.pixels j 0) l.i l.out
 
 abbrev pub decreases-loop-i : goal.decreases-loop-i
-decreases-loop-i l = l.out - l.i
+decreases-loop-i l = l.n - l.i

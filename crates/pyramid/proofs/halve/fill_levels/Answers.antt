@@ -5,6 +5,7 @@ use lib.ListN.{length}
 use borrow.Author.Rules.{rules}
 use Rattle.pyramid.proofs.Building.{Reached, reach-base, reach-all, next_fits, level-ok, reach-next}
 use Rattle.pyramid.proofs.halve.fill_levels.Goals as goal
+use Rattle.pyramid.proofs.halve.fill_levels.Goals.{In-loop-k}
 
 pub loop-k-init : goal.loop-k-init
 loop-k-init c = reach-base _ _ _ _ _
@@ -16,15 +17,15 @@ halve-requires c =
     level-ok _ _ _ _ _ _ _ _ _ _ _ c.requires.0 c.requires.1 c.loop-k.invariant c.loop-k-test.true
 
 -- the next level ends within the buffer
-next : (c : goal.In-loop-k)
+next : (c : In-loop-k)
     → c.loop-k.to + c.loop-k.w / 2 * (c.loop-k.h / 2) ≤ length c.args.levels.now
 next c = next_fits _ _ _ _ _ _ _ _ _ _ _ c.requires.0 c.requires.1 c.loop-k.invariant c.loop-k-test.true
 
 pub overflow_mul-to : goal.overflow_mul-to
-overflow_mul-to c = record { fits = omega (arith, next c.before.before.before.before, c.well_formed.1.1.1.1.0.0) }
+overflow_mul-to c = record { fits = omega (arith, next (goal.at.overflow_mul-to c).In-loop-k, c.well_formed.1.1.1.1.0.0) }
 
 pub overflow_add-to : goal.overflow_add-to
-overflow_add-to c = record { fits = omega (arith, next c.before.before.before.before, c.well_formed.1.1.1.1.0.0) }
+overflow_add-to c = record { fits = omega (arith, next (goal.at.overflow_add-to c).In-loop-k, c.well_formed.1.1.1.1.0.0) }
 
 pub loop-k-preserved : goal.loop-k-preserved
 loop-k-preserved c =

@@ -8,7 +8,7 @@ use Rattle.pyramid.proofs.Halving.{holder-short, row-none, run_ok, row_put}
 use Rattle.pyramid.proofs.halve.halve_rows.Given as goal
 
 abbrev pub invariant-loop-x : goal.invariant-loop-x
-invariant-loop-x l = (length l.initial.x ≡ length l.initial.levels) × (l.x ≤ l.to) × RowHalved l.base l.initial.levels l.k l.from l.w l.levels l.x l.initial.x
+invariant-loop-x l = (length l.levels ≡ length l.initial.levels) × (l.x ≤ l.n) × RowHalved l.base l.initial.levels l.k l.from l.w l.to l.x l.levels
 
 abbrev pub decreases-loop-x : goal.decreases-loop-x
-decreases-loop-x l = l.to - l.x
+decreases-loop-x l = l.n - l.x

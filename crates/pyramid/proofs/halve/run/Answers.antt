@@ -8,8 +8,9 @@ use Rattle.lists.proofs.Tab.{part_length}
 use Rattle.pyramid.specs.Internal.{holder_of}
 use Rattle.pyramid.proofs.Halving.{holder-short, run-put}
 use Rattle.pyramid.proofs.halve.run.Goals as goal
+use Rattle.pyramid.proofs.halve.run.Goals.{Start}
 
-short : (c : goal.Start) → length (holder_of c.args.base.now c.args.levels.now c.args.k) < 2 ^ 64
+short : (c : Start) → length (holder_of c.args.base.now c.args.levels.now c.args.k) < 2 ^ 64
 short c = holder-short _ _ c.args.k _ c.well_formed.0.0 c.well_formed.1.1.1.1.0.0
 
 pub overflow_add-top : goal.overflow_add-top
@@ -20,7 +21,7 @@ means-requires c =
     rw c.holder.ensures (c.before.before.before.before.before.requires.few, omega (arith, c.before.before.before.before.before.requires.inside), c.before.before.before.before.before.requires.inside, refl)
 
 -- the part of the buffer that the pixels go to
-part : (c : goal.Start)
+part : (c : Start)
     → length (take (c.args.at + c.args.n - c.args.at) (drop c.args.at c.args.levels.now)) ≡ c.args.n
 part c = part_length c.args.at c.args.n c.args.levels.now c.requires.fits
 

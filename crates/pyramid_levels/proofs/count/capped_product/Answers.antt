@@ -4,6 +4,7 @@ use native.Mathlib.Nat.{div-lt_iff_lt-mul, le-div_iff_mul-le}
 use native.Mathlib.Omega.{arith}
 use borrow.Author.Rules.{rules}
 use Rattle.pyramid_levels.proofs.count.capped_product.Goals as goal
+use Rattle.pyramid_levels.proofs.count.capped_product.Goals.{Else-b-a}
 
 pub returns-then-b-eq0 : goal.returns-then-b-eq0
 returns-then-b-eq0 c = rw c.if-b-eq0.true (omega arith)
@@ -17,7 +18,7 @@ returns-then-b-a c =
     )
 
 -- the product fits
-small : (c : goal.Else-b-a) → c.args.a * c.args.b ≤ 18446744073709551615
+small : (c : Else-b-a) → c.args.a * c.args.b ≤ 18446744073709551615
 small c = (le-div_iff_mul-le {k = c.args.b} {x = c.args.a} (omega arith)).0 c.if-b-a.false
 
 pub overflow_mul-result : goal.overflow_mul-result

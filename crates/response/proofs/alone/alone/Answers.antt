@@ -13,9 +13,9 @@ use Rattle.response.proofs.Samples.{
   cross-lies,
   ring-found,
   cross-found,
-use Rattle.response.proofs.alone.alone.Goals as goal
-
 }
+use Rattle.response.proofs.alone.alone.Goals as goal
+use Rattle.response.proofs.alone.alone.Goals.{After-ring_sums-ring}
 
 pub overflow_mul-y : goal.overflow_mul-y
 overflow_mul-y c = omega (arith, corner-small _ _ _ _ _ _ c.requires.0 _ _ c.requires.1)
@@ -29,14 +29,14 @@ pick-requires c = sample-lt _ _ _ _ _ _ c.requires.0 _ _ c.requires.1
 pub ring_sums-ring-requires : goal.ring_sums-ring-requires
 ring_sums-ring-requires c = c.pick.ensures.1
 
-small : (c : goal.After-ring_sums-ring) → SumsBounded 8 c.ring_sums-ring.result
+small : (c : After-ring_sums-ring) → SumsBounded 8 c.ring_sums-ring.result
 small c = held_small _ _ c.pick.ensures.1 c.ring_sums-ring.ensures
 
 pub overflow_add-ring : goal.overflow_add-ring
-overflow_add-ring c = record { fits = omega (arith, (small c.before).sr_small) }
+overflow_add-ring c = record { fits = omega (arith, (small (goal.at.overflow_add-ring c).After-ring_sums-ring).sr_small) }
 
 pub overflow_sub-ring : goal.overflow_sub-ring
-overflow_sub-ring c = omega (arith, (small c.before.before).dr_small)
+overflow_sub-ring c = omega (arith, (small (goal.at.overflow_sub-ring c).After-ring_sums-ring).dr_small)
 
 pub overflow_mul-y-2 : goal.overflow_mul-y-2
 overflow_mul-y-2 c =
@@ -54,4 +54,4 @@ pub returns : goal.returns
 returns c =
     let ring = ring-found _ _ _ _ _ _ c.requires.0 _ _ c.requires.1 _ _ c.pick.ensures.0 c.ring_sums-ring.ensures in
     let cross = cross-found _ _ _ _ _ _ c.requires.0 _ _ c.requires.1 _ c.middle.ensures in
-    assembled _ _ _ _ _ _ _ _ _ (balanced _ _ _ _ _ _ _ _ ring (small c.before.before.before.before) refl cross) c.value.ensures
+    assembled _ _ _ _ _ _ _ _ _ (balanced _ _ _ _ _ _ _ _ ring (small (goal.at.returns c).After-ring_sums-ring) refl cross) c.value.ensures

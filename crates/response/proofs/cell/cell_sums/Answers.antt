@@ -15,9 +15,9 @@ use Rattle.response.proofs.Samples.{
   cross-lies,
   ring-found,
   cross-found,
-use Rattle.response.proofs.cell.cell_sums.Goals as goal
-
 }
+use Rattle.response.proofs.cell.cell_sums.Goals as goal
+use Rattle.response.proofs.cell.cell_sums.Goals.{After-gather, After-ring_sums-ring}
 
 pub overflow_mul-base : goal.overflow_mul-base
 overflow_mul-base c = omega (arith, corner-small _ _ _ _ _ _ c.requires.1 _ _ c.requires.2)
@@ -30,23 +30,22 @@ gather-requires c =
     (sample-lt _ _ _ _ _ _ c.requires.1 _ _ c.requires.2, pixels-small _ _ _ _ _ _ c.requires.1 _ _ c.requires.2)
 
 -- what is gathered are bytes, and so the sums of the ring are small
-bytes : (c : goal.After-gather) → Bytes c.gather.result
+bytes : (c : After-gather) → Bytes c.gather.result
 bytes c =
-    
     gathered-bytes c.args.tile.now ((c.args.y - c.args.radius) * c.args.s + (c.args.x - c.args.radius)) c.args.off c.requires.0 _
     c.gather.ensures
 
-small : (c : goal.After-ring_sums-ring) → SumsBounded 8 c.ring_sums-ring.result
+small : (c : After-ring_sums-ring) → SumsBounded 8 c.ring_sums-ring.result
 small c = held_small _ _ (bytes c.before) c.ring_sums-ring.ensures
 
 pub ring_sums-ring-requires : goal.ring_sums-ring-requires
 ring_sums-ring-requires c = bytes c
 
 pub overflow_add-result : goal.overflow_add-result
-overflow_add-result c = record { fits = omega (arith, (small c.before).sr_small) }
+overflow_add-result c = record { fits = omega (arith, (small (goal.at.overflow_add-result c).After-ring_sums-ring).sr_small) }
 
 pub overflow_sub-result : goal.overflow_sub-result
-overflow_sub-result c = omega (arith, (small c.before.before).dr_small)
+overflow_sub-result c = omega (arith, (small (goal.at.overflow_sub-result c).After-ring_sums-ring).dr_small)
 
 pub overflow_mul-y : goal.overflow_mul-y
 overflow_mul-y c =
@@ -64,4 +63,4 @@ cross-requires c =
 pub returns : goal.returns
 returns c =
     let ring = ring-found _ _ _ _ _ _ c.requires.1 _ _ c.requires.2 _ _ c.gather.ensures c.ring_sums-ring.ensures in
-    balanced _ _ _ _ _ _ _ _ ring (small c.before.before.before) refl (cross-found _ _ _ _ _ _ c.requires.1 _ _ c.requires.2 _ c.cross.ensures)
+    balanced _ _ _ _ _ _ _ _ ring (small (goal.at.returns c).After-ring_sums-ring) refl (cross-found _ _ _ _ _ _ c.requires.1 _ _ c.requires.2 _ c.cross.ensures)

@@ -6,12 +6,13 @@ use borrow.Author.Rules.{rules}
 use lib.ListN.{get_or}
 use Rattle.response.proofs.Filling.{Quarters, quarters-none, quarters-set, quarters-all}
 use Rattle.response.proofs.cell.gather.Goals as goal
+use Rattle.response.proofs.cell.gather.Goals.{In-loop-k}
 
 pub loop-k-init : goal.loop-k-init
 loop-k-init c = (search rules, quarters-none _ _ refl)
 
 -- the loop's counter is below 4
-below : (c : goal.In-loop-k) → c.loop-k.k < 4
+below : (c : In-loop-k) → c.loop-k.k < 4
 below c = search rules
 
 pub overflow_add-s-in-loop-k : goal.overflow_add-s-in-loop-k
@@ -21,13 +22,13 @@ pub offset_bounds-tile-base : goal.offset_bounds-tile-base
 offset_bounds-tile-base c = omega (arith, c.requires.0 (c.loop-k.k + 4) (omega (arith, below c)), c.requires.1)
 
 pub bounds-tile-base : goal.bounds-tile-base
-bounds-tile-base c = c.requires.0 (c.loop-k.k + 4) (omega (arith, below c.before))
+bounds-tile-base c = c.requires.0 (c.loop-k.k + 4) (omega (arith, below (goal.at.bounds-tile-base c).In-loop-k))
 
 pub overflow_add-s-in-loop-k-3 : goal.overflow_add-s-in-loop-k-3
 overflow_add-s-in-loop-k-3 c =
     omega (
       arith,
-      c.requires.0 c.loop-k.k (omega (arith, below c.before)),
+      c.requires.0 c.loop-k.k (omega (arith, below (goal.at.overflow_add-s-in-loop-k-3 c).In-loop-k)),
       c.requires.1,
     )
 
@@ -35,18 +36,18 @@ pub offset_bounds-tile-base-in-loop-k : goal.offset_bounds-tile-base-in-loop-k
 offset_bounds-tile-base-in-loop-k c =
     omega (
       arith,
-      c.requires.0 c.loop-k.k (omega (arith, below c.before)),
+      c.requires.0 c.loop-k.k (omega (arith, below (goal.at.offset_bounds-tile-base-in-loop-k c).In-loop-k)),
       c.requires.1,
     )
 
 pub bounds-tile-base-in-loop-k : goal.bounds-tile-base-in-loop-k
-bounds-tile-base-in-loop-k c = c.requires.0 c.loop-k.k (omega (arith, below c.before.before))
+bounds-tile-base-in-loop-k c = c.requires.0 c.loop-k.k (omega (arith, below (goal.at.bounds-tile-base-in-loop-k c).In-loop-k))
 
 pub overflow_add-s-in-loop-k-5 : goal.overflow_add-s-in-loop-k-5
 overflow_add-s-in-loop-k-5 c =
     omega (
       arith,
-      c.requires.0 (c.loop-k.k + 12) (omega (arith, below c.before.before)),
+      c.requires.0 (c.loop-k.k + 12) (omega (arith, below (goal.at.overflow_add-s-in-loop-k-5 c).In-loop-k)),
       c.requires.1,
     )
 
@@ -54,20 +55,20 @@ pub offset_bounds-tile-base-in-loop-k-2 : goal.offset_bounds-tile-base-in-loop-k
 offset_bounds-tile-base-in-loop-k-2 c =
     omega (
       arith,
-      c.requires.0 (c.loop-k.k + 12) (omega (arith, below c.before.before)),
+      c.requires.0 (c.loop-k.k + 12) (omega (arith, below (goal.at.offset_bounds-tile-base-in-loop-k-2 c).In-loop-k)),
       c.requires.1,
     )
 
 pub bounds-tile-base-in-loop-k-2 : goal.bounds-tile-base-in-loop-k-2
 bounds-tile-base-in-loop-k-2 c =
     c.requires.0 (c.loop-k.k + 12)
-    (omega (arith, below c.before.before.before))
+    (omega (arith, below (goal.at.bounds-tile-base-in-loop-k-2 c).In-loop-k))
 
 pub overflow_add-s-in-loop-k-8 : goal.overflow_add-s-in-loop-k-8
 overflow_add-s-in-loop-k-8 c =
     omega (
       arith,
-      c.requires.0 (c.loop-k.k + 8) (omega (arith, below c.before.before.before)),
+      c.requires.0 (c.loop-k.k + 8) (omega (arith, below (goal.at.overflow_add-s-in-loop-k-8 c).In-loop-k)),
       c.requires.1,
     )
 
@@ -75,14 +76,14 @@ pub offset_bounds-tile-base-in-loop-k-3 : goal.offset_bounds-tile-base-in-loop-k
 offset_bounds-tile-base-in-loop-k-3 c =
     omega (
       arith,
-      c.requires.0 (c.loop-k.k + 8) (omega (arith, below c.before.before.before)),
+      c.requires.0 (c.loop-k.k + 8) (omega (arith, below (goal.at.offset_bounds-tile-base-in-loop-k-3 c).In-loop-k)),
       c.requires.1,
     )
 
 pub bounds-tile-base-in-loop-k-3 : goal.bounds-tile-base-in-loop-k-3
 bounds-tile-base-in-loop-k-3 c =
     c.requires.0 (c.loop-k.k + 8)
-    (omega (arith, below c.before.before.before.before))
+    (omega (arith, below (goal.at.bounds-tile-base-in-loop-k-3 c).In-loop-k))
 
 pub loop-k-preserved : goal.loop-k-preserved
 loop-k-preserved c = (search rules, quarters-set _ _ _ (search rules) c.loop-k.invariant.1)

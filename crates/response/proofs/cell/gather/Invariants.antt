@@ -7,7 +7,7 @@ use Rattle.response.proofs.Filling.{Quarters, quarters-none, quarters-set, quart
 use Rattle.response.proofs.cell.gather.Given as goal
 
 abbrev pub invariant-loop-k : goal.invariant-loop-k
-invariant-loop-k l = (l.k ≤ 4) × Quarters (λ j. get_or l.tile (l.base + get_or l.off j 0) 0) l.k l.initial.k
+invariant-loop-k l = (l.k ≤ 4) × Quarters (λ j. get_or l.tile (l.base + get_or l.off j 0) 0) l.k l.s
 
 abbrev pub decreases-loop-k : goal.decreases-loop-k
 decreases-loop-k l = 4 - l.k

@@ -7,7 +7,7 @@ use Rattle.response.proofs.OnePass.{small-none, passed_none, passed-next, passed
 use Rattle.response.proofs.cell.ring_sums.Given as goal
 
 abbrev pub invariant-loop-k : goal.invariant-loop-k
-invariant-loop-k l = (l.k ≤ l.last) × (l.last ≡ min l.n 8) × (l.initial.k ≡ passed_after l.s l.k) × SumsBounded l.k l.initial.k
+invariant-loop-k l = (l.k ≤ l.last) × (l.last ≡ min l.n 8) × (l.h ≡ passed_after l.s l.k) × SumsBounded l.k l.h
 
 abbrev pub decreases-loop-k : goal.decreases-loop-k
 decreases-loop-k l = l.last - l.k

@@ -15,8 +15,7 @@ loop-i-init c =
   search rules,
   search rules,
   filled_none zero _ _ _ _ _ _ _ _ (λ i j p q u v. absurd (omega arith)),
-  c.requires.m_nonzero.2,)
-
+  c.requires.m_nonzero.2,
 )
 
 pub block-requires : goal.block-requires
@@ -45,6 +44,5 @@ pub returns : goal.returns
 returns c =
     (
   filled-to zero _ _ _ _ _ _ _ _ _ _ _ (omega (arith, c.loop-i.invariant.1, c.loop-i-test.false)) refl c.loop-i.invariant.2,
-  c.loop-i.invariant.3,)
-
+  c.loop-i.invariant.3,
 )

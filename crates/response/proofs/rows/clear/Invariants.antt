@@ -8,7 +8,7 @@ use Rattle.response.proofs.Filling.{written_none, written-set, written-end}
 use Rattle.response.proofs.rows.clear.Given as goal
 
 abbrev pub invariant-loop-i : goal.invariant-loop-i
-invariant-loop-i l = (l.i ≤ l.at) × PlacesWritten zero l.map l.i (λ _. zero) l.initial.map l.initial.i
+invariant-loop-i l = (l.i ≤ l.n) × PlacesWritten zero l.at l.i (λ _. zero) l.initial.map l.map
 
 abbrev pub decreases-loop-i : goal.decreases-loop-i
-decreases-loop-i l = l.at - l.i
+decreases-loop-i l = l.n - l.i

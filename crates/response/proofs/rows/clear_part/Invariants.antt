@@ -9,7 +9,7 @@ use Rattle.response.proofs.Filling.{cleared-none, cleared-row, cleared-end, row-
 use Rattle.response.proofs.rows.clear_part.Given as goal
 
 abbrev pub invariant-loop-j : goal.invariant-loop-j
-invariant-loop-j l = (l.b ≤ l.j) × (l.j ≤ l.c) × Cleared l.map l.w l.a l.b l.j l.initial.map l.initial.j × (length l.initial.j ≡ length l.initial.map)
+invariant-loop-j l = (l.c ≤ l.j) × (l.j ≤ l.e) × Cleared l.w l.a l.b l.c l.j l.initial.map l.map × (length l.map ≡ length l.initial.map)
 
 abbrev pub decreases-loop-j : goal.decreases-loop-j
-decreases-loop-j l = l.c - l.j
+decreases-loop-j l = l.e - l.j

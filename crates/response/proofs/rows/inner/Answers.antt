@@ -8,6 +8,7 @@ use Rattle.response.specs.Internal.{small_side}
 use Rattle.response.proofs.Filling.{filled_none, filled-to}
 use Rattle.response.proofs.Tiles.{part_of}
 use Rattle.response.proofs.rows.inner.Goals as goal
+use Rattle.response.proofs.rows.inner.Goals.{Then-most-eq1}
 
 -- what the greater and the lesser of two sides say of them
 module _ (n m g l : ℕ) (greater : g ≡ max n m) (lesser : l ≡ min n m) where
@@ -28,14 +29,14 @@ returns-then-lesser-eq0 c =
     (omega arith) (omega arith))
 
 -- one cell
-only : (c : goal.Then-most-eq1) → (c.args.b - c.args.a ≡ 1) × (c.args.e - c.args.c ≡ 1)
+only : (c : Then-most-eq1) → (c.args.b - c.args.a ≡ 1) × (c.args.e - c.args.c ≡ 1)
 only c =
     
     one_each _ _ _ _ c.greater-most.ensures c.lesser.ensures c.if-lesser-eq0.false c.if-most-eq1.true
 
 pub single-requires : goal.single-requires
 single-requires c =
-    let each = only c.before in (
+    let each = only (goal.at.single-requires c).Then-most-eq1 in (
       c.requires.0,
       part_of _ _ _ _ _ _ _ _ _ c.requires.1 (omega arith) (omega (arith, each, c.requires.2)) (omega arith) (omega (arith, each, c.requires.3)),
     )
@@ -45,7 +46,7 @@ shape_of-map-then-most-eq1 c = search rules
 
 pub returns-then-most-eq1 : goal.returns-then-most-eq1
 returns-then-most-eq1 c =
-    let each = only c.before.before.before.before in
+    let each = only (goal.at.returns-then-most-eq1 c).Then-most-eq1 in
     filled-to zero _ _ _ _ _ _ _ _ _ _ _ (omega (arith, each, c.requires.2)) (omega (arith, each, c.requires.3))
     c.single.ensures
 

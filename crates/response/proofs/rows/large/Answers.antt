@@ -15,8 +15,7 @@ loop-j-init c =
   search rules,
   c.requires.3,
   filled_none zero _ _ _ _ _ _ _ _ (λ i j p q u v. absurd (omega arith)),
-  record { long = refl; narrow = omega arith; bytes = bytes-none large_tile },)
-
+  record { long = refl; narrow = omega arith; bytes = bytes-none large_tile },
 )
 
 pub band-requires : goal.band-requires

@@ -8,9 +8,10 @@ use Rattle.ring.proofs.Table.{ring_of-is}
 use Rattle.response.proofs.Filling.{row-after}
 use Rattle.response.proofs.Tiles.{radius-le, map-small, single-filled}
 use Rattle.response.proofs.rows.single.Goals as goal
+use Rattle.response.proofs.rows.single.Goals.{Start}
 
 -- where the cell lies in the map
-place : (c : goal.Start) →
+place : (c : Start) →
     (c.args.j * c.args.f.pw + c.args.i < length c.args.map.now) × (c.args.j * c.args.f.pw + c.args.i < largest_map)
 place c =
     let row = row-after c.args.f.pw c.args.j c.args.f.ph (omega (arith, c.requires.1.down)) in
@@ -31,16 +32,16 @@ alone-requires c = (
 )
 
 pub overflow_mul-map : goal.overflow_mul-map
-overflow_mul-map c = omega (arith, place c.before.before.before.before.before.before.before.before)
+overflow_mul-map c = omega (arith, place (goal.at.overflow_mul-map c).Start)
 
 pub overflow_add-map : goal.overflow_add-map
-overflow_add-map c = omega (arith, place c.before.before.before.before.before.before.before.before)
+overflow_add-map c = omega (arith, place (goal.at.overflow_add-map c).Start)
 
 pub offset_bounds-map-j : goal.offset_bounds-map-j
-offset_bounds-map-j c = omega (arith, place c.before.before.before.before.before.before.before.before)
+offset_bounds-map-j c = omega (arith, place (goal.at.offset_bounds-map-j c).Start)
 
 pub bounds-map-j : goal.bounds-map-j
-bounds-map-j c = (place c.before.before.before.before.before.before.before.before).0
+bounds-map-j c = (place (goal.at.bounds-map-j c).Start).0
 
 pub shape_of-map : goal.shape_of-map
 shape_of-map c = search rules

@@ -9,7 +9,7 @@ use Rattle.response.proofs.Tiles.{tile-framed}
 use Rattle.response.proofs.runs.sums.Given as goal
 
 abbrev pub invariant-loop-i : goal.invariant-loop-i
-invariant-loop-i l = (l.i ≤ l.n) × CellsSummed l.tile l.s (ring_of l.radius) l.radius l.y l.i l.cross l.off l.initial.i
+invariant-loop-i l = (l.i ≤ l.n) × CellsSummed l.tile l.s (ring_of l.radius) l.radius l.y l.i l.balance l.sum l.cross
 
 abbrev pub decreases-loop-i : goal.decreases-loop-i
 decreases-loop-i l = l.n - l.i

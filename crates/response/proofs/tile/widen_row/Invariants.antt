@@ -8,7 +8,7 @@ use Rattle.response.proofs.Filling.{bytes-set, written_none, written-set, writte
 use Rattle.response.proofs.tile.widen_row.Given as goal
 
 abbrev pub invariant-loop-i : goal.invariant-loop-i
-invariant-loop-i l = (l.i ≤ l.n) × PlacesWritten 0 l.tile l.i (λ k. get_or l.img (l.from + k) 0) l.initial.tile l.initial.i × Bytes l.initial.i
+invariant-loop-i l = (l.i ≤ l.n) × PlacesWritten 0 l.at l.i (λ k. get_or l.img (l.from + k) 0) l.initial.tile l.tile × Bytes l.tile
 
 abbrev pub decreases-loop-i : goal.decreases-loop-i
 decreases-loop-i l = l.n - l.i

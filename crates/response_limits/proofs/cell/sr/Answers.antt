@@ -5,12 +5,13 @@ use native.Mathlib.Omega.{arith}
 use Rattle.response_limits.proofs.Sums.{Added, sr_term, sr-term, added_none, added_next, added-all}
 use borrow.Author.Rules.{rules}
 use Rattle.response_limits.proofs.cell.sr.Goals as goal
+use Rattle.response_limits.proofs.cell.sr.Goals.{After-apart-sr}
 
 pub loop-k-init : goal.loop-k-init
 loop-k-init c = (search rules, added_none _ _)
 
 -- what a turn adds
-term : (c : goal.After-apart-sr)
+term : (c : After-apart-sr)
     →
     (c.apart-sr.result ≡ sr_term c.args.t1 c.args.t2 c.loop-k.k) × (c.apart-sr.result ≤ 510)
 term c =

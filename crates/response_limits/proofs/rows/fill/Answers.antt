@@ -13,12 +13,13 @@ use Rattle.response.proofs.Indices.{row_below}
 use Rattle.response_limits.specs.Limits.{low_at, high_at}
 use borrow.Author.Rules.{rules}
 use Rattle.response_limits.proofs.rows.fill.Goals as goal
+use Rattle.response_limits.proofs.rows.fill.Goals.{In-loop-y}
 
 pub loop-y-init : goal.loop-y-init
 loop-y-init c = (refl, refl, grid-none _ _ _, grid-none _ _ _, sym (zero-mul _), search rules)
 
 -- in a turn the next row lies in both buffers
-module _ (c : goal.In-loop-y) where
+module _ (c : In-loop-y) where
 
   in-lows : c.loop-y.a + c.args.w ≤ length c.args.lows.now
   in-lows = row-end _ _ _ _ _ c.loop-y-test.true c.loop-y.invariant.4 c.requires.w_in_bounds.0
@@ -36,10 +37,10 @@ pub slice_bounds-row-end : goal.slice_bounds-row-end
 slice_bounds-row-end c = omega (arith, in-lows c)
 
 pub offset_bounds-highs-a : goal.offset_bounds-highs-a
-offset_bounds-highs-a c = omega (arith, in-highs c.before)
+offset_bounds-highs-a c = omega (arith, in-highs (goal.at.offset_bounds-highs-a c).In-loop-y)
 
 pub slice_bounds-row-end-in-loop-y : goal.slice_bounds-row-end-in-loop-y
-slice_bounds-row-end-in-loop-y c = omega (arith, in-highs c.before)
+slice_bounds-row-end-in-loop-y c = omega (arith, in-highs (goal.at.slice_bounds-row-end-in-loop-y c).In-loop-y)
 
 pub row-requires : goal.row-requires
 row-requires c =
@@ -47,8 +48,8 @@ row-requires c =
         record { image = c.requires.sized.0; c.ring_offsets-t.ensures = c.ring_offsets-t.ensures; own_radius = c.requires.sized.2 },
         record { image = c.requires.sized.1; c.ring_offsets-t.ensures = c.ring_offsets-t.ensures; own_radius = c.requires.sized.2 },
       ); lows_len = ((
-        part_length c.loop-y.a c.args.w c.loop-y.lows (omega (arith, in-lows c.before.before, c.loop-y.invariant.0)),
-        part_length c.loop-y.a c.args.w c.loop-y.highs (omega (arith, in-highs c.before.before, c.loop-y.invariant.1)),
+        part_length c.loop-y.a c.args.w c.loop-y.lows (omega (arith, in-lows (goal.at.row-requires c).In-loop-y, c.loop-y.invariant.0)),
+        part_length c.loop-y.a c.args.w c.loop-y.highs (omega (arith, in-highs (goal.at.row-requires c).In-loop-y, c.loop-y.invariant.1)),
         c.loop-y-test.true,
       ), ) }
 

@@ -13,11 +13,11 @@ use borrow.Author.Rules.{rules}
 use Rattle.response_limits.proofs.rows.fill.Given as goal
 
 abbrev pub invariant-loop-y : goal.invariant-loop-y
-invariant-loop-y l = (length l.initial.a ≡ length l.initial.lows)
-    × (length l.a ≡ length l.lows)
-    × (l.initial.a ≡ grid l.w l.y (low_at l.low l.high l.w l.h (ring_of l.ring)) ++ drop l.initial.y l.initial.lows)
-    × (l.a ≡ grid l.w l.y (high_at l.low l.high l.w l.h (ring_of l.ring)) ++ drop l.initial.y l.lows)
-    × (l.initial.y ≡ l.y * l.w)
+invariant-loop-y l = (length l.lows ≡ length l.initial.lows)
+    × (length l.highs ≡ length l.initial.highs)
+    × (l.lows ≡ grid l.w l.y (low_at l.low l.high l.w l.h (ring_of l.ring)) ++ drop l.a l.initial.lows)
+    × (l.highs ≡ grid l.w l.y (high_at l.low l.high l.w l.h (ring_of l.ring)) ++ drop l.a l.initial.highs)
+    × (l.a ≡ l.y * l.w)
     × (l.y ≤ l.h)
 
 abbrev pub decreases-loop-y : goal.decreases-loop-y

@@ -10,12 +10,13 @@ use Rattle.response_limits.specs.Limits.{low_at, high_at}
 use Rattle.response_limits.proofs.Edges.{lows-shifted, highs-shifted}
 use borrow.Author.Rules.{rules}
 use Rattle.response_limits.proofs.rows.inner.Goals as goal
+use Rattle.response_limits.proofs.rows.inner.Goals.{After-lesser-e}
 
 pub loop-i-init : goal.loop-i-init
 loop-i-init c = (search rules, prefix-none _ _ _ refl, prefix-none _ _ _ c.requires.highs_len.0)
 
 -- where the end of a run is known: both its parts are as long as it
-module _ (c : goal.After-lesser-e) where
+module _ (c : After-lesser-e) where
 
 
   ends : c.lesser-e.result ≤ length c.args.lows.now
@@ -33,21 +34,21 @@ pub run-requires : goal.run-requires
 run-requires c =
     record { image_with_table = c.requires.image_with_table; lows_len_bound = (
         (
-          rw (lows-long c.before.before) (omega arith),
-          highs-long c.before.before ∙ sym (lows-long c.before.before),
-          rw (lows-long c.before.before) (omega (arith, ends c.before.before, c.requires.highs_len.1)),
+          rw (lows-long (goal.at.run-requires c).After-lesser-e) (omega arith),
+          highs-long (goal.at.run-requires c).After-lesser-e ∙ sym (lows-long (goal.at.run-requires c).After-lesser-e),
+          rw (lows-long (goal.at.run-requires c).After-lesser-e) (omega (arith, ends (goal.at.run-requires c).After-lesser-e, c.requires.highs_len.1)),
         ),
-        λ k l. rw add_assoc (c.requires.by_index (c.loop-i.i + k) (omega (arith, ends c.before.before, lows-long c.before.before))),
+        λ k l. rw add_assoc (c.requires.by_index (c.loop-i.i + k) (omega (arith, ends (goal.at.run-requires c).After-lesser-e, lows-long (goal.at.run-requires c).After-lesser-e))),
       ); by_index =  }
 
 pub loop-i-preserved : goal.loop-i-preserved
 loop-i-preserved c =
     (
-      ends c.before.before.before.before.before,
-      prefix-over _ _ _ _ _ c.loop-i.invariant.1 (le_refl _) _ _ _ (search rules) (ends c.before.before.before.before.before)
-          (lows-shifted _ _ _ _ _ _ _ _ _ _ c.run.ensures.lows_are) (lows-long c.before.before.before.before.before),
-      prefix-over _ _ _ _ _ c.loop-i.invariant.2 (le_refl _) _ _ _ (search rules) (ends c.before.before.before.before.before)
-          (highs-shifted _ _ _ _ _ _ _ _ _ _ c.run.ensures.highs_are) (highs-long c.before.before.before.before.before),
+      ends (goal.at.loop-i-preserved c).After-lesser-e,
+      prefix-over _ _ _ _ _ c.loop-i.invariant.1 (le_refl _) _ _ _ (search rules) (ends (goal.at.loop-i-preserved c).After-lesser-e)
+          (lows-shifted _ _ _ _ _ _ _ _ _ _ c.run.ensures.lows_are) (lows-long (goal.at.loop-i-preserved c).After-lesser-e),
+      prefix-over _ _ _ _ _ c.loop-i.invariant.2 (le_refl _) _ _ _ (search rules) (ends (goal.at.loop-i-preserved c).After-lesser-e)
+          (highs-shifted _ _ _ _ _ _ _ _ _ _ c.run.ensures.highs_are) (highs-long (goal.at.loop-i-preserved c).After-lesser-e),
     )
 
 pub shape_of-lows : goal.shape_of-lows

@@ -11,9 +11,9 @@ use borrow.Author.Rules.{rules}
 use Rattle.response_limits.proofs.rows.inner.Given as goal
 
 abbrev pub invariant-loop-i : goal.invariant-loop-i
-invariant-loop-i l = (l.i ≤ l.initial.highs)
-    × Prefix l.initial.highs (λ k. low_at l.low l.high l.w l.h (ring_of l.radius) (l.x + k) l.y) l.i l.n
-    × Prefix l.initial.highs (λ k. high_at l.low l.high l.w l.h (ring_of l.radius) (l.x + k) l.y) l.i l.initial.i
+invariant-loop-i l = (l.i ≤ l.n)
+    × Prefix l.n (λ k. low_at l.low l.high l.w l.h (ring_of l.radius) (l.x + k) l.y) l.i l.lows
+    × Prefix l.n (λ k. high_at l.low l.high l.w l.h (ring_of l.radius) (l.x + k) l.y) l.i l.highs
 
 abbrev pub decreases-loop-i : goal.decreases-loop-i
-decreases-loop-i l = l.initial.highs - l.i
+decreases-loop-i l = l.n - l.i

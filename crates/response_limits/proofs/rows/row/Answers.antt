@@ -10,9 +10,10 @@ use Rattle.response_limits.specs.Internal.{EdgesCleared}
 use Rattle.response_limits.proofs.Edges.{span-inner, lows-put, highs-put}
 use borrow.Author.Rules.{rules}
 use Rattle.response_limits.proofs.rows.row.Goals as goal
+use Rattle.response_limits.proofs.rows.row.Goals.{After-clear_edges-2}
 
 -- where both edges are cleared
-module _ (c : goal.After-clear_edges-2) where
+module _ (c : After-clear_edges-2) where
 
 
   abbrev from : ℕ
@@ -38,8 +39,8 @@ module _ (c : goal.After-clear_edges-2) where
 
 pub inner-requires : goal.inner-requires
 inner-requires c =
-    let low = part-long c.before.before.before (lows c.before.before.before) (lows-cleared c.before.before.before) in
-    let high = part-long c.before.before.before (highs c.before.before.before) (highs-cleared c.before.before.before) in record { image_with_table = c.requires.image_with_table; highs_len = (
+    let low = part-long (goal.at.inner-requires c).After-clear_edges-2 (lows (goal.at.inner-requires c).After-clear_edges-2) (lows-cleared (goal.at.inner-requires c).After-clear_edges-2) in
+    let high = part-long (goal.at.inner-requires c).After-clear_edges-2 (highs (goal.at.inner-requires c).After-clear_edges-2) (highs-cleared (goal.at.inner-requires c).After-clear_edges-2) in record { image_with_table = c.requires.image_with_table; highs_len = (
         (high ∙ sym low, rw low (omega (arith, c.reach-s.ensures.ordered, c.reach-s.ensures.ends))),
         λ i l. span-inner _ _ _ _ _ _ _ c.reach-s.ensures i (omega (arith, low)),
       ); by_index =  }
@@ -53,6 +54,6 @@ shape_of-highs c = search rules
 pub returns : goal.returns
 returns c =
     (
-      lows-put _ _ _ _ _ _ _ _ _ c.reach-s.ensures _ (lows-cleared c.before.before.before.before.before.before) _ _ (part-long c.before.before.before.before.before.before (lows c.before.before.before.before.before.before) (lows-cleared c.before.before.before.before.before.before)) c.inner.ensures.lows_are,
-      highs-put _ _ _ _ _ _ _ _ _ c.reach-s.ensures _ (highs-cleared c.before.before.before.before.before.before) _ _ (part-long c.before.before.before.before.before.before (highs c.before.before.before.before.before.before) (highs-cleared c.before.before.before.before.before.before)) c.inner.ensures.highs_are,
+      lows-put _ _ _ _ _ _ _ _ _ c.reach-s.ensures _ (lows-cleared (goal.at.returns c).After-clear_edges-2) _ _ (part-long (goal.at.returns c).After-clear_edges-2 (lows (goal.at.returns c).After-clear_edges-2) (lows-cleared (goal.at.returns c).After-clear_edges-2)) c.inner.ensures.lows_are,
+      highs-put _ _ _ _ _ _ _ _ _ c.reach-s.ensures _ (highs-cleared (goal.at.returns c).After-clear_edges-2) _ _ (part-long (goal.at.returns c).After-clear_edges-2 (highs (goal.at.returns c).After-clear_edges-2) (highs-cleared (goal.at.returns c).After-clear_edges-2)) c.inner.ensures.highs_are,
     )

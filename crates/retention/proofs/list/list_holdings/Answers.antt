@@ -22,12 +22,11 @@ pub number_of-requires : goal.number_of-requires
 number_of-requires c = simp length-take (omega arith)
 
 pub list_records-requires : goal.list_records-requires
-list_records-requires c =
-    (
-      c.number_of.ensures,
-      rw c.number_of.ensures (timed _ (sym c.time-fault.ensures ∙ c.if1.false)).early,
-      c.list_records-arg-1.given.0.1,
-    )
+list_records-requires c = (
+  c.number_of.ensures,
+  rw c.number_of.ensures (timed _ (sym c.time-fault.ensures ∙ c.if1.false)).early,
+  c.list_records-arg-1.given.0.1,
+)
 
 pub returns : goal.returns
 returns c =

@@ -10,8 +10,7 @@ use Rattle.retention.proofs.Texts.{Listed, listed-none, listed-all, listed-ample
 use Rattle.retention.proofs.list.list_records.Given as goal
 
 abbrev pub invariant-loop-at : goal.invariant-loop-at
-invariant-loop-at l = Listed l.input l.initial.out l.initial.end l.end l.at
+invariant-loop-at l = Listed l.input l.initial.out l.at l.end l.out
 
 abbrev pub decreases-loop-at : goal.decreases-loop-at
-decreases-loop-at l = l.out - l.initial.end
-
+decreases-loop-at l = l.stop - l.at

@@ -11,4 +11,3 @@ invariant-loop-passed l = Passing l.input l.k l.passed
 
 abbrev pub decreases-loop-passed : goal.decreases-loop-passed
 decreases-loop-passed l = items - l.passed
-

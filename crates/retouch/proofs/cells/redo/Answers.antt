@@ -14,46 +14,47 @@ use Rattle.response.proofs.Indices.{area-le}
 use Rattle.retouch.specs.Internal.{fits}
 use Rattle.retouch.proofs.OneCell.{alone-across, alone-down, from_place, in_cells, cell-redone}
 use Rattle.retouch.proofs.cells.redo.Goals as goal
+use Rattle.retouch.proofs.cells.redo.Goals.{Else-not-is_fit-2, Start}
 
 -- ---- what is known where both sides fit
 
-abbrev pixel : goal.Start → Place
+abbrev pixel : Start → Place
 pixel a = record { x = a.args.x; y = a.args.y }
 
-small : (a : goal.Start) → (a.args.ring ≤ largest_ring) × (a.args.x < largest_side) × (a.args.y < largest_side)
+small : (a : Start) → (a.args.ring ≤ largest_ring) × (a.args.x < largest_side) × (a.args.y < largest_side)
 small a =
     (ring-small _ (ring-fits _ a.requires.known), omega (arith, a.requires.column, a.requires.image.narrow), omega (arith, a.requires.row, a.requires.image.low))
 
-across : (c : goal.Else-not-is_fit-2) → fits c.args.w c.args.ring c.args.x c.args.column ≡ true
+across : (c : Else-not-is_fit-2) → fits c.args.w c.args.ring c.args.x c.args.column ≡ true
 across c = sym c.is_fit.ensures ∙ not-false _ c.if-not-is_fit.false-raw
 
-down : (c : goal.Else-not-is_fit-2) → fits c.args.h c.args.ring c.args.y c.args.row ≡ true
+down : (c : Else-not-is_fit-2) → fits c.args.h c.args.ring c.args.y c.args.row ≡ true
 down c = sym c.is_fit-2.ensures ∙ not-false _ c.if-not-is_fit-2.false-raw
 
-abbrev place : goal.Start → ℕ × ℕ
+abbrev place : Start → ℕ × ℕ
 place a = (a.args.column, a.args.row)
 
-reached : (c : goal.Else-not-is_fit-2) → (c.args.column ≤ c.args.x) × (c.args.row ≤ c.args.y)
+reached : (c : Else-not-is_fit-2) → (c.args.column ≤ c.args.x) × (c.args.row ≤ c.args.y)
 reached c = from_place _ _ _ _ (pixel c.before.before.before.before.before.before) _ c.requires (place c.before.before.before.before.before.before) (across c) (down c)
 
 -- the cell's place in the map
-abbrev at : goal.Start → ℕ
+abbrev at : Start → ℕ
 at a = (a.args.y - a.args.row + a.args.ring) * a.args.w + (a.args.x - a.args.column + a.args.ring)
 
-found : (c : goal.Else-not-is_fit-2) → at c.before.before.before.before.before.before < length c.args.map.now
+found : (c : Else-not-is_fit-2) → at c.before.before.before.before.before.before < length c.args.map.now
 found c = in_cells _ _ _ _ (pixel c.before.before.before.before.before.before) _ c.requires (place c.before.before.before.before.before.before) (across c) (down c)
 
-near : (c : goal.Else-not-is_fit-2) → at c.before.before.before.before.before.before < largest_map
+near : (c : Else-not-is_fit-2) → at c.before.before.before.before.before.before < largest_map
 near c = omega (arith, found c, c.requires.cells, area-le _ _ c.requires.image.narrow c.requires.image.low)
 
 pub is_fit-requires : goal.is_fit-requires
-is_fit-requires c = let s = small c.before.before in (s.0, s.1)
+is_fit-requires c = let s = small (goal.at.is_fit-requires c).Start in (s.0, s.1)
 
 pub returns-then-not-is_fit : goal.returns-then-not-is_fit
 returns-then-not-is_fit c = alone-across _ _ _ _ _ _ c.requires _ (sym c.is_fit.ensures ∙ not-true _ c.if-not-is_fit.true-raw)
 
 pub is_fit-requires-2 : goal.is_fit-requires-2
-is_fit-requires-2 c = let s = small c.before.before.before.before in (s.0, s.2)
+is_fit-requires-2 c = let s = small (goal.at.is_fit-requires-2 c).Start in (s.0, s.2)
 
 pub returns-then-not-is_fit-2 : goal.returns-then-not-is_fit-2
 returns-then-not-is_fit-2 c =
@@ -86,5 +87,5 @@ shape_of-map c = search rules
 
 pub returns : goal.returns
 returns c =
-    cell-redone _ _ _ _ (pixel c.before.before.before.before.before.before.before.before.before.before) _ c.requires (place c.before.before.before.before.before.before.before.before.before.before) (across c.before.before.before.before) (down c.before.before.before.before) _ _ _
-    (part_length (at c.before.before.before.before.before.before.before.before.before.before) 1 _ (omega (arith, found c.before.before.before.before))) c.chess_response_u8_patch.ensures
+    cell-redone _ _ _ _ (pixel (goal.at.returns c).Start) _ c.requires (place (goal.at.returns c).Start) (across (goal.at.returns c).Else-not-is_fit-2) (down (goal.at.returns c).Else-not-is_fit-2) _ _ _
+    (part_length (at (goal.at.returns c).Start) 1 _ (omega (arith, found (goal.at.returns c).Else-not-is_fit-2))) c.chess_response_u8_patch.ensures

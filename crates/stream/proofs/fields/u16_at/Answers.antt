@@ -4,14 +4,14 @@ use native.Mathlib.Omega.{arith}
 use lib.ListN.{get_or}
 use borrow.Author.Rules.{rules}
 use Rattle.stream.proofs.fields.u16_at.Goals as goal
+use Rattle.stream.proofs.fields.u16_at.Goals.{After-shared_slice_known-2-1}
 
-bytes : (c : goal.After-shared_slice_known-2-1)
+bytes : (c : After-shared_slice_known-2-1)
     → (get_or c.args.s.now c.args.at 0 < 256)
     × (get_or c.args.s.now (c.args.at + 1) 0 < 256)
 bytes c = (
   (c.shared_slice_known-2-1.given c.args.at).fits,
-  (c.shared_slice_known-2-1.given (c.args.at + 1)).fits,)
-
+  (c.shared_slice_known-2-1.given (c.args.at + 1)).fits,
 )
 
 pub overflow_cast-result : goal.overflow_cast-result

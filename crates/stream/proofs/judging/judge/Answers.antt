@@ -8,6 +8,7 @@ use Rattle.stream.proofs.Order.{AtStage, at-stage-start, at-stage-end, at-stage-
 use Rattle.stream.proofs.Order.{at-stage-next}
 use borrow.Author.Rules.{rules}
 use Rattle.stream.proofs.judging.judge.Goals as goal
+use Rattle.stream.proofs.judging.judge.Goals.{Else-fault-ne0}
 
 pub loop-kind-init : goal.loop-kind-init
 loop-kind-init c = at-stage-start c.args.input.now
@@ -18,7 +19,7 @@ returns-then-fault-ne0 c =
     c.record_fault-fault.ensures c.if-fault-ne0.true
 
 -- the record without fault ends in the stream
-long : (c : goal.Else-fault-ne0)
+long : (c : Else-fault-ne0)
     → c.loop-kind.at + 1 + body_length c.due_after-kind.result
     ≤ length c.args.input.now
 long c =
@@ -29,7 +30,7 @@ pub overflow_add-at : goal.overflow_add-at
 overflow_add-at c = omega (arith, long c)
 
 pub overflow_add-at-in-loop-kind : goal.overflow_add-at-in-loop-kind
-overflow_add-at-in-loop-kind c = omega (arith, long c.before, c.body_length.ensures)
+overflow_add-at-in-loop-kind c = omega (arith, long (goal.at.overflow_add-at-in-loop-kind c).Else-fault-ne0, c.body_length.ensures)
 
 pub left_after-left-requires : goal.left_after-left-requires
 left_after-left-requires c =
@@ -37,7 +38,7 @@ left_after-left-requires c =
     c.record_fault-fault.ensures c.if-fault-ne0.false
 
 pub loop-kind-smaller : goal.loop-kind-smaller
-loop-kind-smaller c = omega (arith, long c.before.before, c.body_length.ensures)
+loop-kind-smaller c = omega (arith, long (goal.at.loop-kind-smaller c).Else-fault-ne0, c.body_length.ensures)
 
 pub loop-kind-preserved : goal.loop-kind-preserved
 loop-kind-preserved c =

@@ -8,7 +8,7 @@ pub returns-then-kind-due : goal.returns-then-kind-due
 unfolding kind_fault
 returns-then-kind-due c =
     rw (
-      le-leb 1 _ c.if-kind-lt1.false,
+      le-leb 1 _ c.in-1-to-4.if-kind-lt1-own.false,
       le-leb c.args.kind 4 (omega arith),
       eq-eqb _ _ c.if-kind-due.true,
     )
@@ -17,15 +17,15 @@ pub returns-else-kind-due : goal.returns-else-kind-due
 unfolding kind_fault
 returns-else-kind-due c =
     rw (
-      le-leb 1 _ c.if-kind-lt1.false,
+      le-leb 1 _ c.in-1-to-4.if-kind-lt1-own.false,
       le-leb c.args.kind 4 (omega arith),
       ne_eqb _ _ c.if-kind-due.false,
     )
 
 pub returns-in_default : goal.returns-in_default
 unfolding kind_fault
-returns-in_default c = rw (lt-leb 1 _ c.if-kind-lt1.true)
+returns-in_default c = rw (lt-leb 1 _ c.in_default.if-kind-lt1-own.true)
 
 pub returns-in_default-2 : goal.returns-in_default-2
 unfolding kind_fault
-returns-in_default-2 c = rw (le-leb 1 _ c.if-kind-lt1.false, lt-leb c.args.kind 4 (omega arith))
+returns-in_default-2 c = rw (le-leb 1 _ c.in_default.if-kind-lt1-own.false, lt-leb c.args.kind 4 (omega arith))

@@ -12,12 +12,13 @@ use Rattle.stream.specs.Internal.{pixel_byte}
 use Rattle.stream.proofs.PixelPlaces.{pixel-in}
 use borrow.Author.Rules.{rules}
 use Rattle.stream.proofs.pixels.store_pixels.Goals as goal
+use Rattle.stream.proofs.pixels.store_pixels.Goals.{In-loop-i}
 
 pub loop-i-init : goal.loop-i-init
 unfolding tab
 loop-i-init c = (omega arith, refl, refl)
 
-in-stream : (c : goal.In-loop-i)
+in-stream : (c : In-loop-i)
     → 23 + c.loop-i.i + c.loop-i.i / 32 < length c.args.input.now
 in-stream c =
     pixel-in c.args.n c.loop-i.i (length c.args.input.now) c.loop-i-test.true c.requires.0
@@ -29,7 +30,7 @@ pub overflow_add-pixels-in-loop-i : goal.overflow_add-pixels-in-loop-i
 overflow_add-pixels-in-loop-i c = omega (arith, in-stream c)
 
 pub bounds-input-i : goal.bounds-input-i
-bounds-input-i c = omega (arith, in-stream c.before)
+bounds-input-i c = omega (arith, in-stream (goal.at.bounds-input-i c).In-loop-i)
 
 pub loop-i-preserved : goal.loop-i-preserved
 loop-i-preserved c = (

@@ -12,7 +12,7 @@ use borrow.Author.Rules.{rules}
 use Rattle.stream.proofs.pixels.store_pixels.Given as goal
 
 abbrev pub invariant-loop-i : goal.invariant-loop-i
-invariant-loop-i l = (l.i ≤ l.n) × (length l.initial.i ≡ length l.initial.pixels) × (l.initial.i ≡ front (tab l.i (pixel_byte l.input)) l.initial.pixels)
+invariant-loop-i l = (l.i ≤ l.n) × (length l.pixels ≡ length l.initial.pixels) × (l.pixels ≡ front (tab l.i (pixel_byte l.input)) l.initial.pixels)
 
 abbrev pub decreases-loop-i : goal.decreases-loop-i
 decreases-loop-i l = l.n - l.i
