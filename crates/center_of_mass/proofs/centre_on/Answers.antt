@@ -9,7 +9,7 @@ use Rattle.center_of_mass.proofs.centre_on.Goals as goal
 pub returns-in_default : goal.returns-in_default
 unfolding centre_on
 returns-in_default c =
-    not-natural c.args.r c.args.side c.round_half_away-nearest.result c.in_default.in_default-own.keys2
+    not-natural c.args.r c.args.side c.round_half_away-nearest.result (search rules)
     ∙ ap (centre_from _ _) c.round_half_away-nearest.ensures.answer
 
 pub returns-then-p-r : goal.returns-then-p-r

@@ -7,7 +7,7 @@ use Rattle.lists.proofs.Tests.{and_none}
 use Rattle.image_size.proofs.Judged.{sized}
 use Rattle.center_of_mass.proofs.Judgement.{MapFits, by_map, large, seed-far, none}
 use Rattle.center_of_mass.proofs.refusal.Goals as goal
-use Rattle.center_of_mass.proofs.refusal.Goals.{Joined-has_map}
+use Rattle.center_of_mass.proofs.refusal.Goals.{Joined-has_map, then-has_map+else-number-ne0, else-has_map}
 
 pub returns-then-number-ne0 : goal.returns-then-number-ne0
 returns-then-number-ne0 c = by_map _ _ _ _ _ _ _ c.if-has_map.true _ c.refusal-number.ensures c.if-number-ne0.true
@@ -16,7 +16,11 @@ returns-then-number-ne0 c = by_map _ _ _ _ _ _ _ c.if-has_map.true _ c.refusal-n
 map-passed : (c : Joined-has_map)
     →
     MapFits c.args.radius c.args.x c.args.y c.args.cells c.args.w c.args.h c.args.has_map
-map-passed c = ⊎_elim (λ m. inl (m.0.taken, sized _ _ _ _ m.1.ensures m.2.left)) (λ m. inr m.left) c.if-has_map.branch
+map-passed c =
+    elim c.if-has_map.branch [
+      | then-has_map+else-number-ne0 w ↦ inl (w.if-has_map.true, sized _ _ _ _ w.refusal-number.ensures w.if-number-ne0.false)
+      | else-has_map w ↦ inr w.if-has_map.false
+    ]
 
 pub returns-then-radius-gt-LARGEST_RADIUS : goal.returns-then-radius-gt-LARGEST_RADIUS
 returns-then-radius-gt-LARGEST_RADIUS c = large _ _ _ _ _ _ _ (map-passed (goal.at.returns-then-radius-gt-LARGEST_RADIUS c).Joined-has_map) c.if-radius-gt-LARGEST_RADIUS.true

@@ -43,7 +43,7 @@ record { frame_checked = ready-kept _ _ _ _ _ _ ready (search c.add_seeds-f.kept
           seeds-few c.args.p c.args.exact c.args.img.now c.args.w c.args.h _ ready _ _ _ _ c.add_seeds-f.ensures,
           c.added-m.ensures,
         ),
-      ), ) }
+      )) }
 
 pub shape_of-map : goal.shape_of-map
 shape_of-map c =

@@ -20,9 +20,6 @@ loop-i-init c =
 pub put_line-at-requires : goal.put_line-at-requires
 put_line-at-requires c = omega (arith, c.loop-i.invariant.left, c.loop-i-test.true)
 
-pub add-i : goal.add-i
-add-i c = omega (arith, (loop-test-from-add-i c).loop-test.true)
-
 pub loop-i-smaller : goal.loop-i-smaller
 loop-i-smaller c = omega (arith, c.loop-i-test.true)
 
@@ -31,7 +28,7 @@ loop-i-preserved c =
     let small : c.corner_at-c.result.neighbours < 2 ^ 32 = omega (arith, c.corner_at-c.type_inv) in
     lines_next (corner_at (slices c.args.xs.now c.args.ys.now c.args.strengths.now c.args.neighbours.now)) c.args.count
     c.put_heading-at.result
-    c.put_heading-at.last.0 c.loop-i.i c.loop-i.at c.loop-i.out c.loop-i.invariant
+    c.put_heading-at.new.out c.loop-i.i c.loop-i.at c.loop-i.out c.loop-i.invariant
     c.put_line-at.result c.put_line-at.new.out c.corner_at-c.result small c.loop-i-test.true
     c.corner_at-c.ensures c.put_line-at.ensures
 
@@ -42,5 +39,5 @@ pub returns : goal.returns
 returns c =
     lines-all (corner_at (slices c.args.xs.now c.args.ys.now c.args.strengths.now c.args.neighbours.now)) c.args.count
     c.put_heading-at.result
-    c.put_heading-at.last.0 c.loop-i.i c.loop-i.at c.loop-i.out c.loop-i.invariant
+    c.put_heading-at.new.out c.loop-i.i c.loop-i.at c.loop-i.out c.loop-i.invariant
     c.loop-i-test.false c.args.out.now c.put_heading-at.ensures

@@ -7,8 +7,7 @@ use Rattle.pgm.proofs.pgm_pixels.Goals.{In-Pixels}
 
 pub returns-in_default : goal.returns-in_default
 returns-in_default c =
-    refused-pixels c.before.before.before.before.before.args.upload.now _ c.read-pgm.ensures _
-    c.enum_told.given.1
+    refused-pixels c.args.upload.now _ c.read_pgm-image.ensures _ c.in_default.is
 
 -- where the pixels are
 pixels : (c : In-Pixels)

@@ -28,7 +28,7 @@ loop-n-preserved c = (
 )
 
 pub loop-n-smaller : goal.loop-n-smaller
-loop-n-smaller c = omega (arith, (loop-again c).1)
+loop-n-smaller c = omega (arith, (loop-n-preserved c).1)
 
 pub returns : goal.returns
 returns c = counted-all _ _ _ _ _ _ c.loop-n.invariant.1 c.loop-n-test.false

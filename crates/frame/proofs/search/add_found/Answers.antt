@@ -76,7 +76,7 @@ overflow_add-held c =
 
 pub overflow_add-ties : goal.overflow_add-ties
 overflow_add-ties c =
-    let more = turn_more _ _ _ _ _ _ _ _ c.loop-i.inv.6 _ c.corner_at-seed.ensures _ _
+    let more = turn_more _ _ _ _ _ _ _ _ c.loop-i.invariant.6 _ c.corner_at-seed.ensures _ _
     c.add_patch-f.ensures _ _ c.in-Added.is in
     let seeds = slices c.args.sx.now c.args.sy.now c.args.ss.now c.args.sn.now in
     let few = seeds-tied c.args.p c.args.exact c.args.img.now c.args.w c.args.h c.requires.frame_checked.sound

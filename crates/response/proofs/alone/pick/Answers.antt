@@ -21,8 +21,8 @@ bounds-img-base c = c.requires c.loop-k.k (search rules)
 pub loop-k-preserved : goal.loop-k-preserved
 loop-k-preserved c = (
   search rules,
-  prefix-set _ _ _ _ _ c.loop-k.inv.1 (search rules) c.wide.ensures.0,
-  bytes-set c.loop-k.s c.loop-k.k c.wide.result c.loop-k.inv.2 c.wide.ensures.1,
+  prefix-set _ _ _ _ _ c.loop-k.invariant.1 (search rules) c.wide.ensures.0,
+  bytes-set c.loop-k.s c.loop-k.k c.wide.result c.loop-k.invariant.2 c.wide.ensures.1,
 )
 
 pub returns : goal.returns

@@ -36,7 +36,11 @@ bytes c =
     c.gather.ensures
 
 small : (c : After-ring_sums-ring) → SumsBounded 8 c.ring_sums-ring.result
-small c = held_small _ _ (bytes c.before) c.ring_sums-ring.ensures
+small c =
+    held_small _ _
+    (gathered-bytes c.args.tile.now ((c.args.y - c.args.radius) * c.args.s + (c.args.x - c.args.radius)) c.args.off c.requires.0 _
+    c.gather.ensures)
+    c.ring_sums-ring.ensures
 
 pub ring_sums-ring-requires : goal.ring_sums-ring-requires
 ring_sums-ring-requires c = bytes c

@@ -127,7 +127,7 @@ loop-k-preserved c =
           (λ u v p q. c.widen.ensures.0.holds u v (omega (arith, radius, c.requires.n_nonzero.5)) (omega (arith, radius, c.requires.n_nonzero.3))
           (omega arith) p (omega arith) q)
           _ _ _ _ _ _ _ _ (omega (arith, c.eights.ensures)) c.row_sums.ensures
-          c.values.ensures refl c.loop-k.inv.1,
+          c.values.ensures refl c.loop-k.invariant.1,
       c.row_sums.ensures.long,
     )
 

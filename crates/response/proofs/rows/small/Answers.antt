@@ -15,7 +15,7 @@ block-requires c =
         c.requires.n_nonzero.3,
         record { long = refl; narrow = omega arith; bytes = bytes-none small_tile },
         omega (arith, c.requires.n_nonzero.1),
-      ), ) }
+      )) }
 
 pub shape_of-map : goal.shape_of-map
 shape_of-map c = search rules

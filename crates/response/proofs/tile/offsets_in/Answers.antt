@@ -10,7 +10,7 @@ use Rattle.response.proofs.tile.offsets_in.Goals as goal
 
 pub loop-k-init : goal.loop-k-init
 loop-k-init c =
-    (search rules, prefix-none _ _ _ refl, ap (λ (c.ring_offsets-t.ensures : RingOffsets). c.ring_offsets-t.ensures.columns) c.ring_offsets-t.ensures, ap (λ (c.ring_offsets-t.ensures : RingOffsets). c.ring_offsets-t.ensures.rows) c.ring_offsets-t.ensures)
+    (search rules, prefix-none _ _ _ refl, ap (λ (t : RingOffsets). t.columns) c.ring_offsets-t.ensures, ap (λ (t : RingOffsets). t.rows) c.ring_offsets-t.ensures)
 
 pub loop-k-preserved : goal.loop-k-preserved
 loop-k-preserved c =

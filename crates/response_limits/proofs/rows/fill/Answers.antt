@@ -51,7 +51,7 @@ row-requires c =
         part_length c.loop-y.a c.args.w c.loop-y.lows (omega (arith, in-lows (goal.at.row-requires c).In-loop-y, c.loop-y.invariant.0)),
         part_length c.loop-y.a c.args.w c.loop-y.highs (omega (arith, in-highs (goal.at.row-requires c).In-loop-y, c.loop-y.invariant.1)),
         c.loop-y-test.true,
-      ), ) }
+      )) }
 
 pub loop-y-preserved : goal.loop-y-preserved
 loop-y-preserved c =
