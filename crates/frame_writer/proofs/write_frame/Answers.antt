@@ -34,16 +34,16 @@ pub slice_bounds-put_frame-end : goal.slice_bounds-put_frame-end
 slice_bounds-put_frame-end c = omega (arith, length-is c, (ok (goal.at.slice_bounds-put_frame-end c).Else-number-ne0).enough)
 
 pub slice_bounds-put_frame-end-2 : goal.slice_bounds-put_frame-end-2
-slice_bounds-put_frame-end-2 c = sym (length-take-le _ _ (slice-relend-prefix-put-frame (goal.at.slice_bounds-put_frame-end-2 c).After-length_of-end))
+slice_bounds-put_frame-end-2 c = sym (length-take-le _ _ (slice_bounds-put_frame-end (goal.at.slice_bounds-put_frame-end-2 c).After-length_of-end))
 
 pub put_frame-requires : goal.put_frame-requires
-put_frame-requires c = ((ok (goal.at.put_frame-requires c).Else-number-ne0).narrow, length-take-le _ _ (slice-relend-prefix-put-frame (goal.at.put_frame-requires c).After-length_of-end) ∙ c.length_of-end.ensures)
+put_frame-requires c = ((ok (goal.at.put_frame-requires c).Else-number-ne0).narrow, length-take-le _ _ (slice_bounds-put_frame-end (goal.at.put_frame-requires c).After-length_of-end) ∙ c.length_of-end.ensures)
 
 pub shape_of-out : goal.shape_of-out
 shape_of-out c = search rules
 
-pub returns : goal.returns
-returns c =
+pub returns-then-number-ne0 : goal.returns
+returns-then-number-ne0 c =
     frame-written c.args.header c.args.pixels.now c.args.out.now
     (sym c.refusal-number.ensures ∙ c.if-number-ne0.false) c.length_of-end.result _ (length-is (goal.at.returns c).After-length_of-end)
     (ap₂ (λ (s : List ℕ) (k : ℕ). s ++ drop k c.args.out.now) c.put_frame.ensures (length-is (goal.at.returns c).After-length_of-end))
