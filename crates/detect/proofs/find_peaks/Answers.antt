@@ -81,6 +81,6 @@ shape_of-strengths c = search rules
 pub shape_of-neighbours : goal.shape_of-neighbours
 shape_of-neighbours c = search rules
 
-pub returns-then-number-ne0 : goal.returns
-returns-then-number-ne0 c =
+pub returns : goal.returns
+returns c =
     adds (goal.at.returns c).After-search_of-s c.add_peaks-2.result _ c.add_peaks-2.ensures

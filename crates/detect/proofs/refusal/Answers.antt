@@ -18,6 +18,6 @@ pub returns-then-is_outside : goal.returns-then-is_outside
 unfolding conditions
 returns-then-is_outside c = rw (passed _ _ _ _ (image (goal.at.returns-then-is_outside c).Else-number-ne0), sym c.is_outside.ensures ∙ c.if-is_outside.true)
 
-pub returns-then-number-ne0 : goal.returns
+pub returns : goal.returns
 unfolding conditions
-returns-then-number-ne0 c = rw (passed _ _ _ _ (image (goal.at.returns c).Else-number-ne0), sym c.is_outside.ensures ∙ c.if-is_outside.false)
+returns c = rw (passed _ _ _ _ (image (goal.at.returns c).Else-number-ne0), sym c.is_outside.ensures ∙ c.if-is_outside.false)

@@ -8,5 +8,5 @@ returns-in_default c =
     absurd (list_written _ _ _ _ _ c.write_corners-listed.ensures c.requires _
     c.in_default.is)
 
-pub returns-in_default : goal.returns
-returns-in_default c = list-text _ _ _ _ _ c.write_corners-listed.ensures _ c.in-Text.is
+pub returns : goal.returns
+returns c = list-text _ _ _ _ _ c.write_corners-listed.ensures _ c.in-Text.is

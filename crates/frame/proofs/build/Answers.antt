@@ -15,5 +15,5 @@ returns-in_default c =
 pub shape_of-levels : goal.shape_of-levels
 shape_of-levels c = search rules
 
-pub returns-in_default : goal.returns
-returns-in_default c = built _ _ _ _ _ _ _ _ c.build_pyramid-built.ensures _ c.in-Levels.is
+pub returns : goal.returns
+returns c = built _ _ _ _ _ _ _ _ c.build_pyramid-built.ensures _ c.in-Levels.is

@@ -105,8 +105,8 @@ shape_of-cn c =
       c.add_found-g.auto,
     )
 
-pub returns-then-number-ne0 : goal.returns
-returns-then-number-ne0 c =
+pub returns : goal.returns
+returns c =
     let none = sym c.refusal-number.ensures ∙ c.if-number-ne0.false in
     
     

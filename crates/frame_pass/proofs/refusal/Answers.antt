@@ -65,6 +65,6 @@ pub returns-then-places-cells_above : goal.returns-then-places-cells_above
 returns-then-places-cells_above c =
     rw (last (goal.at.returns-then-places-cells_above c).After-cells_above, short c.args.p _ _ _ _ (image (goal.at.returns-then-places-cells_above c).Else-number-ne0) _ c.cells_above.ensures c.if-places-cells_above.true)
 
-pub returns-then-number-ne0 : goal.returns
-returns-then-number-ne0 c =
+pub returns : goal.returns
+returns c =
     rw (last (goal.at.returns c).After-cells_above, enough c.args.p _ _ _ _ (image (goal.at.returns c).Else-number-ne0) _ c.cells_above.ensures c.if-places-cells_above.false)

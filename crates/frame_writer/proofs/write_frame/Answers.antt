@@ -42,8 +42,8 @@ put_frame-requires c = ((ok (goal.at.put_frame-requires c).Else-number-ne0).narr
 pub shape_of-out : goal.shape_of-out
 shape_of-out c = search rules
 
-pub returns-then-number-ne0 : goal.returns
-returns-then-number-ne0 c =
+pub returns : goal.returns
+returns c =
     frame-written c.args.header c.args.pixels.now c.args.out.now
     (sym c.refusal-number.ensures ∙ c.if-number-ne0.false) c.length_of-end.result _ (length-is (goal.at.returns c).After-length_of-end)
     (ap₂ (λ (s : List ℕ) (k : ℕ). s ++ drop k c.args.out.now) c.put_frame.ensures (length-is (goal.at.returns c).After-length_of-end))

@@ -36,8 +36,8 @@ shape_of-neighbours c = search rules
 pub shape_of-table : goal.shape_of-table
 shape_of-table c = search rules
 
-pub returns-then-is_off : goal.returns
-returns-then-is_off c =
+pub returns : goal.returns
+returns c =
     let settled = left-settled c.grid_of-g.result false (slices [] [] [] []) _ _ _ _ c.requires
     c.settle_list.ensures.settles in (
       left-on _ (buffer (goal.at.returns c).Start) _ _ _ _ _ (sym c.is_off.ensures ∙ c.if-is_off.false)

@@ -33,8 +33,8 @@ loop-i-preserved c = (
   below_more _ _ c.loop-i.invariant.1 (λ e. false≢true (sym c.if-is_near.false ∙ sym (tested (goal.at.loop-i-preserved c).After-is_near) ∙ e)),
 )
 
-pub returns-then-is_near : goal.returns
-returns-then-is_near c =
+pub returns : goal.returns
+returns c =
     record {
       at_most = omega arith;
       passes = λ l. absurd (let no : ⊥ = omega arith in no);

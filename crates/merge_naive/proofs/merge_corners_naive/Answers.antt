@@ -47,6 +47,6 @@ shape_of-strengths c = search rules
 pub shape_of-neighbours : goal.shape_of-neighbours
 shape_of-neighbours c = search rules
 
-pub returns-then-number-ne0 : goal.returns
-returns-then-number-ne0 c =
+pub returns : goal.returns
+returns c =
     leaves_kept _ _ _ _ _ _ (judged (goal.at.returns c).After-refusal-number) c.if-number-ne0.false c.merge_list.ensures

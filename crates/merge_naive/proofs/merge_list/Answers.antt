@@ -46,7 +46,7 @@ shape_of-strengths c = stepped-strengths _ _ _ _ _ _ _ _ c.loop-i.invariant c.re
 pub shape_of-neighbours : goal.shape_of-neighbours
 shape_of-neighbours c = stepped-neighbours _ _ _ _ _ _ _ _ c.loop-i.invariant c.requires
 
-pub returns-then-is_off : goal.returns
-returns-then-is_off c =
+pub returns : goal.returns
+returns c =
     left-on _ _ _ _ _ (sym c.is_off.ensures ∙ c.if-is_off.false)
     (stops-all _ _ _ _ _ _ _ (stops_end _ _ _ _ _ _ _ _ _ _ c.loop-i.invariant c.loop-i-test.false))

@@ -28,7 +28,7 @@ pub returns-then-o-c : goal.returns-then-o-c
 returns-then-o-c c =
     settles-stronger _ _ _ _ c.requires _ (found (goal.at.returns-then-o-c c).After-first_near-i) c.if-k-i.false _ c.corner_at-o.ensures c.if-o-c.true
 
-pub returns-then-k-i : goal.returns
-returns-then-k-i c =
+pub returns : goal.returns
+returns c =
     settles-none _ _ _ _ c.requires _ (found (goal.at.returns c).After-first_near-i) c.if-k-i.false _ c.corner_at-o.ensures
     _ (omega (arith, c.well_formed)) (omega arith) c.if-o-c.false

@@ -28,5 +28,5 @@ returns-then-not-is_inside c = sym (any-tab-hit corner_outside _ _ _ c.loop-i-te
 pub loop-i-preserved : goal.loop-i-preserved
 loop-i-preserved c = (omega arith, below_more _ _ c.loop-i.invariant.1 (tested (goal.at.loop-i-preserved c).After-is_inside ∙ c.if-not-is_inside.false-raw))
 
-pub returns-then-not-is_inside : goal.returns
-returns-then-not-is_inside c = sym (any-tab-none corner_outside _ _ (λ k l. c.loop-i.invariant.1 k (omega arith)))
+pub returns : goal.returns
+returns c = sym (any-tab-none corner_outside _ _ (λ k l. c.loop-i.invariant.1 k (omega arith)))

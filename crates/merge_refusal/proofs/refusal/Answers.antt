@@ -46,8 +46,8 @@ returns-then-is_sized c =
     (sym c.is_sized.ensures ∙ c.if-is_sized.true))
     (held (goal.at.returns-then-is_sized c).After-lesser-held)
 
-pub returns-then-is_off : goal.returns
-returns-then-is_off c =
+pub returns : goal.returns
+returns c =
     judged-held _ _ _ _ _ _
     (judged-radius _ _ _ _ (sym c.is_off.ensures ∙ c.if-is_off.false) (tested (goal.at.returns c).After-has_outside ∙ c.if-has_outside.false)
     (sym c.is_sized.ensures ∙ c.if-is_sized.false))

@@ -72,8 +72,8 @@ shape_of-ns c = search rules
 pub shape_of-table : goal.shape_of-table
 shape_of-table c = search rules
 
-pub returns-then-slots-gt0 : goal.returns
-returns-then-slots-gt0 c =
+pub returns : goal.returns
+returns c =
     (
       stops-held _ _ _ _ _ _ _ _ (c.lesser-held.ensures ∙ ap (min _) c.places-places.ensures)
           c.merge_up_to-s.ensures,

@@ -9,5 +9,5 @@ returns-then-is_off c = simp (sym c.is_off.ensures ∙ c.if-is_off.true)
 pub returns-then-outside : goal.returns-then-outside
 returns-then-outside c = simp (sym c.is_off.ensures ∙ c.if-is_off.false, c.if-outside.true)
 
-pub returns-then-is_off : goal.returns
-returns-then-is_off c = simp (sym c.is_off.ensures ∙ c.if-is_off.false, c.if-outside.false)
+pub returns : goal.returns
+returns c = simp (sym c.is_off.ensures ∙ c.if-is_off.false, c.if-outside.false)

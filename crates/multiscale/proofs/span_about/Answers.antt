@@ -36,7 +36,7 @@ returns-then-high-low c =
     narrow _ _ _ _ _ _ (low-is (goal.at.returns-then-high-low c).Joined-c-r) (high_is (goal.at.returns-then-high-low c).Joined-side-b) (omega arith)
     (omega arith) c.if-high-low.true
 
-pub returns-then-c-b : goal.returns
-returns-then-c-b c =
+pub returns : goal.returns
+returns c =
     wide _ _ _ _ _ _ (low-is (goal.at.returns c).Joined-c-r) (high_is (goal.at.returns c).Joined-side-b) (omega arith)
     (omega arith) c.if-high-low.false

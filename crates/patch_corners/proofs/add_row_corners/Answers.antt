@@ -99,8 +99,8 @@ shape_of-strengths c = search rules
 pub shape_of-neighbours : goal.shape_of-neighbours
 shape_of-neighbours c = search rules
 
-pub returns-then-number-ne0 : goal.returns
-returns-then-number-ne0 c =
+pub returns : goal.returns
+returns c =
     rows-added _ c.args.exact _ _ _ _ _ _ _ (cut (goal.at.returns c).After-lesser-top) _ _ _ _
     (found-changed _ _ _ _ _ _ _ _ c.find_peaks-f.ensures (clear _ _ _ _ _ _) _ _ c.in-Added.is _
     c.centre_all.ensures)

@@ -28,7 +28,7 @@ fill_levels-requires c =
 pub shape_of-levels : goal.shape_of-levels
 shape_of-levels c = search rules
 
-pub returns-then-number-ne0 : goal.returns
-returns-then-number-ne0 c =
+pub returns : goal.returns
+returns c =
     built-filled _ _ _ _ _ _ _ _ (free (goal.at.returns c).After-level_count-n) c.level_count-n.ensures
     c.fill_levels.ensures

@@ -46,6 +46,6 @@ slice_bounds-result-start c = omega (arith, (between c).ends)
 pub slice_bounds-result-end-2 : goal.slice_bounds-result-end-2
 slice_bounds-result-end-2 c = (between c).ranges
 
-pub returns-then-number-ne0 : goal.returns
-returns-then-number-ne0 c =
+pub returns : goal.returns
+returns c =
     level-higher c.args.base.now c.args.levels.now _ _ _ _ _ (free (goal.at.returns c).Else-number-ne0) _ _ c.if-k-eq0.false (between (goal.at.returns c).After-cells_before-end)

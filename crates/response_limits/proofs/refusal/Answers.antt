@@ -76,5 +76,5 @@ overflow_mul-w-2 c = let s = image (goal.at.overflow_mul-w-2 c).Else-number-ne0 
 pub returns-then-highs-w : goal.returns-then-highs-w
 returns-then-highs-w c = rw (places (goal.at.returns-then-highs-w c).Else-not-is_ring, le-ltb _ _ c.if-lows-w.false, lt-ltb _ _ c.if-highs-w.true)
 
-pub returns-then-number-ne0 : goal.returns
-returns-then-number-ne0 c = rw (places (goal.at.returns c).Else-not-is_ring, le-ltb _ _ c.if-lows-w.false, le-ltb _ _ c.if-highs-w.false)
+pub returns : goal.returns
+returns c = rw (places (goal.at.returns c).Else-not-is_ring, le-ltb _ _ c.if-lows-w.false, le-ltb _ _ c.if-highs-w.false)

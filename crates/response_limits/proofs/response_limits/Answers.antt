@@ -18,6 +18,6 @@ shape_of-lows c = search rules
 pub shape_of-highs : goal.shape_of-highs
 shape_of-highs c = search rules
 
-pub returns-then-number-ne0 : goal.returns
-returns-then-number-ne0 c =
+pub returns : goal.returns
+returns c =
     when-written _ _ _ _ _ _ _ _ _ _ c.refusal-number.ensures c.if-number-ne0.false c.fill.ensures.0 c.fill.ensures.1

@@ -28,8 +28,8 @@ returns-then-start_at-gt-LATEST c =
     sym (fault-late _ _ c.if-input-at.false (kind-is (goal.at.returns-then-start_at-gt-LATEST c).Else-not-is_known) (omega arith)
     (rw c.start_at.ensures at c.if-start_at-gt-LATEST.true))
 
-pub returns-then-input-at : goal.returns
-returns-then-input-at c =
+pub returns : goal.returns
+returns c =
     sym (fault-none _ _ (record {
       long = omega arith;
       kind-is = kind-is (goal.at.returns c).Else-not-is_known;

@@ -18,5 +18,5 @@ number_of-requires c = simp length-take (omega arith)
 pub returns-then-number_of-gt-LATEST : goal.returns-then-number_of-gt-LATEST
 returns-then-number_of-gt-LATEST c = sym (time-late _ c.if1.false (rw c.number_of.ensures at c.if-number_of-gt-LATEST.true))
 
-pub returns-then-input-lt8 : goal.returns
-returns-then-input-lt8 c = sym (time-none _ (record { long = c.if1.false; early = rw c.number_of.ensures at c.if-number_of-gt-LATEST.false }))
+pub returns : goal.returns
+returns c = sym (time-none _ (record { long = c.if1.false; early = rw c.number_of.ensures at c.if-number_of-gt-LATEST.false }))

@@ -5,5 +5,5 @@ use Rattle.retouch.proofs.is_outside.Goals as goal
 pub returns-then-w-x : goal.returns-then-w-x
 returns-then-w-x c = rw (le-leb _ _ c.if-w-x.true)
 
-pub returns-then-w-x : goal.returns
-returns-then-w-x c = rw (lt-leb _ _ c.if-w-x.false)
+pub returns : goal.returns
+returns c = rw (lt-leb _ _ c.if-w-x.false)

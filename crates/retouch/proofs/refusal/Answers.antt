@@ -33,8 +33,8 @@ returns-then-is_outside c =
       c.if-is_outside.true,
     )
 
-pub returns-then-image-ne0 : goal.returns
-returns-then-image-ne0 c =
+pub returns : goal.returns
+returns c =
     rw (
       by-rest _ _ _ _ _ _ (image (goal.at.returns c).Else-image-ne0) (map (goal.at.returns c).Else-map-ne0),
       ← c.is_ring.ensures,

@@ -50,6 +50,6 @@ shape_of-img c = search rules
 pub shape_of-map : goal.shape_of-map
 shape_of-map c = search rules
 
-pub returns-then-number-ne0 : goal.returns
-returns-then-number-ne0 c =
+pub returns : goal.returns
+returns c =
     when-redone _ _ _ _ _ _ _ _ _ _ _ c.refusal.ensures c.if1.false refl c.redo_touched-cells.ensures.1 c.redo_touched-cells.ensures.0

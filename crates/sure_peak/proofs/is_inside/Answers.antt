@@ -6,5 +6,5 @@ use Rattle.sure_peak.proofs.is_inside.Goals as goal
 pub returns-then-at-border : goal.returns-then-at-border
 returns-then-at-border c = rw (lt-leb _ _ c.if-at-border.true)
 
-pub returns-then-at-border : goal.returns
-returns-then-at-border c = rw (le-leb _ _ c.if-at-border.false)
+pub returns : goal.returns
+returns c = rw (le-leb _ _ c.if-at-border.false)

@@ -46,8 +46,8 @@ returns-then-count_window-ne0 c =
     (same (goal.at.returns-then-count_window-ne0 c).After-low-1) (sym c.exceeds.ensures ∙ not-false _ c.if-not-exceeds.false-raw) _
     c.count_window.ensures c.if-count_window-ne0.true
 
-pub returns-then-not-exceeds : goal.returns
-returns-then-not-exceeds c =
+pub returns : goal.returns
+returns c =
     when-top c.args.lows.now c.args.highs.now c.args.w c.args.h c.args.r c.args.threshold c.args.least (record { x = c.args.x; y = c.args.y }) _
     (same (goal.at.returns c).After-low-1) (sym c.exceeds.ensures ∙ not-false _ c.if-not-exceeds.false-raw) _
     c.count_window.ensures c.if-count_window-ne0.false _ c.count_window-2.ensures

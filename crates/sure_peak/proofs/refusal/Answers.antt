@@ -40,5 +40,5 @@ returns-then-w-x c = rw (place (goal.at.returns-then-w-x c).Else-is_outside, le-
 pub returns-then-h-y : goal.returns-then-h-y
 returns-then-h-y c = rw (place (goal.at.returns-then-h-y c).Else-is_outside, lt-leb _ _ c.if-w-x.false, le-leb _ _ c.if-h-y.true)
 
-pub returns-then-number-ne0 : goal.returns
-returns-then-number-ne0 c = rw (place (goal.at.returns c).Else-is_outside, lt-leb _ _ c.if-w-x.false, lt-leb _ _ c.if-h-y.false)
+pub returns : goal.returns
+returns c = rw (place (goal.at.returns c).Else-is_outside, lt-leb _ _ c.if-w-x.false, lt-leb _ _ c.if-h-y.false)

@@ -71,7 +71,7 @@ returns-then-is_sure c =
     is-sure _ _ _ _ _ _ _ _ _ _ _ c.refusal-number.ensures c.if-number-ne0.false (across (goal.at.returns-then-is_sure c).Else-not-is_inside-2) (down (goal.at.returns-then-is_sure c).Else-not-is_inside-2) _ c.is_sure.ensures
     c.if-is_sure.true
 
-pub returns-then-number-ne0 : goal.returns
-returns-then-number-ne0 c =
+pub returns : goal.returns
+returns c =
     not-sure _ _ _ _ _ _ _ _ _ _ _ c.refusal-number.ensures c.if-number-ne0.false (across (goal.at.returns c).Else-not-is_inside-2) (down (goal.at.returns c).Else-not-is_inside-2) _
     c.is_sure.ensures c.if-is_sure.false

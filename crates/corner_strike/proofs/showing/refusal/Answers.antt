@@ -11,6 +11,6 @@ pub returns-then-count-place : goal.returns-then-count-place
 unfolding refusal_of
 returns-then-count-place c = rw (le-ltb _ _ c.if-places-count.false, le-leb _ _ c.if-count-place.true)
 
-pub returns-then-places-count : goal.returns
+pub returns : goal.returns
 unfolding refusal_of
-returns-then-places-count c = rw (le-ltb _ _ c.if-places-count.false, lt-leb _ _ c.if-count-place.false)
+returns c = rw (le-ltb _ _ c.if-places-count.false, lt-leb _ _ c.if-count-place.false)

@@ -25,9 +25,9 @@ returns-then-change-eq-LARGEST_CHANGE c =
       eq-eqb _ _ c.if-change-eq-LARGEST_CHANGE.true,
     )
 
-pub returns-then-places-count : goal.returns
+pub returns : goal.returns
 unfolding refusal_of
-returns-then-places-count c =
+returns c =
     rw (
       le-ltb _ _ c.if-places-count.false,
       eq-eqb _ _ c.if-shown-change.false,

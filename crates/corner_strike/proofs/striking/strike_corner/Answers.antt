@@ -42,7 +42,7 @@ shape_of-strengths c = search rules
 pub shape_of-neighbours : goal.shape_of-neighbours
 shape_of-neighbours c = search rules
 
-pub returns-then-number-ne0 : goal.returns
-returns-then-number-ne0 c =
+pub returns : goal.returns
+returns c =
     strike-struck _ _ _ _ c.places-places.ensures _ _ _ c.refusal-number.ensures c.if-number-ne0.false
     c.remove_corner.ensures

@@ -17,5 +17,5 @@ returns-then-n-places c = λ e. absurd (false≢true e)
 pub returns-then-free-n : goal.returns-then-free-n
 returns-then-free-n c = λ e. absurd (false≢true e)
 
-pub returns-then-cells_inside-free : goal.returns
-returns-then-cells_inside-free c = λ e. le_trans c.cells_above.ensures (leb-true _ _ e)
+pub returns : goal.returns
+returns c = λ e. le_trans c.cells_above.ensures (leb-true _ _ e)

@@ -38,5 +38,5 @@ overflow_add-x c = let i = next-inside _ _ _ _ c.peak_at-p.ensures.next.next (om
 pub loop-i-preserved : goal.loop-i-preserved
 loop-i-preserved c = counting-next _ _ _ _ _ _ c.loop-i.invariant _ c.peak_at-p.ensures (omega arith)
 
-pub returns-then-places-held : goal.returns
-returns-then-places-held c = counting-many _ _ _ _ _ _ c.loop-i.invariant _ _ (omega arith)
+pub returns : goal.returns
+returns c = counting-many _ _ _ _ _ _ c.loop-i.invariant _ _ (omega arith)

@@ -44,8 +44,8 @@ pub loop-y-preserved : goal.loop-y-preserved
 loop-y-preserved c =
     high-next _ c.args.s c.requires (omega arith) _ _ c.loop-y.invariant (omega arith) _ c.minus-x1.ensures _ c.count_low.ensures
 
-pub returns-then-x1-x0 : goal.returns
-returns-then-x1-x0 c =
+pub returns : goal.returns
+returns c =
     high-all c.args.map.now c.args.s _ _ c.loop-y.invariant (omega arith)
 
 pub overflow_mul-a : goal.overflow_mul-a

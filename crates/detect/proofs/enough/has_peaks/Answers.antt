@@ -19,5 +19,5 @@ none c = sym c.refusal-number.ensures ∙ c.if-number-ne0.false
 pub search_for-requires : goal.search_for-requires
 search_for-requires c = rw c.search_of-s.ensures (searchable _ _ _ _ _ _ _ _ _ (clear _ _ _ _ _ _ (none c)))
 
-pub returns-then-number-ne0 : goal.returns
-returns-then-number-ne0 c = enough-found _ _ _ _ (none (goal.at.returns c).After-search_of-s) _ c.search_of-s.ensures _ c.search_for.ensures
+pub returns : goal.returns
+returns c = enough-found _ _ _ _ (none (goal.at.returns c).After-search_of-s) _ c.search_of-s.ensures _ c.search_for.ensures

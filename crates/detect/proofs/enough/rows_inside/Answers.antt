@@ -8,6 +8,6 @@ pub returns-then-s-b : goal.returns-then-s-b
 unfolding rows_inside
 returns-then-s-b c = rw (le-leb _ _ c.if-s-b.true)
 
-pub returns-then-s-b : goal.returns
+pub returns : goal.returns
 unfolding rows_inside
-returns-then-s-b c = rw (lt-leb _ _ c.if-s-b.false, c.minus.ensures)
+returns c = rw (lt-leb _ _ c.if-s-b.false, c.minus.ensures)

@@ -35,5 +35,5 @@ pub loop-i-preserved : goal.loop-i-preserved
 loop-i-preserved c =
     (searching-next _ _ _ _ _ c.loop-i.invariant.0 _ c.next_peak-p.ensures.next (omega arith) _ refl, omega arith)
 
-pub returns-then-y1-p : goal.returns
-returns-then-y1-p c = searching-yes _ _ _ _ _ c.loop-i.invariant.0 _ (omega (arith, c.loop-i.invariant.1))
+pub returns : goal.returns
+returns c = searching-yes _ _ _ _ _ c.loop-i.invariant.0 _ (omega (arith, c.loop-i.invariant.1))

@@ -21,8 +21,8 @@ pub truncating_f64_to_u64-requires : goal.truncating_f64_to_u64-requires
 unfolding of_bits
 truncating_f64_to_u64-requires c = record { lower_bound = (cuts c).above; upper_bound = (cuts c).below }
 
-pub returns-then-t : goal.returns
+pub returns : goal.returns
 unfolding of_bits
-returns-then-t c =
+returns c =
     c.truncating_f64_to_u64.ensures ∙ (cuts (goal.at.returns c).After-f32_to_f64_with_nan).is
     ∙ ap fifths_under (c.f32_to_f64_with_nan.ensures ∙ c.lifted-t.ensures)

@@ -24,5 +24,5 @@ loop-i-preserved c =
     sym (any-on (asked (goal.at.loop-i-preserved c).Start) _ _ _ c.loop-i-test.true (sym c.is_larger.ensures ∙ c.if-is_larger.false))
     ∙ c.loop-i.invariant
 
-pub returns-then-is_larger : goal.returns
-returns-then-is_larger c = sym (any-none-left (asked (goal.at.returns c).Start) _ _ c.loop-i-test.false) ∙ c.loop-i.invariant
+pub returns : goal.returns
+returns c = sym (any-none-left (asked (goal.at.returns c).Start) _ _ c.loop-i-test.false) ∙ c.loop-i.invariant

@@ -27,5 +27,5 @@ returns-then-v c =
     in
     test-alone c.args.map.now c.args.s (place c.args.x c.args.y) _ c.requires.v_value _ refl (others-none _ _ more e)
 
-pub returns-then-s-ne2 : goal.returns
-returns-then-s-ne2 c = λ e. absurd (false≢true e)
+pub returns : goal.returns
+returns c = λ e. absurd (false≢true e)

@@ -12,7 +12,7 @@ pub returns-then-s : goal.returns-then-s
 returns-then-s c =
     lost-exactly c.args.map.now c.args.s (place c.args.x c.args.y) c.if-s.true _ c.is_local_max.ensures
 
-pub returns-in_default : goal.returns
-returns-in_default c =
+pub returns : goal.returns
+returns c =
     lost-plainly c.args.map.now c.args.s (place c.args.x c.args.y) c.if-s.false _ c.requires.t_value
     c.in-Beaten.is

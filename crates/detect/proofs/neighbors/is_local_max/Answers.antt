@@ -35,8 +35,8 @@ loop-yy-preserved c =
     larger-next _ _ _ _ _ c.requires.searchable c.requires.inside c.requires.v_value _ c.loop-yy-test.taken c.args.exact
     _ c.bar_of-bar.ensures c.loop-yy.invariant _ c.any_larger.ensures c.if-any_larger.false
 
-pub returns-then-any_larger : goal.returns
-returns-then-any_larger c =
+pub returns : goal.returns
+returns c =
     larger-nowhere _ _ _ _ _ c.requires.searchable c.requires.inside c.requires.v_value _ c.loop-yy-test.false c.args.exact
     c.loop-yy.invariant
 

@@ -22,7 +22,7 @@ overflow_add-y c = omega (arith, inside c, c.well_formed)
 pub most_of_square-requires : goal.most_of_square-requires
 most_of_square-requires c = inside c
 
-pub returns-then-s-ne2 : goal.returns
-returns-then-s-ne2 c =
+pub returns : goal.returns
+returns c =
     λ e.
     topped _ _ _ _ c.requires.searchable c.requires.inside (omega arith) _ c.requires.v_value _ c.most_of_square.ensures e

@@ -18,6 +18,6 @@ returns-then-is_local_max c =
     test-top c.args.map.now c.args.s (place c.args.x c.args.y) _ c.is_local_max.ensures c.if-is_local_max.true
     _ (c.count_neighbors.ensures ∙ equals-are _ _ _ _ _ c.requires.searchable c.requires.inside c.requires.v_value)
 
-pub returns-then-is_topped : goal.returns
-returns-then-is_topped c =
+pub returns : goal.returns
+returns c =
     test-beaten c.args.map.now c.args.s (place c.args.x c.args.y) _ c.is_local_max.ensures c.if-is_local_max.false

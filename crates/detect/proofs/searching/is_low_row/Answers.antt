@@ -41,7 +41,7 @@ offset_bounds-map-a c = omega (arith, small c)
 pub slice_bounds-count_low-end : goal.slice_bounds-count_low-end
 slice_bounds-count_low-end c = row_in _ _ c.requires _ (in_rows c) _ (omega arith)
 
-pub returns-then-w-lt-WIDE_MAP : goal.returns
-returns-then-w-lt-WIDE_MAP c =
+pub returns : goal.returns
+returns c =
     λ e.
     low-row _ _ _ _ (omega arith) (row_in _ _ c.requires _ (in_rows (goal.at.returns c).Else-minus-y) _ (omega arith)) c.count_low.ensures (leb-true _ _ e)

@@ -11,6 +11,6 @@ returns-then-value-s c =
     λ e. low-peak _ _ c.requires.searchable _ _ c.requires.inside
     (ap (λ (v : Float). le v c.args.s.threshold) (sym c.value_at-value.ensures) ∙ c.if-value-s.true)
 
-pub returns-then-value-s : goal.returns
-returns-then-value-s c =
+pub returns : goal.returns
+returns c =
     λ e. beaten-peak _ _ c.requires.searchable _ _ c.requires.inside (c.is_overtopped.ensures (not-false _ e))

@@ -56,5 +56,5 @@ loop-y-preserved c = (
   low-more _ _ _ _ _ (omega arith) c.loop-y.invariant.1 (c.is_low_row.ensures (not-false _ c.if-not-is_low_row.false-raw)),
 )
 
-pub returns-then-y1-y : goal.returns
-returns-then-y1-y c = passed-all _ _ _ _ _ c.loop-y.invariant.0 _ _ (omega arith)
+pub returns : goal.returns
+returns c = passed-all _ _ _ _ _ c.loop-y.invariant.0 _ _ (omega arith)

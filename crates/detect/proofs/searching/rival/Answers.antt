@@ -13,8 +13,8 @@ returns-then-beside c =
       itself = λ e. absurd (false≢true (sym e ∙ c.if-beside.true));
     }
 
-pub returns-then-beside : goal.returns
-returns-then-beside c =
+pub returns : goal.returns
+returns c =
     record {
       of_four = λ e. absurd (false≢true (sym c.if-beside.false ∙ e));
       itself = λ e. refl;

@@ -24,7 +24,7 @@ pub cells_passed-requires-2 : goal.cells_passed-requires-2
 cells_passed-requires-2 c =
     run-in-as _ _ _ _ _ (lt-ltb 0 c.args.s.window (omega arith)) c.requires
 
-pub returns-then-s-eq0 : goal.returns
-returns-then-s-eq0 c =
+pub returns : goal.returns
+returns c =
     run-passed-as _ _ _ _ _ _ _ _ _ (sym (lt-ltb 0 c.args.s.window (omega arith))) (sym c.if-s.false)
     c.cells_passed-2.ensures

@@ -23,5 +23,5 @@ returns-then-x1-r-ge-RUN c = c.skip_runs-r.ensures.0
 pub skip_cells-requires : goal.skip_cells-requires
 skip_cells-requires c = record { searchable = c.requires.searchable; border_le_y = c.requires.border_le_y; border_le_x = omega (arith, c.requires.border_le_x, c.skip_runs-r.ensures.0.onward) }
 
-pub returns-then-x1-x : goal.returns
-returns-then-x1-x c = skipped-on _ _ _ _ _ c.skip_runs-r.ensures.0 _ c.skip_cells.ensures
+pub returns : goal.returns
+returns c = skipped-on _ _ _ _ _ c.skip_runs-r.ensures.0 _ c.skip_cells.ensures

@@ -32,5 +32,5 @@ loop-x-preserved c =
     skipped-cell c.args.map.now c.args.s c.args.x c.args.y _ c.loop-x.invariant (omega (arith, i.right)) (omega (arith, i.bottom))
     (c.may_be_peak.ensures c.if-may_be_peak.false)
 
-pub returns-then-may_be_peak : goal.returns
-returns-then-may_be_peak c = c.loop-x.invariant
+pub returns : goal.returns
+returns c = c.loop-x.invariant

@@ -85,8 +85,8 @@ loop-x-preserved c =
       omega (arith, room (goal.at.loop-x-preserved c).Else-x1-x-lt-RUN, c.minus-x1.ensures),
     )
 
-pub returns-then-x1-x-lt-RUN : goal.returns
-returns-then-x1-x-lt-RUN c = (c.loop-x.invariant.0, omega (arith, c.loop-x.invariant.1, c.minus-x1.ensures))
+pub returns : goal.returns
+returns c = (c.loop-x.invariant.0, omega (arith, c.loop-x.invariant.1, c.minus-x1.ensures))
 
 pub overflow_mul-a : goal.overflow_mul-a
 overflow_mul-a c = omega (arith, small c)

@@ -47,5 +47,5 @@ loop-n-preserved c = (
 pub shape_of-table : goal.shape_of-table
 shape_of-table c = c.loop-n.invariant.1
 
-pub returns-then-y1-p : goal.returns
-returns-then-y1-p c = c.loop-n.invariant.0.listed
+pub returns : goal.returns
+returns c = c.loop-n.invariant.0.listed

@@ -41,7 +41,7 @@ shape_of-strengths c = search rules
 pub shape_of-neighbours : goal.shape_of-neighbours
 shape_of-neighbours c = search rules
 
-pub returns-in_default : goal.returns
-returns-in_default c =
+pub returns : goal.returns
+returns c =
     box-adds _ _ _ _ _ _ _ _ _ c.requires _ _ _ c.inner_patch-m.ensures _ _ c.in-Cells.is
     c.margin.ensures c.args.exact _ _ _ _ c.add_map_corners.ensures

@@ -8,5 +8,5 @@ returns-then-fit c = simp c.if-fit.true
 pub shape_of-levels : goal.shape_of-levels
 shape_of-levels c = search rules
 
-pub returns-then-fit : goal.returns
-returns-then-fit c = simp (c.if-fit.false, c.clear_bytes.ensures)
+pub returns : goal.returns
+returns c = simp (c.if-fit.false, c.clear_bytes.ensures)

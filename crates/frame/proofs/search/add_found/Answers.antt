@@ -110,8 +110,8 @@ shape_of-cs c = search rules
 pub shape_of-cn : goal.shape_of-cn
 shape_of-cn c = search rules
 
-pub returns-then-n-eq1 : goal.returns
-returns-then-n-eq1 c =
+pub returns : goal.returns
+returns c =
     let all : c.loop-i.i ≡ c.args.m = omega arith in
     let seeds = slices c.args.sx.now c.args.sy.now c.args.ss.now c.args.sn.now in
     found-boxes (choice_of c.args.p c.args.exact) _ _ _ _ _ c.if-n-eq1.false _ c.minus-k.ensures _ _ _ _

@@ -56,8 +56,8 @@ shape_of-strengths c = search rules
 pub shape_of-neighbours : goal.shape_of-neighbours
 shape_of-neighbours c = search rules
 
-pub returns-in_default : goal.returns
-returns-in_default c =
+pub returns : goal.returns
+returns c =
     about-added (choice_of c.args.p c.args.exact) _ _ _ _ _ _ _ c.box_of-b.ensures _ _ _ _
     c.in-Bounds.is
     _ _ _ _

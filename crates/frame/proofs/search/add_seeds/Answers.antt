@@ -35,8 +35,8 @@ shape_of-ss c = search rules
 pub shape_of-sn : goal.shape_of-sn
 shape_of-sn c = search rules
 
-pub returns-then-n-lt2 : goal.returns
-returns-then-n-lt2 c =
+pub returns : goal.returns
+returns c =
     last-seeds _ _ _ _ _ _ c.requires.built_levels c.if-n-lt2.false _ refl _ c.requires.frame_checked _
     c.level-last.ensures _ _ refl refl
     (choice_of c.args.p c.args.exact) _ _ _ c.add_image_corners.ensures

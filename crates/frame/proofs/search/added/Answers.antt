@@ -7,5 +7,5 @@ use Rattle.frame.proofs.search.added.Goals as goal
 pub returns-in_default : goal.returns-in_default
 returns-in_default c = sym (ap added_of c.in_default.is)
 
-pub returns-in_default : goal.returns
-returns-in_default c = sym (ap added_of c.in-Added.is)
+pub returns : goal.returns
+returns c = sym (ap added_of c.in-Added.is)

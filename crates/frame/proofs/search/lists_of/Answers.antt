@@ -11,5 +11,5 @@ returns-in_default c = sym (ap (λ (f : Peaks). lists_of f c.args.g) c.in_defaul
 pub returns-in_default-g : goal.returns-in_default-g
 returns-in_default-g c = sym (ap₂ lists_of c.in-Added.is c.in_default-g.is)
 
-pub returns-in_default : goal.returns
-returns-in_default c = sym (ap₂ lists_of c.in-Added.is c.in-Added-g.is)
+pub returns : goal.returns
+returns c = sym (ap₂ lists_of c.in-Added.is c.in-Added-g.is)

@@ -6,5 +6,5 @@ use Rattle.frame_writer.proofs.judging.is_large.Goals as goal
 pub returns-then-width-gt-LARGEST_STREAM_SIDE : goal.returns-then-width-gt-LARGEST_STREAM_SIDE
 returns-then-width-gt-LARGEST_STREAM_SIDE c = rw (lt-ltb largest_stream_side _ c.if-width-gt-LARGEST_STREAM_SIDE.true)
 
-pub returns-then-width-gt-LARGEST_STREAM_SIDE : goal.returns
-returns-then-width-gt-LARGEST_STREAM_SIDE c = rw (le-ltb largest_stream_side _ c.if-width-gt-LARGEST_STREAM_SIDE.false)
+pub returns : goal.returns
+returns c = rw (le-ltb largest_stream_side _ c.if-width-gt-LARGEST_STREAM_SIDE.false)

@@ -16,6 +16,6 @@ returns-then-header-gt65535 c =
       lt-ltb 65535 _ c.if-header-gt65535.true,
     )
 
-pub returns-then-header-gt255 : goal.returns
-returns-then-header-gt255 c =
+pub returns : goal.returns
+returns c =
     rw (le-ltb 255 _ c.if-header-gt255.false, le-ltb 255 _ c.if-header-gt255-2.false, le-ltb 65535 _ c.if-header-gt65535.false)

@@ -76,9 +76,9 @@ returns-then-places-length_of c =
     frame-long c.args.header c.args.pixels.now ∙ sym c.length_of.ensures in
     rw (sides (goal.at.returns-then-places-length_of c).Else-is_large, size (goal.at.returns-then-places-length_of c).Else-pixels-header, range (goal.at.returns-then-places-length_of c).Else-is_outside, narrow (goal.at.returns-then-places-length_of c).Else-is_too_wide, radius (goal.at.returns-then-places-length_of c).Else-is_outside-2, long, lt-ltb _ _ c.if-places-length_of.true)
 
-pub returns-then-is_large : goal.returns
+pub returns : goal.returns
 unfolding refusal_of
-returns-then-is_large c =
+returns c =
     let long : length (frame_bytes c.args.header c.args.pixels.now) ≡ c.length_of.result =
     frame-long c.args.header c.args.pixels.now ∙ sym c.length_of.ensures in
     rw (sides (goal.at.returns c).Else-is_large, size (goal.at.returns c).Else-pixels-header, range (goal.at.returns c).Else-is_outside, narrow (goal.at.returns c).Else-is_too_wide, radius (goal.at.returns c).Else-is_outside-2, long, le-ltb _ _ c.if-places-length_of.false)

@@ -14,6 +14,6 @@ pub returns-then-pixels-place : goal.returns-then-pixels-place
 unfolding record_byte
 returns-then-pixels-place c = rw (ne_eqb _ 0 c.if-column-eq0.false) (sym (get_or-eq_default c.args.pixels.now 0 c.if-pixels-place.true))
 
-pub returns-then-column-eq0 : goal.returns
+pub returns : goal.returns
 unfolding record_byte
-returns-then-column-eq0 c = rw (ne_eqb _ 0 c.if-column-eq0.false)
+returns c = rw (ne_eqb _ 0 c.if-column-eq0.false)

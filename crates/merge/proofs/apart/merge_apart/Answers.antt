@@ -35,6 +35,6 @@ shape_of-ms c = search rules
 pub shape_of-mn : goal.shape_of-mn
 shape_of-mn c = search rules
 
-pub returns-then-number-ne0 : goal.returns
-returns-then-number-ne0 c =
+pub returns : goal.returns
+returns c =
     leaves_kept _ _ _ _ _ _ (judged (goal.at.returns c).After-refusal_apart-number) c.if-number-ne0.false c.merge_into.ensures

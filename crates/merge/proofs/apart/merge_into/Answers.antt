@@ -40,7 +40,7 @@ shape_of-ms c = search rules
 pub shape_of-mn : goal.shape_of-mn
 shape_of-mn c = search rules
 
-pub returns-then-is_off : goal.returns
-returns-then-is_off c =
+pub returns : goal.returns
+returns c =
     left-on _ (list (goal.at.returns c).Start) _ _ _ _ _ (sym c.is_off.ensures ∙ c.if-is_off.false) c.grid_of-g.ensures
     (left-settled c.grid_of-g.result true (list (goal.at.returns c).Start) _ _ _ _ c.requires c.settle_list.ensures.settles)

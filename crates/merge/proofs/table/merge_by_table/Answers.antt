@@ -40,7 +40,7 @@ shape_of-neighbours c = search rules
 pub shape_of-table : goal.shape_of-table
 shape_of-table c = search rules
 
-pub returns-then-number-ne0 : goal.returns
-returns-then-number-ne0 c =
+pub returns : goal.returns
+returns c =
     by-table-kept _ _ _ c.args.table.now _ c.refusal-number.ensures c.if-number-ne0.false _ _
     c.merge_list.ensures.0 _ c.merge_list.ensures.1

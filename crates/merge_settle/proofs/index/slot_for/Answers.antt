@@ -36,6 +36,6 @@ loop-p-preserved c = (
   below_more _ _ c.loop-p.invariant.3 (λ h e. c.if-i-eq-EMPTY.false (sym (held (goal.at.loop-p-preserved c).After-to_bits-i) ∙ e)),
 )
 
-pub returns-then-i-eq-EMPTY : goal.returns
-returns-then-i-eq-EMPTY c =
+pub returns : goal.returns
+returns c =
     record { from = omega arith; full = λ q l m. c.loop-p.invariant.3 q (omega arith) l; here = inl (omega (arith, slots-long c.args.table.now)) }

@@ -28,8 +28,8 @@ loop-i-preserved c = (
   below_more _ _ c.loop-i.invariant.1 (λ e. false≢true (sym c.if-is_joined.false ∙ sym (tested (goal.at.loop-i-preserved c).After-is_joined) ∙ e)),
 )
 
-pub returns-then-is_joined : goal.returns
-returns-then-is_joined c =
+pub returns : goal.returns
+returns c =
     record {
       at_most = omega arith;
       passes = λ l. absurd (let no : ⊥ = omega arith in no);

@@ -33,5 +33,5 @@ returns-then-i-eq-EMPTY c =
 pub loop-slot-preserved : goal.loop-slot-preserved
 loop-slot-preserved c = (looking-read _ _ _ _ _ _ c.loop-slot.invariant.0 _ (held (goal.at.loop-slot-preserved c).After-to_bits-i) _ c.lower_of-low.ensures, omega arith, omega arith)
 
-pub returns-then-i-eq-EMPTY : goal.returns
-returns-then-i-eq-EMPTY c = looking-end _ _ _ _ _ _ c.loop-slot.invariant.0 _ c.first_joined.ensures
+pub returns : goal.returns
+returns c = looking-end _ _ _ _ _ _ c.loop-slot.invariant.0 _ c.first_joined.ensures

@@ -6,5 +6,5 @@ use Rattle.merge_settle.proofs.settling.given_at.Goals as goal
 pub returns-then-apart : goal.returns-then-apart
 returns-then-apart c = given-apart _ _ _ _ _ c.if-apart.true c.corner_at.ensures
 
-pub returns-then-apart : goal.returns
-returns-then-apart c = given-here _ _ _ _ _ c.if-apart.false c.corner_at-2.ensures
+pub returns : goal.returns
+returns c = given-here _ _ _ _ _ c.if-apart.false c.corner_at-2.ensures

@@ -71,5 +71,5 @@ shape_of-ns c = stepped-neighbours _ _ _ _ _ _ _ _ c.loop-i.invariant.0 c.requir
 pub shape_of-table : goal.shape_of-table
 shape_of-table c = omega (arith, c.loop-i.invariant.2, c.list_kept.auto)
 
-pub returns-then-most-k : goal.returns
-returns-then-most-k c = stops_end _ _ _ _ _ _ _ _ _ _ c.loop-i.invariant.0 c.loop-i-test.false
+pub returns : goal.returns
+returns c = stops_end _ _ _ _ _ _ _ _ _ _ c.loop-i.invariant.0 c.loop-i-test.false

@@ -33,8 +33,8 @@ returns-in_default-span_on c =
     (sym c.span_on.ensures ∙ c.in-Ends.is)
     (sym c.span_on-2.ensures ∙ c.in_default-span_on.is)
 
-pub returns-then-number-ne0 : goal.returns
-returns-then-number-ne0 c =
+pub returns : goal.returns
+returns c =
     a-box _ _ _ c.refusal-number.ensures
     c.if-number-ne0.false _ _
     (sym c.span_on.ensures

@@ -26,9 +26,9 @@ returns-then-self-gt-LAST_LEVEL c =
       lt-leb _ _ c.if-self-gt-LAST_LEVEL.true,
     )
 
-pub returns-then-self-gt-LARGEST_RADIUS : goal.returns
+pub returns : goal.returns
 unfolding parameters_fit
-returns-then-self-gt-LARGEST_RADIUS c =
+returns c =
     rw (
       le-leb _ _ c.if-self-gt-LARGEST_RADIUS.false,
       le-leb _ _ c.if-self-gt-LARGEST_RADIUS-2.false,

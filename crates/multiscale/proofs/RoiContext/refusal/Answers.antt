@@ -17,6 +17,6 @@ returns-then-parameters_fit c =
     outside _ _ (sym c.is_large.ensures ∙ c.if-is_large.false) (sym c.parameters_fit.ensures ∙ c.if-parameters_fit.true)
     (sym c.is_inside.ensures ∙ c.if-is_inside.false)
 
-pub returns-then-is_large : goal.returns
-returns-then-is_large c =
+pub returns : goal.returns
+returns c =
     unfit _ _ (sym c.is_large.ensures ∙ c.if-is_large.false) (sym c.parameters_fit.ensures ∙ c.if-parameters_fit.false)

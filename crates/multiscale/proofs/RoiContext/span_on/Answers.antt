@@ -21,8 +21,8 @@ span_about-requires c = (
   c.requires.1,
 )
 
-pub returns-in_default : goal.returns
-returns-in_default c =
+pub returns : goal.returns
+returns c =
     about-centre c.args.self c.args.side c.args.x _ (scale-is c.args.self c.requires.0) _
     c.round_half_away-centre.ensures.answer _ _ _ _
     c.in-Natural.is c.roi_radius.ensures c.border.ensures

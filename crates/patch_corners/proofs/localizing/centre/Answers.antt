@@ -12,8 +12,8 @@ returns-in_default c =
     not-accepted c.refine-o.result c.args.c c.in_default.in_default-own.keys2
     ∙ ap (λ (o : Outcome). centre_or_seed o c.args.c) c.refine-o.ensures.answer
 
-pub returns-in_default : goal.returns
+pub returns : goal.returns
 unfolding centred
-returns-in_default c =
+returns c =
     ap (λ (o : Outcome). centre_or_seed o c.args.c)
     (sym c.in-Accepted.is ∙ c.refine-o.ensures.answer)

@@ -10,8 +10,8 @@ returns-then-y-radius c = span-above _ _ _ _ _ _ _ c.requires.0 c.if-y-radius.tr
 pub returns-then-h-y : goal.returns-then-h-y
 returns-then-h-y c = span_below _ _ _ _ _ _ _ c.requires.0 (near-edge _ _ _ c.if-h-y.true)
 
-pub returns-then-y-radius : goal.returns
-returns-then-y-radius c =
+pub returns : goal.returns
+returns c =
     span-row _ _ _ _ _ _ _ c.requires.0
     c.args.radius _ c.minus.result c.minus.result c.minus.result _ c.if-y-radius.false
     (off-edge _ _ _ c.if-h-y.false)

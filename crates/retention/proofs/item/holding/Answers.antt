@@ -10,5 +10,5 @@ returns-then-number-ne0 c = refused-told _ _ _ _ c.refusal-number.ensures c.if-n
 pub state-requires : goal.state-requires
 state-requires c = (sound _ _ _ (sym c.refusal-number.ensures ∙ c.if-number-ne0.false)).early
 
-pub returns-then-number-ne0 : goal.returns
-returns-then-number-ne0 c = state-told _ _ _ _ (sym c.refusal-number.ensures ∙ c.if-number-ne0.false) c.state.ensures
+pub returns : goal.returns
+returns c = state-told _ _ _ _ (sym c.refusal-number.ensures ∙ c.if-number-ne0.false) c.state.ensures

@@ -24,9 +24,9 @@ returns-then-time-gt-LATEST c =
       lt-ltb (2 ^ 40) c.args.time c.if-time-gt-LATEST.true,
     )
 
-pub returns-then-not-is_known : goal.returns
+pub returns : goal.returns
 unfolding refusal_of
-returns-then-not-is_known c =
+returns c =
     rw (
       ← c.is_known.ensures,
       c.if-not-is_known.false-raw,

@@ -28,6 +28,6 @@ list_records-requires c = (
   c.list_records-arg-1.given.0.1,
 )
 
-pub returns-then-fault-ne0 : goal.returns
-returns-then-fault-ne0 c =
+pub returns : goal.returns
+returns c =
     lines-written _ _ _ _ (sym c.time-fault.ensures ∙ c.if1.false) c.list_records.ensures

@@ -54,5 +54,5 @@ loop-at-preserved c =
 pub shape_of-out : goal.shape_of-out
 shape_of-out c = wrote-length c.loop-at.invariant.wrote
 
-pub returns-then-fault-ne0 : goal.returns
-returns-then-fault-ne0 c = listed-all _ _ _ _ _ c.loop-at.invariant (rw c.lesser-stop.ensures at c.loop-at-test.false)
+pub returns : goal.returns
+returns c = listed-all _ _ _ _ _ c.loop-at.invariant (rw c.lesser-stop.ensures at c.loop-at-test.false)

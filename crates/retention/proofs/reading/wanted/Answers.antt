@@ -25,5 +25,5 @@ pub loop-passed-preserved : goal.loop-passed-preserved
 loop-passed-preserved c =
     passing-next _ _ _ c.loop-passed.invariant c.loop-passed-test.true (sym c.item_fault.ensures ∙ c.if-item_fault-ne0.false)
 
-pub returns-then-item_fault-ne0 : goal.returns
-returns-then-item_fault-ne0 c = passing-all _ _ _ c.loop-passed.invariant c.loop-passed-test.false
+pub returns : goal.returns
+returns c = passing-all _ _ _ c.loop-passed.invariant c.loop-passed-test.false

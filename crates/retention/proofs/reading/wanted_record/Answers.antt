@@ -17,9 +17,9 @@ returns-then-not-is_known c =
       not-true c.is_known.result c.if-not-is_known.true-raw,
     )
 
-pub returns-then-input-at : goal.returns
+pub returns : goal.returns
 unfolding wanted_record
-returns-then-input-at c =
+returns c =
     rw (
       lt-leb _ _ c.if-input-at.false,
       ← c.is_known.ensures,

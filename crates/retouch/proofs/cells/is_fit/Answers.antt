@@ -6,5 +6,5 @@ use Rattle.retouch.proofs.cells.is_fit.Goals as goal
 pub returns-then-at-place : goal.returns-then-at-place
 returns-then-at-place c = rw (lt-leb _ _ c.if-at-place.true)
 
-pub returns-then-at-place : goal.returns
-returns-then-at-place c = rw (le-leb _ _ c.if-at-place.false)
+pub returns : goal.returns
+returns c = rw (le-leb _ _ c.if-at-place.false)

@@ -85,7 +85,7 @@ slice_bounds-chess_response_u8_patch-end c = omega (arith, found c)
 pub shape_of-map : goal.shape_of-map
 shape_of-map c = search rules
 
-pub returns-then-not-is_fit : goal.returns
-returns-then-not-is_fit c =
+pub returns : goal.returns
+returns c =
     cell-redone _ _ _ _ (pixel (goal.at.returns c).Start) _ c.requires (place (goal.at.returns c).Start) (across (goal.at.returns c).Else-not-is_fit-2) (down (goal.at.returns c).Else-not-is_fit-2) _ _ _
     (part_length (at (goal.at.returns c).Start) 1 _ (omega (arith, found (goal.at.returns c).Else-not-is_fit-2))) c.chess_response_u8_patch.ensures
