@@ -32,7 +32,7 @@ small c = row_small _ _ _ _ _ c.requires (stored c.before.before) _ c.loop-yy-te
 
 fits : (c : After-count_above-n) → c.loop-yy.n + c.count_above-n.result ≤ largest_window
 fits c =
-    count_fits _ _ _ _ _ c.requires (stored c.before.before.before.before) _ c.loop-yy-test.taken _ c.loop-yy.invariant _
+    count_fits _ _ _ _ _ c.requires (stored c.before.before.before.before) _ c.loop-yy-test.true _ c.loop-yy.invariant _
     c.count_above-n.ensures
 
 pub loop-yy-init : goal.loop-yy-init
@@ -46,7 +46,7 @@ overflow_add-n c = omega (arith, fits c)
 
 pub loop-yy-preserved : goal.loop-yy-preserved
 loop-yy-preserved c =
-    count_next _ _ _ _ _ c.requires (stored (goal.at.loop-yy-preserved c).Start) _ c.loop-yy-test.taken _ c.loop-yy.invariant _
+    count_next _ _ _ _ _ c.requires (stored (goal.at.loop-yy-preserved c).Start) _ c.loop-yy-test.true _ c.loop-yy.invariant _
     c.count_above-n.ensures
 
 pub overflow_mul-y : goal.overflow_mul-y
