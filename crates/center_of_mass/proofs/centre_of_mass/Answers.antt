@@ -1,0 +1,84 @@
+-- `center_of_mass::centre_of_mass` meets its contract: what the two centres and the sums ensure, put together. Assumes nothing.
+use mathlib.Core.Path.{◌≡◌, sym, ◌∙◌}
+use Prim.Native.Nat.{ℕ, ◌+◌, ◌≤◌, ◌<◌}
+use native.Mathlib.Omega.{arith}
+use lib.Ieee.{of_bits}
+use borrow.Author.Rules.{rules}
+use Rattle.center_of_mass.specs.declared.Centre.TheVariants.{At}
+use Rattle.center_of_mass.specs.CenterOfMass.{centre_on}
+use Rattle.center_of_mass.proofs.Window.{rows_in}
+use Rattle.center_of_mass.proofs.Axis.{window-in}
+use Rattle.center_of_mass.proofs.Outcomes.{no-column, no_row, with-mass, no-mass}
+use Rattle.center_of_mass.proofs.centre_of_mass.Goals as goal
+use Rattle.center_of_mass.proofs.centre_of_mass.Goals.{In-At-down}
+
+pub returns-in_default : goal.returns-in_default
+returns-in_default c =
+    no-column c.args.r c.args.x c.args.y c.args.map.now c.args.w c.args.h (sym c.centre_on-across.ensures ∙ c.in_default.is)
+
+pub returns-in_default-down : goal.returns-in_default-down
+returns-in_default-down c =
+    no_row c.args.r c.args.x c.args.y c.args.map.now c.args.w c.args.h (sym c.centre_on-down.ensures ∙ c.in_default-down.is)
+
+-- before the sums: the function's entry, and both centres, about which the window lies within the map
+
+abbrev cx : In-At-down → ℕ
+cx c = c.in-At.cx
+
+abbrev cy : In-At-down → ℕ
+cy c = c.in-At-down.cy
+
+column-at : (c : In-At-down) → centre_on c.args.r c.args.w c.args.x ≡ At (cx c)
+column-at c =
+    sym c.centre_on-across.ensures
+    ∙ c.in-At.is
+
+row_at : (c : In-At-down) → centre_on c.args.r c.args.h c.args.y ≡ At (cy c)
+row_at c = sym c.centre_on-down.ensures ∙ c.in-At-down.is
+
+columns-in : (c : In-At-down) → (c.args.r ≤ cx c) × (cx c + c.args.r < c.args.w)
+columns-in c = window-in _ _ _ _ (sym (column-at c))
+
+rows-in-map : (c : In-At-down) → (c.args.r ≤ cy c) × (cy c + c.args.r < c.args.h)
+rows-in-map c = window-in _ _ _ _ (sym (row_at c))
+
+pub overflow_sub-cx : goal.overflow_sub-cx
+overflow_sub-cx c = (columns-in c).0
+
+pub overflow_add-cx : goal.overflow_add-cx
+overflow_add-cx c = record { fits = omega (arith, columns-in c, c.requires) }
+
+pub overflow_add-cx-2 : goal.overflow_add-cx-2
+overflow_add-cx-2 c = record { fits = omega (arith, columns-in c, c.requires) }
+
+pub overflow_sub-cy : goal.overflow_sub-cy
+overflow_sub-cy c = (rows-in-map c).0
+
+pub overflow_add-cy : goal.overflow_add-cy
+overflow_add-cy c = record { fits = omega (arith, rows-in-map c, c.requires) }
+
+pub overflow_add-cy-2 : goal.overflow_add-cy-2
+overflow_add-cy-2 c = record { fits = omega (arith, rows-in-map c, c.requires) }
+
+pub window_sums-s-requires : goal.window_sums-s-requires
+window_sums-s-requires c =
+    let k = columns-in c in
+    let l = rows-in-map c in (
+      omega arith,
+      c.requires.1,
+      omega arith,
+      rows_in (cy c + c.args.r + 1) c.args.w c.args.h _ (omega arith) c.requires.3,
+    )
+
+pub returns-then-s : goal.returns-then-s
+unfolding of_bits
+returns-then-s c =
+    with-mass c.args.r c.args.x c.args.y c.args.map.now c.args.w c.args.h (cx (goal.at.returns-then-s c).In-At-down) (cy (goal.at.returns-then-s c).In-At-down) (column-at (goal.at.returns-then-s c).In-At-down) (row_at (goal.at.returns-then-s c).In-At-down)
+    c.window_sums-s.result c.window_sums-s.ensures
+    c.if-s.true
+
+pub returns : goal.returns
+unfolding of_bits
+returns c =
+    no-mass c.args.r c.args.x c.args.y c.args.map.now c.args.w c.args.h (cx (goal.at.returns c).In-At-down) (cy (goal.at.returns c).In-At-down) (column-at (goal.at.returns c).In-At-down) (row_at (goal.at.returns c).In-At-down) c.window_sums-s.result
+    c.window_sums-s.ensures c.if-s.false

@@ -1,0 +1,48 @@
+-- `corner_strike::strike_corner` meets its contract: refused, or the corner at the place removed. Assumes nothing.
+use native.Mathlib.Omega.{arith}
+use borrow.Author.Rules.{rules}
+use Rattle.corner_list.specs.CornerList.{Slices, slices, places_of}
+use Rattle.corner_strike.specs.Editions.{edition}
+use Rattle.corner_strike.proofs.Judging.{Strikable, strike-granted, strike-refused, strike-struck}
+use Rattle.corner_strike.proofs.striking.strike_corner.Goals as goal
+use Rattle.corner_strike.proofs.striking.strike_corner.Goals.{Else-number-ne0, Start}
+
+abbrev buffer : Start → Slices
+buffer s = slices s.args.xs.now s.args.ys.now s.args.strengths.now s.args.neighbours.now
+
+-- nothing refuses
+granted : (c : Else-number-ne0)
+    →
+    Strikable (places_of (buffer c.before.before.before.before.before.before.before.before.before)) (edition c.args.count.now c.args.change.now) c.args.place c.args.shown
+granted c =
+    strike-granted (buffer c.before.before.before.before.before.before.before.before.before) _ _ _ c.places-places.ensures _ _ c.refusal-number.ensures
+    c.if-number-ne0.false
+
+pub returns-then-number-ne0 : goal.returns-then-number-ne0
+returns-then-number-ne0 c = strike-refused _ _ _ _ c.places-places.ensures _ _ c.refusal-number.ensures c.if-number-ne0.true
+
+pub remove_corner-requires : goal.remove_corner-requires
+remove_corner-requires c = let g = granted (goal.at.remove_corner-requires c).Else-number-ne0 in (g.inside, g.fits)
+
+pub overflow_sub-left : goal.overflow_sub-left
+overflow_sub-left c = omega (arith, (granted (goal.at.overflow_sub-left c).Else-number-ne0).inside)
+
+pub overflow_add-raised : goal.overflow_add-raised
+overflow_add-raised c = omega (arith, (granted (goal.at.overflow_add-raised c).Else-number-ne0).not-largest)
+
+pub shape_of-xs : goal.shape_of-xs
+shape_of-xs c = search rules
+
+pub shape_of-ys : goal.shape_of-ys
+shape_of-ys c = search rules
+
+pub shape_of-strengths : goal.shape_of-strengths
+shape_of-strengths c = search rules
+
+pub shape_of-neighbours : goal.shape_of-neighbours
+shape_of-neighbours c = search rules
+
+pub returns : goal.returns
+returns c =
+    strike-struck _ _ _ _ c.places-places.ensures _ _ _ c.refusal-number.ensures c.if-number-ne0.false
+    c.remove_corner.ensures

@@ -1,0 +1,11 @@
+use Rattle.std.proofs.Common.{◌-◌, ◌≤◌, refl, arith, rules}
+use Rattle.detect.specs.Internal.{place}
+use Rattle.detect.proofs.Scanning.{next-inside}
+use Rattle.detect.proofs.Counting.{Searching, searching-first, searching-yes, searching-next, searching-no}
+use Rattle.detect.proofs.enough.search_for.Given as goal
+
+abbrev pub invariant-loop-i : goal.invariant-loop-i
+invariant-loop-i l = Searching l.map l.s l.rows l.i (place l.x l.y) × (l.i ≤ l.wanted)
+
+abbrev pub decreases-loop-i : goal.decreases-loop-i
+decreases-loop-i l = l.wanted - l.i

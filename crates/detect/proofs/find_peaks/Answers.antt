@@ -1,0 +1,86 @@
+-- `detect::find_peaks` meets its contract, answer by answer. Assumes nothing.
+use Rattle.std.proofs.Common.{ℕ, Bool, List, [], length, sym, ◌∙◌, rules}
+use lib.Ieee.{Float}
+use Rattle.corner_list.specs.CornerList.{Slices, slices}
+use Rattle.detect.specs.declared.Search.{Search}
+use Rattle.detect.specs.declared.Peaks.{Peaks}
+use Rattle.detect.specs.Detect.{search_by, starts_in, ties_in, conditions, PeaksAdded}
+use Rattle.detect.specs.Internal.{Searchable}
+use Rattle.detect.proofs.Answers.{Clear, clear, searchable, found-refused, found-clear}
+use Rattle.detect.proofs.find_peaks.Goals as goal
+use Rattle.detect.proofs.find_peaks.Goals.{After-search_of-s, Else-number-ne0}
+
+-- the function's start, from where no condition held
+
+-- ---- what it was given
+abbrev conditions-of : Else-number-ne0 → List (Bool × ℕ)
+conditions-of c = conditions (length c.args.map.now) c.args.w c.args.h c.args.ring c.args.window c.args.refine_radius
+
+abbrev map_of : Else-number-ne0 → List Float
+map_of c = c.args.map.now
+
+abbrev search-of : Else-number-ne0 → Search
+search-of c =
+    search_by c.args.exact c.args.w c.args.h c.args.ring c.args.threshold c.args.window c.args.least_neighbours c.args.refine_radius
+
+abbrev buffer-of : Else-number-ne0 → Slices
+buffer-of c = slices c.args.xs.now c.args.ys.now c.args.strengths.now c.args.neighbours.now
+
+-- ---- none of the conditions on the input holds, so its map can be searched
+fine : (c : Else-number-ne0) → Clear (conditions-of c)
+fine c = clear _ _ _ _ _ _ (sym c.refusal-number.ensures ∙ c.if-number-ne0.false)
+
+can-search : (c : After-search_of-s) → Searchable (map_of c.before) c.search_of-s.result
+can-search c = rw c.search_of-s.ensures (searchable _ _ _ _ _ _ _ _ _ (fine c.before))
+
+-- what is added is what the function promises
+adds : (c : After-search_of-s) (answer : Peaks) (b' : Slices)
+    →
+    PeaksAdded [] (starts_in (map_of c.before) c.search_of-s.result) (ties_in (map_of c.before) c.search_of-s.result) c.args.held
+    (buffer-of c.before) answer b'
+    → PeaksAdded (conditions-of c.before) (starts_in (map_of c.before) (search-of c.before)) (ties_in (map_of c.before) (search-of c.before)) c.args.held
+    (buffer-of c.before) answer b'
+adds c =
+    found-clear (map_of c.before) c.search_of-s.result (search-of c.before) c.search_of-s.ensures (conditions-of c.before) (fine c.before)
+    c.args.held (buffer-of c.before)
+
+pub returns-then-number-ne0 : goal.returns-then-number-ne0
+returns-then-number-ne0 c = found-refused _ _ _ _ _ _ c.refusal-number.ensures c.if-number-ne0.true
+
+pub add_peaks-requires : goal.add_peaks-requires
+add_peaks-requires c = can-search (goal.at.add_peaks-requires c).After-search_of-s
+
+pub shape_of-xs-then-map-lt-LARGE_MAP : goal.shape_of-xs-then-map-lt-LARGE_MAP
+shape_of-xs-then-map-lt-LARGE_MAP c = search rules
+
+pub shape_of-ys-then-map-lt-LARGE_MAP : goal.shape_of-ys-then-map-lt-LARGE_MAP
+shape_of-ys-then-map-lt-LARGE_MAP c = search rules
+
+pub shape_of-strengths-then-map-lt-LARGE_MAP : goal.shape_of-strengths-then-map-lt-LARGE_MAP
+shape_of-strengths-then-map-lt-LARGE_MAP c = search rules
+
+pub shape_of-neighbours-then-map-lt-LARGE_MAP : goal.shape_of-neighbours-then-map-lt-LARGE_MAP
+shape_of-neighbours-then-map-lt-LARGE_MAP c = search rules
+
+pub returns-then-map-lt-LARGE_MAP : goal.returns-then-map-lt-LARGE_MAP
+returns-then-map-lt-LARGE_MAP c =
+    adds (goal.at.returns-then-map-lt-LARGE_MAP c).After-search_of-s c.add_peaks.result _ c.add_peaks.ensures
+
+pub add_peaks-requires-2 : goal.add_peaks-requires-2
+add_peaks-requires-2 c = can-search (goal.at.add_peaks-requires-2 c).After-search_of-s
+
+pub shape_of-xs : goal.shape_of-xs
+shape_of-xs c = search rules
+
+pub shape_of-ys : goal.shape_of-ys
+shape_of-ys c = search rules
+
+pub shape_of-strengths : goal.shape_of-strengths
+shape_of-strengths c = search rules
+
+pub shape_of-neighbours : goal.shape_of-neighbours
+shape_of-neighbours c = search rules
+
+pub returns : goal.returns
+returns c =
+    adds (goal.at.returns c).After-search_of-s c.add_peaks-2.result _ c.add_peaks-2.ensures

@@ -1,0 +1,20 @@
+-- `detect::neighbors::count_cells` meets its contract: what is counted and the count from i on make the whole count. Assumes nothing.
+use Rattle.std.proofs.Common.{◌-◌, length, sym, ◌∙◌, ⊎_elim, rules}
+use Rattle.lists.proofs.Scan.{CountTo, count-start, count-hit, count-miss, count-end}
+use Rattle.detect.specs.Internal.{is_counted}
+use Rattle.detect.proofs.neighbors.count_cells.Goals as goal
+
+pub loop-i-init : goal.loop-i-init
+loop-i-init c = count-start (is_counted c.args.asked c.args.v) _
+
+pub loop-i-preserved : goal.loop-i-preserved
+loop-i-preserved c =
+    let f = is_counted c.args.asked c.args.v in
+    ⊎_elim
+    (λ w. count-hit f _ _ _ c.loop-i.invariant _ c.loop-i-test.true _ w.1 (sym c.is_counted.ensures ∙ w.0.taken))
+    (λ w. count-miss f _ _ _ c.loop-i.invariant _ c.loop-i-test.true _ w.1 (sym c.is_counted.ensures ∙ w.0.left))
+    c.if-is_counted.branch
+
+pub returns : goal.returns
+returns c =
+    count-end (is_counted c.args.asked c.args.v) _ _ _ c.loop-i.invariant c.loop-i-test.false

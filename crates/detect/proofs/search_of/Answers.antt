@@ -1,0 +1,6 @@
+-- `detect::search_of` meets its contract, field by field. Assumes nothing.
+use Rattle.std.proofs.Common.{rules}
+use Rattle.detect.proofs.search_of.Goals as goal
+
+pub returns : goal.returns
+returns c = rw c.threshold_of.ensures

@@ -1,0 +1,18 @@
+-- `detect::searching::count_low` meets its contract: what is counted and the count from i on make the whole count. Assumes nothing.
+use Rattle.std.proofs.Common.{◌-◌, length, ⊎_elim, rules}
+use Rattle.lists.proofs.Scan.{CountTo, count-start, count-hit, count-miss, count-end}
+use Rattle.detect.specs.Peaks.{is_low}
+use Rattle.detect.proofs.searching.count_low.Goals as goal
+
+pub loop-i-init : goal.loop-i-init
+loop-i-init c = count-start (is_low c.args.t) _
+
+pub loop-i-preserved : goal.loop-i-preserved
+loop-i-preserved c =
+    ⊎_elim
+    (λ w. count-hit (is_low c.args.t) _ _ _ c.loop-i.invariant _ c.loop-i-test.true _ w.1 w.0.taken)
+    (λ w. count-miss (is_low c.args.t) _ _ _ c.loop-i.invariant _ c.loop-i-test.true _ w.1 w.0.left)
+    c.if-cells-i.branch
+
+pub returns : goal.returns
+returns c = count-end (is_low c.args.t) _ _ _ c.loop-i.invariant c.loop-i-test.false

@@ -1,0 +1,60 @@
+-- `detect::searching::next_peak` meets its contract: the places passed over are no peaks. Assumes nothing.
+use Rattle.std.proofs.Common.{◌+◌, ◌-◌, ◌*◌, arith, rules}
+use borrow.Author.Tests.{not-false}
+use Rattle.detect.specs.Internal.{place, LowRows}
+use Rattle.detect.proofs.Scanning.{Passed, passed_none, passed-skip, passed-inside, passed-cell, passed-peak}
+use Rattle.detect.proofs.Scanning.{passed-row, passed-all}
+use Rattle.detect.proofs.Rows.{low-none, low-fewer, low-more}
+use Rattle.detect.proofs.searching.next_peak.Goals as goal
+use Rattle.detect.proofs.searching.next_peak.Goals.{After-skip-x, Else-x-x1}
+
+-- ---- places of the code: the function's start, from the loop; the turn, from where cells were skipped; and that, from the test of a cell
+
+-- where the search stands after the cells that it skips
+after-skip : (c : After-skip-x)
+    →
+    Passed c.args.map.now c.args.s (place c.args.x c.args.y) (place c.skip-x.result c.loop-y.y)
+after-skip c = passed-skip _ _ _ _ _ c.loop-y.invariant.0 _ c.skip-x.ensures
+
+-- at the end of a row
+row_done : (c : Else-x-x1)
+    →
+    Passed c.args.map.now c.args.s (place c.args.x c.args.y) (place c.args.s.border (c.loop-y.y + 1))
+row_done c = passed-row _ _ _ _ _ (after-skip c.before) (omega arith) (omega arith)
+
+pub returns-then-y1-y : goal.returns-then-y1-y
+returns-then-y1-y c =
+    passed-all _ _ _ _ _ (passed_none _ _ _ c.requires.border_le_x.0 c.requires.border_le_x.1) _ _ (omega arith)
+
+pub loop-y-init : goal.loop-y-init
+loop-y-init c =
+    (passed_none _ _ _ c.requires.border_le_x.0 c.requires.border_le_x.1, low-none _ _ _ _ (omega arith))
+
+pub skip-x-requires : goal.skip-x-requires
+skip-x-requires c = record { searchable = c.requires.searchable; border_le_y = (c.loop-y.invariant.0.top, omega arith); border_le_x = c.loop-y.invariant.0.left; low_rows = low-fewer _ _ _ _ _ c.loop-y.invariant.1 (omega arith) }
+
+pub peak_test-requires : goal.peak_test-requires
+peak_test-requires c = record { searchable = c.requires.searchable; inside = passed-inside _ _ _ _ _ (after-skip (goal.at.peak_test-requires c).After-skip-x) (omega arith) (omega arith) }
+
+pub returns-in-Peak : goal.returns-in-Peak
+returns-in-Peak c =
+    passed-peak _ _ _ _ _ (after-skip (goal.at.returns-in-Peak c).After-skip-x) (omega arith) (omega arith) _ c.peak_test.ensures _ _
+    c.in-Peak.is
+
+pub loop-y-preserved-then-x-x1 : goal.loop-y-preserved-then-x-x1
+loop-y-preserved-then-x-x1 c = (
+  passed-cell _ _ _ _ _ (after-skip (goal.at.loop-y-preserved-then-x-x1 c).After-skip-x) (omega arith) (omega arith) _ c.peak_test.ensures c.in_default.is,
+  c.loop-y.invariant.1,
+)
+
+pub loop-y-preserved-then-not-is_low_row : goal.loop-y-preserved-then-not-is_low_row
+loop-y-preserved-then-not-is_low_row c = (row_done (goal.at.loop-y-preserved-then-not-is_low_row c).Else-x-x1, low-none _ _ _ _ (omega arith))
+
+pub loop-y-preserved : goal.loop-y-preserved
+loop-y-preserved c = (
+  row_done (goal.at.loop-y-preserved c).Else-x-x1,
+  low-more _ _ _ _ _ (omega arith) c.loop-y.invariant.1 (c.is_low_row.ensures (not-false _ c.if-not-is_low_row.false-raw)),
+)
+
+pub returns : goal.returns
+returns c = passed-all _ _ _ _ _ c.loop-y.invariant.0 _ _ (omega arith)

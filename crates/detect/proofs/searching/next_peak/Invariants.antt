@@ -1,0 +1,13 @@
+use Rattle.std.proofs.Common.{◌+◌, ◌-◌, ◌*◌, arith, rules}
+use borrow.Author.Tests.{not-false}
+use Rattle.detect.specs.Internal.{place, LowRows}
+use Rattle.detect.proofs.Scanning.{Passed, passed_none, passed-skip, passed-inside, passed-cell, passed-peak}
+use Rattle.detect.proofs.Scanning.{passed-row, passed-all}
+use Rattle.detect.proofs.Rows.{low-none, low-fewer, low-more}
+use Rattle.detect.proofs.searching.next_peak.Given as goal
+
+abbrev pub invariant-loop-y : goal.invariant-loop-y
+invariant-loop-y l = Passed l.map l.s (place l.x-2 l.y-2) (place l.x l.y) × LowRows l.map l.s l.low (l.y + l.s.window)
+
+abbrev pub decreases-loop-y : goal.decreases-loop-y
+decreases-loop-y l = (l.y1 - l.y) * 4097 + (l.x1 - l.x)

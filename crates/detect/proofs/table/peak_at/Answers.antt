@@ -1,0 +1,13 @@
+-- `detect::table::peak_at` meets its contract: the table has what the search would find. Assumes nothing.
+use Rattle.std.proofs.Common.{arith, rules}
+use Rattle.detect.proofs.FirstPeaks.{next-taken, next-searched}
+use Rattle.detect.proofs.table.peak_at.Goals as goal
+
+-- the function's start, from where the peak is listed
+
+pub returns-then-i-n : goal.returns-then-i-n
+returns-then-i-n c =
+    next-taken _ _ _ _ _ _ c.requires.peaks_listed c.requires.search_start c.if-i-n.true _ c.spot_of_lem.ensures
+
+pub returns : goal.returns
+returns c = next-searched _ _ _ _ _ _ (omega arith) _ c.next_peak.ensures

@@ -1,0 +1,77 @@
+-- `frame::bands::add_band` meets its contract, by the laws of `InBands`. Assumes nothing.
+use Prim.Native.Nat.{ℕ, ◌-◌, ◌*◌, ◌≤◌}
+use native.Mathlib.Nat.{mul_comm}
+use native.Mathlib.Omega.{arith}
+use mathlib.Core.Path.{sym, ap, ◌∙◌}
+use lib.Seq.{length-take-le}
+use borrow.Author.Rules.{rules}
+use Rattle.frame.proofs.InBands.{band-order, band-end, band-small, band-held, band-adds}
+use Rattle.frame.proofs.bands.add_band.Goals as goal
+use Rattle.frame.proofs.bands.add_band.Goals.{After-border-b, After-slice_known-6-1}
+
+pub overflow_mul-j : goal.overflow_mul-j
+overflow_mul-j c =
+    omega (
+      arith,
+      band-order c.args.p c.args.img.now _ _ _ _ c.requires.1,
+      band-small c.args.p c.args.img.now _ _ _ _ c.requires.1 c.args.map.now c.requires.0,
+    )
+
+pub overflow_mul-e : goal.overflow_mul-e
+overflow_mul-e c =
+    omega (
+      arith,
+      band-order c.args.p c.args.img.now _ _ _ _ c.requires.1,
+      band-small c.args.p c.args.img.now _ _ _ _ c.requires.1 c.args.map.now c.requires.0,
+    )
+
+pub offset_bounds-map-j : goal.offset_bounds-map-j
+offset_bounds-map-j c =
+    omega (
+      arith,
+      band-order c.args.p c.args.img.now _ _ _ _ c.requires.1,
+      band-small c.args.p c.args.img.now _ _ _ _ c.requires.1 c.args.map.now c.requires.0,
+    )
+
+pub slice_bounds-chess_response_u8_patch-count : goal.slice_bounds-chess_response_u8_patch-count
+slice_bounds-chess_response_u8_patch-count c = band-order c.args.p c.args.img.now _ _ _ _ c.requires.1
+
+pub slice_bounds-chess_response_u8_patch-start : goal.slice_bounds-chess_response_u8_patch-start
+slice_bounds-chess_response_u8_patch-start c = band-order c.args.p c.args.img.now _ _ _ _ c.requires.1
+
+pub slice_bounds-chess_response_u8_patch-end : goal.slice_bounds-chess_response_u8_patch-end
+slice_bounds-chess_response_u8_patch-end c = band-end _ _ _ _ _ _ c.requires.1 c.args.map.now c.requires.0
+
+pub slice_bounds-add_row_corners-end : goal.slice_bounds-add_row_corners-end
+slice_bounds-add_row_corners-end c = search rules
+
+pub slice_bounds-add_row_corners-end-2 : goal.slice_bounds-add_row_corners-end-2
+slice_bounds-add_row_corners-end-2 c = sym (length-take-le _ _ (slice-reshare-prefix-add-row-corners (goal.at.slice_bounds-add_row_corners-end-2 c).After-slice_known-6-1))
+
+pub shape_of-map : goal.shape_of-map
+shape_of-map c = search rules
+
+pub shape_of-xs : goal.shape_of-xs
+shape_of-xs c = search rules
+
+pub shape_of-ys : goal.shape_of-ys
+shape_of-ys c = search rules
+
+pub shape_of-strengths : goal.shape_of-strengths
+shape_of-strengths c = search rules
+
+pub shape_of-neighbours : goal.shape_of-neighbours
+shape_of-neighbours c = search rules
+
+pub returns : goal.returns
+returns c =
+    let held = band-held c.args.p c.args.img.now _ _ _ _ c.requires.1 c.args.map.now c.requires.0 _ _
+    c.chess_response_u8_patch-m.ensures c.requires.2 in
+    let long = slice-reshare-prefix-add-row-corners (goal.at.returns c).After-border-b in (
+      band-adds c.args.p c.args.img.now _ _ _ _ c.requires.1 _
+          (record { sound = c.requires.0.sound; enough = omega (arith, long, mul_comm c.args.w c.args.h) }) c.args.exact held _ _
+          (c.minus.ensures ∙ ap (λ (k : ℕ). c.args.j - k) c.border-b.ensures)
+          (c.minus-2.ensures ∙ ap (λ (k : ℕ). c.args.e - k) c.border-b.ensures) _ _ _ _
+          c.add_row_corners.ensures,
+      held,
+    )

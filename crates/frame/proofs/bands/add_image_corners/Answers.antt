@@ -1,0 +1,137 @@
+-- `frame::bands::add_image_corners` meets its contract: a small map is one box; of a large one the corners of the rows that are complete
+-- stand first in the buffer, and their peaks' ties are summed. Assumes nothing.
+use Prim.Native.Nat.{◌-◌, ◌<◌, ◌≤◌}
+use native.Mathlib.Omega.{arith}
+use mathlib.Core.Path.{◌≡◌, refl}
+use lib.ListN.{length}
+use borrow.Author.Rules.{rules}
+use Rattle.ring.specs.Ring.{ring_of}
+use Rattle.response.specs.Patch.{whole}
+use Rattle.corner_list.specs.CornerList.{slices}
+use Rattle.detect.specs.declared.Peaks.TheVariants.{Added}
+use Rattle.frame.specs.Internal.{AddsCorners, RowsHeld, Band}
+use Rattle.frame.proofs.InBands.{some-sides, rows_none, band-next, corners_to, ties_to, bands-none, bands-more, bands-full, bands-all}
+use Rattle.frame.proofs.InBands.{bands-tied}
+use Rattle.frame.proofs.bands.add_image_corners.Goals as goal
+use Rattle.frame.proofs.bands.add_image_corners.Goals.{After-lesser-e, At-loop-j}
+
+-- an image of so many pixels has rows and columns
+sides : (c : At-loop-j) → (0 < c.args.w) × (0 < c.args.h)
+sides c = some-sides _ _ _ c.requires.sound.sized (omega (arith, c.if-img-le-ONE_MAP.false))
+
+-- the next band
+band : (c : After-lesser-e) →
+    Band c.args.w c.args.h c.loop-j.j c.lesser-e.result
+band c = band-next _ _ _ _ (sides c.before.before).0 c.loop-j-test.true c.lesser-e.ensures
+
+pub shape_of-map-then-img-le-ONE_MAP : goal.shape_of-map-then-img-le-ONE_MAP
+shape_of-map-then-img-le-ONE_MAP c = search rules
+
+pub shape_of-cx-then-img-le-ONE_MAP : goal.shape_of-cx-then-img-le-ONE_MAP
+shape_of-cx-then-img-le-ONE_MAP c = search rules
+
+pub shape_of-cy-then-img-le-ONE_MAP : goal.shape_of-cy-then-img-le-ONE_MAP
+shape_of-cy-then-img-le-ONE_MAP c = search rules
+
+pub shape_of-cs-then-img-le-ONE_MAP : goal.shape_of-cs-then-img-le-ONE_MAP
+shape_of-cs-then-img-le-ONE_MAP c = search rules
+
+pub shape_of-cn-then-img-le-ONE_MAP : goal.shape_of-cn-then-img-le-ONE_MAP
+shape_of-cn-then-img-le-ONE_MAP c = search rules
+
+pub loop-j-init : goal.loop-j-init
+loop-j-init c =
+    (omega arith, refl, refl, refl, refl, refl, rows_none _ _ _, bands-none c.args.p c.args.img.now _ _ c.args.exact _)
+
+pub overflow_add-j : goal.overflow_add-j
+overflow_add-j c = omega (arith, c.loop-j.invariant.0, c.requires.sound.low)
+
+pub add_band-f-requires : goal.add_band-f-requires
+add_band-f-requires c = (
+  record { sound = c.requires.sound; enough = omega (arith, c.requires.enough, c.loop-j.invariant.1) },
+  band (goal.at.add_band-f-requires c).After-lesser-e,
+  c.loop-j.invariant.6,
+)
+
+pub shape_of-map-in_default : goal.shape_of-map-in_default
+shape_of-map-in_default c = search rules
+
+pub shape_of-cx-in_default : goal.shape_of-cx-in_default
+shape_of-cx-in_default c = search rules
+
+pub shape_of-cy-in_default : goal.shape_of-cy-in_default
+shape_of-cy-in_default c = search rules
+
+pub shape_of-cs-in_default : goal.shape_of-cs-in_default
+shape_of-cs-in_default c = search rules
+
+pub shape_of-cn-in_default : goal.shape_of-cn-in_default
+shape_of-cn-in_default c = search rules
+
+pub returns-in_default : goal.returns-in_default
+returns-in_default c =
+    let some = sides (goal.at.returns-in_default c).At-loop-j in
+    let rows = (band (goal.at.returns-in_default c).After-lesser-e).some in
+    bands-all c.args.p c.args.img.now c.args.w c.args.h c.args.exact some.0 some.1 _ c.requires _ (omega arith)
+    (omega arith) _ _ _
+    (bands-full c.args.p c.args.img.now c.args.w c.args.h c.args.exact _ _ _ _ (omega arith) _ _ c.loop-j.invariant.7 _ _
+    c.add_band-f.ensures.0 _ c.in_default.is (band (goal.at.returns-in_default c).After-lesser-e).within)
+
+pub overflow_add-held : goal.overflow_add-held
+overflow_add-held c =
+    let some = (band (goal.at.overflow_add-held c).After-lesser-e).some in
+    let more = bands-more c.args.p c.args.img.now c.args.w c.args.h c.args.exact _ _ _ _ (omega arith) _ _ c.loop-j.invariant.7 _ _
+    c.add_band-f.ensures.0 _ _ c.in-Added.is in
+    omega (arith, (more.added _ _ refl).1, c.well_formed)
+
+pub overflow_add-ties : goal.overflow_add-ties
+overflow_add-ties c =
+    let some = sides (goal.at.overflow_add-ties c).At-loop-j in
+    let rows = (band (goal.at.overflow_add-ties c).After-lesser-e).some in
+    let more = bands-more c.args.p c.args.img.now c.args.w c.args.h c.args.exact _ _ _ _ (omega arith) _ _ c.loop-j.invariant.7 _ _
+    c.add_band-f.ensures.0 _ _ c.in-Added.is in
+    omega (
+      arith,
+      (more.added _ _ refl).3,
+      bands-tied c.args.p c.args.img.now c.args.w c.args.h c.args.exact some.0 some.1 _ c.requires
+          c.lesser-e.result (band (goal.at.overflow_add-ties c).After-lesser-e).within,
+    )
+
+pub loop-j-smaller : goal.loop-j-smaller
+loop-j-smaller c = let b = band (goal.at.loop-j-smaller c).After-lesser-e in omega (arith, b.some, b.within)
+
+pub loop-j-preserved : goal.loop-j-preserved
+loop-j-preserved c =
+    let some = (band (goal.at.loop-j-preserved c).After-lesser-e).some in
+    let more = bands-more c.args.p c.args.img.now c.args.w c.args.h c.args.exact _ _ _ _ (omega arith) _ _ c.loop-j.invariant.7 _ _
+    c.add_band-f.ensures.0 _ _ c.in-Added.is in (
+      (band (goal.at.loop-j-preserved c).After-lesser-e).within,
+      omega (arith, c.add_band-f.auto, c.loop-j.invariant.1),
+      omega (arith, c.add_band-f.auto, c.loop-j.invariant.2),
+      omega (arith, c.add_band-f.auto, c.loop-j.invariant.3),
+      omega (arith, c.add_band-f.auto, c.loop-j.invariant.4),
+      omega (arith, c.add_band-f.auto, c.loop-j.invariant.5),
+      c.add_band-f.ensures.1,
+      more,
+    )
+
+pub shape_of-map : goal.shape_of-map
+shape_of-map c = search rules
+
+pub shape_of-cx : goal.shape_of-cx
+shape_of-cx c = search rules
+
+pub shape_of-cy : goal.shape_of-cy
+shape_of-cy c = search rules
+
+pub shape_of-cs : goal.shape_of-cs
+shape_of-cs c = search rules
+
+pub shape_of-cn : goal.shape_of-cn
+shape_of-cn c = search rules
+
+pub returns : goal.returns
+returns c =
+    let some = sides (goal.at.returns c).At-loop-j in
+    bands-all c.args.p c.args.img.now c.args.w c.args.h c.args.exact some.0 some.1 _ c.requires _ c.loop-j.invariant.0
+    (omega arith) _ _ _ c.loop-j.invariant.7

@@ -1,0 +1,118 @@
+-- `frame::search::add_found` meets its contract: with one level by `Levels`; with more the corners of the boxes of the seeds passed stand
+-- first in the buffer, and their peaks' ties are summed. Assumes nothing.
+use borrow.Author.Rules.{rules}
+use Prim.Native.Nat.{◌+◌, ◌-◌, ◌≤◌}
+use native.Mathlib.Omega.{arith}
+use mathlib.Core.Path.{◌≡◌, refl}
+use lib.ListN.{length}
+use Rattle.lists.specs.Places.{flat_map, sum_of}
+use Rattle.lists.proofs.Tab.{length-tab}
+use Rattle.corner_list.specs.CornerList.{slices, corner_at, corners_of}
+use Rattle.detect.specs.declared.Peaks.TheVariants.{Added}
+use Rattle.patch_corners.specs.OneMap.{choice_of}
+use Rattle.frame_pass.specs.Pass.{corners_about, ties_about}
+use Rattle.frame_pass.proofs.Ties.{seeds-tied}
+use Rattle.frame.specs.Internal.{AddsCorners}
+use Rattle.frame.proofs.Adding.{adds-held, turn-none, turn_more, turn-full, turns-all, sum_fits}
+use Rattle.frame.proofs.Levels.{found-whole, found-boxes}
+use Rattle.frame.proofs.search.add_found.Goals as goal
+
+pub shape_of-map-then-n-eq1 : goal.shape_of-map-then-n-eq1
+shape_of-map-then-n-eq1 c = search rules
+
+pub shape_of-cx-then-n-eq1 : goal.shape_of-cx-then-n-eq1
+shape_of-cx-then-n-eq1 c = search rules
+
+pub shape_of-cy-then-n-eq1 : goal.shape_of-cy-then-n-eq1
+shape_of-cy-then-n-eq1 c = search rules
+
+pub shape_of-cs-then-n-eq1 : goal.shape_of-cs-then-n-eq1
+shape_of-cs-then-n-eq1 c = search rules
+
+pub shape_of-cn-then-n-eq1 : goal.shape_of-cn-then-n-eq1
+shape_of-cn-then-n-eq1 c = search rules
+
+pub returns-then-n-eq1 : goal.returns-then-n-eq1
+returns-then-n-eq1 c =
+    found-whole (choice_of c.args.p c.args.exact) _ _ _ _ _ c.if-n-eq1.true _ _ _ _
+    c.add_image_corners.ensures
+
+pub loop-i-init : goal.loop-i-init
+loop-i-init c = (omega arith, refl, refl, refl, refl, refl, turn-none _ _ _ _)
+
+pub add_patch-f-requires : goal.add_patch-f-requires
+add_patch-f-requires c = (
+  record { sound = c.requires.frame_checked.sound; enough = omega (arith, c.requires.frame_checked.enough, c.loop-i.invariant.1) },
+  adds-held _ _ _ _ _ _ c.loop-i.invariant.6,
+  omega (arith, c.minus-k.ensures, c.requires.n_le_most_levels.0),
+)
+
+pub shape_of-map-in_default : goal.shape_of-map-in_default
+shape_of-map-in_default c = search rules
+
+pub shape_of-cx-in_default : goal.shape_of-cx-in_default
+shape_of-cx-in_default c = search rules
+
+pub shape_of-cy-in_default : goal.shape_of-cy-in_default
+shape_of-cy-in_default c = search rules
+
+pub shape_of-cs-in_default : goal.shape_of-cs-in_default
+shape_of-cs-in_default c = search rules
+
+pub shape_of-cn-in_default : goal.shape_of-cn-in_default
+shape_of-cn-in_default c = search rules
+
+pub returns-in_default : goal.returns-in_default
+returns-in_default c =
+    found-boxes (choice_of c.args.p c.args.exact) _ _ _ _ _ c.if-n-eq1.false _ c.minus-k.ensures _ _ _ _
+    (turn-full _ _ _ _ _ _ _ _ c.loop-i.invariant.6 _ c.corner_at-seed.ensures _ _
+    c.add_patch-f.ensures _ c.in_default.is _ c.loop-i-test.true)
+
+pub overflow_add-held : goal.overflow_add-held
+overflow_add-held c =
+    let more = turn_more _ _ _ _ _ _ _ _ c.loop-i.invariant.6 _ c.corner_at-seed.ensures _ _
+    c.add_patch-f.ensures _ _ c.in-Added.is in
+    omega (arith, (more.added _ _ refl).1, c.well_formed)
+
+pub overflow_add-ties : goal.overflow_add-ties
+overflow_add-ties c =
+    let more = turn_more _ _ _ _ _ _ _ _ c.loop-i.invariant.6 _ c.corner_at-seed.ensures _ _
+    c.add_patch-f.ensures _ _ c.in-Added.is in
+    let seeds = slices c.args.sx.now c.args.sy.now c.args.ss.now c.args.sn.now in
+    let few = seeds-tied c.args.p c.args.exact c.args.img.now c.args.w c.args.h c.requires.frame_checked.sound
+    c.minus-k.result (corners_of seeds (c.loop-i.i + 1)) in
+    omega (
+      arith,
+      sum_fits _ _ _ _ (more.added _ _ refl).3 few _ (length-tab (c.loop-i.i + 1) (corner_at seeds)) c.loop-i-test.true c.requires.n_le_most_levels.1,
+    )
+
+pub overflow_add-i : goal.overflow_add-i
+overflow_add-i c = omega (arith, c.well_formed)
+
+pub loop-i-preserved : goal.loop-i-preserved
+loop-i-preserved c =
+    let more = turn_more _ _ _ _ _ _ _ _ c.loop-i.invariant.6 _ c.corner_at-seed.ensures _ _
+    c.add_patch-f.ensures _ _ c.in-Added.is in
+    (omega arith, search rules, search rules, search rules, search rules, search rules, more)
+
+pub shape_of-map : goal.shape_of-map
+shape_of-map c = search rules
+
+pub shape_of-cx : goal.shape_of-cx
+shape_of-cx c = search rules
+
+pub shape_of-cy : goal.shape_of-cy
+shape_of-cy c = search rules
+
+pub shape_of-cs : goal.shape_of-cs
+shape_of-cs c = search rules
+
+pub shape_of-cn : goal.shape_of-cn
+shape_of-cn c = search rules
+
+pub returns : goal.returns
+returns c =
+    let all : c.loop-i.i ≡ c.args.m = omega arith in
+    let seeds = slices c.args.sx.now c.args.sy.now c.args.ss.now c.args.sn.now in
+    found-boxes (choice_of c.args.p c.args.exact) _ _ _ _ _ c.if-n-eq1.false _ c.minus-k.ensures _ _ _ _
+    (turns-all seeds _ _ _ _ _ _ _ all c.loop-i.invariant.6)

@@ -1,0 +1,13 @@
+-- `listing::digit` meets its contract. Assumes nothing.
+use borrow.Author.Tests.{lt-ltb, le-ltb}
+use Rattle.listing.specs.Text.{digit_of}
+use borrow.Author.Rules.{rules}
+use Rattle.listing.proofs.digit.Goals as goal
+
+pub returns-then-d-lt10 : goal.returns-then-d-lt10
+unfolding digit_of
+returns-then-d-lt10 c = rw (lt-ltb _ 10 c.if-d-lt10.true)
+
+pub returns-else-d-lt10 : goal.returns-else-d-lt10
+unfolding digit_of
+returns-else-d-lt10 c = rw (le-ltb _ 10 c.if-d-lt10.false)

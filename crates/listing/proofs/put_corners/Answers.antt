@@ -1,0 +1,43 @@
+-- `listing::put_corners` meets its contract. The invariant: the lines of the corners passed are written. Assumes nothing.
+use Prim.Native.Nat.{◌-◌, ◌^◌, ◌<◌}
+use native.Mathlib.Omega.{arith}
+use mathlib.Core.Path.{refl, ◌∙◌}
+use Rattle.corner_list.specs.CornerList.{slices, corner_at}
+use Rattle.listing.proofs.Appending.{wrote-length}
+use Rattle.listing.proofs.Texts.{Lines, lines_none, lines_next, lines-all}
+use borrow.Author.Rules.{rules}
+use Rattle.listing.proofs.put_corners.Goals as goal
+
+pub put_heading-at-requires : goal.put_heading-at-requires
+put_heading-at-requires c = omega (arith, c.requires.1)
+
+pub loop-i-init : goal.loop-i-init
+loop-i-init c =
+    lines_none (corner_at (slices c.args.xs.now c.args.ys.now c.args.strengths.now c.args.neighbours.now)) c.args.count
+    c.put_heading-at.result c.args.out.now
+    c.put_heading-at.new.out c.requires.0 c.requires.1 c.put_heading-at.ensures
+
+pub put_line-at-requires : goal.put_line-at-requires
+put_line-at-requires c = omega (arith, c.loop-i.invariant.left, c.loop-i-test.true)
+
+pub loop-i-smaller : goal.loop-i-smaller
+loop-i-smaller c = omega (arith, c.loop-i-test.true)
+
+pub loop-i-preserved : goal.loop-i-preserved
+loop-i-preserved c =
+    let small : c.corner_at-c.result.neighbours < 2 ^ 32 = omega (arith, c.corner_at-c.type_inv) in
+    lines_next (corner_at (slices c.args.xs.now c.args.ys.now c.args.strengths.now c.args.neighbours.now)) c.args.count
+    c.put_heading-at.result
+    c.put_heading-at.new.out c.loop-i.i c.loop-i.at c.loop-i.out c.loop-i.invariant
+    c.put_line-at.result c.put_line-at.new.out c.corner_at-c.result small c.loop-i-test.true
+    c.corner_at-c.ensures c.put_line-at.ensures
+
+pub shape_of-out : goal.shape_of-out
+shape_of-out c = wrote-length c.loop-i.invariant.wrote ∙ wrote-length c.put_heading-at.ensures
+
+pub returns : goal.returns
+returns c =
+    lines-all (corner_at (slices c.args.xs.now c.args.ys.now c.args.strengths.now c.args.neighbours.now)) c.args.count
+    c.put_heading-at.result
+    c.put_heading-at.new.out c.loop-i.i c.loop-i.at c.loop-i.out c.loop-i.invariant
+    c.loop-i-test.false c.args.out.now c.put_heading-at.ensures

@@ -1,0 +1,14 @@
+use Prim.Native.Nat.{◌-◌, ◌^◌, ◌<◌}
+use native.Mathlib.Omega.{arith}
+use mathlib.Core.Path.{refl, ◌∙◌}
+use Rattle.corner_list.specs.CornerList.{slices, corner_at}
+use Rattle.listing.proofs.Appending.{wrote-length}
+use Rattle.listing.proofs.Texts.{Lines, lines_none, lines_next, lines-all}
+use borrow.Author.Rules.{rules}
+use Rattle.listing.proofs.put_corners.Given as goal
+
+abbrev pub invariant-loop-i : goal.invariant-loop-i
+invariant-loop-i l = Lines (corner_at (slices l.xs l.ys l.strengths l.neighbours)) l.count l.initial.at l.initial.out l.i l.at l.out
+
+abbrev pub decreases-loop-i : goal.decreases-loop-i
+decreases-loop-i l = l.count - l.i

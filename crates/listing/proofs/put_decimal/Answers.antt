@@ -1,0 +1,32 @@
+-- `listing::put_decimal` meets its contract. Assumes nothing.
+use Prim.Native.Nat.{ℕ}
+use native.Mathlib.Omega.{arith}
+use mathlib.Core.Path.{ap}
+use Rattle.listing.specs.Text.{digits, decimal}
+use Rattle.listing.specs.Internal.{ended}
+use Rattle.listing.proofs.Numbers.{length_digits}
+use Rattle.listing.proofs.Appending.{wrote-more, wrote_as, wrote-length}
+use borrow.Author.Rules.{rules}
+use Rattle.listing.proofs.put_decimal.Goals as goal
+
+pub put_digits-next-requires : goal.put_digits-next-requires
+put_digits-next-requires c = (omega arith, omega arith, omega (arith, c.decimal_places-count.ensures))
+
+pub put-requires : goal.put-requires
+put-requires c =
+    omega (
+      arith,
+      c.put_digits-next.ensures.ends,
+      wrote-length c.put_digits-next.ensures,
+      length_digits 10 c.decimal_places-count.result c.args.n,
+      c.decimal_places-count.ensures,
+    )
+
+pub shape_of-out : goal.shape_of-out
+shape_of-out c = search rules
+
+pub returns : goal.returns
+unfolding decimal
+returns c =
+    wrote_as (ap (λ (k : ℕ). ended (digits 10 k c.args.n) c.args.end) c.decimal_places-count.ensures)
+    (wrote-more c.put_digits-next.ensures c.put.ensures)

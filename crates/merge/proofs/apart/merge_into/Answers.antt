@@ -1,0 +1,46 @@
+-- `merge::apart::merge_into` meets its contract: copied where the radius is off, else merged by the grid. Assumes nothing.
+use borrow.Author.Rules.{rules}
+use mathlib.Core.Path.{sym, ◌∙◌}
+use mathlib.Core.Bool.{true}
+use Rattle.corner_list.specs.CornerList.{Slices, slices}
+use Rattle.merge.proofs.Answer.{left-off, left-on, left-copied, left-settled}
+use Rattle.merge.proofs.apart.merge_into.Goals as goal
+use Rattle.merge.proofs.apart.merge_into.Goals.{Start}
+
+-- the buffer of the list
+abbrev list : Start → Slices
+list c = slices c.args.xs.now c.args.ys.now c.args.strengths.now c.args.neighbours.now
+
+pub shape_of-mx-then-is_off : goal.shape_of-mx-then-is_off
+shape_of-mx-then-is_off c = search rules
+
+pub shape_of-my-then-is_off : goal.shape_of-my-then-is_off
+shape_of-my-then-is_off c = search rules
+
+pub shape_of-ms-then-is_off : goal.shape_of-ms-then-is_off
+shape_of-ms-then-is_off c = search rules
+
+pub shape_of-mn-then-is_off : goal.shape_of-mn-then-is_off
+shape_of-mn-then-is_off c = search rules
+
+pub returns-then-is_off : goal.returns-then-is_off
+returns-then-is_off c =
+    left-off _ (list (goal.at.returns-then-is_off c).Start) _ _ _ _ (sym c.is_off.ensures ∙ c.if-is_off.true)
+    (left-copied (list (goal.at.returns-then-is_off c).Start) _ _ _ c.copy_list.ensures)
+
+pub shape_of-mx : goal.shape_of-mx
+shape_of-mx c = search rules
+
+pub shape_of-my : goal.shape_of-my
+shape_of-my c = search rules
+
+pub shape_of-ms : goal.shape_of-ms
+shape_of-ms c = search rules
+
+pub shape_of-mn : goal.shape_of-mn
+shape_of-mn c = search rules
+
+pub returns : goal.returns
+returns c =
+    left-on _ (list (goal.at.returns c).Start) _ _ _ _ _ (sym c.is_off.ensures ∙ c.if-is_off.false) c.grid_of-g.ensures
+    (left-settled c.grid_of-g.result true (list (goal.at.returns c).Start) _ _ _ _ c.requires c.settle_list.ensures.settles)

@@ -1,0 +1,16 @@
+use borrow.Author.Rules.{rules}
+use borrow.Author.Count.{below_none, below_more}
+use Prim.Native.Nat.{ℕ, ◌-◌, ◌<◌, ◌≤◌}
+use native.Mathlib.Omega.{arith}
+use mathlib.Core.Path.{◌≡◌, sym, ap, ◌∙◌}
+use mathlib.Core.Bool.{false, not}
+use Rattle.lists.proofs.Places.{any-tab-hit, any-tab-none}
+use Rattle.corner_list.specs.CornerList.{slices, corner_at}
+use Rattle.merge_refusal.specs.Refusals.{corner_outside}
+use Rattle.merge_refusal.proofs.has_outside.Given as goal
+
+abbrev pub invariant-loop-i : goal.invariant-loop-i
+invariant-loop-i l = (l.i ≤ l.n) × ((k : ℕ) → k < l.i → corner_outside (corner_at (slices l.xs l.ys l.strengths l.neighbours) k) ≡ false)
+
+abbrev pub decreases-loop-i : goal.decreases-loop-i
+decreases-loop-i l = l.n - l.i

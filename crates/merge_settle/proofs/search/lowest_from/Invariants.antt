@@ -1,0 +1,17 @@
+use borrow.Author.Rules.{rules}
+use Prim.Native.Nat.{◌-◌, ◌≤◌}
+use native.Mathlib.Omega.{arith}
+use mathlib.Core.Path.{◌≡◌, ◌∙◌}
+use mathlib.Core.List.{List}
+use lib.ListN.{length, get_or}
+use lib.Ieee.{Float}
+use Rattle.merge_settle.specs.Internal.{joins_at, slots_of}
+use Rattle.merge_settle.proofs.First.{Looking, looking-none, looking-read, looking-empty, looking-end}
+use Rattle.merge_settle.proofs.Slots.{slot_is, slots-long}
+use Rattle.merge_settle.proofs.search.lowest_from.Given as goal
+
+abbrev pub invariant-loop-slot : goal.invariant-loop-slot
+invariant-loop-slot l = Looking (joins_at l.g l.p l.xs l.ys) (slots_of l.table) l.home l.most l.low l.slot × (l.slot ≤ length l.table) × (l.slot-end ≡ length l.table)
+
+abbrev pub decreases-loop-slot : goal.decreases-loop-slot
+decreases-loop-slot l = length l.table - l.slot

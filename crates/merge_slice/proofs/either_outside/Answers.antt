@@ -1,0 +1,6 @@
+-- `merge_slice::either_outside` meets its contract. Assumes nothing.
+use borrow.Author.Rules.{rules}
+use Rattle.merge_slice.proofs.either_outside.Goals as goal
+
+pub returns : goal.returns
+returns c = simp (c.is_inside.ensures, c.if-before.false)

@@ -1,0 +1,106 @@
+-- `patch_corners::add_row_corners` meets its contract, by the laws of `OfRows` and `Centring`. Assumes nothing.
+use Prim.Native.Nat.{ℕ, ◌+◌, min}
+use native.Mathlib.Omega.{arith}
+use mathlib.Core.Path.{◌≡◌, sym, ap, ◌∙◌}
+use lib.ListN.{length}
+use borrow.Author.Rules.{rules}
+use Rattle.detect.proofs.Answers.{clear, found-refused}
+use Rattle.patch_corners.proofs.Centring.{found-not, found-fits, found-changed}
+use Rattle.patch_corners.proofs.OfRows.{low, border-small, Cut, part_end, part_small, part-order, low-top, rows-added}
+use Rattle.patch_corners.proofs.add_row_corners.Goals as goal
+use Rattle.patch_corners.proofs.add_row_corners.Goals.{After-lesser-top}
+
+-- the rows that are searched
+cut : (c : After-lesser-top)
+    →
+    Cut c.args.p c.args.map.now c.args.w c.args.h c.args.a c.args.b c.lesser-end.result c.lesser-top.result
+cut c =
+    record {
+      none = sym c.refusal-number.ensures ∙ c.if-number-ne0.false;
+      end_is = c.lesser-end.ensures
+          ∙ ap (λ (k : ℕ). min (k + (c.args.p.ring + c.args.p.window + c.args.p.centroid_radius)) c.args.h)
+          c.lesser.ensures;
+      top-is = c.lesser-top.ensures ∙ ap (λ (k : ℕ). min k c.lesser-end.result) c.minus.ensures;
+    }
+
+pub returns-then-number-ne0 : goal.returns-then-number-ne0
+returns-then-number-ne0 c = found-refused _ _ _ _ _ _ c.refusal-number.ensures c.if-number-ne0.true
+
+pub overflow_add-lesser : goal.overflow_add-lesser
+overflow_add-lesser c =
+    let none = sym c.refusal-number.ensures ∙ c.if-number-ne0.false in
+    omega (arith, c.lesser.ensures, low c.args.p _ _ _ none, border-small c.args.p _ _ _ none)
+
+pub overflow_mul-top : goal.overflow_mul-top
+overflow_mul-top c =
+    omega (
+      arith,
+      part-order _ c.args.exact _ _ _ _ _ _ _ (cut c),
+      part_small _ c.args.exact _ _ _ _ _ _ _ (cut c),
+    )
+
+pub overflow_mul-end : goal.overflow_mul-end
+overflow_mul-end c =
+    omega (
+      arith,
+      part-order _ c.args.exact _ _ _ _ _ _ _ (cut c),
+      part_small _ c.args.exact _ _ _ _ _ _ _ (cut c),
+    )
+
+pub offset_bounds-map-top : goal.offset_bounds-map-top
+offset_bounds-map-top c =
+    omega (
+      arith,
+      part-order _ c.args.exact _ _ _ _ _ _ _ (cut c),
+      part_small _ c.args.exact _ _ _ _ _ _ _ (cut c),
+    )
+
+pub slice_bounds-find_peaks-count : goal.slice_bounds-find_peaks-count
+slice_bounds-find_peaks-count c = part-order _ c.args.exact _ _ _ _ _ _ _ (cut c)
+
+pub slice_bounds-find_peaks-start : goal.slice_bounds-find_peaks-start
+slice_bounds-find_peaks-start c = part-order _ c.args.exact _ _ _ _ _ _ _ (cut c)
+
+pub slice_bounds-find_peaks-end : goal.slice_bounds-find_peaks-end
+slice_bounds-find_peaks-end c = part_end _ c.args.exact _ _ _ _ _ _ _ (cut c)
+
+pub shape_of-xs-in_default : goal.shape_of-xs-in_default
+shape_of-xs-in_default c = search rules
+
+pub shape_of-ys-in_default : goal.shape_of-ys-in_default
+shape_of-ys-in_default c = search rules
+
+pub shape_of-strengths-in_default : goal.shape_of-strengths-in_default
+shape_of-strengths-in_default c = search rules
+
+pub shape_of-neighbours-in_default : goal.shape_of-neighbours-in_default
+shape_of-neighbours-in_default c = search rules
+
+pub returns-in_default : goal.returns-in_default
+returns-in_default c =
+    rows-added _ c.args.exact _ _ _ _ _ _ _ (cut (goal.at.returns-in_default c).After-lesser-top) _ _ _ _
+    (found-not _ _ _ _ _ _ _ _ c.find_peaks-f.ensures _ c.in_default.is)
+
+pub centre_all-requires : goal.centre_all-requires
+centre_all-requires c = (
+  found-fits (λ z. z) _ _ _ _ _ _ _ c.find_peaks-f.ensures (clear _ _ _ _ _ _) _ _ c.in-Added.is,
+  low-top _ c.args.exact _ _ _ _ _ _ _ (cut (goal.at.centre_all-requires c).After-lesser-top),
+)
+
+pub shape_of-xs : goal.shape_of-xs
+shape_of-xs c = search rules
+
+pub shape_of-ys : goal.shape_of-ys
+shape_of-ys c = search rules
+
+pub shape_of-strengths : goal.shape_of-strengths
+shape_of-strengths c = search rules
+
+pub shape_of-neighbours : goal.shape_of-neighbours
+shape_of-neighbours c = search rules
+
+pub returns : goal.returns
+returns c =
+    rows-added _ c.args.exact _ _ _ _ _ _ _ (cut (goal.at.returns c).After-lesser-top) _ _ _ _
+    (found-changed _ _ _ _ _ _ _ _ c.find_peaks-f.ensures (clear _ _ _ _ _ _) _ _ c.in-Added.is _
+    c.centre_all.ensures)

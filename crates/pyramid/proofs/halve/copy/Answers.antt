@@ -1,0 +1,19 @@
+-- `pyramid::halve::copy` meets its contract: the places passed hold their pixels. Assumes nothing.
+use Prim.Native.Nat.{◌-◌, ◌≤◌}
+use mathlib.Core.Path.{refl}
+use lib.ListN.{get_or}
+use borrow.Author.Rules.{rules}
+use Rattle.lists.proofs.Tab.{Prefix, prefix-none, prefix-set, prefix-all}
+use Rattle.pyramid.proofs.halve.copy.Goals as goal
+
+pub loop-i-init : goal.loop-i-init
+loop-i-init c = (search rules, prefix-none _ _ _ refl)
+
+pub loop-i-preserved : goal.loop-i-preserved
+loop-i-preserved c = (search rules, prefix-set _ _ _ _ _ c.loop-i.invariant.1 c.loop-i-test.true refl)
+
+pub shape_of-out : goal.shape_of-out
+shape_of-out c = search rules
+
+pub returns : goal.returns
+returns c = prefix-all _ _ _ _ _ c.loop-i.invariant.1 (search rules) refl

@@ -1,0 +1,14 @@
+use Prim.Native.Nat.{◌+◌, ◌-◌, ◌*◌, ◌/◌, ◌^◌, ◌<◌, ◌≤◌}
+use native.Mathlib.Omega.{arith}
+use mathlib.Core.Path.{◌≡◌, refl}
+use lib.ListN.{length}
+use borrow.Author.Rules.{rules}
+use Rattle.pyramid.specs.Internal.{holder_of, Run, RowHalved}
+use Rattle.pyramid.proofs.Halving.{holder-short, row-none, run_ok, row_put}
+use Rattle.pyramid.proofs.halve.halve_rows.Given as goal
+
+abbrev pub invariant-loop-x : goal.invariant-loop-x
+invariant-loop-x l = (length l.levels ≡ length l.initial.levels) × (l.x ≤ l.n) × RowHalved l.base l.initial.levels l.k l.from l.w l.to l.x l.levels
+
+abbrev pub decreases-loop-x : goal.decreases-loop-x
+decreases-loop-x l = l.n - l.x

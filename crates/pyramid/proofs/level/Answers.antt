@@ -1,0 +1,51 @@
+-- `pyramid::level` meets its contract: nothing where the level is refused, the base, or the part of the buffer where the level lies.
+-- Assumes nothing.
+use native.Mathlib.Omega.{arith}
+use mathlib.Core.Path.{◌≡◌, sym, ◌∙◌}
+use lib.ListN.{length}
+use borrow.Author.Rules.{rules}
+use Rattle.pyramid_levels.specs.Refusals.{ask, level_refusal_of}
+use Rattle.pyramid_levels.proofs.Refusals.{level-few}
+use Rattle.pyramid.proofs.Lookup.{Between, level-refused, level-base, level-between, level-higher}
+use Rattle.pyramid.proofs.level.Goals as goal
+use Rattle.pyramid.proofs.level.Goals.{After-cells_before-end, Else-number-ne0}
+
+pub returns-then-number-ne0 : goal.returns-then-number-ne0
+returns-then-number-ne0 c =
+    level-refused c.before.before.before.before.before.args.base.now c.before.before.before.before.before.args.levels.now _ _ _ _ _ _ c.level-refusal.ensures c.if1.true
+
+-- the entry
+
+-- nothing refuses the level
+free : (c : Else-number-ne0)
+    →
+    level_refusal_of (ask (length c.args.base.now) (length c.args.levels.now) c.args.width c.args.height c.args.num_levels c.args.min_size) c.args.k ≡ 0
+free c = sym c.level_refusal-number.ensures ∙ c.if-number-ne0.false
+
+pub returns-then-k-eq0 : goal.returns-then-k-eq0
+returns-then-k-eq0 c = level-base c.args.base.now c.args.levels.now _ _ _ _ _ (free (goal.at.returns-then-k-eq0 c).Else-number-ne0) c.if-k-eq0.true
+
+pub overflow_add-k : goal.overflow_add-k
+overflow_add-k c = record { fits = omega (arith, level-few _ _ (free (goal.at.overflow_add-k c).Else-number-ne0)) }
+
+-- where the level begins and ends
+between : (c : After-cells_before-end)
+    → Between c.args.levels.now c.args.width
+    c.args.height c.args.k
+    c.cells_before-from.result c.cells_before-end.result
+between c =
+    level-between c.args.base.now c.args.levels.now _ _ _ _ _ (free c.before.before.before) _ _ c.if-k-eq0.false c.cells_before-from.ensures
+    c.cells_before-end.ensures
+
+pub slice_bounds-result-count : goal.slice_bounds-result-count
+slice_bounds-result-count c = omega (arith, (between c).ends)
+
+pub slice_bounds-result-start : goal.slice_bounds-result-start
+slice_bounds-result-start c = omega (arith, (between c).ends)
+
+pub slice_bounds-result-end-2 : goal.slice_bounds-result-end-2
+slice_bounds-result-end-2 c = (between c).ranges
+
+pub returns : goal.returns
+returns c =
+    level-higher c.args.base.now c.args.levels.now _ _ _ _ _ (free (goal.at.returns c).Else-number-ne0) _ _ c.if-k-eq0.false (between (goal.at.returns c).After-cells_before-end)

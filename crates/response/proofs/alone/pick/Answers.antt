@@ -1,0 +1,29 @@
+-- `response::alone::pick` meets its contract. The loop fills the samples from the front. Assumes nothing.
+use mathlib.Core.Path.{refl}
+use Prim.Native.Nat.{◌+◌, ◌-◌, ◌≤◌}
+use native.Mathlib.Omega.{arith}
+use borrow.Author.Rules.{rules}
+use lib.ListN.{get_or}
+use Rattle.lists.proofs.Tab.{Prefix, prefix-none, prefix-set, prefix-all}
+use Rattle.response.specs.Internal.{Bytes}
+use Rattle.response.proofs.Filling.{bytes-set, bytes-none}
+use Rattle.response.proofs.alone.pick.Goals as goal
+
+pub loop-k-init : goal.loop-k-init
+loop-k-init c = (search rules, prefix-none _ _ _ refl, bytes-none 16)
+
+pub overflow_add-base : goal.overflow_add-base
+overflow_add-base c = omega (arith, c.requires c.loop-k.k (search rules))
+
+pub bounds-img-base : goal.bounds-img-base
+bounds-img-base c = c.requires c.loop-k.k (search rules)
+
+pub loop-k-preserved : goal.loop-k-preserved
+loop-k-preserved c = (
+  search rules,
+  prefix-set _ _ _ _ _ c.loop-k.invariant.1 (search rules) c.wide.ensures.0,
+  bytes-set c.loop-k.s c.loop-k.k c.wide.result c.loop-k.invariant.2 c.wide.ensures.1,
+)
+
+pub returns : goal.returns
+returns c = (prefix-all _ _ _ _ _ c.loop-k.invariant.1 (search rules) refl, c.loop-k.invariant.2)

@@ -1,0 +1,13 @@
+use Prim.Native.Nat.{◌-◌, ◌≤◌, min}
+use mathlib.Core.Path.{◌≡◌}
+use borrow.Author.Rules.{rules}
+use Rattle.response.specs.OnePass.{passed_after}
+use Rattle.response.specs.Internal.{SumsBounded}
+use Rattle.response.proofs.OnePass.{small-none, passed_none, passed-next, passed-end}
+use Rattle.response.proofs.cell.ring_sums.Given as goal
+
+abbrev pub invariant-loop-k : goal.invariant-loop-k
+invariant-loop-k l = (l.k ≤ l.last) × (l.last ≡ min l.n 8) × (l.h ≡ passed_after l.s l.k) × SumsBounded l.k l.h
+
+abbrev pub decreases-loop-k : goal.decreases-loop-k
+decreases-loop-k l = l.last - l.k

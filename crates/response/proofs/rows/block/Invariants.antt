@@ -1,0 +1,29 @@
+use mathlib.Core.Path.{refl}
+use Prim.Native.Nat.{ℕ, ◌+◌, ◌*◌, ◌-◌, ◌<◌, ◌≤◌}
+use native.Mathlib.Omega.{arith}
+use borrow.Author.Rules.{rules}
+use lib.ListN.{length}
+use Rattle.lists.specs.Limits.{largest_side, largest_map}
+use Rattle.float32.specs.Float32.{zero}
+use Rattle.ring.proofs.Table.{ring_of-is}
+use Rattle.response.specs.Internal.{Filled, SumPlaces, responses}
+use Rattle.response.proofs.Filling.{filled_none, filled-to}
+use Rattle.response.proofs.Tiles.{
+  radius-le,
+  from-left,
+  from-top,
+  columns-in,
+  rows-low,
+  pixels-in,
+  row_in,
+  corner-small,
+  pixels-few,
+  block-step,
+}
+use Rattle.response.proofs.rows.block.Given as goal
+
+abbrev pub invariant-loop-k : goal.invariant-loop-k
+invariant-loop-k l = (l.k ≤ l.m) × Filled zero l.f.pw l.f.ph (responses l.img l.f) l.i (l.i + l.n) l.j (l.j + l.k) l.initial.map l.map × SumPlaces l.balance l.sum l.cross
+
+abbrev pub decreases-loop-k : goal.decreases-loop-k
+decreases-loop-k l = l.m - l.k

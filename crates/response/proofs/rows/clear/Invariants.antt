@@ -1,0 +1,14 @@
+use mathlib.Core.Path.{refl}
+use Prim.Native.Nat.{◌-◌, ◌≤◌}
+use borrow.Author.Rules.{rules}
+use lib.Ieee.{of_bits}
+use Rattle.float32.specs.Float32.{zero}
+use Rattle.response.specs.Internal.{PlacesWritten}
+use Rattle.response.proofs.Filling.{written_none, written-set, written-end}
+use Rattle.response.proofs.rows.clear.Given as goal
+
+abbrev pub invariant-loop-i : goal.invariant-loop-i
+invariant-loop-i l = (l.i ≤ l.n) × PlacesWritten zero l.at l.i (λ _. zero) l.initial.map l.map
+
+abbrev pub decreases-loop-i : goal.decreases-loop-i
+decreases-loop-i l = l.n - l.i

@@ -1,0 +1,15 @@
+use mathlib.Core.Path.{◌≡◌, refl, ◌∙◌}
+use Prim.Native.Nat.{ℕ, ◌+◌, ◌*◌, ◌-◌, ◌<◌, ◌≤◌}
+use native.Mathlib.Omega.{arith}
+use borrow.Author.Rules.{rules}
+use lib.ListN.{length}
+use Rattle.lists.specs.Limits.{largest_map}
+use Rattle.response.specs.Internal.{Cleared}
+use Rattle.response.proofs.Filling.{cleared-none, cleared-row, cleared-end, row-after}
+use Rattle.response.proofs.rows.clear_part.Given as goal
+
+abbrev pub invariant-loop-j : goal.invariant-loop-j
+invariant-loop-j l = (l.c ≤ l.j) × (l.j ≤ l.e) × Cleared l.w l.a l.b l.c l.j l.initial.map l.map × (length l.map ≡ length l.initial.map)
+
+abbrev pub decreases-loop-j : goal.decreases-loop-j
+decreases-loop-j l = l.e - l.j

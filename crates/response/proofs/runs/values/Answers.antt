@@ -1,0 +1,22 @@
+-- `response::runs::values` meets its contract. Assumes nothing.
+use Prim.Native.Nat.{◌-◌, ◌≤◌}
+use borrow.Author.Rules.{rules}
+use lib.ListN.{get_or}
+use Rattle.float32.specs.Float32.{zero}
+use Rattle.response.specs.Response.{response_of}
+use Rattle.response.specs.Internal.{PlacesWritten}
+use Rattle.response.proofs.Filling.{written_none, written-set, written-end}
+use Rattle.response.proofs.runs.values.Goals as goal
+
+pub loop-i-init : goal.loop-i-init
+loop-i-init c = (search rules, written_none _ _ _ _)
+
+pub loop-i-preserved : goal.loop-i-preserved
+loop-i-preserved c =
+    (search rules, written-set _ _ _ _ _ _ _ c.loop-i.invariant.1 (search rules) c.value.ensures)
+
+pub shape_of-map : goal.shape_of-map
+shape_of-map c = search rules
+
+pub returns : goal.returns
+returns c = written-end _ _ _ _ _ _ _ c.loop-i.invariant.1 (search rules)

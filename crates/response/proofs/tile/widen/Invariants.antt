@@ -1,0 +1,18 @@
+use mathlib.Core.Path.{refl, ◌∙◌}
+use Prim.Native.Nat.{ℕ, ◌+◌, ◌*◌, ◌-◌, ◌<◌, ◌≤◌}
+use native.Mathlib.Nat.{mul_comm}
+use native.Mathlib.Omega.{arith}
+use borrow.Author.Rules.{rules}
+use lib.ListN.{length}
+use Rattle.lists.specs.Limits.{largest_map}
+use Rattle.lists.specs.Tab.{pixel}
+use Rattle.response.specs.Internal.{IsTile, Filled, tile_rows, large_tile}
+use Rattle.response.proofs.Filling.{filled_none, filled-to, row-after}
+use Rattle.response.proofs.Tiles.{tile-row}
+use Rattle.response.proofs.tile.widen.Given as goal
+
+abbrev pub invariant-loop-j : goal.invariant-loop-j
+invariant-loop-j l = (l.j ≤ l.m) × Filled 0 l.s tile_rows (λ p q. pixel l.img l.w (l.x + p) (l.y + q)) 0 l.n 0 l.j l.initial.tile l.tile × IsTile l.s l.tile
+
+abbrev pub decreases-loop-j : goal.decreases-loop-j
+decreases-loop-j l = l.m - l.j

@@ -1,0 +1,28 @@
+-- `response_limits::cell::sr` meets its contract: the loop adds up the four terms. Assumes nothing.
+use mathlib.Core.Path.{◌≡◌}
+use Prim.Native.Nat.{◌-◌, ◌≤◌}
+use native.Mathlib.Omega.{arith}
+use Rattle.response_limits.proofs.Sums.{Added, sr_term, sr-term, added_none, added_next, added-all}
+use borrow.Author.Rules.{rules}
+use Rattle.response_limits.proofs.cell.sr.Goals as goal
+use Rattle.response_limits.proofs.cell.sr.Goals.{After-apart-sr}
+
+pub loop-k-init : goal.loop-k-init
+loop-k-init c = (search rules, added_none _ _)
+
+-- what a turn adds
+term : (c : After-apart-sr)
+    →
+    (c.apart-sr.result ≡ sr_term c.args.t1 c.args.t2 c.loop-k.k) × (c.apart-sr.result ≤ 510)
+term c =
+    sr-term c.args.t1 c.args.t2 c.loop-k.k _ _ _ _ _ c.pair-a.ensures.0 c.pair-b.ensures.0 c.pair-c.ensures.0
+    c.pair-d.ensures.0 c.pair-a.ensures.1 c.pair-b.ensures.1 c.apart-sr.ensures
+
+pub overflow_add-sr : goal.overflow_add-sr
+overflow_add-sr c = omega (arith, c.loop-k.invariant.1.sum_small, (term c).1)
+
+pub loop-k-preserved : goal.loop-k-preserved
+loop-k-preserved c = (search rules, added_next _ _ _ _ _ c.loop-k.invariant.1 (term c).0 (term c).1)
+
+pub returns : goal.returns
+returns c = added-all _ _ 4 _ _ c.loop-k.invariant.1 (search rules)

@@ -1,0 +1,12 @@
+use mathlib.Core.Path.{◌≡◌}
+use Prim.Native.Nat.{◌-◌, ◌≤◌}
+use native.Mathlib.Omega.{arith}
+use Rattle.response_limits.proofs.Sums.{Added, sr_term, sr-term, added_none, added_next, added-all}
+use borrow.Author.Rules.{rules}
+use Rattle.response_limits.proofs.cell.sr.Given as goal
+
+abbrev pub invariant-loop-k : goal.invariant-loop-k
+invariant-loop-k l = (l.k ≤ 4) × Added (sr_term l.p l.q) 510 l.k l.sr
+
+abbrev pub decreases-loop-k : goal.decreases-loop-k
+decreases-loop-k l = 4 - l.k

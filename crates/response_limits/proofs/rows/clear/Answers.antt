@@ -1,0 +1,20 @@
+-- `response_limits::rows::clear` meets its contract: the loop fills the slice from the front. Assumes nothing.
+use mathlib.Core.Path.{refl}
+use Prim.Native.Nat.{◌-◌, ◌≤◌}
+use lib.ListN.{length}
+use lib.IntN.{pos}
+use Rattle.lists.proofs.Tab.{Prefix, prefix-none, prefix-set, prefix-all}
+use borrow.Author.Rules.{rules}
+use Rattle.response_limits.proofs.rows.clear.Goals as goal
+
+pub loop-i-init : goal.loop-i-init
+loop-i-init c = (search rules, prefix-none _ _ _ refl)
+
+pub loop-i-preserved : goal.loop-i-preserved
+loop-i-preserved c = (search rules, prefix-set _ _ _ _ _ c.loop-i.invariant.1 (search rules) refl)
+
+pub shape_of-out : goal.shape_of-out
+shape_of-out c = search rules
+
+pub returns : goal.returns
+returns c = prefix-all _ _ _ _ _ c.loop-i.invariant.1 (search rules) refl

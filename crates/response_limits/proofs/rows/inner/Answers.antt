@@ -1,0 +1,65 @@
+-- `response_limits::rows::inner` meets its contract: the places passed hold their cells' limits. Assumes nothing.
+use mathlib.Core.Path.{◌≡◌, refl, sym, ◌∙◌}
+use Prim.Native.Nat.{◌+◌, ◌-◌, ◌≤◌}
+use native.Mathlib.Nat.{le_refl, add_assoc}
+use native.Mathlib.Omega.{arith}
+use lib.ListN.{length, take, drop}
+use Rattle.ring.specs.Ring.{ring_of}
+use Rattle.lists.proofs.Tab.{Prefix, prefix-none, prefix-over, prefix-all, part-length-to}
+use Rattle.response_limits.specs.Limits.{low_at, high_at}
+use Rattle.response_limits.proofs.Edges.{lows-shifted, highs-shifted}
+use borrow.Author.Rules.{rules}
+use Rattle.response_limits.proofs.rows.inner.Goals as goal
+use Rattle.response_limits.proofs.rows.inner.Goals.{After-lesser-e}
+
+pub loop-i-init : goal.loop-i-init
+loop-i-init c = (search rules, prefix-none _ _ _ refl, prefix-none _ _ _ c.requires.highs_len.0)
+
+-- where the end of a run is known: both its parts are as long as it
+module _ (c : After-lesser-e) where
+
+
+  ends : c.lesser-e.result ≤ length c.args.lows.now
+  ends = omega (arith, c.lesser-e.ensures)
+
+  lows-long : length (take (c.lesser-e.result - c.loop-i.i) (drop c.loop-i.i c.loop-i.lows))
+      ≡ c.lesser-e.result - c.loop-i.i
+  lows-long = part-length-to _ _ _ (omega (arith, ends, c.loop-i.invariant.1.long))
+
+  highs-long : length (take (c.lesser-e.result - c.loop-i.i) (drop c.loop-i.i c.loop-i.highs))
+      ≡ c.lesser-e.result - c.loop-i.i
+  highs-long = part-length-to _ _ _ (omega (arith, ends, c.loop-i.invariant.2.long))
+
+pub run-requires : goal.run-requires
+run-requires c =
+    record { image_with_table = c.requires.image_with_table; lows_len_bound = (
+        (
+          rw (lows-long (goal.at.run-requires c).After-lesser-e) (omega arith),
+          highs-long (goal.at.run-requires c).After-lesser-e ∙ sym (lows-long (goal.at.run-requires c).After-lesser-e),
+          rw (lows-long (goal.at.run-requires c).After-lesser-e) (omega (arith, ends (goal.at.run-requires c).After-lesser-e, c.requires.highs_len.1)),
+        ),
+        λ k l. rw add_assoc (c.requires.by_index (c.loop-i.i + k) (omega (arith, ends (goal.at.run-requires c).After-lesser-e, lows-long (goal.at.run-requires c).After-lesser-e))),
+      ); by_index =  }
+
+pub loop-i-preserved : goal.loop-i-preserved
+loop-i-preserved c =
+    (
+      ends (goal.at.loop-i-preserved c).After-lesser-e,
+      prefix-over _ _ _ _ _ c.loop-i.invariant.1 (le_refl _) _ _ _ (search rules) (ends (goal.at.loop-i-preserved c).After-lesser-e)
+          (lows-shifted _ _ _ _ _ _ _ _ _ _ c.run.ensures.lows_are) (lows-long (goal.at.loop-i-preserved c).After-lesser-e),
+      prefix-over _ _ _ _ _ c.loop-i.invariant.2 (le_refl _) _ _ _ (search rules) (ends (goal.at.loop-i-preserved c).After-lesser-e)
+          (highs-shifted _ _ _ _ _ _ _ _ _ _ c.run.ensures.highs_are) (highs-long (goal.at.loop-i-preserved c).After-lesser-e),
+    )
+
+pub shape_of-lows : goal.shape_of-lows
+shape_of-lows c = search rules
+
+pub shape_of-highs : goal.shape_of-highs
+shape_of-highs c = search rules
+
+pub returns : goal.returns
+returns c =
+    record {
+      lows_are = prefix-all _ _ _ _ _ c.loop-i.invariant.1 (search rules) refl;
+      highs_are = prefix-all _ _ _ _ _ c.loop-i.invariant.2 (search rules) (sym c.requires.highs_len.0);
+    }

@@ -1,0 +1,29 @@
+-- `retention::reading::wanted` meets its contract. The invariant: the items before this one are passed. Assumes nothing.
+use Prim.Native.Nat.{◌-◌}
+use native.Mathlib.Omega.{arith}
+use mathlib.Core.Path.{sym, ◌∙◌}
+use borrow.Author.Rules.{rules}
+use Rattle.retention.specs.Wanted.{items}
+use Rattle.retention.proofs.Passing.{Passing, passing-none, passing-next, passing-stops, passing-all}
+use Rattle.retention.proofs.reading.wanted.Goals as goal
+
+pub loop-passed-init : goal.loop-passed-init
+loop-passed-init c = passing-none _ _
+
+pub item_fault-requires : goal.item_fault-requires
+item_fault-requires c = c.loop-passed-test.true
+
+pub wanted_item-bytes-requires : goal.wanted_item-bytes-requires
+wanted_item-bytes-requires c = c.loop-passed-test.true
+
+pub returns-then-item_fault-ne0 : goal.returns-then-item_fault-ne0
+returns-then-item_fault-ne0 c =
+    passing-stops _ _ _ c.loop-passed.invariant c.loop-passed-test.true (λ z. c.if-item_fault-ne0.true (c.item_fault.ensures ∙ z)) _
+    c.wanted_item-bytes.ensures
+
+pub loop-passed-preserved : goal.loop-passed-preserved
+loop-passed-preserved c =
+    passing-next _ _ _ c.loop-passed.invariant c.loop-passed-test.true (sym c.item_fault.ensures ∙ c.if-item_fault-ne0.false)
+
+pub returns : goal.returns
+returns c = passing-all _ _ _ c.loop-passed.invariant c.loop-passed-test.false

@@ -1,0 +1,15 @@
+use mathlib.Core.Path.{sym, ◌∙◌}
+use Prim.Native.Nat.{◌-◌, ◌≤◌}
+use native.Mathlib.Omega.{arith}
+use borrow.Author.Rules.{rules}
+use Rattle.ring.specs.Ring.{ring_of}
+use Rattle.ring.proofs.Table.{ring_of-is}
+use Rattle.ring.proofs.Places.{radius-pos}
+use Rattle.retouch.proofs.Passing.{Passed, passed_none, passed_length, passed-next, passed-all, ready-map}
+use Rattle.retouch.proofs.cells.redo_touched.Given as goal
+
+abbrev pub invariant-loop-k : goal.invariant-loop-k
+invariant-loop-k l = (l.k ≤ 21) × Passed l.img l.w l.h (ring_of l.ring) (record { x = l.x; y = l.y }) l.initial.map l.k l.map l.n
+
+abbrev pub decreases-loop-k : goal.decreases-loop-k
+decreases-loop-k l = 21 - l.k

@@ -1,0 +1,55 @@
+-- `retouch::retouch` meets its contract: refused, or the pixel stored and what it touches redone. Assumes nothing.
+use mathlib.Core.Path.{refl, sym, ◌∙◌}
+use Prim.Native.Nat.{◌+◌, ◌*◌, ◌<◌}
+use native.Mathlib.Omega.{arith}
+use borrow.Author.Rules.{rules}
+use lib.ListN.{length}
+use Rattle.lists.specs.Limits.{largest_map}
+use Rattle.lists.specs.Places.{Place}
+use Rattle.lists.proofs.Places.{in_map}
+use Rattle.response.proofs.Indices.{area-le}
+use Rattle.retouch.specs.Internal.{PixelChecked}
+use Rattle.retouch.proofs.Judging.{ready, ready-changed, when-refused, when-redone}
+use Rattle.retouch.proofs.retouch.Goals as goal
+use Rattle.retouch.proofs.retouch.Goals.{After-refusal-number, Else-number-ne0, Start}
+
+-- ---- nothing refuses
+
+abbrev pixel : Start → Place
+pixel a = record { x = a.args.x; y = a.args.y }
+
+granted : (c : Else-number-ne0)
+    → PixelChecked c.args.img.now c.args.w c.args.h c.args.ring (pixel c.before.before.before.before)
+    c.args.map.now
+granted c = ready _ _ _ _ _ _ (sym c.refusal-number.ensures ∙ c.if-number-ne0.false)
+
+stored : (c : Else-number-ne0) → c.args.y * c.args.w + c.args.x < length c.args.img.now
+stored c = let g = granted c in rw g.image.sized (in_map _ _ _ _ g.column g.row)
+
+near : (c : Else-number-ne0) → c.args.y * c.args.w + c.args.x < largest_map
+near c = let g = granted c in omega (arith, stored c, g.image.sized, area-le _ _ g.image.narrow g.image.low)
+
+pub returns-then-number-ne0 : goal.returns-then-number-ne0
+returns-then-number-ne0 c = when-refused _ _ _ _ _ _ _ _ c.refusal-number.ensures c.if-number-ne0.true
+
+pub overflow_mul-img : goal.overflow_mul-img
+overflow_mul-img c = omega (arith, near c)
+
+pub overflow_add-img : goal.overflow_add-img
+overflow_add-img c = omega (arith, near c)
+
+pub bounds-img-y : goal.bounds-img-y
+bounds-img-y c = stored c
+
+pub redo_touched-cells-requires : goal.redo_touched-cells-requires
+redo_touched-cells-requires c = ready-changed _ _ _ _ _ _ _ (granted (goal.at.redo_touched-cells-requires c).After-refusal-number)
+
+pub shape_of-img : goal.shape_of-img
+shape_of-img c = search rules
+
+pub shape_of-map : goal.shape_of-map
+shape_of-map c = search rules
+
+pub returns : goal.returns
+returns c =
+    when-redone _ _ _ _ _ _ _ _ _ _ _ c.refusal.ensures c.if1.false refl c.redo_touched-cells.ensures.1 c.redo_touched-cells.ensures.0

@@ -1,0 +1,44 @@
+-- `sure_peak::refusal` meets its contract: each return is the first condition of the table that holds. Assumes nothing.
+use mathlib.Core.Path.{◌≡◌, sym, ◌∙◌}
+use mathlib.Core.Bool.{cond}
+use borrow.Author.Tests.{le-leb, lt-leb}
+use Rattle.lists.specs.Internal.{Sized}
+use Rattle.image_size.proofs.Judged.{refused, sized}
+use Rattle.retouch.specs.Promise.{place_outside}
+use Rattle.sure_peak.specs.Promise.{refusal_of}
+use Rattle.sure_peak.proofs.Judging.{by_length, by-parameters, by_place}
+use borrow.Author.Rules.{rules}
+use Rattle.sure_peak.proofs.refusal.Goals as goal
+use Rattle.sure_peak.proofs.refusal.Goals.{Else-is_outside, Else-number-ne0}
+
+pub returns-then-number-ne0 : goal.returns-then-number-ne0
+unfolding refusal_of
+returns-then-number-ne0 c = refused _ _ _ _ _ c.refusal-number.ensures c.if-number-ne0.true
+
+-- past the test of the low map
+image : (c : Else-number-ne0) → Sized c.args.lows c.args.w c.args.h
+image c = sized _ _ _ _ c.refusal-number.ensures c.if-number-ne0.false
+
+pub returns-then-highs-lows : goal.returns-then-highs-lows
+returns-then-highs-lows c = by_length _ _ _ _ _ _ _ _ (image (goal.at.returns-then-highs-lows c).Else-number-ne0) c.if-highs-lows.true
+
+pub returns-then-is_outside : goal.returns-then-is_outside
+returns-then-is_outside c =
+    by-parameters _ _ _ _ _ _ _ _ (image (goal.at.returns-then-is_outside c).Else-number-ne0) c.if-highs-lows.false (sym c.is_outside.ensures ∙ c.if-is_outside.true)
+
+-- past the parameters
+place : (c : Else-is_outside)
+    →
+    refusal_of c.args.lows c.args.highs c.args.w c.args.h c.args.ring c.args.window c.args.centroid (record { x = c.args.x; y = c.args.y })
+    ≡ cond (place_outside c.args.w c.args.h (record { x = c.args.x; y = c.args.y })) 14 0
+place c =
+    by_place _ _ _ _ _ _ _ _ (image c.before.before.before) c.if-highs-lows.false (sym c.is_outside.ensures ∙ c.if-is_outside.false)
+
+pub returns-then-w-x : goal.returns-then-w-x
+returns-then-w-x c = rw (place (goal.at.returns-then-w-x c).Else-is_outside, le-leb _ _ c.if-w-x.true)
+
+pub returns-then-h-y : goal.returns-then-h-y
+returns-then-h-y c = rw (place (goal.at.returns-then-h-y c).Else-is_outside, lt-leb _ _ c.if-w-x.false, le-leb _ _ c.if-h-y.true)
+
+pub returns : goal.returns
+returns c = rw (place (goal.at.returns c).Else-is_outside, lt-leb _ _ c.if-w-x.false, lt-leb _ _ c.if-h-y.false)

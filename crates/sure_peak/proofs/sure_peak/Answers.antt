@@ -1,0 +1,77 @@
+-- `sure_peak::sure_peak` meets its contract: refused, or answered by the border and the tests of the place. Assumes nothing.
+use mathlib.Core.Path.{◌≡◌, sym, ◌∙◌}
+use mathlib.Core.Bool.{true, ◌&&◌}
+use Prim.Native.Nat.{ℕ, ◌+◌, ◌≤◌}
+use native.Mathlib.Omega.{arith}
+use lib.Dec.{leb, ltb}
+use lib.ListN.{length}
+use borrow.Author.Tests.{not-true, not-false}
+use Rattle.lists.specs.Limits.{largest_border}
+use Rattle.lists.specs.Places.{Place}
+use Rattle.detect.specs.Internal.{Inside}
+use Rattle.sure_peak.proofs.Judging.{Given, given, inside, narrower, when-refused, outside-across, outside-down, is-sure, not-sure}
+use borrow.Author.Rules.{rules}
+use Rattle.sure_peak.proofs.sure_peak.Goals as goal
+use Rattle.sure_peak.proofs.sure_peak.Goals.{Else-not-is_inside-2, Else-number-ne0}
+
+pub returns-then-number-ne0 : goal.returns-then-number-ne0
+returns-then-number-ne0 c = when-refused _ _ _ _ _ _ _ _ _ _ _ c.refusal-number.ensures c.if-number-ne0.true
+
+-- ---- nothing refuses
+module _ (c : Else-number-ne0) where
+  abbrev place : Place
+  place = record { x = c.args.x; y = c.args.y }
+
+  abbrev border : ℕ
+  border = c.args.ring + c.args.window + c.args.centroid
+
+  granted :
+      Given (length c.args.lows.now) (length c.args.highs.now) c.args.w c.args.h c.args.ring c.args.window c.args.centroid place
+  granted = given _ _ _ _ _ _ _ _ (sym c.refusal-number.ensures ∙ c.if-number-ne0.false)
+
+  narrow : border ≤ largest_border
+  narrow = let g = granted in omega (arith, g.ring-small, g.window-small, g.centroid-small)
+
+pub is_inside-requires : goal.is_inside-requires
+is_inside-requires c = let g = granted c in (narrow c, omega (arith, g.column, g.low-cells.narrow))
+
+pub returns-then-not-is_inside : goal.returns-then-not-is_inside
+returns-then-not-is_inside c =
+    outside-across _ _ _ _ _ _ _ _ _ _ _ c.refusal-number.ensures c.if-number-ne0.false
+    (sym c.is_inside.ensures ∙ not-true _ c.if-not-is_inside.true-raw)
+
+pub is_inside-requires-2 : goal.is_inside-requires-2
+is_inside-requires-2 c = let g = granted (goal.at.is_inside-requires-2 c).Else-number-ne0 in (narrow (goal.at.is_inside-requires-2 c).Else-number-ne0, omega (arith, g.row, g.low-cells.low))
+
+pub returns-then-not-is_inside-2 : goal.returns-then-not-is_inside-2
+returns-then-not-is_inside-2 c =
+    outside-down _ _ _ _ _ _ _ _ _ _ _ c.refusal-number.ensures c.if-number-ne0.false
+    (sym c.is_inside-2.ensures ∙ not-true _ c.if-not-is_inside-2.true-raw)
+
+-- ---- inside the border
+module _ (c : Else-not-is_inside-2) where
+  across : (leb (border c.before.before.before.before) c.args.x && ltb (c.args.x + border c.before.before.before.before) c.args.w) ≡ true
+  across = sym c.is_inside.ensures ∙ not-false _ c.if-not-is_inside.false-raw
+
+  down : (leb (border c.before.before.before.before) c.args.y && ltb (c.args.y + border c.before.before.before.before) c.args.h) ≡ true
+  down = sym c.is_inside-2.ensures ∙ not-false _ c.if-not-is_inside-2.false-raw
+
+  within : Inside c.args.w c.args.h c.args.window (place c.before.before.before.before)
+  within = narrower _ _ (border c.before.before.before.before) _ (place c.before.before.before.before) (omega arith) (inside _ _ _ (place c.before.before.before.before) across down)
+
+pub is_sure-requires : goal.is_sure-requires
+is_sure-requires c =
+    let g = granted (goal.at.is_sure-requires c).Else-number-ne0 in (
+      record { cells = g.low-cells; radius = g.window-small; inside = within c },
+      record { cells = g.high-cells; radius = g.window-small; inside = within c },
+    )
+
+pub returns-then-is_sure : goal.returns-then-is_sure
+returns-then-is_sure c =
+    is-sure _ _ _ _ _ _ _ _ _ _ _ c.refusal-number.ensures c.if-number-ne0.false (across (goal.at.returns-then-is_sure c).Else-not-is_inside-2) (down (goal.at.returns-then-is_sure c).Else-not-is_inside-2) _ c.is_sure.ensures
+    c.if-is_sure.true
+
+pub returns : goal.returns
+returns c =
+    not-sure _ _ _ _ _ _ _ _ _ _ _ c.refusal-number.ensures c.if-number-ne0.false (across (goal.at.returns c).Else-not-is_inside-2) (down (goal.at.returns c).Else-not-is_inside-2) _
+    c.is_sure.ensures c.if-is_sure.false
