@@ -35,7 +35,7 @@ add_found-g-requires c =
     (λ i. (c.shared_slice_known-1.given i).fits) in
     
     let ready : FrameChecked c.args.p c.args.img.now c.args.w c.args.h (length c.args.map.now) = record { sound = sound; enough = taken.enough } in
-record { frame_checked = ready-kept _ _ _ _ _ _ ready (search c.add_seeds-f.kept.1.1.1.1.1.1.1); n_le_most_levels = ((
+record { frame_checked = ready-kept _ _ _ _ _ _ ready (search c.add_seeds-f.kept.1.1.1.1.1.1.1); n_le_most_levels = (
         levels-most c.args.p c.args.img.now c.args.w c.args.h _ _
             (record { before = _; complete = c.build-n.ensures }),
         omega (
@@ -43,7 +43,7 @@ record { frame_checked = ready-kept _ _ _ _ _ _ ready (search c.add_seeds-f.kept
           seeds-few c.args.p c.args.exact c.args.img.now c.args.w c.args.h _ ready _ _ _ _ c.add_seeds-f.ensures,
           c.added-m.ensures,
         ),
-      )) }
+      ) }
 
 pub shape_of-map : goal.shape_of-map
 shape_of-map c =

@@ -17,17 +17,17 @@ pub slice_bounds-clear-end : goal.slice_bounds-clear-end
 slice_bounds-clear-end c = search rules
 
 pub slice_bounds-clear-end-then-slots-gt0 : goal.slice_bounds-clear-end-then-slots-gt0
-slice_bounds-clear-end-then-slots-gt0 c = sym (length-take-le _ _ (slice-relend-prefix-clear (goal.at.slice_bounds-clear-end-then-slots-gt0 c).Then-slots-gt0))
+slice_bounds-clear-end-then-slots-gt0 c = sym (length-take-le _ _ (slice_bounds-clear-end (goal.at.slice_bounds-clear-end-then-slots-gt0 c).Then-slots-gt0))
 
 pub slice_bounds-merge_with-end : goal.slice_bounds-merge_with-end
 slice_bounds-merge_with-end c = search rules
 
 pub slice_bounds-merge_with-end-then-slots-gt0 : goal.slice_bounds-merge_with-end-then-slots-gt0
-slice_bounds-merge_with-end-then-slots-gt0 c = sym (length-take-le _ _ (slice-relend-prefix-merge-with (goal.at.slice_bounds-merge_with-end-then-slots-gt0 c).After-merge_with-arg-then-slots-gt0-3-1))
+slice_bounds-merge_with-end-then-slots-gt0 c = sym (length-take-le _ _ (slice_bounds-merge_with-end (goal.at.slice_bounds-merge_with-end-then-slots-gt0 c).After-merge_with-arg-then-slots-gt0-3-1))
 
 pub merge_with-t-requires : goal.merge_with-t-requires
 merge_with-t-requires c =
-    let some = subst (λ (n : ℕ). 0 < n) (slice-aggregate-merge-with c) c.if-slots-gt0.true in
+    let some = subst (λ (n : ℕ). 0 < n) (slice_bounds-merge_with-end-then-slots-gt0 c) c.if-slots-gt0.true in
 record { n_bound = omega (arith, c.lesser-held.ensures, c.places-places.ensures); table_nonzero = some; step = record { few = omega arith; upto = omega arith } }
 
 pub shape_of-xs-then-slots-gt0 : goal.shape_of-xs-then-slots-gt0

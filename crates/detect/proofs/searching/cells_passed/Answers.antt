@@ -31,8 +31,8 @@ overflow_add-k c = omega (arith, c.requires.within, c.well_formed)
 
 pub rival-u-requires : goal.rival-u-requires
 rival-u-requires c =
-    record { i_in_bounds = omega (arith, c.requires.within); le_w = (λ e. let around = c.requires.around e in
-      (around.0, omega (arith, around.1), omega (arith, around.2))) }
+    record { i_in_bounds = omega (arith, c.requires.within); le_w = λ e. let around = c.requires.around e in
+      (around.0, omega (arith, around.1), omega (arith, around.2)) }
 
 pub bounds-map-k : goal.bounds-map-k
 bounds-map-k c = omega (arith, c.requires.within)

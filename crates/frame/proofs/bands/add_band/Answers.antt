@@ -46,7 +46,7 @@ pub slice_bounds-add_row_corners-end : goal.slice_bounds-add_row_corners-end
 slice_bounds-add_row_corners-end c = search rules
 
 pub slice_bounds-add_row_corners-end-2 : goal.slice_bounds-add_row_corners-end-2
-slice_bounds-add_row_corners-end-2 c = sym (length-take-le _ _ (slice-reshare-prefix-add-row-corners (goal.at.slice_bounds-add_row_corners-end-2 c).After-slice_known-6-1))
+slice_bounds-add_row_corners-end-2 c = sym (length-take-le _ _ (slice_bounds-add_row_corners-end (goal.at.slice_bounds-add_row_corners-end-2 c).After-slice_known-6-1))
 
 pub shape_of-map : goal.shape_of-map
 shape_of-map c = search rules
@@ -67,7 +67,7 @@ pub returns : goal.returns
 returns c =
     let held = band-held c.args.p c.args.img.now _ _ _ _ c.requires.1 c.args.map.now c.requires.0 _ _
     c.chess_response_u8_patch-m.ensures c.requires.2 in
-    let long = slice-reshare-prefix-add-row-corners (goal.at.returns c).After-border-b in (
+    let long = slice_bounds-add_row_corners-end (goal.at.returns c).After-border-b in (
       band-adds c.args.p c.args.img.now _ _ _ _ c.requires.1 _
           (record { sound = c.requires.0.sound; enough = omega (arith, long, mul_comm c.args.w c.args.h) }) c.args.exact held _ _
           (c.minus.ensures ∙ ap (λ (k : ℕ). c.args.j - k) c.border-b.ensures)

@@ -47,11 +47,11 @@ row-requires c =
     record { image_with_table = (
         record { image = c.requires.sized.0; c.ring_offsets-t.ensures = c.ring_offsets-t.ensures; own_radius = c.requires.sized.2 },
         record { image = c.requires.sized.1; c.ring_offsets-t.ensures = c.ring_offsets-t.ensures; own_radius = c.requires.sized.2 },
-      ); lows_len = ((
+      ); lows_len = (
         part_length c.loop-y.a c.args.w c.loop-y.lows (omega (arith, in-lows (goal.at.row-requires c).In-loop-y, c.loop-y.invariant.0)),
         part_length c.loop-y.a c.args.w c.loop-y.highs (omega (arith, in-highs (goal.at.row-requires c).In-loop-y, c.loop-y.invariant.1)),
         c.loop-y-test.true,
-      )) }
+      ) }
 
 pub loop-y-preserved : goal.loop-y-preserved
 loop-y-preserved c =

@@ -17,8 +17,6 @@ loop-i-init c = (search rules, prefix-none _ _ _ refl, prefix-none _ _ _ c.requi
 
 -- where the end of a run is known: both its parts are as long as it
 module _ (c : After-lesser-e) where
-
-
   ends : c.lesser-e.result ≤ length c.args.lows.now
   ends = omega (arith, c.lesser-e.ensures)
 
@@ -32,24 +30,24 @@ module _ (c : After-lesser-e) where
 
 pub run-requires : goal.run-requires
 run-requires c =
-    record { image_with_table = c.requires.image_with_table; lows_len_bound = (
-        (
-          rw (lows-long (goal.at.run-requires c).After-lesser-e) (omega arith),
-          highs-long (goal.at.run-requires c).After-lesser-e ∙ sym (lows-long (goal.at.run-requires c).After-lesser-e),
-          rw (lows-long (goal.at.run-requires c).After-lesser-e) (omega (arith, ends (goal.at.run-requires c).After-lesser-e, c.requires.highs_len.1)),
-        ),
-        λ k l. rw add_assoc (c.requires.by_index (c.loop-i.i + k) (omega (arith, ends (goal.at.run-requires c).After-lesser-e, lows-long (goal.at.run-requires c).After-lesser-e))),
-      ); by_index =  }
+    record {
+      image_with_table = c.requires.image_with_table;
+      lows_len_bound = (
+        rw (lows-long (goal.at.run-requires c).After-lesser-e) (omega arith),
+        highs-long (goal.at.run-requires c).After-lesser-e ∙ sym (lows-long (goal.at.run-requires c).After-lesser-e),
+        rw (lows-long (goal.at.run-requires c).After-lesser-e) (omega (arith, ends (goal.at.run-requires c).After-lesser-e, c.requires.highs_len.1)),
+      );
+      by_index = λ k l. rw add_assoc (c.requires.by_index (c.loop-i.i + k) (omega (arith, ends (goal.at.run-requires c).After-lesser-e, lows-long (goal.at.run-requires c).After-lesser-e)));
+    }
 
 pub loop-i-preserved : goal.loop-i-preserved
-loop-i-preserved c =
-    (
-      ends (goal.at.loop-i-preserved c).After-lesser-e,
-      prefix-over _ _ _ _ _ c.loop-i.invariant.1 (le_refl _) _ _ _ (search rules) (ends (goal.at.loop-i-preserved c).After-lesser-e)
-          (lows-shifted _ _ _ _ _ _ _ _ _ _ c.run.ensures.lows_are) (lows-long (goal.at.loop-i-preserved c).After-lesser-e),
-      prefix-over _ _ _ _ _ c.loop-i.invariant.2 (le_refl _) _ _ _ (search rules) (ends (goal.at.loop-i-preserved c).After-lesser-e)
-          (highs-shifted _ _ _ _ _ _ _ _ _ _ c.run.ensures.highs_are) (highs-long (goal.at.loop-i-preserved c).After-lesser-e),
-    )
+loop-i-preserved c = (
+  ends (goal.at.loop-i-preserved c).After-lesser-e,
+  prefix-over _ _ _ _ _ c.loop-i.invariant.1 (le_refl _) _ _ _ (search rules) (ends (goal.at.loop-i-preserved c).After-lesser-e)
+      (lows-shifted _ _ _ _ _ _ _ _ _ _ c.run.ensures.lows_are) (lows-long (goal.at.loop-i-preserved c).After-lesser-e),
+  prefix-over _ _ _ _ _ c.loop-i.invariant.2 (le_refl _) _ _ _ (search rules) (ends (goal.at.loop-i-preserved c).After-lesser-e)
+      (highs-shifted _ _ _ _ _ _ _ _ _ _ c.run.ensures.highs_are) (highs-long (goal.at.loop-i-preserved c).After-lesser-e),
+)
 
 pub shape_of-lows : goal.shape_of-lows
 shape_of-lows c = search rules

@@ -14,8 +14,6 @@ use Rattle.response_limits.proofs.rows.row.Goals.{After-clear_edges-2}
 
 -- where both edges are cleared
 module _ (c : After-clear_edges-2) where
-
-
   abbrev from : ℕ
   from = c.reach-s.result.from
 
@@ -40,10 +38,7 @@ module _ (c : After-clear_edges-2) where
 pub inner-requires : goal.inner-requires
 inner-requires c =
     let low = part-long (goal.at.inner-requires c).After-clear_edges-2 (lows (goal.at.inner-requires c).After-clear_edges-2) (lows-cleared (goal.at.inner-requires c).After-clear_edges-2) in
-    let high = part-long (goal.at.inner-requires c).After-clear_edges-2 (highs (goal.at.inner-requires c).After-clear_edges-2) (highs-cleared (goal.at.inner-requires c).After-clear_edges-2) in record { image_with_table = c.requires.image_with_table; highs_len = (
-        (high ∙ sym low, rw low (omega (arith, c.reach-s.ensures.ordered, c.reach-s.ensures.ends))),
-        λ i l. span-inner _ _ _ _ _ _ _ c.reach-s.ensures i (omega (arith, low)),
-      ); by_index =  }
+    let high = part-long (goal.at.inner-requires c).After-clear_edges-2 (highs (goal.at.inner-requires c).After-clear_edges-2) (highs-cleared (goal.at.inner-requires c).After-clear_edges-2) in record { image_with_table = c.requires.image_with_table; highs_len = (high ∙ sym low, rw low (omega (arith, c.reach-s.ensures.ordered, c.reach-s.ensures.ends))); by_index = λ i l. span-inner _ _ _ _ _ _ _ c.reach-s.ensures i (omega (arith, low)) }
 
 pub shape_of-lows : goal.shape_of-lows
 shape_of-lows c = search rules
@@ -52,8 +47,7 @@ pub shape_of-highs : goal.shape_of-highs
 shape_of-highs c = search rules
 
 pub returns : goal.returns
-returns c =
-    (
-      lows-put _ _ _ _ _ _ _ _ _ c.reach-s.ensures _ (lows-cleared (goal.at.returns c).After-clear_edges-2) _ _ (part-long (goal.at.returns c).After-clear_edges-2 (lows (goal.at.returns c).After-clear_edges-2) (lows-cleared (goal.at.returns c).After-clear_edges-2)) c.inner.ensures.lows_are,
-      highs-put _ _ _ _ _ _ _ _ _ c.reach-s.ensures _ (highs-cleared (goal.at.returns c).After-clear_edges-2) _ _ (part-long (goal.at.returns c).After-clear_edges-2 (highs (goal.at.returns c).After-clear_edges-2) (highs-cleared (goal.at.returns c).After-clear_edges-2)) c.inner.ensures.highs_are,
-    )
+returns c = (
+  lows-put _ _ _ _ _ _ _ _ _ c.reach-s.ensures _ (lows-cleared (goal.at.returns c).After-clear_edges-2) _ _ (part-long (goal.at.returns c).After-clear_edges-2 (lows (goal.at.returns c).After-clear_edges-2) (lows-cleared (goal.at.returns c).After-clear_edges-2)) c.inner.ensures.lows_are,
+  highs-put _ _ _ _ _ _ _ _ _ c.reach-s.ensures _ (highs-cleared (goal.at.returns c).After-clear_edges-2) _ _ (part-long (goal.at.returns c).After-clear_edges-2 (highs (goal.at.returns c).After-clear_edges-2) (highs-cleared (goal.at.returns c).After-clear_edges-2)) c.inner.ensures.highs_are,
+)

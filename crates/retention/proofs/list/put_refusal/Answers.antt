@@ -14,7 +14,7 @@ pub slice_bounds-copy_from_slice-count : goal.slice_bounds-copy_from_slice-count
 slice_bounds-copy_from_slice-count c = text-fits _ c.requires.0 _ _ _ c.write_refusal-n.ensures
 
 pub slice_bounds-copy_from_slice-start : goal.slice_bounds-copy_from_slice-start
-slice_bounds-copy_from_slice-start c = sym (length-take-le _ _ (array-share-prefix-text (goal.at.slice_bounds-copy_from_slice-start c).After-text-1))
+slice_bounds-copy_from_slice-start c = sym (length-take-le _ _ (slice_bounds-copy_from_slice-count (goal.at.slice_bounds-copy_from_slice-start c).After-text-1))
 
 pub slice_bounds-copy_from_slice-end-2 : goal.slice_bounds-copy_from_slice-end-2
 slice_bounds-copy_from_slice-end-2 c = omega (arith, text-short _ c.requires.0 _ _ _ c.write_refusal-n.ensures)
