@@ -1,12 +1,13 @@
 // What the program says, on standard output or standard error. Only this module makes an `Output`: code that returns
 // one has called a function of this module.
-ghost use Rattle.std.specs.Prelude.{◌≡◌, true, false};
+ghost use Rattle.std.specs.Prelude.{◌≡◌, true, IsErr};
 ghost use Rattle.finder.specs.Finder.{output_of};
 ghost use Rattle.input.specs.Input.{is_below0};
 ghost use Rattle.input.specs.Reading.{Prints};
 ghost use Rattle.stream.specs.Wanted.{wanted};
 
 use input::Input;
+use std::io;
 
 #[derive(Clone, Copy)]
 pub(crate) struct Output {
@@ -15,28 +16,31 @@ pub(crate) struct Output {
 }
 
 // Writes the text of what was read.
-pub(crate) fn write_listing(text: &[u8], stream: &[u8], input: Input) -> Output
+pub(crate) fn write_listing(rt: &HostRuntime, text: &[u8], stream: &[u8], input: Input) -> Output
     requires { Prints wanted output_of input stream.now text.now }
 {
-    let written = io::write_all(libc::STDOUT_FILENO, text);
+    let outcome = rt.write_all(text);
+    let written = outcome.is_ok();
     if written {
         return Output { written };
     }
-    report_output(written)
+    report_output(rt, outcome)
 }
 
-// Reports that a text was not written.
-fn report_output(written: bool) -> Output
-    requires { written ≡ false }
+// Reports why a text was not written.
+fn report_output(rt: &HostRuntime, outcome: io::Result<()>) -> Output
+    requires { IsErr outcome }
 {
-    os::fail(b"corners: standard output");
-    Output { written }
+    let error = outcome.unwrap_err();
+    let _ = eprintln!(rt; "corners: standard output: {error}");
+    Output { written: false }
 }
 
-// Reports that a read failed.
-pub(crate) fn report_input(input: Input) -> Output
+// Reports why a read failed.
+pub(crate) fn report_input(rt: &HostRuntime, input: Input) -> Output
     requires { is_below0 input.answer ≡ true }
 {
-    os::fail(b"corners: standard input");
+    let error = input::failure(input);
+    let _ = eprintln!(rt; "corners: standard input: {error}");
     Output { written: false }
 }

@@ -1,5 +1,7 @@
 -- How far standard input was read (RULES 12.5). No contract of C's `read` can say which bytes come.
-use Rattle.std.specs.Prelude.{ℕ, ◌+◌, ◌-◌, ◌≤◌, min, ◌≡◌, Bool, true, false, List, length, take, drop, ℤ, pos, negsuc}
+use Rattle.std.specs.Prelude.{ℕ, suc, ◌+◌, ◌-◌, ◌<◌, ◌≤◌, min, ◌≡◌, Bool, true, false, List, length, take, drop, ℤ, pos, negsuc, Some}
+use Rattle.std.specs.declared.io.Error.{Error}
+use Rattle.std.specs.IoError.{raw_os_error}
 use Rattle.input.specs.declared.Input.{Input}
 
 abbrev pub is_below0 : ℤ → Bool
@@ -10,6 +12,15 @@ is_below0 (negsuc k) = true
 abbrev pub came_by : ℤ → ℕ
 came_by (pos k) = k
 came_by (negsuc k) = 0
+
+-- an answer that says that a read failed with this error: below 0, and minus the number of the system's error if that is
+-- above 0
+abbrev pub IsFailure : Error → ℤ → Type 0
+IsFailure e z = (is_below0 z ≡ true) × ((k : ℕ) → raw_os_error e ≡ Some (pos (suc k)) → z ≡ negsuc k)
+
+-- the error that such an answer says
+abbrev pub FailedWith : ℤ → Error → Type 0
+FailedWith z e = (k : ℕ) → z ≡ negsuc k → suc k < 2147483648 → raw_os_error e ≡ Some (pos (suc k))
 
 -- before the first read
 abbrev pub begun : Input

@@ -2,16 +2,20 @@
 // its end or to a failure.
 #![tactic(auto)]
 
-ghost use Rattle.std.specs.Prelude.{◌≡◌};
-ghost use Rattle.input.specs.Input.{begun, is_below0, ReadOn};
+ghost use Rattle.std.specs.Prelude.{◌≡◌, true, pos, MatchResult};
+ghost use Rattle.std.specs.Io.{ReadsAtMost};
+ghost use Rattle.input.specs.Input.{begun, is_below0, came_by, IsFailure, FailedWith, ReadOn};
+
+use std::io;
+use std::io::{Read, Stdin};
 
 // How far standard input was read.
 #[derive(Clone, Copy)]
 pub struct Input {
     // How many bytes came. They are at the start of the reader's buffer.
     count: usize,
-    // What the last read answered: how many bytes it brought, 0 at the end of the input, below 0 if it failed; 1 before
-    // the first.
+    // What the last read answered: how many bytes it brought, 0 at the end of the input, below 0 if it failed, which is
+    // minus the number of the system's error; 1 before the first.
     answer: isize,
 }
 
@@ -26,17 +30,45 @@ pub fn begin() -> Input
 }
 
 // One more read, of `more` bytes or as many as the buffer has places for, after those that came.
-pub fn read_on(input: Input, more: usize, buffer: &mut [u8]) -> Input
+pub fn read_on(mut stdin: Stdin, input: Input, more: usize, buffer: &mut [u8]) -> Input
     ensures { ReadOn input more buffer.old result buffer.new }
 {
     let start = numbers::lesser(input.count, buffer.len());
     let end = start + numbers::lesser(more, buffer.len() - start);
-    let answer = libc::read(libc::STDIN_FILENO, &mut buffer[start..end]);
-    let came = io::count(answer, &buffer[start..end]);
+    let outcome = stdin.read(&mut buffer[start..end]);
+    let answer = answer_of(outcome, &buffer[start..end]);
     Input {
-        count: start + came,
+        count: start + count_of(answer),
         answer,
     }
+}
+
+// What a read of a buffer answers: how many bytes it brought, or below 0 if it failed.
+fn answer_of(outcome: io::Result<usize>, buffer: &[u8]) -> isize
+    requires { ReadsAtMost outcome buffer.now }
+    ensures { MatchResult outcome (λ n. result ≡ pos n) (λ e. IsFailure e result) }
+{
+    match outcome {
+        Ok(n) => n as isize,
+        Err(error) => failure_of(error),
+    }
+}
+
+// A failed read's answer: minus the number of the system's error, or -1 if it has none above 0.
+fn failure_of(error: io::Error) -> isize
+    ensures { IsFailure error result }
+{
+    match error.raw_os_error() {
+        Some(code) if code > 0 => -(code as isize),
+        _ => -1,
+    }
+}
+
+// How many bytes a read with this answer brought.
+fn count_of(answer: isize) -> usize
+    ensures { result ≡ came_by answer }
+{
+    if answer < 0 { 0 } else { answer as usize }
 }
 
 // How many bytes came.
@@ -51,4 +83,13 @@ pub fn is_failed(input: Input) -> bool
     ensures { result ≡ is_below0 input.answer }
 {
     input.answer < 0
+}
+
+// Why the last read failed.
+pub fn failure(input: Input) -> io::Error
+    requires { is_below0 input.answer ≡ true }
+    ensures { FailedWith input.answer result }
+{
+    let number = input.answer.unsigned_abs();
+    io::Error::from_raw_os_error(i32::try_from(number).unwrap_or(0))
 }

@@ -3,7 +3,7 @@
 // so in a line on standard error.
 #![tactic(auto)]
 
-ghost use Rattle.std.specs.Prelude.{◌≡◌, cond, false, ◌≤◌};
+ghost use Rattle.std.specs.Prelude.{◌≡◌, cond, IsErr, ◌≤◌};
 ghost use Rattle.corner_list.specs.CornerList.{slices, places_of, corners_of};
 ghost use Rattle.listing.specs.Text.{corners_text};
 ghost use Rattle.merge_naive.specs.Case.{corner, three, two};
@@ -11,6 +11,7 @@ ghost use Rattle.merge_naive.specs.Case.{corner, three, two};
 use corner_list::Corner;
 use listing::{LONGEST, Listing, MOST_CORNERS};
 use merge::answers::kept_of;
+use std::io;
 
 // A corner of strength 1 without neighbours.
 fn unit_corner(x: f32, y: f32) -> Corner
@@ -69,25 +70,28 @@ fn merge_case(
 }
 
 // Writes a text that is the listing of what is left.
-fn write_listing(text: &[u8], cells: bool)
+fn write_listing(rt: &HostRuntime, text: &[u8], cells: bool)
     requires { text.now ≡ corners_text (cond cells three two) }
 {
-    let written = io::write_all(libc::STDOUT_FILENO, text);
+    let outcome = rt.write_all(text);
+    let written = outcome.is_ok();
     if written {
         return;
     }
-    report(written);
+    report(rt, outcome);
 }
 
-// Reports that a text was not written.
-fn report(written: bool)
-    requires { written ≡ false }
+// Reports why a text was not written.
+fn report(rt: &HostRuntime, outcome: io::Result<()>)
+    requires { IsErr outcome }
 {
-    os::fail(b"merge_case: standard output");
+    let error = outcome.unwrap_err();
+    let _ = eprintln!(rt; "merge_case: standard output: {error}");
 }
 
 // Prints the first `count` corners of a buffer, which are what is left.
 fn print_corners(
+    rt: &HostRuntime,
     xs: &[f32; MOST_CORNERS],
     ys: &[f32; MOST_CORNERS],
     strengths: &[f32; MOST_CORNERS],
@@ -102,21 +106,21 @@ fn print_corners(
     let Listing::Text(end) = listed else {
         return;
     };
-    write_listing(&text[..end], cells);
+    write_listing(rt, &text[..end], cells);
 }
 
 // Prints what a merge leaves of the three corners.
-fn print_case(cells: bool) {
+fn print_case(rt: &HostRuntime, cells: bool) {
     let mut xs = [0.0f32; MOST_CORNERS];
     let mut ys = [0.0f32; MOST_CORNERS];
     let mut strengths = [0.0f32; MOST_CORNERS];
     let mut neighbours = [0u32; MOST_CORNERS];
     put_case(&mut xs, &mut ys, &mut strengths, &mut neighbours);
     let count = merge_case(&mut xs, &mut ys, &mut strengths, &mut neighbours, cells);
-    print_corners(&xs, &ys, &strengths, &neighbours, count, cells);
+    print_corners(rt, &xs, &ys, &strengths, &neighbours, count, cells);
 }
 
-fn main() {
-    print_case(false);
-    print_case(true);
+fn main(rt: HostRuntime) {
+    print_case(&rt, false);
+    print_case(&rt, true);
 }

@@ -23,10 +23,8 @@ fn rule_byte(i: usize) -> u8 {
 
 // Fills a byte buffer by the rule.
 pub(crate) fn fill_bytes(d: &mut [u8]) {
-    let mut i = 0;
-    while i < d.len() {
+    for i in 0..d.len() {
         d[i] = rule_byte(i);
-        i += 1;
     }
 }
 
@@ -40,19 +38,15 @@ fn word_or(field: &[u8], i: usize, other: u32) -> u32 {
 
 // Fills a float buffer with the floats of a field, and by the rule after them.
 pub(crate) fn read_floats(field: &[u8], d: &mut [f32]) {
-    let mut i = 0;
-    while i < d.len() {
+    for i in 0..d.len() {
         d[i] = float32::from_bits(word_or(field, i, rule_bits(i)));
-        i += 1;
     }
 }
 
 // The same for a buffer of numbers.
 pub(crate) fn read_counts(field: &[u8], d: &mut [u32]) {
-    let mut i = 0;
-    while i < d.len() {
+    for i in 0..d.len() {
         d[i] = word_or(field, i, rule_count(i));
-        i += 1;
     }
 }
 
@@ -68,26 +62,22 @@ fn due_or(field: &[u8], is_kept: bool, i: usize, before: u32) -> u32 {
 
 // Whether a float buffer that was filled with the floats of `given` holds what is expected.
 fn are_floats_due(field: &[u8], is_kept: bool, given: &[u8], after: &[f32]) -> bool {
-    let mut i = 0;
-    while i < after.len() {
+    for i in 0..after.len() {
         let before = word_or(given, i, rule_bits(i));
         if float32::to_bits(after[i]) != due_or(field, is_kept, i, before) {
             return false;
         }
-        i += 1;
     }
     true
 }
 
 // The same for a buffer of numbers.
 fn are_counts_due(field: &[u8], is_kept: bool, given: &[u8], after: &[u32]) -> bool {
-    let mut i = 0;
-    while i < after.len() {
+    for i in 0..after.len() {
         let before = word_or(given, i, rule_count(i));
         if after[i] != due_or(field, is_kept, i, before) {
             return false;
         }
-        i += 1;
     }
     true
 }
@@ -105,12 +95,10 @@ fn due_byte(field: &[u8], is_kept: bool, i: usize) -> u32 {
 
 // Whether a byte buffer holds what is expected, and the field has no more.
 fn are_bytes_due(field: &[u8], is_kept: bool, after: &[u8]) -> bool {
-    let mut i = 0;
-    while i < after.len() {
+    for i in 0..after.len() {
         if byte_at(after, i) != due_byte(field, is_kept, i) {
             return false;
         }
-        i += 1;
     }
     field.len() <= after.len()
 }

@@ -21,6 +21,9 @@ mod streams;
 mod tally;
 
 use fields::word_at;
+use std::fs;
+use std::fs::File;
+use std::io::Read;
 use tally::{ended, print, sum, with};
 
 // The longest body.
@@ -66,36 +69,36 @@ fn replay_record(kind: u8, body: &[u8]) -> Next {
 }
 
 // Reads a body as long as a buffer, and replays its record.
-fn read_body(fd: i32, kind: u8, body: &mut [u8]) -> Next {
-    if io::read_full(fd, body) < body.len() {
+fn read_body(file: &mut File, kind: u8, body: &mut [u8]) -> Next {
+    if file.read_exact(body).is_err() {
         return Next::Short;
     }
     replay_record(kind, body)
 }
 
 // Reads a body of n bytes, and replays its record.
-fn read_behind(fd: i32, kind: u8, n: usize) -> Next {
+fn read_behind(file: &mut File, kind: u8, n: usize) -> Next {
     if LONGEST < n {
         return Next::Short;
     }
     let mut body = [0u8; LONGEST];
-    read_body(fd, kind, &mut body[0..n])
+    read_body(file, kind, &mut body[0..n])
 }
 
 // Reads a record and replays it.
-fn read(fd: i32) -> Next {
+fn read(file: &mut File) -> Next {
     let mut head = [0u8; 5];
-    if io::read_full(fd, &mut head) < 5 {
+    if file.read_exact(&mut head).is_err() {
         return Next::Short;
     }
-    read_behind(fd, head[0], word_at(&head, 1) as usize)
+    read_behind(file, head[0], word_at(&head, 1) as usize)
 }
 
 // Replays the records that are left in a file.
-fn rest(fd: i32) -> u64 {
+fn rest(file: &mut File) -> u64 {
     let mut t = 0u64;
     for compared in 0..1000000u64 {
-        match read(fd) {
+        match read(file) {
             Next::Record(is_same) => {
                 t = with(t, is_same);
             }
@@ -110,39 +113,45 @@ fn rest(fd: i32) -> u64 {
     ended(t, false)
 }
 
+// Replays the records of a file. One that cannot be opened has none, and is not read to its end.
+fn records(rt: &HostRuntime, name: &str) -> u64 {
+    match fs::open(rt, name) {
+        Ok(mut file) => rest(&mut file),
+        Err(_) => ended(0, false),
+    }
+}
+
 // Replays a file and prints its line. Returns the tally with it.
-fn replay(name: &[u8], before: u64) -> u64 {
-    let fd = os::open_read(name);
-    let t = rest(fd);
-    libc::close(fd);
-    print(name, t);
+fn replay(rt: &HostRuntime, name: &str, before: u64) -> u64 {
+    let t = records(rt, name);
+    print(rt, name, t);
     sum(before, t)
 }
 
 // The frames of the program and of the library.
-fn replay_frames() -> u64 {
-    replay(b"library.bin", replay(b"frames.bin", 0))
+fn replay_frames(rt: &HostRuntime) -> u64 {
+    replay(rt, "library.bin", replay(rt, "frames.bin", 0))
 }
 
 // Calls on one map.
-fn replay_maps(before: u64) -> u64 {
-    let t = replay(b"responses.bin", before);
-    replay(b"centroids.bin", replay(b"peaks.bin", t))
+fn replay_maps(rt: &HostRuntime, before: u64) -> u64 {
+    let t = replay(rt, "responses.bin", before);
+    replay(rt, "centroids.bin", replay(rt, "peaks.bin", t))
 }
 
 // Calls about levels, and merges.
-fn replay_levels(before: u64) -> u64 {
-    let t = replay(b"boxes.bin", before);
-    replay(b"merges.bin", replay(b"levels.bin", t))
+fn replay_levels(rt: &HostRuntime, before: u64) -> u64 {
+    let t = replay(rt, "boxes.bin", before);
+    replay(rt, "merges.bin", replay(rt, "levels.bin", t))
 }
 
 // The formats, and the functions of a number.
-fn replay_formats(before: u64) -> u64 {
-    let t = replay(b"streams.bin", before);
-    replay(b"numbers.bin", replay(b"listings.bin", t))
+fn replay_formats(rt: &HostRuntime, before: u64) -> u64 {
+    let t = replay(rt, "streams.bin", before);
+    replay(rt, "numbers.bin", replay(rt, "listings.bin", t))
 }
 
-fn main() {
-    let t = replay_levels(replay_maps(replay_frames()));
-    print(b"all", replay_formats(t));
+fn main(rt: HostRuntime) {
+    let t = replay_levels(&rt, replay_maps(&rt, replay_frames(&rt)));
+    print(&rt, "all", replay_formats(&rt, t));
 }

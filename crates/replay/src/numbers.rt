@@ -20,7 +20,7 @@ fn due_round(body: &[u8], at: usize, x: f32) -> usize {
 fn is_rounded(x: f32, n: u64) -> bool {
     match float32::round_half_away(x) {
         Rounded::Natural(k) => n == (k as u64),
-        Rounded::Negative(k) => n == std::num::wrapping_sub_u64(0, k as u64),
+        Rounded::Negative(k) => n == 0u64.wrapping_sub(k as u64),
         Rounded::Beyond => is_beyond(x),
     }
 }

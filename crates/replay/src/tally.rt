@@ -8,7 +8,7 @@ const CUT_SHORT: u64 = 281474976710656;
 
 // The sum of two tallies.
 pub(crate) fn sum(t: u64, u: u64) -> u64 {
-    std::num::wrapping_add_u64(t, u)
+    t.wrapping_add(u)
 }
 
 // With one more record.
@@ -27,22 +27,15 @@ pub(crate) fn ended(t: u64, is_whole: bool) -> u64 {
     sum(t, CUT_SHORT)
 }
 
-pub(crate) fn print(name: &[u8], t: u64) {
-    io::write_all(1, name);
-    print_count(b": ", t % DIFFERS);
-    print_count(b" compared, ", t / DIFFERS % DIFFERS);
-    print_end(t < CUT_SHORT);
+// Prints the line of a file, or of all.
+pub(crate) fn print(rt: &HostRuntime, name: &str, t: u64) {
+    let compared = t % DIFFERS;
+    let differ = t / DIFFERS % DIFFERS;
+    let end = end_of(t < CUT_SHORT);
+    let _ = println!(rt; "{name}: {compared} compared, {differ} differ{end}");
 }
 
-fn print_count(before: &[u8], n: u64) {
-    io::write_all(1, before);
-    io::print_decimal(1, n);
-}
-
-fn print_end(is_whole: bool) {
-    if is_whole {
-        io::write_all(1, b" differ\n");
-    } else {
-        io::write_all(1, b" differ, cut short\n");
-    }
+// How such a line ends.
+fn end_of(is_whole: bool) -> &'static str {
+    if is_whole { "" } else { ", cut short" }
 }

@@ -12,13 +12,14 @@ ghost use Rattle.retention.specs.Stream.{longest_input};
 
 use input::Input;
 use retention::LONGEST;
+use std::io::Stdin;
 use writing::Output;
 
 // No more is read: the time and 65,536 records.
 const LONGEST_STREAM: usize = 8 + 9 * retention::MOST_RECORDS;
 
 // Reads as many bytes as are needed, again and again, until none are needed or none come.
-fn read_stream(stream: &mut [u8]) -> Input
+fn read_stream(stdin: Stdin, stream: &mut [u8]) -> Input
     requires { length stream.old ≡ longest_input }
     ensures { Read wanted result stream.new }
 {
@@ -32,7 +33,7 @@ fn read_stream(stream: &mut [u8]) -> Input
         if more == 0 {
             return input;
         }
-        input = input::read_on(input, more, stream);
+        input = input::read_on(stdin, input, more, stream);
         if input::count(input) == n {
             return input;
         }
@@ -40,28 +41,28 @@ fn read_stream(stream: &mut [u8]) -> Input
 }
 
 // Prints the letters of what was read.
-fn print_letters(stream: &[u8], input: Input) -> Output
+fn print_letters(rt: &HostRuntime, stream: &[u8], input: Input) -> Output
     requires read { Read wanted input stream.now }
     requires answer_value { is_below0 input.answer ≡ false }
 {
     let n = input::count(input);
     let mut text = [0u8; LONGEST];
     let end = retention::list_holdings(&stream[..n], &mut text);
-    writing::write_letters(&text[..end], stream, input)
+    writing::write_letters(rt, &text[..end], stream, input)
 }
 
 // Answers what was read.
-fn answer(stream: &[u8], input: Input) -> Output
+fn answer(rt: &HostRuntime, stream: &[u8], input: Input) -> Output
     requires { Read wanted input stream.now }
 {
     if input::is_failed(input) {
-        return writing::report_input(input);
+        return writing::report_input(rt, input);
     }
-    print_letters(stream, input)
+    print_letters(rt, stream, input)
 }
 
-fn main() {
+fn main(rt: HostRuntime) {
     let mut stream = [0u8; LONGEST_STREAM];
-    let input = read_stream(&mut stream);
-    answer(&stream, input);
+    let input = read_stream(rt.stdin(), &mut stream);
+    answer(&rt, &stream, input);
 }
