@@ -16,14 +16,15 @@ from common import TOP, board
 
 MADE = os.path.join(TOP, "target")
 LIBRARY = os.path.abspath(os.environ.get("ZAKDOMP_LIBRARY") or os.path.join(MADE, "bindings", "libzakdomp.so"))
-HAS_MADE = all(os.path.exists(os.path.join(MADE, name)) for name in ("bin/corners", "zakdomp/libzakdomp.a"))
+CORNERS = os.path.join(TOP, "crates", "corners", "out", "corners")
+HAS_MADE = all(map(os.path.exists, (CORNERS, os.path.join(MADE, "zakdomp", "libzakdomp.a"))))
 HAS_TOOLS = all(map(shutil.which, ("ld", "ar", "bash")))
 RT = """#!/bin/sh
-case "$1" in
-check) mkdir -p target/bin target/rlib target/stamp
-       [ "$2" != corners ] || cp "{made}/bin/$2" target/bin ;;
-staticlib) mkdir -p target/staticlib && ar rc "target/staticlib/lib$2.a"
-           [ "$2" != capi_frame ] || cp "{made}/zakdomp/libzakdomp.a" "target/staticlib/lib$2.a" ;;
+name=${{PWD##*/}} && mkdir -p out
+case "$1 $name" in
+"run corners") cp "{corners}" out && touch out/corners.stamp ;;
+"lib capi_frame") cp "{made}/zakdomp/libzakdomp.a" out/libcapi_frame.a ;;
+"lib "*) ar rc "out/lib$name.a" ;;
 *) exit 9 ;;
 esac
 """
@@ -42,12 +43,14 @@ class Newcomer(unittest.TestCase):
             shutil.copytree(os.path.join(TOP, name), self.path(name), ignore=shutil.ignore_patterns("__pycache__"))
         for name in ("run", "NOTICE", "README.md", "CHANGELOG.md", "crates.txt"):
             shutil.copy(os.path.join(TOP, name), self.path(name))
-        for name in ("bin", "crates"):
-            os.makedirs(self.path(name))
+        os.makedirs(self.path("bin"))
+        with open(self.path("crates.txt"), encoding="utf-8") as file:
+            for name in re.findall(r"^(\w+)[ :]", file.read(), re.MULTILINE):
+                os.makedirs(self.path("crates", name))
         for name in ("gcc", "cc"):  # no C compiler is on the machine
             os.symlink("/bin/false", self.path("bin", name))
         with open(self.path("bin", "rt"), "w", encoding="utf-8") as file:
-            file.write(RT.format(made=MADE))
+            file.write(RT.format(made=MADE, corners=CORNERS))
         os.chmod(self.path("bin", "rt"), 0o755)
 
     def ran(self, *command, path=None, **named):
@@ -128,7 +131,7 @@ class FirstLines(Newcomer):
         self.assertIn("tools/library", named)
         for name in named:
             self.assertTrue(os.access(os.path.join(TOP, name), os.X_OK), name)
-        self.assertEqual(set(re.findall(r"\brt \w+ \w+", said)), {"rt check corners", "rt check retained"})
+        self.assertEqual(set(re.findall(r"tools/linked (\w+)", said)), {"corners", "retained"})
 
 
 @unittest.skipUnless(shutil.which("bash"), "no bash on this machine")

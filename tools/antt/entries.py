@@ -1,46 +1,48 @@
-"""Writes the functions for C that find the corners of a frame, and their proofs, or checks whether they are what would
-be written: see tools/entries. Behind what is searched, each takes the nine numbers of a frame's parameters, the buffers,
-and the places of its results.
+"""Writes the functions for C that find the corners of a frame, or checks whether they are what would be written: see
+tools/entries. Behind what is searched, each takes the nine numbers of a frame's parameters, the buffers, and the places
+of its results.
 """
 import pathlib
 import string
 import sys
 
-ONE_LINE = 60  # the arguments of a call are in one line up to this length
+ONE_LINE = 60  # the arguments of a call are in its line up to this length
+SHORT = 10  # longer calls whose arguments are all this short have them in one line of their own
 NUMBERS = {'ring': 'u32', 'threshold': 'f32', 'window': 'u32', 'least_neighbours': 'u32', 'centroid_radius': 'u32',
            'merge_radius': 'f32', 'level_count': 'u32', 'minimum_side': 'usize', 'search_radius': 'u32'}
 BUFFERS = {'map': '&mut [f32]', 'levels': '&mut [u8]',
            'sx': '&mut [f32]', 'sy': '&mut [f32]', 'ss': '&mut [f32]', 'sn': '&mut [u32]',
            'cx': '&mut [f32]', 'cy': '&mut [f32]', 'cs': '&mut [f32]', 'cn': '&mut [u32]'}
 RESULTS = {'count': '&mut usize', 'ties': '&mut u64'}
-USES = ['frame::answers::count_of', 'frame::answers::number_of', 'frame::answers::ties_of', 'frame_params::params_of']
+USES = ['frame::answers::{count_of, number_of, ties_of}', 'frame_params::params_of']
 
 CODE = string.Template("""\
 // Written by tools/entries; not edited by hand.
+ghost use Rattle.std.specs.Prelude.{$exact};
+ghost use Rattle.corner_list.specs.CornerList.{slices};
+ghost use Rattle.frame_params.specs.Params.{params};
+ghost use Rattle.frame.specs.Frame.{buffers};
+ghost use Rattle.$crate.specs.$promise.{$record};
+
 $uses
-ghost use mathlib.Core.Bool.{$exact};
-ghost use Rattle·corner_list.specs.CornerList.{slices};
-ghost use Rattle·frame_params.specs.Params.{params};
-ghost use Rattle·frame.specs.Frame.{buffers};
-ghost use Rattle·$crate·specs.specs.$promise.{$record};
 
 // Finds the corners of $what, with peaks chosen by $choice values. They are written to the start of
 // the corner buffer (cx, cy, cs, cn). `count` gets their number, and `ties` the number of ties of the peaks found before
 // merging.
-#[no_mangle]
+#[unsafe(no_mangle)]
 pub extern "C" fn $name(
 $parameters) -> u8
-    ensures { λ r. ⌜ $record $exact
-        (params ring threshold window «least_neighbours» «centroid_radius» «merge_radius» «level_count»
-        «minimum_side» «search_radius») $given
-        (buffers (now (map .entry)) (now (levels .entry))
-        (slices (now (sx .entry)) (now (sy .entry)) (now (ss .entry)) (now (sn .entry)))
-        (slices (now (cx .entry)) (now (cy .entry)) (now (cs .entry)) (now (cn .entry))))
-        (now (count .entry)) (now (ties .entry)) r
-        (buffers (now (map .exit)) (now (levels .exit))
-        (slices (now (sx .exit)) (now (sy .exit)) (now (ss .exit)) (now (sn .exit)))
-        (slices (now (cx .exit)) (now (cy .exit)) (now (cs .exit)) (now (cn .exit))))
-        (now (count .exit)) (now (ties .exit)) ⌝ }
+    ensures { $record $exact
+        (params ring threshold window least_neighbours centroid_radius merge_radius level_count
+        minimum_side search_radius) $given
+        (buffers map.old levels.old
+        (slices sx.old sy.old ss.old sn.old)
+        (slices cx.old cy.old cs.old cn.old))
+        count.old ties.old result
+        (buffers map.new levels.new
+        (slices sx.new sy.new ss.new sn.new)
+        (slices cx.new cy.new cs.new cn.new))
+        count.new ties.new }
 {
     let p = $params;
     let a = $find;
@@ -50,39 +52,14 @@ $parameters) -> u8
 }
 """)
 
-PROOF = string.Template("""\
--- Written by tools/entries; not edited by hand. `$crate::$name` meets its contract: the answer
--- of the function that it calls, taken apart. Assumes nothing.
-mod Landmarks
-use borrow.Author.Needs.{needs}
-use mathlib.Core.Bool.{$exact}
-use Rattle·$crate·proofs.proofs.Entries.{$law}
-use Rattle·$crate·proofs.proofs.$choice.$name.Statement.{statement}
-use Rattle·$crate·proofs.proofs.$choice.$name.Tie as tie
-use Landmarks.*
-
-${same_lengths}returns : tie.Need-returns
-returns c =
-    $law $exact (params-of-from-returns c .params-of .ensures) ($called-from-returns c .$called .ensures)
-    (c .number-of .ensures) (count-of-from-returns c .count-of .ensures) (c .before .ties-of .ensures)
-
-pub $spec : {M : Type 1} → statement M
-$spec =
-    tie.close (tie.spec
-    (λ c κs. search needs) (λ c κs. search needs) (λ c κs. search needs) (λ c κs. search needs) (λ c κs. search needs) same-length
-    same-length-2 same-length-3 same-length-4 same-length-5 same-length-6 same-length-7 same-length-8 same-length-9 same-length-10
-    returns)
-""")
-SAME_LENGTH = 'same-length{0} : tie.Need-same-length{0}\nsame-length{0} c = search needs\n\n'
-
-# what is searched: the crate, how it is given, the function that searches it, and the promise with its record and law
+# what is searched: the crate, how it is given, the function that searches it, and the promise with its record
 SEARCHED = [
     {'crate': 'capi_frame', 'what': 'an image of w by h pixels', 'ending': '',
      'slices': {'img': '&[u8]'}, 'sides': {'w': 'usize', 'h': 'usize'}, 'home': 'frame', 'function': 'find_corners',
-     'promise': 'Finding', 'record': 'CornersFound', 'law': 'corners-found'},
+     'promise': 'Finding', 'record': 'CornersFound'},
     {'crate': 'capi_photo', 'what': 'an uploaded photograph', 'ending': '_pgm',
      'slices': {'upload': '&[u8]'}, 'sides': {}, 'home': 'pgm_frame', 'function': 'find_pgm_corners',
-     'promise': 'Photographs', 'record': 'PhotographCorners', 'law': 'photograph-corners'},
+     'promise': 'Photographs', 'record': 'PhotographCorners'},
 ]
 
 
@@ -92,34 +69,32 @@ def listed(parts, indent):
 
 
 def call(function, arguments):
-    """A call in one line, or with a line for each argument."""
+    """A call in one line, with a line for all arguments, or with a line for each."""
     line = ', '.join(arguments)
-    return f'{function}({line})' if len(line) <= ONE_LINE else f'{function}(\n{listed(arguments, " " * 8)}    )'
+    if len(line) <= ONE_LINE:
+        return f'{function}({line})'
+    rows = [line] if all(len(argument) <= SHORT for argument in arguments) else arguments
+    return f'{function}(\n{listed(rows, " " * 8)}    )'
 
 
-def files(entry, exact):
-    """The two files of a function: paths and texts."""
+def file(entry, exact):
+    """The file of a function: its path and its text."""
     given = {**entry['slices'], **entry['sides']}
     choice, start = ('exact', 'zakdomp_find_exact_corners') if exact else ('computed', 'zakdomp_find_corners')
-    name, flag = start + entry['ending'], str(exact).lower()
-    parts = {
-        **entry, 'name': name, 'choice': choice, 'exact': flag, 'spec': name.replace('_', '-') + '-spec',
+    flag = str(exact).lower()
+    return pathlib.Path('crates') / entry['crate'] / 'src' / f'{choice}.rt', CODE.substitute({
+        **entry, 'name': start + entry['ending'], 'choice': choice, 'exact': flag,
         'uses': '\n'.join(sorted(f'use {used};' for used in [*USES, f'{entry["home"]}::{entry["function"]}'])),
-        'called': entry['function'].replace('_', '-'),
         'parameters': listed(map(': '.join, {**given, **NUMBERS, **BUFFERS, **RESULTS}.items()), ' ' * 4),
-        'given': ' '.join([f'(now ({part} .entry))' for part in entry['slices']] + list(entry['sides'])),
+        'given': ' '.join([f'{part}.now' for part in entry['slices']] + list(entry['sides'])),
         'params': call('params_of', NUMBERS),
         'find': call(entry['function'], [*given, 'p', flag, *BUFFERS]),
-        'same_lengths': ''.join(SAME_LENGTH.format(f'-{at}' if at > 1 else '') for at in range(1, len(BUFFERS) + 1)),
-    }
-    crate = pathlib.Path('crates') / entry['crate']
-    yield crate / 'src' / f'{choice}.rt', CODE.substitute(parts)
-    yield crate / 'proofs' / choice / name / 'Proof.antt', PROOF.substitute(parts)
+    })
 
 
 def main():
     differing = 0
-    for path, text in (file for entry in SEARCHED for exact in (False, True) for file in files(entry, exact)):
+    for path, text in (file(entry, exact) for entry in SEARCHED for exact in (False, True)):
         if sys.argv[1:] != ['--compare']:
             path.parent.mkdir(parents=True, exist_ok=True)
             path.write_text(text, encoding='utf-8')

@@ -139,7 +139,7 @@ def text_of(text, limit):
             lines += comment(piece, limit)
         elif re.match(r'((ghost|unfoldable|pub) )*use .*\};?$', line):
             lines += imported(line, limit)
-        elif re.match(r'\s*(requires|ensures) \{ ', line):
+        elif re.match(r'\s*(requires|ensures)\*?( \w+)? \{ ', line):
             lines += contract(line, limit)
         else:
             indents = ' ' * (indent if indent > declared else declared + 4)
@@ -171,7 +171,8 @@ def main():
             for path, limit in files(sys.argv[2:]):
                 if long_lines(path, limit):
                     path.write_text(text_of(path.read_text(encoding='utf-8'), limit), encoding='utf-8')
-            subprocess.run(['rt', 'fmt'], check=True)
+            for crate in sys.argv[2:]:
+                subprocess.run(['rt', 'fmt'], cwd=CRATES / crate, check=True)
         return
     found = [f'lines: {path}:{number} is above {limit} characters\n'
              for path, limit in files(sorted(folder.name for folder in CRATES.iterdir()))

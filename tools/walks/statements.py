@@ -1,6 +1,5 @@
-"""The statements that the walks follow, in a short notation.
-
-    rt mir merge_slice | python3 tools/walks/statements.py >tools/walks/merge_slice.mir
+"""The statements that the walks follow, in a short notation. merge_slice.mir was made by this script from what the older
+toolchain printed (`rt mir merge_slice`); today's prints no statements.
 
 A local is `_N`, its field `_N.F`, and what it points to `*_N`. A loop is left where its test fails.
 """

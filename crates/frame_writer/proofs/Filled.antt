@@ -25,11 +25,8 @@ module _ (h : Header) (pixels out : List ℕ) (l : length out ≡ length_of (len
   last = length out - 1
 
   -- the records of kinds 1 and 2 are copied to its front
-  pub head-stands : (head copied : List ℕ) → head ≡ head_bytes h → copied ≡ take (length head) head ++ drop (length head) (take 22 out)
-      → copied ++ drop 22 out ≡ front (head_bytes h) out
-  head-stands head copied e c =
-      let none : drop 22 (take 22 out) ≡ [] = drop_of_length-le (take 22 out) {i = 22} (omega (arith, length-take 22 out)) in
-      rw (c, e, none)
+  pub head-stands : (head copied : List ℕ) → head ≡ head_bytes h → copied ≡ head → copied ++ drop 22 out ≡ front (head_bytes h) out
+  head-stands head copied e c = rw (c, e)
 
   -- the pixels' records are put behind them, and the end
   pub frame-stands : (s filled : List ℕ) → s ≡ front (head_bytes h) out

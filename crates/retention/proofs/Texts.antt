@@ -45,20 +45,12 @@ module _ (number : ℕ) (small : number ≤ 20) (before : List ℕ) (n : ℕ) (a
     part-long = let k : at + n - at ≡ n = omega arith in
         rw k (length-take-le n (drop at out) (omega (arith, length-drop at out, text-short)))
 
-    pub part-holds : length (take n after) ≤ length (mid_of at (at + n - at) out)
+    pub part-holds : length (mid_of at (at + n - at) out) ≡ length (take n after)
     part-holds = omega (arith, part-long, length-take-le n after text-fits)
 
-    abbrev source : List ℕ
-    source = take n after
-
-    pub copied : (ys : List ℕ) → ys ≡ take (length source) source ++ drop (length source) (mid_of at (at + n - at) out)
-        → Wrote (refused_text number) at out (at + n) (put_mid at (at + n - at) out ys)
+    pub copied : (ys : List ℕ) → ys ≡ take n after → Wrote (refused_text number) at out (at + n) (put_mid at (at + n - at) out ys)
     copied ys copy =
-        let is : ys ≡ refused_text number =
-        copy
-        ∙ ap₂ (λ (a b : List ℕ). a ++ b) (take-length source ∙ text-is)
-        (drop_of_length-le (mid_of at (at + n - at) out) {i = length source} (omega (arith, part-long, length-take-le n after text-fits)))
-        ∙ append-nil (refused_text number) in
+        let is : ys ≡ refused_text number = copy ∙ text-is in
         let k : at + n - at ≡ length (refused_text number) = omega (arith, w.ends) in
         record {
           fits = omega (arith, w.ends, text-short);

@@ -30,19 +30,19 @@ buffer-of c = slices c.args.xs.now c.args.ys.now c.args.strengths.now c.args.nei
 fine : (c : Else-number-ne0) → Clear (conditions-of c)
 fine c = clear _ _ _ _ _ _ (sym c.refusal-number.ensures ∙ c.if-number-ne0.false)
 
-can-search : (c : After-search_of-s) → Searchable (map_of c.before) c.search_of-s.result
-can-search c = rw c.search_of-s.ensures (searchable _ _ _ _ _ _ _ _ _ (fine c.before))
+can-search : (c : After-search_of-s) → Searchable (map_of (goal.at.After-search_of-s c).Else-number-ne0) c.search_of-s.result
+can-search c = rw c.search_of-s.ensures (searchable _ _ _ _ _ _ _ _ _ (fine (goal.at.After-search_of-s c).Else-number-ne0))
 
 -- what is added is what the function promises
 adds : (c : After-search_of-s) (answer : Peaks) (b' : Slices)
     →
-    PeaksAdded [] (starts_in (map_of c.before) c.search_of-s.result) (ties_in (map_of c.before) c.search_of-s.result) c.args.held
-    (buffer-of c.before) answer b'
-    → PeaksAdded (conditions-of c.before) (starts_in (map_of c.before) (search-of c.before)) (ties_in (map_of c.before) (search-of c.before)) c.args.held
-    (buffer-of c.before) answer b'
+    PeaksAdded [] (starts_in (map_of (goal.at.After-search_of-s c).Else-number-ne0) c.search_of-s.result) (ties_in (map_of (goal.at.After-search_of-s c).Else-number-ne0) c.search_of-s.result) c.args.held
+    (buffer-of (goal.at.After-search_of-s c).Else-number-ne0) answer b'
+    → PeaksAdded (conditions-of (goal.at.After-search_of-s c).Else-number-ne0) (starts_in (map_of (goal.at.After-search_of-s c).Else-number-ne0) (search-of (goal.at.After-search_of-s c).Else-number-ne0)) (ties_in (map_of (goal.at.After-search_of-s c).Else-number-ne0) (search-of (goal.at.After-search_of-s c).Else-number-ne0)) c.args.held
+    (buffer-of (goal.at.After-search_of-s c).Else-number-ne0) answer b'
 adds c =
-    found-clear (map_of c.before) c.search_of-s.result (search-of c.before) c.search_of-s.ensures (conditions-of c.before) (fine c.before)
-    c.args.held (buffer-of c.before)
+    found-clear (map_of (goal.at.After-search_of-s c).Else-number-ne0) c.search_of-s.result (search-of (goal.at.After-search_of-s c).Else-number-ne0) c.search_of-s.ensures (conditions-of (goal.at.After-search_of-s c).Else-number-ne0) (fine (goal.at.After-search_of-s c).Else-number-ne0)
+    c.args.held (buffer-of (goal.at.After-search_of-s c).Else-number-ne0)
 
 pub returns-then-number-ne0 : goal.returns-then-number-ne0
 returns-then-number-ne0 c = found-refused _ _ _ _ _ _ c.refusal-number.ensures c.if-number-ne0.true

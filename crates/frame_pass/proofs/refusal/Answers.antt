@@ -59,7 +59,7 @@ last : (c : After-cells_above)
     ≡ lowest ((is_level_buffer_short (ask c.args.pixels c.args.places c.args.w c.args.h c.args.p.levels c.args.p.minimum_side), 9) ∷ [])
 unfolding conditions
 last c =
-    rw (passed _ _ _ _ (image c.before.before.before.before.before.before), fit c.before.before.before.before, inside c.before.before, le-ltb _ _ c.if-cells-w.false)
+    rw (passed _ _ _ _ (image (goal.at.After-cells_above c).Else-number-ne0), fit (goal.at.After-cells_above c).Else-not-parameters_fit, inside (goal.at.After-cells_above c).Else-is_outside, le-ltb _ _ c.if-cells-w.false)
 
 pub returns-then-places-cells_above : goal.returns-then-places-cells_above
 returns-then-places-cells_above c =

@@ -21,7 +21,7 @@ loop-i-init c = stepped-none _ _ _ _ _ _ c.requires (record { few = omega arith;
 
 pub settle_corner-k-requires : goal.settle_corner-k-requires
 settle_corner-k-requires c =
-    stepped-fits _ _ _ _ _ _ _ _ c.loop-i.invariant c.requires c.loop-i-test.taken
+    stepped-fits _ _ _ _ _ _ _ _ c.loop-i.invariant c.requires c.loop-i-test.true
 
 pub overflow_step-i : goal.overflow_step-i
 overflow_step-i c = omega (arith, c.loop-i-test.true, c.ranges.n)
@@ -31,7 +31,7 @@ loop-i-smaller c = omega (arith, c.loop-i-test.true)
 
 pub loop-i-preserved : goal.loop-i-preserved
 loop-i-preserved c =
-    stepped-turn _ _ _ _ _ _ _ _ c.loop-i.invariant c.loop-i-test.taken _
+    stepped-turn _ _ _ _ _ _ _ _ c.loop-i.invariant c.loop-i-test.true _
     c.corner_at-c.ensures _ _ c.settle_corner-k.ensures
 
 pub shape_of-xs : goal.shape_of-xs

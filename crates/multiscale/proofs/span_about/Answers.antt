@@ -6,7 +6,7 @@ use Rattle.multiscale.specs.Multiscale.{low_end, high_end}
 use Rattle.multiscale.proofs.Axis.{too-low, too-high, narrow, wide, low-clipped, low_free, high-clipped, high-free, in_order}
 use borrow.Author.Rules.{rules}
 use Rattle.multiscale.proofs.span_about.Goals as goal
-use Rattle.multiscale.proofs.span_about.Goals.{Joined-c-r, Joined-side-b}
+use Rattle.multiscale.proofs.span_about.Goals.{Joined-c-r, Joined-side-b, then-c-r, else-c-r, then-side-b, else-side-b}
 
 pub returns-then-c-b : goal.returns-then-c-b
 returns-then-c-b c = too-low _ _ _ _ c.if-c-b.true
@@ -21,12 +21,20 @@ returns-then-side-c-2 c = too-high _ _ _ _ c.if-c-b.false (omega arith)
 abbrev low-is : (c : Joined-c-r)
     → c.if-c-r.low ≡ low_end c.args.b c.args.r
     c.args.c
-low-is c = ⊎_elim (λ w. w.1 ∙ low-clipped _ _ _ w.0.taken) (λ w. w.1 ∙ low_free _ _ _ w.0.left) c.if-c-r.branch
+low-is c =
+    elim c.if-c-r.branch [
+      | then-c-r w ↦ w.low-is ∙ low-clipped _ _ _ w.if-c-r.true
+      | else-c-r w ↦ w.low-is ∙ low_free _ _ _ w.if-c-r.false
+    ]
 
 abbrev high_is : (c : Joined-side-b)
     → c.if-side-b.high ≡ high_end c.args.b c.args.r
     c.args.side c.args.c
-high_is c = ⊎_elim (λ w. w.1 ∙ high-clipped _ _ _ _ w.0.taken) (λ w. w.1 ∙ high-free _ _ _ _ w.0.left) c.if-side-b.branch
+high_is c =
+    elim c.if-side-b.branch [
+      | then-side-b w ↦ w.high-is ∙ high-clipped _ _ _ _ w.if-side-b.true
+      | else-side-b w ↦ w.high-is ∙ high-free _ _ _ _ w.if-side-b.false
+    ]
 
 pub overflow_sub-high-2 : goal.overflow_sub-high-2
 overflow_sub-high-2 c = rw (low-is (goal.at.overflow_sub-high-2 c).Joined-c-r, high_is (goal.at.overflow_sub-high-2 c).Joined-side-b) (in_order _ _ _ _ (omega arith) (omega arith))

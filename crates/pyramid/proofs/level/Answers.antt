@@ -12,7 +12,7 @@ use Rattle.pyramid.proofs.level.Goals.{After-cells_before-end, Else-number-ne0}
 
 pub returns-then-number-ne0 : goal.returns-then-number-ne0
 returns-then-number-ne0 c =
-    level-refused c.before.before.before.before.before.args.base.now c.before.before.before.before.before.args.levels.now _ _ _ _ _ _ c.level-refusal.ensures c.if1.true
+    level-refused c.args.base.now c.args.levels.now _ _ _ _ _ _ c.level_refusal-number.ensures c.if-number-ne0.true
 
 -- the entry
 
@@ -34,17 +34,17 @@ between : (c : After-cells_before-end)
     c.args.height c.args.k
     c.cells_before-from.result c.cells_before-end.result
 between c =
-    level-between c.args.base.now c.args.levels.now _ _ _ _ _ (free c.before.before.before) _ _ c.if-k-eq0.false c.cells_before-from.ensures
+    level-between c.args.base.now c.args.levels.now _ _ _ _ _ (sym c.level_refusal-number.ensures ∙ c.if-number-ne0.false) _ _ c.if-k-eq0.false c.cells_before-from.ensures
     c.cells_before-end.ensures
 
 pub slice_bounds-result-count : goal.slice_bounds-result-count
-slice_bounds-result-count c = omega (arith, (between c).ends)
+slice_bounds-result-count c = omega (arith, (between (goal.at.slice_bounds-result-count c).After-cells_before-end).ends)
 
 pub slice_bounds-result-start : goal.slice_bounds-result-start
-slice_bounds-result-start c = omega (arith, (between c).ends)
+slice_bounds-result-start c = omega (arith, (between (goal.at.slice_bounds-result-start c).After-cells_before-end).ends)
 
 pub slice_bounds-result-end-2 : goal.slice_bounds-result-end-2
-slice_bounds-result-end-2 c = (between c).ranges
+slice_bounds-result-end-2 c = (between (goal.at.slice_bounds-result-end-2 c).After-cells_before-end).fits
 
 pub returns : goal.returns
 returns c =

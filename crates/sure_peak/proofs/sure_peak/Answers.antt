@@ -50,14 +50,14 @@ returns-then-not-is_inside-2 c =
 
 -- ---- inside the border
 module _ (c : Else-not-is_inside-2) where
-  across : (leb (border c.before.before.before.before) c.args.x && ltb (c.args.x + border c.before.before.before.before) c.args.w) ≡ true
+  across : (leb (border (goal.at.Else-not-is_inside-2 c).Else-number-ne0) c.args.x && ltb (c.args.x + border (goal.at.Else-not-is_inside-2 c).Else-number-ne0) c.args.w) ≡ true
   across = sym c.is_inside.ensures ∙ not-false _ c.if-not-is_inside.false-raw
 
-  down : (leb (border c.before.before.before.before) c.args.y && ltb (c.args.y + border c.before.before.before.before) c.args.h) ≡ true
+  down : (leb (border (goal.at.Else-not-is_inside-2 c).Else-number-ne0) c.args.y && ltb (c.args.y + border (goal.at.Else-not-is_inside-2 c).Else-number-ne0) c.args.h) ≡ true
   down = sym c.is_inside-2.ensures ∙ not-false _ c.if-not-is_inside-2.false-raw
 
-  within : Inside c.args.w c.args.h c.args.window (place c.before.before.before.before)
-  within = narrower _ _ (border c.before.before.before.before) _ (place c.before.before.before.before) (omega arith) (inside _ _ _ (place c.before.before.before.before) across down)
+  within : Inside c.args.w c.args.h c.args.window (place (goal.at.Else-not-is_inside-2 c).Else-number-ne0)
+  within = narrower _ _ (border (goal.at.Else-not-is_inside-2 c).Else-number-ne0) _ (place (goal.at.Else-not-is_inside-2 c).Else-number-ne0) (omega arith) (inside _ _ _ (place (goal.at.Else-not-is_inside-2 c).Else-number-ne0) across down)
 
 pub is_sure-requires : goal.is_sure-requires
 is_sure-requires c =

@@ -6,5 +6,5 @@ use Rattle.capi_formats.proofs.photo.zakdomp_pgm.Goals as goal
 pub returns : goal.returns
 returns c =
     image-read _ _ _ c.read_pgm-a.ensures c.number_of.ensures _ _ _ _ _ _ c.place_of.ensures
-    c.width_of_lem.ensures
+    c.width_of.ensures
     c.height_of.ensures

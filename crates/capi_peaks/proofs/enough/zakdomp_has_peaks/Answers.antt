@@ -6,4 +6,4 @@ use Rattle.capi_peaks.proofs.enough.zakdomp_has_peaks.Goals as goal
 pub returns : goal.returns
 returns c =
     peaks-counted _ _ _ _ _ _ _ _ _ _ c.has_peaks-a.ensures c.number_of.ensures c.yes_of.ensures
-    c.rows_of_lem.ensures
+    c.rows_of.ensures

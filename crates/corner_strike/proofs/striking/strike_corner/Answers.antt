@@ -5,17 +5,17 @@ use Rattle.corner_list.specs.CornerList.{Slices, slices, places_of}
 use Rattle.corner_strike.specs.Editions.{edition}
 use Rattle.corner_strike.proofs.Judging.{Strikable, strike-granted, strike-refused, strike-struck}
 use Rattle.corner_strike.proofs.striking.strike_corner.Goals as goal
-use Rattle.corner_strike.proofs.striking.strike_corner.Goals.{Else-number-ne0, Start}
+use Rattle.corner_strike.proofs.striking.strike_corner.Goals.{Else-number-ne0}
 
-abbrev buffer : Start → Slices
-buffer s = slices s.args.xs.now s.args.ys.now s.args.strengths.now s.args.neighbours.now
+abbrev buffer : Else-number-ne0 → Slices
+buffer c = slices c.args.xs.now c.args.ys.now c.args.strengths.now c.args.neighbours.now
 
 -- nothing refuses
 granted : (c : Else-number-ne0)
     →
-    Strikable (places_of (buffer c.before.before.before.before.before.before.before.before.before)) (edition c.args.count.now c.args.change.now) c.args.place c.args.shown
+    Strikable (places_of (buffer c)) (edition c.args.count.now c.args.change.now) c.args.place c.args.shown
 granted c =
-    strike-granted (buffer c.before.before.before.before.before.before.before.before.before) _ _ _ c.places-places.ensures _ _ c.refusal-number.ensures
+    strike-granted (buffer c) _ _ _ c.places-places.ensures _ _ c.refusal-number.ensures
     c.if-number-ne0.false
 
 pub returns-then-number-ne0 : goal.returns-then-number-ne0

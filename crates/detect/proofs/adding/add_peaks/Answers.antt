@@ -35,11 +35,11 @@ module _ (c : Else-y1-p) where
   small : peak.x < largest_side
   small = omega (arith, inside.right, c.requires.wide)
 
-  space : c.args.held + c.loop-s.i < places_of (buffer c.before.before.before.before.before.before.before.before.before.before.before.before.before.before.before.before.before.before)
+  space : c.args.held + c.loop-s.i < places_of (buffer (goal.at.Else-y1-p c).Start)
   space = writing-place _ _ _ _ _ _ _ _ _ _ c.loop-s.invariant _ c.peak_at-p.ensures high
 
 pub are_too_many-requires : goal.are_too_many-requires
-are_too_many-requires c = record { searchable = c.requires; peaks_listed = c.list-peaks.ensures }
+are_too_many-requires c = record { searchable = c.requires; peaks_listed = c.list_peaks-n.ensures }
 
 pub shape_of-table-then-are_too_many : goal.shape_of-table-then-are_too_many
 shape_of-table-then-are_too_many c = search rules
@@ -47,17 +47,17 @@ shape_of-table-then-are_too_many c = search rules
 pub returns-then-are_too_many : goal.returns-then-are_too_many
 returns-then-are_too_many c =
     found-short _ _ _ _
-    (short-behind c.args.map.now c.args.s (buffer (goal.at.returns-then-are_too_many c).Start) _ _ c.places.ensures
+    (short-behind c.args.map.now c.args.s (buffer (goal.at.returns-then-are_too_many c).Start) _ _ c.places-places.ensures
     _ c.are_too_many.ensures c.if-are_too_many.true)
 
 pub loop-s-init : goal.loop-s-init
 loop-s-init c =
     writing-first _ _ _ _ _ _
-    (fits-behind c.args.map.now c.args.s (buffer (goal.at.loop-s-init c).Start) _ _ c.places.ensures
+    (fits-behind c.args.map.now c.args.s (buffer (goal.at.loop-s-init c).Start) _ _ c.places-places.ensures
     _ c.are_too_many.ensures c.if-are_too_many.false)
 
 pub peak_at-p-requires : goal.peak_at-p-requires
-peak_at-p-requires c = record { searchable = c.requires; peaks_listed = c.list_peaks-n.ensures; search_start = c.loop.invariant.search-start }
+peak_at-p-requires c = record { searchable = c.requires; peaks_listed = c.list_peaks-n.ensures; search_start = c.loop-s.invariant.search-start }
 
 pub shape_of-table-then-y1-p : goal.shape_of-table-then-y1-p
 shape_of-table-then-y1-p c = search rules

@@ -3,6 +3,7 @@ use Rattle.std.proofs.Common.{◌-◌, length, sym, ◌∙◌, ⊎_elim, rules}
 use Rattle.lists.proofs.Scan.{CountTo, count-start, count-hit, count-miss, count-end}
 use Rattle.detect.specs.Internal.{is_counted}
 use Rattle.detect.proofs.neighbors.count_cells.Goals as goal
+use Rattle.detect.proofs.neighbors.count_cells.Goals.{then-is_counted, else-is_counted}
 
 pub loop-i-init : goal.loop-i-init
 loop-i-init c = count-start (is_counted c.args.asked c.args.v) _
@@ -10,10 +11,10 @@ loop-i-init c = count-start (is_counted c.args.asked c.args.v) _
 pub loop-i-preserved : goal.loop-i-preserved
 loop-i-preserved c =
     let f = is_counted c.args.asked c.args.v in
-    ⊎_elim
-    (λ w. count-hit f _ _ _ c.loop-i.invariant _ c.loop-i-test.true _ w.1 (sym c.is_counted.ensures ∙ w.0.taken))
-    (λ w. count-miss f _ _ _ c.loop-i.invariant _ c.loop-i-test.true _ w.1 (sym c.is_counted.ensures ∙ w.0.left))
-    c.if-is_counted.branch
+    elim c.if-is_counted.branch [
+      | then-is_counted w ↦ count-hit f _ _ _ c.loop-i.invariant _ c.loop-i-test.true _ w.n-is (sym c.is_counted.ensures ∙ w.if-is_counted.true)
+      | else-is_counted w ↦ count-miss f _ _ _ c.loop-i.invariant _ c.loop-i-test.true _ w.n-is (sym c.is_counted.ensures ∙ w.if-is_counted.false)
+    ]
 
 pub returns : goal.returns
 returns c =

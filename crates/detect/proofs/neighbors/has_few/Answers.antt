@@ -13,12 +13,12 @@ are_few-requires c = record { searchable = c.requires.searchable; inside = c.req
 pub are_few-requires-then-s-eq1 : goal.are_few-requires-then-s-eq1
 unfolding of_bits
 are_few-requires-then-s-eq1 c =
-    (c.requires.searchable, (c.requires.inside, (c.requires.v_value, (c.if-v.true, omega arith))))
+    record { searchable = c.requires.searchable; inside = c.requires.inside; v_value = c.requires.v_value; v_value_2 = c.if-v.true; window_value = omega arith }
 
 pub are_few-requires-then-s-eq0 : goal.are_few-requires-then-s-eq0
 unfolding of_bits
 are_few-requires-then-s-eq0 c =
-    (c.requires.searchable, (c.requires.inside, (c.requires.v_value, (c.if-v.true, omega arith))))
+    record { searchable = c.requires.searchable; inside = c.requires.inside; v_value = c.requires.v_value; v_value_2 = c.if-v.true; window_value = omega arith }
 
 pub returns-else-s-eq0 : goal.returns-else-s-eq0
 returns-else-s-eq0 c = λ e. absurd (false≢true e)

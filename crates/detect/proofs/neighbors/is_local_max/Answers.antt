@@ -27,12 +27,12 @@ slice_bounds-any_larger-end c = row_in _ _ c.requires.searchable _ (in_rows c) _
 
 pub returns-then-any_larger : goal.returns-then-any_larger
 returns-then-any_larger c =
-    larger-here _ _ _ _ _ c.requires.searchable c.requires.inside c.requires.v_value _ c.loop-yy-test.taken c.args.exact
+    larger-here _ _ _ _ _ c.requires.searchable c.requires.inside c.requires.v_value _ c.loop-yy-test.true c.args.exact
     _ c.bar_of-bar.ensures c.loop-yy.invariant _ c.any_larger.ensures c.if-any_larger.true
 
 pub loop-yy-preserved : goal.loop-yy-preserved
 loop-yy-preserved c =
-    larger-next _ _ _ _ _ c.requires.searchable c.requires.inside c.requires.v_value _ c.loop-yy-test.taken c.args.exact
+    larger-next _ _ _ _ _ c.requires.searchable c.requires.inside c.requires.v_value _ c.loop-yy-test.true c.args.exact
     _ c.bar_of-bar.ensures c.loop-yy.invariant _ c.any_larger.ensures c.if-any_larger.false
 
 pub returns : goal.returns

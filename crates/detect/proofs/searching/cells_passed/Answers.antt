@@ -14,14 +14,11 @@ loop-i-init c = (omega arith, marked-none _)
 
 -- the marks with that of one cell more
 next : (c : After-mark_of-marks)
-    → 
-    
+    →
     Marked (λ k. Passed c.args.map.now c.args.w c.args.t c.args.beside c.args.exact (c.args.at + k)) (c.loop-i.i + 1) (c.loop-i.marks + c.mark_of-marks.result)
 next c =
-    
-    
     marked_next _ c.loop-i.i c.loop-i.marks _ _ _ c.loop-i.invariant.1
-    (shl_exact {c.args = 1} 1 c.loop-i.i 32 (omega arith) (omega arith) ∙ one-mul (2 ^ c.loop-i.i))
+    (shl_exact {a = 1} 1 c.loop-i.i 32 (omega arith) (omega arith) ∙ one-mul (2 ^ c.loop-i.i))
     c.mark_of-marks.ensures
     (without-mark c.args.map.now c.args.w c.args.t c.args.beside c.args.exact (c.args.at + c.loop-i.i) _ c.rival-u.ensures _
     c.bar_of.ensures)
@@ -31,8 +28,11 @@ overflow_add-k c = omega (arith, c.requires.within, c.well_formed)
 
 pub rival-u-requires : goal.rival-u-requires
 rival-u-requires c =
-    record { i_in_bounds = omega (arith, c.requires.within); le_w = λ e. let around = c.requires.around e in
-      (around.0, omega (arith, around.1), omega (arith, around.2)) }
+    record {
+      i_in_bounds = omega (arith, c.requires.within);
+      le_w = λ e. let around = c.requires.around e in
+          (around.0, omega (arith, around.1), omega (arith, around.2));
+    }
 
 pub bounds-map-k : goal.bounds-map-k
 bounds-map-k c = omega (arith, c.requires.within)

@@ -3,16 +3,17 @@ use Rattle.std.proofs.Common.{◌-◌, length, ⊎_elim, rules}
 use Rattle.lists.proofs.Scan.{CountTo, count-start, count-hit, count-miss, count-end}
 use Rattle.detect.specs.Peaks.{is_low}
 use Rattle.detect.proofs.searching.count_low.Goals as goal
+use Rattle.detect.proofs.searching.count_low.Goals.{then-cells-i, else-cells-i}
 
 pub loop-i-init : goal.loop-i-init
 loop-i-init c = count-start (is_low c.args.t) _
 
 pub loop-i-preserved : goal.loop-i-preserved
 loop-i-preserved c =
-    ⊎_elim
-    (λ w. count-hit (is_low c.args.t) _ _ _ c.loop-i.invariant _ c.loop-i-test.true _ w.1 w.0.taken)
-    (λ w. count-miss (is_low c.args.t) _ _ _ c.loop-i.invariant _ c.loop-i-test.true _ w.1 w.0.left)
-    c.if-cells-i.branch
+    elim c.if-cells-i.branch [
+      | then-cells-i w ↦ count-hit (is_low c.args.t) _ _ _ c.loop-i.invariant _ c.loop-i-test.true _ w.n-is w.if-cells-i.true
+      | else-cells-i w ↦ count-miss (is_low c.args.t) _ _ _ c.loop-i.invariant _ c.loop-i-test.true _ w.n-is w.if-cells-i.false
+    ]
 
 pub returns : goal.returns
 returns c = count-end (is_low c.args.t) _ _ _ c.loop-i.invariant c.loop-i-test.false

@@ -20,7 +20,7 @@ after-skip c = passed-skip _ _ _ _ _ c.loop-y.invariant.0 _ c.skip-x.ensures
 row_done : (c : Else-x-x1)
     →
     Passed c.args.map.now c.args.s (place c.args.x c.args.y) (place c.args.s.border (c.loop-y.y + 1))
-row_done c = passed-row _ _ _ _ _ (after-skip c.before) (omega arith) (omega arith)
+row_done c = passed-row _ _ _ _ _ (after-skip (goal.at.Else-x-x1 c).After-skip-x) (omega arith) (omega arith)
 
 pub returns-then-y1-y : goal.returns-then-y1-y
 returns-then-y1-y c =

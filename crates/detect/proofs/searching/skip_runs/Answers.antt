@@ -39,10 +39,10 @@ module _ (c : After-blocks_below-x) where
 -- a run is left there
 module _ (c : Else-x1-x-lt-RUN) where
   left : c.args.s.border ≤ c.loop-x.x + c.blocks_below-x.result
-  left = omega (arith, c.requires.border_le_x.0, (after c.before).onward)
+  left = omega (arith, c.requires.border_le_x.0, (after (goal.at.Else-x1-x-lt-RUN c).After-blocks_below-x).onward)
 
   room : c.loop-x.x + c.blocks_below-x.result + run_cells ≤ c.args.s.w - c.args.s.border
-  room = omega (arith, c.minus-x1.ensures, few c.before, c.loop-x.invariant.1)
+  room = omega (arith, c.minus-x1.ensures, few (goal.at.Else-x1-x-lt-RUN c).After-blocks_below-x, c.loop-x.invariant.1)
 
 pub loop-x-init : goal.loop-x-init
 loop-x-init c = (skipped-none _ _ _ _, omega (arith, c.minus-x1.ensures))
@@ -70,8 +70,8 @@ passed : (c : After-run_passed-n)
     PlacesSkipped c.args.map.now c.args.s (place c.args.x c.args.y)
     (place (c.loop-x.x + c.blocks_below-x.result + c.run_passed-n.result) c.args.y)
 passed c =
-    skipped-on c.args.map.now c.args.s c.args.x c.args.y _ (after c.before.before) _
-    (run-skipped c.args.map.now c.args.s c.requires.searchable _ c.args.y (left c.before) (room c.before) c.requires.border_le_y.0 c.requires.border_le_y.1 _
+    skipped-on c.args.map.now c.args.s c.args.x c.args.y _ (after (goal.at.After-run_passed-n c).After-blocks_below-x) _
+    (run-skipped c.args.map.now c.args.s c.requires.searchable _ c.args.y (left (goal.at.After-run_passed-n c).Else-x1-x-lt-RUN) (room (goal.at.After-run_passed-n c).Else-x1-x-lt-RUN) c.requires.border_le_y.0 c.requires.border_le_y.1 _
     c.run_passed-n.ensures)
 
 pub returns-then-n-lt-RUN : goal.returns-then-n-lt-RUN

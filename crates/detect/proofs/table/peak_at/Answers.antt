@@ -7,7 +7,7 @@ use Rattle.detect.proofs.table.peak_at.Goals as goal
 
 pub returns-then-i-n : goal.returns-then-i-n
 returns-then-i-n c =
-    next-taken _ _ _ _ _ _ c.requires.peaks_listed c.requires.search_start c.if-i-n.true _ c.spot_of_lem.ensures
+    next-taken _ _ _ _ _ _ c.requires.peaks_listed c.requires.search_start c.if-i-n.true _ c.spot_of.ensures
 
 pub returns : goal.returns
 returns c = next-searched _ _ _ _ _ _ (omega arith) _ c.next_peak.ensures

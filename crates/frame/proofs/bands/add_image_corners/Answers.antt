@@ -22,7 +22,7 @@ sides c = some-sides _ _ _ c.requires.sound.sized (omega (arith, c.if-img-le-ONE
 -- the next band
 band : (c : After-lesser-e) →
     Band c.args.w c.args.h c.loop-j.j c.lesser-e.result
-band c = band-next _ _ _ _ (sides c.before.before).0 c.loop-j-test.true c.lesser-e.ensures
+band c = band-next _ _ _ _ (sides (goal.at.After-lesser-e c).At-loop-j).0 c.loop-j-test.true c.lesser-e.ensures
 
 pub shape_of-map-then-img-le-ONE_MAP : goal.shape_of-map-then-img-le-ONE_MAP
 shape_of-map-then-img-le-ONE_MAP c = search rules

@@ -8,17 +8,17 @@ use Rattle.frame_writer.proofs.Bytes.{frame-long}
 use Rattle.frame_writer.proofs.Filled.{head-stands, frame-stands}
 use Rattle.frame_writer.proofs.records.put_frame.Goals as goal
 
-pub slice_bounds-copy_from_slice-end-3 : goal.slice_bounds-copy_from_slice-end-3
-slice_bounds-copy_from_slice-end-3 c = sym (length-take-le 22 c.args.out.now (omega arith))
+pub slice_bounds-copy_from_slice-end-2 : goal.slice_bounds-copy_from_slice-end-2
+slice_bounds-copy_from_slice-end-2 c = sym (length-take-le 22 c.args.out.now (omega arith))
 
 pub copy_from_slice-requires : goal.copy_from_slice-requires
 copy_from_slice-requires c =
-    omega (arith, ap length c.head_of-head.ensures, length-take-le 22 c.args.out.now (omega arith))
+    length-take-le 22 c.args.out.now (omega arith) ∙ sym (ap length c.head_of-head.ensures)
 
 pub returns : goal.returns
 returns c =
     frame-stands c.args.header c.args.pixels.now c.args.out.now c.requires.1 _ _
-    (head-stands c.args.header c.args.pixels.now c.args.out.now c.requires.1 _ _ c.head_of-head.ensures c.copy.ensures.1)
+    (head-stands c.args.header c.args.pixels.now c.args.out.now c.requires.1 _ _ c.head_of-head.ensures c.copy_from_slice.ensures.after)
     c.put_pixels.ensures
 
 pub shape_of-out : goal.shape_of-out

@@ -4,31 +4,24 @@ use borrow.Author.Rules.{rules}
 use Prim.Native.Nat.{◌-◌, ◌≤◌}
 use native.Mathlib.Omega.{arith}
 use mathlib.Core.Path.{◌≡◌, ◌∙◌}
-use mathlib.Core.List.{List}
 use lib.ListN.{length, get_or}
-use lib.Ieee.{Float}
 use Rattle.merge_settle.specs.Internal.{joins_at, slots_of}
 use Rattle.merge_settle.proofs.First.{Looking, looking-none, looking-read, looking-empty, looking-end}
 use Rattle.merge_settle.proofs.Slots.{slot_is, slots-long}
 use Rattle.merge_settle.proofs.search.lowest_from.Goals as goal
-use Rattle.merge_settle.proofs.search.lowest_from.Goals.{After-to_bits-i, At-loop-slot}
+use Rattle.merge_settle.proofs.search.lowest_from.Goals.{After-to_bits-i}
 
 pub loop-slot-init : goal.loop-slot-init
 loop-slot-init c = (looking-none _ _ _ _, omega arith, omega arith)
 
--- the table, and the number that was read is what its slot holds
-abbrev table : At-loop-slot → List Float
-table c = c.args.table.now
-
+-- the number that was read is what its slot holds
 held : (c : After-to_bits-i)
-    → get_or (slots_of (table c.before.before.before)) c.loop-slot.slot 0 ≡ c.to_bits-i.result
-held c = slot_is (table c.before.before.before) c.loop-slot.slot c.to_bits-i.result (omega arith) c.to_bits-i.ensures
+    → get_or (slots_of c.args.table.now) c.loop-slot.slot 0 ≡ c.to_bits-i.result
+held c = slot_is c.args.table.now c.loop-slot.slot c.to_bits-i.result (omega arith) c.to_bits-i.ensures
 
 pub returns-then-i-eq-EMPTY : goal.returns-then-i-eq-EMPTY
 returns-then-i-eq-EMPTY c =
-    looking-empty _ _ _ _ _ _ c.loop-slot.invariant.0 (held (goal.at.returns-then-i-eq-EMPTY c).After-to_bits-i ∙ c.if-i-eq-EMPTY.true) (omega (arith, slots-long (table (goal.at.returns-then-i-eq-EMPTY c).At-loop-slot))) (omega arith)
-
--- from the lower place to the loop
+    looking-empty _ _ _ _ _ _ c.loop-slot.invariant.0 (held (goal.at.returns-then-i-eq-EMPTY c).After-to_bits-i ∙ c.if-i-eq-EMPTY.true) (omega (arith, slots-long c.args.table.now)) (omega arith)
 
 pub loop-slot-preserved : goal.loop-slot-preserved
 loop-slot-preserved c = (looking-read _ _ _ _ _ _ c.loop-slot.invariant.0 _ (held (goal.at.loop-slot-preserved c).After-to_bits-i) _ c.lower_of-low.ensures, omega arith, omega arith)

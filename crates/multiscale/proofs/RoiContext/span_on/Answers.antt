@@ -12,7 +12,7 @@ int_to_float-scale c = scale-held c.args.self c.requires.0
 pub returns-in_default : goal.returns-in_default
 returns-in_default c =
     no-centre _ _ _ _ (scale-is _ c.requires.0) _ c.round_half_away-centre.ensures.answer
-    c.in_default.in_default-own.keys2
+    (search rules)
 
 pub span_about-requires : goal.span_about-requires
 span_about-requires c = (

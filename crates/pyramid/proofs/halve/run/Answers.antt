@@ -14,11 +14,11 @@ short : (c : Start) → length (holder_of c.args.base.now c.args.levels.now c.ar
 short c = holder-short _ _ c.args.k _ c.well_formed.0.0 c.well_formed.1.1.1.1.0.0
 
 pub overflow_add-top : goal.overflow_add-top
-overflow_add-top c = record { fits = omega (arith, short c.before.before.before.before, c.before.before.before.before.requires.inside) }
+overflow_add-top c = record { fits = omega (arith, short (goal.at.overflow_add-top c).Start, c.requires.inside) }
 
 pub means-requires : goal.means-requires
 means-requires c =
-    rw c.holder.ensures (c.before.before.before.before.before.requires.few, omega (arith, c.before.before.before.before.before.requires.inside), c.before.before.before.before.before.requires.inside, refl)
+    rw c.holder.ensures (c.requires.few, omega (arith, c.requires.inside), c.requires.inside, refl)
 
 -- the part of the buffer that the pixels go to
 part : (c : Start)
@@ -27,12 +27,12 @@ part c = part_length c.args.at c.args.n c.args.levels.now c.requires.fits
 
 pub copy-requires : goal.copy-requires
 copy-requires c =
-    rw (part c.before.before.before.before.before.before.before.before) c.before.before.before.before.before.before.before.before.requires.few
+    rw (part (goal.at.copy-requires c).Start) c.requires.few
 
 pub shape_of-levels : goal.shape_of-levels
 shape_of-levels c = search rules
 
 pub returns : goal.returns
 returns c =
-    run-put _ _ _ _ _ _ _ _ _ _ c.before.before.before.before.before.before.requires.fits (rw c.holder.ensures at c.means.ensures)
-    c.copy.ensures (part c.before.before.before.before.before.before)
+    run-put _ _ _ _ _ _ _ _ _ _ c.requires.fits (rw c.holder.ensures at c.means.ensures)
+    c.copy.ensures (part (goal.at.returns c).Start)

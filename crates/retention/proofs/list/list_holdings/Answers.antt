@@ -16,7 +16,7 @@ returns-then-fault-ne0 c = time-refused _ _ _ _ _ c.time_fault-fault.ensures c.i
 
 pub slice_bounds-number_of-end : goal.slice_bounds-number_of-end
 slice_bounds-number_of-end c =
-    sym (length-take-le 8 c.before.before.before.before.args.input.now (timed c.before.before.before.before.args.input.now (sym c.time-fault.ensures ∙ c.if1.false)).long)
+    sym (length-take-le 8 c.args.input.now (timed c.args.input.now (sym c.time_fault-fault.ensures ∙ c.if-fault-ne0.false)).long)
 
 pub number_of-requires : goal.number_of-requires
 number_of-requires c = simp length-take (omega arith)
@@ -24,10 +24,10 @@ number_of-requires c = simp length-take (omega arith)
 pub list_records-requires : goal.list_records-requires
 list_records-requires c = (
   c.number_of.ensures,
-  rw c.number_of.ensures (timed _ (sym c.time-fault.ensures ∙ c.if1.false)).early,
+  rw c.number_of.ensures (timed _ (sym c.time_fault-fault.ensures ∙ c.if-fault-ne0.false)).early,
   c.list_records-arg-1.given.0.1,
 )
 
 pub returns : goal.returns
 returns c =
-    lines-written _ _ _ _ (sym c.time-fault.ensures ∙ c.if1.false) c.list_records.ensures
+    lines-written _ _ _ _ (sym c.time_fault-fault.ensures ∙ c.if-fault-ne0.false) c.list_records.ensures

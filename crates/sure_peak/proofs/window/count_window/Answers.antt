@@ -28,11 +28,11 @@ stored c = to_z w32 (of_z w32 c.args.v)
 
 -- in a turn the row at hand begins at a small number
 small : (c : In-loop-yy) → c.loop-yy.yy * c.args.w ≤ largest_map
-small c = row_small _ _ _ _ _ c.requires (stored c.before.before) _ c.loop-yy-test.true
+small c = row_small _ _ _ _ _ c.requires (stored (goal.at.In-loop-yy c).Start) _ c.loop-yy-test.true
 
 fits : (c : After-count_above-n) → c.loop-yy.n + c.count_above-n.result ≤ largest_window
 fits c =
-    count_fits _ _ _ _ _ c.requires (stored c.before.before.before.before) _ c.loop-yy-test.taken _ c.loop-yy.invariant _
+    count_fits _ _ _ _ _ c.requires (stored (goal.at.After-count_above-n c).Start) _ c.loop-yy-test.true _ c.loop-yy.invariant _
     c.count_above-n.ensures
 
 pub loop-yy-init : goal.loop-yy-init
@@ -46,7 +46,7 @@ overflow_add-n c = omega (arith, fits c)
 
 pub loop-yy-preserved : goal.loop-yy-preserved
 loop-yy-preserved c =
-    count_next _ _ _ _ _ c.requires (stored (goal.at.loop-yy-preserved c).Start) _ c.loop-yy-test.taken _ c.loop-yy.invariant _
+    count_next _ _ _ _ _ c.requires (stored (goal.at.loop-yy-preserved c).Start) _ c.loop-yy-test.true _ c.loop-yy.invariant _
     c.count_above-n.ensures
 
 pub overflow_mul-y : goal.overflow_mul-y
@@ -67,7 +67,7 @@ module _ (c : After-t26-1) where
   centre = get_or c.args.map.now (c.args.y * c.args.w + c.args.x) (pos 0)
 
   -- v is what was stored for it
-  same : stored c.before.before.before ≡ c.args.v
+  same : stored (goal.at.After-t26-1 c).Start ≡ c.args.v
   same = read c.args.v c.fits.v.sfits
 
   abbrev passing : ℤ → ℕ
