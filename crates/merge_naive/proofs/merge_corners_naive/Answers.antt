@@ -1,5 +1,4 @@
 -- `merge_naive::merge_corners_naive` meets its contract: refused, or merged. Assumes nothing.
-use borrow.Author.Rules.{rules}
 use native.Mathlib.Omega.{arith}
 use mathlib.Core.Path.{◌≡◌, sym, ◌∙◌}
 use Rattle.corner_list.specs.CornerList.{slices, places_of}
@@ -16,36 +15,12 @@ judged : (c : After-refusal-number)
     c.refusal-number.result ≡ refusal_of c.args.radius (places_of b) c.args.count b
 judged c = judged-held _ _ _ _ _ _ c.refusal-number.ensures (omega arith)
 
-pub shape_of-xs-then-number-ne0 : goal.shape_of-xs-then-number-ne0
-shape_of-xs-then-number-ne0 c = search rules
-
-pub shape_of-ys-then-number-ne0 : goal.shape_of-ys-then-number-ne0
-shape_of-ys-then-number-ne0 c = search rules
-
-pub shape_of-strengths-then-number-ne0 : goal.shape_of-strengths-then-number-ne0
-shape_of-strengths-then-number-ne0 c = search rules
-
-pub shape_of-neighbours-then-number-ne0 : goal.shape_of-neighbours-then-number-ne0
-shape_of-neighbours-then-number-ne0 c = search rules
-
 pub returns-then-number-ne0 : goal.returns-then-number-ne0
 returns-then-number-ne0 c = leaves-refused _ _ _ _ (judged (goal.at.returns-then-number-ne0 c).After-refusal-number) c.if-number-ne0.true
 
 pub merge_list-requires : goal.merge_list-requires
 merge_list-requires c =
     judged-fits _ _ _ _ (sym (judged (goal.at.merge_list-requires c).After-refusal-number) ∙ c.if-number-ne0.false)
-
-pub shape_of-xs : goal.shape_of-xs
-shape_of-xs c = search rules
-
-pub shape_of-ys : goal.shape_of-ys
-shape_of-ys c = search rules
-
-pub shape_of-strengths : goal.shape_of-strengths
-shape_of-strengths c = search rules
-
-pub shape_of-neighbours : goal.shape_of-neighbours
-shape_of-neighbours c = search rules
 
 pub returns : goal.returns
 returns c =

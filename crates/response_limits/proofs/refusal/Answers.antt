@@ -35,7 +35,7 @@ rest : (c : Else-high-low)
     refusal_of c.args.low.now c.args.high.now c.args.w c.args.h c.args.ring c.args.lows c.args.highs
     ≡ lowest ((is_crossed c.args.low.now c.args.high.now, 15) ∷ (not (is_ring c.args.ring), 3) ∷ (ltb c.args.lows (c.args.w * c.args.h), 8)
     ∷ (ltb c.args.highs (c.args.w * c.args.h), 8) ∷ [])
-rest c = by-rest _ _ _ _ _ _ _ (image c.before) c.if-high-low.false
+rest c = by-rest _ _ _ _ _ _ _ (sized _ _ _ _ c.refusal-number.ensures c.if-number-ne0.false) c.if-high-low.false
 
 pub returns-then-are_crossed : goal.returns-then-are_crossed
 returns-then-are_crossed c = rw (rest (goal.at.returns-then-are_crossed c).Else-high-low, ← c.are_crossed.ensures, c.if-are_crossed.true)
@@ -57,7 +57,7 @@ places : (c : Else-not-is_ring)
     ≡ lowest ((ltb c.args.lows (c.args.w * c.args.h), 8) ∷ (ltb c.args.highs (c.args.w * c.args.h), 8) ∷ [])
 places c =
     rw (
-      rest c.before.before.before.before,
+      by-rest _ _ _ _ _ _ _ (sized _ _ _ _ c.refusal-number.ensures c.if-number-ne0.false) c.if-high-low.false,
       ← c.are_crossed.ensures,
       c.if-are_crossed.false,
       ← c.is_ring.ensures,

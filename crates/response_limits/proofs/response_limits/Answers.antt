@@ -10,7 +10,7 @@ returns-then-number-ne0 c = when-refused _ _ _ _ _ _ _ _ c.refusal-number.ensure
 pub fill-requires : goal.fill-requires
 fill-requires c =
     let g = given _ _ _ _ _ _ _ (sym c.refusal-number.ensures ∙ c.if-number-ne0.false) in
-record { sized = (g.low-image, g.high-image, g.own_radius); w_in_bounds = (g.enough-lows, g.enough-highs) }
+    record { sized = (g.low-image, g.high-image, g.own_radius); w_in_bounds = (g.enough-lows, g.enough-highs) }
 
 pub shape_of-lows : goal.shape_of-lows
 shape_of-lows c = search rules
@@ -20,4 +20,4 @@ shape_of-highs c = search rules
 
 pub returns : goal.returns
 returns c =
-    when-written _ _ _ _ _ _ _ _ _ _ c.refusal-number.ensures c.if-number-ne0.false c.fill.ensures.0 c.fill.ensures.1
+    when-written _ _ _ _ _ _ _ _ _ _ c.refusal-number.ensures c.if-number-ne0.false c.fill.ensures.lows_after c.fill.ensures.highs_after

@@ -11,15 +11,15 @@ use Rattle.response.proofs.Indices.{area-le}
 use Rattle.retouch.specs.Internal.{PixelChecked}
 use Rattle.retouch.proofs.Judging.{ready, ready-changed, when-refused, when-redone}
 use Rattle.retouch.proofs.retouch.Goals as goal
-use Rattle.retouch.proofs.retouch.Goals.{After-refusal-number, Else-number-ne0, Start}
+use Rattle.retouch.proofs.retouch.Goals.{Else-number-ne0}
 
 -- ---- nothing refuses
 
-abbrev pixel : Start → Place
-pixel a = record { x = a.args.x; y = a.args.y }
+abbrev pixel : Else-number-ne0 → Place
+pixel c = record { x = c.args.x; y = c.args.y }
 
 granted : (c : Else-number-ne0)
-    → PixelChecked c.args.img.now c.args.w c.args.h c.args.ring (pixel c.before.before.before.before)
+    → PixelChecked c.args.img.now c.args.w c.args.h c.args.ring (pixel c)
     c.args.map.now
 granted c = ready _ _ _ _ _ _ (sym c.refusal-number.ensures ∙ c.if-number-ne0.false)
 
@@ -33,16 +33,16 @@ pub returns-then-number-ne0 : goal.returns-then-number-ne0
 returns-then-number-ne0 c = when-refused _ _ _ _ _ _ _ _ c.refusal-number.ensures c.if-number-ne0.true
 
 pub overflow_mul-img : goal.overflow_mul-img
-overflow_mul-img c = omega (arith, near c)
+overflow_mul-img c = omega (arith, near (goal.at.overflow_mul-img c).Else-number-ne0)
 
 pub overflow_add-img : goal.overflow_add-img
-overflow_add-img c = omega (arith, near c)
+overflow_add-img c = omega (arith, near (goal.at.overflow_add-img c).Else-number-ne0)
 
 pub bounds-img-y : goal.bounds-img-y
-bounds-img-y c = stored c
+bounds-img-y c = stored (goal.at.bounds-img-y c).Else-number-ne0
 
 pub redo_touched-cells-requires : goal.redo_touched-cells-requires
-redo_touched-cells-requires c = ready-changed _ _ _ _ _ _ _ (granted (goal.at.redo_touched-cells-requires c).After-refusal-number)
+redo_touched-cells-requires c = ready-changed _ _ _ _ _ _ _ (granted (goal.at.redo_touched-cells-requires c).Else-number-ne0)
 
 pub shape_of-img : goal.shape_of-img
 shape_of-img c = search rules
@@ -52,4 +52,4 @@ shape_of-map c = search rules
 
 pub returns : goal.returns
 returns c =
-    when-redone _ _ _ _ _ _ _ _ _ _ _ c.refusal.ensures c.if1.false refl c.redo_touched-cells.ensures.1 c.redo_touched-cells.ensures.0
+    when-redone _ _ _ _ _ _ _ _ _ _ _ c.refusal-number.ensures c.if-number-ne0.false refl c.redo_touched-cells.ensures.value c.redo_touched-cells.ensures.map_after

@@ -9,4 +9,4 @@ shape_of-map c = search rules
 pub returns : goal.returns
 returns c =
     responded _ _ _ _ _ _ _ _ _ _ c.chess_response_u8_patch-a.ensures c.number_of.ensures
-    c.width_of_lem.ensures c.height_of.ensures
+    c.width_of.ensures c.height_of.ensures

@@ -11,7 +11,7 @@ use Rattle.frame.proofs.search.add_patch.Goals as goal
 pub returns-in_default : goal.returns-in_default
 returns-in_default c =
     about-none (choice_of c.args.p c.args.exact) _ _ _ _ _ _ _ c.box_of-b.ensures
-    c.in_default.in_default-own.keys2 _ _ c.requires.1
+    (search rules) _ _ c.requires.1
 
 pub int_to_float-x0 : goal.int_to_float-x0
 unfolding in_float

@@ -1,5 +1,4 @@
 -- `merge::apart::merge_apart` meets its contract: refused, or merged into the separate buffer. Assumes nothing.
-use borrow.Author.Rules.{rules}
 use mathlib.Core.Path.{◌≡◌, sym, ◌∙◌}
 use Rattle.corner_list.specs.CornerList.{slices, places_of}
 use Rattle.merge.specs.Apart.{refusal_apart}
@@ -22,18 +21,6 @@ returns-then-number-ne0 c = leaves-refused _ _ _ _ (judged (goal.at.returns-then
 pub merge_into-requires : goal.merge_into-requires
 merge_into-requires c =
     apart_fits _ _ _ _ (sym (judged (goal.at.merge_into-requires c).After-refusal_apart-number) ∙ c.if-number-ne0.false)
-
-pub shape_of-mx : goal.shape_of-mx
-shape_of-mx c = search rules
-
-pub shape_of-my : goal.shape_of-my
-shape_of-my c = search rules
-
-pub shape_of-ms : goal.shape_of-ms
-shape_of-ms c = search rules
-
-pub shape_of-mn : goal.shape_of-mn
-shape_of-mn c = search rules
 
 pub returns : goal.returns
 returns c =

@@ -1,5 +1,4 @@
 -- `merge::apart::merge_into` meets its contract: copied where the radius is off, else merged by the grid. Assumes nothing.
-use borrow.Author.Rules.{rules}
 use mathlib.Core.Path.{sym, ◌∙◌}
 use mathlib.Core.Bool.{true}
 use Rattle.corner_list.specs.CornerList.{Slices, slices}
@@ -11,34 +10,10 @@ use Rattle.merge.proofs.apart.merge_into.Goals.{Start}
 abbrev list : Start → Slices
 list c = slices c.args.xs.now c.args.ys.now c.args.strengths.now c.args.neighbours.now
 
-pub shape_of-mx-then-is_off : goal.shape_of-mx-then-is_off
-shape_of-mx-then-is_off c = search rules
-
-pub shape_of-my-then-is_off : goal.shape_of-my-then-is_off
-shape_of-my-then-is_off c = search rules
-
-pub shape_of-ms-then-is_off : goal.shape_of-ms-then-is_off
-shape_of-ms-then-is_off c = search rules
-
-pub shape_of-mn-then-is_off : goal.shape_of-mn-then-is_off
-shape_of-mn-then-is_off c = search rules
-
 pub returns-then-is_off : goal.returns-then-is_off
 returns-then-is_off c =
     left-off _ (list (goal.at.returns-then-is_off c).Start) _ _ _ _ (sym c.is_off.ensures ∙ c.if-is_off.true)
     (left-copied (list (goal.at.returns-then-is_off c).Start) _ _ _ c.copy_list.ensures)
-
-pub shape_of-mx : goal.shape_of-mx
-shape_of-mx c = search rules
-
-pub shape_of-my : goal.shape_of-my
-shape_of-my c = search rules
-
-pub shape_of-ms : goal.shape_of-ms
-shape_of-ms c = search rules
-
-pub shape_of-mn : goal.shape_of-mn
-shape_of-mn c = search rules
 
 pub returns : goal.returns
 returns c =

@@ -9,7 +9,7 @@ use Rattle.patch_corners.proofs.localizing.centre.Goals as goal
 pub returns-in_default : goal.returns-in_default
 unfolding centred
 returns-in_default c =
-    not-accepted c.refine-o.result c.args.c c.in_default.in_default-own.keys2
+    not-accepted c.refine-o.result c.args.c (search rules)
     ∙ ap (λ (o : Outcome). centre_or_seed o c.args.c) c.refine-o.ensures.answer
 
 pub returns : goal.returns

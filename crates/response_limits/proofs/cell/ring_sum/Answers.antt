@@ -14,4 +14,4 @@ loop-k-preserved c = (search rules, added_next _ _ _ _ _ c.loop-k.invariant.1 c.
 pub returns : goal.returns
 returns c =
     let all = added-all _ _ 8 _ _ c.loop-k.invariant.1 (search rules) in
-    (all.0 ∙ paired c.args.t1, all.1)
+    (all.0 ∙ paired c.args.p, all.1)

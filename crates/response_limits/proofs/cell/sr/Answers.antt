@@ -13,16 +13,16 @@ loop-k-init c = (search rules, added_none _ _)
 -- what a turn adds
 term : (c : After-apart-sr)
     →
-    (c.apart-sr.result ≡ sr_term c.args.t1 c.args.t2 c.loop-k.k) × (c.apart-sr.result ≤ 510)
+    (c.apart-sr.result ≡ sr_term c.args.p c.args.q c.loop-k.k) × (c.apart-sr.result ≤ 510)
 term c =
-    sr-term c.args.t1 c.args.t2 c.loop-k.k _ _ _ _ _ c.pair-a.ensures.0 c.pair-b.ensures.0 c.pair-c.ensures.0
+    sr-term c.args.p c.args.q c.loop-k.k _ _ _ _ _ c.pair-a.ensures.0 c.pair-b.ensures.0 c.pair-c.ensures.0
     c.pair-d.ensures.0 c.pair-a.ensures.1 c.pair-b.ensures.1 c.apart-sr.ensures
 
 pub overflow_add-sr : goal.overflow_add-sr
-overflow_add-sr c = omega (arith, c.loop-k.invariant.1.sum_small, (term c).1)
+overflow_add-sr c = omega (arith, c.loop-k.invariant.1.sum_small, (term (goal.at.overflow_add-sr c).After-apart-sr).1)
 
 pub loop-k-preserved : goal.loop-k-preserved
-loop-k-preserved c = (search rules, added_next _ _ _ _ _ c.loop-k.invariant.1 (term c).0 (term c).1)
+loop-k-preserved c = (search rules, added_next _ _ _ _ _ c.loop-k.invariant.1 (term (goal.at.loop-k-preserved c).After-apart-sr).0 (term (goal.at.loop-k-preserved c).After-apart-sr).1)
 
 pub returns : goal.returns
 returns c = added-all _ _ 4 _ _ c.loop-k.invariant.1 (search rules)

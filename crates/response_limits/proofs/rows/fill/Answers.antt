@@ -20,7 +20,6 @@ loop-y-init c = (refl, refl, grid-none _ _ _, grid-none _ _ _, sym (zero-mul _),
 
 -- in a turn the next row lies in both buffers
 module _ (c : In-loop-y) where
-
   in-lows : c.loop-y.a + c.args.w ≤ length c.args.lows.now
   in-lows = row-end _ _ _ _ _ c.loop-y-test.true c.loop-y.invariant.4 c.requires.w_in_bounds.0
 
@@ -28,13 +27,13 @@ module _ (c : In-loop-y) where
   in-highs = row-end _ _ _ _ _ c.loop-y-test.true c.loop-y.invariant.4 c.requires.w_in_bounds.1
 
 pub overflow_add-e : goal.overflow_add-e
-overflow_add-e c = omega (arith, in-lows c)
+overflow_add-e c = omega (arith, in-lows (goal.at.overflow_add-e c).In-loop-y)
 
 pub offset_bounds-lows-a : goal.offset_bounds-lows-a
-offset_bounds-lows-a c = omega (arith, in-lows c)
+offset_bounds-lows-a c = omega (arith, in-lows (goal.at.offset_bounds-lows-a c).In-loop-y)
 
 pub slice_bounds-row-end : goal.slice_bounds-row-end
-slice_bounds-row-end c = omega (arith, in-lows c)
+slice_bounds-row-end c = omega (arith, in-lows (goal.at.slice_bounds-row-end c).In-loop-y)
 
 pub offset_bounds-highs-a : goal.offset_bounds-highs-a
 offset_bounds-highs-a c = omega (arith, in-highs (goal.at.offset_bounds-highs-a c).In-loop-y)
@@ -44,25 +43,27 @@ slice_bounds-row-end-in-loop-y c = omega (arith, in-highs (goal.at.slice_bounds-
 
 pub row-requires : goal.row-requires
 row-requires c =
-    record { image_with_table = (
-        record { image = c.requires.sized.0; c.ring_offsets-t.ensures = c.ring_offsets-t.ensures; own_radius = c.requires.sized.2 },
-        record { image = c.requires.sized.1; c.ring_offsets-t.ensures = c.ring_offsets-t.ensures; own_radius = c.requires.sized.2 },
-      ); lows_len = (
+    record {
+      image_with_table = (
+        record { image = c.requires.sized.0; table = c.ring_offsets-t.ensures; own_radius = c.requires.sized.2 },
+        record { image = c.requires.sized.1; table = c.ring_offsets-t.ensures; own_radius = c.requires.sized.2 },
+      );
+      lows_len = (
         part_length c.loop-y.a c.args.w c.loop-y.lows (omega (arith, in-lows (goal.at.row-requires c).In-loop-y, c.loop-y.invariant.0)),
         part_length c.loop-y.a c.args.w c.loop-y.highs (omega (arith, in-highs (goal.at.row-requires c).In-loop-y, c.loop-y.invariant.1)),
         c.loop-y-test.true,
-      ) }
+      );
+    }
 
 pub loop-y-preserved : goal.loop-y-preserved
-loop-y-preserved c =
-    (
-      search rules,
-      search rules,
-      grid-put _ _ _ _ _ _ _ _ c.loop-y.invariant.2 c.loop-y.invariant.4 c.row.ensures.0 refl,
-      grid-put _ _ _ _ _ _ _ _ c.loop-y.invariant.3 c.loop-y.invariant.4 c.row.ensures.1 refl,
-      omega (arith, row_below c.args.w c.loop-y.y, c.loop-y.invariant.4),
-      search rules,
-    )
+loop-y-preserved c = (
+  search rules,
+  search rules,
+  grid-put _ _ _ _ _ _ _ _ c.loop-y.invariant.2 c.loop-y.invariant.4 c.row.ensures.lows_after refl,
+  grid-put _ _ _ _ _ _ _ _ c.loop-y.invariant.3 c.loop-y.invariant.4 c.row.ensures.highs_after refl,
+  omega (arith, row_below c.args.w c.loop-y.y, c.loop-y.invariant.4),
+  search rules,
+)
 
 pub shape_of-lows : goal.shape_of-lows
 shape_of-lows c = search rules
@@ -72,4 +73,7 @@ shape_of-highs c = search rules
 
 pub returns : goal.returns
 returns c =
-    (grid-all _ _ _ _ _ _ _ c.loop-y.invariant.2 c.loop-y.invariant.4 (search rules), grid-all _ _ _ _ _ _ _ c.loop-y.invariant.3 c.loop-y.invariant.4 (search rules))
+    record {
+      lows_after = grid-all _ _ _ _ _ _ _ c.loop-y.invariant.2 c.loop-y.invariant.4 (search rules);
+      highs_after = grid-all _ _ _ _ _ _ _ c.loop-y.invariant.3 c.loop-y.invariant.4 (search rules);
+    }

@@ -47,7 +47,7 @@ pub shape_of-highs : goal.shape_of-highs
 shape_of-highs c = search rules
 
 pub returns : goal.returns
-returns c = (
-  lows-put _ _ _ _ _ _ _ _ _ c.reach-s.ensures _ (lows-cleared (goal.at.returns c).After-clear_edges-2) _ _ (part-long (goal.at.returns c).After-clear_edges-2 (lows (goal.at.returns c).After-clear_edges-2) (lows-cleared (goal.at.returns c).After-clear_edges-2)) c.inner.ensures.lows_are,
-  highs-put _ _ _ _ _ _ _ _ _ c.reach-s.ensures _ (highs-cleared (goal.at.returns c).After-clear_edges-2) _ _ (part-long (goal.at.returns c).After-clear_edges-2 (highs (goal.at.returns c).After-clear_edges-2) (highs-cleared (goal.at.returns c).After-clear_edges-2)) c.inner.ensures.highs_are,
-)
+returns c = record {
+  lows_after = lows-put _ _ _ _ _ _ _ _ _ c.reach-s.ensures _ (lows-cleared (goal.at.returns c).After-clear_edges-2) _ _ (part-long (goal.at.returns c).After-clear_edges-2 (lows (goal.at.returns c).After-clear_edges-2) (lows-cleared (goal.at.returns c).After-clear_edges-2)) c.inner.ensures.lows_are;
+  highs_after = highs-put _ _ _ _ _ _ _ _ _ c.reach-s.ensures _ (highs-cleared (goal.at.returns c).After-clear_edges-2) _ _ (part-long (goal.at.returns c).After-clear_edges-2 (highs (goal.at.returns c).After-clear_edges-2) (highs-cleared (goal.at.returns c).After-clear_edges-2)) c.inner.ensures.highs_are;
+}

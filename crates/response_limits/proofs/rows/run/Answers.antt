@@ -19,7 +19,7 @@ pub samples-p-requires : goal.samples-p-requires
 samples-p-requires c = record { image_with_table = c.requires.image_with_table.0; inner = c.requires.by_index _ c.loop-j-test.true }
 
 pub samples-q-requires : goal.samples-q-requires
-samples-q-requires c = (c.requires.image_with_table.1, c.requires.by_index _ c.loop-j-test.true)
+samples-q-requires c = record { image_with_table = c.requires.image_with_table.1; inner = c.requires.by_index _ c.loop-j-test.true }
 
 pub limits-l-requires : goal.limits-l-requires
 limits-l-requires c = (c.samples-p.ensures.cross_small, c.samples-q.ensures.cross_small)

@@ -27,11 +27,13 @@ pub loop-k-preserved : goal.loop-k-preserved
 loop-k-preserved c = (
   search rules,
   passed-next _ _ _ _ (ring_of-is _) _ _ _ _ _ c.loop-k.invariant.1 c.loop-k-test.true _ _ _
-      c.sample_place-p.ensures c.redo-n.ensures.0 c.redo-n.ensures.1.0 c.redo-n.ensures.1.1,
+      c.sample_place-p.ensures c.redo-n.ensures.map_after c.redo-n.ensures.value.0 c.redo-n.ensures.value.1,
 )
 
 pub shape_of-map : goal.shape_of-map
 shape_of-map c = passed_length _ _ _ _ (ring_of-is _) _ _ _ _ _ c.loop-k.invariant.1 ∙ sym c.requires.cells
 
 pub returns : goal.returns
-returns c = passed-all _ _ _ _ (ring_of-is _) _ _ _ _ _ c.loop-k.invariant.1 c.loop-k-test.false
+returns c =
+    let all = passed-all _ _ _ _ (ring_of-is _) _ _ _ _ _ c.loop-k.invariant.1 c.loop-k-test.false in
+    record { map_after = all.0; value = all.1 }
