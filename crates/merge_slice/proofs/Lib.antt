@@ -1,4 +1,3 @@
 pub mod Turns
 pub mod Slice
-pub mod Again
 pub mod Core

@@ -91,7 +91,7 @@ module _ {A : Type 0} (L : ℕ) (b e : A → ℕ) where
     deviations Q D (a ∷ l) h f =
         let k = simp poly at (deviations Q D l h f.1) in
         let s = simp poly at (mul-le-mul_right (e a) (deviation (d a) Q D (dist (d a * Q) D) f.0 h (distance (d a * Q) D))) in
-        simp poly (omega arith)
+        simp poly (omega (arith, s, k))
 
 -- ---- the two means Z / Y and D / Q, from the shares of all places
 square : (a b : ℕ) → 2 * (a * b) ≤ a * a + b * b

@@ -1,9 +1,7 @@
 -- `clearing::clear` meets its contract. Assumes nothing.
-use Prim.Native.Nat.{◌-◌}
 use native.Mathlib.Omega.{arith}
 use lib.Ieee.{of_bits}
-use Rattle.float32.specs.Float32.{zero}
-use Rattle.clearing.proofs.Wiping.{Wiping, wiping-none, wiping-set, wiping-all}
+use Rattle.clearing.proofs.Wiping.{wiping-none, wiping-set, wiping-all}
 use Rattle.clearing.proofs.clear.Goals as goal
 
 pub loop-i-init : goal.loop-i-init

@@ -1,8 +1,6 @@
 use Prim.Native.Nat.{◌-◌}
-use native.Mathlib.Omega.{arith}
-use lib.Ieee.{of_bits}
 use Rattle.float32.specs.Float32.{zero}
-use Rattle.clearing.proofs.Wiping.{Wiping, wiping-none, wiping-set, wiping-all}
+use Rattle.clearing.proofs.Wiping.{Wiping}
 use Rattle.clearing.proofs.clear.Given as goal
 
 abbrev pub invariant-loop-i : goal.invariant-loop-i

@@ -1,8 +1,7 @@
 -- `clearing::clear_bytes` meets its contract. Assumes nothing.
-use Prim.Native.Nat.{ℕ, ◌-◌}
 use native.Mathlib.Omega.{arith}
 use mathlib.Core.Path.{◌∙◌}
-use Rattle.clearing.proofs.Wiping.{Wiping, wiping-none, wiping-set, wiping-all, wiped-whole}
+use Rattle.clearing.proofs.Wiping.{wiping-none, wiping-set, wiping-all, wiped-whole}
 use Rattle.clearing.proofs.clear_bytes.Goals as goal
 
 pub loop-i-init : goal.loop-i-init

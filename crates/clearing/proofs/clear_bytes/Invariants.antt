@@ -1,7 +1,5 @@
 use Prim.Native.Nat.{ℕ, ◌-◌}
-use native.Mathlib.Omega.{arith}
-use mathlib.Core.Path.{◌∙◌}
-use Rattle.clearing.proofs.Wiping.{Wiping, wiping-none, wiping-set, wiping-all, wiped-whole}
+use Rattle.clearing.proofs.Wiping.{Wiping}
 use Rattle.clearing.proofs.clear_bytes.Given as goal
 
 abbrev pub invariant-loop-i : goal.invariant-loop-i

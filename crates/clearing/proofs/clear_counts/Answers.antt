@@ -1,7 +1,6 @@
 -- `clearing::clear_counts` meets its contract. Assumes nothing.
-use Prim.Native.Nat.{ℕ, ◌-◌}
 use native.Mathlib.Omega.{arith}
-use Rattle.clearing.proofs.Wiping.{Wiping, wiping-none, wiping-set, wiping-all}
+use Rattle.clearing.proofs.Wiping.{wiping-none, wiping-set, wiping-all}
 use Rattle.clearing.proofs.clear_counts.Goals as goal
 
 pub loop-i-init : goal.loop-i-init

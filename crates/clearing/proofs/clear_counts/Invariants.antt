@@ -1,6 +1,5 @@
 use Prim.Native.Nat.{ℕ, ◌-◌}
-use native.Mathlib.Omega.{arith}
-use Rattle.clearing.proofs.Wiping.{Wiping, wiping-none, wiping-set, wiping-all}
+use Rattle.clearing.proofs.Wiping.{Wiping}
 use Rattle.clearing.proofs.clear_counts.Given as goal
 
 abbrev pub invariant-loop-i : goal.invariant-loop-i

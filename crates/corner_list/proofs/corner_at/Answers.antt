@@ -1,5 +1,4 @@
 -- `corner_list::corner_at` meets its contract, field by field. Assumes nothing.
-use borrow.Author.Rules.{rules}
 use Rattle.corner_list.proofs.corner_at.Goals as goal
 
 pub returns : goal.returns

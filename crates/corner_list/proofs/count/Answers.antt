@@ -1,7 +1,6 @@
 -- `corner_list::count` meets its contract. Assumes nothing.
 use mathlib.Core.Path.{sym}
 use lib.ListN.{get_or-eq_default}
-use borrow.Author.Rules.{rules}
 use Rattle.corner_list.proofs.count.Goals as goal
 
 pub returns : goal.returns

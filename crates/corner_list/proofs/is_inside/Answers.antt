@@ -1,7 +1,6 @@
 -- `corner_list::is_inside` meets its contract. Assumes nothing.
 use mathlib.Core.Path.{sym, ◌∙◌}
 use lib.Ieee.{of_bits}
-use borrow.Author.Rules.{rules}
 use Rattle.lists.proofs.Tests.{and-on, and-off}
 use Rattle.corner_list.specs.CornerList.{is_inside}
 use Rattle.corner_list.proofs.is_inside.Goals as goal

@@ -1,6 +1,6 @@
 -- `float32::cut_off` meets its contract: in range by `std`'s truncation, out of it by the laws of `to_unsigned` at the ends. Assumes
 -- nothing.
-use Rattle.std.proofs.Common.{T, sym, subst, rules}
+use Rattle.std.proofs.Common.{T, sym, subst}
 use lib.Ieee.{of_bits, neg}
 use Rattle.float32.proofs.Truncation.{cut_all, cut-none}
 use Rattle.float32.proofs.cut_off.Goals as goal

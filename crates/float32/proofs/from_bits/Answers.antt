@@ -1,5 +1,4 @@
 -- `float32::from_bits` meets its contract. Assumes nothing.
-use Rattle.std.proofs.Common.{rules}
 use lib.Ieee.{of_bits, div}
 use Rattle.float32.proofs.Classes.{nan_pattern, no-nan-pattern}
 use Rattle.float32.proofs.from_bits.Goals as goal

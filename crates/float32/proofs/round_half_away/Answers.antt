@@ -1,5 +1,5 @@
 -- `float32::round_half_away` meets its contract. Assumes nothing.
-use Rattle.std.proofs.Common.{◌≡◌, ◌+◌, ◌/◌, ◌^◌, ◌<◌, false, pos, ◌∙◌, arith, rules}
+use Rattle.std.proofs.Common.{◌≡◌, ◌+◌, ◌/◌, ◌^◌, ◌<◌, false, pos, ◌∙◌, arith}
 use lib.Ieee.{of_bits, lt, fin}
 use Rattle.float32.specs.Float32.{signed, round_half_away}
 use Rattle.float32.proofs.HalfAway.{rounds, beyond, signed-negative, rounded}

@@ -1,5 +1,5 @@
 -- `float32::to_bits` meets its contract. Assumes nothing.
-use Rattle.std.proofs.Common.{T, sym, ap, subst, rules}
+use Rattle.std.proofs.Common.{T, sym, ap, subst}
 use lib.Ieee.{to_bits, binary32}
 use lib.Ieee.Compare.{differs_from_itself}
 use Rattle.float32.proofs.Classes.{no_nan}

@@ -25,7 +25,7 @@ add_seeds-f-requires c =
     let taken = admitted c.args.p (length c.args.img.now) c.args.w c.args.h (length c.args.map.now) (length c.args.levels.now) none in
     let sound = admitted-sound c.args.p c.args.img.now c.args.w c.args.h _ _ taken
     (λ i. (c.shared_slice_known-1.given i).fits) in
-record { frame_checked = record { sound = sound; enough = taken.enough }; built_levels = record { before = _; complete = c.build-n.ensures } }
+    record { frame_checked = record { sound = sound; enough = taken.enough }; built_levels = record { before = _; complete = c.build-n.ensures } }
 
 pub add_found-g-requires : goal.add_found-g-requires
 add_found-g-requires c =
@@ -33,9 +33,10 @@ add_found-g-requires c =
     let taken = admitted c.args.p (length c.args.img.now) c.args.w c.args.h (length c.args.map.now) (length c.args.levels.now) none in
     let sound = admitted-sound c.args.p c.args.img.now c.args.w c.args.h _ _ taken
     (λ i. (c.shared_slice_known-1.given i).fits) in
-    
     let ready : FrameChecked c.args.p c.args.img.now c.args.w c.args.h (length c.args.map.now) = record { sound = sound; enough = taken.enough } in
-record { frame_checked = ready-kept _ _ _ _ _ _ ready (search c.add_seeds-f.kept.1.1.1.1.1.1.1); n_le_most_levels = (
+    record {
+      frame_checked = ready-kept _ _ _ _ _ _ ready (omega (arith, c.add_seeds-f.auto));
+      n_le_most_levels = (
         levels-most c.args.p c.args.img.now c.args.w c.args.h _ _
             (record { before = _; complete = c.build-n.ensures }),
         omega (
@@ -43,7 +44,8 @@ record { frame_checked = ready-kept _ _ _ _ _ _ ready (search c.add_seeds-f.kept
           seeds-few c.args.p c.args.exact c.args.img.now c.args.w c.args.h _ ready _ _ _ _ c.add_seeds-f.ensures,
           c.added-m.ensures,
         ),
-      ) }
+      );
+    }
 
 pub shape_of-map : goal.shape_of-map
 shape_of-map c =
@@ -108,24 +110,18 @@ shape_of-cn c =
 pub returns : goal.returns
 returns c =
     let none = sym c.refusal-number.ensures ∙ c.if-number-ne0.false in
-    
-    
-    
-    
-    
     let found = searched (choice_of c.args.p c.args.exact) c.args.p c.args.img.now c.args.w c.args.h _ _ _ _ _ _ _ c.add_seeds-f.ensures _
     c.added-m.ensures
     c.add_found-g.ensures _ c.lists_of-found.ensures in
     let taken = admitted c.args.p (length c.args.img.now) c.args.w c.args.h (length c.args.map.now) (length c.args.levels.now) none in
     let sound = admitted-sound c.args.p c.args.img.now c.args.w c.args.h _ _ taken
     (λ i. (c.shared_slice_known-1.given i).fits) in
-    
     entry-merged (choice_of c.args.p c.args.exact) c.args.p c.args.img.now c.args.w c.args.h c.args.map.now c.args.levels.now _ _ _
     c.build-n.ensures.counted _ _ _ found
-    (record { xs = search c.add_seeds-f.kept.1.1.1.1.1.1.1; ys = search c.add_seeds-f.kept.1.1.1.1.1.1.1; strengths = search c.add_seeds-f.kept.1.1.1.1.1.1.1; neighbours = search c.add_seeds-f.kept.1.1.1.1.1.1.1 })
-    (record { xs = search c.add_found-g.kept.1.1.1.1.1.1.1.1.1.1.1; ys = search c.add_found-g.kept.1.1.1.1.1.1.1.1.1.1.1; strengths = search c.add_found-g.kept.1.1.1.1.1.1.1.1.1.1.1; neighbours = search c.add_found-g.kept.1.1.1.1.1.1.1.1.1.1.1 })
+    (record { xs = omega (arith, c.add_seeds-f.auto); ys = omega (arith, c.add_seeds-f.auto); strengths = omega (arith, c.add_seeds-f.auto); neighbours = omega (arith, c.add_seeds-f.auto) })
+    (record { xs = omega (arith, c.add_found-g.auto); ys = omega (arith, c.add_found-g.auto); strengths = omega (arith, c.add_found-g.auto); neighbours = omega (arith, c.add_found-g.auto) })
     none taken (corners-inside c.args.p c.args.img.now c.args.w c.args.h (choice_of c.args.p c.args.exact) sound).1
-    c.add_found-g.last.1.1.1.1.1.1.1.1.1.1.1.0 (omega (arith, c.add_found-g.kept, c.add_seeds-f.kept)) _ c.build-n.ensures.fills c.build-n.ensures.long _ _ _
+    c.add_found-g.new.map (omega (arith, c.add_found-g.auto, c.add_seeds-f.auto)) _ c.build-n.ensures.fills c.build-n.ensures.long _ _ _
     c.merge_by_table-merged.ensures _ c.clear_levels.ensures
     _ c.clear_list.ensures _ c.kept_of-k.ensures
     _ c.clear_list-2.ensures _ c.answer_of.ensures

@@ -1,5 +1,4 @@
 -- `frame_params::is_outside` meets its contract, return by return. Assumes nothing.
-use borrow.Author.Rules.{rules}
 use borrow.Author.Tests.{lt-ltb, le-ltb}
 use Rattle.lists.specs.Limits.{largest_radius}
 use Rattle.frame_params.proofs.is_outside.Goals as goal

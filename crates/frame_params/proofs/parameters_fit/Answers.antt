@@ -1,5 +1,4 @@
 -- `frame_params::parameters_fit` meets its contract, return by return. Assumes nothing.
-use borrow.Author.Rules.{rules}
 use Rattle.frame_params.specs.Ranges.{parameters_fit}
 use Rattle.frame_params.proofs.parameters_fit.Goals as goal
 

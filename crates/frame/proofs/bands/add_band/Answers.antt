@@ -45,9 +45,6 @@ slice_bounds-chess_response_u8_patch-end c = band-end _ _ _ _ _ _ c.requires.1 c
 pub slice_bounds-add_row_corners-end : goal.slice_bounds-add_row_corners-end
 slice_bounds-add_row_corners-end c = search rules
 
-pub slice_bounds-add_row_corners-end-2 : goal.slice_bounds-add_row_corners-end-2
-slice_bounds-add_row_corners-end-2 c = sym (length-take-le _ _ (slice_bounds-add_row_corners-end (goal.at.slice_bounds-add_row_corners-end-2 c).After-slice_known-6-1))
-
 pub shape_of-map : goal.shape_of-map
 shape_of-map c = search rules
 

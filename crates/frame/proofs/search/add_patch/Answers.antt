@@ -25,7 +25,7 @@ pub shift-requires : goal.shift-requires
 shift-requires c =
     let fit = moved-fits _ _ _ _ _ _ c.add_patch_corners-f.ensures c.requires.1 _
     c.added-m.ensures in
-    omega (arith, fit, c.add_patch_corners-f.kept)
+    omega (arith, fit, c.add_patch_corners-f.auto)
 
 pub int_to_float-y0 : goal.int_to_float-y0
 unfolding in_float
@@ -39,7 +39,7 @@ pub shift-requires-2 : goal.shift-requires-2
 shift-requires-2 c =
     let fit = moved-fits _ _ _ _ _ _ c.add_patch_corners-f.ensures c.requires.1 _
     c.added-m.ensures in
-    omega (arith, fit, c.add_patch_corners-f.kept)
+    omega (arith, fit, c.add_patch_corners-f.auto)
 
 pub shape_of-map : goal.shape_of-map
 shape_of-map c = search rules

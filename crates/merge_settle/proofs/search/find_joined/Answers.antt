@@ -8,8 +8,6 @@ use Rattle.merge_settle.proofs.Slots.{some-floats}
 use Rattle.merge_settle.proofs.Nearby.{all_near}
 use Rattle.merge_settle.proofs.search.find_joined.Goals as goal
 
--- from the test of the row to the function's start
-
 pub lowest_of_two-low-requires : goal.lowest_of_two-low-requires
 lowest_of_two-low-requires c =
     let some = some-floats c.args.table.now c.requires.some in

@@ -13,8 +13,7 @@ use Rattle.merge_settle.proofs.search.first_joined.Goals.{After-is_joined}
 pub loop-i-init : goal.loop-i-init
 loop-i-init c = (omega arith, below_none _)
 
--- from the test to the function's start, and the test, of the corner in the buffer
-
+-- the test, of the corner in the buffer
 tested : (c : After-is_joined)
     → joins_at c.args.g c.args.p c.args.xs.now c.args.ys.now c.loop-i.i ≡ c.is_joined.result
 tested c = ap (meets c.args.g c.args.p) (sym c.position_at.ensures) ∙ sym c.is_joined.ensures

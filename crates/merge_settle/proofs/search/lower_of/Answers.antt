@@ -7,8 +7,7 @@ use Rattle.merge_settle.proofs.First.{lower-here, lower-not, lower-past}
 use Rattle.merge_settle.proofs.search.lower_of.Goals as goal
 use Rattle.merge_settle.proofs.search.lower_of.Goals.{After-is_joined}
 
--- from the test to the function's start, and the test, of the corner in the buffer
-
+-- the test, of the corner in the buffer
 tested : (c : After-is_joined) →
     joins_at c.args.g c.args.p c.args.xs.now c.args.ys.now c.args.i ≡ c.is_joined.result
 tested c = ap (meets c.args.g c.args.p) (sym c.position_at.ensures) ∙ sym c.is_joined.ensures

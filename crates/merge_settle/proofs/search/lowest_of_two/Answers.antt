@@ -5,8 +5,6 @@ use Rattle.merge_settle.proofs.First.{among_two}
 use Rattle.merge_settle.proofs.Slots.{home-in, home-slots}
 use Rattle.merge_settle.proofs.search.lowest_of_two.Goals as goal
 
--- from the first home to the function's start
-
 pub lowest_from-low-requires : goal.lowest_from-low-requires
 lowest_from-low-requires c = (home-in _ _ _ _ c.requires.0 c.home_of-home.ensures, omega arith)
 

@@ -10,8 +10,7 @@ use Rattle.merge_settle.proofs.Settle.{settles-new, settles-stronger, settles-no
 use Rattle.merge_settle.proofs.search.place_for.Goals as goal
 use Rattle.merge_settle.proofs.search.place_for.Goals.{After-find_joined-i}
 
--- from the search to the function's start, and what was found, of corners
-
+-- what was found, of corners
 found : (c : After-find_joined-i)
     →
     IsFirst (λ m. joins c.args.g c.args.c (corner_at (slices c.args.xs.now c.args.ys.now c.args.strengths.now c.args.neighbours.now) m))
