@@ -52,12 +52,12 @@ failures() {
     fails 'standard output' $?
 }
 
-# reader_gone FILE: whether SIGPIPE, signal 13, ends the program if nobody reads what it prints about a file
+# reader_gone FILE: the same if nobody reads what it prints about a file
 reader_gone() {
+    : >"$made/out"
     exec 5<>"$made/pipe" 6>"$made/pipe" 5>&-
     $program <"$1" >&6 2>"$made/said"
-    [ "$?" -eq $((128 + 13)) ]
-    told 'the reader of the output is gone: not ended by SIGPIPE'
+    fails 'standard output' $?
     exec 6>&-
 }
 

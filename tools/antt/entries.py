@@ -1,6 +1,6 @@
-"""Writes the functions for C that find the corners of a frame, or checks whether they are what would be written: see
-tools/entries. Behind what is searched, each takes the nine numbers of a frame's parameters, the buffers, and the places
-of its results.
+"""Writes the functions for C that find the corners of a frame, and their proofs, or checks whether they are what would
+be written: see tools/entries. Behind what is searched, each takes the nine numbers of a frame's parameters, the buffers,
+and the places of its results.
 """
 import pathlib
 import string
@@ -52,14 +52,29 @@ $parameters) -> u8
 }
 """)
 
-# what is searched: the crate, how it is given, the function that searches it, and the promise with its record
+PROOF = string.Template("""\
+-- Written by tools/entries; not edited by hand. `$crate::$name` meets its contract: the answer
+-- of the function that it calls, taken apart. Assumes nothing.
+use borrow.Author.Rules.{rules}
+use mathlib.Core.Bool.{$exact}
+use Rattle.$crate.proofs.Entries.{$law}
+use Rattle.$crate.proofs.$choice.$name.Goals as goal
+
+${shapes}pub returns : goal.returns
+returns c =
+    $law $exact c.params_of-p.ensures c.$function-a.ensures
+    c.number_of.ensures c.count_of.ensures c.ties_of.ensures
+""")
+SHAPE = 'pub shape_of-{0} : goal.shape_of-{0}\nshape_of-{0} c = search rules\n\n'
+
+# what is searched: the crate, how it is given, the function that searches it, and the promise with its record and law
 SEARCHED = [
     {'crate': 'capi_frame', 'what': 'an image of w by h pixels', 'ending': '',
      'slices': {'img': '&[u8]'}, 'sides': {'w': 'usize', 'h': 'usize'}, 'home': 'frame', 'function': 'find_corners',
-     'promise': 'Finding', 'record': 'CornersFound'},
+     'promise': 'Finding', 'record': 'CornersFound', 'law': 'corners-found'},
     {'crate': 'capi_photo', 'what': 'an uploaded photograph', 'ending': '_pgm',
      'slices': {'upload': '&[u8]'}, 'sides': {}, 'home': 'pgm_frame', 'function': 'find_pgm_corners',
-     'promise': 'Photographs', 'record': 'PhotographCorners'},
+     'promise': 'Photographs', 'record': 'PhotographCorners', 'law': 'photograph-corners'},
 ]
 
 
@@ -77,24 +92,28 @@ def call(function, arguments):
     return f'{function}(\n{listed(rows, " " * 8)}    )'
 
 
-def file(entry, exact):
-    """The file of a function: its path and its text."""
+def files(entry, exact):
+    """The two files of a function: paths and texts."""
     given = {**entry['slices'], **entry['sides']}
     choice, start = ('exact', 'zakdomp_find_exact_corners') if exact else ('computed', 'zakdomp_find_corners')
-    flag = str(exact).lower()
-    return pathlib.Path('crates') / entry['crate'] / 'src' / f'{choice}.rt', CODE.substitute({
-        **entry, 'name': start + entry['ending'], 'choice': choice, 'exact': flag,
+    name, flag = start + entry['ending'], str(exact).lower()
+    parts = {
+        **entry, 'name': name, 'choice': choice, 'exact': flag,
         'uses': '\n'.join(sorted(f'use {used};' for used in [*USES, f'{entry["home"]}::{entry["function"]}'])),
         'parameters': listed(map(': '.join, {**given, **NUMBERS, **BUFFERS, **RESULTS}.items()), ' ' * 4),
         'given': ' '.join([f'{part}.now' for part in entry['slices']] + list(entry['sides'])),
         'params': call('params_of', NUMBERS),
         'find': call(entry['function'], [*given, 'p', flag, *BUFFERS]),
-    })
+        'shapes': ''.join(map(SHAPE.format, BUFFERS)),
+    }
+    crate = pathlib.Path('crates') / entry['crate']
+    yield crate / 'src' / f'{choice}.rt', CODE.substitute(parts)
+    yield crate / 'proofs' / choice / name / 'Answers.antt', PROOF.substitute(parts)
 
 
 def main():
     differing = 0
-    for path, text in (file(entry, exact) for entry in SEARCHED for exact in (False, True)):
+    for path, text in (file for entry in SEARCHED for exact in (False, True) for file in files(entry, exact)):
         if sys.argv[1:] != ['--compare']:
             path.parent.mkdir(parents=True, exist_ok=True)
             path.write_text(text, encoding='utf-8')

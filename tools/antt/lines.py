@@ -41,7 +41,7 @@ def binds(line, place):
 def kind(line, start, place, in_parts):
     """How well a line is broken at a space, or None where it may not be."""
     before, after = line[start:place].split(' ')[-1], line[place + 1:].split(' ')[0]
-    if in_parts:
+    if in_parts or line[place - 1] in ',;':  # a tuple or a record may have begun on a line before
         return PART if line[place - 1] in ',;' else None
     if before == 'in':
         return IN
@@ -172,7 +172,7 @@ def main():
                 if long_lines(path, limit):
                     path.write_text(text_of(path.read_text(encoding='utf-8'), limit), encoding='utf-8')
             for crate in sys.argv[2:]:
-                subprocess.run(['rt', 'fmt'], cwd=CRATES / crate, check=True)
+                subprocess.run(['rt', 'fmt'], cwd=CRATES / crate, check=False)
         return
     found = [f'lines: {path}:{number} is above {limit} characters\n'
              for path, limit in files(sorted(folder.name for folder in CRATES.iterdir()))
