@@ -1,5 +1,5 @@
 -- What is promised about a computed response and its exact value.
-use Rattle.std.specs.Prelude.{ℕ, ◌*◌, ◌≡◌, ◌↔◌, T, ℤ, pos, ◌*ℤ◌, ◌<ℤ◌, Float}
+use Rattle.std.specs.Prelude.{◌*◌, ◌≡◌, ◌↔◌, T, ℤ, pos, ◌*ℤ◌, ◌<ℤ◌, Float}
 use Rattle.std.specs.Float.Ieee.{lt}
 use Rattle.float32.specs.Float32.{zero}
 use Rattle.float32.specs.Value.{IsValue, Within, plus_part, minus_part}

@@ -8,7 +8,7 @@ use mathlib.Core.Logic.{◌↔◌}
 use mathlib.Core.Bool.{Bool, true, false, not, false≢true}
 use lib.Dec.{T, ltb, lit<, lit≤}
 use lib.IntN.{ℤ, pos, negsuc}
-use lib.Signed.{◌<ℤ◌, lt_z}
+use lib.Signed.{lt_z}
 use lib.Ieee.{Float, nan, inf, fin, binary32, up, down, le, lt}
 use lib.Ieee.Fits.{down_pos}
 use borrow.Author.Tests.{lt-ltb, le-ltb, ltb-true, not-true}

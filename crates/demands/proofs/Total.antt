@@ -71,7 +71,6 @@ use Rattle.pgm.specs.Header.{width_of, height_of, raster_at}
 use Rattle.pgm.specs.Pgm.{PgmRead}
 use Rattle.pgm.specs.Pgm as pgm
 use Rattle.pgm.proofs.Judging.{pixels-length}
-use Rattle.pgm_frame.specs.PgmFrame.{PhotographFound}
 use Rattle.stream.specs.declared.FrameStream.{FrameStream}
 use Rattle.stream.specs.Answer.{FrameRead}
 use Rattle.stream.proofs.Callers.{refusal-found}

@@ -1,6 +1,6 @@
 -- Request 9, "Pixels known between limits" (RULES 28): what the calls of `response_limits` and `sure_peak` leave and
 -- answer, by their promises. What holds for both rings is stated for any ring table.
-use Rattle.std.specs.Prelude.{ℕ, ◌+◌, ◌*◌, ◌<◌, ◌≡◌, true, List, get_or, take, ℤ, pos, ◌≤ℤ◌, Float}
+use Rattle.std.specs.Prelude.{ℕ, ◌+◌, ◌*◌, ◌≡◌, true, List, get_or, take, ℤ, pos, ◌≤ℤ◌, Float}
 use Rattle.float32.specs.Float32.{lift}
 use Rattle.float32.specs.Value.{IsWhole}
 use Rattle.lists.specs.Places.{Place, any}

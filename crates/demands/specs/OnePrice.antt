@@ -1,11 +1,10 @@
 -- The exact pass as a program (RULES 34): "A corner tipped over by rounding puts two prices on one photograph." A call
 -- of `find_corners` by exact values has the exact list, so comparing it with one by computed values on the same frame
 -- tells whether rounding tipped a corner.
-use Rattle.std.specs.Prelude.{ℕ, ◌≡◌, ◌↔◌, List, length}
+use Rattle.std.specs.Prelude.{ℕ, ◌≡◌, ◌↔◌, length}
 use Rattle.lists.specs.Places.{All}
 use Rattle.float32.specs.Float32.{lift}
 use Rattle.float32.specs.Value.{IsWhole}
-use Rattle.corner_list.specs.declared.Corner.{Corner}
 use Rattle.patch_corners.specs.OneMap.{exact_choice}
 use Rattle.frame_pass.specs.Pass.{Pass, frame_pass}
 use Rattle.demands.specs.FrameExact.{CallBy, FrameCall, frame_list, exact_corners, maps_in, Alike, WithoutTie}

@@ -31,7 +31,7 @@
 -- finder          find (likewise)
 -- The functions of `capi_frame`, `capi_photo`, `capi_maps`, `capi_peaks`, `capi_lists` and `capi_formats`, for C, pass
 -- on these promises and return the number.
-use Rattle.std.specs.Prelude.{ℕ, min, ◌≡◌, Bool, List, [], ◌∷◌, length, ℤ, Float}
+use Rattle.std.specs.Prelude.{ℕ, min, Bool, List, [], ◌∷◌, length, ℤ, Float}
 use Rattle.response.specs.declared.Patch.{Patch}
 use Rattle.response.specs.declared.Patch.TheVariants as response
 use Rattle.response.specs.Patch.{Patched, InnerPatched}

@@ -13,7 +13,6 @@ use Rattle.detect.specs.declared.Search.{Search}
 use Rattle.detect.specs.Peaks.{CellTests, beaten, positives, is_peak, peak_places, value_at, larger_by, positive_in}
 use Rattle.detect.specs.Internal.{Inside}
 use Rattle.detect.specs.Detect.{read_in, peak_in}
-use Rattle.detect.specs.Internal.{place}
 
 -- ---- a place by its tests
 

@@ -2,17 +2,15 @@
 -- the border minus the window's radius. Assumes nothing.
 use Rattle.std.proofs.Common.{◌≡◌, ℕ, ◌+◌, ◌-◌, ◌<◌, ◌≤◌, Bool, true, false, cond, not, ◌&&◌, ◌||◌, leb, List, [], ◌∷◌, map, length, refl, ap, ◌∙◌, ap₂, arith}
 use lib.Ieee.{Float, lt, eq}
-use Rattle.lists.specs.Places.{Place, block, any, keep, count, sum_of, All}
+use Rattle.lists.specs.Places.{Place, block, any, count, sum_of, All}
 use Rattle.lists.proofs.Members.{all_map, all-block, keep-alike}
 use Rattle.float32.specs.Float32 as float32
-use Rattle.corner_list.specs.declared.Corner.{Corner}
 use Rattle.detect.specs.declared.Search.{Search}
-use Rattle.detect.specs.declared.WindowTest.{WindowTest}
 use Rattle.detect.specs.declared.WindowTest.TheVariants.{Beaten, Top}
 use Rattle.detect.specs.Peaks.{window, beaten, equals, window_test, ties_of, positives, is_peak, peak_places}
 use Rattle.detect.specs.Peaks.{value_at, equal_in, beats, larger_by, positive_in, is_low}
 use Rattle.detect.specs.Internal.{Inside, place}
-use Rattle.detect.specs.Detect.{read_in, peak_in, peaks_in, neighbours_at, start_at, starts_in, test_at, ties_at, ties_in}
+use Rattle.detect.specs.Detect.{read_in, peak_in, peaks_in, neighbours_at, start_at, starts_in, ties_at, ties_in}
 use Rattle.detect.proofs.Window.{Near, window-near}
 use Rattle.detect.proofs.Choice.{peaks-are}
 

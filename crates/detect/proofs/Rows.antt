@@ -1,5 +1,5 @@
 -- Cells at or below the threshold, at the front of a list and along a row of a map: a search may pass over them. Assumes nothing.
-use Rattle.std.proofs.Common.{◌≡◌, ℕ, ◌+◌, ◌-◌, ◌*◌, ◌<◌, ◌≤◌, max, Bool, true, false, cond, not, List, length, get_or, take, drop, sym, refl, ap, ◌∙◌, arith, length-drop, length-take, get_or-drop, get_or-take}
+use Rattle.std.proofs.Common.{◌≡◌, ℕ, ◌+◌, ◌-◌, ◌*◌, ◌<◌, ◌≤◌, true, false, not, List, length, get_or, take, drop, sym, refl, ap, ◌∙◌, arith, length-drop, length-take, get_or-drop, get_or-take}
 use native.Mathlib.Decide.{dec_lt}
 use lib.Ieee.{Float, nan, le}
 use borrow.Author.Count as passed
@@ -8,11 +8,11 @@ use Rattle.lists.proofs.Scan.{count-every}
 use Rattle.lists.proofs.Rows.{row_part}
 use Rattle.lists.proofs.Places.{keep-le}
 use Rattle.detect.specs.declared.Search.{Search}
-use Rattle.detect.specs.Peaks.{beaten, value_at, larger_by, is_low}
+use Rattle.detect.specs.Peaks.{value_at, is_low}
 use Rattle.detect.specs.Detect.{read_in, peak_in}
 use Rattle.detect.specs.Internal.{place, ahead_in, peaks_from, Below, LowRow, LowRows, PlacesSkipped}
 use Rattle.detect.proofs.Ahead.{keep-skip, keep-miss, ahead-row}
-use Rattle.detect.proofs.Choice.{peak-below, peak-beaten}
+use Rattle.detect.proofs.Choice.{peak-below}
 
 -- the element at k of a part
 part_at : (m : List Float) (a e k : ℕ) → k < e - a → get_or (take (e - a) (drop a m)) k nan ≡ get_or m (a + k) nan

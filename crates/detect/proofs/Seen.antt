@@ -1,5 +1,5 @@
 -- What a search for so many peaks can see: two maps that are alike near the rows it looks at have the same answer. Assumes nothing.
-use Rattle.std.proofs.Common.{◌≡◌, ℕ, zero, suc, ◌+◌, ◌-◌, ◌*◌, ◌<◌, ◌≤◌, Bool, true, leb, List, [], ◌∷◌, ◌++◌, length, get_or, take, drop, sym, refl, ap, ◌∙◌, subst, ap₂, arith, length-append, take-append-drop, drop-cons, le-leb}
+use Rattle.std.proofs.Common.{◌≡◌, ℕ, zero, suc, ◌+◌, ◌-◌, ◌*◌, ◌<◌, ◌≤◌, Bool, true, List, [], ◌∷◌, ◌++◌, length, get_or, take, drop, sym, refl, ap, ◌∙◌, subst, ap₂, arith, length-append, take-append-drop, drop-cons, le-leb}
 use native.Mathlib.Decide.{dec_lt}
 use lib.Seq.{drop-append-le, drop-append-add}
 use lib.Ieee.{Float}

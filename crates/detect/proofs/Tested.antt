@@ -1,5 +1,5 @@
 -- The test of a place by what led to its answer, and what its answer says. Assumes nothing.
-use Rattle.std.proofs.Common.{◌≡◌, ℕ, ◌<◌, ◌≤◌, Bool, true, false, cond, not, leb, List, get_or, sym, refl, ap, ◌∙◌, ap₂, le-leb}
+use Rattle.std.proofs.Common.{◌≡◌, ℕ, ◌<◌, ◌≤◌, Bool, true, false, cond, not, List, get_or, sym, refl, ap, ◌∙◌, ap₂, le-leb}
 use mathlib.Core.Bool.{false≢true}
 use lib.Ieee.{Float, le}
 use borrow.Author.Tests.{not-true, not-false}
@@ -11,8 +11,7 @@ use Rattle.detect.specs.declared.WindowTest.{WindowTest}
 use Rattle.detect.specs.declared.WindowTest.TheVariants.{Beaten, Top}
 use Rattle.detect.specs.declared.searching.PeakTest.{PeakTest}
 use Rattle.detect.specs.declared.searching.PeakTest.TheVariants.{No, Peak}
-use Rattle.detect.specs.Peaks.{value_at, window, larger_in, larger_by, positive_in, beaten, equals, equal_in, window_test, ties_of}
-use Rattle.detect.specs.Peaks.{positives}
+use Rattle.detect.specs.Peaks.{value_at, window, larger_in, larger_by, beaten, equals, equal_in, window_test}
 use Rattle.detect.specs.Detect.{peak_in, neighbours_at, test_at, ties_at}
 use Rattle.detect.specs.Internal.{peak_test, values_of}
 use Rattle.detect.proofs.Choice.{cell_below, cell-few, cell-beaten, cell-counted}

@@ -1,7 +1,7 @@
 -- Five times a threshold below 2,041 is exact in binary64, so cut off it is the fifths in the threshold. Assumes nothing.
-use Rattle.std.proofs.Common.{◌≡◌, ℕ, suc, ◌+◌, ◌*◌, ◌/◌, ◌^◌, ◌<◌, ◌≤◌, Bool, true, false, cond, ◌||◌, T, ltb, ℤ, pos, negsuc, sym, refl, ap, ◌∙◌, subst, true≢false, le_trans, le_of_eq, lt_of_le_of_lt, mul_comm, arith, lit<, lit≤, ltb-false}
+use Rattle.std.proofs.Common.{◌≡◌, ℕ, suc, ◌*◌, ◌/◌, ◌^◌, ◌<◌, ◌≤◌, Bool, true, false, cond, T, ltb, ℤ, pos, negsuc, sym, refl, ap, ◌∙◌, subst, true≢false, le_trans, lt_of_le_of_lt, mul_comm, arith, lit<, lit≤, ltb-false}
 use native.Mathlib.Nat.{div-le_of_le-mul}
-use lib.Ieee.{Float, nan, inf, fin, binary32, binary64, up, down, lt, le, eq, mul, fits, to_unsigned}
+use lib.Ieee.{Float, nan, inf, fin, binary32, binary64, up, down, lt, le, mul, fits, to_unsigned}
 use lib.Ieee.Fits.{down_pos, cond-fits}
 use lib.Ieee.Positive.{num, den}
 use Rattle.lists.proofs.Tests.{from-T, or-neither}
@@ -14,7 +14,7 @@ use Rattle.float32.proofs.Canonical as canonical
 use Rattle.float32.proofs.Classes.{plus, lift-plus}
 use Rattle.float32.proofs.Truncation.{cut-value}
 use Rattle.float32.proofs.Values.{lt-value, sized}
-use Rattle.detect.specs.Fifths.{above_all, fifths_under, between_fifths}
+use Rattle.detect.specs.Fifths.{above_all, fifths_under}
 
 abbrev five : Float
 five = fin false 5 (pos 0)

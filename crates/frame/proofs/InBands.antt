@@ -7,13 +7,12 @@ use native.Mathlib.Decide.{dec_lt}
 use mathlib.Core.Path.{◌≡◌, refl, sym, ap, ap₂, subst, ◌∙◌}
 use mathlib.Core.Logic.{⊎_elim}
 use mathlib.Core.Bool.{Bool}
-use mathlib.Core.List.{List, [], ◌∷◌, ◌++◌, map, append-nil, append_assoc}
+use mathlib.Core.List.{List, [], ◌++◌, map, append-nil, append_assoc}
 use lib.ListN.{length, take, drop, length-append}
 use lib.Seq.{take_at, take-append-add, drop-length, length-take-le}
 use lib.Ieee.{Float}
 use borrow.Rule.Slice.PartMut.{put_mid}
 use Rattle.lists.specs.Tab.{tab, grid}
-use Rattle.lists.specs.Refusals.{lowest}
 use Rattle.lists.specs.Places.{Place, block, keep, sum_of}
 use Rattle.lists.proofs.Tab.{length-grid, grid-ext, part-length-to}
 use Rattle.lists.proofs.Buffer.{put-placed}
@@ -26,7 +25,7 @@ use Rattle.response.specs.declared.Patch.{Patch}
 use Rattle.response.proofs.Outcome.{allowed}
 use Rattle.response.proofs.Map.{cells-length, accepted, filled, Made, box-cols, box-rows, whole-cols, whole-rows}
 use Rattle.corner_list.specs.declared.Corner.{Corner}
-use Rattle.corner_list.specs.CornerList.{Slices, places_of}
+use Rattle.corner_list.specs.CornerList.{Slices}
 use Rattle.detect.specs.declared.Peaks.{Peaks}
 use Rattle.detect.specs.declared.Peaks.TheVariants.{Added, Refused}
 use Rattle.detect.specs.Peaks.{peak_places}

@@ -1,17 +1,13 @@
 -- The maps of a frame: what the parameters' ranges are, that a sound image's levels are sound and its boxes fine to look at, and that the
 -- centroid then accepts every peak. Assumes nothing.
-use Prim.Native.Nat.{ℕ, zero, suc, ◌≤◌}
+use Prim.Native.Nat.{ℕ, zero, suc}
 use native.Mathlib.Nat.{le_trans, mul_comm}
 use mathlib.Core.Path.{◌≡◌, refl, ◌∙◌}
-use mathlib.Core.Bool.{true}
 use mathlib.Core.List.{List}
 use lib.ListN.{length}
-use lib.Dec.{leb}
-use borrow.Author.Tests.{leb-true}
 use Rattle.lists.specs.Places.{All}
-use Rattle.lists.proofs.Tests.{and_parts}
 use Rattle.lists.proofs.Members.{all_map, all-flat, all_of}
-use Rattle.ring.specs.Ring.{ring_of, is_ring}
+use Rattle.ring.specs.Ring.{ring_of}
 use Rattle.pyramid_levels.specs.Levels.{level_side}
 use Rattle.pyramid.specs.Pyramid.{level_pixels}
 use Rattle.pyramid_levels.proofs.Sides.{side-le}
@@ -27,7 +23,7 @@ use Rattle.multiscale.specs.declared.RoiAnswer.{RoiAnswer}
 use Rattle.multiscale.specs.declared.RoiAnswer.TheVariants as roi
 use Rattle.multiscale.specs.Multiscale.{roi_of}
 use Rattle.frame_params.specs.declared.FrameParams.{FrameParams}
-use Rattle.frame_params.proofs.Ranges.{Ranges, ranges}
+use Rattle.frame_params.proofs.Ranges.{ranges}
 use Rattle.patch_corners.specs.OneMap.{Choice, corners_in}
 use Rattle.patch_corners.proofs.Fine.{Fine}
 use Rattle.patch_corners.proofs.Accepting.{corners-count}

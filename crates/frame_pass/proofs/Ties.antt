@@ -20,7 +20,7 @@ use Rattle.detect.proofs.Cells.{inside-few}
 use Rattle.detect.proofs.Choice.{peaks-at-most}
 use Rattle.detect.proofs.Ties.{ties-few}
 use Rattle.frame_params.specs.declared.FrameParams.{FrameParams}
-use Rattle.patch_corners.specs.OneMap.{choice_of, search_on, corners_in, ties_on}
+use Rattle.patch_corners.specs.OneMap.{choice_of, corners_in, ties_on}
 use Rattle.patch_corners.specs.MapCorners.{search_with}
 use Rattle.patch_corners.proofs.Choices.{chosen, one_of_two}
 use Rattle.patch_corners.proofs.Fine.{Fine}

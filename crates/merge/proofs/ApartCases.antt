@@ -1,8 +1,7 @@
 -- The worked cases of merging apart (RULES 25.4), by computation. Assumes nothing.
-use Prim.Native.Nat.{ℕ}
 use mathlib.Core.Path.{◌≡◌, refl}
 use mathlib.Core.Bool.{true, false}
-use mathlib.Core.List.{List, [], ◌∷◌}
+use mathlib.Core.List.{[], ◌∷◌}
 use lib.IntN.{pos}
 use lib.Ieee.{Float, nan, fin, lt, le, add, sub, mul, div, to_unsigned}
 use Rattle.lists.specs.Tab.{tab}

@@ -8,12 +8,12 @@ use mathlib.Core.Bool.{true, false}
 use lib.Dec.{lit<}
 use lib.IntN.{pos}
 use lib.Pow.{pow_pos}
-use lib.Ieee.{Float, fin, binary32, sub, mul, div, to_unsigned}
+use lib.Ieee.{Float, fin, binary32, sub, mul, div}
 use lib.Ieee.Exact.{HasValue}
 use borrow.Author.Tests.{le-leb}
 use Rattle.float32.specs.Value.{IsValue, dist}
 use Rattle.float32.proofs.Poly.{poly}
-use Rattle.float32.proofs.Values.{Sized, sized, plus-of-above, mul-frac}
+use Rattle.float32.proofs.Values.{sized, plus-of-above, mul-frac}
 use Rattle.float32.proofs.Approx.{sub-exact, round-exact-at, frac-exact}
 use Rattle.float32.proofs.Bounds.{div-round}
 use Rattle.float32.proofs.Truncation.{cut-value}

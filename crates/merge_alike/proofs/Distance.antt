@@ -8,13 +8,13 @@ use mathlib.Core.Logic.{⊎_elim}
 use mathlib.Core.Bool.{Bool, true, false}
 use lib.Dec.{lit<, lit≤}
 use lib.Pow.{pow_pos}
-use lib.Ieee.{Float, binary32, low, unlike, round, add, sub, mul}
+use lib.Ieee.{Float, binary32, low, unlike, round, sub}
 use lib.Ieee.Exact.{HasValue}
 use lib.Ieee.Scale.{round_same}
 use Rattle.lists.proofs.Tests.{to-T}
 use Rattle.float32.specs.Value.{IsValue, dist}
 use Rattle.float32.proofs.Poly.{poly}
-use Rattle.float32.proofs.Values.{Sized, sized, mul-round}
+use Rattle.float32.proofs.Values.{sized, mul-round}
 use Rattle.float32.proofs.Units.{Units, BelowOverflow, rounded, units-near, round-units, add-units}
 use Rattle.float32.proofs.Approx.{sub-exact}
 use Rattle.float32.proofs.Bounds.{value-le}

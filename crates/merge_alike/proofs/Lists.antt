@@ -1,7 +1,6 @@
 -- Near corners of a list lie in neighbouring cells, so that both merges leave the same of it. Assumes nothing.
 use Prim.Native.Nat.{ℕ, ◌^◌, ◌≤◌}
 use native.Mathlib.Nat.{le_trans}
-use native.Mathlib.Omega.{arith}
 use mathlib.Core.Path.{◌≡◌, refl, sym, ap, ◌∙◌}
 use mathlib.Core.Bool.{Bool, true, false, ◌&&◌}
 use mathlib.Core.List.{List, [], ◌∷◌, map}
@@ -14,7 +13,7 @@ use Rattle.float32.specs.Value.{IsValue}
 use Rattle.corner_list.specs.declared.Corner.{Corner}
 use Rattle.corner_list.specs.CornerList.{x_of, y_of}
 use Rattle.merge_grid.specs.declared.Grid.{Grid}
-use Rattle.merge_grid.specs.Grid.{position_of, squared, near, adjacent_cells, joins, grid_of}
+use Rattle.merge_grid.specs.Grid.{position_of, squared, adjacent_cells, joins, grid_of}
 use Rattle.merge_settle.specs.Settle.{settle, merged}
 use Rattle.merge.proofs.Result.{settle-all}
 use Rattle.merge_naive.specs.MergeNaive.{near_by}

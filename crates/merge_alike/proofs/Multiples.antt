@@ -1,12 +1,11 @@
 -- Multiples of 1/64 that lie from 0 to the largest coordinate: so many 64ths. Assumes nothing.
-use Prim.Native.Nat.{ℕ, ◌+◌, ◌-◌, ◌*◌, ◌≤◌}
+use Prim.Native.Nat.{ℕ, ◌+◌, ◌-◌, ◌≤◌}
 use native.Mathlib.Nat.{eq_of_mul-eq-mul_right}
 use native.Mathlib.Omega.{arith}
 use mathlib.Core.Path.{◌≡◌, refl}
 use mathlib.Core.Bool.{true}
 use lib.Dec.{lit<}
-use lib.IntN.{pos}
-use lib.Ieee.{Float, fin, binary32, le, of_bits}
+use lib.Ieee.{Float, binary32, le, of_bits}
 use lib.Ieee.Positive.{den, den_pos}
 use Rattle.lists.proofs.Tests.{to-T, and_parts}
 use Rattle.float32.specs.Value.{IsValue}

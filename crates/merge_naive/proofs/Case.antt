@@ -1,6 +1,6 @@
 -- The case by both merges: of a buffer that has its three corners first, two are left by distance alone, and three by cells. Assumes
 -- nothing.
-use Prim.Native.Nat.{ℕ, ◌≤◌}
+use Prim.Native.Nat.{◌≤◌}
 use mathlib.Core.Path.{◌≡◌, refl, sym, ap, ◌∙◌}
 use mathlib.Core.Bool.{true, false}
 use mathlib.Core.List.{List}

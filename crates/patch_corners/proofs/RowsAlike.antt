@@ -4,21 +4,20 @@ use Prim.Native.Nat.{ℕ, ◌+◌, ◌-◌, ◌*◌, ◌<◌, ◌≤◌, min, ma
 use native.Mathlib.Nat.{mul-le-mul_right, suc-mul}
 use native.Mathlib.Omega.{arith}
 use native.Mathlib.Decide.{dec_lt}
-use mathlib.Core.Path.{◌≡◌, refl, sym, ap, ap₂, subst, ◌∙◌}
+use mathlib.Core.Path.{◌≡◌, sym, ap, subst, ◌∙◌}
 use mathlib.Core.Bool.{Bool, true}
 use mathlib.Core.List.{List, [], ◌∷◌, ◌++◌, map, map-append, append-nil}
 use lib.ListN.{length, take, drop, get_or, length-drop, get_or-append}
 use lib.Seq.{take_at, drop-append-le}
-use lib.Ieee.{Float, nan, binary32, add}
-use Rattle.lists.specs.Places.{Place, block, keep, sum_of, All}
+use lib.Ieee.{Float, nan}
+use Rattle.lists.specs.Places.{Place, block, keep, sum_of}
 use Rattle.lists.proofs.Places.{block-end, keep_append}
 use Rattle.lists.proofs.Parts.{block-split}
 use Rattle.lists.proofs.Members.{all-mapped}
 use Rattle.float32.specs.Float32.{float_of}
 use Rattle.corner_list.specs.declared.Corner.{Corner}
 use Rattle.detect.specs.declared.Search.{Search}
-use Rattle.detect.specs.Peaks.{value_at}
-use Rattle.detect.specs.Internal.{Inside, place}
+use Rattle.detect.specs.Internal.{Inside}
 use Rattle.detect.specs.Detect.{peak_in, peaks_in, start_at, starts_in, ties_at, ties_in}
 use Rattle.detect.proofs.Nearby.{map-alike}
 use Rattle.center_of_mass.specs.declared.Outcome.{Outcome}

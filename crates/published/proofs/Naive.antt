@@ -1,10 +1,10 @@
 -- Merging by distance alone is the published one: each turn of the outer loop settles a corner among the kept ones. Assumes nothing.
-use mathlib.Core.Path.{◌≡◌, refl, sym, ap, ◌∙◌}
+use mathlib.Core.Path.{◌≡◌, refl, ap, ◌∙◌}
 use mathlib.Core.Bool.{Bool, true, false, cond}
 use mathlib.Core.List.{List, [], ◌∷◌, ◌++◌}
-use lib.Ieee.{Float, lt}
+use lib.Ieee.{Float}
 use Rattle.corner_list.specs.declared.Corner.{Corner}
-use Rattle.merge_grid.specs.Grid.{position_of, squared, near}
+use Rattle.merge_grid.specs.Grid.{squared, near}
 use Rattle.merge_settle.specs.Settle.{stronger, settle, merged}
 use Rattle.merge_naive.specs.MergeNaive.{near_by}
 use Rattle.merge_naive.proofs.Naive.{naive-on}

@@ -1,6 +1,6 @@
 -- The box-filter image pyramid (RULES 6.1, 6.3): half-size images, and the levels.
 -- An image is the list of its pixels in row order, with its sides.
-use Rattle.std.specs.Prelude.{ℕ, zero, suc, ◌+◌, ◌*◌, ◌/◌, List, [], ◌++◌, get_or}
+use Rattle.std.specs.Prelude.{ℕ, zero, suc, ◌+◌, ◌*◌, ◌/◌, List, [], ◌++◌}
 use Rattle.lists.specs.Tab.{grid, pixel}
 use Rattle.pyramid_levels.specs.Levels.{level_side}
 

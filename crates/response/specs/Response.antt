@@ -1,6 +1,6 @@
 -- The ChESS response of a cell, from the ChESS paper's SR, DR and means, in the f32 operations of
 -- `chess_response_at_u8` and in their order.
-use Rattle.std.specs.Prelude.{ℕ, ◌+◌, ◌*◌, ◌-◌, ◌<◌, Bool, false, cond, ◌&&◌, List, leb, ltb, pos, get_or, Float}
+use Rattle.std.specs.Prelude.{ℕ, ◌+◌, ◌-◌, ◌<◌, Bool, false, cond, ◌&&◌, List, leb, ltb, pos, get_or, Float}
 use Rattle.std.specs.Float.{fin, binary32}
 use Rattle.std.specs.Float.Ieee.{sub, mul, div}
 use Rattle.float32.specs.Float32.{zero, abs, float_of}

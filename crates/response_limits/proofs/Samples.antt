@@ -11,7 +11,7 @@ use Rattle.lists.specs.Limits.{largest_side, largest_map}
 use Rattle.lists.specs.Tab.{tab, pixel}
 use Rattle.lists.proofs.Tab.{tab-ext}
 use Rattle.lists.proofs.Places.{in_map}
-use Rattle.ring.specs.Ring.{ring_of, dx, dy, columns, rows}
+use Rattle.ring.specs.Ring.{ring_of, dx, dy}
 use Rattle.ring.specs.declared.RingOffsets.{RingOffsets}
 use Rattle.ring.proofs.Places.{dx-le, dy-le}
 use Rattle.ring.proofs.Table.{ring_of-is}

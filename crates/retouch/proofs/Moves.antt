@@ -9,7 +9,7 @@ use lib.ListN.{length, get_or}
 use lib.IntN.{ℤ, nat_abs, ◌-ℤ◌}
 use Rattle.float32.specs.Value.{dist, total}
 use Rattle.float32.proofs.Sums.{total-bound}
-use Rattle.lists.specs.Places.{Place, any, sum_of, All}
+use Rattle.lists.specs.Places.{Place, sum_of, All}
 use Rattle.lists.proofs.Members.{all_map, all_of, none_any}
 use Rattle.lists.proofs.Tests.{is_false}
 use Rattle.ring.specs.Ring.{Ring, IsRing}

@@ -1,5 +1,5 @@
 -- RULES 28.7: what a call of `sure_peak` refuses and answers.
-use Rattle.std.specs.Prelude.{ℕ, ◌≡◌, Bool, cond, not, ◌||◌, List, [], ◌∷◌, length, ℤ}
+use Rattle.std.specs.Prelude.{ℕ, ◌≡◌, Bool, cond, List, [], ◌∷◌, length, ℤ}
 use Rattle.lists.specs.Places.{Place}
 use Rattle.lists.specs.Refusals.{lowest, unless, values_unless, is_large, is_misfit}
 use Rattle.frame_params.specs.Ranges.{range_outside}

@@ -3,7 +3,6 @@ use mathlib.Core.Path.{◌≡◌, sym, ◌∙◌}
 use Prim.Native.Nat.{ℕ, ◌+◌, ◌≤◌, ◌<◌}
 use native.Mathlib.Omega.{arith}
 use lib.Ieee.{of_bits}
-use borrow.Author.Rules.{rules}
 use Rattle.center_of_mass.specs.declared.Centre.TheVariants.{At}
 use Rattle.center_of_mass.specs.CenterOfMass.{centre_on}
 use Rattle.center_of_mass.proofs.Window.{rows_in}

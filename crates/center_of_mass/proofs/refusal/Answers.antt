@@ -1,8 +1,7 @@
 -- `center_of_mass::refusal` meets its contract, test by test. Assumes nothing.
 use mathlib.Core.Path.{refl, sym, ◌∙◌}
-use mathlib.Core.Logic.{⊎_elim, inl, inr}
+use mathlib.Core.Logic.{inl, inr}
 use mathlib.Core.Bool.{false}
-use borrow.Author.Rules.{rules}
 use Rattle.lists.proofs.Tests.{and_none}
 use Rattle.image_size.proofs.Judged.{sized}
 use Rattle.center_of_mass.proofs.Judgement.{MapFits, by_map, large, seed-far, none}

@@ -1,13 +1,9 @@
 -- `center_of_mass::row_sums` meets its contract: the sums with what is left of the row stay the same. Assumes nothing.
-use mathlib.Core.Path.{◌≡◌, refl}
-use Prim.Native.Nat.{◌-◌, ◌*◌, ◌^◌, ◌≤◌}
+use Prim.Native.Nat.{◌*◌, ◌^◌, ◌≤◌}
 use native.Mathlib.Omega.{arith}
 use lib.Dec.{le→leb}
 use lib.Ieee.{in_float}
-use borrow.Author.Rules.{rules}
 use Rattle.lists.specs.Limits.{largest_map}
-use Rattle.lists.specs.Places.{row}
-use Rattle.center_of_mass.specs.CenterOfMass.{with_cells}
 use Rattle.center_of_mass.proofs.Window.{one_cell, no_cell, row_small}
 use Rattle.center_of_mass.proofs.row_sums.Goals as goal
 use Rattle.center_of_mass.proofs.row_sums.Goals.{In-loop-x}

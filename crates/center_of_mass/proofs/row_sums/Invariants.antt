@@ -1,13 +1,7 @@
-use mathlib.Core.Path.{◌≡◌, refl}
-use Prim.Native.Nat.{◌-◌, ◌*◌, ◌^◌, ◌≤◌}
-use native.Mathlib.Omega.{arith}
-use lib.Dec.{le→leb}
-use lib.Ieee.{in_float}
-use borrow.Author.Rules.{rules}
-use Rattle.lists.specs.Limits.{largest_map}
+use mathlib.Core.Path.{◌≡◌}
+use Prim.Native.Nat.{◌-◌}
 use Rattle.lists.specs.Places.{row}
 use Rattle.center_of_mass.specs.CenterOfMass.{with_cells}
-use Rattle.center_of_mass.proofs.Window.{one_cell, no_cell, row_small}
 use Rattle.center_of_mass.proofs.row_sums.Given as goal
 
 abbrev pub invariant-loop-x : goal.invariant-loop-x

@@ -2,7 +2,6 @@
 use mathlib.Core.Path.{ap}
 use lib.IntN.{pos}
 use lib.Ieee.{Float, binary32, of_bits, of_int, le}
-use borrow.Author.Rules.{rules}
 use Rattle.center_of_mass.specs.CenterOfMass.{furthest_seed, seed_fits}
 use Rattle.center_of_mass.proofs.seed_fits.Goals as goal
 

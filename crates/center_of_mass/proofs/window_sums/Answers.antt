@@ -1,11 +1,7 @@
 -- `center_of_mass::window_sums` meets its contract: the sums with the rows that are left stay the same. Assumes nothing.
-use mathlib.Core.Path.{◌≡◌, refl}
-use Prim.Native.Nat.{◌-◌}
+use mathlib.Core.Path.{refl}
 use native.Mathlib.Omega.{arith}
 use lib.Ieee.{of_bits}
-use borrow.Author.Rules.{rules}
-use Rattle.lists.specs.Places.{block}
-use Rattle.center_of_mass.specs.CenterOfMass.{no_sums, with_cells}
 use Rattle.center_of_mass.proofs.Window.{one-row, no_row, row_in}
 use Rattle.center_of_mass.proofs.window_sums.Goals as goal
 

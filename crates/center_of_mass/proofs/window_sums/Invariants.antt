@@ -1,11 +1,7 @@
-use mathlib.Core.Path.{◌≡◌, refl}
+use mathlib.Core.Path.{◌≡◌}
 use Prim.Native.Nat.{◌-◌}
-use native.Mathlib.Omega.{arith}
-use lib.Ieee.{of_bits}
-use borrow.Author.Rules.{rules}
 use Rattle.lists.specs.Places.{block}
 use Rattle.center_of_mass.specs.CenterOfMass.{no_sums, with_cells}
-use Rattle.center_of_mass.proofs.Window.{one-row, no_row, row_in}
 use Rattle.center_of_mass.proofs.window_sums.Given as goal
 
 abbrev pub invariant-loop-y : goal.invariant-loop-y

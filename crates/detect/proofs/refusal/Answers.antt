@@ -1,5 +1,5 @@
 -- `detect::refusal` meets its contract: each return computes by the tests that led there. Assumes nothing.
-use Rattle.std.proofs.Common.{◌≡◌, sym, ◌∙◌, rules}
+use Rattle.std.proofs.Common.{sym, ◌∙◌}
 use Rattle.lists.specs.Internal.{Sized}
 use Rattle.image_size.proofs.Judged.{refused, sized, passed}
 use Rattle.detect.specs.Detect.{conditions}

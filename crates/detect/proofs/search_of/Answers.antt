@@ -1,5 +1,4 @@
 -- `detect::search_of` meets its contract, field by field. Assumes nothing.
-use Rattle.std.proofs.Common.{rules}
 use Rattle.detect.proofs.search_of.Goals as goal
 
 pub returns : goal.returns

@@ -1,5 +1,4 @@
 -- `detect::threshold_of` meets its contract. Assumes nothing.
-use Rattle.std.proofs.Common.{rules}
 use Rattle.detect.proofs.threshold_of.Goals as goal
 
 pub returns-then-exact : goal.returns-then-exact

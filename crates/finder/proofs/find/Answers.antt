@@ -4,7 +4,6 @@ use native.Mathlib.Omega.{arith}
 use mathlib.Core.Path.{sym}
 use lib.ListN.{length-replicate}
 use lib.Seq.{length-take-le}
-use borrow.Author.Rules.{rules}
 use Rattle.stream.specs.Stream.{most_pixels}
 use Rattle.finder.proofs.Texts.{found-frame, pixels-long, frame-listed, refusal-listed}
 use Rattle.finder.proofs.find.Goals as goal

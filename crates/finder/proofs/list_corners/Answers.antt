@@ -1,5 +1,4 @@
 -- `finder::list_corners` meets its contract, by the laws of `Texts`. Assumes nothing.
-use borrow.Author.Rules.{rules}
 use Rattle.finder.proofs.Texts.{list-text, list_written}
 use Rattle.finder.proofs.list_corners.Goals as goal
 

@@ -1,7 +1,6 @@
 -- `finder::list_frame` meets its contract, by the laws of `Texts`. Assumes nothing.
 use native.Mathlib.Omega.{arith}
 use lib.Ieee.{of_bits}
-use borrow.Author.Rules.{rules}
 use Rattle.finder.proofs.Texts.{corners-few, corners-written, refusal-written}
 use Rattle.finder.proofs.list_frame.Goals as goal
 

@@ -1,5 +1,4 @@
 -- `finder::params_of` meets its contract. Assumes nothing.
-use borrow.Author.Rules.{rules}
 use Rattle.finder.proofs.params_of.Goals as goal
 
 pub returns : goal.returns

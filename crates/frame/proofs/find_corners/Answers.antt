@@ -1,5 +1,4 @@
 -- `frame::find_corners` meets its contract, by the laws of `Entry`. Assumes nothing.
-use borrow.Author.Rules.{rules}
 use native.Mathlib.Omega.{arith}
 use mathlib.Core.Path.{sym, ◌∙◌}
 use lib.ListN.{length}

@@ -1,6 +1,6 @@
 -- `listing::decimal_places` meets its contract. The invariant: the digits counted, and those of the rest. Assumes nothing.
 use native.Mathlib.Omega.{arith}
-use Rattle.listing.proofs.Numbers.{places-word, Counted, counted_none, counted-below, counted_next, counted-all}
+use Rattle.listing.proofs.Numbers.{places-word, counted_none, counted-below, counted_next, counted-all}
 use Rattle.listing.proofs.decimal_places.Goals as goal
 
 pub loop-rest-init : goal.loop-rest-init

@@ -1,5 +1,4 @@
-use native.Mathlib.Omega.{arith}
-use Rattle.listing.proofs.Numbers.{places-word, Counted, counted_none, counted-below, counted_next, counted-all}
+use Rattle.listing.proofs.Numbers.{Counted}
 use Rattle.listing.proofs.decimal_places.Given as goal
 
 abbrev pub invariant-loop-rest : goal.invariant-loop-rest

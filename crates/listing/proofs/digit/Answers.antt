@@ -1,7 +1,6 @@
 -- `listing::digit` meets its contract. Assumes nothing.
 use borrow.Author.Tests.{lt-ltb, le-ltb}
 use Rattle.listing.specs.Text.{digit_of}
-use borrow.Author.Rules.{rules}
 use Rattle.listing.proofs.digit.Goals as goal
 
 pub returns-then-d-lt10 : goal.returns-then-d-lt10

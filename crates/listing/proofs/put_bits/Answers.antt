@@ -2,7 +2,7 @@
 use Prim.Native.Nat.{ℕ}
 use native.Mathlib.Omega.{arith}
 use mathlib.Core.Path.{ap}
-use Rattle.listing.specs.Text.{digits, hexadecimal}
+use Rattle.listing.specs.Text.{hexadecimal}
 use Rattle.listing.specs.Internal.{ended}
 use Rattle.listing.proofs.Numbers.{length_digits}
 use Rattle.listing.proofs.Appending.{wrote-more, wrote_as, wrote-length}

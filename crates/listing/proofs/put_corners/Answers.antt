@@ -1,11 +1,10 @@
 -- `listing::put_corners` meets its contract. The invariant: the lines of the corners passed are written. Assumes nothing.
-use Prim.Native.Nat.{◌-◌, ◌^◌, ◌<◌}
+use Prim.Native.Nat.{◌^◌, ◌<◌}
 use native.Mathlib.Omega.{arith}
-use mathlib.Core.Path.{refl, ◌∙◌}
+use mathlib.Core.Path.{◌∙◌}
 use Rattle.corner_list.specs.CornerList.{slices, corner_at}
 use Rattle.listing.proofs.Appending.{wrote-length}
-use Rattle.listing.proofs.Texts.{Lines, lines_none, lines_next, lines-all}
-use borrow.Author.Rules.{rules}
+use Rattle.listing.proofs.Texts.{lines_none, lines_next, lines-all}
 use Rattle.listing.proofs.put_corners.Goals as goal
 
 pub put_heading-at-requires : goal.put_heading-at-requires

@@ -1,10 +1,6 @@
-use Prim.Native.Nat.{◌-◌, ◌^◌, ◌<◌}
-use native.Mathlib.Omega.{arith}
-use mathlib.Core.Path.{refl, ◌∙◌}
+use Prim.Native.Nat.{◌-◌}
 use Rattle.corner_list.specs.CornerList.{slices, corner_at}
-use Rattle.listing.proofs.Appending.{wrote-length}
-use Rattle.listing.proofs.Texts.{Lines, lines_none, lines_next, lines-all}
-use borrow.Author.Rules.{rules}
+use Rattle.listing.proofs.Texts.{Lines}
 use Rattle.listing.proofs.put_corners.Given as goal
 
 abbrev pub invariant-loop-i : goal.invariant-loop-i

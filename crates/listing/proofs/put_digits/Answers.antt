@@ -2,8 +2,7 @@
 -- nothing.
 use native.Mathlib.Nat.{mod-lt}
 use native.Mathlib.Omega.{arith}
-use Rattle.listing.proofs.Appending.{Ahead, ahead-all, ahead-length, ahead-next, ahead_none}
-use borrow.Author.Rules.{rules}
+use Rattle.listing.proofs.Appending.{ahead-all, ahead-length, ahead-next, ahead_none}
 use Rattle.listing.proofs.put_digits.Goals as goal
 
 pub loop-i-init : goal.loop-i-init

@@ -1,7 +1,4 @@
-use native.Mathlib.Nat.{mod-lt}
-use native.Mathlib.Omega.{arith}
-use Rattle.listing.proofs.Appending.{Ahead, ahead-all, ahead-length, ahead-next, ahead_none}
-use borrow.Author.Rules.{rules}
+use Rattle.listing.proofs.Appending.{Ahead}
 use Rattle.listing.proofs.put_digits.Given as goal
 
 abbrev pub invariant-loop-i : goal.invariant-loop-i

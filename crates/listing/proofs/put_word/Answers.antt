@@ -1,11 +1,7 @@
 -- `listing::put_word` meets its contract. The invariant: the bytes passed are written. Assumes nothing.
-use Prim.Native.Nat.{◌+◌, ◌-◌}
 use native.Mathlib.Nat.{add-zero}
 use native.Mathlib.Omega.{arith}
-use lib.ListN.{length, take}
-use Rattle.listing.specs.Internal.{Wrote}
 use Rattle.listing.proofs.Appending.{wrote-length, wrote_none, word_more, word-all}
-use borrow.Author.Rules.{rules}
 use Rattle.listing.proofs.put_word.Goals as goal
 
 pub loop-i-init : goal.loop-i-init

@@ -1,10 +1,6 @@
 use Prim.Native.Nat.{◌+◌, ◌-◌}
-use native.Mathlib.Nat.{add-zero}
-use native.Mathlib.Omega.{arith}
 use lib.ListN.{length, take}
 use Rattle.listing.specs.Internal.{Wrote}
-use Rattle.listing.proofs.Appending.{wrote-length, wrote_none, word_more, word-all}
-use borrow.Author.Rules.{rules}
 use Rattle.listing.proofs.put_word.Given as goal
 
 abbrev pub invariant-loop-i : goal.invariant-loop-i

@@ -1,8 +1,7 @@
 -- `listing::units` meets its contract, arm by arm: the literal is 256. Assumes nothing.
-use mathlib.Core.Path.{◌≡◌, sym, ap, ◌∙◌}
+use mathlib.Core.Path.{sym, ap, ◌∙◌}
 use lib.Ieee.{of_bits}
 use Rattle.listing.specs.Text.{units_by, units_of}
-use borrow.Author.Rules.{rules}
 use Rattle.listing.proofs.units.Goals as goal
 
 pub returns-in-Natural : goal.returns-in-Natural

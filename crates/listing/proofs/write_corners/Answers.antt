@@ -1,7 +1,6 @@
 -- `listing::write_corners` meets its contract. Assumes nothing.
 use Rattle.corner_list.specs.CornerList.{slices}
 use Rattle.listing.proofs.Texts.{too_many, all-written}
-use borrow.Author.Rules.{rules}
 use Rattle.listing.proofs.write_corners.Goals as goal
 
 pub returns-then-count-gt-MOST_CORNERS : goal.returns-then-count-gt-MOST_CORNERS

@@ -1,7 +1,6 @@
 -- `listing::write_refusal` meets its contract. Assumes nothing.
 use Rattle.listing.specs.Text.{refused_text}
 use Rattle.listing.proofs.Texts.{wrote-first}
-use borrow.Author.Rules.{rules}
 use Rattle.listing.proofs.write_refusal.Goals as goal
 
 pub returns : goal.returns

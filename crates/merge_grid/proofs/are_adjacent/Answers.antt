@@ -1,5 +1,4 @@
 -- `merge_grid::are_adjacent` meets its contract. Assumes nothing.
-use borrow.Author.Rules.{rules}
 use mathlib.Core.Path.{◌≡◌, sym, ap₂, ◌∙◌}
 use Rattle.lists.proofs.Tests.{and-on, and-off}
 use Rattle.merge_grid.specs.Grid.{column_of, within_one, adjacent_cells}

@@ -1,5 +1,4 @@
 -- `merge_grid::is_joined` meets its contract. Assumes nothing.
-use borrow.Author.Rules.{rules}
 use mathlib.Core.Path.{sym, ◌∙◌}
 use Rattle.lists.proofs.Tests.{and-on, and-off}
 use Rattle.merge_grid.proofs.is_joined.Goals as goal

@@ -1,5 +1,4 @@
 -- `merge_grid::is_within_one` meets its contract. Assumes nothing.
-use borrow.Author.Rules.{rules}
 use Rattle.merge_grid.proofs.Cells.{within-one-up, within-one-down}
 use Rattle.merge_grid.proofs.is_within_one.Goals as goal
 

@@ -1,15 +1,11 @@
 -- `merge_grid::least` meets its contract: m is the least of the numbers passed, and past the end of the slice there is none. Assumes
 -- nothing.
 use borrow.Author.Rules.{rules}
-use Prim.Native.Nat.{◌-◌, ◌≤◌, min}
 use native.Mathlib.Omega.{arith}
-use mathlib.Core.Path.{◌≡◌, refl}
-use mathlib.Core.Bool.{false}
-use lib.ListN.{length}
-use lib.Ieee.{inf, of_bits, nan_bits}
+use mathlib.Core.Path.{refl}
+use lib.Ieee.{of_bits, nan_bits}
 use Rattle.lists.specs.Tab.{tab}
-use Rattle.merge_grid.specs.Grid.{least_from}
-use Rattle.merge_grid.proofs.Cells.{numbers, least_more, least-all}
+use Rattle.merge_grid.proofs.Cells.{least_more, least-all}
 use Rattle.merge_grid.proofs.least.Goals as goal
 
 pub float_from_bits-m : goal.float_from_bits-m

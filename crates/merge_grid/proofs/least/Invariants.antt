@@ -1,13 +1,10 @@
-use borrow.Author.Rules.{rules}
 use Prim.Native.Nat.{◌-◌, ◌≤◌, min}
-use native.Mathlib.Omega.{arith}
-use mathlib.Core.Path.{◌≡◌, refl}
+use mathlib.Core.Path.{◌≡◌}
 use mathlib.Core.Bool.{false}
 use lib.ListN.{length}
-use lib.Ieee.{inf, of_bits, nan_bits}
-use Rattle.lists.specs.Tab.{tab}
+use lib.Ieee.{inf}
 use Rattle.merge_grid.specs.Grid.{least_from}
-use Rattle.merge_grid.proofs.Cells.{numbers, least_more, least-all}
+use Rattle.merge_grid.proofs.Cells.{numbers}
 use Rattle.merge_grid.proofs.least.Given as goal
 
 abbrev pub invariant-loop-i : goal.invariant-loop-i

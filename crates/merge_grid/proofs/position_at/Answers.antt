@@ -1,5 +1,4 @@
 -- `merge_grid::position_at` meets its contract, field by field. Assumes nothing.
-use borrow.Author.Rules.{rules}
 use Rattle.merge_grid.proofs.position_at.Goals as goal
 
 pub returns : goal.returns

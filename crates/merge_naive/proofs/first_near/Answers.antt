@@ -1,10 +1,8 @@
 -- `merge_naive::first_near` meets its contract: none of the corners passed is near. Assumes nothing.
-use borrow.Author.Rules.{rules}
 use borrow.Author.Count.{below_none, below_more}
-use Prim.Native.Nat.{ℕ, ◌-◌, ◌<◌, ◌≤◌}
 use native.Mathlib.Omega.{arith}
 use mathlib.Core.Path.{◌≡◌, sym, ap, ◌∙◌}
-use mathlib.Core.Bool.{true, false≢true}
+use mathlib.Core.Bool.{false≢true}
 use Rattle.merge_grid.specs.Grid.{position_at, near}
 use Rattle.merge_naive.proofs.first_near.Goals as goal
 use Rattle.merge_naive.proofs.first_near.Goals.{After-is_near}

@@ -1,9 +1,6 @@
-use borrow.Author.Rules.{rules}
-use borrow.Author.Count.{below_none, below_more}
 use Prim.Native.Nat.{ℕ, ◌-◌, ◌<◌, ◌≤◌}
-use native.Mathlib.Omega.{arith}
-use mathlib.Core.Path.{◌≡◌, sym, ap, ◌∙◌}
-use mathlib.Core.Bool.{true, false≢true}
+use mathlib.Core.Path.{◌≡◌}
+use mathlib.Core.Bool.{true}
 use Rattle.merge_grid.specs.Grid.{position_at, near}
 use Rattle.merge_naive.proofs.first_near.Given as goal
 

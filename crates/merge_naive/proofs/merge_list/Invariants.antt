@@ -1,15 +1,8 @@
-use borrow.Author.Rules.{rules}
 use Prim.Native.Nat.{◌-◌}
-use native.Mathlib.Omega.{arith}
-use mathlib.Core.Path.{sym, ◌∙◌}
 use mathlib.Core.Bool.{false}
 use Rattle.corner_list.specs.CornerList.{slices}
 use Rattle.merge_settle.specs.Internal.{start, step, StepAfter}
-use Rattle.merge_settle.proofs.Stepping.{stepped-none, stepped-xs, stepped-ys, stepped-strengths, stepped-neighbours, stepped-fits}
-use Rattle.merge_settle.proofs.Stepping.{stepped-turn}
-use Rattle.merge_settle.proofs.Stepping.{stops_end, stops-all}
 use Rattle.merge_naive.specs.MergeNaive.{near_by}
-use Rattle.merge_naive.proofs.Naive.{left-off, left-on}
 use Rattle.merge_naive.proofs.merge_list.Given as goal
 
 abbrev pub invariant-loop-i : goal.invariant-loop-i

@@ -1,5 +1,4 @@
 -- `merge_naive::place_for` meets its contract: by the first corner that is near, and its strength. Assumes nothing.
-use borrow.Author.Rules.{rules}
 use native.Mathlib.Omega.{arith}
 use mathlib.Core.Path.{subst}
 use Rattle.corner_list.specs.CornerList.{slices, corner_at}

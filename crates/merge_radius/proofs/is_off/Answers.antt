@@ -1,5 +1,4 @@
 -- `merge_radius::is_off` meets its contract. Assumes nothing.
-use borrow.Author.Rules.{rules}
 use mathlib.Core.Path.{sym, ap, ◌∙◌}
 use mathlib.Core.Bool.{Bool, not, ◌||◌}
 use lib.Ieee.{le, of_bits}

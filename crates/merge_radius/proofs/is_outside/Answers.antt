@@ -1,6 +1,5 @@
 -- `merge_radius::is_outside` meets its contract: each return computes by the tests that led there. Assumes nothing.
 use mathlib.Core.Path.{sym, ◌∙◌}
-use borrow.Author.Rules.{rules}
 use Rattle.merge_radius.proofs.is_outside.Goals as goal
 
 pub returns-then-is_off : goal.returns-then-is_off

@@ -1,5 +1,4 @@
 -- `merge_radius::is_sized` meets its contract. Assumes nothing.
-use borrow.Author.Rules.{rules}
 use lib.Ieee.{of_bits}
 use Rattle.merge_radius.specs.MergeRadius.{is_sized}
 use Rattle.merge_radius.proofs.is_sized.Goals as goal

@@ -1,10 +1,8 @@
 -- `merge_refusal::has_outside` meets its contract: every corner passed is inside. Assumes nothing.
-use borrow.Author.Rules.{rules}
 use borrow.Author.Count.{below_none, below_more}
-use Prim.Native.Nat.{ℕ, ◌-◌, ◌<◌, ◌≤◌}
 use native.Mathlib.Omega.{arith}
 use mathlib.Core.Path.{◌≡◌, sym, ap, ◌∙◌}
-use mathlib.Core.Bool.{false, not}
+use mathlib.Core.Bool.{not}
 use Rattle.lists.proofs.Places.{any-tab-hit, any-tab-none}
 use Rattle.corner_list.specs.CornerList.{slices, corner_at}
 use Rattle.merge_refusal.specs.Refusals.{corner_outside}

@@ -1,10 +1,6 @@
-use borrow.Author.Rules.{rules}
-use borrow.Author.Count.{below_none, below_more}
 use Prim.Native.Nat.{ℕ, ◌-◌, ◌<◌, ◌≤◌}
-use native.Mathlib.Omega.{arith}
-use mathlib.Core.Path.{◌≡◌, sym, ap, ◌∙◌}
-use mathlib.Core.Bool.{false, not}
-use Rattle.lists.proofs.Places.{any-tab-hit, any-tab-none}
+use mathlib.Core.Path.{◌≡◌}
+use mathlib.Core.Bool.{false}
 use Rattle.corner_list.specs.CornerList.{slices, corner_at}
 use Rattle.merge_refusal.specs.Refusals.{corner_outside}
 use Rattle.merge_refusal.proofs.has_outside.Given as goal

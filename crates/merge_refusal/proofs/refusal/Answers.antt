@@ -1,6 +1,5 @@
 -- `merge_refusal::refusal` meets its contract: each return by the tests on the way, where the places that the buffer has count.
 -- Assumes nothing.
-use borrow.Author.Rules.{rules}
 use Prim.Native.Nat.{ℕ, min}
 use mathlib.Core.Path.{◌≡◌, sym, ap, ◌∙◌}
 use Rattle.lists.specs.Places.{any}

@@ -1,5 +1,4 @@
 -- `merge_slice::either_outside` meets its contract. Assumes nothing.
-use borrow.Author.Rules.{rules}
 use Rattle.merge_slice.proofs.either_outside.Goals as goal
 
 pub returns : goal.returns

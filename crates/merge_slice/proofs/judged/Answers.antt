@@ -1,5 +1,4 @@
 -- `merge_slice::judged` meets its contract: each return by the tests on the way. Assumes nothing.
-use borrow.Author.Rules.{rules}
 use mathlib.Core.Path.{sym, ◌∙◌}
 use Rattle.merge_slice.proofs.judged.Goals as goal
 

@@ -1,5 +1,4 @@
 -- `merge_slice::shared_places` meets its contract: the least of the least. Assumes nothing.
-use borrow.Author.Rules.{rules}
 use Prim.Native.Nat.{min}
 use mathlib.Core.Path.{ap, ◌∙◌}
 use Rattle.merge_slice.proofs.shared_places.Goals as goal

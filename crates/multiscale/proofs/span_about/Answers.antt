@@ -1,10 +1,8 @@
 -- `multiscale::span_about` meets its contract, test by test. Assumes nothing.
 use mathlib.Core.Path.{◌≡◌, ◌∙◌}
-use mathlib.Core.Logic.{⊎_elim}
 use native.Mathlib.Omega.{arith}
 use Rattle.multiscale.specs.Multiscale.{low_end, high_end}
 use Rattle.multiscale.proofs.Axis.{too-low, too-high, narrow, wide, low-clipped, low_free, high-clipped, high-free, in_order}
-use borrow.Author.Rules.{rules}
 use Rattle.multiscale.proofs.span_about.Goals as goal
 use Rattle.multiscale.proofs.span_about.Goals.{Joined-c-r, Joined-side-b, then-c-r, else-c-r, then-side-b, else-side-b}
 

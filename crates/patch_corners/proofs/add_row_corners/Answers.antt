@@ -1,8 +1,7 @@
 -- `patch_corners::add_row_corners` meets its contract, by the laws of `OfRows` and `Centring`. Assumes nothing.
 use Prim.Native.Nat.{ℕ, ◌+◌, min}
 use native.Mathlib.Omega.{arith}
-use mathlib.Core.Path.{◌≡◌, sym, ap, ◌∙◌}
-use lib.ListN.{length}
+use mathlib.Core.Path.{sym, ap, ◌∙◌}
 use borrow.Author.Rules.{rules}
 use Rattle.detect.proofs.Answers.{clear, found-refused}
 use Rattle.patch_corners.proofs.Centring.{found-not, found-fits, found-changed}

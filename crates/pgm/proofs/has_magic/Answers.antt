@@ -1,6 +1,5 @@
 -- `pgm::has_magic` meets its contract, return by return. Assumes nothing.
 use mathlib.Core.Path.{sym}
-use borrow.Author.Rules.{rules}
 use borrow.Author.Tests.{eq-eqb, ne_eqb}
 use Rattle.pgm.proofs.Judging.{magic-short}
 use Rattle.pgm.proofs.has_magic.Goals as goal

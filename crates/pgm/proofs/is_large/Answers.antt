@@ -1,5 +1,4 @@
 -- `pgm::is_large` meets its contract, return by return. Assumes nothing.
-use borrow.Author.Rules.{rules}
 use borrow.Author.Tests.{not-true, not-false}
 use Rattle.pgm.proofs.is_large.Goals as goal
 

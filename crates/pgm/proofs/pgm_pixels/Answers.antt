@@ -1,6 +1,5 @@
 -- `pgm::pgm_pixels` meets its contract: the part behind the header, and nothing where the upload is refused. Assumes nothing.
 use native.Mathlib.Omega.{arith}
-use borrow.Author.Rules.{rules}
 use Rattle.pgm.proofs.Judging.{Located, located, located-pixels, refused-pixels}
 use Rattle.pgm.proofs.pgm_pixels.Goals as goal
 use Rattle.pgm.proofs.pgm_pixels.Goals.{In-Pixels}

@@ -1,7 +1,6 @@
 -- `pgm::read_pgm` meets its contract, refused or not. Assumes nothing.
 use native.Mathlib.Omega.{arith}
 use mathlib.Core.Path.{sym, ◌∙◌}
-use borrow.Author.Rules.{rules}
 use Rattle.pgm.specs.Internal.{FieldsRead}
 use Rattle.pgm.proofs.Fields.{fields_read}
 use Rattle.pgm.proofs.Judging.{refused-read, pixels-read, end-inside}

@@ -1,7 +1,6 @@
 -- `pgm::refusal` meets its contract, return by return. Assumes nothing.
 use native.Mathlib.Omega.{arith}
 use native.Mathlib.Nat.{mul-le-mul}
-use borrow.Author.Rules.{rules}
 use borrow.Author.Tests.{lt-ltb, le-ltb, eq-eqb, ne_eqb}
 use Rattle.pgm.proofs.refusal.Goals as goal
 

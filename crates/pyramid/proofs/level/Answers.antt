@@ -3,7 +3,6 @@
 use native.Mathlib.Omega.{arith}
 use mathlib.Core.Path.{◌≡◌, sym, ◌∙◌}
 use lib.ListN.{length}
-use borrow.Author.Rules.{rules}
 use Rattle.pyramid_levels.specs.Refusals.{ask, level_refusal_of}
 use Rattle.pyramid_levels.proofs.Refusals.{level-few}
 use Rattle.pyramid.proofs.Lookup.{Between, level-refused, level-base, level-between, level-higher}

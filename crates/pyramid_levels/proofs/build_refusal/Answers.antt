@@ -1,5 +1,4 @@
 -- `pyramid_levels::build_refusal` meets its contract: the base is judged first, and then the level buffer. Assumes nothing.
-use borrow.Author.Rules.{rules}
 use Rattle.lists.specs.Internal.{Sized}
 use Rattle.image_size.proofs.Judged.{refused, sized}
 use Rattle.pyramid_levels.specs.Refusals.{build_refusal_of}

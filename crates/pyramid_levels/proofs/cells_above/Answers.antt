@@ -1,6 +1,5 @@
 -- `pyramid_levels::cells_above` meets its contract. Assumes nothing.
 use mathlib.Core.Path.{◌∙◌}
-use borrow.Author.Rules.{rules}
 use Rattle.pyramid_levels.proofs.cells_above.Goals as goal
 
 pub returns : goal.returns

@@ -1,11 +1,10 @@
 -- `pyramid_levels::cells_before` meets its contract. The invariant: the sides of level k, the pixels of levels 1 .. k, and k below 64,
 -- since a side has 64 bits. Assumes nothing.
-use Prim.Native.Nat.{suc, ◌-◌, ◌≤◌, ◌<◌}
 use native.Mathlib.Numerals.{add-one}
 use native.Mathlib.Omega.{arith}
-use mathlib.Core.Path.{◌≡◌, refl, ap, ◌∙◌}
+use mathlib.Core.Path.{refl, ap, ◌∙◌}
 use borrow.Author.Rules.{rules}
-use Rattle.pyramid_levels.specs.Levels.{level_side, cells_above, capped}
+use Rattle.pyramid_levels.specs.Levels.{cells_above, capped}
 use Rattle.pyramid_levels.proofs.Sides.{side-base, side-next}
 use Rattle.pyramid_levels.proofs.Cells.{cells-last, capped-next, capped-stop, cells-few}
 use Rattle.pyramid_levels.proofs.cells_before.Goals as goal

@@ -1,11 +1,6 @@
 use Prim.Native.Nat.{suc, ◌-◌, ◌≤◌, ◌<◌}
-use native.Mathlib.Numerals.{add-one}
-use native.Mathlib.Omega.{arith}
-use mathlib.Core.Path.{◌≡◌, refl, ap, ◌∙◌}
-use borrow.Author.Rules.{rules}
+use mathlib.Core.Path.{◌≡◌}
 use Rattle.pyramid_levels.specs.Levels.{level_side, cells_above, capped}
-use Rattle.pyramid_levels.proofs.Sides.{side-base, side-next}
-use Rattle.pyramid_levels.proofs.Cells.{cells-last, capped-next, capped-stop, cells-few}
 use Rattle.pyramid_levels.proofs.cells_before.Given as goal
 
 abbrev pub invariant-loop-k : goal.invariant-loop-k

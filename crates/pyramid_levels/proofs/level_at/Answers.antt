@@ -5,7 +5,6 @@ use Rattle.pyramid_levels.specs.Refusals.{ask, level_refusal_of}
 use Rattle.pyramid_levels.proofs.Cells.{cells-exact}
 use Rattle.pyramid_levels.proofs.Refusals.{level-accepted, level-few}
 use Rattle.pyramid_levels.proofs.Answers.{level-refused, level-found}
-use borrow.Author.Rules.{rules}
 use Rattle.pyramid_levels.proofs.level_at.Goals as goal
 use Rattle.pyramid_levels.proofs.level_at.Goals.{Else-number-ne0}
 

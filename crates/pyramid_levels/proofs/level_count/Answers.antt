@@ -1,10 +1,8 @@
 -- `pyramid_levels::level_count` meets its contract. The invariant: the levels counted and those still to come above the last of them are
 -- all. The measure: those still to come, of which there are fewer than 64 (`count-le`). Assumes nothing.
-use Prim.Native.Nat.{◌+◌, ◌-◌, ◌≤◌}
 use native.Mathlib.Omega.{arith}
-use mathlib.Core.Path.{◌≡◌, sym, ◌∙◌}
+use mathlib.Core.Path.{sym, ◌∙◌}
 use borrow.Author.Rules.{rules}
-use Rattle.pyramid_levels.specs.Levels.{halvings, level_count}
 use Rattle.pyramid_levels.proofs.Sides.{counted_stop, counted-all, counted-more, count_none, count-below, count-some}
 use Rattle.pyramid_levels.proofs.level_count.Goals as goal
 

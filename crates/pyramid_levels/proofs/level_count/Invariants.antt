@@ -1,9 +1,6 @@
 use Prim.Native.Nat.{◌+◌, ◌-◌, ◌≤◌}
-use native.Mathlib.Omega.{arith}
-use mathlib.Core.Path.{◌≡◌, sym, ◌∙◌}
-use borrow.Author.Rules.{rules}
+use mathlib.Core.Path.{◌≡◌}
 use Rattle.pyramid_levels.specs.Levels.{halvings, level_count}
-use Rattle.pyramid_levels.proofs.Sides.{counted_stop, counted-all, counted-more, count_none, count-below, count-some}
 use Rattle.pyramid_levels.proofs.level_count.Given as goal
 
 abbrev pub invariant-loop-n : goal.invariant-loop-n

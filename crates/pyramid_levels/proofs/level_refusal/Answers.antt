@@ -1,7 +1,6 @@
 -- `pyramid_levels::level_refusal` meets its contract: a level that is there is refused as building is, and another one by its number.
 -- Assumes nothing.
 use mathlib.Core.Path.{◌∙◌}
-use borrow.Author.Rules.{rules}
 use Rattle.image_size.proofs.Judged.{refused, sized}
 use Rattle.pyramid_levels.specs.Refusals.{level_refusal_of}
 use Rattle.pyramid_levels.proofs.Refusals.{level-there, level-absent}

@@ -40,11 +40,14 @@ returns-then-number-ne0 c = when-refused _ _ _ _ _ (number (goal.at.returns-then
 
 pub fill-requires : goal.fill-requires
 fill-requires c =
-    let t = allowed (goal.at.fill-requires c).Else-number-ne0 in record { sized = image _ _ _ _ _ _ t; pw_bound = ((
+    let t = allowed (goal.at.fill-requires c).Else-number-ne0 in record {
+      sized = image _ _ _ _ _ _ t;
+      pw_bound = ((
         rw (c.lesser.ensures, width (goal.at.fill-requires c).After-beside-ph) (cols-in (view c.args.img.now c.args.w c.args.h c.args.ring c.args.x0 c.args.y0 c.args.x1 c.args.y1)),
         rw (c.lesser-2.ensures, height (goal.at.fill-requires c).After-beside-ph) (rows_in (view c.args.img.now c.args.w c.args.h c.args.ring c.args.x0 c.args.y0 c.args.x1 c.args.y1)),
         t.enough,
-      )) }
+      ));
+    }
 
 pub shape_of-map : goal.shape_of-map
 shape_of-map c = search rules

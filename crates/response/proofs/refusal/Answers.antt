@@ -1,7 +1,6 @@
 -- `response::refusal` meets its contract: each return is the first condition of the table that holds. Assumes nothing.
 use native.Mathlib.Nat.{le_trans}
 use native.Mathlib.Omega.{arith}
-use borrow.Author.Rules.{rules}
 use borrow.Author.Tests.{lt-ltb, le-ltb}
 use Rattle.lists.specs.Internal.{Sized}
 use Rattle.image_size.proofs.Judged.{refused, sized, passed}

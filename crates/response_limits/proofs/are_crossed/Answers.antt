@@ -1,7 +1,5 @@
 -- `response_limits::are_crossed` meets its contract: the loop keeps the most by which a low value is above its high one. Assumes nothing.
-use Prim.Native.Nat.{◌-◌, ◌≤◌}
-use lib.ListN.{length}
-use Rattle.response_limits.proofs.Crossed.{Compared, compared-none, compared-next, compared-all}
+use Rattle.response_limits.proofs.Crossed.{compared-none, compared-next, compared-all}
 use borrow.Author.Rules.{rules}
 use Rattle.response_limits.proofs.are_crossed.Goals as goal
 

@@ -1,7 +1,6 @@
 use Prim.Native.Nat.{◌-◌, ◌≤◌}
 use lib.ListN.{length}
-use Rattle.response_limits.proofs.Crossed.{Compared, compared-none, compared-next, compared-all}
-use borrow.Author.Rules.{rules}
+use Rattle.response_limits.proofs.Crossed.{Compared}
 use Rattle.response_limits.proofs.are_crossed.Given as goal
 
 abbrev pub invariant-loop-i : goal.invariant-loop-i

@@ -14,7 +14,6 @@ use Rattle.ring.specs.Ring.{is_ring}
 use Rattle.response.proofs.Indices.{area-le}
 use Rattle.response_limits.specs.Promise.{is_crossed, refusal_of}
 use Rattle.response_limits.proofs.Judging.{by_length, by-rest}
-use borrow.Author.Rules.{rules}
 use Rattle.response_limits.proofs.refusal.Goals as goal
 use Rattle.response_limits.proofs.refusal.Goals.{Else-high-low, Else-not-is_ring, Else-number-ne0}
 

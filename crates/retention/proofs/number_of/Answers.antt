@@ -2,8 +2,7 @@
 -- nothing.
 use Prim.Native.Nat.{◌<◌}
 use native.Mathlib.Omega.{arith}
-use borrow.Author.Rules.{rules}
-use Rattle.retention.proofs.Numbers.{Above, above-none, above-fits, above-next, above-all}
+use Rattle.retention.proofs.Numbers.{above-none, above-fits, above-next, above-all}
 use Rattle.retention.proofs.number_of.Goals as goal
 use Rattle.retention.proofs.number_of.Goals.{After-wide}
 

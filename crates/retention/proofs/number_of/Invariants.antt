@@ -1,7 +1,4 @@
-use Prim.Native.Nat.{◌<◌}
-use native.Mathlib.Omega.{arith}
-use borrow.Author.Rules.{rules}
-use Rattle.retention.proofs.Numbers.{Above, above-none, above-fits, above-next, above-all}
+use Rattle.retention.proofs.Numbers.{Above}
 use Rattle.retention.proofs.number_of.Given as goal
 
 abbrev pub invariant-loop-i : goal.invariant-loop-i

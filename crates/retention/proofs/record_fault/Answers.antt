@@ -5,7 +5,6 @@ use mathlib.Core.Bool.{true}
 use Rattle.retention.specs.Retention.{known}
 use Rattle.retention.specs.Stream.{kind_at}
 use Rattle.retention.proofs.Records.{fault-end, fault-kind, fault-cut, fault-late, fault-none}
-use borrow.Author.Rules.{rules}
 use borrow.Author.Tests.{not-true, not-false}
 use Rattle.retention.proofs.record_fault.Goals as goal
 use Rattle.retention.proofs.record_fault.Goals.{Else-not-is_known}

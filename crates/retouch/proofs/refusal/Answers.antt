@@ -1,5 +1,4 @@
 -- `retouch::refusal` meets its contract: each return is the first condition of the table that holds. Assumes nothing.
-use borrow.Author.Rules.{rules}
 use Rattle.lists.specs.Internal.{Sized}
 use Rattle.image_size.proofs.Judged.{sized}
 use Rattle.retouch.proofs.Judging.{by-image, by_map, by-rest}

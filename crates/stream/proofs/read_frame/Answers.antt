@@ -4,7 +4,6 @@ use native.Mathlib.Omega.{arith}
 use mathlib.Core.Path.{◌≡◌}
 use Rattle.stream.specs.Internal.{header_at, Whole}
 use Rattle.stream.proofs.Answer.{pixels_are, pixels-fit, refused-read, frame-read}
-use borrow.Author.Rules.{rules}
 use Rattle.stream.proofs.read_frame.Goals as goal
 use Rattle.stream.proofs.read_frame.Goals.{After-header_of-header, Else-fault-ne0}
 

@@ -1,6 +1,5 @@
 -- `sure_peak::exceeds` meets its contract. Assumes nothing.
 use Rattle.sure_peak.proofs.Signed.{cast_fits, compared}
-use borrow.Author.Rules.{rules}
 use Rattle.sure_peak.proofs.exceeds.Goals as goal
 
 pub overflow_cast-wide : goal.overflow_cast-wide

@@ -1,6 +1,5 @@
 -- `sure_peak::is_inside` meets its contract. Assumes nothing.
 use borrow.Author.Tests.{le-leb, lt-leb}
-use borrow.Author.Rules.{rules}
 use Rattle.sure_peak.proofs.is_inside.Goals as goal
 
 pub returns-then-at-border : goal.returns-then-at-border

@@ -10,7 +10,6 @@ use borrow.Author.Tests.{not-true, not-false}
 use Rattle.sure_peak.proofs.Signed.{read}
 use Rattle.sure_peak.proofs.WindowRows.{centre-in, centre-small}
 use Rattle.sure_peak.proofs.Peak.{when-low, when-beaten, when-top}
-use borrow.Author.Rules.{rules}
 use Rattle.sure_peak.proofs.is_sure.Goals as goal
 use Rattle.sure_peak.proofs.is_sure.Goals.{After-low-1}
 

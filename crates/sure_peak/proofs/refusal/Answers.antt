@@ -7,7 +7,6 @@ use Rattle.image_size.proofs.Judged.{refused, sized}
 use Rattle.retouch.specs.Promise.{place_outside}
 use Rattle.sure_peak.specs.Promise.{refusal_of}
 use Rattle.sure_peak.proofs.Judging.{by_length, by-parameters, by_place}
-use borrow.Author.Rules.{rules}
 use Rattle.sure_peak.proofs.refusal.Goals as goal
 use Rattle.sure_peak.proofs.refusal.Goals.{Else-is_outside, Else-number-ne0}
 

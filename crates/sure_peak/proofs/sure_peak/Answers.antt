@@ -10,7 +10,6 @@ use Rattle.lists.specs.Limits.{largest_border}
 use Rattle.lists.specs.Places.{Place}
 use Rattle.detect.specs.Internal.{Inside}
 use Rattle.sure_peak.proofs.Judging.{Given, given, inside, narrower, when-refused, outside-across, outside-down, is-sure, not-sure}
-use borrow.Author.Rules.{rules}
 use Rattle.sure_peak.proofs.sure_peak.Goals as goal
 use Rattle.sure_peak.proofs.sure_peak.Goals.{Else-not-is_inside-2, Else-number-ne0}
 

@@ -1,5 +1,4 @@
 -- `capi_formats::zakdomp_holding` meets its contract: the answer of the function that it calls, taken apart. Assumes nothing.
-use borrow.Author.Rules.{rules}
 use Rattle.capi_formats.proofs.Entries.{holding-told}
 use Rattle.capi_formats.proofs.holding.zakdomp_holding.Goals as goal
 

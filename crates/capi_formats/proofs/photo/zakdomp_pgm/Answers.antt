@@ -1,5 +1,4 @@
 -- `capi_formats::zakdomp_pgm` meets its contract: the answer of the function that it calls, taken apart. Assumes nothing.
-use borrow.Author.Rules.{rules}
 use Rattle.capi_formats.proofs.Entries.{image-read}
 use Rattle.capi_formats.proofs.photo.zakdomp_pgm.Goals as goal
 

@@ -1,5 +1,4 @@
 -- `capi_lists::zakdomp_show_corner` meets its contract: the answer of the function that it calls, taken apart. Assumes nothing.
-use borrow.Author.Rules.{rules}
 use Rattle.capi_lists.proofs.Entries.{corner-shown}
 use Rattle.capi_lists.proofs.showing.zakdomp_show_corner.Goals as goal
 

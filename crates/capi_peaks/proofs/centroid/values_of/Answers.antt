@@ -1,5 +1,4 @@
 -- `capi_peaks::values_of` meets its contract: by the case of the outcome. Assumes nothing.
-use borrow.Author.Rules.{rules}
 use lib.Ieee.{of_bits}
 use Rattle.capi_peaks.proofs.centroid.values_of.Goals as goal
 

@@ -1,5 +1,4 @@
 -- `capi_peaks::zakdomp_centroid` meets its contract: the outcome, taken apart. Assumes nothing.
-use borrow.Author.Rules.{rules}
 use Rattle.capi_peaks.proofs.Entries.{seed-located}
 use Rattle.capi_peaks.proofs.centroid.zakdomp_centroid.Goals as goal
 

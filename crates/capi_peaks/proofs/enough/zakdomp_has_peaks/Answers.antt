@@ -1,5 +1,4 @@
 -- `capi_peaks::zakdomp_has_peaks` meets its contract: the answer of the function that it calls, taken apart. Assumes nothing.
-use borrow.Author.Rules.{rules}
 use Rattle.capi_peaks.proofs.Entries.{peaks-counted}
 use Rattle.capi_peaks.proofs.enough.zakdomp_has_peaks.Goals as goal
 

@@ -1,5 +1,4 @@
 -- `capi_peaks::zakdomp_sure_peak` meets its contract: the answer of the function that it calls, taken apart. Assumes nothing.
-use borrow.Author.Rules.{rules}
 use Rattle.capi_peaks.proofs.Entries.{sure-told}
 use Rattle.capi_peaks.proofs.sure.zakdomp_sure_peak.Goals as goal
 

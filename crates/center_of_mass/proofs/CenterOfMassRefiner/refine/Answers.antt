@@ -1,6 +1,5 @@
 -- `CenterOfMassRefiner::refine` meets its contract: refused, weighed, or without a map. Assumes nothing.
 use mathlib.Core.Path.{sym, ◌∙◌}
-use borrow.Author.Rules.{rules}
 use Rattle.center_of_mass.proofs.Judgement.{radius-small, map-fits}
 use Rattle.center_of_mass.proofs.Promised.{refused, weighed-map, no-map}
 use Rattle.center_of_mass.proofs.CenterOfMassRefiner.refine.Goals as goal

@@ -1,5 +1,4 @@
 -- `corner_strike::show_corner` meets its contract: refused, or the corner at the place. Assumes nothing.
-use borrow.Author.Rules.{rules}
 use Rattle.corner_strike.proofs.Judging.{show-refused, show-found}
 use Rattle.corner_strike.proofs.showing.show_corner.Goals as goal
 

@@ -1,10 +1,7 @@
 -- `corner_strike::striking::remove_corner` meets its contract. The invariant: the corners that stay are moved up so far. Assumes nothing.
-use Prim.Native.Nat.{◌-◌}
 use native.Mathlib.Omega.{arith}
 use lib.Ieee.{of_bits}
-use borrow.Author.Rules.{rules}
-use Rattle.corner_list.specs.CornerList.{slices}
-use Rattle.corner_strike.proofs.Removing.{Moving, moving-none, moving-next, moving-all, moving-xs, moving-ys, moving-strengths}
+use Rattle.corner_strike.proofs.Removing.{moving-none, moving-next, moving-all, moving-xs, moving-ys, moving-strengths}
 use Rattle.corner_strike.proofs.Removing.{moving-neighbours}
 use Rattle.corner_strike.proofs.striking.remove_corner.Goals as goal
 

@@ -1,10 +1,6 @@
 use Prim.Native.Nat.{◌-◌}
-use native.Mathlib.Omega.{arith}
-use lib.Ieee.{of_bits}
-use borrow.Author.Rules.{rules}
 use Rattle.corner_list.specs.CornerList.{slices}
-use Rattle.corner_strike.proofs.Removing.{Moving, moving-none, moving-next, moving-all, moving-xs, moving-ys, moving-strengths}
-use Rattle.corner_strike.proofs.Removing.{moving-neighbours}
+use Rattle.corner_strike.proofs.Removing.{Moving}
 use Rattle.corner_strike.proofs.striking.remove_corner.Given as goal
 
 abbrev pub invariant-loop-at : goal.invariant-loop-at

@@ -1,15 +1,15 @@
 -- `detect::adding::add_peaks` meets its contract: the corners of the peaks passed stand in the buffer, and their ties are summed. Assumes
 -- nothing.
-use Rattle.std.proofs.Common.{◌+◌, ◌-◌, ◌<◌, length, arith, rules}
+use Rattle.std.proofs.Common.{◌+◌, ◌-◌, ◌<◌, arith, rules}
 use Rattle.lists.specs.Limits.{largest_side}
 use Rattle.lists.specs.Places.{Place}
 use Rattle.corner_list.specs.CornerList.{Slices, slices, places_of}
 use Rattle.corner_list.proofs.Growing.{growing-xs, growing-ys, growing-strengths, growing-neighbours}
 use Rattle.detect.specs.Internal.{Inside}
-use Rattle.detect.specs.Internal.{place, peaks_from}
+use Rattle.detect.specs.Internal.{place}
 use Rattle.detect.proofs.Scanning.{next-inside}
 use Rattle.detect.proofs.Answers.{fits-behind, short-behind, found-short}
-use Rattle.detect.proofs.Writing.{Writing, writing-first, writing-place, writing-few, writing-less, writing-next, writing-all}
+use Rattle.detect.proofs.Writing.{writing-first, writing-place, writing-few, writing-less, writing-next, writing-all}
 use Rattle.detect.proofs.adding.add_peaks.Goals as goal
 use Rattle.detect.proofs.adding.add_peaks.Goals.{Else-y1-p, Start}
 

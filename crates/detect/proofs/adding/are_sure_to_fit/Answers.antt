@@ -1,6 +1,6 @@
 -- `detect::adding::are_sure_to_fit` meets its contract: there are no more peaks than cells that can be one. Assumes nothing.
 use mathlib.Core.Bool.{false≢true}
-use Rattle.std.proofs.Common.{le_trans, arith, rules, leb-true}
+use Rattle.std.proofs.Common.{le_trans, arith, leb-true}
 use Rattle.detect.specs.Detect.{read_in}
 use Rattle.detect.proofs.Choice.{peaks-at-most}
 use Rattle.detect.proofs.adding.are_sure_to_fit.Goals as goal

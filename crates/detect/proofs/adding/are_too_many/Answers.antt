@@ -1,9 +1,8 @@
 -- `detect::adding::are_too_many` meets its contract: what is counted and the peaks ahead make all peaks. Assumes nothing.
-use Rattle.std.proofs.Common.{◌+◌, ◌-◌, ◌<◌, ◌≤◌, length, sym, arith, rules, le-ltb, lt-ltb}
+use Rattle.std.proofs.Common.{◌+◌, ◌<◌, ◌≤◌, length, sym, arith, le-ltb, lt-ltb}
 use Rattle.detect.specs.Detect.{peaks_in}
-use Rattle.detect.specs.Internal.{place}
 use Rattle.detect.proofs.Scanning.{next-inside}
-use Rattle.detect.proofs.FirstPeaks.{Counting, counting-first, counting-next, counting-few, counting-fit, counting-many}
+use Rattle.detect.proofs.FirstPeaks.{counting-first, counting-next, counting-few, counting-fit, counting-many}
 use Rattle.detect.proofs.adding.are_too_many.Goals as goal
 
 -- ---- places of the code: the function's start, from the second test and from a turn; and the turn, from its peak and from what follows

@@ -1,8 +1,6 @@
-use Rattle.std.proofs.Common.{◌+◌, ◌-◌, ◌<◌, ◌≤◌, length, sym, arith, rules, le-ltb, lt-ltb}
-use Rattle.detect.specs.Detect.{peaks_in}
+use Rattle.std.proofs.Common.{◌+◌, ◌-◌}
 use Rattle.detect.specs.Internal.{place}
-use Rattle.detect.proofs.Scanning.{next-inside}
-use Rattle.detect.proofs.FirstPeaks.{Counting, counting-first, counting-next, counting-few, counting-fit, counting-many}
+use Rattle.detect.proofs.FirstPeaks.{Counting}
 use Rattle.detect.proofs.adding.are_too_many.Given as goal
 
 abbrev pub invariant-loop-i : goal.invariant-loop-i

@@ -1,9 +1,9 @@
 -- `detect::adding::cells_above` meets its contract: a peak is not at or below the threshold. Assumes nothing.
-use Rattle.std.proofs.Common.{◌-◌, ◌*◌, ◌<◌, ◌≤◌, arith, rules}
+use Rattle.std.proofs.Common.{◌*◌, ◌<◌, ◌≤◌, arith}
 use Rattle.lists.specs.Limits.{largest_map}
 use Rattle.lists.proofs.Rows.{rows_start}
 use Rattle.detect.proofs.Cells.{row_in, row_small}
-use Rattle.detect.proofs.Above.{HighRows, high-some, high-next, high-few, high-all, high-none}
+use Rattle.detect.proofs.Above.{high-some, high-next, high-few, high-all, high-none}
 use Rattle.detect.proofs.adding.cells_above.Goals as goal
 use Rattle.detect.proofs.adding.cells_above.Goals.{In-loop-y}
 

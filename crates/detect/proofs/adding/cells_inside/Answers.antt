@@ -1,5 +1,5 @@
 -- `detect::adding::cells_inside` meets its contract. Assumes nothing.
-use Rattle.std.proofs.Common.{◌≡◌, ◌-◌, ◌*◌, ap₂, arith, rules}
+use Rattle.std.proofs.Common.{◌≡◌, ◌-◌, ◌*◌, ap₂, arith}
 use Rattle.detect.proofs.Cells.{inside-few}
 use Rattle.detect.proofs.adding.cells_inside.Goals as goal
 use Rattle.detect.proofs.adding.cells_inside.Goals.{After-minus-2}

@@ -1,5 +1,5 @@
 -- `detect::adding::coordinate` meets its contract: an `f32` holds every whole number up to 4,096. Assumes nothing.
-use Rattle.std.proofs.Common.{arith, le→leb, rules}
+use Rattle.std.proofs.Common.{arith, le→leb}
 use lib.Ieee.{in_float}
 use Rattle.detect.proofs.adding.coordinate.Goals as goal
 

@@ -1,5 +1,4 @@
 -- `detect::adding::start_at` meets its contract, field by field. Assumes nothing.
-use Rattle.std.proofs.Common.{rules}
 use Rattle.detect.proofs.adding.start_at.Goals as goal
 
 pub returns : goal.returns

@@ -1,5 +1,5 @@
 -- `detect::enough::has_peaks` meets its contract, refused or not. Assumes nothing.
-use Rattle.std.proofs.Common.{◌≡◌, length, sym, ◌∙◌, rules}
+use Rattle.std.proofs.Common.{◌≡◌, length, sym, ◌∙◌}
 use Rattle.lists.specs.Refusals.{lowest}
 use Rattle.detect.specs.Detect.{conditions}
 use Rattle.detect.proofs.Answers.{clear, searchable}

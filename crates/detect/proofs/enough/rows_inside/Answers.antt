@@ -1,5 +1,5 @@
 -- `detect::enough::rows_inside` meets its contract, by the width. Assumes nothing.
-use Rattle.std.proofs.Common.{rules, le-leb}
+use Rattle.std.proofs.Common.{le-leb}
 use borrow.Author.Tests.{lt-leb}
 use Rattle.detect.specs.Enough.{rows_inside}
 use Rattle.detect.proofs.enough.rows_inside.Goals as goal

@@ -1,8 +1,7 @@
 -- `detect::enough::search_for` meets its contract: what is found and the peaks ahead are all peaks. Assumes nothing.
-use Rattle.std.proofs.Common.{◌-◌, ◌≤◌, refl, arith, rules}
-use Rattle.detect.specs.Internal.{place}
+use Rattle.std.proofs.Common.{refl, arith}
 use Rattle.detect.proofs.Scanning.{next-inside}
-use Rattle.detect.proofs.Counting.{Searching, searching-first, searching-yes, searching-next, searching-no}
+use Rattle.detect.proofs.Counting.{searching-first, searching-yes, searching-next, searching-no}
 use Rattle.detect.proofs.enough.search_for.Goals as goal
 
 -- ---- places of the code: the turn that a peak was found in

@@ -1,7 +1,6 @@
-use Rattle.std.proofs.Common.{◌-◌, ◌≤◌, refl, arith, rules}
+use Rattle.std.proofs.Common.{◌-◌, ◌≤◌}
 use Rattle.detect.specs.Internal.{place}
-use Rattle.detect.proofs.Scanning.{next-inside}
-use Rattle.detect.proofs.Counting.{Searching, searching-first, searching-yes, searching-next, searching-no}
+use Rattle.detect.proofs.Counting.{Searching}
 use Rattle.detect.proofs.enough.search_for.Given as goal
 
 abbrev pub invariant-loop-i : goal.invariant-loop-i

@@ -1,5 +1,5 @@
 -- `detect::fifths::between_fifths` meets its contract: an `f32` holds every whole number up to 20,411. Assumes nothing.
-use Rattle.std.proofs.Common.{◌≤◌, arith, le→leb, rules}
+use Rattle.std.proofs.Common.{◌≤◌, arith, le→leb}
 use lib.Ieee.{in_float, of_bits}
 use Rattle.float32.proofs.Classes.{lift-plus}
 use Rattle.detect.specs.Fifths.{between_fifths}

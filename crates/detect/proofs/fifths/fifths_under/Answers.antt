@@ -1,5 +1,5 @@
 -- `detect::fifths::fifths_under` meets its contract. Assumes nothing.
-use Rattle.std.proofs.Common.{ap, ◌∙◌, rules}
+use Rattle.std.proofs.Common.{ap, ◌∙◌}
 use lib.Ieee.{of_bits}
 use Rattle.detect.specs.Fifths.{fifths_under}
 use Rattle.detect.proofs.Thresholds.{CutOff, lifted-cut}

@@ -1,7 +1,6 @@
 -- `detect::neighbors::any_larger` meets its contract: what is found from i on is what is found in all. Assumes nothing.
-use Rattle.std.proofs.Common.{◌≡◌, ◌-◌, Bool, ◌&&◌, length, drop, sym, refl, ◌∙◌, rules}
+use Rattle.std.proofs.Common.{Bool, ◌&&◌, sym, ◌∙◌}
 use lib.Ieee.{Float, lt}
-use Rattle.lists.specs.Places.{any}
 use Rattle.lists.proofs.Scan.{any_here, any-on, any-none-left}
 use Rattle.detect.proofs.neighbors.any_larger.Goals as goal
 

@@ -1,7 +1,6 @@
-use Rattle.std.proofs.Common.{◌≡◌, ◌-◌, Bool, ◌&&◌, length, drop, sym, refl, ◌∙◌, rules}
-use lib.Ieee.{Float, lt}
+use Rattle.std.proofs.Common.{◌≡◌, ◌-◌, ◌&&◌, length, drop}
+use lib.Ieee.{lt}
 use Rattle.lists.specs.Places.{any}
-use Rattle.lists.proofs.Scan.{any_here, any-on, any-none-left}
 use Rattle.detect.proofs.neighbors.any_larger.Given as goal
 
 abbrev pub invariant-loop-i : goal.invariant-loop-i

@@ -1,5 +1,5 @@
 -- `detect::neighbors::are_few` meets its contract: the centre, which is positive, is counted with the others. Assumes nothing.
-use Rattle.std.proofs.Common.{◌≡◌, arith, rules}
+use Rattle.std.proofs.Common.{arith}
 use Rattle.detect.specs.declared.neighbors.Asked.TheVariants.{Positive}
 use Rattle.detect.specs.Internal.{place}
 use Rattle.detect.proofs.OtherWindow.{asked-so, counted-more}

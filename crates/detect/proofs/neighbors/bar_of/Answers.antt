@@ -1,6 +1,5 @@
 -- `detect::neighbors::bar_of` meets its contract. Assumes nothing.
 use lib.Ieee.{of_bits}
-use Rattle.std.proofs.Common.{rules}
 use Rattle.detect.proofs.neighbors.bar_of.Goals as goal
 
 pub returns-then-exact : goal.returns-then-exact

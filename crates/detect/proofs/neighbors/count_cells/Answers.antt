@@ -1,6 +1,6 @@
 -- `detect::neighbors::count_cells` meets its contract: what is counted and the count from i on make the whole count. Assumes nothing.
-use Rattle.std.proofs.Common.{◌-◌, length, sym, ◌∙◌, ⊎_elim, rules}
-use Rattle.lists.proofs.Scan.{CountTo, count-start, count-hit, count-miss, count-end}
+use Rattle.std.proofs.Common.{sym, ◌∙◌}
+use Rattle.lists.proofs.Scan.{count-start, count-hit, count-miss, count-end}
 use Rattle.detect.specs.Internal.{is_counted}
 use Rattle.detect.proofs.neighbors.count_cells.Goals as goal
 use Rattle.detect.proofs.neighbors.count_cells.Goals.{then-is_counted, else-is_counted}

@@ -1,5 +1,5 @@
-use Rattle.std.proofs.Common.{◌-◌, length, sym, ◌∙◌, ⊎_elim, rules}
-use Rattle.lists.proofs.Scan.{CountTo, count-start, count-hit, count-miss, count-end}
+use Rattle.std.proofs.Common.{◌-◌, length}
+use Rattle.lists.proofs.Scan.{CountTo}
 use Rattle.detect.specs.Internal.{is_counted}
 use Rattle.detect.proofs.neighbors.count_cells.Given as goal
 

@@ -1,5 +1,5 @@
 -- `detect::neighbors::count_neighbors` meets its contract: the centre is subtracted if it was counted. Assumes nothing.
-use Rattle.std.proofs.Common.{sym, ◌∙◌, arith, rules}
+use Rattle.std.proofs.Common.{sym, ◌∙◌, arith}
 use Rattle.detect.proofs.WindowRows.{centre-in, centre-off, centre-not}
 use Rattle.detect.proofs.neighbors.count_neighbors.Goals as goal
 

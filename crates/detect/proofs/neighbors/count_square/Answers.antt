@@ -1,9 +1,9 @@
 -- `detect::neighbors::count_square` meets its contract: what is counted and the rows ahead make the count of the square.
 -- Assumes nothing.
-use Rattle.std.proofs.Common.{◌+◌, ◌-◌, ◌*◌, ◌<◌, ◌≤◌, Bool, arith, rules}
-use lib.Ieee.{Float, nan}
+use Rattle.std.proofs.Common.{◌+◌, ◌*◌, ◌<◌, ◌≤◌, Bool, arith}
+use lib.Ieee.{Float}
 use Rattle.lists.specs.Limits.{largest_map}
-use Rattle.lists.proofs.Rows.{CountRows, rows_start}
+use Rattle.lists.proofs.Rows.{rows_start}
 use Rattle.detect.specs.Internal.{is_counted}
 use Rattle.detect.proofs.Cells.{row_in, row_small}
 use Rattle.detect.proofs.WindowRows.{count_next, count_fits, count-all}

@@ -1,10 +1,7 @@
-use Rattle.std.proofs.Common.{◌+◌, ◌-◌, ◌*◌, ◌<◌, ◌≤◌, Bool, arith, rules}
-use lib.Ieee.{Float, nan}
-use Rattle.lists.specs.Limits.{largest_map}
-use Rattle.lists.proofs.Rows.{CountRows, rows_start}
+use Rattle.std.proofs.Common.{◌-◌}
+use lib.Ieee.{nan}
+use Rattle.lists.proofs.Rows.{CountRows}
 use Rattle.detect.specs.Internal.{is_counted}
-use Rattle.detect.proofs.Cells.{row_in, row_small}
-use Rattle.detect.proofs.WindowRows.{count_next, count_fits, count-all}
 use Rattle.detect.proofs.neighbors.count_square.Given as goal
 
 abbrev pub invariant-loop-yy : goal.invariant-loop-yy

@@ -1,6 +1,6 @@
 -- `detect::neighbors::has_few` meets its contract, for each radius that it names. Assumes nothing.
 use mathlib.Core.Bool.{false≢true}
-use Rattle.std.proofs.Common.{arith, rules}
+use Rattle.std.proofs.Common.{arith}
 use lib.Ieee.{of_bits}
 use Rattle.detect.proofs.neighbors.has_few.Goals as goal
 

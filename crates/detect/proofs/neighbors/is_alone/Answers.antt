@@ -1,5 +1,5 @@
 -- `detect::neighbors::is_alone` meets its contract: the centre, which is no NaN, is counted alone. Assumes nothing.
-use Rattle.std.proofs.Common.{◌≡◌, refl, arith, rules}
+use Rattle.std.proofs.Common.{◌≡◌, refl, arith}
 use mathlib.Core.Bool.{false≢true}
 use Rattle.detect.specs.declared.neighbors.Asked.TheVariants.{AtLeast}
 use Rattle.detect.specs.Internal.{place}

@@ -1,5 +1,4 @@
 -- `detect::neighbors::is_beaten` meets its contract, by the window test. Assumes nothing.
-use Rattle.std.proofs.Common.{rules}
 use Rattle.detect.specs.Internal.{place}
 use Rattle.detect.proofs.Tested.{lost-not, lost-exactly, lost-plainly}
 use Rattle.detect.proofs.neighbors.is_beaten.Goals as goal

@@ -1,7 +1,5 @@
 -- `detect::neighbors::is_counted` meets its contract, case by case. Assumes nothing.
-use Rattle.std.proofs.Common.{sym, ap, rules}
 use lib.Ieee.{of_bits}
-use Rattle.detect.specs.Internal.{is_counted}
 use Rattle.detect.proofs.neighbors.is_counted.Goals as goal
 
 pub returns-in-Positive : goal.returns-in-Positive

@@ -1,8 +1,7 @@
 -- `detect::neighbors::is_local_max` meets its contract: what beats v in the rows ahead is what beats it in all. Assumes nothing.
-use Rattle.std.proofs.Common.{◌-◌, ◌*◌, ◌<◌, ◌≤◌, arith, rules}
-use lib.Ieee.{nan}
+use Rattle.std.proofs.Common.{◌*◌, ◌<◌, ◌≤◌, arith}
 use Rattle.lists.specs.Limits.{largest_map}
-use Rattle.lists.proofs.Rows.{AnyRows, any-start}
+use Rattle.lists.proofs.Rows.{any-start}
 use Rattle.detect.specs.Peaks.{beats}
 use Rattle.detect.proofs.Cells.{row_in, row_small}
 use Rattle.detect.proofs.WindowRows.{larger-here, larger-next, larger-nowhere}

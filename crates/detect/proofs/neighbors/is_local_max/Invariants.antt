@@ -1,10 +1,7 @@
-use Rattle.std.proofs.Common.{◌-◌, ◌*◌, ◌<◌, ◌≤◌, arith, rules}
+use Rattle.std.proofs.Common.{◌-◌}
 use lib.Ieee.{nan}
-use Rattle.lists.specs.Limits.{largest_map}
-use Rattle.lists.proofs.Rows.{AnyRows, any-start}
+use Rattle.lists.proofs.Rows.{AnyRows}
 use Rattle.detect.specs.Peaks.{beats}
-use Rattle.detect.proofs.Cells.{row_in, row_small}
-use Rattle.detect.proofs.WindowRows.{larger-here, larger-next, larger-nowhere}
 use Rattle.detect.proofs.neighbors.is_local_max.Given as goal
 
 abbrev pub invariant-loop-yy : goal.invariant-loop-yy

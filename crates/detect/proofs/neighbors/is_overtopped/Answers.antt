@@ -1,6 +1,6 @@
 -- `detect::neighbors::is_overtopped` meets its contract: a cell that one of the four beside it beats is beaten in its window.
 -- Assumes nothing.
-use Rattle.std.proofs.Common.{◌≤◌, refl, arith, rules}
+use Rattle.std.proofs.Common.{◌≤◌, refl, arith}
 use mathlib.Core.Bool.{false≢true}
 use Rattle.detect.proofs.Cells.{cell-small}
 use Rattle.detect.proofs.Overtopping.{beside-before, beside-behind, overtopped}

@@ -1,5 +1,5 @@
 -- `detect::neighbors::is_topped` meets its contract: a cell that one of its window beats is beaten. Assumes nothing.
-use Rattle.std.proofs.Common.{◌+◌, ◌-◌, ◌*◌, ◌≤◌, length, arith, rules}
+use Rattle.std.proofs.Common.{◌+◌, ◌-◌, ◌*◌, ◌≤◌, length, arith}
 use mathlib.Core.Bool.{false≢true}
 use Rattle.detect.proofs.Squares.{square-in, topped}
 use Rattle.detect.proofs.neighbors.is_topped.Goals as goal

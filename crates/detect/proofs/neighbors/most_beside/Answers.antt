@@ -1,5 +1,4 @@
 -- `detect::neighbors::most_beside` meets its contract: the greatest of four cells is one of them. Assumes nothing.
-use Rattle.std.proofs.Common.{arith, rules}
 use Rattle.detect.proofs.Overtopping.{beside-most}
 use Rattle.detect.proofs.neighbors.most_beside.Goals as goal
 

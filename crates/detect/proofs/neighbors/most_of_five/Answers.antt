@@ -1,5 +1,5 @@
 -- `detect::neighbors::most_of_five` meets its contract: the greatest of five cells is one of them. Assumes nothing.
-use Rattle.std.proofs.Common.{arith, rules}
+use Rattle.std.proofs.Common.{arith}
 use Rattle.detect.proofs.Squares.{of-first, of-five, greater-five}
 use Rattle.detect.proofs.neighbors.most_of_five.Goals as goal
 

@@ -1,5 +1,5 @@
 -- `detect::neighbors::most_of_square` meets its contract: the greatest of the five greatest is one of the cells. Assumes nothing.
-use Rattle.std.proofs.Common.{arith, rules}
+use Rattle.std.proofs.Common.{arith}
 use Rattle.detect.proofs.Squares.{of-square, greater-square}
 use Rattle.detect.proofs.neighbors.most_of_square.Goals as goal
 

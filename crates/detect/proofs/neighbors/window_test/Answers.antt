@@ -1,5 +1,5 @@
 -- `detect::neighbors::window_test` meets its contract: beaten, alone, or top with the cells counted. Assumes nothing.
-use Rattle.std.proofs.Common.{◌∙◌, rules}
+use Rattle.std.proofs.Common.{◌∙◌}
 use Rattle.detect.specs.Internal.{place}
 use Rattle.detect.proofs.WindowRows.{equals-are}
 use Rattle.detect.proofs.Ties.{test-top, test-beaten}

@@ -1,6 +1,5 @@
 -- `detect::searching::blocks_below` meets its contract, block by block. Assumes nothing.
-use Rattle.std.proofs.Common.{◌-◌, length, arith, rules}
-use Rattle.detect.specs.Internal.{Below}
+use Rattle.std.proofs.Common.{arith}
 use Rattle.detect.proofs.Rows.{below_none, below-part}
 use Rattle.detect.proofs.searching.blocks_below.Goals as goal
 

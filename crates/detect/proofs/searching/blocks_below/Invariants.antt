@@ -1,6 +1,5 @@
-use Rattle.std.proofs.Common.{◌-◌, length, arith, rules}
+use Rattle.std.proofs.Common.{◌-◌, length}
 use Rattle.detect.specs.Internal.{Below}
-use Rattle.detect.proofs.Rows.{below_none, below-part}
 use Rattle.detect.proofs.searching.blocks_below.Given as goal
 
 abbrev pub invariant-loop-i : goal.invariant-loop-i

@@ -1,5 +1,5 @@
 -- `detect::searching::cells_passed` meets its contract: the cells before the lowest mark are passed over. Assumes nothing.
-use Rattle.std.proofs.Common.{◌+◌, ◌-◌, ◌^◌, ◌≤◌, refl, ◌∙◌, one-mul, arith, pow_mono, shl_exact, rules}
+use Rattle.std.proofs.Common.{◌+◌, ◌^◌, refl, ◌∙◌, one-mul, arith, pow_mono, shl_exact}
 use lib.Count.{trailing_le}
 use Rattle.detect.specs.Internal.{Passed}
 use Rattle.detect.proofs.Passing.{without-mark}

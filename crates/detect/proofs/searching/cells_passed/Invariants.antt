@@ -1,8 +1,6 @@
-use Rattle.std.proofs.Common.{◌+◌, ◌-◌, ◌^◌, ◌≤◌, refl, ◌∙◌, one-mul, arith, pow_mono, shl_exact, rules}
-use lib.Count.{trailing_le}
+use Rattle.std.proofs.Common.{◌+◌, ◌-◌, ◌≤◌}
 use Rattle.detect.specs.Internal.{Passed}
-use Rattle.detect.proofs.Passing.{without-mark}
-use Rattle.detect.proofs.Marks.{Marked, marked-none, marked_next, marked_all}
+use Rattle.detect.proofs.Marks.{Marked}
 use Rattle.detect.proofs.searching.cells_passed.Given as goal
 
 abbrev pub invariant-loop-i : goal.invariant-loop-i

@@ -1,6 +1,5 @@
 -- `detect::searching::count_low` meets its contract: what is counted and the count from i on make the whole count. Assumes nothing.
-use Rattle.std.proofs.Common.{◌-◌, length, ⊎_elim, rules}
-use Rattle.lists.proofs.Scan.{CountTo, count-start, count-hit, count-miss, count-end}
+use Rattle.lists.proofs.Scan.{count-start, count-hit, count-miss, count-end}
 use Rattle.detect.specs.Peaks.{is_low}
 use Rattle.detect.proofs.searching.count_low.Goals as goal
 use Rattle.detect.proofs.searching.count_low.Goals.{then-cells-i, else-cells-i}

@@ -1,5 +1,5 @@
-use Rattle.std.proofs.Common.{◌-◌, length, ⊎_elim, rules}
-use Rattle.lists.proofs.Scan.{CountTo, count-start, count-hit, count-miss, count-end}
+use Rattle.std.proofs.Common.{◌-◌, length}
+use Rattle.lists.proofs.Scan.{CountTo}
 use Rattle.detect.specs.Peaks.{is_low}
 use Rattle.detect.proofs.searching.count_low.Given as goal
 

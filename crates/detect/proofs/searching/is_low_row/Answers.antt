@@ -1,5 +1,5 @@
 -- `detect::searching::is_low_row` meets its contract: as many cells are low as there are. Assumes nothing.
-use Rattle.std.proofs.Common.{◌*◌, ◌<◌, ◌≤◌, arith, rules, leb-true}
+use Rattle.std.proofs.Common.{◌*◌, ◌<◌, ◌≤◌, arith, leb-true}
 use mathlib.Core.Bool.{false≢true}
 use Rattle.lists.specs.Limits.{largest_map}
 use Rattle.detect.proofs.Cells.{row_in, row_small}

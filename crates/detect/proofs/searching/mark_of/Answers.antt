@@ -1,5 +1,4 @@
 -- `detect::searching::mark_of` meets its contract. Assumes nothing.
-use Rattle.std.proofs.Common.{◌≡◌, Bool, true, false, cond, ◌||◌, sym, ap, ◌∙◌, rules}
 use Rattle.detect.proofs.searching.mark_of.Goals as goal
 
 pub returns-then-v-t : goal.returns-then-v-t

@@ -1,6 +1,6 @@
 -- `detect::searching::may_be_peak` meets its contract: a cell at or below the threshold is no peak, nor is an overtopped one. Assumes
 -- nothing.
-use Rattle.std.proofs.Common.{◌≡◌, sym, ap, ◌∙◌, rules}
+use Rattle.std.proofs.Common.{sym, ap, ◌∙◌}
 use borrow.Author.Tests.{not-false}
 use lib.Ieee.{Float, le}
 use Rattle.detect.proofs.Passing.{low-peak, beaten-peak}

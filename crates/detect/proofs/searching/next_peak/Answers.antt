@@ -1,7 +1,7 @@
 -- `detect::searching::next_peak` meets its contract: the places passed over are no peaks. Assumes nothing.
-use Rattle.std.proofs.Common.{◌+◌, ◌-◌, ◌*◌, arith, rules}
+use Rattle.std.proofs.Common.{◌+◌, arith}
 use borrow.Author.Tests.{not-false}
-use Rattle.detect.specs.Internal.{place, LowRows}
+use Rattle.detect.specs.Internal.{place}
 use Rattle.detect.proofs.Scanning.{Passed, passed_none, passed-skip, passed-inside, passed-cell, passed-peak}
 use Rattle.detect.proofs.Scanning.{passed-row, passed-all}
 use Rattle.detect.proofs.Rows.{low-none, low-fewer, low-more}

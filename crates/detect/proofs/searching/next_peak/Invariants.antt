@@ -1,9 +1,6 @@
-use Rattle.std.proofs.Common.{◌+◌, ◌-◌, ◌*◌, arith, rules}
-use borrow.Author.Tests.{not-false}
+use Rattle.std.proofs.Common.{◌+◌, ◌-◌, ◌*◌}
 use Rattle.detect.specs.Internal.{place, LowRows}
-use Rattle.detect.proofs.Scanning.{Passed, passed_none, passed-skip, passed-inside, passed-cell, passed-peak}
-use Rattle.detect.proofs.Scanning.{passed-row, passed-all}
-use Rattle.detect.proofs.Rows.{low-none, low-fewer, low-more}
+use Rattle.detect.proofs.Scanning.{Passed}
 use Rattle.detect.proofs.searching.next_peak.Given as goal
 
 abbrev pub invariant-loop-y : goal.invariant-loop-y

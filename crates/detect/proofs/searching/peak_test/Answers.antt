@@ -1,5 +1,5 @@
 -- `detect::searching::peak_test` meets its contract, test by test. Assumes nothing.
-use Rattle.std.proofs.Common.{◌≡◌, refl, ap, ◌∙◌, arith, rules}
+use Rattle.std.proofs.Common.{◌≡◌, refl, ap, ◌∙◌, arith}
 use Rattle.detect.specs.Peaks.{ties_of}
 use Rattle.detect.specs.Detect.{neighbours_at}
 use Rattle.detect.specs.Internal.{place}

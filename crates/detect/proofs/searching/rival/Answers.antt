@@ -1,5 +1,5 @@
 -- `detect::searching::rival` meets its contract. Assumes nothing.
-use Rattle.std.proofs.Common.{◌≡◌, true, false, sym, refl, ◌∙◌, rules}
+use Rattle.std.proofs.Common.{sym, refl, ◌∙◌}
 use mathlib.Core.Bool.{false≢true}
 use Rattle.detect.proofs.searching.rival.Goals as goal
 

@@ -1,5 +1,5 @@
 -- `detect::searching::skip` meets its contract: cells are passed over run by run, and at the end of the row cell by cell. Assumes nothing.
-use Rattle.std.proofs.Common.{arith, rules}
+use Rattle.std.proofs.Common.{arith}
 use Rattle.detect.proofs.Rows.{skipped-none, skipped-on, skipped-low}
 use Rattle.detect.proofs.searching.skip.Goals as goal
 

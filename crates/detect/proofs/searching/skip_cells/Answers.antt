@@ -1,6 +1,6 @@
 -- `detect::searching::skip_cells` meets its contract: the cells passed over are no peaks. Assumes nothing.
-use Rattle.std.proofs.Common.{◌-◌, arith, rules}
-use Rattle.detect.specs.Internal.{place, Inside, PlacesSkipped}
+use Rattle.std.proofs.Common.{arith}
+use Rattle.detect.specs.Internal.{place, Inside}
 use Rattle.detect.proofs.Rows.{skipped-none, skipped-cell}
 use Rattle.detect.proofs.searching.skip_cells.Goals as goal
 use Rattle.detect.proofs.searching.skip_cells.Goals.{In-loop-x}

@@ -1,6 +1,5 @@
-use Rattle.std.proofs.Common.{◌-◌, arith, rules}
-use Rattle.detect.specs.Internal.{place, Inside, PlacesSkipped}
-use Rattle.detect.proofs.Rows.{skipped-none, skipped-cell}
+use Rattle.std.proofs.Common.{◌-◌}
+use Rattle.detect.specs.Internal.{place, PlacesSkipped}
 use Rattle.detect.proofs.searching.skip_cells.Given as goal
 
 abbrev pub invariant-loop-x : goal.invariant-loop-x

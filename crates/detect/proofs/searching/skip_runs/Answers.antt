@@ -1,6 +1,6 @@
 -- `detect::searching::skip_runs` meets its contract: runs at or below the threshold are skipped, and of the next run the cells that are
 -- passed over. Assumes nothing.
-use Rattle.std.proofs.Common.{◌≡◌, ℕ, ◌+◌, ◌-◌, ◌*◌, ◌<◌, ◌≤◌, subst, arith, rules}
+use Rattle.std.proofs.Common.{◌≡◌, ℕ, ◌+◌, ◌-◌, ◌*◌, ◌<◌, ◌≤◌, subst, arith}
 use Rattle.lists.specs.Limits.{largest_map}
 use Rattle.detect.specs.Internal.{place, run_cells, PlacesSkipped}
 use Rattle.detect.proofs.Cells.{row_in, row_small}

@@ -1,9 +1,5 @@
-use Rattle.std.proofs.Common.{◌≡◌, ℕ, ◌+◌, ◌-◌, ◌*◌, ◌<◌, ◌≤◌, subst, arith, rules}
-use Rattle.lists.specs.Limits.{largest_map}
-use Rattle.detect.specs.Internal.{place, run_cells, PlacesSkipped}
-use Rattle.detect.proofs.Cells.{row_in, row_small}
-use Rattle.detect.proofs.Passing.{run_in, run-skipped}
-use Rattle.detect.proofs.Rows.{below-few, skipped-none, skipped-below, skipped-on}
+use Rattle.std.proofs.Common.{◌-◌, ◌≤◌}
+use Rattle.detect.specs.Internal.{place, PlacesSkipped}
 use Rattle.detect.proofs.searching.skip_runs.Given as goal
 
 abbrev pub invariant-loop-x : goal.invariant-loop-x

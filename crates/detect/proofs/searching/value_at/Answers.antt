@@ -1,5 +1,5 @@
 -- `detect::searching::value_at` meets its contract: the cell lies in the map. Assumes nothing.
-use Rattle.std.proofs.Common.{arith, rules}
+use Rattle.std.proofs.Common.{arith}
 use Rattle.detect.proofs.Cells.{cell_in, cell-small}
 use Rattle.detect.proofs.searching.value_at.Goals as goal
 

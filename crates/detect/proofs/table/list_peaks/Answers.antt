@@ -1,8 +1,7 @@
 -- `detect::table::list_peaks` meets its contract: what the search finds is the next in the table. Assumes nothing.
-use Rattle.std.proofs.Common.{◌≡◌, ◌-◌, length, set, refl, ◌∙◌, arith, length-set, rules}
-use Rattle.detect.specs.Internal.{place}
+use Rattle.std.proofs.Common.{◌≡◌, length, set, refl, ◌∙◌, arith, length-set}
 use Rattle.detect.proofs.Scanning.{next-inside}
-use Rattle.detect.proofs.FirstPeaks.{Listing, found-small, listing-first, listing-put, listing-next}
+use Rattle.detect.proofs.FirstPeaks.{found-small, listing-first, listing-put, listing-next}
 use Rattle.detect.proofs.table.list_peaks.Goals as goal
 use Rattle.detect.proofs.table.list_peaks.Goals.{After-number_of}
 

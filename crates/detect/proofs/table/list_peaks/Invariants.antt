@@ -1,7 +1,6 @@
-use Rattle.std.proofs.Common.{◌≡◌, ◌-◌, length, set, refl, ◌∙◌, arith, length-set, rules}
+use Rattle.std.proofs.Common.{◌≡◌, ◌-◌, length}
 use Rattle.detect.specs.Internal.{place}
-use Rattle.detect.proofs.Scanning.{next-inside}
-use Rattle.detect.proofs.FirstPeaks.{Listing, found-small, listing-first, listing-put, listing-next}
+use Rattle.detect.proofs.FirstPeaks.{Listing}
 use Rattle.detect.proofs.table.list_peaks.Given as goal
 
 abbrev pub invariant-loop-n : goal.invariant-loop-n

@@ -1,5 +1,5 @@
 -- `detect::table::number_of` meets its contract: the sides are at most 4,096, and a window has fewer than 2,048 cells. Assumes nothing.
-use Rattle.std.proofs.Common.{arith, rules}
+use Rattle.std.proofs.Common.{arith}
 use Rattle.detect.specs.Internal.{SpotInRange}
 use Rattle.detect.proofs.FirstPeaks.{numbered-here}
 use Rattle.detect.proofs.table.number_of.Goals as goal

@@ -1,5 +1,5 @@
 -- `detect::table::peak_at` meets its contract: the table has what the search would find. Assumes nothing.
-use Rattle.std.proofs.Common.{arith, rules}
+use Rattle.std.proofs.Common.{arith}
 use Rattle.detect.proofs.FirstPeaks.{next-taken, next-searched}
 use Rattle.detect.proofs.table.peak_at.Goals as goal
 

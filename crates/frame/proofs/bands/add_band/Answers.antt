@@ -1,9 +1,8 @@
 -- `frame::bands::add_band` meets its contract, by the laws of `InBands`. Assumes nothing.
-use Prim.Native.Nat.{ℕ, ◌-◌, ◌*◌, ◌≤◌}
+use Prim.Native.Nat.{ℕ, ◌-◌}
 use native.Mathlib.Nat.{mul_comm}
 use native.Mathlib.Omega.{arith}
-use mathlib.Core.Path.{sym, ap, ◌∙◌}
-use lib.Seq.{length-take-le}
+use mathlib.Core.Path.{ap, ◌∙◌}
 use borrow.Author.Rules.{rules}
 use Rattle.frame.proofs.InBands.{band-order, band-end, band-small, band-held, band-adds}
 use Rattle.frame.proofs.bands.add_band.Goals as goal

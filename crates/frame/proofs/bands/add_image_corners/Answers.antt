@@ -1,16 +1,11 @@
 -- `frame::bands::add_image_corners` meets its contract: a small map is one box; of a large one the corners of the rows that are complete
 -- stand first in the buffer, and their peaks' ties are summed. Assumes nothing.
-use Prim.Native.Nat.{◌-◌, ◌<◌, ◌≤◌}
+use Prim.Native.Nat.{◌<◌}
 use native.Mathlib.Omega.{arith}
-use mathlib.Core.Path.{◌≡◌, refl}
-use lib.ListN.{length}
+use mathlib.Core.Path.{refl}
 use borrow.Author.Rules.{rules}
-use Rattle.ring.specs.Ring.{ring_of}
-use Rattle.response.specs.Patch.{whole}
-use Rattle.corner_list.specs.CornerList.{slices}
-use Rattle.detect.specs.declared.Peaks.TheVariants.{Added}
-use Rattle.frame.specs.Internal.{AddsCorners, RowsHeld, Band}
-use Rattle.frame.proofs.InBands.{some-sides, rows_none, band-next, corners_to, ties_to, bands-none, bands-more, bands-full, bands-all}
+use Rattle.frame.specs.Internal.{Band}
+use Rattle.frame.proofs.InBands.{some-sides, rows_none, band-next, bands-none, bands-more, bands-full, bands-all}
 use Rattle.frame.proofs.InBands.{bands-tied}
 use Rattle.frame.proofs.bands.add_image_corners.Goals as goal
 use Rattle.frame.proofs.bands.add_image_corners.Goals.{After-lesser-e, At-loop-j}

@@ -1,15 +1,12 @@
-use Prim.Native.Nat.{◌-◌, ◌<◌, ◌≤◌}
-use native.Mathlib.Omega.{arith}
-use mathlib.Core.Path.{◌≡◌, refl}
+use Prim.Native.Nat.{◌-◌, ◌≤◌}
+use mathlib.Core.Path.{◌≡◌}
 use lib.ListN.{length}
-use borrow.Author.Rules.{rules}
 use Rattle.ring.specs.Ring.{ring_of}
 use Rattle.response.specs.Patch.{whole}
 use Rattle.corner_list.specs.CornerList.{slices}
 use Rattle.detect.specs.declared.Peaks.TheVariants.{Added}
-use Rattle.frame.specs.Internal.{AddsCorners, RowsHeld, Band}
-use Rattle.frame.proofs.InBands.{some-sides, rows_none, band-next, corners_to, ties_to, bands-none, bands-more, bands-full, bands-all}
-use Rattle.frame.proofs.InBands.{bands-tied}
+use Rattle.frame.specs.Internal.{AddsCorners, RowsHeld}
+use Rattle.frame.proofs.InBands.{corners_to, ties_to}
 use Rattle.frame.proofs.bands.add_image_corners.Given as goal
 
 abbrev pub invariant-loop-j : goal.invariant-loop-j

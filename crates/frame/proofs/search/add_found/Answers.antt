@@ -1,18 +1,13 @@
 -- `frame::search::add_found` meets its contract: with one level by `Levels`; with more the corners of the boxes of the seeds passed stand
 -- first in the buffer, and their peaks' ties are summed. Assumes nothing.
 use borrow.Author.Rules.{rules}
-use Prim.Native.Nat.{◌+◌, ◌-◌, ◌≤◌}
+use Prim.Native.Nat.{◌+◌}
 use native.Mathlib.Omega.{arith}
 use mathlib.Core.Path.{◌≡◌, refl}
-use lib.ListN.{length}
-use Rattle.lists.specs.Places.{flat_map, sum_of}
 use Rattle.lists.proofs.Tab.{length-tab}
 use Rattle.corner_list.specs.CornerList.{slices, corner_at, corners_of}
-use Rattle.detect.specs.declared.Peaks.TheVariants.{Added}
 use Rattle.patch_corners.specs.OneMap.{choice_of}
-use Rattle.frame_pass.specs.Pass.{corners_about, ties_about}
 use Rattle.frame_pass.proofs.Ties.{seeds-tied}
-use Rattle.frame.specs.Internal.{AddsCorners}
 use Rattle.frame.proofs.Adding.{adds-held, turn-none, turn_more, turn-full, turns-all, sum_fits}
 use Rattle.frame.proofs.Levels.{found-whole, found-boxes}
 use Rattle.frame.proofs.search.add_found.Goals as goal

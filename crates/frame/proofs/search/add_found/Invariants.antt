@@ -1,18 +1,12 @@
-use borrow.Author.Rules.{rules}
-use Prim.Native.Nat.{◌+◌, ◌-◌, ◌≤◌}
-use native.Mathlib.Omega.{arith}
-use mathlib.Core.Path.{◌≡◌, refl}
+use Prim.Native.Nat.{◌-◌, ◌≤◌}
+use mathlib.Core.Path.{◌≡◌}
 use lib.ListN.{length}
 use Rattle.lists.specs.Places.{flat_map, sum_of}
-use Rattle.lists.proofs.Tab.{length-tab}
-use Rattle.corner_list.specs.CornerList.{slices, corner_at, corners_of}
+use Rattle.corner_list.specs.CornerList.{slices, corners_of}
 use Rattle.detect.specs.declared.Peaks.TheVariants.{Added}
 use Rattle.patch_corners.specs.OneMap.{choice_of}
 use Rattle.frame_pass.specs.Pass.{corners_about, ties_about}
-use Rattle.frame_pass.proofs.Ties.{seeds-tied}
 use Rattle.frame.specs.Internal.{AddsCorners}
-use Rattle.frame.proofs.Adding.{adds-held, turn-none, turn_more, turn-full, turns-all, sum_fits}
-use Rattle.frame.proofs.Levels.{found-whole, found-boxes}
 use Rattle.frame.proofs.search.add_found.Given as goal
 
 abbrev pub invariant-loop-i : goal.invariant-loop-i

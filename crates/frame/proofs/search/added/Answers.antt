@@ -1,5 +1,4 @@
 -- `frame::search::added` meets its contract, by its two cases. Assumes nothing.
-use borrow.Author.Rules.{rules}
 use mathlib.Core.Path.{sym, ap}
 use Rattle.frame.specs.Internal.{added_of}
 use Rattle.frame.proofs.search.added.Goals as goal

@@ -1,5 +1,4 @@
 -- `frame::search::lists_of` meets its contract, by the answers' cases. Assumes nothing.
-use borrow.Author.Rules.{rules}
 use mathlib.Core.Path.{sym, ap, ap₂}
 use Rattle.detect.specs.declared.Peaks.{Peaks}
 use Rattle.frame.specs.Internal.{lists_of}

@@ -1,8 +1,6 @@
 -- `frame::shifting::shift` meets its contract. Assumes nothing.
-use Prim.Native.Nat.{◌-◌}
 use native.Mathlib.Omega.{arith}
-use lib.Ieee.{binary32, add}
-use Rattle.frame.proofs.Moving.{Raising, raising-none, raising-set, raising-all}
+use Rattle.frame.proofs.Moving.{raising-none, raising-set, raising-all}
 use Rattle.frame.proofs.shifting.shift.Goals as goal
 
 pub loop-i-init : goal.loop-i-init

@@ -1,7 +1,6 @@
 use Prim.Native.Nat.{◌-◌}
-use native.Mathlib.Omega.{arith}
 use lib.Ieee.{binary32, add}
-use Rattle.frame.proofs.Moving.{Raising, raising-none, raising-set, raising-all}
+use Rattle.frame.proofs.Moving.{Raising}
 use Rattle.frame.proofs.shifting.shift.Given as goal
 
 abbrev pub invariant-loop-i : goal.invariant-loop-i

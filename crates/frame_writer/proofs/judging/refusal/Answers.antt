@@ -6,7 +6,6 @@ use mathlib.Core.Bool.{true, false}
 use lib.ListN.{length}
 use lib.Dec.{eqb}
 use lib.Ieee.{binary32, of_bits}
-use borrow.Author.Rules.{rules}
 use borrow.Author.Tests.{lt-ltb, le-ltb, eq-eqb, ne_eqb}
 use Rattle.merge_radius.specs.MergeRadius.{radius_outside}
 use Rattle.frame_params.specs.Ranges.{range_outside}

@@ -1,5 +1,4 @@
 -- `frame_writer::records::bytes_32` meets its contract: half by half. Assumes nothing.
-use borrow.Author.Rules.{rules}
 use Rattle.frame_writer.proofs.records.bytes_32.Goals as goal
 
 pub returns : goal.returns

@@ -1,6 +1,5 @@
 -- `frame_writer::records::head_of` meets its contract: the bytes of each field. Assumes nothing.
 use native.Mathlib.Omega.{arith}
-use borrow.Author.Rules.{rules}
 use Rattle.frame_writer.proofs.records.head_of.Goals as goal
 
 pub overflow_cast-result-6 : goal.overflow_cast-result-6

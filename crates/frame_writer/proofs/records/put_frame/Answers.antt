@@ -3,7 +3,6 @@ use native.Mathlib.Omega.{arith}
 use mathlib.Core.Path.{sym, ap, ◌∙◌}
 use lib.ListN.{length}
 use lib.Seq.{length-take-le}
-use borrow.Author.Rules.{rules}
 use Rattle.frame_writer.proofs.Bytes.{frame-long}
 use Rattle.frame_writer.proofs.Filled.{head-stands, frame-stands}
 use Rattle.frame_writer.proofs.records.put_frame.Goals as goal

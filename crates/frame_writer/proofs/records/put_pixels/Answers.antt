@@ -1,11 +1,7 @@
 -- `frame_writer::records::put_pixels` meets its contract. The invariant: the bytes passed stand first. Assumes nothing.
-use Prim.Native.Nat.{◌-◌, ◌≤◌}
 use native.Mathlib.Omega.{arith}
-use lib.ListN.{length}
 use mathlib.Core.Path.{refl}
-use Rattle.lists.proofs.Tab.{Prefix, prefix-none, prefix-set, prefix-all}
-use Rattle.frame_writer.specs.Internal.{record_byte}
-use borrow.Author.Rules.{rules}
+use Rattle.lists.proofs.Tab.{prefix-none, prefix-set, prefix-all}
 use Rattle.frame_writer.proofs.records.put_pixels.Goals as goal
 
 pub loop-j-init : goal.loop-j-init

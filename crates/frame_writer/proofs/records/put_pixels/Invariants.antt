@@ -1,10 +1,7 @@
 use Prim.Native.Nat.{◌-◌, ◌≤◌}
-use native.Mathlib.Omega.{arith}
 use lib.ListN.{length}
-use mathlib.Core.Path.{refl}
-use Rattle.lists.proofs.Tab.{Prefix, prefix-none, prefix-set, prefix-all}
+use Rattle.lists.proofs.Tab.{Prefix}
 use Rattle.frame_writer.specs.Internal.{record_byte}
-use borrow.Author.Rules.{rules}
 use Rattle.frame_writer.proofs.records.put_pixels.Given as goal
 
 abbrev pub invariant-loop-j : goal.invariant-loop-j

@@ -1,7 +1,6 @@
 -- `frame_writer::records::record_byte` meets its contract, return by return. Assumes nothing.
 use mathlib.Core.Path.{sym}
 use lib.ListN.{get_or-eq_default}
-use borrow.Author.Rules.{rules}
 use borrow.Author.Tests.{eq-eqb, ne_eqb}
 use Rattle.frame_writer.specs.Internal.{record_byte}
 use Rattle.frame_writer.proofs.records.record_byte.Goals as goal

@@ -1,9 +1,6 @@
-use borrow.Author.Rules.{rules}
 use Prim.Native.Nat.{◌-◌, ◌≤◌}
-use native.Mathlib.Omega.{arith}
 use Rattle.corner_list.specs.CornerList.{slices}
-use Rattle.merge.proofs.Copying.{Copied, copied_none, copied-xs, copied-ys, copied-strengths, copied-neighbours, copied_more}
-use Rattle.merge.proofs.Copying.{copied_all}
+use Rattle.merge.proofs.Copying.{Copied}
 use Rattle.merge.proofs.apart.copy_list.Given as goal
 
 abbrev pub invariant-loop-i : goal.invariant-loop-i

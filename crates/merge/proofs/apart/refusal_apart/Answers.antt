@@ -1,5 +1,4 @@
 -- `merge::apart::refusal_apart` meets its contract. Assumes nothing.
-use borrow.Author.Rules.{rules}
 use borrow.Author.Tests.{lt-ltb, le-ltb}
 use Rattle.merge.proofs.Separate.{or-else-first, or-else-next}
 use Rattle.merge.proofs.apart.refusal_apart.Goals as goal

@@ -1,8 +1,6 @@
 -- `merge_settle::index::clear` meets its contract: it keeps the table's length. Assumes nothing.
-use Prim.Native.Nat.{◌-◌}
 use native.Mathlib.Omega.{arith}
-use mathlib.Core.Path.{◌≡◌}
-use lib.ListN.{length, length-set}
+use lib.ListN.{length-set}
 use Rattle.merge_settle.proofs.index.clear.Goals as goal
 
 pub loop-p-preserved : goal.loop-p-preserved

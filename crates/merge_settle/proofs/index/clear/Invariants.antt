@@ -1,7 +1,6 @@
 use Prim.Native.Nat.{◌-◌}
-use native.Mathlib.Omega.{arith}
 use mathlib.Core.Path.{◌≡◌}
-use lib.ListN.{length, length-set}
+use lib.ListN.{length}
 use Rattle.merge_settle.proofs.index.clear.Given as goal
 
 abbrev pub invariant-loop-p : goal.invariant-loop-p

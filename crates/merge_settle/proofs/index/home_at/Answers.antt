@@ -1,5 +1,4 @@
 -- `merge_settle::index::home_at` meets its contract. Assumes nothing.
-use borrow.Author.Rules.{rules}
 use mathlib.Core.Path.{ap, ap₂, ◌∙◌}
 use Rattle.merge_settle.specs.Internal.{pair_of, home_of}
 use Rattle.merge_settle.proofs.index.home_at.Goals as goal

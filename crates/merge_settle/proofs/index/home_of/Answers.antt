@@ -1,5 +1,4 @@
 -- `merge_settle::index::home_of` meets its contract; the square of a number below 2^32 fits. Assumes nothing.
-use borrow.Author.Rules.{rules}
 use Prim.Native.Nat.{ℕ, ◌*◌, ◌%◌, ◌<◌, ◌≤◌}
 use native.Mathlib.Nat.{mul-le-mul}
 use native.Mathlib.Omega.{arith}

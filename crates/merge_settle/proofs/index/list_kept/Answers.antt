@@ -1,10 +1,5 @@
 -- `merge_settle::index::list_kept` meets its contract: the corners passed are indexed. Assumes nothing.
-use borrow.Author.Rules.{rules}
-use Prim.Native.Nat.{◌-◌}
-use native.Mathlib.Omega.{arith}
-use mathlib.Core.Path.{◌≡◌, refl, ◌∙◌}
-use lib.ListN.{length}
-use Rattle.merge_settle.specs.Internal.{slots_of, Indexed}
+use mathlib.Core.Path.{refl, ◌∙◌}
 use Rattle.merge_settle.proofs.Slots.{some-slots, some-floats}
 use Rattle.merge_settle.proofs.Indexing.{indexed-none, indexed-turn, indexed-fewer}
 use Rattle.merge_settle.proofs.index.list_kept.Goals as goal

@@ -1,11 +1,7 @@
-use borrow.Author.Rules.{rules}
 use Prim.Native.Nat.{◌-◌}
-use native.Mathlib.Omega.{arith}
-use mathlib.Core.Path.{◌≡◌, refl, ◌∙◌}
+use mathlib.Core.Path.{◌≡◌}
 use lib.ListN.{length}
 use Rattle.merge_settle.specs.Internal.{slots_of, Indexed}
-use Rattle.merge_settle.proofs.Slots.{some-slots, some-floats}
-use Rattle.merge_settle.proofs.Indexing.{indexed-none, indexed-turn, indexed-fewer}
 use Rattle.merge_settle.proofs.index.list_kept.Given as goal
 
 abbrev pub invariant-loop-i : goal.invariant-loop-i

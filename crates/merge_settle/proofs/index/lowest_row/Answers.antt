@@ -1,7 +1,4 @@
 -- `merge_settle::index::lowest_row` is safe and ends; what it finds is only a hint. Assumes nothing.
-use borrow.Author.Rules.{rules}
-use Prim.Native.Nat.{◌-◌}
-use native.Mathlib.Omega.{arith}
 use Rattle.merge_settle.proofs.index.lowest_row.Goals as goal
 
 pub loop-i-init : goal.loop-i-init

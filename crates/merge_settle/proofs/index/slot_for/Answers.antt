@@ -1,12 +1,10 @@
 -- `merge_settle::index::slot_for` meets its contract: the slots passed are not empty. Assumes nothing.
 use borrow.Author.Count.{below_more}
-use Prim.Native.Nat.{ℕ, ◌-◌, ◌<◌, ◌≤◌}
 use native.Mathlib.Omega.{arith}
 use mathlib.Core.Path.{◌≡◌, sym, ◌∙◌}
 use mathlib.Core.Logic.{inl, inr}
-use lib.ListN.{length, get_or}
-use borrow.Author.Rules.{rules}
-use Rattle.merge_settle.specs.Internal.{slots_of, empty}
+use lib.ListN.{get_or}
+use Rattle.merge_settle.specs.Internal.{slots_of}
 use Rattle.merge_settle.proofs.Slots.{slot_is, slots-long}
 use Rattle.merge_settle.proofs.index.slot_for.Goals as goal
 use Rattle.merge_settle.proofs.index.slot_for.Goals.{After-to_bits-i}

@@ -1,12 +1,7 @@
-use borrow.Author.Count.{below_more}
 use Prim.Native.Nat.{ℕ, ◌-◌, ◌<◌, ◌≤◌}
-use native.Mathlib.Omega.{arith}
-use mathlib.Core.Path.{◌≡◌, sym, ◌∙◌}
-use mathlib.Core.Logic.{inl, inr}
+use mathlib.Core.Path.{◌≡◌}
 use lib.ListN.{length, get_or}
-use borrow.Author.Rules.{rules}
 use Rattle.merge_settle.specs.Internal.{slots_of, empty}
-use Rattle.merge_settle.proofs.Slots.{slot_is, slots-long}
 use Rattle.merge_settle.proofs.index.slot_for.Given as goal
 
 abbrev pub invariant-loop-p : goal.invariant-loop-p

@@ -1,10 +1,6 @@
-use borrow.Author.Rules.{rules}
-use borrow.Author.Count.{below_none, below_more}
 use Prim.Native.Nat.{ℕ, ◌-◌, ◌<◌, ◌≤◌}
-use native.Mathlib.Omega.{arith}
-use mathlib.Core.Path.{◌≡◌, sym, ap, ◌∙◌}
-use mathlib.Core.Bool.{true, false≢true}
-use Rattle.merge_grid.specs.Grid.{meets}
+use mathlib.Core.Path.{◌≡◌}
+use mathlib.Core.Bool.{true}
 use Rattle.merge_settle.specs.Internal.{joins_at}
 use Rattle.merge_settle.proofs.search.first_joined.Given as goal
 

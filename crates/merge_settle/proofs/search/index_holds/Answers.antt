@@ -1,5 +1,4 @@
 -- `merge_settle::search::index_holds` meets its contract. Assumes nothing.
-use borrow.Author.Rules.{rules}
 use mathlib.Core.Bool.{false≢true}
 use Rattle.merge_settle.proofs.search.index_holds.Goals as goal
 

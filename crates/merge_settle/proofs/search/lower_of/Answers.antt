@@ -1,5 +1,4 @@
 -- `merge_settle::search::lower_of` meets its contract. Assumes nothing.
-use borrow.Author.Rules.{rules}
 use mathlib.Core.Path.{◌≡◌, sym, ap, ◌∙◌}
 use Rattle.merge_grid.specs.Grid.{meets}
 use Rattle.merge_settle.specs.Internal.{joins_at}

@@ -1,12 +1,10 @@
 -- `merge_settle::search::lowest_from` meets its contract: `low` is the lowest of the slots passed, up to an empty one or the end. Assumes
 -- nothing.
-use borrow.Author.Rules.{rules}
-use Prim.Native.Nat.{◌-◌, ◌≤◌}
 use native.Mathlib.Omega.{arith}
 use mathlib.Core.Path.{◌≡◌, ◌∙◌}
-use lib.ListN.{length, get_or}
-use Rattle.merge_settle.specs.Internal.{joins_at, slots_of}
-use Rattle.merge_settle.proofs.First.{Looking, looking-none, looking-read, looking-empty, looking-end}
+use lib.ListN.{get_or}
+use Rattle.merge_settle.specs.Internal.{slots_of}
+use Rattle.merge_settle.proofs.First.{looking-none, looking-read, looking-empty, looking-end}
 use Rattle.merge_settle.proofs.Slots.{slot_is, slots-long}
 use Rattle.merge_settle.proofs.search.lowest_from.Goals as goal
 use Rattle.merge_settle.proofs.search.lowest_from.Goals.{After-to_bits-i}

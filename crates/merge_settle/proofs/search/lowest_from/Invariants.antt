@@ -1,13 +1,8 @@
-use borrow.Author.Rules.{rules}
 use Prim.Native.Nat.{◌-◌, ◌≤◌}
-use native.Mathlib.Omega.{arith}
-use mathlib.Core.Path.{◌≡◌, ◌∙◌}
-use mathlib.Core.List.{List}
-use lib.ListN.{length, get_or}
-use lib.Ieee.{Float}
+use mathlib.Core.Path.{◌≡◌}
+use lib.ListN.{length}
 use Rattle.merge_settle.specs.Internal.{joins_at, slots_of}
-use Rattle.merge_settle.proofs.First.{Looking, looking-none, looking-read, looking-empty, looking-end}
-use Rattle.merge_settle.proofs.Slots.{slot_is, slots-long}
+use Rattle.merge_settle.proofs.First.{Looking}
 use Rattle.merge_settle.proofs.search.lowest_from.Given as goal
 
 abbrev pub invariant-loop-slot : goal.invariant-loop-slot

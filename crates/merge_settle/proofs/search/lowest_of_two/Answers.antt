@@ -1,5 +1,4 @@
 -- `merge_settle::search::lowest_of_two` meets its contract. Assumes nothing.
-use borrow.Author.Rules.{rules}
 use native.Mathlib.Omega.{arith}
 use Rattle.merge_settle.proofs.First.{among_two}
 use Rattle.merge_settle.proofs.Slots.{home-in, home-slots}

@@ -1,5 +1,4 @@
 -- `merge_settle::search::place_for` meets its contract: c is new, stronger than the first that it joins, or not. Assumes nothing.
-use borrow.Author.Rules.{rules}
 use native.Mathlib.Omega.{arith}
 use mathlib.Core.Path.{subst}
 use Rattle.corner_list.specs.CornerList.{slices, corner_at}

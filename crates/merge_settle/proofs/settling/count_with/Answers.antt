@@ -1,5 +1,4 @@
 -- `merge_settle::settling::count_with` meets its contract. Assumes nothing.
-use borrow.Author.Rules.{rules}
 use borrow.Author.Tests.{eq-eqb, ne_eqb}
 use Rattle.merge_settle.proofs.settling.count_with.Goals as goal
 

@@ -1,5 +1,4 @@
 -- `merge_settle::settling::given_at` meets its contract. Assumes nothing.
-use borrow.Author.Rules.{rules}
 use Rattle.merge_settle.proofs.Stepping.{given-apart, given-here}
 use Rattle.merge_settle.proofs.settling.given_at.Goals as goal
 

@@ -1,14 +1,8 @@
 -- `merge_settle::settling::merge_with` meets its contract: each turn settles the next corner, and the kept ones stay indexed. Assumes
 -- nothing.
-use borrow.Author.Rules.{rules}
-use Prim.Native.Nat.{◌-◌}
 use native.Mathlib.Omega.{arith}
-use mathlib.Core.Path.{◌≡◌, refl}
+use mathlib.Core.Path.{refl}
 use mathlib.Core.Logic.{inr}
-use lib.ListN.{length}
-use Rattle.corner_list.specs.CornerList.{slices}
-use Rattle.merge_grid.specs.Grid.{joins}
-use Rattle.merge_settle.specs.Internal.{slots_of, Indexed, step, StepAfter}
 use Rattle.merge_settle.proofs.Stepping.{stepped-none, stepped-xs, stepped-ys, stepped-strengths, stepped-neighbours, stepped-fits}
 use Rattle.merge_settle.proofs.Stepping.{stepped-turn}
 use Rattle.merge_settle.proofs.Stepping.{stops_end}

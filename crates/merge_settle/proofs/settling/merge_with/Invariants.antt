@@ -1,15 +1,9 @@
-use borrow.Author.Rules.{rules}
 use Prim.Native.Nat.{◌-◌}
-use native.Mathlib.Omega.{arith}
-use mathlib.Core.Path.{◌≡◌, refl}
-use mathlib.Core.Logic.{inr}
+use mathlib.Core.Path.{◌≡◌}
 use lib.ListN.{length}
 use Rattle.corner_list.specs.CornerList.{slices}
 use Rattle.merge_grid.specs.Grid.{joins}
 use Rattle.merge_settle.specs.Internal.{slots_of, Indexed, step, StepAfter}
-use Rattle.merge_settle.proofs.Stepping.{stepped-none, stepped-xs, stepped-ys, stepped-strengths, stepped-neighbours, stepped-fits}
-use Rattle.merge_settle.proofs.Stepping.{stepped-turn}
-use Rattle.merge_settle.proofs.Stepping.{stops_end}
 use Rattle.merge_settle.proofs.settling.merge_with.Given as goal
 
 abbrev pub invariant-loop-i : goal.invariant-loop-i

@@ -1,5 +1,4 @@
 -- `merge_settle::settling::settle_corner` meets its contract: put in the place that it takes, and listed. Assumes nothing.
-use borrow.Author.Rules.{rules}
 use native.Mathlib.Omega.{arith}
 use Rattle.corner_list.specs.CornerList.{slices}
 use Rattle.merge_settle.proofs.Settle.{settled-put}

@@ -1,7 +1,6 @@
 -- `multiscale::RoiContext::border` meets its contract. Assumes nothing.
 use native.Mathlib.Omega.{arith}
 use Rattle.multiscale.proofs.Contexts.{border-small}
-use borrow.Author.Rules.{rules}
 use Rattle.multiscale.proofs.RoiContext.border.Goals as goal
 
 pub overflow_add-result : goal.overflow_add-result

@@ -1,10 +1,8 @@
 -- `RoiContext::compute_roi` meets its contract: refused, no box, or a box. Assumes nothing.
 use mathlib.Core.Path.{sym, ◌∙◌}
-use Rattle.multiscale.specs.Multiscale.{refusal_of}
 use Rattle.multiscale.specs.Internal.{SoundContext}
 use Rattle.multiscale.proofs.Contexts.{sound}
 use Rattle.multiscale.proofs.Promised.{refused, no-columns, no_rows, a-box}
-use borrow.Author.Rules.{rules}
 use Rattle.multiscale.proofs.RoiContext.compute_roi.Goals as goal
 use Rattle.multiscale.proofs.RoiContext.compute_roi.Goals.{Else-number-ne0}
 

@@ -1,7 +1,6 @@
 -- `multiscale::RoiContext::parameters_fit` meets its contract, test by test. Assumes nothing.
 use borrow.Author.Tests.{le-leb, lt-leb}
 use Rattle.multiscale.specs.Multiscale.{parameters_fit}
-use borrow.Author.Rules.{rules}
 use Rattle.multiscale.proofs.RoiContext.parameters_fit.Goals as goal
 
 pub returns-then-self-gt-LARGEST_RADIUS : goal.returns-then-self-gt-LARGEST_RADIUS

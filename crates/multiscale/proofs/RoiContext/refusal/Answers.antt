@@ -1,7 +1,6 @@
 -- `multiscale::RoiContext::refusal` meets its contract, test by test. Assumes nothing.
 use mathlib.Core.Path.{sym, ◌∙◌}
 use Rattle.multiscale.proofs.Contexts.{large, unfit, outside, none}
-use borrow.Author.Rules.{rules}
 use Rattle.multiscale.proofs.RoiContext.refusal.Goals as goal
 
 pub returns-then-is_large : goal.returns-then-is_large

@@ -2,7 +2,6 @@
 use native.Mathlib.Omega.{arith}
 use Rattle.multiscale.specs.Multiscale.{roi_radius}
 use Rattle.multiscale.proofs.Contexts.{search-shifted}
-use borrow.Author.Rules.{rules}
 use Rattle.multiscale.proofs.RoiContext.roi_radius.Goals as goal
 
 pub returns-then-search-least : goal.returns-then-search-least

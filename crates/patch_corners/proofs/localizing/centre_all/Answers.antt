@@ -1,12 +1,8 @@
 -- `patch_corners::localizing::centre_all` meets its contract. Assumes nothing.
-use borrow.Author.Rules.{rules}
-use Prim.Native.Nat.{◌-◌}
 use native.Mathlib.Omega.{arith}
 use mathlib.Core.Path.{ap, ◌∙◌}
-use Rattle.corner_list.specs.CornerList.{slices}
 use Rattle.patch_corners.specs.MapCorners.{centred}
-use Rattle.patch_corners.specs.Internal.{lowered}
-use Rattle.patch_corners.proofs.Changing.{Changing, changing-none, changing-put, changing-all}
+use Rattle.patch_corners.proofs.Changing.{changing-none, changing-put, changing-all}
 use Rattle.patch_corners.proofs.Changing.{changing-xs, changing-ys, changing-strengths, changing-neighbours}
 use Rattle.patch_corners.proofs.localizing.centre_all.Goals as goal
 

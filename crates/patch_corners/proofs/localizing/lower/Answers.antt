@@ -2,7 +2,6 @@
 use native.Mathlib.Omega.{arith}
 use lib.Dec.{le→leb}
 use lib.Ieee.{in_float}
-use borrow.Author.Rules.{rules}
 use Rattle.patch_corners.proofs.localizing.lower.Goals as goal
 
 pub int_to_float-result : goal.int_to_float-result

@@ -1,6 +1,5 @@
 -- `pgm::header::begins_digit` meets its contract: nothing stands past the end, and else the byte at the place. Assumes nothing.
 use mathlib.Core.Path.{sym, ◌∙◌}
-use borrow.Author.Rules.{rules}
 use Rattle.pgm.proofs.Scanning.{begins-end, begins-here}
 use Rattle.pgm.proofs.header.begins_digit.Goals as goal
 

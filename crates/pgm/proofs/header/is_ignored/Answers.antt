@@ -1,5 +1,4 @@
 -- `pgm::header::is_ignored` meets its contract, arm by arm. Assumes nothing.
-use borrow.Author.Rules.{rules}
 use Rattle.pgm.proofs.header.is_ignored.Goals as goal
 
 pub returns-else-inside : goal.returns-else-inside

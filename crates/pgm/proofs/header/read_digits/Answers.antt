@@ -1,13 +1,10 @@
 -- `pgm::header::read_digits` meets its contract. The invariant: the digits from this place on behind the number so far give the number of
 -- all. Assumes nothing.
-use Prim.Native.Nat.{◌-◌}
 use native.Mathlib.Omega.{arith}
-use lib.ListN.{length}
 use mathlib.Core.Path.{sym, ◌∙◌}
-use borrow.Author.Rules.{rules}
 use borrow.Author.Tests.{not-true, not-false}
 use Rattle.pgm.proofs.Characters.{digit-least}
-use Rattle.pgm.proofs.Numbers.{Reading, reading-none, reading-next, reading-stops, reading-ends}
+use Rattle.pgm.proofs.Numbers.{reading-none, reading-next, reading-stops, reading-ends}
 use Rattle.pgm.proofs.header.read_digits.Goals as goal
 
 pub loop-at-init : goal.loop-at-init

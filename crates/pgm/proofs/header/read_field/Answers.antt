@@ -1,5 +1,4 @@
 -- `pgm::header::read_field` meets its contract. Assumes nothing.
-use borrow.Author.Rules.{rules}
 use Rattle.pgm.proofs.Fields.{field-read}
 use Rattle.pgm.proofs.header.read_field.Goals as goal
 

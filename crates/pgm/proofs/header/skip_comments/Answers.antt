@@ -1,10 +1,7 @@
 -- `pgm::header::skip_comments` meets its contract. The invariant: what is left from this place on is what was left at first. Assumes
 -- nothing.
-use Prim.Native.Nat.{◌-◌}
-use lib.ListN.{length}
-use borrow.Author.Rules.{rules}
 use borrow.Author.Tests.{not-true, not-false}
-use Rattle.pgm.proofs.Scanning.{Skipping, skipping-none, skipping-next, skipping-stops, skipping-ends}
+use Rattle.pgm.proofs.Scanning.{skipping-none, skipping-next, skipping-stops, skipping-ends}
 use Rattle.pgm.proofs.header.skip_comments.Goals as goal
 
 pub loop-at-init : goal.loop-at-init

@@ -1,8 +1,6 @@
 use Prim.Native.Nat.{◌-◌}
 use lib.ListN.{length}
-use borrow.Author.Rules.{rules}
-use borrow.Author.Tests.{not-true, not-false}
-use Rattle.pgm.proofs.Scanning.{Skipping, skipping-none, skipping-next, skipping-stops, skipping-ends}
+use Rattle.pgm.proofs.Scanning.{Skipping}
 use Rattle.pgm.proofs.header.skip_comments.Given as goal
 
 abbrev pub invariant-loop-at : goal.invariant-loop-at

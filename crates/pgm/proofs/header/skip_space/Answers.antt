@@ -1,12 +1,8 @@
 -- `pgm::header::skip_space` meets its contract. The invariant: what is behind the whitespace from this place on is what is behind it from
 -- the first. Assumes nothing.
-use Prim.Native.Nat.{◌-◌}
 use native.Mathlib.Omega.{arith}
-use lib.ListN.{length}
-use borrow.Author.Rules.{rules}
 use borrow.Author.Tests.{not-true, not-false}
-use Rattle.pgm.specs.Header.{is_space}
-use Rattle.pgm.proofs.Scanning.{Passing, passing-none, passing-next, passing-stops, passing-ends}
+use Rattle.pgm.proofs.Scanning.{passing-none, passing-next, passing-stops, passing-ends}
 use Rattle.pgm.proofs.header.skip_space.Goals as goal
 
 pub loop-at-init : goal.loop-at-init

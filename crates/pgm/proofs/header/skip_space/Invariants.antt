@@ -1,10 +1,7 @@
 use Prim.Native.Nat.{◌-◌}
-use native.Mathlib.Omega.{arith}
 use lib.ListN.{length}
-use borrow.Author.Rules.{rules}
-use borrow.Author.Tests.{not-true, not-false}
 use Rattle.pgm.specs.Header.{is_space}
-use Rattle.pgm.proofs.Scanning.{Passing, passing-none, passing-next, passing-stops, passing-ends}
+use Rattle.pgm.proofs.Scanning.{Passing}
 use Rattle.pgm.proofs.header.skip_space.Given as goal
 
 abbrev pub invariant-loop-at : goal.invariant-loop-at

@@ -1,9 +1,7 @@
 -- `pyramid::halve::copy` meets its contract: the places passed hold their pixels. Assumes nothing.
-use Prim.Native.Nat.{◌-◌, ◌≤◌}
 use mathlib.Core.Path.{refl}
-use lib.ListN.{get_or}
 use borrow.Author.Rules.{rules}
-use Rattle.lists.proofs.Tab.{Prefix, prefix-none, prefix-set, prefix-all}
+use Rattle.lists.proofs.Tab.{prefix-none, prefix-set, prefix-all}
 use Rattle.pyramid.proofs.halve.copy.Goals as goal
 
 pub loop-i-init : goal.loop-i-init

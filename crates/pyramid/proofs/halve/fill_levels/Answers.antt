@@ -1,9 +1,8 @@
 -- `pyramid::halve::fill_levels` meets its contract: with level k built, levels 1 .. k stand first in the buffer. Assumes nothing.
-use Prim.Native.Nat.{◌+◌, ◌-◌, ◌*◌, ◌/◌, ◌≤◌}
+use Prim.Native.Nat.{◌+◌, ◌*◌, ◌/◌, ◌≤◌}
 use native.Mathlib.Omega.{arith}
 use lib.ListN.{length}
-use borrow.Author.Rules.{rules}
-use Rattle.pyramid.proofs.Building.{Reached, reach-base, reach-all, next_fits, level-ok, reach-next}
+use Rattle.pyramid.proofs.Building.{reach-base, reach-all, next_fits, level-ok, reach-next}
 use Rattle.pyramid.proofs.halve.fill_levels.Goals as goal
 use Rattle.pyramid.proofs.halve.fill_levels.Goals.{In-loop-k}
 

@@ -1,8 +1,5 @@
-use Prim.Native.Nat.{◌+◌, ◌-◌, ◌*◌, ◌/◌, ◌≤◌}
-use native.Mathlib.Omega.{arith}
-use lib.ListN.{length}
-use borrow.Author.Rules.{rules}
-use Rattle.pyramid.proofs.Building.{Reached, reach-base, reach-all, next_fits, level-ok, reach-next}
+use Prim.Native.Nat.{◌-◌}
+use Rattle.pyramid.proofs.Building.{Reached}
 use Rattle.pyramid.proofs.halve.fill_levels.Given as goal
 
 abbrev pub invariant-loop-k : goal.invariant-loop-k

@@ -1,11 +1,11 @@
 -- `pyramid::halve::halve` meets its contract: after y rows their half-size pixels are placed. Assumes nothing.
-use Prim.Native.Nat.{◌+◌, ◌-◌, ◌*◌, ◌/◌, ◌^◌, ◌<◌, ◌≤◌}
+use Prim.Native.Nat.{◌+◌, ◌*◌, ◌/◌, ◌^◌, ◌<◌, ◌≤◌}
 use native.Mathlib.Nat.{suc-mul}
 use native.Mathlib.Omega.{arith}
 use mathlib.Core.Path.{◌≡◌, refl}
 use lib.ListN.{length}
 use borrow.Author.Rules.{rules}
-use Rattle.pyramid.specs.Internal.{holder_of, LevelHalved}
+use Rattle.pyramid.specs.Internal.{holder_of}
 use Rattle.pyramid.proofs.Halving.{holder-short, level-none, row_below, row-end, row_ok, row_more}
 use Rattle.pyramid.proofs.halve.halve.Goals as goal
 use Rattle.pyramid.proofs.halve.halve.Goals.{In-loop-y}

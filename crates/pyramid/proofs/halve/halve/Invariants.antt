@@ -1,11 +1,7 @@
-use Prim.Native.Nat.{◌+◌, ◌-◌, ◌*◌, ◌/◌, ◌^◌, ◌<◌, ◌≤◌}
-use native.Mathlib.Nat.{suc-mul}
-use native.Mathlib.Omega.{arith}
-use mathlib.Core.Path.{◌≡◌, refl}
+use Prim.Native.Nat.{◌+◌, ◌-◌, ◌*◌, ◌/◌, ◌≤◌}
+use mathlib.Core.Path.{◌≡◌}
 use lib.ListN.{length}
-use borrow.Author.Rules.{rules}
-use Rattle.pyramid.specs.Internal.{holder_of, LevelHalved}
-use Rattle.pyramid.proofs.Halving.{holder-short, level-none, row_below, row-end, row_ok, row_more}
+use Rattle.pyramid.specs.Internal.{LevelHalved}
 use Rattle.pyramid.proofs.halve.halve.Given as goal
 
 abbrev pub invariant-loop-y : goal.invariant-loop-y

@@ -1,10 +1,10 @@
 -- `pyramid::halve::halve_rows` meets its contract: after x columns their half-size pixels are placed. Assumes nothing.
-use Prim.Native.Nat.{◌+◌, ◌-◌, ◌*◌, ◌/◌, ◌^◌, ◌<◌, ◌≤◌}
+use Prim.Native.Nat.{◌+◌, ◌*◌, ◌/◌, ◌^◌, ◌<◌, ◌≤◌}
 use native.Mathlib.Omega.{arith}
 use mathlib.Core.Path.{◌≡◌, refl}
 use lib.ListN.{length}
 use borrow.Author.Rules.{rules}
-use Rattle.pyramid.specs.Internal.{holder_of, Run, RowHalved}
+use Rattle.pyramid.specs.Internal.{holder_of, Run}
 use Rattle.pyramid.proofs.Halving.{holder-short, row-none, run_ok, row_put}
 use Rattle.pyramid.proofs.halve.halve_rows.Goals as goal
 use Rattle.pyramid.proofs.halve.halve_rows.Goals.{After-lesser-m}

@@ -1,10 +1,7 @@
-use Prim.Native.Nat.{◌+◌, ◌-◌, ◌*◌, ◌/◌, ◌^◌, ◌<◌, ◌≤◌}
-use native.Mathlib.Omega.{arith}
-use mathlib.Core.Path.{◌≡◌, refl}
+use Prim.Native.Nat.{◌-◌, ◌≤◌}
+use mathlib.Core.Path.{◌≡◌}
 use lib.ListN.{length}
-use borrow.Author.Rules.{rules}
-use Rattle.pyramid.specs.Internal.{holder_of, Run, RowHalved}
-use Rattle.pyramid.proofs.Halving.{holder-short, row-none, run_ok, row_put}
+use Rattle.pyramid.specs.Internal.{RowHalved}
 use Rattle.pyramid.proofs.halve.halve_rows.Given as goal
 
 abbrev pub invariant-loop-x : goal.invariant-loop-x

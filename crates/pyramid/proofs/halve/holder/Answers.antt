@@ -1,5 +1,4 @@
 -- `pyramid::halve::holder` meets its contract. Assumes nothing.
-use borrow.Author.Rules.{rules}
 use Rattle.pyramid.proofs.Halving.{holder-buffer}
 use Rattle.pyramid.proofs.halve.holder.Goals as goal
 

@@ -1,11 +1,7 @@
 -- `pyramid::halve::means` meets its contract: the places passed hold their half-size pixels. Assumes nothing.
-use Prim.Native.Nat.{ℕ, ◌+◌, ◌-◌, ◌*◌, ◌<◌, ◌≤◌}
 use native.Mathlib.Omega.{arith}
-use mathlib.Core.Path.{◌≡◌, refl}
-use lib.ListN.{get_or}
 use borrow.Author.Rules.{rules}
-use Rattle.lists.proofs.Tab.{Prefix, prefix-none, prefix-set, prefix-at}
-use Rattle.pyramid.specs.Internal.{pixels_at_once, box_at}
+use Rattle.lists.proofs.Tab.{prefix-none, prefix-set, prefix-at}
 use Rattle.pyramid.proofs.halve.means.Goals as goal
 
 pub loop-i-init : goal.loop-i-init

@@ -1,9 +1,5 @@
-use Prim.Native.Nat.{ℕ, ◌+◌, ◌-◌, ◌*◌, ◌<◌, ◌≤◌}
-use native.Mathlib.Omega.{arith}
-use mathlib.Core.Path.{◌≡◌, refl}
-use lib.ListN.{get_or}
-use borrow.Author.Rules.{rules}
-use Rattle.lists.proofs.Tab.{Prefix, prefix-none, prefix-set, prefix-at}
+use Prim.Native.Nat.{◌-◌, ◌≤◌}
+use Rattle.lists.proofs.Tab.{Prefix}
 use Rattle.pyramid.specs.Internal.{pixels_at_once, box_at}
 use Rattle.pyramid.proofs.halve.means.Given as goal
 

@@ -2,7 +2,6 @@
 use Prim.Native.Nat.{◌*◌, ◌≤◌}
 use native.Mathlib.Nat.{div-lt_iff_lt-mul, le-div_iff_mul-le}
 use native.Mathlib.Omega.{arith}
-use borrow.Author.Rules.{rules}
 use Rattle.pyramid_levels.proofs.count.capped_product.Goals as goal
 use Rattle.pyramid_levels.proofs.count.capped_product.Goals.{Else-b-a}
 

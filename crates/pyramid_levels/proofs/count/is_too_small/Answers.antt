@@ -1,5 +1,4 @@
 -- `pyramid_levels::count::is_too_small` meets its contract. Assumes nothing.
-use borrow.Author.Rules.{rules}
 use borrow.Author.Tests.{eq-eqb, ne_eqb}
 use Rattle.pyramid_levels.proofs.count.is_too_small.Goals as goal
 

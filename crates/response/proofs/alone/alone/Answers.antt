@@ -1,7 +1,6 @@
 -- `response::alone::alone` meets its contract: the samples picked are those of the cell's ring. Assumes nothing.
 use mathlib.Core.Path.{refl}
 use native.Mathlib.Omega.{arith}
-use borrow.Author.Rules.{rules}
 use Rattle.response.specs.Internal.{SumsBounded}
 use Rattle.response.proofs.Samples.{
   sample-lt,

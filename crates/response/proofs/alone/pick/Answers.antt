@@ -1,11 +1,8 @@
 -- `response::alone::pick` meets its contract. The loop fills the samples from the front. Assumes nothing.
 use mathlib.Core.Path.{refl}
-use Prim.Native.Nat.{◌+◌, ◌-◌, ◌≤◌}
 use native.Mathlib.Omega.{arith}
 use borrow.Author.Rules.{rules}
-use lib.ListN.{get_or}
-use Rattle.lists.proofs.Tab.{Prefix, prefix-none, prefix-set, prefix-all}
-use Rattle.response.specs.Internal.{Bytes}
+use Rattle.lists.proofs.Tab.{prefix-none, prefix-set, prefix-all}
 use Rattle.response.proofs.Filling.{bytes-set, bytes-none}
 use Rattle.response.proofs.alone.pick.Goals as goal
 

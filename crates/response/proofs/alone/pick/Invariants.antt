@@ -1,11 +1,7 @@
-use mathlib.Core.Path.{refl}
 use Prim.Native.Nat.{◌+◌, ◌-◌, ◌≤◌}
-use native.Mathlib.Omega.{arith}
-use borrow.Author.Rules.{rules}
 use lib.ListN.{get_or}
-use Rattle.lists.proofs.Tab.{Prefix, prefix-none, prefix-set, prefix-all}
+use Rattle.lists.proofs.Tab.{Prefix}
 use Rattle.response.specs.Internal.{Bytes}
-use Rattle.response.proofs.Filling.{bytes-set, bytes-none}
 use Rattle.response.proofs.alone.pick.Given as goal
 
 abbrev pub invariant-loop-k : goal.invariant-loop-k

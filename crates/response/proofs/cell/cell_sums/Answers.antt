@@ -2,7 +2,6 @@
 use mathlib.Core.Path.{refl}
 use Prim.Native.Nat.{◌+◌, ◌*◌, ◌-◌}
 use native.Mathlib.Omega.{arith}
-use borrow.Author.Rules.{rules}
 use Rattle.response.specs.Internal.{Bytes, SumsBounded}
 use Rattle.response.proofs.Samples.{
   sample-lt,

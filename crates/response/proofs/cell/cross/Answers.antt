@@ -1,7 +1,6 @@
 -- `response::cell::cross` meets its contract: the sum of five bytes fits. Assumes nothing.
 use Prim.Native.Nat.{◌+◌, ◌-◌}
 use native.Mathlib.Omega.{arith}
-use borrow.Author.Rules.{rules}
 use Rattle.response.proofs.cell.cross.Goals as goal
 
 pub overflow_add-result : goal.overflow_add-result

@@ -1,10 +1,9 @@
 -- `response::cell::gather` meets its contract. The loop fills the first places of each quarter. Assumes nothing.
 use mathlib.Core.Path.{refl}
-use Prim.Native.Nat.{◌+◌, ◌-◌, ◌<◌, ◌≤◌}
+use Prim.Native.Nat.{◌+◌, ◌<◌}
 use native.Mathlib.Omega.{arith}
 use borrow.Author.Rules.{rules}
-use lib.ListN.{get_or}
-use Rattle.response.proofs.Filling.{Quarters, quarters-none, quarters-set, quarters-all}
+use Rattle.response.proofs.Filling.{quarters-none, quarters-set, quarters-all}
 use Rattle.response.proofs.cell.gather.Goals as goal
 use Rattle.response.proofs.cell.gather.Goals.{In-loop-k}
 

@@ -1,9 +1,6 @@
-use mathlib.Core.Path.{refl}
-use Prim.Native.Nat.{◌+◌, ◌-◌, ◌<◌, ◌≤◌}
-use native.Mathlib.Omega.{arith}
-use borrow.Author.Rules.{rules}
+use Prim.Native.Nat.{◌+◌, ◌-◌, ◌≤◌}
 use lib.ListN.{get_or}
-use Rattle.response.proofs.Filling.{Quarters, quarters-none, quarters-set, quarters-all}
+use Rattle.response.proofs.Filling.{Quarters}
 use Rattle.response.proofs.cell.gather.Given as goal
 
 abbrev pub invariant-loop-k : goal.invariant-loop-k

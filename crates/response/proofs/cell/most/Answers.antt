@@ -1,5 +1,4 @@
 -- `response::cell::most` meets its contract: below 2^15 the numbers compare as i16 as they do as u16. Assumes nothing.
-use borrow.Author.Rules.{rules}
 use Rattle.response.proofs.OnePass.{most-second, most-first}
 use Rattle.response.proofs.cell.most.Goals as goal
 

@@ -1,9 +1,5 @@
 -- `response::cell::ring_sums` meets its contract: the loop holds what is held of the pairs passed. Assumes nothing.
-use Prim.Native.Nat.{◌-◌, ◌≤◌, min}
-use mathlib.Core.Path.{◌≡◌}
 use borrow.Author.Rules.{rules}
-use Rattle.response.specs.OnePass.{passed_after}
-use Rattle.response.specs.Internal.{SumsBounded}
 use Rattle.response.proofs.OnePass.{small-none, passed_none, passed-next, passed-end}
 use Rattle.response.proofs.cell.ring_sums.Goals as goal
 

@@ -1,5 +1,4 @@
 -- `response::cell::value` meets its contract. Assumes nothing.
-use borrow.Author.Rules.{rules}
 use lib.Ieee.{of_bits, of_int}
 use Rattle.response.specs.Response.{response_of}
 use Rattle.response.proofs.Floats.{means}

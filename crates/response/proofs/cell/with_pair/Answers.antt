@@ -2,7 +2,6 @@
 use mathlib.Core.Path.{refl}
 use Prim.Native.Nat.{◌-◌}
 use native.Mathlib.Omega.{arith}
-use borrow.Author.Rules.{rules}
 use Rattle.response.proofs.OnePass.{stepped, early, late, sr-fits}
 use Rattle.response.proofs.cell.with_pair.Goals as goal
 

@@ -1,11 +1,6 @@
-use mathlib.Core.Path.{refl, sym, ◌∙◌}
 use Prim.Native.Nat.{◌+◌, ◌-◌, ◌≤◌}
-use native.Mathlib.Omega.{arith}
-use borrow.Author.Rules.{rules}
 use Rattle.float32.specs.Float32.{zero}
 use Rattle.response.specs.Internal.{IsTile, Filled, responses, large_row}
-use Rattle.response.proofs.Filling.{filled_none, filled-to, then-beside}
-use Rattle.response.proofs.Tiles.{placed-still, part_of}
 use Rattle.response.proofs.rows.band.Given as goal
 
 abbrev pub invariant-loop-i : goal.invariant-loop-i

@@ -1,13 +1,12 @@
 -- `response::rows::block` meets its contract: the rows passed hold their responses. Assumes nothing.
 use mathlib.Core.Path.{refl}
-use Prim.Native.Nat.{ℕ, ◌+◌, ◌*◌, ◌-◌, ◌<◌, ◌≤◌}
+use Prim.Native.Nat.{ℕ, ◌+◌, ◌*◌, ◌<◌, ◌≤◌}
 use native.Mathlib.Omega.{arith}
 use borrow.Author.Rules.{rules}
 use lib.ListN.{length}
 use Rattle.lists.specs.Limits.{largest_side, largest_map}
 use Rattle.float32.specs.Float32.{zero}
 use Rattle.ring.proofs.Table.{ring_of-is}
-use Rattle.response.specs.Internal.{Filled, SumPlaces, responses}
 use Rattle.response.proofs.Filling.{filled_none, filled-to}
 use Rattle.response.proofs.Tiles.{
   radius-le,

@@ -1,25 +1,6 @@
-use mathlib.Core.Path.{refl}
-use Prim.Native.Nat.{ℕ, ◌+◌, ◌*◌, ◌-◌, ◌<◌, ◌≤◌}
-use native.Mathlib.Omega.{arith}
-use borrow.Author.Rules.{rules}
-use lib.ListN.{length}
-use Rattle.lists.specs.Limits.{largest_side, largest_map}
+use Prim.Native.Nat.{◌+◌, ◌-◌, ◌≤◌}
 use Rattle.float32.specs.Float32.{zero}
-use Rattle.ring.proofs.Table.{ring_of-is}
 use Rattle.response.specs.Internal.{Filled, SumPlaces, responses}
-use Rattle.response.proofs.Filling.{filled_none, filled-to}
-use Rattle.response.proofs.Tiles.{
-  radius-le,
-  from-left,
-  from-top,
-  columns-in,
-  rows-low,
-  pixels-in,
-  row_in,
-  corner-small,
-  pixels-few,
-  block-step,
-}
 use Rattle.response.proofs.rows.block.Given as goal
 
 abbrev pub invariant-loop-k : goal.invariant-loop-k

@@ -1,10 +1,7 @@
 -- `response::rows::clear` meets its contract. Assumes nothing.
 use mathlib.Core.Path.{refl}
-use Prim.Native.Nat.{◌-◌, ◌≤◌}
 use borrow.Author.Rules.{rules}
 use lib.Ieee.{of_bits}
-use Rattle.float32.specs.Float32.{zero}
-use Rattle.response.specs.Internal.{PlacesWritten}
 use Rattle.response.proofs.Filling.{written_none, written-set, written-end}
 use Rattle.response.proofs.rows.clear.Goals as goal
 

@@ -1,11 +1,10 @@
 -- `response::rows::clear_part` meets its contract. Assumes nothing.
-use mathlib.Core.Path.{◌≡◌, refl, ◌∙◌}
-use Prim.Native.Nat.{ℕ, ◌+◌, ◌*◌, ◌-◌, ◌<◌, ◌≤◌}
+use mathlib.Core.Path.{refl, ◌∙◌}
+use Prim.Native.Nat.{ℕ, ◌+◌, ◌*◌, ◌<◌, ◌≤◌}
 use native.Mathlib.Omega.{arith}
 use borrow.Author.Rules.{rules}
 use lib.ListN.{length}
 use Rattle.lists.specs.Limits.{largest_map}
-use Rattle.response.specs.Internal.{Cleared}
 use Rattle.response.proofs.Filling.{cleared-none, cleared-row, cleared-end, row-after}
 use Rattle.response.proofs.rows.clear_part.Goals as goal
 use Rattle.response.proofs.rows.clear_part.Goals.{Start}

@@ -1,11 +1,7 @@
-use mathlib.Core.Path.{◌≡◌, refl, ◌∙◌}
-use Prim.Native.Nat.{ℕ, ◌+◌, ◌*◌, ◌-◌, ◌<◌, ◌≤◌}
-use native.Mathlib.Omega.{arith}
-use borrow.Author.Rules.{rules}
+use mathlib.Core.Path.{◌≡◌}
+use Prim.Native.Nat.{◌-◌, ◌≤◌}
 use lib.ListN.{length}
-use Rattle.lists.specs.Limits.{largest_map}
 use Rattle.response.specs.Internal.{Cleared}
-use Rattle.response.proofs.Filling.{cleared-none, cleared-row, cleared-end, row-after}
 use Rattle.response.proofs.rows.clear_part.Given as goal
 
 abbrev pub invariant-loop-j : goal.invariant-loop-j

@@ -31,7 +31,6 @@ returns-then-lesser-eq0 c =
 -- one cell
 only : (c : Then-most-eq1) → (c.args.b - c.args.a ≡ 1) × (c.args.e - c.args.c ≡ 1)
 only c =
-    
     one_each _ _ _ _ c.greater-most.ensures c.lesser.ensures c.if-lesser-eq0.false c.if-most-eq1.true
 
 pub single-requires : goal.single-requires

@@ -1,17 +1,15 @@
 -- `response::rows::large` meets its contract: the rows passed hold their responses. Assumes nothing.
 use mathlib.Core.Path.{refl}
-use Prim.Native.Nat.{◌-◌, ◌≤◌}
 use native.Mathlib.Omega.{arith}
 use borrow.Author.Rules.{rules}
 use Rattle.float32.specs.Float32.{zero}
-use Rattle.response.specs.Internal.{IsTile, Filled, responses, large_row, large_tile}
+use Rattle.response.specs.Internal.{large_tile}
 use Rattle.response.proofs.Filling.{bytes-none, filled_none, filled-to, then-below}
 use Rattle.response.proofs.Tiles.{placed-still, part_of}
 use Rattle.response.proofs.rows.large.Goals as goal
 
 pub loop-j-init : goal.loop-j-init
-loop-j-init c =
-    (
+loop-j-init c = (
   search rules,
   c.requires.3,
   filled_none zero _ _ _ _ _ _ _ _ (λ i j p q u v. absurd (omega arith)),
@@ -20,20 +18,22 @@ loop-j-init c =
 
 pub band-requires : goal.band-requires
 band-requires c =
-    record { placed = (
+    record {
+      placed = (
         placed-still _ _ _ _ c.requires.0 c.loop-j.invariant.2.long,
         part_of _ _ _ _ _ _ _ _ _ c.requires.1 (omega arith) (omega arith) c.loop-j.invariant.0 (omega (arith, c.lesser-m.ensures, c.loop-j-test.true)),
         c.requires.2,
-      ); m_nonzero = ((omega (arith, c.lesser-m.ensures, c.loop-j-test.true), omega (arith, c.lesser-m.ensures), c.loop-j.invariant.3)) }
+      );
+      m_nonzero = ((omega (arith, c.lesser-m.ensures, c.loop-j-test.true), omega (arith, c.lesser-m.ensures), c.loop-j.invariant.3));
+    }
 
 pub loop-j-preserved : goal.loop-j-preserved
-loop-j-preserved c =
-    (
-      omega (arith, c.loop-j.invariant.0),
-      omega (arith, c.lesser-m.ensures, c.loop-j-test.true),
-      then-below zero _ _ _ _ _ _ _ _ _ _ _ c.loop-j.invariant.2 c.band.ensures.0,
-      c.band.ensures.1,
-    )
+loop-j-preserved c = (
+  omega (arith, c.loop-j.invariant.0),
+  omega (arith, c.lesser-m.ensures, c.loop-j-test.true),
+  then-below zero _ _ _ _ _ _ _ _ _ _ _ c.loop-j.invariant.2 c.band.ensures.0,
+  c.band.ensures.1,
+)
 
 pub shape_of-map : goal.shape_of-map
 shape_of-map c = c.loop-j.invariant.2.long

@@ -1,11 +1,6 @@
-use mathlib.Core.Path.{refl}
 use Prim.Native.Nat.{◌-◌, ◌≤◌}
-use native.Mathlib.Omega.{arith}
-use borrow.Author.Rules.{rules}
 use Rattle.float32.specs.Float32.{zero}
-use Rattle.response.specs.Internal.{IsTile, Filled, responses, large_row, large_tile}
-use Rattle.response.proofs.Filling.{bytes-none, filled_none, filled-to, then-below}
-use Rattle.response.proofs.Tiles.{placed-still, part_of}
+use Rattle.response.specs.Internal.{IsTile, Filled, responses, large_row}
 use Rattle.response.proofs.rows.large.Given as goal
 
 abbrev pub invariant-loop-j : goal.invariant-loop-j

@@ -1,5 +1,4 @@
 -- `response::rows::reach` meets its contract: where the computed cells begin and end. Assumes nothing.
-use borrow.Author.Rules.{rules}
 use Rattle.response.proofs.Edges.{stretched}
 use Rattle.response.proofs.rows.reach.Goals as goal
 

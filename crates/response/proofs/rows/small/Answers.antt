@@ -8,14 +8,17 @@ use Rattle.response.proofs.rows.small.Goals as goal
 
 pub block-requires : goal.block-requires
 block-requires c =
-    record { placed = c.requires.placed; n_nonzero = ((
+    record {
+      placed = c.requires.placed;
+      n_nonzero = ((
         c.requires.n_nonzero.0,
         omega (arith, c.requires.n_nonzero.1),
         c.requires.n_nonzero.2,
         c.requires.n_nonzero.3,
         record { long = refl; narrow = omega arith; bytes = bytes-none small_tile },
         omega (arith, c.requires.n_nonzero.1),
-      )) }
+      ));
+    }
 
 pub shape_of-map : goal.shape_of-map
 shape_of-map c = search rules

@@ -2,7 +2,6 @@
 use mathlib.Core.Path.{◌≡◌, subst}
 use mathlib.Core.List.{List}
 use Prim.Native.Nat.{ℕ}
-use borrow.Author.Rules.{rules}
 use Rattle.response.specs.Internal.{CellsInRow}
 use Rattle.response.proofs.Tiles.{other-ring}
 use Rattle.response.proofs.runs.row_sums.Goals as goal

@@ -1,10 +1,7 @@
 -- `response::runs::sums` meets its contract. Assumes nothing.
-use Prim.Native.Nat.{◌-◌, ◌≤◌}
 use native.Mathlib.Omega.{arith}
 use borrow.Author.Rules.{rules}
-use Rattle.ring.specs.Ring.{ring_of}
 use Rattle.ring.proofs.Places.{radius-small}
-use Rattle.response.specs.Internal.{CellsSummed}
 use Rattle.response.proofs.Samples.{summed-set, summed-end}
 use Rattle.response.proofs.Tiles.{tile-framed}
 use Rattle.response.proofs.runs.sums.Goals as goal

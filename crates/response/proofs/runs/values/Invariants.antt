@@ -1,10 +1,8 @@
 use Prim.Native.Nat.{◌-◌, ◌≤◌}
-use borrow.Author.Rules.{rules}
 use lib.ListN.{get_or}
 use Rattle.float32.specs.Float32.{zero}
 use Rattle.response.specs.Response.{response_of}
 use Rattle.response.specs.Internal.{PlacesWritten}
-use Rattle.response.proofs.Filling.{written_none, written-set, written-end}
 use Rattle.response.proofs.runs.values.Given as goal
 
 abbrev pub invariant-loop-i : goal.invariant-loop-i

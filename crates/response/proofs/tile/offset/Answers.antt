@@ -1,6 +1,5 @@
 -- `response::tile::offset` meets its contract. Assumes nothing.
 use native.Mathlib.Omega.{arith}
-use borrow.Author.Rules.{rules}
 use Rattle.response.proofs.Indices.{rows-small}
 use Rattle.response.proofs.tile.offset.Goals as goal
 

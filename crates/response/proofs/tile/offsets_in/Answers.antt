@@ -1,11 +1,8 @@
 -- `response::tile::offsets_in` meets its contract. The loop fills the offsets from the front. Assumes nothing.
-use mathlib.Core.Path.{◌≡◌, refl, ap, ◌∙◌}
-use Prim.Native.Nat.{◌-◌, ◌≤◌}
+use mathlib.Core.Path.{refl, ap, ◌∙◌}
 use borrow.Author.Rules.{rules}
-use Rattle.lists.proofs.Tab.{Prefix, prefix-none, prefix-set, prefix-all}
-use Rattle.ring.specs.Ring.{ring_of, columns as columns_of, rows as rows_of}
+use Rattle.lists.proofs.Tab.{prefix-none, prefix-set, prefix-all}
 use Rattle.ring.specs.declared.RingOffsets.{RingOffsets}
-use Rattle.response.specs.Internal.{offset_at}
 use Rattle.response.proofs.tile.offsets_in.Goals as goal
 
 pub loop-k-init : goal.loop-k-init

@@ -1,9 +1,7 @@
-use mathlib.Core.Path.{◌≡◌, refl, ap, ◌∙◌}
+use mathlib.Core.Path.{◌≡◌}
 use Prim.Native.Nat.{◌-◌, ◌≤◌}
-use borrow.Author.Rules.{rules}
-use Rattle.lists.proofs.Tab.{Prefix, prefix-none, prefix-set, prefix-all}
+use Rattle.lists.proofs.Tab.{Prefix}
 use Rattle.ring.specs.Ring.{ring_of, columns as columns_of, rows as rows_of}
-use Rattle.ring.specs.declared.RingOffsets.{RingOffsets}
 use Rattle.response.specs.Internal.{offset_at}
 use Rattle.response.proofs.tile.offsets_in.Given as goal
 

@@ -1,13 +1,12 @@
 -- `response::tile::widen` meets its contract: the rows passed hold their pixels. Assumes nothing.
 use mathlib.Core.Path.{refl, ◌∙◌}
-use Prim.Native.Nat.{ℕ, ◌+◌, ◌*◌, ◌-◌, ◌<◌, ◌≤◌}
+use Prim.Native.Nat.{ℕ, ◌+◌, ◌*◌, ◌<◌, ◌≤◌}
 use native.Mathlib.Nat.{mul_comm}
 use native.Mathlib.Omega.{arith}
 use borrow.Author.Rules.{rules}
 use lib.ListN.{length}
 use Rattle.lists.specs.Limits.{largest_map}
-use Rattle.lists.specs.Tab.{pixel}
-use Rattle.response.specs.Internal.{IsTile, Filled, tile_rows, large_tile}
+use Rattle.response.specs.Internal.{tile_rows, large_tile}
 use Rattle.response.proofs.Filling.{filled_none, filled-to, row-after}
 use Rattle.response.proofs.Tiles.{tile-row}
 use Rattle.response.proofs.tile.widen.Goals as goal

@@ -1,10 +1,6 @@
 -- `response::tile::widen_row` meets its contract. Assumes nothing.
-use mathlib.Core.Path.{◌∙◌}
-use Prim.Native.Nat.{◌+◌, ◌-◌, ◌≤◌}
-use native.Mathlib.Omega.{arith}
+use Prim.Native.Nat.{◌+◌}
 use borrow.Author.Rules.{rules}
-use lib.ListN.{get_or}
-use Rattle.response.specs.Internal.{Bytes, PlacesWritten}
 use Rattle.response.proofs.Filling.{bytes-set, written_none, written-set, written-end}
 use Rattle.response.proofs.tile.widen_row.Goals as goal
 

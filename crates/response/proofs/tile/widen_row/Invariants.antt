@@ -1,10 +1,6 @@
-use mathlib.Core.Path.{◌∙◌}
 use Prim.Native.Nat.{◌+◌, ◌-◌, ◌≤◌}
-use native.Mathlib.Omega.{arith}
-use borrow.Author.Rules.{rules}
 use lib.ListN.{get_or}
 use Rattle.response.specs.Internal.{Bytes, PlacesWritten}
-use Rattle.response.proofs.Filling.{bytes-set, written_none, written-set, written-end}
 use Rattle.response.proofs.tile.widen_row.Given as goal
 
 abbrev pub invariant-loop-i : goal.invariant-loop-i

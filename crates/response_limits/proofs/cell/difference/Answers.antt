@@ -1,6 +1,5 @@
 -- `response_limits::cell::difference` meets its contract. Assumes nothing.
 use Rattle.response_limits.proofs.Signed.{difference-fits, difference-stored}
-use borrow.Author.Rules.{rules}
 use Rattle.response_limits.proofs.cell.difference.Goals as goal
 
 pub overflow_sub-result : goal.overflow_sub-result

@@ -1,8 +1,7 @@
 -- `response_limits::cell::dr` meets its contract: the loop adds up the eight terms. Assumes nothing.
-use Prim.Native.Nat.{◌-◌, ◌≤◌}
 use native.Mathlib.Omega.{arith}
 use borrow.Author.Rules.{rules}
-use Rattle.response_limits.proofs.Sums.{Added, dr_term, added_none, added_next, added-all}
+use Rattle.response_limits.proofs.Sums.{added_none, added_next, added-all}
 use Rattle.response_limits.proofs.cell.dr.Goals as goal
 
 pub loop-k-init : goal.loop-k-init

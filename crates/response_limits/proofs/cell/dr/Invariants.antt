@@ -1,7 +1,5 @@
 use Prim.Native.Nat.{◌-◌, ◌≤◌}
-use native.Mathlib.Omega.{arith}
-use borrow.Author.Rules.{rules}
-use Rattle.response_limits.proofs.Sums.{Added, dr_term, added_none, added_next, added-all}
+use Rattle.response_limits.proofs.Sums.{Added, dr_term}
 use Rattle.response_limits.proofs.cell.dr.Given as goal
 
 abbrev pub invariant-loop-k : goal.invariant-loop-k

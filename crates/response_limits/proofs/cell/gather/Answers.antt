@@ -1,9 +1,8 @@
 -- `response_limits::cell::gather` meets its contract: the loop fills the samples from the front. Assumes nothing.
 use mathlib.Core.Path.{refl, ap}
-use Prim.Native.Nat.{ℕ, ◌+◌, ◌-◌, ◌≤◌}
+use Prim.Native.Nat.{ℕ}
 use lib.ListN.{get_or}
-use Rattle.lists.specs.Tab.{pixel}
-use Rattle.lists.proofs.Tab.{Prefix, prefix-none, prefix-set, prefix-all}
+use Rattle.lists.proofs.Tab.{prefix-none, prefix-set, prefix-all}
 use borrow.Author.Rules.{rules}
 use Rattle.response_limits.proofs.cell.gather.Goals as goal
 

@@ -1,9 +1,7 @@
-use mathlib.Core.Path.{refl, ap}
-use Prim.Native.Nat.{ℕ, ◌+◌, ◌-◌, ◌≤◌}
+use Prim.Native.Nat.{◌+◌, ◌-◌, ◌≤◌}
 use lib.ListN.{get_or}
 use Rattle.lists.specs.Tab.{pixel}
-use Rattle.lists.proofs.Tab.{Prefix, prefix-none, prefix-set, prefix-all}
-use borrow.Author.Rules.{rules}
+use Rattle.lists.proofs.Tab.{Prefix}
 use Rattle.response_limits.proofs.cell.gather.Given as goal
 
 abbrev pub invariant-loop-k : goal.invariant-loop-k

@@ -1,5 +1,4 @@
 -- `response_limits::cell::limits` meets its contract. Assumes nothing.
-use borrow.Author.Rules.{rules}
 use Rattle.response_limits.proofs.cell.limits.Goals as goal
 
 pub returns : goal.returns

@@ -2,7 +2,6 @@
 use Prim.Native.Nat.{◌+◌}
 use native.Mathlib.Omega.{arith}
 use Rattle.response_limits.proofs.Samples.{rows-small}
-use borrow.Author.Rules.{rules}
 use Rattle.response_limits.proofs.cell.place.Goals as goal
 
 pub overflow_mul-result : goal.overflow_mul-result

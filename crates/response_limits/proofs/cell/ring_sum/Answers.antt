@@ -1,7 +1,6 @@
 -- `response_limits::cell::ring_sum` meets its contract: the loop adds up the eight pairs. Assumes nothing.
 use mathlib.Core.Path.{◌∙◌}
-use Prim.Native.Nat.{◌-◌, ◌≤◌}
-use Rattle.response_limits.proofs.Sums.{Added, pair_at, paired, added_none, added_next, added-all}
+use Rattle.response_limits.proofs.Sums.{paired, added_none, added_next, added-all}
 use borrow.Author.Rules.{rules}
 use Rattle.response_limits.proofs.cell.ring_sum.Goals as goal
 

@@ -1,7 +1,5 @@
-use mathlib.Core.Path.{◌∙◌}
 use Prim.Native.Nat.{◌-◌, ◌≤◌}
-use Rattle.response_limits.proofs.Sums.{Added, pair_at, paired, added_none, added_next, added-all}
-use borrow.Author.Rules.{rules}
+use Rattle.response_limits.proofs.Sums.{Added, pair_at}
 use Rattle.response_limits.proofs.cell.ring_sum.Given as goal
 
 abbrev pub invariant-loop-k : goal.invariant-loop-k

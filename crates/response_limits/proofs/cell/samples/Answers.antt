@@ -1,7 +1,6 @@
 -- `response_limits::cell::samples` meets its contract: what is gathered are the samples of the cell's ring. Assumes nothing.
 use native.Mathlib.Omega.{arith}
 use Rattle.response_limits.proofs.Samples.{sides-small, sample_in, samples-found, cross-in, cross-found, cell-small}
-use borrow.Author.Rules.{rules}
 use Rattle.response_limits.proofs.cell.samples.Goals as goal
 
 pub gather-requires : goal.gather-requires

@@ -1,8 +1,8 @@
 -- `response_limits::cell::sr` meets its contract: the loop adds up the four terms. Assumes nothing.
 use mathlib.Core.Path.{◌≡◌}
-use Prim.Native.Nat.{◌-◌, ◌≤◌}
+use Prim.Native.Nat.{◌≤◌}
 use native.Mathlib.Omega.{arith}
-use Rattle.response_limits.proofs.Sums.{Added, sr_term, sr-term, added_none, added_next, added-all}
+use Rattle.response_limits.proofs.Sums.{sr_term, sr-term, added_none, added_next, added-all}
 use borrow.Author.Rules.{rules}
 use Rattle.response_limits.proofs.cell.sr.Goals as goal
 use Rattle.response_limits.proofs.cell.sr.Goals.{After-apart-sr}

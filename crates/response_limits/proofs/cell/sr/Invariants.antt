@@ -1,8 +1,5 @@
-use mathlib.Core.Path.{◌≡◌}
 use Prim.Native.Nat.{◌-◌, ◌≤◌}
-use native.Mathlib.Omega.{arith}
-use Rattle.response_limits.proofs.Sums.{Added, sr_term, sr-term, added_none, added_next, added-all}
-use borrow.Author.Rules.{rules}
+use Rattle.response_limits.proofs.Sums.{Added, sr_term}
 use Rattle.response_limits.proofs.cell.sr.Given as goal
 
 abbrev pub invariant-loop-k : goal.invariant-loop-k

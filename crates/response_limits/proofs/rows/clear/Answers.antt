@@ -1,9 +1,6 @@
 -- `response_limits::rows::clear` meets its contract: the loop fills the slice from the front. Assumes nothing.
 use mathlib.Core.Path.{refl}
-use Prim.Native.Nat.{◌-◌, ◌≤◌}
-use lib.ListN.{length}
-use lib.IntN.{pos}
-use Rattle.lists.proofs.Tab.{Prefix, prefix-none, prefix-set, prefix-all}
+use Rattle.lists.proofs.Tab.{prefix-none, prefix-set, prefix-all}
 use borrow.Author.Rules.{rules}
 use Rattle.response_limits.proofs.rows.clear.Goals as goal
 

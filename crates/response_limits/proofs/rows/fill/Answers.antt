@@ -1,16 +1,12 @@
 -- `response_limits::rows::fill` meets its contract. After y rows the front of each buffer holds the rows' limits, and the rest is as it
 -- was. Assumes nothing.
-use mathlib.Core.Path.{◌≡◌, refl, sym}
-use mathlib.Core.List.{◌++◌}
-use Prim.Native.Nat.{◌+◌, ◌*◌, ◌-◌, ◌≤◌}
+use mathlib.Core.Path.{refl, sym}
+use Prim.Native.Nat.{◌+◌, ◌≤◌}
 use native.Mathlib.Nat.{zero-mul}
 use native.Mathlib.Omega.{arith}
-use lib.ListN.{length, drop}
-use Rattle.lists.specs.Tab.{grid}
+use lib.ListN.{length}
 use Rattle.lists.proofs.Tab.{grid-none, grid-put, grid-all, row-end, part_length}
-use Rattle.ring.specs.Ring.{ring_of}
 use Rattle.response.proofs.Indices.{row_below}
-use Rattle.response_limits.specs.Limits.{low_at, high_at}
 use borrow.Author.Rules.{rules}
 use Rattle.response_limits.proofs.rows.fill.Goals as goal
 use Rattle.response_limits.proofs.rows.fill.Goals.{In-loop-y}

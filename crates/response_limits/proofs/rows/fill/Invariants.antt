@@ -1,15 +1,10 @@
-use mathlib.Core.Path.{◌≡◌, refl, sym}
+use mathlib.Core.Path.{◌≡◌}
 use mathlib.Core.List.{◌++◌}
-use Prim.Native.Nat.{◌+◌, ◌*◌, ◌-◌, ◌≤◌}
-use native.Mathlib.Nat.{zero-mul}
-use native.Mathlib.Omega.{arith}
+use Prim.Native.Nat.{◌*◌, ◌-◌, ◌≤◌}
 use lib.ListN.{length, drop}
 use Rattle.lists.specs.Tab.{grid}
-use Rattle.lists.proofs.Tab.{grid-none, grid-put, grid-all, row-end, part_length}
 use Rattle.ring.specs.Ring.{ring_of}
-use Rattle.response.proofs.Indices.{row_below}
 use Rattle.response_limits.specs.Limits.{low_at, high_at}
-use borrow.Author.Rules.{rules}
 use Rattle.response_limits.proofs.rows.fill.Given as goal
 
 abbrev pub invariant-loop-y : goal.invariant-loop-y

@@ -4,9 +4,7 @@ use Prim.Native.Nat.{◌+◌, ◌-◌, ◌≤◌}
 use native.Mathlib.Nat.{le_refl, add_assoc}
 use native.Mathlib.Omega.{arith}
 use lib.ListN.{length, take, drop}
-use Rattle.ring.specs.Ring.{ring_of}
-use Rattle.lists.proofs.Tab.{Prefix, prefix-none, prefix-over, prefix-all, part-length-to}
-use Rattle.response_limits.specs.Limits.{low_at, high_at}
+use Rattle.lists.proofs.Tab.{prefix-none, prefix-over, prefix-all, part-length-to}
 use Rattle.response_limits.proofs.Edges.{lows-shifted, highs-shifted}
 use borrow.Author.Rules.{rules}
 use Rattle.response_limits.proofs.rows.inner.Goals as goal

@@ -1,7 +1,6 @@
 -- `response_limits::rows::reach` meets its contract: each return is a span of the row. Assumes nothing.
 use native.Mathlib.Omega.{arith}
 use Rattle.response.proofs.Inside.{near-edge, off-edge, span-above, span_below, span-row}
-use borrow.Author.Rules.{rules}
 use Rattle.response_limits.proofs.rows.reach.Goals as goal
 
 pub returns-then-y-radius : goal.returns-then-y-radius

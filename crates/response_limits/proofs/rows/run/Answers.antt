@@ -1,14 +1,12 @@
 -- `response_limits::rows::run` meets its contract. The first loop fills the naturals from the front, and the second the limits. Assumes
 -- nothing.
 use mathlib.Core.Path.{refl, sym, ap}
-use Prim.Native.Nat.{◌+◌, ◌-◌, ◌<◌, ◌≤◌}
+use Prim.Native.Nat.{◌<◌}
 use native.Mathlib.Omega.{arith}
-use Rattle.ring.specs.Ring.{ring_of}
-use Rattle.lists.proofs.Tab.{Prefix, prefix-none, prefix-set, prefix-at, prefix-all}
-use Rattle.response_limits.specs.Limits.{low_at, high_at}
+use Rattle.lists.proofs.Tab.{prefix-none, prefix-set, prefix-at, prefix-all}
 use Rattle.response_limits.specs.declared.cell.CellLimits.{CellLimits}
 use Rattle.response_limits.proofs.Signed.{stored}
-use Rattle.response_limits.proofs.Samples.{cell_limits, limits-found, low-found, high-found}
+use Rattle.response_limits.proofs.Samples.{limits-found, low-found, high-found}
 use borrow.Author.Rules.{rules}
 use Rattle.response_limits.proofs.rows.run.Goals as goal
 

@@ -1,13 +1,8 @@
-use mathlib.Core.Path.{refl, sym, ap}
-use Prim.Native.Nat.{◌+◌, ◌-◌, ◌<◌, ◌≤◌}
-use native.Mathlib.Omega.{arith}
+use Prim.Native.Nat.{◌+◌, ◌-◌, ◌≤◌}
 use Rattle.ring.specs.Ring.{ring_of}
-use Rattle.lists.proofs.Tab.{Prefix, prefix-none, prefix-set, prefix-at, prefix-all}
+use Rattle.lists.proofs.Tab.{Prefix}
 use Rattle.response_limits.specs.Limits.{low_at, high_at}
-use Rattle.response_limits.specs.declared.cell.CellLimits.{CellLimits}
-use Rattle.response_limits.proofs.Signed.{stored}
-use Rattle.response_limits.proofs.Samples.{cell_limits, limits-found, low-found, high-found}
-use borrow.Author.Rules.{rules}
+use Rattle.response_limits.proofs.Samples.{cell_limits}
 use Rattle.response_limits.proofs.rows.run.Given as goal
 
 abbrev pub invariant-loop-j : goal.invariant-loop-j

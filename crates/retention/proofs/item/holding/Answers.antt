@@ -1,6 +1,5 @@
 -- `retention::item::holding` meets its contract, refused or not. Assumes nothing.
 use mathlib.Core.Path.{sym, ◌∙◌}
-use borrow.Author.Rules.{rules}
 use Rattle.retention.proofs.Items.{sound, refused-told, state-told}
 use Rattle.retention.proofs.item.holding.Goals as goal
 

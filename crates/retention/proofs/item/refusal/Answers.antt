@@ -1,6 +1,5 @@
 -- `retention::item::refusal` meets its contract, return by return. Assumes nothing.
 use Prim.Native.Nat.{◌^◌}
-use borrow.Author.Rules.{rules}
 use borrow.Author.Tests.{lt-ltb, le-ltb}
 use Rattle.retention.specs.Retention.{refusal_of}
 use Rattle.retention.proofs.item.refusal.Goals as goal

@@ -1,5 +1,4 @@
 -- `retention::item::state` meets its contract, return by return. Assumes nothing.
-use borrow.Author.Rules.{rules}
 use borrow.Author.Tests.{lt-ltb, le-ltb}
 use Rattle.retention.specs.Retention.{state_of}
 use Rattle.retention.proofs.item.state.Goals as goal

@@ -1,5 +1,4 @@
 -- `retention::item::stays` meets its contract, arm by arm. Assumes nothing.
-use borrow.Author.Rules.{rules}
 use borrow.Author.Tests.{ne_eqb}
 use Rattle.retention.specs.Retention.{stays}
 use Rattle.retention.proofs.item.stays.Goals as goal

@@ -1,7 +1,6 @@
 -- `retention::list::letter_at` meets its contract: a record without fault has what `holding` asks. Assumes nothing.
 use native.Mathlib.Omega.{arith}
 use mathlib.Core.Path.{ap, ◌∙◌}
-use borrow.Author.Rules.{rules}
 use Rattle.retention.specs.Retention.{letter_of}
 use Rattle.retention.proofs.Records.{whole, record-told}
 use Rattle.retention.proofs.list.letter_at.Goals as goal

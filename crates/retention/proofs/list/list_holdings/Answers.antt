@@ -3,7 +3,6 @@ use native.Mathlib.Omega.{arith}
 use mathlib.Core.Path.{sym, ◌∙◌}
 use lib.ListN.{length-take}
 use lib.Seq.{length-take-le}
-use borrow.Author.Rules.{rules}
 use Rattle.retention.proofs.Records.{timed, time-small}
 use Rattle.retention.proofs.Texts.{time-refused, lines-written}
 use Rattle.retention.proofs.list.list_holdings.Goals as goal

@@ -1,13 +1,12 @@
 -- `retention::list::list_records` meets its contract. The invariant: the lines of the records passed are written. Assumes nothing.
-use Prim.Native.Nat.{◌+◌, ◌-◌, ◌<◌, ◌≤◌, min}
+use Prim.Native.Nat.{◌+◌, ◌<◌, ◌≤◌, min}
 use native.Mathlib.Omega.{arith}
 use mathlib.Core.Path.{sym, ◌∙◌}
 use lib.ListN.{length}
-use borrow.Author.Rules.{rules}
 use Rattle.listing.proofs.Appending.{wrote-length}
 use Rattle.retention.specs.Stream.{longest_input}
 use Rattle.retention.proofs.Records.{fault-small}
-use Rattle.retention.proofs.Texts.{Listed, listed-none, listed-all, listed-ample, listed-refused, listed_next}
+use Rattle.retention.proofs.Texts.{listed-none, listed-all, listed-ample, listed-refused, listed_next}
 use Rattle.retention.proofs.list.list_records.Goals as goal
 use Rattle.retention.proofs.list.list_records.Goals.{In-loop-at}
 

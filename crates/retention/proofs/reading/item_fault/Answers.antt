@@ -1,5 +1,4 @@
 -- `retention::reading::item_fault` meets its contract. Assumes nothing.
-use borrow.Author.Rules.{rules}
 use Rattle.retention.proofs.Passing.{fault-is}
 use Rattle.retention.proofs.reading.item_fault.Goals as goal
 

@@ -1,10 +1,6 @@
 -- `retention::reading::wanted` meets its contract. The invariant: the items before this one are passed. Assumes nothing.
-use Prim.Native.Nat.{◌-◌}
-use native.Mathlib.Omega.{arith}
 use mathlib.Core.Path.{sym, ◌∙◌}
-use borrow.Author.Rules.{rules}
-use Rattle.retention.specs.Wanted.{items}
-use Rattle.retention.proofs.Passing.{Passing, passing-none, passing-next, passing-stops, passing-all}
+use Rattle.retention.proofs.Passing.{passing-none, passing-next, passing-stops, passing-all}
 use Rattle.retention.proofs.reading.wanted.Goals as goal
 
 pub loop-passed-init : goal.loop-passed-init

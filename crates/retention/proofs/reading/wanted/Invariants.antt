@@ -1,9 +1,6 @@
 use Prim.Native.Nat.{◌-◌}
-use native.Mathlib.Omega.{arith}
-use mathlib.Core.Path.{sym, ◌∙◌}
-use borrow.Author.Rules.{rules}
 use Rattle.retention.specs.Wanted.{items}
-use Rattle.retention.proofs.Passing.{Passing, passing-none, passing-next, passing-stops, passing-all}
+use Rattle.retention.proofs.Passing.{Passing}
 use Rattle.retention.proofs.reading.wanted.Given as goal
 
 abbrev pub invariant-loop-passed : goal.invariant-loop-passed

@@ -1,5 +1,4 @@
 -- `retention::reading::wanted_item` meets its contract. Assumes nothing.
-use borrow.Author.Rules.{rules}
 use Rattle.retention.proofs.Passing.{wanted-is}
 use Rattle.retention.proofs.reading.wanted_item.Goals as goal
 

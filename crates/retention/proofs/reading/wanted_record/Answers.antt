@@ -1,5 +1,4 @@
 -- `retention::reading::wanted_record` meets its contract, return by return. Assumes nothing.
-use borrow.Author.Rules.{rules}
 use borrow.Author.Tests.{le-leb, lt-leb, not-true, not-false}
 use Rattle.retention.specs.Wanted.{wanted_record}
 use Rattle.retention.proofs.reading.wanted_record.Goals as goal

@@ -1,5 +1,4 @@
 -- `retouch::cells::is_fit` meets its contract. Assumes nothing.
-use borrow.Author.Rules.{rules}
 use borrow.Author.Tests.{le-leb, lt-leb}
 use Rattle.retouch.proofs.cells.is_fit.Goals as goal
 

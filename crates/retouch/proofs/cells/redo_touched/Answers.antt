@@ -1,12 +1,10 @@
 -- `retouch::cells::redo_touched` meets its contract. The loop redoes the map by one place after the other. Assumes nothing.
 use mathlib.Core.Path.{sym, ◌∙◌}
-use Prim.Native.Nat.{◌-◌, ◌≤◌}
 use native.Mathlib.Omega.{arith}
 use borrow.Author.Rules.{rules}
-use Rattle.ring.specs.Ring.{ring_of}
 use Rattle.ring.proofs.Table.{ring_of-is}
 use Rattle.ring.proofs.Places.{radius-pos}
-use Rattle.retouch.proofs.Passing.{Passed, passed_none, passed_length, passed-next, passed-all, ready-map}
+use Rattle.retouch.proofs.Passing.{passed_none, passed_length, passed-next, passed-all, ready-map}
 use Rattle.retouch.proofs.cells.redo_touched.Goals as goal
 
 pub loop-k-init : goal.loop-k-init

@@ -1,11 +1,6 @@
-use mathlib.Core.Path.{sym, ◌∙◌}
 use Prim.Native.Nat.{◌-◌, ◌≤◌}
-use native.Mathlib.Omega.{arith}
-use borrow.Author.Rules.{rules}
 use Rattle.ring.specs.Ring.{ring_of}
-use Rattle.ring.proofs.Table.{ring_of-is}
-use Rattle.ring.proofs.Places.{radius-pos}
-use Rattle.retouch.proofs.Passing.{Passed, passed_none, passed_length, passed-next, passed-all, ready-map}
+use Rattle.retouch.proofs.Passing.{Passed}
 use Rattle.retouch.proofs.cells.redo_touched.Given as goal
 
 abbrev pub invariant-loop-k : goal.invariant-loop-k

@@ -1,6 +1,5 @@
 -- `stream::fields::header_of` meets its contract, field by field. Assumes nothing.
 use native.Mathlib.Omega.{arith}
-use borrow.Author.Rules.{rules}
 use Rattle.stream.proofs.fields.header_of.Goals as goal
 
 pub overflow_cast-result : goal.overflow_cast-result

@@ -3,7 +3,6 @@ use mathlib.Core.Path.{ap, ap₂, ◌∙◌}
 use Rattle.stream.specs.Stream.{u8, u32}
 use Rattle.stream.specs.Internal.{first_fault, radius_fault}
 use Rattle.stream.proofs.Parameters.{parameters-first}
-use borrow.Author.Rules.{rules}
 use Rattle.stream.proofs.fields.parameters_fault.Goals as goal
 
 pub returns : goal.returns

@@ -2,7 +2,6 @@
 use mathlib.Core.Path.{sym, ◌∙◌}
 use mathlib.Core.Bool.{true, false}
 use Rattle.stream.proofs.Parameters.{radius-judged}
-use borrow.Author.Rules.{rules}
 use Rattle.stream.proofs.fields.radius_fault.Goals as goal
 
 pub returns-then-is_outside : goal.returns-then-is_outside

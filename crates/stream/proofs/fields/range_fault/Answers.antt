@@ -1,5 +1,4 @@
 -- `stream::fields::range_fault` meets its contract, return by return. Assumes nothing.
-use borrow.Author.Rules.{rules}
 use Rattle.stream.specs.Internal.{range_fault}
 use Rattle.stream.proofs.fields.range_fault.Goals as goal
 

@@ -3,7 +3,6 @@ use mathlib.Core.Path.{sym}
 use borrow.Author.Tests.{lt-ltb, le-ltb}
 use Rattle.lists.proofs.Tests.{or_right}
 use Rattle.stream.specs.Stream.{largest_stream_side, sides_fault}
-use borrow.Author.Rules.{rules}
 use Rattle.stream.proofs.fields.sides_fault.Goals as goal
 
 pub returns-then-u16_at-gt-LARGEST_STREAM_SIDE : goal.returns-then-u16_at-gt-LARGEST_STREAM_SIDE

@@ -2,7 +2,6 @@
 use Prim.Native.Nat.{◌+◌, ◌<◌}
 use native.Mathlib.Omega.{arith}
 use lib.ListN.{get_or}
-use borrow.Author.Rules.{rules}
 use Rattle.stream.proofs.fields.u16_at.Goals as goal
 use Rattle.stream.proofs.fields.u16_at.Goals.{After-shared_slice_known-2-1}
 

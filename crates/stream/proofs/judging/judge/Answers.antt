@@ -1,12 +1,11 @@
 -- `stream::judging::judge` meets its contract. The invariant: where the reader stands. The measure is what is left of the stream. Assumes
 -- nothing.
-use Prim.Native.Nat.{◌+◌, ◌-◌, ◌≤◌}
+use Prim.Native.Nat.{◌+◌, ◌≤◌}
 use native.Mathlib.Omega.{arith}
 use lib.ListN.{length}
 use Rattle.stream.specs.Stream.{body_length}
-use Rattle.stream.proofs.Order.{AtStage, at-stage-start, at-stage-end, at-stage-faulty, at-stage-long, at-stage-sides}
+use Rattle.stream.proofs.Order.{at-stage-start, at-stage-end, at-stage-faulty, at-stage-long, at-stage-sides}
 use Rattle.stream.proofs.Order.{at-stage-next}
-use borrow.Author.Rules.{rules}
 use Rattle.stream.proofs.judging.judge.Goals as goal
 use Rattle.stream.proofs.judging.judge.Goals.{Else-fault-ne0}
 

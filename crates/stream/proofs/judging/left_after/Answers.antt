@@ -2,7 +2,6 @@
 use native.Mathlib.Omega.{arith}
 use borrow.Author.Tests.{ne_eqb}
 use Rattle.stream.specs.Internal.{left_after}
-use borrow.Author.Rules.{rules}
 use Rattle.stream.proofs.judging.left_after.Goals as goal
 
 pub returns-in-1 : goal.returns-in-1

@@ -2,7 +2,6 @@
 use mathlib.Core.Path.{ap, ◌∙◌}
 use borrow.Author.Tests.{ne_eqb}
 use Rattle.stream.specs.Stream.{body_length, body_fault}
-use borrow.Author.Rules.{rules}
 use Rattle.stream.proofs.kinds.body_fault.Goals as goal
 
 pub sides_fault-requires : goal.sides_fault-requires

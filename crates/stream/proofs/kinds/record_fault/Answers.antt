@@ -3,7 +3,6 @@ use Prim.Native.Nat.{◌+◌, ◌-◌}
 use native.Mathlib.Omega.{arith}
 use mathlib.Core.Path.{◌≡◌, sym, ◌∙◌}
 use Rattle.stream.proofs.Records.{fault-end, fault-kind, fault-cut, fault-body}
-use borrow.Author.Rules.{rules}
 use Rattle.stream.proofs.kinds.record_fault.Goals as goal
 
 pub returns-then-input-at : goal.returns-then-input-at

@@ -1,11 +1,6 @@
 -- `stream::pixels::padding_fault` meets its contract. The invariant: what is ahead has the fault of the whole. Assumes nothing.
-use Prim.Native.Nat.{◌-◌}
-use native.Mathlib.Omega.{arith}
-use mathlib.Core.Path.{◌≡◌, refl, sym, ◌∙◌}
-use lib.ListN.{length}
-use Rattle.stream.specs.Stream.{padding_fault}
+use mathlib.Core.Path.{sym, ◌∙◌}
 use Rattle.stream.proofs.Padding.{padding-end, padding-hit, padding-step}
-use borrow.Author.Rules.{rules}
 use Rattle.stream.proofs.pixels.padding_fault.Goals as goal
 
 pub returns-then-body-i-ne0 : goal.returns-then-body-i-ne0

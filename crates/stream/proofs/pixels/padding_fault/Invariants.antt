@@ -1,10 +1,7 @@
 use Prim.Native.Nat.{◌-◌}
-use native.Mathlib.Omega.{arith}
-use mathlib.Core.Path.{◌≡◌, refl, sym, ◌∙◌}
+use mathlib.Core.Path.{◌≡◌}
 use lib.ListN.{length}
 use Rattle.stream.specs.Stream.{padding_fault}
-use Rattle.stream.proofs.Padding.{padding-end, padding-hit, padding-step}
-use borrow.Author.Rules.{rules}
 use Rattle.stream.proofs.pixels.padding_fault.Given as goal
 
 abbrev pub invariant-loop-i : goal.invariant-loop-i

@@ -3,7 +3,6 @@ use Prim.Native.Nat.{◌≤◌}
 use native.Mathlib.Nat.{mul-le-mul}
 use native.Mathlib.Omega.{arith}
 use Rattle.stream.specs.Internal.{pixel_count}
-use borrow.Author.Rules.{rules}
 use Rattle.stream.proofs.pixels.pixel_count.Goals as goal
 
 pub overflow_mul-result : goal.overflow_mul-result

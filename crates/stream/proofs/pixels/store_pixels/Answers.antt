@@ -1,6 +1,6 @@
 -- `stream::pixels::store_pixels` meets its contract. The invariant: the pixels passed stand first, and the buffer behind them is as it was.
 -- Assumes nothing.
-use Prim.Native.Nat.{ℕ, ◌+◌, ◌-◌, ◌/◌, ◌<◌, ◌≤◌}
+use Prim.Native.Nat.{ℕ, ◌+◌, ◌/◌, ◌<◌}
 use native.Mathlib.Omega.{arith}
 use mathlib.Core.Path.{◌≡◌, refl, ap, ◌∙◌}
 use mathlib.Core.List.{List}
@@ -10,7 +10,6 @@ use Rattle.lists.specs.Buffer.{front}
 use Rattle.lists.proofs.Buffer.{front-tab}
 use Rattle.stream.specs.Internal.{pixel_byte}
 use Rattle.stream.proofs.PixelPlaces.{pixel-in}
-use borrow.Author.Rules.{rules}
 use Rattle.stream.proofs.pixels.store_pixels.Goals as goal
 use Rattle.stream.proofs.pixels.store_pixels.Goals.{In-loop-i}
 

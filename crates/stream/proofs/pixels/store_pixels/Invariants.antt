@@ -1,14 +1,9 @@
-use Prim.Native.Nat.{ℕ, ◌+◌, ◌-◌, ◌/◌, ◌<◌, ◌≤◌}
-use native.Mathlib.Omega.{arith}
-use mathlib.Core.Path.{◌≡◌, refl, ap, ◌∙◌}
-use mathlib.Core.List.{List}
-use lib.ListN.{length, set, length-set}
+use Prim.Native.Nat.{◌-◌, ◌≤◌}
+use mathlib.Core.Path.{◌≡◌}
+use lib.ListN.{length}
 use Rattle.lists.specs.Tab.{tab}
 use Rattle.lists.specs.Buffer.{front}
-use Rattle.lists.proofs.Buffer.{front-tab}
 use Rattle.stream.specs.Internal.{pixel_byte}
-use Rattle.stream.proofs.PixelPlaces.{pixel-in}
-use borrow.Author.Rules.{rules}
 use Rattle.stream.proofs.pixels.store_pixels.Given as goal
 
 abbrev pub invariant-loop-i : goal.invariant-loop-i

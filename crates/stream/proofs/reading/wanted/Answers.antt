@@ -1,7 +1,6 @@
 -- `stream::reading::wanted` meets its contract. Assumes nothing.
 use mathlib.Core.Path.{sym, ◌∙◌}
 use borrow.Author.Tests.{ne_eqb}
-use borrow.Author.Rules.{rules}
 use Rattle.stream.proofs.reading.wanted.Goals as goal
 
 pub returns-then-stop-eq0 : goal.returns-then-stop-eq0

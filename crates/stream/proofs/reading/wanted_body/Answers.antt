@@ -7,7 +7,6 @@ use lib.ListN.{length}
 use borrow.Author.Tests.{ne_eqb}
 use Rattle.stream.specs.Stream.{body_length}
 use Rattle.stream.specs.Wanted.{wanted_pixel_body, wanted_body}
-use borrow.Author.Rules.{rules}
 use Rattle.stream.proofs.reading.wanted_body.Goals as goal
 
 of-pixels : (due left : ℕ) (came : List ℕ) → due ≡ 3 → wanted_body due left came ≡ wanted_pixel_body left came

@@ -8,7 +8,6 @@ use lib.ListN.{length, get_or, take, drop, length-drop, drop_of_length-le}
 use lib.Seq.{take_all, drop-cons}
 use borrow.Author.Tests.{eq-eqb, ne_eqb}
 use Rattle.stream.specs.Wanted.{wanted_body, wanted_here}
-use borrow.Author.Rules.{rules}
 use Rattle.stream.proofs.reading.wanted_here.Goals as goal
 
 module _ (due left : ℕ) (s : List ℕ) (at : ℕ) where

@@ -7,7 +7,6 @@ use lib.ListN.{length}
 use borrow.Author.Tests.{ne_eqb}
 use Rattle.stream.specs.Stream.{padding_fault}
 use Rattle.stream.specs.Wanted.{wanted_pixel_body}
-use borrow.Author.Rules.{rules}
 use Rattle.stream.proofs.reading.wanted_pixels.Goals as goal
 
 -- by the padding that came

@@ -1,17 +1,14 @@
 -- `sure_peak::window::count_above` meets its contract: what is counted and the count from i on make the whole count. Assumes nothing.
-use Prim.Native.Nat.{◌-◌}
 use mathlib.Core.Path.{ap, ◌∙◌}
 use mathlib.Core.Bool.{true, false}
-use mathlib.Core.Logic.{⊎_elim}
-use lib.ListN.{length, get_or}
+use lib.ListN.{get_or}
 use lib.IntN.{ℤ, pos}
 use lib.Signed.{lt_z}
 use mir.Syntax.{w32}
 use mir.Val.{to_z, of_z}
 use Rattle.lists.specs.Places.{count}
-use Rattle.lists.proofs.Scan.{CountTo, count-start, count-hit, count-miss, count-end}
+use Rattle.lists.proofs.Scan.{count-start, count-hit, count-miss, count-end}
 use Rattle.sure_peak.proofs.Signed.{read, test_read}
-use borrow.Author.Rules.{rules}
 use Rattle.sure_peak.proofs.window.count_above.Goals as goal
 use Rattle.sure_peak.proofs.window.count_above.Goals.{then-v-cells, else-v-cells}
 
