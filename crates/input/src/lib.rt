@@ -87,7 +87,6 @@ pub fn is_failed(input: Input) -> bool
 
 // Why the last read failed.
 pub fn failure(input: Input) -> io::Error
-    requires { is_below0 input.answer ≡ true }
     ensures { FailedWith input.answer result }
 {
     let number = input.answer.unsigned_abs();

@@ -1,12 +1,5 @@
--- The case in a buffer: its corners put there, what each merge leaves, and the text of it. Assumes nothing.
-use Prim.Native.Nat.{ℕ, ◌≤◌}
-use native.Mathlib.Omega.{arith}
-use mathlib.Core.Path.{◌≡◌, refl, sym, ap, ◌∙◌, subst}
-use mathlib.Core.Bool.{Bool, true, false, cond}
-use mathlib.Core.List.{List, [], ◌∷◌}
-use lib.ListN.{length, take, drop, length-append}
-use Rattle.lists.specs.Buffer.{front}
-use Rattle.lists.proofs.Buffer.{front-take}
+-- The case in a buffer: its corners put there, and what each merge leaves. Assumes nothing.
+use Rattle.std.proofs.Common.{ℕ, ◌≤◌, ◌≡◌, refl, sym, ap, ◌∙◌, Bool, true, false, cond, [], ◌∷◌, arith}
 use Rattle.corner_list.specs.declared.Corner.{Corner}
 use Rattle.corner_list.specs.CornerList.{Slices, places_of, corners_of, with_corner}
 use Rattle.corner_list.proofs.Corners.{corners-front, corners-next}
@@ -15,11 +8,6 @@ use Rattle.merge.specs.Merge.{Merges, kept_of}
 use Rattle.merge_naive.specs.MergeNaive.{MergesNaive}
 use Rattle.merge_naive.specs.Case.{one, first, second, third, three, two}
 use Rattle.merge_naive.proofs.Case.{by-distance, by-cells}
-use Rattle.listing.specs.declared.Listing.{Listing}
-use Rattle.listing.specs.declared.Listing.TheVariants.{Text}
-use Rattle.listing.specs.Text.{corners_text}
-use Rattle.listing.specs.Answer.{CornersWritten}
-use Rattle.listing.proofs.Texts.{listed}
 
 -- ---- the three corners, one behind the other
 pub three-put : (b b₁ b₂ b₃ : Slices) (c d e : Corner) → 3 ≤ places_of b → c ≡ first → d ≡ second → e ≡ third
@@ -45,19 +33,3 @@ module _ (b : Slices) (fits : 3 ≤ places_of b) (is : corners_of b 3 ≡ three)
   left-by-distance e m =
       let done = by-distance b fits is answer b' m in
       ap (corners_of b') (kept ∙ ap (λ (a : Merged). kept_of a 0) done.0) ∙ done.1 ∙ ap (λ (t : Bool). cond t three two) (sym e)
-
--- ---- the text stands first in its buffer
-module _ (b : Slices) (count : ℕ) (before : List ℕ) (r : Listing) (after : List ℕ) (w : CornersWritten b count before r after) (end : ℕ)
-    (e : r ≡ Text end) where
-  abbrev text : List ℕ
-  text = corners_text (corners_of b count)
-
-  written : (end ≡ length text) × (after ≡ front text before)
-  written = let l = listed b count before end after (subst (λ (a : Listing). CornersWritten b count before a after) e w) in
-      (l.ends, l.text)
-
-  pub text-fits : end ≤ length after
-  text-fits = omega (arith, written.0, ap length written.1 ∙ length-append text (drop (length text) before))
-
-  pub text-is : (cs : List Corner) → corners_of b count ≡ cs → take end after ≡ corners_text cs
-  text-is cs is = ap (take end) written.1 ∙ front-take text before end written.0 ∙ ap corners_text is

@@ -83,7 +83,7 @@ module _ (r w h cx cy : ℕ) (left : r ≤ cx) (right : cx + r < w) (above : r �
 sum_is : (term : Place → Float) (s : Float) (ps : List Place) → sum_rs term s ps ≡ summed term s ps
 unfolding sum_rs summed
 sum_is term s [] = refl
-sum_is term s (p ∷ ps) = sum_is term _ ps
+sum_is term s (p ∷ ps) = sum_is term (lib.Ieee.add binary32 s (term p)) ps
 
 nothing : Sum zero32
 unfolding fits

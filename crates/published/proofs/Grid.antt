@@ -19,6 +19,7 @@ use Rattle.published.proofs.Indices.{In, in_left, in_right, in_either, in_kept, 
 
 in_one : (i a : ℕ) → In i (a ∷ []) → i ≡ a
 in_one i a (inl e) = e
+in_one i a (inr x') = elim x' [ ]
 
 -- ---- one list replaced
 put-here : (j : ℕ) (l : List ℕ) (grid : ℕ → List ℕ) → put j l grid j ≡ l

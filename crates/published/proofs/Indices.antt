@@ -18,6 +18,7 @@ In i (a ∷ l) = (i ≡ a) ⊎ In i l
 
 module _ (i : ℕ) where
   pub in_left : (s t : List ℕ) → In i s → In i (s ++ t)
+  in_left [] t x' = elim x' [ ]
   in_left (a ∷ s) t (inl e) = inl e
   in_left (a ∷ s) t (inr h) = inr (in_left s t h)
 
@@ -32,6 +33,7 @@ module _ (i : ℕ) where
 
   -- of those that pass a test
   pub in_kept : (f : ℕ → Bool) (l : List ℕ) → f i ≡ true → In i l → In i (keep f l)
+  in_kept f [] e x' = elim x' [ ]
   in_kept f (a ∷ l) e (inl h) = rw (← h, e) (inl refl)
   in_kept f (a ∷ l) e (inr h) = go (f a) (in_kept f l e h)
     where
@@ -40,6 +42,7 @@ module _ (i : ℕ) where
       go false k = k
 
   pub kept_in : (f : ℕ → Bool) (l : List ℕ) → In i (keep f l) → In i l × (f i ≡ true)
+  kept_in f [] h = elim h [ ]
   kept_in f (a ∷ l) h = go (f a) refl h (kept_in f l)
     where
       go : (b : Bool) → f a ≡ b → In i (cond b (a ∷ keep f l) (keep f l)) → (In i (keep f l) → In i l × (f i ≡ true))

@@ -13,6 +13,7 @@ use Rattle.lists.proofs.Scan.{CountTo, count-start, count-hit, count-miss, count
 use Rattle.sure_peak.proofs.Signed.{read, test_read}
 use borrow.Author.Rules.{rules}
 use Rattle.sure_peak.proofs.window.count_above.Goals as goal
+use Rattle.sure_peak.proofs.window.count_above.Goals.{then-v-cells, else-v-cells}
 
 pub loop-i-init : goal.loop-i-init
 loop-i-init c = count-start (lt_z (to_z w32 (of_z w32 c.args.v))) _
@@ -21,12 +22,12 @@ pub loop-i-preserved : goal.loop-i-preserved
 loop-i-preserved c =
     let v = to_z w32 (of_z w32 c.args.v) in
     let cell = get_or c.args.cells.now c.loop-i.i (pos 0) in
-    ⊎_elim
-    (λ w. count-hit (lt_z v) _ _ _ c.loop-i.invariant (pos 0) c.loop-i-test.true _ w.1
-    (test_read v cell true c.t8-1.given w.0.taken))
-    (λ w. count-miss (lt_z v) _ _ _ c.loop-i.invariant (pos 0) c.loop-i-test.true _ w.1
-    (test_read v cell false c.t8-1.given w.0.left))
-    c.if-v-cells.branch
+    elim c.if-v-cells.branch [
+      | then-v-cells w ↦ count-hit (lt_z v) _ _ _ c.loop-i.invariant (pos 0) c.loop-i-test.true _ w.n-is
+          (test_read v cell true c.t8-1.given w.if-v-cells.true)
+      | else-v-cells w ↦ count-miss (lt_z v) _ _ _ c.loop-i.invariant (pos 0) c.loop-i-test.true _ w.n-is
+          (test_read v cell false c.t8-1.given w.if-v-cells.false)
+    ]
 
 pub returns : goal.returns
 returns c =

@@ -18,48 +18,44 @@ use Rattle.sure_peak.proofs.WindowRows.{row_in, row_small, count_next, count_fit
 use Rattle.sure_peak.proofs.WindowRows.{centre-off, centre-not}
 use borrow.Author.Rules.{rules}
 use Rattle.sure_peak.proofs.window.count_window.Goals as goal
-use Rattle.sure_peak.proofs.window.count_window.Goals.{After-count_above-n, After-t26-1, In-loop-yy, Start}
+use Rattle.sure_peak.proofs.window.count_window.Goals.{After-count_above-n, After-t26-1, In-loop-yy}
 
 -- ---- places of the code: the function's start, from the loop, and the turn, from where its row was counted
 
--- the number that is stored for v
-abbrev stored : Start → ℤ
-stored c = to_z w32 (of_z w32 c.args.v)
-
 -- in a turn the row at hand begins at a small number
 small : (c : In-loop-yy) → c.loop-yy.yy * c.args.w ≤ largest_map
-small c = row_small _ _ _ _ _ c.requires (stored (goal.at.In-loop-yy c).Start) _ c.loop-yy-test.true
+small c = row_small _ _ _ _ _ c.requires (to_z w32 (of_z w32 c.args.v)) _ c.loop-yy-test.true
 
 fits : (c : After-count_above-n) → c.loop-yy.n + c.count_above-n.result ≤ largest_window
 fits c =
-    count_fits _ _ _ _ _ c.requires (stored (goal.at.After-count_above-n c).Start) _ c.loop-yy-test.true _ c.loop-yy.invariant _
+    count_fits _ _ _ _ _ c.requires (to_z w32 (of_z w32 c.args.v)) _ c.loop-yy-test.true _ c.loop-yy.invariant _
     c.count_above-n.ensures
 
 pub loop-yy-init : goal.loop-yy-init
 loop-yy-init c = rows_start (lt_z (to_z w32 (of_z w32 c.args.v))) _ _ _ _ _ _ _
 
 pub slice_bounds-count_above-end : goal.slice_bounds-count_above-end
-slice_bounds-count_above-end c = row_in _ _ _ _ _ c.requires (stored (goal.at.slice_bounds-count_above-end c).Start) _ c.loop-yy-test.true
+slice_bounds-count_above-end c = row_in _ _ _ _ _ c.requires (to_z w32 (of_z w32 c.args.v)) _ c.loop-yy-test.true
 
 pub overflow_add-n : goal.overflow_add-n
 overflow_add-n c = omega (arith, fits c)
 
 pub loop-yy-preserved : goal.loop-yy-preserved
 loop-yy-preserved c =
-    count_next _ _ _ _ _ c.requires (stored (goal.at.loop-yy-preserved c).Start) _ c.loop-yy-test.true _ c.loop-yy.invariant _
+    count_next _ _ _ _ _ c.requires (to_z w32 (of_z w32 c.args.v)) _ c.loop-yy-test.true _ c.loop-yy.invariant _
     c.count_above-n.ensures
 
 pub overflow_mul-y : goal.overflow_mul-y
-overflow_mul-y c = omega (arith, centre-small _ _ _ _ _ c.requires (stored (goal.at.overflow_mul-y c).Start))
+overflow_mul-y c = omega (arith, centre-small _ _ _ _ _ c.requires (to_z w32 (of_z w32 c.args.v)))
 
 pub overflow_add-y : goal.overflow_add-y
-overflow_add-y c = omega (arith, centre-small _ _ _ _ _ c.requires (stored (goal.at.overflow_add-y c).Start))
+overflow_add-y c = omega (arith, centre-small _ _ _ _ _ c.requires (to_z w32 (of_z w32 c.args.v)))
 
 pub offset_bounds-map-y : goal.offset_bounds-map-y
-offset_bounds-map-y c = omega (arith, centre-small _ _ _ _ _ c.requires (stored (goal.at.offset_bounds-map-y c).Start))
+offset_bounds-map-y c = omega (arith, centre-small _ _ _ _ _ c.requires (to_z w32 (of_z w32 c.args.v)))
 
 pub bounds-map-y : goal.bounds-map-y
-bounds-map-y c = centre-in _ _ _ _ _ c.requires (stored (goal.at.bounds-map-y c).Start)
+bounds-map-y c = centre-in _ _ _ _ _ c.requires (to_z w32 (of_z w32 c.args.v))
 
 -- ---- behind the last row
 module _ (c : After-t26-1) where
@@ -67,8 +63,8 @@ module _ (c : After-t26-1) where
   centre = get_or c.args.map.now (c.args.y * c.args.w + c.args.x) (pos 0)
 
   -- v is what was stored for it
-  same : stored (goal.at.After-t26-1 c).Start ≡ c.args.v
-  same = read c.args.v c.fits.v.sfits
+  same : to_z w32 (of_z w32 c.args.v) ≡ c.args.v
+  same = read c.args.v c.ranges.v.sfits
 
   abbrev passing : ℤ → ℕ
   passing v =
@@ -76,19 +72,19 @@ module _ (c : After-t26-1) where
 
 pub overflow_sub-result : goal.overflow_sub-result
 overflow_sub-result c =
-    centre-counted _ _ _ _ _ c.requires (stored (goal.at.overflow_sub-result c).Start) _ _ c.loop-yy.invariant c.loop-yy-test.false
-    (test_read (stored (goal.at.overflow_sub-result c).Start) (centre (goal.at.overflow_sub-result c).After-t26-1) true c.t26-1.given c.if-v-map.true)
+    centre-counted _ _ _ _ _ c.requires (to_z w32 (of_z w32 c.args.v)) _ _ c.loop-yy.invariant c.loop-yy-test.false
+    (test_read (to_z w32 (of_z w32 c.args.v)) (centre (goal.at.overflow_sub-result c).After-t26-1) true c.t26-1.given c.if-v-map.true)
 
 pub returns-then-v-map : goal.returns-then-v-map
 returns-then-v-map c =
-    centre-off _ _ _ _ _ c.requires (stored (goal.at.returns-then-v-map c).Start) _ _ c.loop-yy.invariant c.loop-yy-test.false
-    (test_read (stored (goal.at.returns-then-v-map c).Start) (centre (goal.at.returns-then-v-map c).After-t26-1) true c.t26-1.given c.if-v-map.true)
+    centre-off _ _ _ _ _ c.requires (to_z w32 (of_z w32 c.args.v)) _ _ c.loop-yy.invariant c.loop-yy-test.false
+    (test_read (to_z w32 (of_z w32 c.args.v)) (centre (goal.at.returns-then-v-map c).After-t26-1) true c.t26-1.given c.if-v-map.true)
     ∙ ap (passing (goal.at.returns-then-v-map c).After-t26-1) (same (goal.at.returns-then-v-map c).After-t26-1)
 
 pub returns-else-v-map : goal.returns-else-v-map
 returns-else-v-map c =
-    centre-not _ _ _ _ _ c.requires (stored (goal.at.returns-else-v-map c).Start) _ _ c.loop-yy.invariant c.loop-yy-test.false
-    (test_read (stored (goal.at.returns-else-v-map c).Start) (centre (goal.at.returns-else-v-map c).After-t26-1) false c.t26-1.given c.if-v-map.false)
+    centre-not _ _ _ _ _ c.requires (to_z w32 (of_z w32 c.args.v)) _ _ c.loop-yy.invariant c.loop-yy-test.false
+    (test_read (to_z w32 (of_z w32 c.args.v)) (centre (goal.at.returns-else-v-map c).After-t26-1) false c.t26-1.given c.if-v-map.false)
     ∙ ap (passing (goal.at.returns-else-v-map c).After-t26-1) (same (goal.at.returns-else-v-map c).After-t26-1)
 
 pub overflow_mul-a : goal.overflow_mul-a

@@ -19,7 +19,7 @@ use borrow.Author.Rules.{rules}
 use Rattle.sure_peak.proofs.window.count_window.Given as goal
 
 abbrev pub invariant-loop-yy : goal.invariant-loop-yy
-invariant-loop-yy l = CountRows (lt_z (to_z w32 l.v)) l.map l.w (pos 0) l.x0 l.x1 l.initial.yy l.y1 l.n l.yy
+invariant-loop-yy l = CountRows (lt_z l.v) l.map l.w (pos 0) l.x0 l.x1 l.initial.yy l.y1 l.n l.yy
 
 abbrev pub decreases-loop-yy : goal.decreases-loop-yy
 decreases-loop-yy l = l.y1 - l.yy
