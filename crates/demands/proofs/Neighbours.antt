@@ -104,12 +104,12 @@ module _ (p : FrameParams) (maps : List View) where
         all-mapped (OfPeak p maps) (moved v.x0 v.y0) corners
         (all_map (OfPeak p maps) (λ c. OfPeak p maps (moved v.x0 v.y0 c)) (λ c. elsewhere c _ _) corners (corners-of v i))
 
-    found_of : (n : ℕ) → All (λ v. IsIn v maps) (maps_of p img w h (computed_choice p) n)
+    found-of : (n : ℕ) → All (λ v. IsIn v maps) (maps_of p img w h (computed_choice p) n)
         → All (OfPeak p maps) (found_of p img w h (computed_choice p) n)
     unfolding maps_of found_of
-    found_of zero i = tt
-    found_of (suc zero) i = corners-of (level_view p img w h 0) i.0
-    found_of (suc (suc k)) i =
+    found-of zero i = tt
+    found-of (suc zero) i = corners-of (level_view p img w h 0) i.0
+    found-of (suc (suc k)) i =
         let seeds = seeds_of p img w h (computed_choice p) (suc (suc k)) in
         let patch = seed_patch p img w h (suc k) in
         all-flat (OfPeak p maps) (corners_about p img w h (computed_choice p) (suc k)) seeds
@@ -128,7 +128,7 @@ neighbours_kept c =
     let f = finished-tells _ p c.img c.w c.h c.before c.count c.ties c.after c.promise in
     rw f.corners
     (result-all (OfPeak p maps) p.merge_radius (found_of p c.img c.w c.h (computed_choice p) n)
-    (found_of p maps c.img c.w c.h n (all_in maps)))
+    (found-of p maps c.img c.w c.h n (all_in maps)))
 
 -- ---- by exact values
 pub counts_exact : CountsExact

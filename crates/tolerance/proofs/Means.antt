@@ -50,6 +50,11 @@ deviation d Q D t h k = ⊎_elim past short
     short : D ≡ d * Q + t → 2 * t + d * D ≤ 2 * D + 2 * (d * Q)
     short e = let p : d * D ≤ d * (4 * Q) = mul-le-mul_left d k in omega (arith, mul_left_comm d 4 Q)
 
+-- a place more, at d with weight w, x from the mean
+deviated : (Q D S M E x d w : ℕ) → 2 * S + D * M ≤ 2 * (D * E) + 2 * (Q * M) → 2 * x + d * D ≤ 2 * D + 2 * (d * Q)
+    → 2 * (x * w + S) + D * (d * w + M) ≤ 2 * (D * (w + E)) + 2 * (Q * (d * w + M))
+deviated Q D S M E x d w k h = let s = mul-le-mul_right w h in omega arith
+
 -- ---- all places: weights b and e, and d a place of 0 .. 4 for each
 module _ {A : Type 0} (L : ℕ) (b e : A → ℕ) where
   sums-alike : (l : List A) → All (λ a. Alike L (b a) (e a)) l → Alike L (sum_of b l) (sum_of e l)
@@ -89,9 +94,8 @@ module _ {A : Type 0} (L : ℕ) (b e : A → ℕ) where
         → 2 * spread Q D l + D * moment e l ≤ 2 * (D * sum_of e l) + 2 * (Q * moment e l)
     deviations Q D [] h f = omega arith
     deviations Q D (a ∷ l) h f =
-        let k = simp poly at (deviations Q D l h f.1) in
-        let s = simp poly at (mul-le-mul_right (e a) (deviation (d a) Q D (dist (d a * Q) D) f.0 h (distance (d a * Q) D))) in
-        simp poly (omega (arith, s, k))
+        deviated Q D (spread Q D l) (moment e l) (sum_of e l) (dist (d a * Q) D) (d a) (e a) (deviations Q D l h f.1)
+        (deviation (d a) Q D (dist (d a * Q) D) f.0 h (distance (d a * Q) D))
 
 -- ---- the two means Z / Y and D / Q, from the shares of all places
 square : (a b : ℕ) → 2 * (a * b) ≤ a * a + b * b
