@@ -62,7 +62,8 @@ either : (b : Bool) (x : Float) (E : ℤ) → Accurate x E → Accurate (cond b 
 either true x E a = a
 either false x E a = zero-accurate
 
-pub cell-accurate : (img : List ℕ) (w h : ℕ) (t : Ring) (x y : ℕ) → Bytes img → Accurate (response_at img w h t x y) (fifths_at img w h t x y)
+pub cell-accurate : (img : List ℕ) (w h : ℕ) (t : Ring) (x y : ℕ) → Bytes img
+    → Accurate (response_at img w h t x y) (fifths_at img w h t x y)
 unfolding response_at response fifths_at
 cell-accurate img w h t x y bytes = either (inside w h t x y) _ _ (response_accurate _ _ _ _ (in-range img w t x y bytes))
 

@@ -100,7 +100,8 @@ sums sr dr = sub binary32 (float_of sr) (float_of dr)
 
 sums-exact : (sr dr : ℕ) → sr ≤ 2040 → dr ≤ 2040 → IsValue (sums sr dr) (sr * 16 + 0) (0 + dr * 16) 16
 sums-exact sr dr Ss Ds =
-    sub-exact binary32 (float_of sr) (float_of dr) (sr * 16) 0 (dr * 16) 0 4 (int sr 16 (omega arith)) (int dr 16 (omega arith)) (omega arith)
+    sub-exact binary32 (float_of sr) (float_of dr) (sr * 16) 0 (dr * 16) 0 4 (int sr 16 (omega arith)) (int dr 16 (omega arith))
+    (omega arith)
 
 -- ---- the response, for the exact value (c - d) / 5
 pub record Computed (x : Float) (c d : ℕ) : Type 0 where

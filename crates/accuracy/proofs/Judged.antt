@@ -80,13 +80,15 @@ accurate x E v = record {
   positive = above-fifths zero x 0 E nought v.near (λ e. v.exact 0 0 (omega arith));
   negative = below-fifths zero x 0 E nought v.near (λ e. v.exact 0 0 (omega arith));
   level = λ e. v.level (ap plus_part e ∙ sym (ap minus_part e));
-  exact = λ z e. v.exact (plus_part z) (minus_part z) (omega (arith, ap plus_part e ∙ (five-parts z).0, ap minus_part e ∙ (five-parts z).1));
+  exact = λ z e. v.exact (plus_part z) (minus_part z)
+      (omega (arith, ap plus_part e ∙ (five-parts z).0, ap minus_part e ∙ (five-parts z).1));
 }
   where
     nought : IsWhole zero 0
     nought = record { is_finite = tt; equal = refl }
 
-pub response_accurate : (sr dr ring cross : ℕ) → InRange sr dr ring cross → Accurate (response_of sr dr ring cross) (fifths sr dr ring cross)
+pub response_accurate : (sr dr ring cross : ℕ) → InRange sr dr ring cross
+    → Accurate (response_of sr dr ring cross) (fifths sr dr ring cross)
 response_accurate sr dr ring cross i = accurate (response_of sr dr ring cross) (fifths sr dr ring cross) (in-fifths sr dr ring cross i)
 
 -- with no samples the response is +0.0, for 0 fifths

@@ -105,7 +105,8 @@ module _ (t x : Float) (E : ℤ) (p : T (plus t)) (a : Accurate x E) where
           ∙ from-T _ (at_most.1 (λ g. lt-asym x (between_fifths t) a.near.is_finite bar.is_finite l g)))
 
 -- a response is above the moved threshold exactly where its exact value is above the threshold
-pub above-exactly : (t x : Float) (E : ℤ) → T (plus t) → plus_part E ≤ 10200 → Accurate x E → not (le x (between_fifths t)) ≡ fifths_above t E
+pub above-exactly : (t x : Float) (E : ℤ) → T (plus t) → plus_part E ≤ 10200 → Accurate x E
+    → not (le x (between_fifths t)) ≡ fifths_above t E
 unfolding fifths_above
 above-exactly t x (pos k) p h a = above-bar t x (pos k) p a ∙ sym (above-fifths t k p h)
 above-exactly t x (negsuc k) p h a = above-bar t x (negsuc k) p a

@@ -47,7 +47,8 @@ peaks_alike m fifths t k w h border r least whole cells = (
 )
   where
     alike : (peak_places (computed m w t) w h border r least ≡ peak_places (exact fifths t) w h border r least)
-        ↔ ((p : Place) → Inside w h border p → is_peak (exact fifths t) w h r least p ≡ true → is_peak (computed m w t) w h r least p ≡ true)
+        ↔ ((p : Place) → Inside w h border p → is_peak (exact fifths t) w h r least p ≡ true
+        → is_peak (computed m w t) w h r least p ≡ true)
     alike = readings.peaks_alike (computed m w t) (exact fifths t) w h border r least (stands m fifths t k w h whole cells)
 
     both : (p : Place) → Inside w h border p → is_peak (exact fifths t) w h r least p ≡ true

@@ -114,7 +114,8 @@ module _ (m : List Float) (fifths : Place → ℤ) (t : Float) (k w h : ℕ) (wh
     enough =
         le_trans (peak-supported (exact fifths t) w h r least p top)
         (keep-fewer (λ q. lt_z (pos 0) (fifths q)) (positive_in m w) (window w h r p)
-        (window-in (Implies (λ q. lt_z (pos 0) (fifths q)) (positive_in m w)) w h r p (λ q a b. (positive-both m fifths w h cells q a b).1)))
+        (window-in (Implies (λ q. lt_z (pos 0) (fifths q)) (positive_in m w)) w h r p
+        (λ q a b. (positive-both m fifths w h cells q a b).1)))
 
     pub peak-both : (is_peak (computed m w t) w h r least p ≡ true) ↔ All (λ q. Tied m fifths w p q → ⊥) (window w h r p)
     peak-both = (

@@ -70,7 +70,8 @@ module _ (upload : List ℕ) (a : PgmImage) (r : ℕ) (f : pgm.PgmRead upload a)
 
 -- ---- a stream
 module _ (h : Header) (pixels stream : List ℕ) (written : ℕ) (a : FrameWriting) (r : ℕ) (stream' : List ℕ) (written' : ℕ) where
-  pub stream-told : writer.FrameWritten h pixels stream a stream' → r ≡ writer.number_of a → written' ≡ get_or (writer.values_of a) 0 written
+  pub stream-told : writer.FrameWritten h pixels stream a stream' → r ≡ writer.number_of a
+      → written' ≡ get_or (writer.values_of a) 0 written
       → StreamTold h pixels stream written r stream' written'
   stream-told p n x =
       let number = writer.refusal_of h pixels (length stream) in

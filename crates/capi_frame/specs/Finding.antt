@@ -9,5 +9,6 @@ use Rattle.frame.specs.Frame.{Buffers, FrameFound, TakenApart}
 pub record CornersFound (exact : Bool) (p : FrameParams) (img : List ℕ) (w h : ℕ) (b : Buffers)
     (count ties r : ℕ) (b' : Buffers)
     (count' ties' : ℕ) : Type 0 where
-  pub parts : TakenApart (λ a. FrameFound (choice_of p exact) p img w h b a b') (frame_pass p img w h (choice_of p exact))
+  pub parts : TakenApart (λ a. FrameFound (choice_of p exact) p img w h b a b')
+      (frame_pass p img w h (choice_of p exact))
       count ties r count' ties'

@@ -9,5 +9,6 @@ use Rattle.merge.specs.Apart.{MergedApart}
 -- r is the number of the answer, and the separate buffer d and the count are the answer's too
 pub record CornersMergedApart (radius : Float) (count : ℕ) (b d : Slices) (kept r : ℕ) (d' : Slices)
     (kept' : ℕ) : Type 0 where
-  pub answer : MergedApart radius count b d (unless Refused r (Kept (length (result_of radius (corners_of b count))))) d'
+  pub answer : MergedApart radius count b d
+      (unless Refused r (Kept (length (result_of radius (corners_of b count))))) d'
   pub kept_is : kept' ≡ result_or r (length (result_of radius (corners_of b count))) kept

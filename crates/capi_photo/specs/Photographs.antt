@@ -9,5 +9,6 @@ use Rattle.pgm_frame.specs.PgmFrame.{pass_on, PhotographFound}
 pub record PhotographCorners (exact : Bool) (p : FrameParams) (upload : List ℕ) (b : Buffers)
     (count ties r : ℕ) (b' : Buffers)
     (count' ties' : ℕ) : Type 0 where
-  pub parts : TakenApart (λ a. PhotographFound (choice_of p exact) p upload b a b') (pass_on (choice_of p exact) p upload)
+  pub parts : TakenApart (λ a. PhotographFound (choice_of p exact) p upload b a b')
+      (pass_on (choice_of p exact) p upload)
       count ties r count' ties'

@@ -17,7 +17,8 @@ use Rattle.center_of_mass.specs.CenterOfMass.{seed_fits, conditions, refusal_of}
 
 module _ (r : ℕ) (x y : Float) (cells w h : ℕ) where
   -- ---- a map that is refused
-  pub by_map : (has_map : Bool) → has_map ≡ true → (n : ℕ) → n ≡ image_refusal cells w h → (n ≡ 0 → ⊥) → n ≡ refusal_of r x y has_map cells w h
+  pub by_map : (has_map : Bool) → has_map ≡ true → (n : ℕ) → n ≡ image_refusal cells w h → (n ≡ 0 → ⊥)
+      → n ≡ refusal_of r x y has_map cells w h
   unfolding refusal_of
   by_map has_map e n q z = rw e (refused cells w h n _ q z)
 
@@ -31,7 +32,8 @@ module _ (r : ℕ) (x y : Float) (cells w h : ℕ) where
     unfolding refusal_of
     seed-only = go f
       where
-        go : MapFits has_map → refusal_of r x y has_map cells w h ≡ cond (ltb largest_radius r) 3 (cond (not (seed_fits x && seed_fits y)) 4 0)
+        go : MapFits has_map → refusal_of r x y has_map cells w h
+            ≡ cond (ltb largest_radius r) 3 (cond (not (seed_fits x && seed_fits y)) 4 0)
         go (inl g) = rw g.0 (passed cells w h _ g.1)
         go (inr g) = rw g
 

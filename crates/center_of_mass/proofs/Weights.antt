@@ -33,7 +33,8 @@ pub record Usual (x : Float) : Type 0 where
 abbrev pub Weighs : Float → Type 0
 Weighs y = Units binary32 y (units_of y) × (units_of y ≤ 8192 * 2 ^ low binary32)
 
-plain : (m : ℕ) (e : ℤ) → fits binary32 (fin false m e) ≡ true → T (le (fin false m e) (of_int binary32 (pos 8192))) → Weighs (fin false m e)
+plain : (m : ℕ) (e : ℤ) → fits binary32 (fin false m e) ≡ true → T (le (fin false m e) (of_int binary32 (pos 8192)))
+    → Weighs (fin false m e)
 plain m e f h =
     let top = of_int binary32 (pos 8192) in
     let v = own-units m e f in (

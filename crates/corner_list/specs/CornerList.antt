@@ -1,5 +1,6 @@
 -- A list of corners in a buffer of four slices, of which the shortest counts (RULES 1.5, 1.6).
-use Rattle.std.specs.Prelude.{ℕ, suc, min, Bool, false, ◌&&◌, cond, List, [], ◌∷◌, ◌++◌, map, length, get_or, set, take, drop, ltb, pos, Float}
+use Rattle.std.specs.Prelude.{ℕ, suc, min, Bool, false, ◌&&◌, cond, List, [], ◌∷◌, ◌++◌, map, length, get_or, set, take}
+use Rattle.std.specs.Prelude.{drop, ltb, pos, Float}
 use Rattle.std.specs.Float.{nan, fin}
 use Rattle.lists.specs.Tab.{tab}
 use Rattle.lists.specs.Buffer.{front, placed}

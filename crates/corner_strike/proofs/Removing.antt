@@ -9,7 +9,8 @@ use lib.Seq.{length-take-le, take-suc, take_at, take_all, drop-cons, get_or-appe
 use Rattle.lists.specs.Tab.{tab}
 use Rattle.lists.proofs.Tab.{tab-add, length-tab}
 use Rattle.corner_list.specs.declared.Corner.{Corner}
-use Rattle.corner_list.specs.CornerList.{Slices, places_of, corner_at, corners_of, with_corner, front_corners, without, no_corner, without_corner}
+use Rattle.corner_list.specs.CornerList.{Slices, places_of, corner_at, corners_of, with_corner, front_corners, without, no_corner}
+use Rattle.corner_list.specs.CornerList.{without_corner}
 use Rattle.corner_list.proofs.Corners.{corners-length, corners-at, corners-same, corners-behind, corners-next, corners-front}
 use Rattle.corner_list.proofs.Corners.{front-xs, front-ys, front-strengths, front-neighbours}
 
@@ -96,7 +97,8 @@ module _ (b₀ : Slices) (n place : ℕ) (p : place < n) (h : n ≤ places_of b�
   -- and place by place
   removed-at : (i : ℕ) → i < n → corner_at (without_corner place n b₀) i ≡ get_or freed i (corner_at b₀ 0)
   removed-at i l =
-      sym (corners-at (without_corner place n b₀) n i (corner_at b₀ 0) l) ∙ ap (λ (cs : List Corner). get_or cs i (corner_at b₀ 0)) freed-corners
+      sym (corners-at (without_corner place n b₀) n i (corner_at b₀ 0) l)
+      ∙ ap (λ (cs : List Corner). get_or cs i (corner_at b₀ 0)) freed-corners
 
   removed-stays : (i : ℕ) → i < n - 1 → corner_at (without_corner place n b₀) i ≡ get_or (left b₀ n place) i (corner_at b₀ 0)
   removed-stays i l =
@@ -153,7 +155,8 @@ module _ (b₀ : Slices) (n place : ℕ) (p : place < n) (h : n ≤ places_of b�
       upto = omega arith;
       is = put c b' e
           ∙ ap (λ (k : Corner). front_corners (take at (left b₀ n place) ++ (k ∷ [])) b₀) (r ∙ next-corner (omega arith))
-          ∙ ap (λ (cs : List Corner). front_corners cs b₀) (sym (take-suc (left b₀ n place) at (corner_at b₀ 0) (omega (arith, left-length))))
+          ∙ ap (λ (cs : List Corner). front_corners cs b₀)
+          (sym (take-suc (left b₀ n place) at (corner_at b₀ 0) (omega (arith, left-length))))
           ∙ ap (λ (k : ℕ). front_corners (take k (left b₀ n place)) b₀) (sym (add-one at));
     }
 

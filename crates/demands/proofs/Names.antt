@@ -18,7 +18,8 @@ PlaceInRange p = (p.x < largest_side) × (p.y < largest_side)
 
 float-only : (a b : ℕ) → a < largest_side → b < largest_side → float_of a ≡ float_of b → a ≡ b
 float-only a b p q e =
-    let v = value-unique (float_of a) false a 1 b 1 (of_int-value binary32 a (omega arith)) (rw e (of_int-value binary32 b (omega arith))) in
+    let v = value-unique (float_of a) false a 1 b 1 (of_int-value binary32 a (omega arith))
+    (rw e (of_int-value binary32 b (omega arith))) in
     omega arith
 
 name-only : (p q : Place) → PlaceInRange p → PlaceInRange q → name_of p ≡ name_of q → p ≡ q

@@ -22,7 +22,8 @@ use Rattle.merge.proofs.Result.{result-all}
 use Rattle.frame_params.specs.declared.FrameParams.{FrameParams}
 use Rattle.patch_corners.specs.OneMap.{centre_or_none, moved, search_on, computed_choice, localized, corners_in}
 use Rattle.patch_corners.proofs.Fine.{Fine}
-use Rattle.frame_pass.specs.Pass.{levels_in, level_view, seed_patch, corners_on, corners_about, seeds_of, found_of, frame_pass, maps_of, looked_at}
+use Rattle.frame_pass.specs.Pass.{levels_in, level_view, seed_patch, corners_on, corners_about, seeds_of, found_of, frame_pass, maps_of}
+use Rattle.frame_pass.specs.Pass.{looked_at}
 use Rattle.frame_pass.proofs.Maps.{looked-fine}
 use Rattle.frame.proofs.Callers.{finished-tells}
 use Rattle.demands.specs.Neighbours.{own_maps, IsIn, OfPeak, NeighboursKept, exact_neighbours, CountsExact}

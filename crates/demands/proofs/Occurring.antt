@@ -42,6 +42,7 @@ unfolding occurring sub mul div of_bits counted range row rows_from block count 
     detect.conditions
     detect.refusal_of seed_fits refined multiscale.refusal_of is_off is_sized merge.refusal_of refusal_apart refusal_for showing.refusal_of
     striking.refusal_of
-    parameters_fit frame.refusal_of bare field_of pixels_in photograph.refusal_of read_frame frame_bytes writer.refusal_of retouch.refusal_of
+    parameters_fit frame.refusal_of bare field_of pixels_in photograph.refusal_of read_frame frame_bytes writer.refusal_of
+    retouch.refusal_of
     limits.refusal_of sure.refusal_of retention.refusal_of
 numbers_occur = refl

@@ -119,7 +119,8 @@ behind_unread = record {
 }
 
 -- the plain header with what follows it, as one list, and where that begins
-header-as : (w h : ℕ) (t : List ℕ) → plain_header w h ++ t ≡ 80 ∷ 53 ∷ 10 ∷ (decimal w ++ (32 ∷ (decimal h ++ (10 ∷ 50 ∷ 53 ∷ 53 ∷ 10 ∷ t))))
+header-as : (w h : ℕ) (t : List ℕ)
+    → plain_header w h ++ t ≡ 80 ∷ 53 ∷ 10 ∷ (decimal w ++ (32 ∷ (decimal h ++ (10 ∷ 50 ∷ 53 ∷ 53 ∷ 10 ∷ t))))
 header-as w h t = simp append_assoc
 
 raster-is : (w h : ℕ) (t : List ℕ) → raster_at (plain_header w h ++ t) ≡ length (plain_header w h)

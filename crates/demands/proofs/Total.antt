@@ -197,7 +197,8 @@ merge-refuses : (radius : Float) (places count : ℕ) (b : Slices) (n : ℕ) (r 
     → Refuses merged.Refused (4 ∷ 5 ∷ 10 ∷ []) r
 unfolding merge.refusal_of
 merge-refuses radius places count b n r f =
-    merge-numbers (not (is_off radius) && any corner_outside (corners_of b (min count places))) (radius_outside radius) (ltb places count) n r f
+    merge-numbers (not (is_off radius) && any corner_outside (corners_of b (min count places))) (radius_outside radius)
+    (ltb places count) n r f
 
 apart-refuses : (radius : Float) (places count : ℕ) (b : Slices) (n : ℕ) (r : Merged)
     → r ≡ unless merged.Refused (refusal_apart radius places count b) (merged.Kept n)

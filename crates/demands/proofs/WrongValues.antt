@@ -39,7 +39,8 @@ unfolding wrong_values tool_roads lt le add sub mul div of_int of_bits to_bits t
     abs lift nearest_whole
     round_half_away total ring5 ring_of samples response_of with_pair passed_after fifths_at without_corner square window beaten equals
     positives is_peak
-    peak_places fifths_above rows_inside enough_of with_cells seed_fits refusal_of centre_on outcome_of refined roi_radius is_off grid_of near
+    peak_places fifths_above rows_inside enough_of with_cells seed_fits refusal_of centre_on outcome_of refined roi_radius is_off
+    grid_of near
     adjacent_cells result_of
     naive_of bare field_of pgm.conditions pgm.refusal_of pgm.pixels_in units_of low_at is_sure striking.refusal_of pixel_bytes frame_bytes
     stays state_of

@@ -1,6 +1,7 @@
 -- The worked cases that RULES 14 marks P, as one table: what the definitions give and what the rules say, both as lists
 -- of integers.
-use Rattle.std.specs.Prelude.{ℕ, ◌≡◌, List, [], ◌∷◌, map, ℤ, pos, negsuc, length, replicate, set, Bool, true, false, cond, Float}
+use Rattle.std.specs.Prelude.{ℕ, ◌≡◌, List, [], ◌∷◌, map, ℤ, pos, negsuc, length, replicate, set, Bool, true, false}
+use Rattle.std.specs.Prelude.{cond, Float}
 use Rattle.std.specs.Float.{fin, binary32}
 use Rattle.std.specs.Float.Ieee.{lt, to_bits}
 use Rattle.float32.specs.Float32.{zero, float_of}

@@ -2,7 +2,8 @@
 -- is, for each function of `Total` and each number of its list, a call that is refused with it. What refuses a call is
 -- written as in the `number` field of the function's promise, so that field gives this number for any call with these
 -- arguments.
-use Rattle.std.specs.Prelude.{ℕ, ◌+◌, ◌^◌, min, ◌≡◌, Bool, true, false, List, [], ◌∷◌, ◌++◌, map, length, replicate, ℤ, pos, Float}
+use Rattle.std.specs.Prelude.{ℕ, ◌+◌, ◌^◌, min, ◌≡◌, Bool, true, false, List, [], ◌∷◌, ◌++◌, map, length, replicate, ℤ}
+use Rattle.std.specs.Prelude.{pos, Float}
 use Rattle.std.specs.Float.{nan, fin}
 use Rattle.lists.specs.Places.{Place}
 use Rattle.lists.specs.Refusals.{lowest}

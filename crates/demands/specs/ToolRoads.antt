@@ -1,5 +1,6 @@
 -- Wrong roads that lead to a wrong value (RULES 15.3), for the tools beside the finder.
-use Rattle.std.specs.Prelude.{ℕ, suc, ◌+◌, ◌-◌, ◌*◌, ◌%◌, ◌^◌, min, Bool, false, cond, not, ◌||◌, List, [], ◌∷◌, ◌++◌, eqb, ltb, leb, length, get_or, set, drop, replicate, ℤ, pos, Float}
+use Rattle.std.specs.Prelude.{ℕ, suc, ◌+◌, ◌-◌, ◌*◌, ◌%◌, ◌^◌, min, Bool, false, cond, not, ◌||◌, List, [], ◌∷◌, ◌++◌}
+use Rattle.std.specs.Prelude.{eqb, ltb, leb, length, get_or, set, drop, replicate, ℤ, pos, Float}
 use Rattle.std.specs.Int.Signed.{lt_z}
 use Rattle.std.specs.Float.{nan, binary32}
 use Rattle.std.specs.Float.Ieee.{of_bits, to_bits}
@@ -138,7 +139,8 @@ between =
     ∷ road (minus_part (low_at dark lit 11 11 ring5 5 5)) 16 (minus_part (fifths_at dark 11 11 ring5 5 5)) 0
     -- "whose low exceeds five times that threshold": is at least that (RULES 28.6)
     ∷ road (sure (about 0 10) (about 0 10) 2 0) 0
-    (sure_by 0 (above_by (about 0 10) (about 0 10) 2 (λ p. not (lt_z (stored_fifths (about 0 10) 13 p) (pos (5 * 2)))))) 1
+    (sure_by 0 (above_by (about 0 10) (about 0 10) 2
+    (λ p. not (lt_z (stored_fifths (about 0 10) 13 p) (pos (5 * 2)))))) 1
     -- with the product cut to 32 bits
     ∷ road (sure (about 0 most) (about 0 most) (2 ^ 30) 0) 0
     (sure_by 0 (above_by (about 0 most) (about 0 most) (2 ^ 30)
@@ -198,7 +200,8 @@ deleted =
     -- "gone on d+90": held on it
     road (letter_of (state_of 2 0 (90 * 86400))) 71 (letter_of (held_if (leb (day_of (90 * 86400)) (day_of 0 + 90)))) 72
     -- "days d to d+89": 90 days of seconds, here from the last second of day 0 on
-    ∷ road (letter_of (state_of 2 86399 (90 * 86400))) 71 (letter_of (held_if (ltb (90 * 86400) (86399 + 90 * 86400)))) 72
+    ∷ road (letter_of (state_of 2 86399 (90 * 86400))) 71
+    (letter_of (held_if (ltb (90 * 86400) (86399 + 90 * 86400)))) 72
     -- "up to but excluding t + 604,800": including it
     ∷ road (letter_of (state_of 3 0 604800)) 71 (letter_of (held_if (leb 604800 (0 + 604800)))) 72
     -- "Before the second of receipt .. a photograph's own day included": before the day

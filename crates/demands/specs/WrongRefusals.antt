@@ -1,5 +1,6 @@
 -- Wrong roads that lead to a wrong refusal (RULES 15.3): by another condition, or in another order. 0 means no refusal.
-use Rattle.std.specs.Prelude.{ℕ, ◌+◌, ◌*◌, ◌%◌, ◌^◌, Bool, true, false, not, ◌&&◌, List, [], ◌∷◌, ◌++◌, eqb, ltb, leb, length, take, drop, Float}
+use Rattle.std.specs.Prelude.{ℕ, ◌+◌, ◌*◌, ◌%◌, ◌^◌, Bool, true, false, not, ◌&&◌, List, [], ◌∷◌, ◌++◌, eqb, ltb, leb}
+use Rattle.std.specs.Prelude.{length, take, drop, Float}
 use Rattle.std.specs.Float.{nan}
 use Rattle.lists.specs.Places.{any}
 use Rattle.lists.specs.Refusals.{lowest, is_large}
@@ -99,7 +100,8 @@ apart =
     -- that of the merge in place, however short the separate buffer
     ∷ road (refusal_apart three 1 2 joining) 10 (merge.refusal_of three 2 2 joining) 0
     -- "in its order": 4, checked for only as many corners as the separate buffer has places
-    ∷ road (refusal_apart three 1 2 with_outside) 4 (lowest (merge.conditions three (corners_of with_outside 1) true)) 10
+    ∷ road (refusal_apart three 1 2 with_outside) 4
+    (lowest (merge.conditions three (corners_of with_outside 1) true)) 10
     ∷ []
 
 -- ---- request 8, retouched pixels (RULES 2.3): an image without a pixel, and a ring of 0

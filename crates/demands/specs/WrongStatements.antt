@@ -51,7 +51,8 @@ Cross15 =
 
 -- request 11, "the same up to its kind 4 byte": the same, with what follows (RULES 30.5)
 abbrev pub RewrittenWhole : Type 0
-RewrittenWhole = (s : List ℕ) (h : Header) (pixels : List ℕ) → read_frame s ≡ accepted h pixels → frame_bytes h pixels ≡ s
+RewrittenWhole =
+    (s : List ℕ) (h : Header) (pixels : List ℕ) → read_frame s ≡ accepted h pixels → frame_bytes h pixels ≡ s
 
 -- request 14, "within 1/32 pixel of the exact centroid": the exact centroid itself (RULES 33.2)
 abbrev exact_in : List ℕ → ℕ → ℕ → Place → ℤ
@@ -61,7 +62,8 @@ abbrev pub CentreExact : Type 0
 CentreExact =
     (img : List ℕ) (w h r : ℕ) (x y cx cy mass : Float)
     → refined r x y true (cells (whole img w h ring5)) w h ≡ Accepted cx cy mass
-    → IsValue cx (exact_x (exact_in img w h) (summed_cells r x y)) 0 (exact_mass (exact_in img w h) (summed_cells r x y))
+    → IsValue cx (exact_x (exact_in img w h) (summed_cells r x y)) 0
+    (exact_mass (exact_in img w h) (summed_cells r x y))
 
 -- each is false
 pub record WrongStatements : Type 0 where

@@ -1,6 +1,7 @@
 -- Wrong roads that lead to a wrong value (RULES 15.3), for the finder; those of the tools beside it are in
 -- ToolRoads.antt.
-use Rattle.std.specs.Prelude.{ℕ, ◌+◌, ◌-◌, ◌*◌, ◌/◌, min, Bool, true, false, cond, not, ◌&&◌, List, [], ◌∷◌, ◌++◌, map, eqb, ltb, length, get_or, set, replicate, ℤ, pos, negsuc, nat_abs, Float}
+use Rattle.std.specs.Prelude.{ℕ, ◌+◌, ◌-◌, ◌*◌, ◌/◌, min, Bool, true, false, cond, not, ◌&&◌, List, [], ◌∷◌, ◌++◌, map}
+use Rattle.std.specs.Prelude.{eqb, ltb, length, get_or, set, replicate, ℤ, pos, negsuc, nat_abs, Float}
 use Rattle.std.specs.Float.{nan, fin, binary32}
 use Rattle.std.specs.Float.Ieee.{add, sub, mul, div, lt, le, to_bits, to_unsigned}
 use Rattle.lists.specs.Places.{Place, block, any, keep, count, sum_of}
@@ -231,7 +232,8 @@ ties =
     (told (beaten (λ q p. not (le (value_at nan_first 2 q) (value_at nan_first 2 p))) 2 1 1 (place 0 0))) 1
     -- "with 0 ties": equal if their bits are
     ∷ road (equals (equal_in nans 2) 2 1 1 (place 0 0)) 0
-    (equals (λ q p. eqb (to_bits binary32 (value_at nans 2 q)) (to_bits binary32 (value_at nans 2 p))) 2 1 1 (place 0 0)) 1
+    (equals (λ q p. eqb (to_bits binary32 (value_at nans 2 q)) (to_bits binary32 (value_at nans 2 p))) 2 1 1
+    (place 0 0)) 1
     -- "its sum over the peaks it adds": how many of them have a tie (RULES 23.2)
     ∷ road (ties_in equal_row search_row) 4
     (count (λ p. ltb 0 (ties_at equal_row search_row p)) (peaks_in equal_row search_row)) 3

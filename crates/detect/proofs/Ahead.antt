@@ -1,5 +1,6 @@
 -- The places inside the border from a place on: by the first of them, at a row's end, and past cells that fail a test. Assumes nothing.
-use Rattle.std.proofs.Common.{◌≡◌, ℕ, zero, suc, ◌+◌, ◌-◌, ◌<◌, ◌≤◌, Bool, true, false, cond, ltb, [], ◌∷◌, ◌++◌, refl, ap, ◌∙◌, add-zero, arith, ltb-false, ltb-true, le-ltb, lt-ltb}
+use Rattle.std.proofs.Common.{◌≡◌, ℕ, zero, suc, ◌+◌, ◌-◌, ◌<◌, ◌≤◌, Bool, true, false, cond, ltb, [], ◌∷◌, ◌++◌, refl, ap, ◌∙◌, add-zero}
+use Rattle.std.proofs.Common.{arith, ltb-false, ltb-true, le-ltb, lt-ltb}
 use Rattle.lists.specs.Places.{Place, row, block, keep}
 use Rattle.lists.proofs.Places.{row_step, row-end, block-step, block-end}
 use Rattle.detect.specs.declared.Search.{Search}

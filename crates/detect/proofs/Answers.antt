@@ -1,6 +1,7 @@
 -- Inputs without a fault, and the answers of peak finding: each from the tests that lead to it, and what a caller learns from it.
 -- Assumes nothing.
-use Rattle.std.proofs.Common.{◌≡◌, ℕ, zero, suc, ◌+◌, ◌*◌, ◌<◌, ◌≤◌, Bool, true, false, not, ltb, List, [], ◌∷◌, length, sym, refl, ap, ◌∙◌, ap₂, ⊎_elim, eq-zero-or-pos, arith, ltb-false, ltb-true, le-ltb, lt-ltb, eq-eqb}
+use Rattle.std.proofs.Common.{◌≡◌, ℕ, zero, suc, ◌+◌, ◌*◌, ◌<◌, ◌≤◌, Bool, true, false, not, ltb, List, [], ◌∷◌, length, sym, refl, ap, ◌∙◌}
+use Rattle.std.proofs.Common.{ap₂, ⊎_elim, eq-zero-or-pos, arith, ltb-false, ltb-true, le-ltb, lt-ltb, eq-eqb}
 use native.Mathlib.Decide.{dec_lt}
 use lib.ListN.{length-map}
 use lib.Ieee.{Float}

@@ -1,5 +1,6 @@
 -- Peaks: a place by its tests, where the peaks of a map lie and how many there can be, and when there are none. Assumes nothing.
-use Rattle.std.proofs.Common.{◌≡◌, ℕ, ◌-◌, ◌*◌, ◌<◌, ◌≤◌, Bool, true, false, not, T, leb, List, [], length, sym, ap, ◌∙◌, ap₂, mul_comm, arith, leb-true}
+use Rattle.std.proofs.Common.{◌≡◌, ℕ, ◌-◌, ◌*◌, ◌<◌, ◌≤◌, Bool, true, false, not, T, leb, List, [], length, sym, ap, ◌∙◌, ap₂, mul_comm}
+use Rattle.std.proofs.Common.{arith, leb-true}
 use mathlib.Core.Bool.{and-false}
 use lib.Ieee.{Float, le, is_nan}
 use borrow.Author.Tests.{not-true, lt-leb}

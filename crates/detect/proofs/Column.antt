@@ -23,5 +23,6 @@ high = refl
 
 -- one or none of a map that is narrow, and high enough
 narrow : flat_map (enough (replicate 130 (float_of 7)) 10) (1 ∷ 0 ∷ []) ≡ 0 ∷ 0 ∷ 1 ∷ 0 ∷ []
-unfolding enough_of rows_inside peak_places is_peak beaten positives window square counted range row rows_from block count lt le eq of_int lift
+unfolding enough_of rows_inside peak_places is_peak beaten positives window square counted range row rows_from block count lt le
+    eq of_int lift
 narrow = refl

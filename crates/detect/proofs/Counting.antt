@@ -1,5 +1,6 @@
 -- Peaks searched for one after the other until there are as many as wanted: where the search stands, and the answer. Assumes nothing.
-use Rattle.std.proofs.Common.{◌≡◌, ℕ, zero, suc, ◌+◌, ◌-◌, ◌<◌, ◌≤◌, Bool, true, false, cond, leb, List, [], ◌∷◌, length, drop, sym, refl, ap, ◌∙◌, add-one, arith, length-drop, drop_of_length-le, drop-cons, le-leb}
+use Rattle.std.proofs.Common.{◌≡◌, ℕ, zero, suc, ◌+◌, ◌-◌, ◌<◌, ◌≤◌, Bool, true, false, cond, leb, List, [], ◌∷◌, length, drop, sym, refl}
+use Rattle.std.proofs.Common.{ap, ◌∙◌, add-one, arith, length-drop, drop_of_length-le, drop-cons, le-leb}
 use mathlib.Core.List.{tail-eq_of_cons-eq}
 use lib.Ieee.{Float}
 use borrow.Author.Tests.{lt-leb}
@@ -81,8 +82,10 @@ module _ (conds : List (Bool × ℕ)) (m : List Float) (s : Search) (wanted : �
   enough-found z t same r is =
       let e = is ∙ ap (λ (u : Search). enough_of u wanted (peaks_in m u)) same in record {
         answer = e ∙ rw z;
-        number = ap number_of e ∙ unfold enough_of in (number (leb wanted (length (peaks_in m s))) (rows_for s wanted (peaks_in m s))) ∙ sym z;
-        values = ap values_of e ∙ unfold enough_of in (values (leb wanted (length (peaks_in m s))) (rows_for s wanted (peaks_in m s))) ∙ rw z;
+        number = ap number_of e ∙ unfold enough_of in
+            (number (leb wanted (length (peaks_in m s))) (rows_for s wanted (peaks_in m s))) ∙ sym z;
+        values = ap values_of e ∙ unfold enough_of in
+            (values (leb wanted (length (peaks_in m s))) (rows_for s wanted (peaks_in m s))) ∙ rw z;
       }
     where
       number : (b : Bool) (rows : ℕ) → number_of (answer_of b rows) ≡ 0

@@ -1,5 +1,7 @@
 -- A table of the first peaks: numbers of peaks, a peak listed, and the peaks taken from it one after the other. Assumes nothing.
-use Rattle.std.proofs.Common.{◌≡◌, ℕ, zero, suc, ◌+◌, ◌-◌, ◌*◌, ◌/◌, ◌%◌, ◌<◌, ◌≤◌, true, false, ltb, List, length, get_or, set, sym, refl, ap, ◌∙◌, add-zero, mod-eq_of_lt, add-one, arith, length-set, get_or-set_other, get_or-set_same, le-ltb, lt-ltb}
+use Rattle.std.proofs.Common.{◌≡◌, ℕ, zero, suc, ◌+◌, ◌-◌, ◌*◌, ◌/◌, ◌%◌, ◌<◌, ◌≤◌, true, false, ltb, List, length, get_or, set, sym, refl}
+use Rattle.std.proofs.Common.{ap, ◌∙◌, add-zero, mod-eq_of_lt, add-one, arith, length-set, get_or-set_other, get_or-set_same, le-ltb}
+use Rattle.std.proofs.Common.{lt-ltb}
 use native.Mathlib.Nat.{div-eq_of_lt, mul-add-mod_self_right, mul-add-div_right}
 use native.Mathlib.Decide.{dec_lt}
 use lib.Ieee.{Float}
@@ -164,7 +166,8 @@ module _ (m : List Float) (s : Search) (t : List ℕ) (n i : ℕ) (p : Place) (a
       sym (le-ltb places (held + length (peaks_in m s)) all)
 
 -- there are no more than cells
-pub counting-few : (m : List Float) (s : Search) (t : List ℕ) (n i : ℕ) (p : Place) → Searchable m s → Counting m s t n i p → i ≤ largest_map
+pub counting-few : (m : List Float) (s : Search) (t : List ℕ) (n i : ℕ) (p : Place) → Searchable m s → Counting m s t n i p
+    → i ≤ largest_map
 counting-few m s t n i p k a =
     let most = peaks-at-most (read_in m s) s.w s.h s.border s.window s.least_neighbours in
     omega (arith, a.sum, most, inside-few s k.wide k.high)

@@ -1,6 +1,7 @@
 -- The marks of a run: each cell that is not passed over sets its binary digit, so the cells before the lowest digit that is set are passed
 -- over. Assumes nothing.
-use Rattle.std.proofs.Common.{◌≡◌, ℕ, zero, suc, ◌+◌, ◌-◌, ◌*◌, ◌/◌, ◌%◌, ◌^◌, ◌<◌, ◌≤◌, Bool, true, false, cond, sym, refl, ap, ◌∙◌, subst, ap₂, mod-eq_of_lt, mul_assoc, add-one, arith, pow_pos, pow_mono, pow-add}
+use Rattle.std.proofs.Common.{◌≡◌, ℕ, zero, suc, ◌+◌, ◌-◌, ◌*◌, ◌/◌, ◌%◌, ◌^◌, ◌<◌, ◌≤◌, Bool, true, false, cond, sym, refl, ap, ◌∙◌, subst}
+use Rattle.std.proofs.Common.{ap₂, mod-eq_of_lt, mul_assoc, add-one, arith, pow_pos, pow_mono, pow-add}
 use native.Mathlib.Nat.{mod-one, zero-mod, add-mul-mod_self_right}
 use native.Mathlib.Decide.{dec_lt}
 use lib.Count.{count_trailing_zeros, under}

@@ -1,6 +1,7 @@
 -- Which cells of a map a search reads: for one cell its window, and for a whole map the cells no nearer to an edge than
 -- the border minus the window's radius. Assumes nothing.
-use Rattle.std.proofs.Common.{◌≡◌, ℕ, ◌+◌, ◌-◌, ◌<◌, ◌≤◌, Bool, true, false, cond, not, ◌&&◌, ◌||◌, leb, List, [], ◌∷◌, map, length, refl, ap, ◌∙◌, ap₂, arith}
+use Rattle.std.proofs.Common.{◌≡◌, ℕ, ◌+◌, ◌-◌, ◌<◌, ◌≤◌, Bool, true, false, cond, not, ◌&&◌, ◌||◌, leb, List, [], ◌∷◌, map, length, refl}
+use Rattle.std.proofs.Common.{ap, ◌∙◌, ap₂, arith}
 use lib.Ieee.{Float, lt, eq}
 use Rattle.lists.specs.Places.{Place, block, any, count, sum_of, All}
 use Rattle.lists.proofs.Members.{all_map, all-block, keep-alike}

@@ -1,6 +1,7 @@
 -- The four cells beside a cell: the greatest of them is one of them, and a cell that one of them beats is beaten in its window. Assumes
 -- nothing.
-use Rattle.std.proofs.Common.{◌≡◌, ℕ, suc, ◌+◌, ◌-◌, ◌*◌, ◌<◌, ◌≤◌, Bool, true, false, cond, ◌&&◌, ◌||◌, List, length, get_or, sym, refl, ap, ◌∙◌, suc-mul, arith}
+use Rattle.std.proofs.Common.{◌≡◌, ℕ, suc, ◌+◌, ◌-◌, ◌*◌, ◌<◌, ◌≤◌, Bool, true, false, cond, ◌&&◌, ◌||◌, List, length, get_or, sym, refl}
+use Rattle.std.proofs.Common.{ap, ◌∙◌, suc-mul, arith}
 use mathlib.Core.Bool.{false≢true}
 use lib.Ieee.{Float, nan, binary32, add, lt}
 use Rattle.lists.specs.Places.{Place, any}

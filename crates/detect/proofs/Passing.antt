@@ -1,5 +1,6 @@
 -- A run of cells of a row that are passed over: none of them is a peak. Assumes nothing.
-use Rattle.std.proofs.Common.{◌≡◌, ℕ, suc, ◌+◌, ◌-◌, ◌*◌, ◌<◌, ◌≤◌, Bool, true, false, cond, not, ◌&&◌, ◌||◌, ltb, List, get_or, sym, refl, ap, ◌∙◌, subst, suc-mul, arith, ltb-true}
+use Rattle.std.proofs.Common.{◌≡◌, ℕ, suc, ◌+◌, ◌-◌, ◌*◌, ◌<◌, ◌≤◌, Bool, true, false, cond, not, ◌&&◌, ◌||◌, ltb, List, get_or, sym, refl}
+use Rattle.std.proofs.Common.{ap, ◌∙◌, subst, suc-mul, arith, ltb-true}
 use mathlib.Core.Bool.{false≢true}
 use lib.Ieee.{Float, nan, binary32, add, lt}
 use Rattle.detect.specs.declared.Search.{Search}

@@ -1,5 +1,6 @@
 -- Cells at or below the threshold, at the front of a list and along a row of a map: a search may pass over them. Assumes nothing.
-use Rattle.std.proofs.Common.{◌≡◌, ℕ, ◌+◌, ◌-◌, ◌*◌, ◌<◌, ◌≤◌, true, false, not, List, length, get_or, take, drop, sym, refl, ap, ◌∙◌, arith, length-drop, length-take, get_or-drop, get_or-take}
+use Rattle.std.proofs.Common.{◌≡◌, ℕ, ◌+◌, ◌-◌, ◌*◌, ◌<◌, ◌≤◌, true, false, not, List, length, get_or, take, drop, sym, refl, ap, ◌∙◌}
+use Rattle.std.proofs.Common.{arith, length-drop, length-take, get_or-drop, get_or-take}
 use native.Mathlib.Decide.{dec_lt}
 use lib.Ieee.{Float, nan, le}
 use borrow.Author.Count as passed

@@ -1,5 +1,6 @@
 -- What a search for so many peaks can see: two maps that are alike near the rows it looks at have the same answer. Assumes nothing.
-use Rattle.std.proofs.Common.{◌≡◌, ℕ, zero, suc, ◌+◌, ◌-◌, ◌*◌, ◌<◌, ◌≤◌, Bool, true, List, [], ◌∷◌, ◌++◌, length, get_or, take, drop, sym, refl, ap, ◌∙◌, subst, ap₂, arith, length-append, take-append-drop, drop-cons, le-leb}
+use Rattle.std.proofs.Common.{◌≡◌, ℕ, zero, suc, ◌+◌, ◌-◌, ◌*◌, ◌<◌, ◌≤◌, Bool, true, List, [], ◌∷◌, ◌++◌, length, get_or, take, drop, sym}
+use Rattle.std.proofs.Common.{refl, ap, ◌∙◌, subst, ap₂, arith, length-append, take-append-drop, drop-cons, le-leb}
 use native.Mathlib.Decide.{dec_lt}
 use lib.Seq.{drop-append-le, drop-append-add}
 use lib.Ieee.{Float}
@@ -67,7 +68,8 @@ module _ (s : Search) where
       ]
 
   -- and decides the answer
-  enough-upper : (d : Place) (l t : List Place) (k : ℕ) → k < length l → enough_of s (suc k) (l ++ t) ≡ Yes ((get_or l k d).y - s.border + 1)
+  enough-upper : (d : Place) (l t : List Place) (k : ℕ) → k < length l
+      → enough_of s (suc k) (l ++ t) ≡ Yes ((get_or l k d).y - s.border + 1)
   unfolding enough_of
   enough-upper d l t k h =
       ap₂ answer_of (le-leb (suc k) (length (l ++ t)) (omega (arith, length-append l t)))

@@ -1,6 +1,7 @@
 -- The square of five by five cells about a cell: the greatest of them is one of them, and a cell that one of them beats is beaten in its
 -- window. Assumes nothing.
-use Rattle.std.proofs.Common.{◌≡◌, ℕ, ◌+◌, ◌-◌, ◌*◌, ◌<◌, ◌≤◌, Bool, true, false, cond, not, List, length, get_or, sym, refl, ap, ◌∙◌, subst, add-mul, arith}
+use Rattle.std.proofs.Common.{◌≡◌, ℕ, ◌+◌, ◌-◌, ◌*◌, ◌<◌, ◌≤◌, Bool, true, false, cond, not, List, length, get_or, sym, refl, ap, ◌∙◌}
+use Rattle.std.proofs.Common.{subst, add-mul, arith}
 use lib.Ieee.{Float, nan, lt}
 use Rattle.lists.specs.Places.{Place, any}
 use Rattle.lists.proofs.Members.{at_block, any_none}

@@ -101,7 +101,8 @@ module _ (m : List Float) (s : Search) (p : Place) where
     pub test-neighbours : (n k : ℕ) → t ≡ Peak n k → n ≡ neighbours_at m s p
     test-neighbours n k is = ap (neighbours_or (neighbours_at m s p)) (sym is ∙ told) ∙ pick (peak_in m s p)
       where
-        pick : (b : Bool) → neighbours_or (neighbours_at m s p) (cond b (Peak (neighbours_at m s p) (ties_at m s p)) No) ≡ neighbours_at m s p
+        pick : (b : Bool) → neighbours_or (neighbours_at m s p) (cond b (Peak (neighbours_at m s p) (ties_at m s p)) No)
+            ≡ neighbours_at m s p
         pick true = refl
         pick false = refl
 

@@ -1,5 +1,6 @@
 -- Five times a threshold below 2,041 is exact in binary64, so cut off it is the fifths in the threshold. Assumes nothing.
-use Rattle.std.proofs.Common.{◌≡◌, ℕ, suc, ◌*◌, ◌/◌, ◌^◌, ◌<◌, ◌≤◌, Bool, true, false, cond, T, ltb, ℤ, pos, negsuc, sym, refl, ap, ◌∙◌, subst, true≢false, le_trans, lt_of_le_of_lt, mul_comm, arith, lit<, lit≤, ltb-false}
+use Rattle.std.proofs.Common.{◌≡◌, ℕ, suc, ◌*◌, ◌/◌, ◌^◌, ◌<◌, ◌≤◌, Bool, true, false, cond, T, ltb, ℤ, pos, negsuc, sym, refl, ap, ◌∙◌}
+use Rattle.std.proofs.Common.{subst, true≢false, le_trans, lt_of_le_of_lt, mul_comm, arith, lit<, lit≤, ltb-false}
 use native.Mathlib.Nat.{div-le_of_le-mul}
 use lib.Ieee.{Float, nan, inf, fin, binary32, binary64, up, down, lt, le, mul, fits, to_unsigned}
 use lib.Ieee.Fits.{down_pos, cond-fits}

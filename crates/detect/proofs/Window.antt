@@ -1,5 +1,6 @@
 -- Windows: whole inside the border, and what their tests say of the square with its centre. Assumes nothing.
-use Rattle.std.proofs.Common.{◌≡◌, ℕ, ◌+◌, ◌-◌, ◌<◌, ◌≤◌, min, Bool, true, false, cond, not, ◌&&◌, eqb, List, [], ◌∷◌, length, sym, refl, ap, ◌∙◌, arith, eq-eqb, eqb-true}
+use Rattle.std.proofs.Common.{◌≡◌, ℕ, ◌+◌, ◌-◌, ◌<◌, ◌≤◌, min, Bool, true, false, cond, not, ◌&&◌, eqb, List, [], ◌∷◌, length, sym, refl}
+use Rattle.std.proofs.Common.{ap, ◌∙◌, arith, eq-eqb, eqb-true}
 use lib.Ieee.{Float, binary32, add, lt}
 use borrow.Author.Tests.{not-false}
 use Rattle.lists.specs.Places.{Place, block, any, keep, count, All}

@@ -1,6 +1,7 @@
 -- A window inside the border, row by row: whether a cell is larger than the centre's value v, and how many pass a test, as being above 0 or
 -- equal to v; and how many ties there can be. Assumes nothing.
-use Rattle.std.proofs.Common.{◌≡◌, ℕ, ◌+◌, ◌-◌, ◌*◌, ◌<◌, ◌≤◌, Bool, true, false, cond, not, ◌&&◌, eqb, leb, List, length, sym, refl, ap, ◌∙◌, arith, eqb-true, leb-true}
+use Rattle.std.proofs.Common.{◌≡◌, ℕ, ◌+◌, ◌-◌, ◌*◌, ◌<◌, ◌≤◌, Bool, true, false, cond, not, ◌&&◌, eqb, leb, List, length, sym, refl, ap}
+use Rattle.std.proofs.Common.{◌∙◌, arith, eqb-true, leb-true}
 use lib.Ieee.{Float, nan, binary32, add, lt, eq}
 use Rattle.lists.specs.Places.{Place, block, any, count}
 use Rattle.lists.proofs.Places.{count-block-le}

@@ -1,6 +1,7 @@
 -- Enough peaks (RULES 26): whether a map has at least a given number, how many rows are looked at, and what is
 -- promised.
-use Rattle.std.specs.Prelude.{◌≡◌, ℕ, zero, suc, ◌+◌, ◌-◌, ◌*◌, ◌<◌, ◌≤◌, Bool, true, false, cond, List, [], ◌∷◌, length, drop, nat_le, Float}
+use Rattle.std.specs.Prelude.{◌≡◌, ℕ, zero, suc, ◌+◌, ◌-◌, ◌*◌, ◌<◌, ◌≤◌, Bool, true, false, cond, List, [], ◌∷◌}
+use Rattle.std.specs.Prelude.{length, drop, nat_le, Float}
 use Rattle.lists.specs.Places.{Place}
 use Rattle.lists.specs.Refusals.{lowest, unless, values_unless}
 use Rattle.detect.specs.declared.Search.{Search}
@@ -49,7 +50,8 @@ pub record EnoughFound (conds : List (Bool × ℕ)) (m : List Float) (s : Search
   pub answer : r ≡ unless Refused (lowest conds) (enough_of s wanted (peaks_in m s))
   pub number : number_of r ≡ lowest conds
   pub values : values_of r
-      ≡ values_unless (lowest conds) (cond (nat_le wanted (length (peaks_in m s))) 1 0 ∷ rows_for s wanted (peaks_in m s) ∷ [])
+      ≡ values_unless (lowest conds) (cond (nat_le wanted (length (peaks_in m s))) 1 0 ∷ rows_for s wanted
+      (peaks_in m s) ∷ [])
 
 -- RULES 26.4: m and m' agree in every row that is no further than the window's radius from one of the first n rows
 -- inside the border

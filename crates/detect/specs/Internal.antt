@@ -1,5 +1,6 @@
 -- What the private functions require and promise: no public promise depends on it.
-use Rattle.std.specs.Prelude.{◌≡◌, ℕ, zero, suc, ◌+◌, ◌-◌, ◌*◌, ◌/◌, ◌%◌, ◌<◌, ◌≤◌, Bool, true, false, cond, ◌||◌, List, [], ◌∷◌, ◌++◌, length, nat_lt, slice_index, slice_index_or, Float}
+use Rattle.std.specs.Prelude.{◌≡◌, ℕ, zero, suc, ◌+◌, ◌-◌, ◌*◌, ◌/◌, ◌%◌, ◌<◌, ◌≤◌, Bool, true, false, cond, ◌||◌, List}
+use Rattle.std.specs.Prelude.{[], ◌∷◌, ◌++◌, length, nat_lt, slice_index, slice_index_or, Float}
 use Rattle.std.specs.Float.{nan}
 use Rattle.std.specs.Float.Ieee.{lt, le, eq}
 use Rattle.lists.specs.Limits.{largest_side, largest_radius, largest_border}
@@ -65,7 +66,9 @@ with_window s r =
 
 -- the four cells beside cell i of a map of width w: above, below, left and right of it
 abbrev pub cells_beside : List Float → ℕ → ℕ → List Float
-cells_beside m w i = slice_index_or m (i - w) nan ∷ slice_index_or m (i + w) nan ∷ slice_index_or m (i - 1) nan ∷ slice_index_or m (i + 1) nan ∷ []
+cells_beside m w i =
+    slice_index_or m (i - w) nan ∷ slice_index_or m (i + w) nan ∷ slice_index_or m
+    (i - 1) nan ∷ slice_index_or m (i + 1) nan ∷ []
 
 -- u is the value of one of them: if u passes a test, one of them does
 pub record Beside (m : List Float) (w i : ℕ) (u : Float) : Type 0 where

@@ -1,6 +1,7 @@
 -- Peak choice over a map of w by h, by a few questions about the values at its places (RULES 4.2 to 4.4; neighbors.rs,
 -- detect.rs).
-use Rattle.std.specs.Prelude.{ℕ, ◌+◌, ◌-◌, ◌*◌, min, Bool, true, false, cond, not, ◌&&◌, List, [], ◌∷◌, negsuc, ◌==◌, nat_le, slice_index, slice_index_or, Float}
+use Rattle.std.specs.Prelude.{ℕ, ◌+◌, ◌-◌, ◌*◌, min, Bool, true, false, cond, not, ◌&&◌, List, [], ◌∷◌, negsuc, ◌==◌}
+use Rattle.std.specs.Prelude.{nat_le, slice_index, slice_index_or, Float}
 use Rattle.std.specs.Float.{nan, fin, binary32}
 use Rattle.std.specs.Float.Ieee.{add, lt, le, eq}
 use Rattle.lists.specs.Places.{Place, block, any, keep, count}
@@ -100,7 +101,8 @@ is_low t v = le v t
 
 -- RULES 4.3: a cell is dropped if it is at or below the threshold, so a NaN cell passes
 abbrev pub computed : List Float → ℕ → Float → CellTests
-computed m w t = record { above = λ p. not (is_low t (value_at m w p)); larger = larger_in m w; positive = positive_in m w }
+computed m w t =
+    record { above = λ p. not (is_low t (value_at m w p)); larger = larger_in m w; positive = positive_in m w }
 
 -- the same for either choice
 abbrev pub reading : Bool → List Float → ℕ → Float → CellTests

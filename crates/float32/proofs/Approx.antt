@@ -1,7 +1,11 @@
 -- How the operators carry approximations (`Within x p n c r`: |x - (p - n) / c| ≤ r / c), and where they are exact. All in the numbers p,
 -- n, c, r of the statement:
 -- no law here shows the format's smallest value, so at literals the conditions are small numbers. Assumes nothing.
-use Rattle.std.proofs.Common.{◌≡◌, ℕ, suc, ◌+◌, ◌-◌, ◌*◌, ◌^◌, ◌<◌, ◌≤◌, Bool, true, false, cond, T, pos, sym, refl, ap, ◌∙◌, subst, true≢false, le_trans, le_of_eq, lt_of_lt_of_le, add-zero, mul-le-mul_right, mul_assoc, mul_comm, add-mul, le_antisymm, lt_of_mul-lt-mul_right, mul-le-mul_left, mul-lt-mul_of_pos_right, mul-pos, one-mul, pow-suc, zero-mul, mul-one, mul_right_comm, le_of_mul-le-mul_right, mul_left_comm, arith, lit<, pow_pos, pow_mono, pow-add}
+use Rattle.std.proofs.Common.{◌≡◌, ℕ, suc, ◌+◌, ◌-◌, ◌*◌, ◌^◌, ◌<◌, ◌≤◌, Bool, true, false, cond, T, pos, sym, refl, ap, ◌∙◌, subst}
+use Rattle.std.proofs.Common.{true≢false, le_trans, le_of_eq, lt_of_lt_of_le, add-zero, mul-le-mul_right, mul_assoc, mul_comm, add-mul}
+use Rattle.std.proofs.Common.{le_antisymm, lt_of_mul-lt-mul_right, mul-le-mul_left, mul-lt-mul_of_pos_right, mul-pos, one-mul, pow-suc}
+use Rattle.std.proofs.Common.{zero-mul, mul-one, mul_right_comm, le_of_mul-le-mul_right, mul_left_comm, arith, lit<, pow_pos, pow_mono}
+use Rattle.std.proofs.Common.{pow-add}
 use native.Mathlib.Nat.{eq_of_mul-eq-mul_right}
 use lib.Ieee.{Float, nan, inf, fin, Format, prec, emax, low, up, down, round, neg, add, sub, mul, div, of_int, lt}
 use lib.Ieee.Fits.{down_pos, reach}

@@ -1,6 +1,9 @@
 -- How binary32 writes a finite number: m * 2 ^ e with m odd, or 0 with the exponent 0. So a number is written in one way, and rounding
 -- leaves what the format holds as it is, also times a power of two. Assumes nothing.
-use Rattle.std.proofs.Common.{◌≡◌, ℕ, zero, suc, ◌+◌, ◌-◌, ◌*◌, ◌%◌, ◌^◌, ◌<◌, ◌≤◌, Bool, true, false, ◌&&◌, eqb, ltb, leb, ℤ, pos, negsuc, sym, refl, ap, ◌∙◌, le_of_eq, lt_of_lt_of_le, lt_of_le_of_lt, zero-lt-suc, mul_assoc, mul_comm, mul-lt-mul_of_pos_right, mul-pos, one-mul, zero-mul, mul-one, mul_right_comm, mul_left_comm, arith, lit<, lit≤, pow_pos, pow-add, ltb-true, eqb-true, leb-false, leb-true}
+use Rattle.std.proofs.Common.{◌≡◌, ℕ, zero, suc, ◌+◌, ◌-◌, ◌*◌, ◌%◌, ◌^◌, ◌<◌, ◌≤◌, Bool, true, false, ◌&&◌, eqb, ltb, leb, ℤ, pos, negsuc}
+use Rattle.std.proofs.Common.{sym, refl, ap, ◌∙◌, le_of_eq, lt_of_lt_of_le, lt_of_le_of_lt, zero-lt-suc, mul_assoc, mul_comm}
+use Rattle.std.proofs.Common.{mul-lt-mul_of_pos_right, mul-pos, one-mul, zero-mul, mul-one, mul_right_comm, mul_left_comm, arith, lit<}
+use Rattle.std.proofs.Common.{lit≤, pow_pos, pow-add, ltb-true, eqb-true, leb-false, leb-true}
 use native.Mathlib.Nat.{mul-mul-mul_comm, pow-succ'}
 use native.Mathlib.Nat.{eq_of_mul-eq-mul_right, two-pow-succ}
 use lib.Pow.{pow-lt}

@@ -1,5 +1,6 @@
 -- Finite values, NaN and its bit patterns, and the lifted threshold, by the cases of a value. Assumes nothing.
-use Rattle.std.proofs.Common.{◌≡◌, ℕ, suc, ◌+◌, ◌*◌, ◌%◌, ◌<◌, ◌≤◌, Bool, true, false, cond, not, ◌&&◌, ◌||◌, T, eqb, ltb, sym, refl, ◌∙◌, subst, true≢false, mul-pos, zero-mul, arith, lt→ltb, le-ltb, lt-ltb}
+use Rattle.std.proofs.Common.{◌≡◌, ℕ, suc, ◌+◌, ◌*◌, ◌%◌, ◌<◌, ◌≤◌, Bool, true, false, cond, not, ◌&&◌, ◌||◌, T, eqb, ltb, sym, refl, ◌∙◌}
+use Rattle.std.proofs.Common.{subst, true≢false, mul-pos, zero-mul, arith, lt→ltb, le-ltb, lt-ltb}
 use native.Mathlib.Decide.{dec_lt}
 use lib.Ieee.{Float, nan, inf, fin, binary32, lt, le, eq, ne, up, down, of_bits, nan_bits, is_nan}
 use lib.Ieee.Bits.{nan_bits_is, nan_bits_above}
@@ -105,7 +106,8 @@ is-nan (fin s m e) t = absurd t
 
 pub nan_pattern : (n : ℕ) → 0x7f80_0000 < n % 0x8000_0000 → nan ≡ of_bits binary32 n
 nan_pattern n h =
-    is-nan (of_bits binary32 n) (subst T (sym (nan_bits_above binary32 n) ∙ nan_bits_is binary32 n) (lt→ltb 0x7f80_0000 (n % 0x8000_0000) h))
+    is-nan (of_bits binary32 n) (subst T (sym (nan_bits_above binary32 n) ∙ nan_bits_is binary32 n)
+    (lt→ltb 0x7f80_0000 (n % 0x8000_0000) h))
 
 pub no-nan-pattern : (n : ℕ) → n % 0x8000_0000 ≤ 0x7f80_0000 → T (not (nan_bits binary32 n))
 no-nan-pattern n h = to-T-not (nan_bits_above binary32 n ∙ le-ltb 0x7f80_0000 (n % 0x8000_0000) h)

@@ -1,6 +1,7 @@
 -- Rounding half away from zero: twice a float is exact, so half of one more than twice |x|, cut off, is the nearest whole number with a
 -- half up. And a float that is a / c, as any fraction, rounds to what that fraction rounds to. Assumes nothing.
-use Rattle.std.proofs.Common.{◌≡◌, ℕ, suc, ◌+◌, ◌*◌, ◌/◌, ◌^◌, ◌<◌, ◌≤◌, Bool, true, false, cond, [], ◌∷◌, ℤ, pos, neg_ℤ, sym, refl, ap, ◌∙◌, subst, true≢false, mul_comm, div-lt_iff_lt-mul, mul-pos, zero-mul, arith, lit<, le-ltb}
+use Rattle.std.proofs.Common.{◌≡◌, ℕ, suc, ◌+◌, ◌*◌, ◌/◌, ◌^◌, ◌<◌, ◌≤◌, Bool, true, false, cond, [], ◌∷◌, ℤ, pos, neg_ℤ, sym, refl, ap}
+use Rattle.std.proofs.Common.{◌∙◌, subst, true≢false, mul_comm, div-lt_iff_lt-mul, mul-pos, zero-mul, arith, lit<, le-ltb}
 use native.Mathlib.Nat.{eq_of_mul-eq-mul_right, add-div_right, div-div-eq-div-mul}
 use lib.Ieee.{Float, nan, inf, fin, binary32, up, down, lt, le, round, add, sum, fits, to_unsigned}
 use lib.Ieee.Fits.{down_pos}
@@ -61,7 +62,8 @@ whole_twice (fin s m e) f h =
     )
 
 -- ---- what `round_half_away` finds: n is twice |x|, cut off
-pub rounds : (x a : Float) (n : ℕ) → fits binary32 x ≡ true → a ≡ abs x → le a largest_rounded ≡ true → n ≡ to_unsigned 64 (add binary32 a a)
+pub rounds : (x a : Float) (n : ℕ) → fits binary32 x ≡ true → a ≡ abs x → le a largest_rounded ≡ true
+    → n ≡ to_unsigned 64 (add binary32 a a)
     → (n < 2 ^ 26) × (signed (lt x zero) ((n + 1) / 2) ≡ round_half_away x)
 unfolding round_half_away nearest_whole
 rounds x a n f p h q =

@@ -1,5 +1,6 @@
 -- `abs` by one comparison with 0: 0.0 - x is exact, and +0.0 where x is a zero of either sign. Assumes nothing.
-use Rattle.std.proofs.Common.{◌≡◌, ℕ, suc, ◌+◌, ◌*◌, ◌<◌, true, false, ℤ, sym, refl, ◌∙◌, true≢false, zero-lt-suc, mul-pos, one-mul, zero-add, zero-mul, mul-one, arith, ltb-false}
+use Rattle.std.proofs.Common.{◌≡◌, ℕ, suc, ◌+◌, ◌*◌, ◌<◌, true, false, ℤ, sym, refl, ◌∙◌, true≢false, zero-lt-suc, mul-pos, one-mul}
+use Rattle.std.proofs.Common.{zero-add, zero-mul, mul-one, arith, ltb-false}
 use lib.Ieee.{Float, nan, inf, fin, binary32, up, down, sub, le, fits}
 use lib.Ieee.Fits.{up_pos, down_pos}
 use Rattle.lists.proofs.Tests.{to-T, or-neither}

@@ -1,6 +1,8 @@
 -- Rounding and powers of two: far from the format's smallest value, 2 ^ t times a fraction is rounded to 2 ^ t times what the fraction is
 -- rounded to. So a multiplication by 2 ^ t can be done before the rounding. Assumes nothing.
-use Rattle.std.proofs.Common.{◌≡◌, ℕ, zero, suc, ◌+◌, ◌-◌, ◌*◌, ◌/◌, ◌^◌, ◌<◌, ◌≤◌, Bool, true, false, cond, ltb, ◌⊎◌, pos, sym, refl, ap, ◌∙◌, subst, ⊎_elim, lt_of_le_of_lt, mul_assoc, mul_comm, mul-le-mul_left, mul-pos, one-mul, le-div_iff_mul-le, zero-mul, mul-one, not-le_of_lt, arith, lit<, pow_pos, pow_mono, pow-add}
+use Rattle.std.proofs.Common.{◌≡◌, ℕ, zero, suc, ◌+◌, ◌-◌, ◌*◌, ◌/◌, ◌^◌, ◌<◌, ◌≤◌, Bool, true, false, cond, ltb, ◌⊎◌, pos, sym, refl, ap}
+use Rattle.std.proofs.Common.{◌∙◌, subst, ⊎_elim, lt_of_le_of_lt, mul_assoc, mul_comm, mul-le-mul_left, mul-pos, one-mul, le-div_iff_mul-le}
+use Rattle.std.proofs.Common.{zero-mul, mul-one, not-le_of_lt, arith, lit<, pow_pos, pow_mono, pow-add}
 use native.Mathlib.Decide.{dec_lt}
 use lib.Ieee.{Float, nan, inf, fin, Format, binary32, prec, low, up, down, size, odd, units, round, mul, fits}
 use lib.Ieee.Digits.{size-lt}

@@ -1,7 +1,9 @@
 -- A running sum of floats that are not negative, against the exact sum: the relative error grows by one part in 2 ^ 24 - 2048 with each
 -- addition, up to 2048 of them.
 -- Numbers of units throughout (`Units`). Assumes nothing.
-use Rattle.std.proofs.Common.{◌≡◌, ℕ, suc, ◌+◌, ◌*◌, ◌^◌, ◌<◌, ◌≤◌, false, List, [], ◌∷◌, length, refl, le_trans, lt_of_le_of_lt, add-zero, le_of_lt, add_assoc, suc-mul, add-mul, mul-le-mul_left, mul-lt-mul_of_pos_right, zero-add, mul-suc, arith, lit<, lit≤, pow_pos}
+use Rattle.std.proofs.Common.{◌≡◌, ℕ, suc, ◌+◌, ◌*◌, ◌^◌, ◌<◌, ◌≤◌, false, List, [], ◌∷◌, length, refl, le_trans, lt_of_le_of_lt, add-zero}
+use Rattle.std.proofs.Common.{le_of_lt, add_assoc, suc-mul, add-mul, mul-le-mul_left, mul-lt-mul_of_pos_right, zero-add, mul-suc, arith}
+use Rattle.std.proofs.Common.{lit<, lit≤, pow_pos}
 use lib.Ieee.{Float, binary32, low, add, mul}
 use lib.Ieee.Exact.{HasValue}
 use Rattle.lists.specs.Places.{All, sum_of}

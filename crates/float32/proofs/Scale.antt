@@ -1,5 +1,6 @@
 -- A float times a power of two is exact. Assumes nothing.
-use Rattle.std.proofs.Common.{◌≡◌, ℕ, ◌*◌, ◌^◌, ◌≤◌, Bool, true, false, ℤ, pos, refl, lt_of_le_of_lt, one-mul, mul-one, arith, lit<, lt→ltb, pow_mono}
+use Rattle.std.proofs.Common.{◌≡◌, ℕ, ◌*◌, ◌^◌, ◌≤◌, Bool, true, false, ℤ, pos, refl, lt_of_le_of_lt, one-mul, mul-one, arith, lit<, lt→ltb}
+use Rattle.std.proofs.Common.{pow_mono}
 use lib.Ieee.{fin, binary32, up, down, mul, fits, of_int}
 use lib.Ieee.Fits.{down_pos, of_int-fits}
 use lib.Ieee.Back.{round_whole, whole_unique}

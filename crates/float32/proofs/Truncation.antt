@@ -1,5 +1,6 @@
 -- A float cut off to a whole number (`to_unsigned`, Rust's `as`): within its range and at its ends. Assumes nothing.
-use Rattle.std.proofs.Common.{◌≡◌, ℕ, ◌+◌, ◌-◌, ◌*◌, ◌/◌, ◌^◌, ◌<◌, ◌≤◌, min, Bool, true, false, pos, sym, refl, ◌∙◌, true≢false, le_trans, le_of_eq, lt_of_le_of_lt, mul_comm, mul-pos, one-mul, le-div_iff_mul-le, arith, pow_pos, pow_mono, ltb-false}
+use Rattle.std.proofs.Common.{◌≡◌, ℕ, ◌+◌, ◌-◌, ◌*◌, ◌/◌, ◌^◌, ◌<◌, ◌≤◌, min, Bool, true, false, pos, sym, refl, ◌∙◌, true≢false, le_trans}
+use Rattle.std.proofs.Common.{le_of_eq, lt_of_le_of_lt, mul_comm, mul-pos, one-mul, le-div_iff_mul-le, arith, pow_pos, pow_mono, ltb-false}
 use native.Mathlib.Nat.{div-le_of_le-mul, div-eq_of_lt}
 use lib.Ieee.{Float, nan, inf, fin, up, down, lt, to_unsigned}
 use lib.Ieee.Fits.{down_pos}

@@ -1,7 +1,9 @@
 -- Floats that are not negative as whole numbers of units, the format's smallest value 2 ^ -low. A sum of two, and a product with a whole
 -- number, are whole numbers of units
 -- before they are rounded, so the relative error is at most one part in 2 ^ prec everywhere, subnormal results included. Assumes nothing.
-use Rattle.std.proofs.Common.{◌≡◌, ℕ, suc, ◌+◌, ◌-◌, ◌*◌, ◌/◌, ◌^◌, ◌<◌, ◌≤◌, true, false, ℤ, sym, refl, ap, ◌∙◌, subst, ⊎_elim, true≢false, le_trans, le_of_eq, lt_of_lt_of_le, mul_assoc, mul_comm, eq-zero-or-pos, mul-pos, one-mul, mul-one, le_of_mul-le-mul_right, mul-div_cancel, arith, lit<, pow_pos, pow_mono}
+use Rattle.std.proofs.Common.{◌≡◌, ℕ, suc, ◌+◌, ◌-◌, ◌*◌, ◌/◌, ◌^◌, ◌<◌, ◌≤◌, true, false, ℤ, sym, refl, ap, ◌∙◌, subst, ⊎_elim, true≢false}
+use Rattle.std.proofs.Common.{le_trans, le_of_eq, lt_of_lt_of_le, mul_assoc, mul_comm, eq-zero-or-pos, mul-pos, one-mul, mul-one}
+use Rattle.std.proofs.Common.{le_of_mul-le-mul_right, mul-div_cancel, arith, lit<, pow_pos, pow_mono}
 use native.Mathlib.Nat.{eq_of_mul-eq-mul_right}
 use lib.Ieee.{Float, nan, inf, fin, Format, binary32, fits, prec, emax, low, up, down, size, round, sum, add, mul}
 use lib.Ieee.Digits.{size-lt}

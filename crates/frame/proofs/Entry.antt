@@ -237,7 +237,8 @@ module _ (choose : Choice) (p : FrameParams) (img : List ℕ) (w h : ℕ) (m : L
         → length levels₁ ≡ length levels
         → (m' : List Float) (kept : Merged) (c₁ : Slices) → MergesByTable p.merge_radius answer.corners c' m₁ kept c₁ m'
         → (levels' : List ℕ) → levels' ≡ cond answer.fit levels₁ (replicate (length levels₁) 0)
-        → (s'' : Slices) → s'' ≡ cleared_from answer.seeds s' → (k : ℕ) → k ≡ merge.kept_of kept 0 → (c'' : Slices) → c'' ≡ cleared_from k c₁
+        → (s'' : Slices) → s'' ≡ cleared_from answer.seeds s' → (k : ℕ) → k ≡ merge.kept_of kept 0 → (c'' : Slices)
+        → c'' ≡ cleared_from k c₁
         → (r : FrameAnswer) → r ≡ cond answer.fit (Corners k answer.ties) (Refused 10)
         → FrameFound choose p img w h (buffers m levels s c) r (buffers m' levels' s'' c'')
     entry-merged none ad inside m₁ em levels₁ el ll m' kept c₁ merges levels' wl s'' ws k ek c'' wc r is =

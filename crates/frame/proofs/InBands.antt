@@ -213,7 +213,8 @@ module _ (p : FrameParams) (img : List ℕ) (w h : ℕ) where
             in-radius = fit.centroid_radius;
           })
 
-      cut_of : (l : List Float) → length l ≡ h * w → Cut p l w h (j - border_of p) (e - border_of p) e (min (j - border_of p - border_of p) e)
+      cut_of : (l : List Float) → length l ≡ h * w
+          → Cut p l w h (j - border_of p) (e - border_of p) e (min (j - border_of p - border_of p) e)
       cut_of l k = record {
         none = (clear_of l k).none;
         end_is = reaches (border_of p) (omega (arith, ring-small p.ring fit.ring, fit.window, fit.centroid_radius));
@@ -263,7 +264,8 @@ module _ (p : FrameParams) (img : List ℕ) (w h : ℕ) where
               ≡ ties_in_rows p exact (cells All) w h (j - border_of p) (e - border_of p)
           ties =
               ap (λ (l : List Float). ties_in_rows p exact l w h (j - border_of p) (e - border_of p)) split
-              ∙ ties-alike p exact Rows after others w h (j - border_of p) (e - border_of p) e (min (j - border_of p - border_of p) e) rows_long
+              ∙ ties-alike p exact Rows after others w h (j - border_of p) (e - border_of p) e
+              (min (j - border_of p - border_of p) e) rows_long
               (cut_of (Rows ++ after) here) (cut_of (Rows ++ others) there) (here ∙ sym there)
               ∙ ap (λ (l : List Float). ties_in_rows p exact l w h (j - border_of p) (e - border_of p)) (sym all-cells)
 
@@ -311,7 +313,8 @@ module _ (p : FrameParams) (img : List ℕ) (w h : ℕ) where
             ap length (centres-split p exact (cells All) w h 0 (j - border_of p) (e - border_of p) (omega arith)
                 (monus j e (border_of p) later)),
             length-append (corners_to j) (centres_in_rows p exact (cells All) w h (j - border_of p) (e - border_of p)),
-            ap length (centres-split p exact (cells All) w h 0 (e - border_of p) (h - border_of p) (omega arith) (monus e h (border_of p) l)),
+            ap length (centres-split p exact (cells All) w h 0 (e - border_of p) (h - border_of p) (omega arith)
+                (monus e h (border_of p) l)),
             length-append (corners_to e) (centres_in_rows p exact (cells All) w h (e - border_of p) (h - border_of p)),
           ))
         where

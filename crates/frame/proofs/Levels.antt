@@ -18,7 +18,8 @@ use Rattle.pyramid.specs.Pyramid.{level_pixels}
 use Rattle.pyramid_levels.proofs.Sides.{side-le}
 use Rattle.pyramid.proofs.Levels.{level-found, levels-few}
 use Rattle.corner_list.specs.declared.Corner.{Corner}
-use Rattle.corner_list.specs.CornerList.{Slices, x_of, y_of, strength_of, neighbours_of, places_of, corners_of, front_corners, placed_corners}
+use Rattle.corner_list.specs.CornerList.{Slices, x_of, y_of, strength_of, neighbours_of, places_of, corners_of, front_corners}
+use Rattle.corner_list.specs.CornerList.{placed_corners}
 use Rattle.corner_list.proofs.Corners.{slices-alike, corners-front}
 use Rattle.detect.specs.declared.Peaks.{Peaks}
 use Rattle.detect.specs.declared.Peaks.TheVariants.{Added, Refused}

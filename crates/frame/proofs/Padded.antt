@@ -31,7 +31,8 @@ module _ {A : Type 0} (z : A) where
 
 -- ---- a buffer of corners
 module _ (b b' : Slices) (same : SameLengths b b') where
-  pub cleared-front : (cs : List Corner) (n : ℕ) → n ≡ length cs → n ≤ places_of b → cleared_from n (front_corners cs b') ≡ padded_corners cs b
+  pub cleared-front : (cs : List Corner) (n : ℕ) → n ≡ length cs → n ≤ places_of b
+      → cleared_from n (front_corners cs b') ≡ padded_corners cs b
   cleared-front cs n e h =
       slices-alike (each zero x_of b.xs b'.xs (omega arith) same.xs) (each zero y_of b.ys b'.ys (omega arith) same.ys)
       (each zero strength_of b.strengths b'.strengths (omega arith) same.strengths)

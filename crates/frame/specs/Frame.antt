@@ -1,5 +1,6 @@
 -- A frame: the refusals, the answer, and every buffer after it, as equations with the pass.
-use Rattle.std.specs.Prelude.{ℕ, zero, suc, ◌-◌, ◌≡◌, Bool, ◌||◌, cond, List, [], ◌∷◌, ◌++◌, map, length, replicate, ltb, eqb, Float}
+use Rattle.std.specs.Prelude.{ℕ, zero, suc, ◌-◌, ◌≡◌, Bool, ◌||◌, cond, List, [], ◌∷◌, ◌++◌, map, length, replicate}
+use Rattle.std.specs.Prelude.{ltb, eqb, Float}
 use Rattle.lists.specs.Buffer.{front, wiped_from}
 use Rattle.lists.specs.Refusals.{lowest, values_unless, unless, result_or}
 use Rattle.float32.specs.Float32 as float32

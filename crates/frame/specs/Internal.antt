@@ -58,8 +58,8 @@ pub record SeedsAdded (p : FrameParams) (img : List ℕ) (w h : ℕ) (choose : C
   pub ties : ℕ
   pub adds : AddsCorners (seeds_of p img w h choose n) ties 0 b answer b'
 
--- the corners before merging and their peaks' ties, by the number of levels and the seeds: `found_of` and `ties_found` at
--- the seeds of the pass
+-- the corners before merging and their peaks' ties, by the number of levels and the seeds: `found_of` and `ties_found`
+-- at the seeds of the pass
 module _ (p : FrameParams) (img : List ℕ) (w h : ℕ) (choose : Choice) where
   abbrev pub found_by : ℕ → List Corner → List Corner
   found_by zero seeds = flat_map (corners_about p img w h choose 0) seeds

@@ -126,7 +126,8 @@ module _ (p : FrameParams) (img : List ℕ) (w h : ℕ) where
     found_inside (suc zero) = map-inside p (level_view p img w h 0) choose (fine-level p img w h s 0)
     found_inside (suc (suc k)) =
         all-flat Taken (corners_about p img w h choose (suc k)) (seeds_of p img w h choose (suc (suc k)))
-        (all_of (λ c. All Taken (corners_about p img w h choose (suc k) c)) (about-inside (suc k)) (seeds_of p img w h choose (suc (suc k))))
+        (all_of (λ c. All Taken (corners_about p img w h choose (suc k) c)) (about-inside (suc k))
+        (seeds_of p img w h choose (suc (suc k))))
 
 pub corners-inside : (p : FrameParams) (img : List ℕ) (w h : ℕ) (choose : Choice) → CornersInside p img w h choose
 unfolding frame_pass

@@ -40,5 +40,6 @@ module _ (p : FrameParams) (img : List ℕ) (w h : ℕ) (choose : Choice) where
   abbrev pub BoxesAnswered : Type 0
   BoxesAnswered =
       SoundFrame p img w h
-      → All (λ (s : Corner). (number : ℕ) → roi_of (context_at p img w h (levels_in p img w h - 1)) s ≡ Refused number → ⊥)
+      → All (λ (s : Corner). (number : ℕ)
+      → roi_of (context_at p img w h (levels_in p img w h - 1)) s ≡ Refused number → ⊥)
       (frame_pass p img w h choose).seeds

@@ -1,5 +1,6 @@
 -- How far standard input was read (RULES 12.5). No contract of C's `read` can say which bytes come.
-use Rattle.std.specs.Prelude.{ℕ, suc, ◌+◌, ◌-◌, ◌<◌, ◌≤◌, min, ◌≡◌, Bool, true, false, List, length, take, drop, ℤ, pos, negsuc, Some}
+use Rattle.std.specs.Prelude.{ℕ, suc, ◌+◌, ◌-◌, ◌<◌, ◌≤◌, min, ◌≡◌, Bool, true, false, List, length, take, drop, ℤ, pos}
+use Rattle.std.specs.Prelude.{negsuc, Some}
 use Rattle.std.specs.declared.io.Error.{Error}
 use Rattle.std.specs.IoError.{raw_os_error}
 use Rattle.input.specs.declared.Input.{Input}
@@ -13,8 +14,8 @@ abbrev pub came_by : ℤ → ℕ
 came_by (pos k) = k
 came_by (negsuc k) = 0
 
--- an answer that says that a read failed with this error: below 0, and minus the number of the system's error if that is
--- above 0
+-- an answer that says that a read failed with this error: below 0, and minus the number of the system's error if that
+-- is above 0
 abbrev pub IsFailure : Error → ℤ → Type 0
 IsFailure e z = (is_below0 z ≡ true) × ((k : ℕ) → raw_os_error e ≡ Some (pos (suc k)) → z ≡ negsuc k)
 

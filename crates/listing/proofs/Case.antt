@@ -10,7 +10,8 @@ use Rattle.listing.specs.Text.{decimal, hexadecimal, units_of, corners_text, ref
 
 -- 5, 5 and 2032
 abbrev centre : Corner
-centre = record { x = of_bits binary32 0x40a0_0000; y = of_bits binary32 0x40a0_0000; strength = of_bits binary32 0x44fe_0000; neighbours = 0 }
+centre =
+    record { x = of_bits binary32 0x40a0_0000; y = of_bits binary32 0x40a0_0000; strength = of_bits binary32 0x44fe_0000; neighbours = 0 }
 
 abbrev text : List ℕ
 text =

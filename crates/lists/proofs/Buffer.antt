@@ -102,7 +102,8 @@ module _ {A : Type 0} where
   placed-cons held vs d v h =
       let rest = drop (held + 1 + length vs) d in
       let k : held + 1 + length vs ≡ held + suc (length vs) = omega arith in
-      let first : take (held + 1) d ≡ take held d ++ (get_or d held v ∷ []) = ap (λ (i : ℕ). take i d) (add-one held) ∙ take-suc d held v h in
+      let first : take (held + 1) d ≡ take held d ++ (get_or d held v ∷ []) = ap (λ (i : ℕ). take i d) (add-one held)
+      ∙ take-suc d held v h in
       let split : take (held + 1) d ++ vs ++ rest ≡ take held d ++ get_or d held v ∷ (vs ++ rest) = rw first (simp append_assoc) in
       ap (λ (s : List A). set s held v) split
       ∙ set_at (take held d) (get_or d held v) (vs ++ rest) v held (length-take-le held d (omega arith))

@@ -99,7 +99,8 @@ module _ {A : Type 0} (X : A → ℕ) where
 module _ {A B : Type 0} where
   pub flat_map-append : (f : A → List B) (s t : List A) → flat_map f (s ++ t) ≡ flat_map f s ++ flat_map f t
   flat_map-append f [] t = refl
-  flat_map-append f (a ∷ s) t = ap (λ (l : List B). f a ++ l) (flat_map-append f s t) ∙ sym (append_assoc (f a) (flat_map f s) (flat_map f t))
+  flat_map-append f (a ∷ s) t =
+      ap (λ (l : List B). f a ++ l) (flat_map-append f s t) ∙ sym (append_assoc (f a) (flat_map f s) (flat_map f t))
 
   pub flat_map-alike : (f g : A → List B) (l : List A) → All (λ a. f a ≡ g a) l → flat_map f l ≡ flat_map g l
   flat_map-alike f g [] h = refl

@@ -80,7 +80,8 @@ module _ {A : Type 0} where
       (eq-or-lt_of_le (le_of_suc-le-suc hy))
 
   -- what holds of each of its cells, and of the element that stands for those past its end
-  pub get_d-grid-any : (P : A → Type 0) (d : A) → P d → (f : ℕ → ℕ → A) → ((x y : ℕ) → P (f x y)) → (w h k : ℕ) → P (get_or (grid w h f) k d)
+  pub get_d-grid-any : (P : A → Type 0) (d : A) → P d → (f : ℕ → ℕ → A) → ((x y : ℕ) → P (f x y)) → (w h k : ℕ)
+      → P (get_or (grid w h f) k d)
   unfolding grid
   get_d-grid-any P d p f q w zero k = p
   get_d-grid-any P d p f q w (suc h) k =

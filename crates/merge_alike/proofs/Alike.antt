@@ -67,4 +67,5 @@ module _ (radius : Float) (count : ℕ) (b : Slices) where
 
     pub merges-alike : IsPower radius → All OnMultiples (corners_of b (min count (places_of b))) → (r ≡ s) × (b₁ ≡ b₂)
     merges-alike power on =
-        leaves_alike number (naive_of radius (corners_of b count)) (result_of radius (corners_of b count)) b r s b₁ b₂ p q (left-alike power on)
+        leaves_alike number (naive_of radius (corners_of b count)) (result_of radius (corners_of b count)) b r s b₁ b₂ p q
+        (left-alike power on)

@@ -64,7 +64,8 @@ module _ (r : Float) (power : IsPower r) where
           sym (rw inverse (rw (a, b)))
 
   -- ---- the whole list
-  all_above : (m n : ℕ) (cs : List Corner) → All Placed cs → All (AtMost m) (map x_of cs) → All (AtMost n) (map y_of cs) → All (Above m n) cs
+  all_above : (m n : ℕ) (cs : List Corner) → All Placed cs → All (AtMost m) (map x_of cs) → All (AtMost n) (map y_of cs)
+      → All (Above m n) cs
   all_above m n cs h a b =
       all_map _ _ (λ c t. record { placed = t.0; column = t.1.0; row = t.1.1 }) cs
       (all_both _ _ cs h (all_both _ _ cs (all-unmapped (AtMost m) x_of cs a) (all-unmapped (AtMost n) y_of cs b)))

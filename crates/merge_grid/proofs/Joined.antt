@@ -19,7 +19,8 @@ beside a b e =
     let w = and_parts (leb a (b + 1)) (leb b (a + 1)) e in
     record { up = leb-true a (b + 1) w.0; down = leb-true b (a + 1) w.1 }
 
-pub joined-cells : (g : Grid) (p q : Position) → meets g p q ≡ true → Beside (column_of g p) (column_of g q) × Beside (row_of g p) (row_of g q)
+pub joined-cells : (g : Grid) (p q : Position) → meets g p q ≡ true
+    → Beside (column_of g p) (column_of g q) × Beside (row_of g p) (row_of g q)
 unfolding adjacent_cells
 joined-cells g p q e =
     let w = and_parts (within_one (column_of g p) (column_of g q)) (within_one (row_of g p) (row_of g q))

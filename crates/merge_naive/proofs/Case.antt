@@ -50,7 +50,8 @@ module _ (b : Slices) (fits : 3 ≤ places_of b) (is : corners_of b 3 ≡ three)
   none : refusal_of one (places_of b) 3 b ≡ 0
   none = judged-none-on one (places_of b) 3 b fits on in-range (rw is inside)
 
-  left_is : (left due : List Corner) (answer : Merged) (b' : Slices) → left ≡ due → Leaves (refusal_of one (places_of b) 3 b) left b answer b'
+  left_is : (left due : List Corner) (answer : Merged) (b' : Slices) → left ≡ due
+      → Leaves (refusal_of one (places_of b) 3 b) left b answer b'
       → (answer ≡ Kept (length due)) × (corners_of b' (length due) ≡ due)
   left_is left due answer b' e m =
       let done = leaves-done _ left b answer b' none m in (

@@ -64,7 +64,8 @@ module _ (f : ℕ → Bool) where
         record { from = omega arith; at_most = omega arith; passes = inl refl; before = λ q l h. absurd (let no : ⊥ = omega arith in no) }
 
     module _ (low p : ℕ) (at : Looking low p) where
-      looking-turn : (low' : ℕ) → low' ≡ cond (ltb (get_or table p 0) low && f (get_or table p 0)) (get_or table p 0) low → Looking low' (p + 1)
+      looking-turn : (low' : ℕ) → low' ≡ cond (ltb (get_or table p 0) low && f (get_or table p 0)) (get_or table p 0) low
+          → Looking low' (p + 1)
       looking-turn low' e = go (ltb (get_or table p 0) low) (f (get_or table p 0)) refl refl e
         where
           i : ℕ

@@ -25,7 +25,8 @@ module _ (j : Corner → Corner → Bool) (c d : Corner) where
   by-test o kept t e = ap (λ (b : Bool). cond b (stronger c o ∷ kept) (o ∷ settle j kept c)) e
 
   -- a corner that joins none comes last
-  pub settle-none : (kept : List Corner) → ((i : ℕ) → i < length kept → j c (get_or kept i d) ≡ true → ⊥) → settle j kept c ≡ kept ++ (c ∷ [])
+  pub settle-none : (kept : List Corner) → ((i : ℕ) → i < length kept → j c (get_or kept i d) ≡ true → ⊥)
+      → settle j kept c ≡ kept ++ (c ∷ [])
   settle-none [] h = refl
   settle-none (o ∷ kept) h =
       by-test o kept false (is_false (j c o) (h 0 (omega arith)))
@@ -85,7 +86,8 @@ module _ (j : Corner → Corner → Bool) (k : ℕ) (c : Corner) (b : Slices) (f
         settled = record {
           count = ap (λ (t : Bool). cond t (k + 1) k) (eq-eqb k k refl)
               ∙ sym (ap length e ∙ length-append Kept (c ∷ []) ∙ ap (λ (n : ℕ). n + 1) many);
-          buffer = ap (with_corner k c) starts ∙ corners-next Kept b k c (sym many) fit ∙ ap (λ (l : List Corner). front_corners l b) (sym e);
+          buffer = ap (with_corner k c) starts ∙ corners-next Kept b k c (sym many) fit
+              ∙ ap (λ (l : List Corner). front_corners l b) (sym e);
         };
         known = inl fit;
       }

@@ -11,7 +11,8 @@ use Rattle.lists.specs.Buffer.{front}
 use Rattle.lists.specs.Refusals.{values_unless, unless, result_or}
 use Rattle.lists.proofs.Buffer.{map-front}
 use Rattle.corner_list.specs.declared.Corner.{Corner}
-use Rattle.corner_list.specs.CornerList.{Slices, slices, x_of, y_of, strength_of, neighbours_of, places_of, corner_at, corners_of, front_corners}
+use Rattle.corner_list.specs.CornerList.{Slices, slices, x_of, y_of, strength_of, neighbours_of, places_of, corner_at, corners_of}
+use Rattle.corner_list.specs.CornerList.{front_corners}
 use Rattle.corner_list.proofs.Corners.{slices-alike, corners-length, corners-at}
 use Rattle.merge.specs.declared.Merged.{Merged}
 use Rattle.merge.specs.Merge.{result_of, refusal_of, Merges}
@@ -41,7 +42,8 @@ columns-corners cs n h =
         )
 
 columns-front : (us cs : List Corner) → front_corners us (columns cs) ≡ columns (front us cs)
-columns-front us cs = slices-alike (map-front x_of us cs) (map-front y_of us cs) (map-front strength_of us cs) (map-front neighbours_of us cs)
+columns-front us cs =
+    slices-alike (map-front x_of us cs) (map-front y_of us cs) (map-front strength_of us cs) (map-front neighbours_of us cs)
 
 columns-places : (cs : List Corner) → places_of (columns cs) ≡ length cs
 columns-places cs = rw (length-map cs x_of, length-map cs y_of, length-map cs strength_of, length-map cs neighbours_of) (omega arith)

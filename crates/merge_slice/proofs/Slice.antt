@@ -198,7 +198,8 @@ module _ (radius : Float) (count : ℕ) (cs : List Corner) (scratch : Slices) (n
   buffer-judged true e =
       untouched core core-left inside (λ z. true≢false (sym e ∙ core-seen z))
       ∙ ap (λ (k : ℕ). front_corners (after k) scratch) (same_number true e)
-  buffer-judged false e = ap (λ (k : ℕ). result_or k (front_corners core-left inside) inside) (same_number false e) ∙ same-buffer number refl
+  buffer-judged false e =
+      ap (λ (k : ℕ). result_or k (front_corners core-left inside) inside) (same_number false e) ∙ same-buffer number refl
 
   -- judged, exchanged, merged, and exchanged again
   pub slice-merged : (o : Bool) (cs₁ : List Corner) (b₁ b₂ : Slices) (core-answer : Merged) (cs₂ : List Corner) (b₃ : Slices) (r : Merged)

@@ -22,7 +22,8 @@ refusal_for radius count cs scratch = lowest (conditions radius (take count cs) 
 -- after, what is left at the start and the rest unchanged, or all unchanged if refused; and about the scratch after
 pub record MergesSlice (radius : Float) (count : ℕ) (cs : List Corner) (scratch : Slices) (r : Merged)
     (cs' : List Corner) (scratch' : Slices) : Type 0 where
-  pub answer : r ≡ unless Refused (refusal_for radius count cs scratch) (Kept (length (result_of radius (take count cs))))
+  pub answer : r ≡ unless Refused (refusal_for radius count cs scratch)
+      (Kept (length (result_of radius (take count cs))))
   pub number : number_of r ≡ refusal_for radius count cs scratch
   pub values : values_of r ≡ values_unless (refusal_for radius count cs scratch)
       (length (result_of radius (take count cs)) ∷ [])

@@ -54,7 +54,8 @@ module _ (held : ℕ) (cs : List Corner) (b : Slices) (h : held ≤ places_of b)
       behind : {A : Type 0} (z : A) (g : Corner → A) (d : List A) → held ≤ length d → get_or (placed held (map g cs) d) i z ≡ get_or d i z
       behind z g d q = placed-behind held (map g cs) d q i z (omega (arith, length-map cs g))
 
-  pub corners-over : (ds : List Corner) → length ds ≡ length cs → placed_corners held ds (placed_corners held cs b) ≡ placed_corners held ds b
+  pub corners-over : (ds : List Corner) → length ds ≡ length cs
+      → placed_corners held ds (placed_corners held cs b) ≡ placed_corners held ds b
   corners-over ds e =
       slices-alike
       (over x_of b.xs (omega arith))

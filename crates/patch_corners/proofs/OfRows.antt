@@ -22,7 +22,8 @@ use Rattle.detect.specs.Peaks.{peak_places}
 use Rattle.detect.specs.Detect.{peak_in, peaks_in, start_at, starts_in, ties_at, ties_in, conditions, refusal_of, PeaksAdded}
 use Rattle.detect.proofs.Answers.{Clear, Sound, clear, sound, sound-clear, found-by}
 use Rattle.frame_params.specs.declared.FrameParams.{FrameParams}
-use Rattle.patch_corners.specs.MapCorners.{centred, search_with, peaks_in_rows, centres_in_rows, ties_in_rows, RowCornersAdded, CornersAdded}
+use Rattle.patch_corners.specs.MapCorners.{centred, search_with, peaks_in_rows, centres_in_rows, ties_in_rows, RowCornersAdded}
+use Rattle.patch_corners.specs.MapCorners.{CornersAdded}
 use Rattle.patch_corners.specs.Internal.{lowered}
 use Rattle.patch_corners.proofs.PartOfRows.{down, part, part-size, peaks-there, starts-there, sum-there}
 

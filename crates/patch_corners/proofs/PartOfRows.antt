@@ -23,7 +23,8 @@ use Rattle.float32.proofs.Approx.{add-whole}
 use Rattle.corner_list.specs.declared.Corner.{Corner}
 use Rattle.detect.specs.declared.Search.{Search}
 use Rattle.detect.specs.declared.WindowTest.TheVariants.{Beaten, Top}
-use Rattle.detect.specs.Peaks.{same, square, window, beaten, equals, window_test, ties_of, positives, is_peak, peak_places, value_at, equal_in}
+use Rattle.detect.specs.Peaks.{same, square, window, beaten, equals, window_test, ties_of, positives, is_peak, peak_places, value_at}
+use Rattle.detect.specs.Peaks.{equal_in}
 use Rattle.detect.specs.Peaks.{beats, larger_by, positive_in, is_low}
 use Rattle.detect.specs.Internal.{Inside, place}
 use Rattle.detect.specs.Detect.{read_in, peak_in, peaks_in, neighbours_at, start_at, ties_at}

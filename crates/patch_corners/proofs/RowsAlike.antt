@@ -151,4 +151,5 @@ module _ (p : FrameParams) (exact : Bool) (m : List Float) (w h a b c : ℕ) (fi
       Centre = centred p.centroid_radius m w h
 
   pub ties-split : ties_in_rows p exact m w h a c ≡ ties_in_rows p exact m w h a b + ties_in_rows p exact m w h b c
-  ties-split = ap (sum_of (ties_at m There)) peaks-split ∙ sum-append (ties_at m There) (peaks_in_rows m There a b) (peaks_in_rows m There b c)
+  ties-split =
+      ap (sum_of (ties_at m There)) peaks-split ∙ sum-append (ties_at m There) (peaks_in_rows m There a b) (peaks_in_rows m There b c)

@@ -56,7 +56,8 @@ centres_in_rows p exact m w h a b =
     (map (start_at m (search_with p exact w h)) (peaks_in_rows m (search_with p exact w h) a b))
 
 abbrev pub ties_in_rows : FrameParams → Bool → List Float → ℕ → ℕ → ℕ → ℕ → ℕ
-ties_in_rows p exact m w h a b = sum_of (ties_at m (search_with p exact w h)) (peaks_in_rows m (search_with p exact w h) a b)
+ties_in_rows p exact m w h a b =
+    sum_of (ties_at m (search_with p exact w h)) (peaks_in_rows m (search_with p exact w h) a b)
 
 -- What `add_row_corners` promises: as above, for those rows
 abbrev pub RowCornersAdded : FrameParams → Bool → List Float → ℕ → ℕ → ℕ → ℕ → ℕ → Slices → Peaks → Slices → Type 0

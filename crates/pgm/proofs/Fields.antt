@@ -18,7 +18,8 @@ use Rattle.pgm.specs.Internal.{capped, bare_from, Reaches, CommentsSkipped, Digi
 module _ (upload : List ℕ) where
   -- ---- a field
   pub field-read : (from first : ℕ) → Reaches upload (trailing is_space (bare_from upload from)) first
-      → (spaced numbered there : Bool) → spaced ≡ begins is_space (bare_from upload from) → numbered ≡ begins is_digit (bare_from upload first)
+      → (spaced numbered there : Bool) → spaced ≡ begins is_space (bare_from upload from)
+      → numbered ≡ begins is_digit (bare_from upload first)
       → there ≡ (spaced && numbered) → (d : Digits) → DigitsRead upload (bare_from upload first) d
       → FieldRead upload (field_of (bare_from upload from)) (record { there = there; number = d.number; end = d.end })
   unfolding field_of

@@ -189,7 +189,8 @@ module _ (upload : List ℕ) where
   pub located : (a : PgmImage) → PgmRead upload a → (at w h : ℕ) → a ≡ Pixels at w h → Located upload at w h
   located a r at w h is = go (refusal_of upload) refl (sym is ∙ r.answer)
     where
-      go : (n : ℕ) → refusal_of upload ≡ n → Pixels at w h ≡ unless Refused n (Pixels (raster_at upload) (width_of upload) (height_of upload))
+      go : (n : ℕ) → refusal_of upload ≡ n
+          → Pixels at w h ≡ unless Refused n (Pixels (raster_at upload) (width_of upload) (height_of upload))
           → Located upload at w h
       go zero e same =
           let a = accepted upload e in

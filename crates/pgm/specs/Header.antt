@@ -1,6 +1,7 @@
 -- The header of a binary PGM photograph (RULES 20), by Netpbm's description: pgm(5), and pbm(5) for comments. The
 -- quotations are from there.
-use Rattle.std.specs.Prelude.{ℕ, suc, ◌+◌, ◌-◌, ◌*◌, Bool, true, false, cond, not, ◌&&◌, ◌||◌, List, [], ◌∷◌, eqb, leb, get_or, drop}
+use Rattle.std.specs.Prelude.{ℕ, suc, ◌+◌, ◌-◌, ◌*◌, Bool, true, false, cond, not, ◌&&◌, ◌||◌, List, [], ◌∷◌, eqb, leb}
+use Rattle.std.specs.Prelude.{get_or, drop}
 use Rattle.lists.specs.Places.{any}
 
 -- ---- characters

@@ -11,7 +11,10 @@ use Rattle.pgm.specs.Header.{has_sides, has_header, width_of, height_of, maxval_
 unfoldable pub conditions : List ℕ → List (Bool × ℕ)
 conditions upload =
     (has_sides upload && is_large (width_of upload) (height_of upload), 1)
-    ∷ (not (has_header upload) || ltb (length (drop (raster_at upload) upload)) (width_of upload * height_of upload), 12)
+    ∷ (
+      not (has_header upload) || ltb (length (drop (raster_at upload) upload)) (width_of upload * height_of upload),
+      12,
+    )
     ∷ (not (eqb (maxval_of upload) 255), 13)
     ∷ []
 
@@ -40,4 +43,5 @@ values_of (Refused number) = []
 pub record PgmRead (upload : List ℕ) (r : PgmImage) : Type 0 where
   pub answer : r ≡ unless Refused (refusal_of upload) (Pixels (raster_at upload) (width_of upload) (height_of upload))
   pub number : number_of r ≡ refusal_of upload
-  pub values : values_of r ≡ values_unless (refusal_of upload) (raster_at upload ∷ width_of upload ∷ height_of upload ∷ [])
+  pub values : values_of r ≡ values_unless (refusal_of upload)
+      (raster_at upload ∷ width_of upload ∷ height_of upload ∷ [])

@@ -26,7 +26,8 @@ module _ (choose : Choice) (p : FrameParams) (upload : List ℕ) where
   -- "1 .., then 12, then 13, all before 2": the upload's number, then that of the frame of its pixels
   unfoldable pub refusal_of : Buffers → ℕ
   refusal_of b =
-      first_of (pgm.refusal_of upload) (frames.refusal_of choose p (pixels_in upload) (width_of upload) (height_of upload) b)
+      first_of (pgm.refusal_of upload)
+      (frames.refusal_of choose p (pixels_in upload) (width_of upload) (height_of upload) b)
 
   -- What is promised about the frame of an upload, for a choice of peaks: the answer, its number and values, and the
   -- buffers after, as the frame of the upload's pixels leaves them; a refusal of the upload changes none

@@ -134,7 +134,8 @@ module _ (inv : Float) (mi : Most inv 64) where
       rounds-plain (mul binary32 x inv) (num x * num inv) (den x * den inv) 262144 (mul-pos (den_pos x) (den_pos inv))
       (let y = simp poly at (mul-le-mul m.most mi.most) in simp poly (omega arith)) (lit≤ tt) (product-rounds x m)
 
-  product-ordered : (u w : Float) → Most u largest_side → Most w largest_side → T (le u w) → T (le (mul binary32 u inv) (mul binary32 w inv))
+  product-ordered : (u w : Float) → Most u largest_side → Most w largest_side → T (le u w)
+      → T (le (mul binary32 u inv) (mul binary32 w inv))
   product-ordered u w mu mw h =
       rounds-le (mul binary32 u inv) (mul binary32 w inv) (num u * num inv) (den u * den inv) (num w * num inv) (den w * den inv)
       (mul-pos (den_pos u) (den_pos inv)) (mul-pos (den_pos w) (den_pos inv)) (product-rounds u mu) (product-rounds w mw)

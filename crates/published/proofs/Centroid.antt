@@ -44,7 +44,8 @@ module _ (r w h cx cy : ℕ) (left : r ≤ cx) (right : cx + r < w) (above : r �
   abbrev cell : ℕ → ℕ → Place
   cell j i = weighed_rs w h (pos cx) (pos cy) (sub_ℕ j r) (sub_ℕ i r)
 
-  unclamped : (side c i : ℕ) → r ≤ c + i → c + i < side + r → as_usize (clamp_z (pos c +ℤ sub_ℕ i r) (pos 0) (pos side -ℤ pos 1)) ≡ c + i - r
+  unclamped : (side c i : ℕ) → r ≤ c + i → c + i < side + r
+      → as_usize (clamp_z (pos c +ℤ sub_ℕ i r) (pos 0) (pos side -ℤ pos 1)) ≡ c + i - r
   unclamped side c i a b = rw (plus-is c i r, sub-high (c + i) r a) (clamped side (c + i - r) (omega arith))
 
   cell-is : (j i : ℕ) → r ≤ cx + i → cx + i < w + r → r ≤ cy + j → cy + j < h + r → cell j i ≡ record { x = cx + i - r; y = cy + j - r }
@@ -157,7 +158,8 @@ module _ (r : ℕ) (x y : Float) (m : List Float) (w h : ℕ) (weight : Place �
 
   -- of the cells
   abbrev mean_rs : List Place → Outcome
-  mean_rs cells = mean_by x y (sum_rs (moment (λ p. p.x)) zero32 cells) (sum_rs (moment (λ p. p.y)) zero32 cells) (sum_rs weight zero32 cells)
+  mean_rs cells =
+      mean_by x y (sum_rs (moment (λ p. p.x)) zero32 cells) (sum_rs (moment (λ p. p.y)) zero32 cells) (sum_rs weight zero32 cells)
 
   -- of the rounded seed
   abbrev outcome_rs : ℤ → ℤ → Outcome
@@ -188,7 +190,11 @@ module _ (r : ℕ) (x y : Float) (m : List Float) (w h : ℕ) (weight : Place �
     outcome-is : le (abs x) largest_rounded ≡ true → le (abs y) largest_rounded ≡ true
         → outcome_rs (integer_of (round_half_away x)) (integer_of (round_half_away y)) ≡ outcome_of r x y m w h
     outcome-is f g =
-        rw (four (lt_z (integer_of (round_half_away x)) (pos r)) (lt_z (integer_of (round_half_away y)) (pos r)) _ _, axis w x f, axis h y g)
+        rw (
+          four (lt_z (integer_of (round_half_away x)) (pos r)) (lt_z (integer_of (round_half_away y)) (pos r)) _ _,
+          axis w x f,
+          axis h y g,
+        )
         (go (is_out r w (round_half_away x)) (is_out r h (round_half_away y)) refl refl)
       where
         axis : (side : ℕ) (x : Float) → le (abs x) largest_rounded ≡ true

@@ -37,7 +37,8 @@ crossed x y p q = let s = shared x y p q in
 
 le_trans : (x y z : Float) → Plain x → Plain y → Plain z → T (le x y) → T (le y z) → T (le x z)
 le_trans x y z p q r a b =
-    (crossed x z p r).1 (through (num x) (num y) (num z) (den x) (den y) (den z) (den_pos y) ((crossed x y p q).0 a) ((crossed y z q r).0 b))
+    (crossed x z p r).1 (through (num x) (num y) (num z) (den x) (den y) (den z) (den_pos y) ((crossed x y p q).0 a)
+    ((crossed y z q r).0 b))
 
 le-self : (x : Float) → Plain x → T (le x x)
 le-self x p = (crossed x x p p).1 (omega arith)

@@ -164,7 +164,8 @@ module _ (ix : Corner → ℕ) (P : Corner → Type 0) where
             q,
             here,
           ) (rw (put-here (ix c) (without (ix c) ++ (r ∷ [])) without) (in_right r (without (ix c)) (r ∷ []) (inl refl)))
-          | no n ↦ rw (there i n) (in_moved i (ix (out_at out i)) (in_without i (ix (out_at out i)) n (h.listed i (omega (arith, as_long)))))
+          | no n ↦ rw (there i n) (in_moved i (ix (out_at out i))
+              (in_without i (ix (out_at out i)) n (h.listed i (omega (arith, as_long)))))
         ];
         only = only-moved;
       }

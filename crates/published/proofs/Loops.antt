@@ -86,7 +86,8 @@ module _ {B : Type 0} (f : Place → List B) (a b : ℕ) where
       ap₂ (λ (s t : List B). s ++ t) (sym (flat-map f (λ (x : ℕ). record { x = x; y = y }) (range a b))) (rows-rows ys)
       ∙ sym (flat_map-append f (row y a b) (rows_from a b ys))
 
-  pub rows-block : (c d : ℕ) → flat_map (λ y. flat_map (λ x. f (record { x = x; y = y })) (range a b)) (range c d) ≡ flat_map f (block a b c d)
+  pub rows-block : (c d : ℕ) → flat_map (λ y. flat_map (λ x. f (record { x = x; y = y })) (range a b)) (range c d)
+      ≡ flat_map f (block a b c d)
   unfolding block
   rows-block c d = rows-rows (range c d)
 

@@ -24,7 +24,8 @@ use Rattle.pyramid_levels.proofs.Sides.{side-base, side-next}
 use Rattle.pyramid.specs.Pyramid.{box_of, half_pixel, halved, level_pixels}
 use Rattle.pyramid.proofs.Levels.{level-bytes}
 use Rattle.accuracy.specs.Accurate.{Bytes}
-use Rattle.published.specs.PyramidRs.{LevelRs, box_rs, half_rs, half32, next_rs, loop_rs, pyramid_rs, scale_of, level_of, PyramidAsPublished}
+use Rattle.published.specs.PyramidRs.{LevelRs, box_rs, half_rs, half32, next_rs, loop_rs, pyramid_rs, scale_of, level_of}
+use Rattle.published.specs.PyramidRs.{PyramidAsPublished}
 
 -- ---- scales
 power-fits : (k : ℕ) → k < 149 → fits binary32 (fin false 1 (negsuc k)) ≡ true

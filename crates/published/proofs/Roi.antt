@@ -45,7 +45,8 @@ scale-value (suc k) = (refl, refl)
 
 -- a whole number over 2^-k
 over-scale : (x : Float) (n k : ℕ) → HasValue x false n 1 → div binary32 x (scale_of k) ≡ whole_float false (n * 2 ^ k)
-over-scale x n k h = div-round binary32 x (scale_of k) (n * 2 ^ k) 1 (2 ^ k) (pow_pos k) (lit< tt) (whole-over x n (2 ^ k) h) (scale-value k)
+over-scale x n k h =
+    div-round binary32 x (scale_of k) (n * 2 ^ k) 1 (2 ^ k) (pow_pos k) (lit< tt) (whole-over x n (2 ^ k) h) (scale-value k)
 
 inverse-is : (k : ℕ) → div binary32 one32 (scale_of k) ≡ of_int binary32 (pos (2 ^ k))
 unfolding of_int

@@ -44,7 +44,8 @@ by_near a b side p q = rw (le-leb a (b + 1) (omega arith), le-leb b (a + 1) (ome
 module _ (g : GridRs) (G : Grid) (out : List Corner) (grid : ℕ → List ℕ) (h : Holds (index_rs g) (Placed g G) out grid)
     (c : Corner) (at : Placed g G c) where
   adjacent-are : (o : Corner) → Placed g G o
-      → adjacent_cells G (position_of c) (position_of o) ≡ (within_one (column_rs g c) (column_rs g o) && within_one (row_rs g c) (row_rs g o))
+      → adjacent_cells G (position_of c) (position_of o)
+      ≡ (within_one (column_rs g c) (column_rs g o) && within_one (row_rs g c) (row_rs g o))
   unfolding adjacent_cells
   adjacent-are o p = rw (at.0, at.1, p.0, p.1)
 
@@ -52,7 +53,8 @@ module _ (g : GridRs) (G : Grid) (out : List Corner) (grid : ℕ → List ℕ) (
   abbrev line : ℕ → List ℕ
   line ny = flat_map (λ nx. grid (ny * width_rs g + nx)) (around_rs (column_rs g c) (width_rs g))
 
-  pub near-scanned : (i : ℕ) → i < length out → adjacent_cells G (position_of c) (position_of (out_at out i)) ≡ true → In i (scanned_rs g grid c)
+  pub near-scanned : (i : ℕ) → i < length out → adjacent_cells G (position_of c) (position_of (out_at out i)) ≡ true
+      → In i (scanned_rs g grid c)
   unfolding scanned_rs
   near-scanned i l e =
       let o = out_at out i in

@@ -1,5 +1,6 @@
 -- box-image-pyramid's pyramid.rs: `downsample_2x_box_scalar` and `build_pyramid`.
-use Rattle.std.specs.Prelude.{ℕ, zero, suc, ◌+◌, ◌-◌, ◌*◌, ◌/◌, ◌%◌, ◌^◌, ◌≤◌, ◌≡◌, false, cond, ◌||◌, List, [], ◌∷◌, ltb, eqb, pos, negsuc, neg_ℤ, get_or, Float}
+use Rattle.std.specs.Prelude.{ℕ, zero, suc, ◌+◌, ◌-◌, ◌*◌, ◌/◌, ◌%◌, ◌^◌, ◌≤◌, ◌≡◌, false, cond, ◌||◌, List, [], ◌∷◌}
+use Rattle.std.specs.Prelude.{ltb, eqb, pos, negsuc, neg_ℤ, get_or, Float}
 use Rattle.std.specs.Float.{fin, binary32}
 use Rattle.std.specs.Float.Ieee.{mul}
 use Rattle.lists.specs.Limits.{largest_side}
@@ -61,7 +62,8 @@ abbrev pub scale_of : ℕ → Float
 scale_of k = fin false 1 (neg_ℤ (pos k))
 
 abbrev pub level_of : List ℕ → ℕ → ℕ → ℕ → LevelRs
-level_of base w h k = record { w = level_side w k; h = level_side h k; pixels = level_pixels base w h k; scale = scale_of k }
+level_of base w h k =
+    record { w = level_side w k; h = level_side h k; pixels = level_pixels base w h k; scale = scale_of k }
 
 abbrev pub PyramidAsPublished : Type 0
 PyramidAsPublished =

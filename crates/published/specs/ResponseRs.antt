@@ -1,5 +1,6 @@
 -- response.rs: `chess_response_at_u8` and `chess_response_u8_patch` without SIMD.
-use Rattle.std.specs.Prelude.{ℕ, ◌+◌, ◌-◌, ◌*◌, ◌<◌, ◌≤◌, min, max, ◌≡◌, cond, ◌&&◌, ◌||◌, List, [], leb, ltb, ℤ, pos, nat_abs, ◌+ℤ◌, ◌-ℤ◌, get_or, Float}
+use Rattle.std.specs.Prelude.{ℕ, ◌+◌, ◌-◌, ◌*◌, ◌<◌, ◌≤◌, min, max, ◌≡◌, cond, ◌&&◌, ◌||◌, List, [], leb, ltb, ℤ, pos}
+use Rattle.std.specs.Prelude.{nat_abs, ◌+ℤ◌, ◌-ℤ◌, get_or, Float}
 use Rattle.std.specs.Float.{binary32}
 use Rattle.std.specs.Float.Ieee.{add, sub, mul, div}
 use Rattle.lists.specs.Limits.{largest_side}

@@ -1,6 +1,7 @@
 -- Rust's operators, as the original's text uses them. An `i32` is an integer: for arguments that are not refused, no
 -- sum reaches 2^26 in absolute value. A `usize` is a natural number.
-use Rattle.std.specs.Prelude.{ℕ, suc, ◌+◌, ◌-◌, ◌*◌, ◌/◌, ◌^◌, ◌≡◌, ◌⊎◌, Bool, true, false, cond, ◌&&◌, List, map, ltb, ℤ, pos, negsuc, Float}
+use Rattle.std.specs.Prelude.{ℕ, suc, ◌+◌, ◌-◌, ◌*◌, ◌/◌, ◌^◌, ◌≡◌, ◌⊎◌, Bool, true, false, cond, ◌&&◌, List, map, ltb}
+use Rattle.std.specs.Prelude.{ℤ, pos, negsuc, Float}
 use Rattle.std.proofs.Math.IntN.{sub_ℕ}
 use Rattle.std.specs.Int.Signed.{lt_z, le_z}
 use Rattle.std.specs.Float.{nan, inf, fin, binary32}

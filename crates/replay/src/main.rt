@@ -14,7 +14,7 @@ mod library;
 mod list_buffer;
 mod listings;
 mod merges;
-mod numbers;
+mod number;
 mod peaks;
 mod responses;
 mod streams;
@@ -54,8 +54,8 @@ fn is_same(kind: u8, body: &[u8]) -> bool {
         9 => merges::replay(body),
         10 => streams::replay(body),
         11 => listings::replay(body),
-        12 => numbers::replay_float(body),
-        13 => numbers::replay_ring(body),
+        12 => number::replay_float(body),
+        13 => number::replay_ring(body),
         _ => false,
     }
 }

@@ -149,7 +149,8 @@ module _ (sum cross : ℕ) (small : sum < 65536) (few : cross < 65536) where
   cross-value : HasValue (cross_mean cross) false (grid binary32 cross 5) (2 ^ 149)
   cross-value =
       subst (λ (z : Float). HasValue z false (grid binary32 cross 5) (2 ^ 149))
-      (sym (div-round binary32 (float_of cross) five cross 5 1 (lit< tt) (lit< tt) (of_int-value binary32 cross (omega arith)) (refl, refl)))
+      (sym (div-round binary32 (float_of cross) five cross 5 1 (lit< tt) (lit< tt) (of_int-value binary32 cross (omega arith))
+      (refl, refl)))
       (round_val binary32 false cross 5 (grid-under binary32 cross 5 16 (lit< tt) (lit≤ tt) (omega arith)))
 
   cross-times : HasValue (div binary32 (float_of cross) five_sixteenths) false (grid binary32 cross 5 * 16) (2 ^ 149)
@@ -185,7 +186,8 @@ module _ (sum cross : ℕ) (small : sum < 65536) (few : cross < 65536) where
       let L : ℕ = 2 ^ 149 in
       let n : ℕ = dist (sum * L) (G * 16) in
       let first = sub-rounded binary32 (ring_mean sum) (cross_mean cross) sum 16 G L (lit< tt) (pow_pos 149) ring-value cross-value in
-      let second = sub-rounded binary32 (float_of sum) (div binary32 (float_of cross) five_sixteenths) sum 1 (G * 16) L (lit< tt) (pow_pos 149)
+      let second = sub-rounded binary32 (float_of sum) (div binary32 (float_of cross) five_sixteenths) sum 1 (G * 16) L (lit< tt)
+      (pow_pos 149)
       (of_int-value binary32 sum (omega arith)) cross-times in
       ap (λ (z : Float). mul binary32 sixteen (abs z)) first
       ∙ ap (λ (z : Float). mul binary32 sixteen z) (abs-rounded binary32 (sum * L) (G * 16) (16 * L))

@@ -62,7 +62,8 @@ unfolding refusal_of
 allowed v radius places t =
     rw (le-ltb _ _ t.narrow, le-ltb _ _ t.low, eq-eqb _ _ t.sized, ring-fits radius t.known, le-ltb _ _ t.enough)
 
-pub image : (pixels w h radius size places : ℕ) → Taken pixels w h radius size places → Sized pixels w h × ((ring_of radius).radius ≡ radius)
+pub image : (pixels w h radius size places : ℕ) → Taken pixels w h radius size places
+    → Sized pixels w h × ((ring_of radius).radius ≡ radius)
 image pixels w h radius size places t = (record { sized = t.sized; narrow = t.narrow; low = t.low }, radius-is radius t.known)
 
 -- ---- the clipped box lies in the image

@@ -80,7 +80,8 @@ module _ (img : List ℕ) (w h : ℕ) (t : Ring) (radius : ℕ) (off : List ℕ)
       (subst (λ (h : Held). RingSumsOf s h.sr h.dr h.sum) (sym f) (passed-all s))
 
   pub cross-found : (q : ℕ)
-      → q ≡ get_or img (y * w + x) 0 + get_or img (y * w + x - w) 0 + get_or img (y * w + x + w) 0 + get_or img (y * w + x + 1) 0 + get_or img
+      → q ≡ get_or img (y * w + x) 0 + get_or img (y * w + x - w) 0 + get_or img (y * w + x + w) 0 + get_or img
+      (y * w + x + 1) 0 + get_or img
       (y * w + x - 1) 0 → q ≡ cross_of img w x y
   cross-found q e = e ∙ cross-sum t f.is-ring radius f.own_radius w h x y n img
 
@@ -107,7 +108,8 @@ module _ (img : List ℕ) (w h : ℕ) (t : Ring) (radius : ℕ) (off : List ℕ)
 pub gathered-bytes : (img : List ℕ) (base : ℕ) (off : List ℕ) → Bytes img → (s : List ℕ)
     → s ≡ tab 16 (λ k. get_or img (base + get_or off k 0) 0) → Bytes s
 gathered-bytes img base off b s e i =
-    rw e (get_d-tab-any (λ (n : ℕ). n < 256) 0 (omega arith) (λ k. get_or img (base + get_or off k 0) 0) (λ k. b (base + get_or off k 0)) 16 i)
+    rw e (get_d-tab-any (λ (n : ℕ). n < 256) 0 (omega arith) (λ k. get_or img (base + get_or off k 0) 0)
+    (λ k. b (base + get_or off k 0)) 16 i)
 
 -- so the sums of a ring are small, and so is what they differ by
 pub held_small : (s : List ℕ) (r : Held) → Bytes s → r ≡ passed_after s 8 → SumsBounded 8 r
@@ -153,7 +155,8 @@ summed-set tile w t radius y i a b c p q r small sums new =
     long : SumPlaces a b c
     long = sums.long
 
-    cells : (k : ℕ) → k < i + 1 → CellSumsOf tile w t (radius + k) y (get_or (set a i p) k 0) (get_or (set b i q) k 0) (get_or (set c i r) k 0)
+    cells : (k : ℕ) → k < i + 1 → CellSumsOf tile w t (radius + k) y (get_or (set a i p) k 0) (get_or (set b i q) k 0)
+        (get_or (set c i r) k 0)
     cells k l = elim (dec_lt k i) [
       | yes x ↦
           let other : k ≡ i → ⊥ = λ e. absurd (omega arith) in

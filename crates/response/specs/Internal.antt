@@ -1,5 +1,6 @@
 -- The contracts of private functions: no public promise depends on them.
-use Rattle.std.specs.Prelude.{ℕ, ◌+◌, ◌*◌, ◌/◌, ◌<◌, ◌≤◌, ◌≡◌, false, cond, not, List, [], ◌∷◌, ltb, length, get_or, Float}
+use Rattle.std.specs.Prelude.{ℕ, ◌+◌, ◌*◌, ◌/◌, ◌<◌, ◌≤◌, ◌≡◌, false, cond, not, List, [], ◌∷◌, ltb, length, get_or}
+use Rattle.std.specs.Prelude.{Float}
 use Rattle.lists.specs.Limits.{largest_side, largest_ring}
 use Rattle.float32.specs.Float32 as float32
 use Rattle.lists.specs.Tab.{tab}
@@ -149,7 +150,8 @@ pub record CellsInRow (tile : List ℕ) (s radius y n : ℕ) : Type 0 where
 -- the sums of the first n cells in row y of a tile whose ring lies in it
 pub record CellsSummed (tile : List ℕ) (s : ℕ) (t : Ring) (radius y n : ℕ) (balance sum cross : List ℕ) : Type 0 where
   pub long : SumPlaces balance sum cross
-  pub cells : (i : ℕ) → i < n → CellSumsOf tile s t (radius + i) y (get_or balance i 0) (get_or sum i 0) (get_or cross i 0)
+  pub cells : (i : ℕ) → i < n → CellSumsOf tile s t (radius + i) y (get_or balance i 0) (get_or sum i 0)
+      (get_or cross i 0)
 
 -- of n cells from place x on, those from the a-th up to the b-th lie at least the radius from either end of w places
 -- and at least the margin from either end of the n cells, and no others do

@@ -61,7 +61,8 @@ response_of sr dr sum cross =
 -- the response of a cell whose ring lies in the image
 unfoldable pub response : List ℕ → ℕ → Ring → ℕ → ℕ → Float
 unfolding samples response_of
-response img w t x y = let s = samples img w t x y in response_of (sr_of s) (dr_of s) (ring_sum_of s) (cross_of img w x y)
+response img w t x y = let s = samples img w t x y in
+    response_of (sr_of s) (dr_of s) (ring_sum_of s) (cross_of img w x y)
 
 -- column x and row y lie at least r from each edge of w by h
 abbrev pub is_within : ℕ → ℕ → ℕ → ℕ → ℕ → Bool

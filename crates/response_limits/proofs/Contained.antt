@@ -93,7 +93,8 @@ module _ (s : ℕ → Range) (v : List ℕ) (within : (k : ℕ) → In (get_or v
 
     fifths-least : low_fifths s c ≤ℤ fifths (sr_of v) (dr_of v) (ring_sum_of v) cross
     fifths-least =
-        let cost : 5 * dr_of v + dist (5 * ring_sum_of v) (16 * cross) ≤ 5 * dr_greatest s + greatest_dist (times 5 (ring_range s)) (times 16 c) =
+        let cost : 5 * dr_of v + dist (5 * ring_sum_of v) (16 * cross) ≤ 5 * dr_greatest s + greatest_dist (times 5
+        (ring_range s)) (times 16 c) =
         omega (arith, dr-most, off-most) in
         sub-le _ _ _ _ (mul-le-mul_left 5 sr-least) cost
 

@@ -53,7 +53,8 @@ module _ (img : List ℕ) (w h radius : ℕ) (t : RingOffsets) (f : ImageWithTab
   cross-in = rw f.image.sized (response.cross-in (ring_of radius) (ring_of-is radius) radius f.own_radius w h x y n)
 
   pub cross-found : (q : ℕ)
-      → q ≡ get_or img (y * w + x) 0 + get_or img (y * w + x - w) 0 + get_or img (y * w + x + w) 0 + get_or img (y * w + x + 1) 0 + get_or img
+      → q ≡ get_or img (y * w + x) 0 + get_or img (y * w + x - w) 0 + get_or img (y * w + x + w) 0 + get_or img
+      (y * w + x + 1) 0 + get_or img
       (y * w + x - 1) 0 → q ≡ cross_of img w x y
   cross-found q e = e ∙ response.cross-sum (ring_of radius) (ring_of-is radius) radius f.own_radius w h x y n img
 

@@ -29,7 +29,8 @@ gain_of p q = 5 * sr_least (range_at p q)
 
 abbrev pub cost_of : List ℕ → List ℕ → ℕ → ℕ → ℕ
 cost_of p q c d =
-    5 * dr_least (range_at p q) + least_dist (times 5 (ring_range (range_at p q))) (times 16 (record { low = c; high = d }))
+    5 * dr_least (range_at p q) + least_dist (times 5 (ring_range (range_at p q)))
+    (times 16 (record { low = c; high = d }))
 
 -- the limits' naturals, from a cell's samples in the low and in the high image
 abbrev pub limits_of : CellSamples → CellSamples → CellLimits

@@ -26,7 +26,8 @@ fn run(
     highs: &mut [i32],
 )
     requires image_with_table { ImageWithTable low.now w h radius t × ImageWithTable high.now w h radius t }
-    requires lows_len_bound { (length lows.old ≤ 32) × (length highs.old ≡ length lows.old) × (x + length lows.old ≤ w) }
+    requires lows_len_bound { (length lows.old ≤ 32) × (length highs.old ≡ length lows.old)
+        × (x + length lows.old ≤ w) }
     requires by_index { (i : ℕ) → i < length lows.old → Inner w h radius (x + i) y }
     ensures { CellsWritten low.now high.now w h radius x y lows.old
         highs.old lows.new highs.new }

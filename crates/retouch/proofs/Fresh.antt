@@ -53,7 +53,8 @@ pub whole_cells : (img : List ℕ) (w h : ℕ) (t : Ring) → 0 < w → 0 < h �
 unfolding cells
 whole_cells img w h t p r =
     rw (whole-cols img w h t r, whole-rows img w h t p)
-    (grid-ext w h (response_in (whole img w h t)) (response_at img w h t) (λ i j a b. ap₂ (response_at img w h t) (omega arith) (omega arith)))
+    (grid-ext w h (response_in (whole img w h t)) (response_at img w h t)
+    (λ i j a b. ap₂ (response_at img w h t) (omega arith) (omega arith)))
 
 module _ (img : List ℕ) (w h : ℕ) (sized : length img ≡ w * h) (t : Ring) (is : IsRing t) (q : Place) (across : q.x < w)
     (down : q.y < h) (v : ℕ) where

@@ -33,4 +33,5 @@ by-cells w h d s t p q f =
     (λ i l.
     let below : i < h * w = rw p at l in
     let w-pos : 0 < w = wide w h i below in
-    subst (λ (k : ℕ). get_or s k d ≡ get_or t k d) (div-add-mod' i w) (f (i % w) (i / w) (mod-lt i w-pos) ((div-lt_iff_lt-mul w-pos).1 below)))
+    subst (λ (k : ℕ). get_or s k d ≡ get_or t k d) (div-add-mod' i w)
+    (f (i % w) (i / w) (mod-lt i w-pos) ((div-lt_iff_lt-mul w-pos).1 below)))

@@ -75,7 +75,8 @@ module _ (img : List ℕ) (w h ring : ℕ) (image : Sized (length img) w h) (kno
 
 -- ---- what the code leaves, by the place p: the map m becomes m', and it answers n
 abbrev Leaves : List ℕ → ℕ → ℕ → ℕ → Place → List Float → ℕ × ℕ → List Float → ℕ → Type 0
-Leaves img w h ring q m p m' n = (m' ≡ redone_by (p ∷ []) img w h (ring_of ring) q m) × ((n ≡ count_by (p ∷ []) w h (ring_of ring) q) × (n ≤ 1))
+Leaves img w h ring q m p m' n =
+    (m' ≡ redone_by (p ∷ []) img w h (ring_of ring) q m) × ((n ≡ count_by (p ∷ []) w h (ring_of ring) q) × (n ≤ 1))
 
 module _ (img : List ℕ) (w h ring : ℕ) (q : Place) (m : List Float) (g : PixelChecked img w h ring q m) (p : ℕ × ℕ) where
   own : (ring_of ring).radius ≡ ring

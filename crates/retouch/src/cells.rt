@@ -77,7 +77,8 @@ fn redo(
     ensures map_after { map.new
         ≡ redone_by ((column, row) ∷ []) img.now w h (ring_of ring) (record { x = x; y = y })
         map.old }
-    ensures value { (result ≡ count_by ((column, row) ∷ []) w h (ring_of ring) (record { x = x; y = y })) × (result ≤ 1) }
+    ensures value { (result ≡ count_by ((column, row) ∷ []) w h (ring_of ring) (record { x = x; y = y }))
+        × (result ≤ 1) }
 {
     let radius = ring as usize;
     if !is_fit(w, radius, x, column) {

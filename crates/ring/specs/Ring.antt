@@ -1,5 +1,6 @@
 -- The rings: the two tables of the detector, and what any ring table must be.
-use Rattle.std.specs.Prelude.{ℕ, ◌+◌, ◌*◌, ◌-◌, ◌<◌, ◌≤◌, ◌≡◌, Bool, cond, ◌||◌, List, [], ◌∷◌, map, eqb, length, get_or}
+use Rattle.std.specs.Prelude.{ℕ, ◌+◌, ◌*◌, ◌-◌, ◌<◌, ◌≤◌, ◌≡◌, Bool, cond, ◌||◌, List, [], ◌∷◌, map, eqb, length}
+use Rattle.std.specs.Prelude.{get_or}
 
 -- A ring around a centre, clockwise from the top. A place (a, b) lies a - radius columns to the right of the centre and
 -- b - radius rows below it: both are counted from the corner of the ring's square, so that neither is negative.

@@ -26,7 +26,12 @@ module _ (s d : List ℕ) where
   told : (k : Reading) (after : List ℕ) → read_frame s ≡ k → after ≡ buffer_after k d → FrameRead s d (answer_of k) after
   told k after is stands =
       let same : answer_of k ≡ answer_of (read_frame s) = ap answer_of (sym is) in
-      record { answer = same; number = ap number_of same; values = ap values_of same; pixels = stands ∙ ap (λ r. buffer_after r d) (sym is) }
+      record {
+        answer = same;
+        number = ap number_of same;
+        values = ap values_of same;
+        pixels = stands ∙ ap (λ r. buffer_after r d) (sym is);
+      }
 
   module _ (n : ℕ) (j : Judged s n) where
     pub refused-read : (n ≡ 0 → ⊥) → FrameRead s d (Refused n) d

@@ -104,7 +104,8 @@ module _ (due left : ℕ) (k : known due ≡ true) (next : List ℕ → List ℕ
   record-wants next_wanted s h =
       elim (dec_lt 0 (record_fault due left s)) [
         | yes l ↦ let f : record_fault due left s ≡ 0 → ⊥ = λ z. omega arith in rw (ne_eqb (record_fault due left s) 0 f) (here-wants s f)
-        | no g ↦ let z : record_fault due left s ≡ 0 = omega arith in rw z (past-wants s z (next_wanted (body_of due s) (behind due s)) (h z))
+        | no g ↦ let z : record_fault due left s ≡ 0 = omega arith in
+            rw z (past-wants s z (next_wanted (body_of due s) (behind due s)) (h z))
       ]
 
 -- ---- the pixels and the end, the parameters, the sides
@@ -113,7 +114,8 @@ unfolding read_pixels
 pixels-unknown zero h left done = refl
 pixels-unknown (suc n) h left done = refl
 
-pixels-wants : (n : ℕ) (h : Header) (left : ℕ) (done s : List ℕ) → Wanted (read_pixels n h left done) (33 * n + 1) s (wanted_pixels n left s)
+pixels-wants : (n : ℕ) (h : Header) (left : ℕ) (done s : List ℕ)
+    → Wanted (read_pixels n h left done) (33 * n + 1) s (wanted_pixels n left s)
 unfolding read_pixels wanted_pixels body_length
 pixels-wants zero h left done s =
     record-wants 4 left refl (λ body rest. accepted h done) (λ p. absurd (let no : ⊥ = omega arith in no)) 0 (λ body rest. 0) s

@@ -324,7 +324,8 @@ module _ {s : List ℕ} where
       let fewer : left_behind s i - 32 ≡ left_behind s (suc i) = omega arith in
       record { stage = pixels (suc i) (pixels-sound s i p l e); kind-is = refl; at_is = place; left_is = fewer }
 
-  next-end : (i : ℕ) (p : Passed s i) → left_behind s i ≡ 0 → record_fault 4 (left_behind s i) (drop (22 + 33 * i) s) ≡ 0 → Next (pixels i p) 4
+  next-end : (i : ℕ) (p : Passed s i) → left_behind s i ≡ 0 → record_fault 4 (left_behind s i) (drop (22 + 33 * i) s) ≡ 0
+      → Next (pixels i p) 4
   next-end i p z e = record { stage = end _ _ (end-sound s i p z e) (end_none s i p z e); kind-is = refl; at_is = refl; left_is = refl }
 
   stage-next : (st : Stage s) → (kind_at st ≡ 4 → ⊥) → fault_at st ≡ 0 → Next st (due_at st)

@@ -1,5 +1,6 @@
 -- A frame stream and what it holds correspond one to one: writing, and what reading gives back.
-use Rattle.std.specs.Prelude.{ℕ, zero, suc, ◌-◌, ◌*◌, ◌/◌, ◌%◌, ◌<◌, ◌≡◌, List, [], ◌∷◌, ◌++◌, length, take, drop, replicate}
+use Rattle.std.specs.Prelude.{ℕ, zero, suc, ◌-◌, ◌*◌, ◌/◌, ◌%◌, ◌<◌, ◌≡◌, List, [], ◌∷◌, ◌++◌, length, take, drop}
+use Rattle.std.specs.Prelude.{replicate}
 use Rattle.lists.specs.Places.{All}
 use Rattle.stream.specs.declared.Header.{Header}
 use Rattle.stream.specs.Stream.{sides_fault, parameters_fault, accepted, records_for, read_frame}
@@ -24,7 +25,8 @@ parameters_bytes h =
 -- kind 3: 32 pixels in row order, zeros after the last (RULES 11.1)
 unfoldable pub pixel_bytes : ℕ → List ℕ → List ℕ
 pixel_bytes zero pixels = []
-pixel_bytes (suc n) pixels = 3 ∷ ((take 32 pixels ++ replicate (32 - length pixels) 0) ++ pixel_bytes n (drop 32 pixels))
+pixel_bytes (suc n) pixels =
+    3 ∷ ((take 32 pixels ++ replicate (32 - length pixels) 0) ++ pixel_bytes n (drop 32 pixels))
 
 unfoldable pub frame_bytes : Header → List ℕ → List ℕ
 unfolding pixel_bytes

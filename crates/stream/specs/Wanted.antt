@@ -8,7 +8,8 @@ use Rattle.stream.specs.Stream.{u16, body_length, body_of, behind, padding_fault
 -- may decide
 unfoldable pub wanted_pixel_body : ℕ → List ℕ → ℕ
 unfolding padding_fault
-wanted_pixel_body left came = cond (eqb (padding_fault left came) 0) (min (32 - length came) (suc (left - length came))) 0
+wanted_pixel_body left came =
+    cond (eqb (padding_fault left came) 0) (min (32 - length came) (suc (left - length came))) 0
 
 -- of any body: the rest of it
 unfoldable pub wanted_body : ℕ → ℕ → List ℕ → ℕ

@@ -100,7 +100,8 @@ module _ (p : FrameParams) (v : View) (bytes : Bytes v.img) (R : p.centroid_radi
 
   pub close-corners : (choose : Choice) → CloseCorners p choose v
   close-corners choose =
-      all_of (λ s. All (CloseCorner p v s) (localized p v s)) (λ s. close-kept s _ refl) (map (start_at (cells v) (search_on p v)) (choose v))
+      all_of (λ s. All (CloseCorner p v s) (localized p v s)) (λ s. close-kept s _ refl)
+      (map (start_at (cells v) (search_on p v)) (choose v))
 
 -- ---- each map that a frame looks at, by any choice of peaks
 pub frame_tolerance : (p : FrameParams) (img : List ℕ) (w h : ℕ) (choose : Choice) → SoundFrame p img w h → p.centroid_radius ≤ 2

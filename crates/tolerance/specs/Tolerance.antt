@@ -25,8 +25,8 @@ window_about r Beyond c = []
 abbrev pub summed_cells : ℕ → Float → Float → List Place
 summed_cells r x y = window_about r (round_half_away x) (round_half_away y)
 
--- ---- the exact centroid of some cells (RULES 33.1), weighted by the exact fifths above 0: (exact_x / exact_mass, exact_y
--- / exact_mass)
+-- ---- the exact centroid of some cells (RULES 33.1), weighted by the exact fifths above 0: (exact_x / exact_mass,
+-- exact_y / exact_mass)
 module _ (fifths : Place → ℤ) (ps : List Place) where
   -- the sum of the weights
   abbrev pub exact_mass : ℕ
@@ -56,8 +56,9 @@ abbrev pub CloseCorner : FrameParams → View → Corner → Corner → Type 0
 CloseCorner p v s c =
     Close (λ q. fifths_in v q.x q.y) (summed_cells p.centroid_radius s.x s.y) c.x c.y
 
--- for each peak, the corner that it becomes if it is accepted: one after the other these are `corners_in`, not yet moved
--- by a box's corner
+-- for each peak, the corner that it becomes if it is accepted: one after the other these are `corners_in`, not yet
+-- moved by a box's corner
 abbrev pub CloseCorners : FrameParams → Choice → View → Type 0
 CloseCorners p choose v =
-    All (λ (s : Corner). All (CloseCorner p v s) (localized p v s)) (map (start_at (cells v) (search_on p v)) (choose v))
+    All (λ (s : Corner). All (CloseCorner p v s) (localized p v s))
+    (map (start_at (cells v) (search_on p v)) (choose v))

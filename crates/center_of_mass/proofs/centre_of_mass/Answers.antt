@@ -72,12 +72,16 @@ window_sums-s-requires c =
 pub returns-then-s : goal.returns-then-s
 unfolding of_bits
 returns-then-s c =
-    with-mass c.args.r c.args.x c.args.y c.args.map.now c.args.w c.args.h (cx (goal.at.returns-then-s c).In-At-down) (cy (goal.at.returns-then-s c).In-At-down) (column-at (goal.at.returns-then-s c).In-At-down) (row_at (goal.at.returns-then-s c).In-At-down)
+    with-mass c.args.r c.args.x c.args.y c.args.map.now c.args.w c.args.h (cx (goal.at.returns-then-s c).In-At-down)
+    (cy (goal.at.returns-then-s c).In-At-down) (column-at (goal.at.returns-then-s c).In-At-down)
+    (row_at (goal.at.returns-then-s c).In-At-down)
     c.window_sums-s.result c.window_sums-s.ensures
     c.if-s.true
 
 pub returns : goal.returns
 unfolding of_bits
 returns c =
-    no-mass c.args.r c.args.x c.args.y c.args.map.now c.args.w c.args.h (cx (goal.at.returns c).In-At-down) (cy (goal.at.returns c).In-At-down) (column-at (goal.at.returns c).In-At-down) (row_at (goal.at.returns c).In-At-down) c.window_sums-s.result
+    no-mass c.args.r c.args.x c.args.y c.args.map.now c.args.w c.args.h (cx (goal.at.returns c).In-At-down)
+    (cy (goal.at.returns c).In-At-down) (column-at (goal.at.returns c).In-At-down)
+    (row_at (goal.at.returns c).In-At-down) c.window_sums-s.result
     c.window_sums-s.ensures c.if-s.false

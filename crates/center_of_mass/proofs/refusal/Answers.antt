@@ -22,7 +22,8 @@ map-passed c =
     ]
 
 pub returns-then-radius-gt-LARGEST_RADIUS : goal.returns-then-radius-gt-LARGEST_RADIUS
-returns-then-radius-gt-LARGEST_RADIUS c = large _ _ _ _ _ _ _ (map-passed (goal.at.returns-then-radius-gt-LARGEST_RADIUS c).Joined-has_map) c.if-radius-gt-LARGEST_RADIUS.true
+returns-then-radius-gt-LARGEST_RADIUS c =
+    large _ _ _ _ _ _ _ (map-passed (goal.at.returns-then-radius-gt-LARGEST_RADIUS c).Joined-has_map) c.if-radius-gt-LARGEST_RADIUS.true
 
 pub returns-then-seed_fits-2 : goal.returns-then-seed_fits-2
 returns-then-seed_fits-2 c =

@@ -34,9 +34,11 @@ int_to_float-sy c = le→leb c.args.y (2 ^ 24) (omega arith)
 pub loop-x-preserved : goal.loop-x-preserved
 loop-x-preserved c =
     rw c.lifted-weight.ensures
-    (one_cell c.args.map.now c.args.w c.args.y c.loop-x.x c.args.x1 (record { sx = c.loop-x.sx; sy = c.loop-x.sy; sw = c.loop-x.sw }) _ c.loop-x.invariant
+    (one_cell c.args.map.now c.args.w c.args.y c.loop-x.x c.args.x1
+    (record { sx = c.loop-x.sx; sy = c.loop-x.sy; sw = c.loop-x.sw }) _ c.loop-x.invariant
     c.loop-x-test.true)
 
 pub returns : goal.returns
 returns c =
-    no_cell c.args.map.now c.args.w c.args.y c.loop-x.x c.args.x1 (record { sx = c.loop-x.sx; sy = c.loop-x.sy; sw = c.loop-x.sw }) _ c.loop-x.invariant c.loop-x-test.false
+    no_cell c.args.map.now c.args.w c.args.y c.loop-x.x c.args.x1
+    (record { sx = c.loop-x.sx; sy = c.loop-x.sy; sw = c.loop-x.sw }) _ c.loop-x.invariant c.loop-x-test.false

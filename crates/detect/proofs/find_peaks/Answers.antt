@@ -36,12 +36,17 @@ can-search c = rw c.search_of-s.ensures (searchable _ _ _ _ _ _ _ _ _ (fine (goa
 -- what is added is what the function promises
 adds : (c : After-search_of-s) (answer : Peaks) (b' : Slices)
     →
-    PeaksAdded [] (starts_in (map_of (goal.at.After-search_of-s c).Else-number-ne0) c.search_of-s.result) (ties_in (map_of (goal.at.After-search_of-s c).Else-number-ne0) c.search_of-s.result) c.args.held
+    PeaksAdded [] (starts_in (map_of (goal.at.After-search_of-s c).Else-number-ne0) c.search_of-s.result)
+    (ties_in (map_of (goal.at.After-search_of-s c).Else-number-ne0) c.search_of-s.result) c.args.held
     (buffer-of (goal.at.After-search_of-s c).Else-number-ne0) answer b'
-    → PeaksAdded (conditions-of (goal.at.After-search_of-s c).Else-number-ne0) (starts_in (map_of (goal.at.After-search_of-s c).Else-number-ne0) (search-of (goal.at.After-search_of-s c).Else-number-ne0)) (ties_in (map_of (goal.at.After-search_of-s c).Else-number-ne0) (search-of (goal.at.After-search_of-s c).Else-number-ne0)) c.args.held
+    → PeaksAdded (conditions-of (goal.at.After-search_of-s c).Else-number-ne0)
+    (starts_in (map_of (goal.at.After-search_of-s c).Else-number-ne0) (search-of (goal.at.After-search_of-s c).Else-number-ne0))
+    (ties_in (map_of (goal.at.After-search_of-s c).Else-number-ne0) (search-of (goal.at.After-search_of-s c).Else-number-ne0)) c.args.held
     (buffer-of (goal.at.After-search_of-s c).Else-number-ne0) answer b'
 adds c =
-    found-clear (map_of (goal.at.After-search_of-s c).Else-number-ne0) c.search_of-s.result (search-of (goal.at.After-search_of-s c).Else-number-ne0) c.search_of-s.ensures (conditions-of (goal.at.After-search_of-s c).Else-number-ne0) (fine (goal.at.After-search_of-s c).Else-number-ne0)
+    found-clear (map_of (goal.at.After-search_of-s c).Else-number-ne0) c.search_of-s.result
+    (search-of (goal.at.After-search_of-s c).Else-number-ne0) c.search_of-s.ensures
+    (conditions-of (goal.at.After-search_of-s c).Else-number-ne0) (fine (goal.at.After-search_of-s c).Else-number-ne0)
     c.args.held (buffer-of (goal.at.After-search_of-s c).Else-number-ne0)
 
 pub returns-then-number-ne0 : goal.returns-then-number-ne0

@@ -16,7 +16,8 @@ image c = sized _ _ _ _ c.refusal-number.ensures c.if-number-ne0.false
 
 pub returns-then-is_outside : goal.returns-then-is_outside
 unfolding conditions
-returns-then-is_outside c = rw (passed _ _ _ _ (image (goal.at.returns-then-is_outside c).Else-number-ne0), sym c.is_outside.ensures ∙ c.if-is_outside.true)
+returns-then-is_outside c =
+    rw (passed _ _ _ _ (image (goal.at.returns-then-is_outside c).Else-number-ne0), sym c.is_outside.ensures ∙ c.if-is_outside.true)
 
 pub returns : goal.returns
 unfolding conditions

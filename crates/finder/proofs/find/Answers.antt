@@ -13,7 +13,11 @@ overflow_mul-pixels c = omega (arith, (found-frame _ _ _ _ c.read_frame-read.ens
 
 pub slice_bounds-pixels-end : goal.slice_bounds-pixels-end
 slice_bounds-pixels-end c =
-    omega (arith, (found-frame _ _ _ _ c.read_frame-read.ensures _ c.in-Frame.is).fits, pixels-long _ _ _ _ c.read_frame-read.ensures _ c.in-Frame.is (length-replicate {A = ℕ} most_pixels 0))
+    omega (
+      arith,
+      (found-frame _ _ _ _ c.read_frame-read.ensures _ c.in-Frame.is).fits,
+      pixels-long _ _ _ _ c.read_frame-read.ensures _ c.in-Frame.is (length-replicate {A = ℕ} most_pixels 0),
+    )
 
 pub slice_bounds-list_frame-end : goal.slice_bounds-list_frame-end
 slice_bounds-list_frame-end c =

@@ -24,7 +24,10 @@ add_seeds-f-requires c =
     let taken = admitted c.args.p (length c.args.img.now) c.args.w c.args.h (length c.args.map.now) (length c.args.levels.now) none in
     let sound = admitted-sound c.args.p c.args.img.now c.args.w c.args.h _ _ taken
     (λ i. (c.shared_slice_known-1.given i).fits) in
-    record { frame_checked = record { sound = sound; enough = taken.enough }; built_levels = record { before = _; complete = c.build-n.ensures } }
+    record {
+      frame_checked = record { sound = sound; enough = taken.enough };
+      built_levels = record { before = _; complete = c.build-n.ensures };
+    }
 
 pub add_found-g-requires : goal.add_found-g-requires
 add_found-g-requires c =
@@ -32,7 +35,8 @@ add_found-g-requires c =
     let taken = admitted c.args.p (length c.args.img.now) c.args.w c.args.h (length c.args.map.now) (length c.args.levels.now) none in
     let sound = admitted-sound c.args.p c.args.img.now c.args.w c.args.h _ _ taken
     (λ i. (c.shared_slice_known-1.given i).fits) in
-    let ready : FrameChecked c.args.p c.args.img.now c.args.w c.args.h (length c.args.map.now) = record { sound = sound; enough = taken.enough } in
+    let ready : FrameChecked c.args.p c.args.img.now c.args.w c.args.h (length c.args.map.now) =
+    record { sound = sound; enough = taken.enough } in
     record {
       frame_checked = ready-kept _ _ _ _ _ _ ready (omega (arith, c.add_seeds-f.auto));
       n_le_most_levels = (
@@ -117,8 +121,18 @@ returns c =
     (λ i. (c.shared_slice_known-1.given i).fits) in
     entry-merged (choice_of c.args.p c.args.exact) c.args.p c.args.img.now c.args.w c.args.h c.args.map.now c.args.levels.now _ _ _
     c.build-n.ensures.counted _ _ _ found
-    (record { xs = omega (arith, c.add_seeds-f.auto); ys = omega (arith, c.add_seeds-f.auto); strengths = omega (arith, c.add_seeds-f.auto); neighbours = omega (arith, c.add_seeds-f.auto) })
-    (record { xs = omega (arith, c.add_found-g.auto); ys = omega (arith, c.add_found-g.auto); strengths = omega (arith, c.add_found-g.auto); neighbours = omega (arith, c.add_found-g.auto) })
+    (record {
+      xs = omega (arith, c.add_seeds-f.auto);
+      ys = omega (arith, c.add_seeds-f.auto);
+      strengths = omega (arith, c.add_seeds-f.auto);
+      neighbours = omega (arith, c.add_seeds-f.auto);
+    })
+    (record {
+      xs = omega (arith, c.add_found-g.auto);
+      ys = omega (arith, c.add_found-g.auto);
+      strengths = omega (arith, c.add_found-g.auto);
+      neighbours = omega (arith, c.add_found-g.auto);
+    })
     none taken (corners-inside c.args.p c.args.img.now c.args.w c.args.h (choice_of c.args.p c.args.exact) sound).1
     c.add_found-g.new.map (omega (arith, c.add_found-g.auto, c.add_seeds-f.auto)) _ c.build-n.ensures.fills c.build-n.ensures.long _ _ _
     c.merge_by_table-merged.ensures _ c.clear_levels.ensures

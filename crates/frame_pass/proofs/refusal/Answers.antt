@@ -25,7 +25,11 @@ image c = sized _ _ _ _ c.refusal-number.ensures c.if-number-ne0.false
 
 pub returns-then-not-parameters_fit : goal.returns-then-not-parameters_fit
 unfolding conditions
-returns-then-not-parameters_fit c = rw (passed _ _ _ _ (image (goal.at.returns-then-not-parameters_fit c).Else-number-ne0), sym c.parameters_fit.ensures ∙ not-true _ c.if-not-parameters_fit.true-raw)
+returns-then-not-parameters_fit c =
+    rw (
+      passed _ _ _ _ (image (goal.at.returns-then-not-parameters_fit c).Else-number-ne0),
+      sym c.parameters_fit.ensures ∙ not-true _ c.if-not-parameters_fit.true-raw,
+    )
 
 -- past 3
 
@@ -35,7 +39,11 @@ fit c = sym c.parameters_fit.ensures ∙ not-false _ c.if-not-parameters_fit.fal
 pub returns-then-is_outside : goal.returns-then-is_outside
 unfolding conditions
 returns-then-is_outside c =
-    rw (passed _ _ _ _ (image (goal.at.returns-then-is_outside c).Else-number-ne0), fit (goal.at.returns-then-is_outside c).Else-not-parameters_fit, sym c.is_outside.ensures ∙ c.if-is_outside.true)
+    rw (
+      passed _ _ _ _ (image (goal.at.returns-then-is_outside c).Else-number-ne0),
+      fit (goal.at.returns-then-is_outside c).Else-not-parameters_fit,
+      sym c.is_outside.ensures ∙ c.if-is_outside.true,
+    )
 
 -- past 5
 
@@ -48,7 +56,12 @@ overflow_mul-w c = let size = (image (goal.at.overflow_mul-w c).Else-number-ne0)
 pub returns-then-cells-w : goal.returns-then-cells-w
 unfolding conditions
 returns-then-cells-w c =
-    rw (passed _ _ _ _ (image (goal.at.returns-then-cells-w c).Else-number-ne0), fit (goal.at.returns-then-cells-w c).Else-not-parameters_fit, inside (goal.at.returns-then-cells-w c).Else-is_outside, lt-ltb _ _ c.if-cells-w.true)
+    rw (
+      passed _ _ _ _ (image (goal.at.returns-then-cells-w c).Else-number-ne0),
+      fit (goal.at.returns-then-cells-w c).Else-not-parameters_fit,
+      inside (goal.at.returns-then-cells-w c).Else-is_outside,
+      lt-ltb _ _ c.if-cells-w.true,
+    )
 
 -- past 8, what is left of the table
 
@@ -58,12 +71,24 @@ last : (c : After-cells_above)
     ≡ lowest ((is_level_buffer_short (ask c.args.pixels c.args.places c.args.w c.args.h c.args.p.levels c.args.p.minimum_side), 9) ∷ [])
 unfolding conditions
 last c =
-    rw (passed _ _ _ _ (image (goal.at.After-cells_above c).Else-number-ne0), fit (goal.at.After-cells_above c).Else-not-parameters_fit, inside (goal.at.After-cells_above c).Else-is_outside, le-ltb _ _ c.if-cells-w.false)
+    rw (
+      passed _ _ _ _ (image (goal.at.After-cells_above c).Else-number-ne0),
+      fit (goal.at.After-cells_above c).Else-not-parameters_fit,
+      inside (goal.at.After-cells_above c).Else-is_outside,
+      le-ltb _ _ c.if-cells-w.false,
+    )
 
 pub returns-then-places-cells_above : goal.returns-then-places-cells_above
 returns-then-places-cells_above c =
-    rw (last (goal.at.returns-then-places-cells_above c).After-cells_above, short c.args.p _ _ _ _ (image (goal.at.returns-then-places-cells_above c).Else-number-ne0) _ c.cells_above.ensures c.if-places-cells_above.true)
+    rw (
+      last (goal.at.returns-then-places-cells_above c).After-cells_above,
+      short c.args.p _ _ _ _ (image (goal.at.returns-then-places-cells_above c).Else-number-ne0) _ c.cells_above.ensures
+          c.if-places-cells_above.true,
+    )
 
 pub returns : goal.returns
 returns c =
-    rw (last (goal.at.returns c).After-cells_above, enough c.args.p _ _ _ _ (image (goal.at.returns c).Else-number-ne0) _ c.cells_above.ensures c.if-places-cells_above.false)
+    rw (
+      last (goal.at.returns c).After-cells_above,
+      enough c.args.p _ _ _ _ (image (goal.at.returns c).Else-number-ne0) _ c.cells_above.ensures c.if-places-cells_above.false,
+    )

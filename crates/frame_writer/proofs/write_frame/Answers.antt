@@ -34,10 +34,14 @@ pub slice_bounds-put_frame-end : goal.slice_bounds-put_frame-end
 slice_bounds-put_frame-end c = omega (arith, length-is c, (ok (goal.at.slice_bounds-put_frame-end c).Else-number-ne0).enough)
 
 pub slice_bounds-put_frame-end-2 : goal.slice_bounds-put_frame-end-2
-slice_bounds-put_frame-end-2 c = sym (length-take-le _ _ (slice_bounds-put_frame-end (goal.at.slice_bounds-put_frame-end-2 c).After-length_of-end))
+slice_bounds-put_frame-end-2 c =
+    sym (length-take-le _ _ (slice_bounds-put_frame-end (goal.at.slice_bounds-put_frame-end-2 c).After-length_of-end))
 
 pub put_frame-requires : goal.put_frame-requires
-put_frame-requires c = ((ok (goal.at.put_frame-requires c).Else-number-ne0).narrow, length-take-le _ _ (slice_bounds-put_frame-end (goal.at.put_frame-requires c).After-length_of-end) ∙ c.length_of-end.ensures)
+put_frame-requires c = (
+  (ok (goal.at.put_frame-requires c).Else-number-ne0).narrow,
+  length-take-le _ _ (slice_bounds-put_frame-end (goal.at.put_frame-requires c).After-length_of-end) ∙ c.length_of-end.ensures,
+)
 
 pub shape_of-out : goal.shape_of-out
 shape_of-out c = search rules

@@ -1,5 +1,6 @@
 -- `input::read_on` counts what its read answers, and changes no byte but those that it asked for. Assumes the contract of `read`.
-use Rattle.std.proofs.Common.{ℕ, ◌+◌, ◌-◌, ◌≤◌, min, ◌≡◌, refl, sym, ap, ◌∙◌, subst, true, List, length, ℤ, pos, negsuc, to_z, of_z, arith, Result, Ok, Err, MatchResult}
+use Rattle.std.proofs.Common.{ℕ, ◌+◌, ◌-◌, ◌≤◌, min, ◌≡◌, refl, sym, ap, ◌∙◌, subst, true, List, length, ℤ, pos, negsuc, to_z, of_z, arith}
+use Rattle.std.proofs.Common.{Result, Ok, Err, MatchResult}
 use mir.Syntax.{w64}
 use mir.ValLaws.{to_z-of_z}
 use borrow.Rule.Slice.PartMut.{mid_of, put_mid, mid_len, same_len_mid, take_put, drop_put}

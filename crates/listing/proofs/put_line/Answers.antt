@@ -11,7 +11,8 @@ use Rattle.listing.proofs.Appending.{wrote-more, wrote_as, wrote-leaves}
 use Rattle.listing.proofs.Lines.{decimal-ended, bits-ended}
 use borrow.Author.Rules.{rules}
 use Rattle.listing.proofs.put_line.Goals as goal
-use Rattle.listing.proofs.put_line.Goals.{After-put_bits-behind_strength, After-put_bits-behind_x_bits, After-put_bits-behind_y_bits, After-put_decimal-behind_x, After-put_decimal-behind_y}
+use Rattle.listing.proofs.put_line.Goals.{After-put_bits-behind_strength, After-put_bits-behind_x_bits, After-put_bits-behind_y_bits}
+use Rattle.listing.proofs.put_line.Goals.{After-put_decimal-behind_x, After-put_decimal-behind_y}
 
 pub put_decimal-behind_x-requires : goal.put_decimal-behind_x-requires
 put_decimal-behind_x-requires c =
@@ -32,11 +33,13 @@ behind-y c =
 
 behind-x-bits : (c : After-put_bits-behind_x_bits) → c.put_bits-behind_x_bits.result + 29 ≤ length c.put_bits-behind_x_bits.new.out
 behind-x-bits c =
-    wrote-leaves c.put_bits-behind_x_bits.ensures 9 29 (bits-ended (to_bits binary32 c.args.c.x) space) (behind-y c.before.before.before.before)
+    wrote-leaves c.put_bits-behind_x_bits.ensures 9 29 (bits-ended (to_bits binary32 c.args.c.x) space)
+    (behind-y c.before.before.before.before)
 
 behind-y-bits : (c : After-put_bits-behind_y_bits) → c.put_bits-behind_y_bits.result + 20 ≤ length c.put_bits-behind_y_bits.new.out
 behind-y-bits c =
-    wrote-leaves c.put_bits-behind_y_bits.ensures 9 20 (bits-ended (to_bits binary32 c.args.c.y) space) (behind-x-bits c.before.before.before.before)
+    wrote-leaves c.put_bits-behind_y_bits.ensures 9 20 (bits-ended (to_bits binary32 c.args.c.y) space)
+    (behind-x-bits c.before.before.before.before)
 
 behind-strength : (c : After-put_bits-behind_strength) → c.put_bits-behind_strength.result + 11 ≤ length c.put_bits-behind_strength.new.out
 behind-strength c =
@@ -55,12 +58,17 @@ pub put_bits-behind_y_bits-requires : goal.put_bits-behind_y_bits-requires
 put_bits-behind_y_bits-requires c = omega (arith, behind-x-bits (goal.at.put_bits-behind_y_bits-requires c).After-put_bits-behind_x_bits)
 
 pub put_bits-behind_strength-requires : goal.put_bits-behind_strength-requires
-put_bits-behind_strength-requires c = omega (arith, behind-y-bits (goal.at.put_bits-behind_strength-requires c).After-put_bits-behind_y_bits)
+put_bits-behind_strength-requires c =
+    omega (arith, behind-y-bits (goal.at.put_bits-behind_strength-requires c).After-put_bits-behind_y_bits)
 
 pub put_decimal-requires : goal.put_decimal-requires
 put_decimal-requires c =
     let small : c.args.c.neighbours < 2 ^ 32 = omega (arith, c.well_formed) in
-    omega (arith, behind-strength (goal.at.put_decimal-requires c).After-put_bits-behind_strength, places-half-word c.args.c.neighbours small)
+    omega (
+      arith,
+      behind-strength (goal.at.put_decimal-requires c).After-put_bits-behind_strength,
+      places-half-word c.args.c.neighbours small,
+    )
 
 pub shape_of-out : goal.shape_of-out
 shape_of-out c = search rules

@@ -5,7 +5,8 @@ use Rattle.listing.proofs.write_corners.Goals as goal
 
 pub returns-then-count-gt-MOST_CORNERS : goal.returns-then-count-gt-MOST_CORNERS
 returns-then-count-gt-MOST_CORNERS c =
-    too_many (slices c.args.xs.now c.args.ys.now c.args.strengths.now c.args.neighbours.now) c.args.count c.args.out.now c.if-count-gt-MOST_CORNERS.true
+    too_many (slices c.args.xs.now c.args.ys.now c.args.strengths.now c.args.neighbours.now) c.args.count c.args.out.now
+    c.if-count-gt-MOST_CORNERS.true
 
 pub returns : goal.returns
 returns c =

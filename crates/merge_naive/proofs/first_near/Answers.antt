@@ -28,7 +28,8 @@ returns-then-is_near c =
 pub loop-i-preserved : goal.loop-i-preserved
 loop-i-preserved c = (
   omega arith,
-  below_more _ _ c.loop-i.invariant.1 (λ e. false≢true (sym c.if-is_near.false ∙ sym (tested (goal.at.loop-i-preserved c).After-is_near) ∙ e)),
+  below_more _ _ c.loop-i.invariant.1
+      (λ e. false≢true (sym c.if-is_near.false ∙ sym (tested (goal.at.loop-i-preserved c).After-is_near) ∙ e)),
 )
 
 pub returns : goal.returns

@@ -12,7 +12,8 @@ use Rattle.merge_naive.proofs.place_for.Goals.{After-first_near-i}
 
 found : (c : After-first_near-i)
     →
-    IsFirst (λ m. near_by c.args.square c.args.c (corner_at (slices c.args.xs.now c.args.ys.now c.args.strengths.now c.args.neighbours.now) m)) c.args.k
+    IsFirst (λ m. near_by c.args.square c.args.c
+    (corner_at (slices c.args.xs.now c.args.ys.now c.args.strengths.now c.args.neighbours.now) m)) c.args.k
     c.first_near-i.result
 found c =
     subst (λ (p : Position). IsFirst (λ i. near c.args.square p (position_at c.args.xs.now c.args.ys.now i)) c.args.k c.first_near-i.result)
@@ -23,7 +24,8 @@ returns-then-k-i c = settles-new _ _ _ _ c.requires _ (found (goal.at.returns-th
 
 pub returns-then-o-c : goal.returns-then-o-c
 returns-then-o-c c =
-    settles-stronger _ _ _ _ c.requires _ (found (goal.at.returns-then-o-c c).After-first_near-i) c.if-k-i.false _ c.corner_at-o.ensures c.if-o-c.true
+    settles-stronger _ _ _ _ c.requires _
+    (found (goal.at.returns-then-o-c c).After-first_near-i) c.if-k-i.false _ c.corner_at-o.ensures c.if-o-c.true
 
 pub returns : goal.returns
 returns c =

@@ -21,10 +21,15 @@ tested : (c : After-is_inside)
 tested c = ap corner_outside (sym c.corner_at.ensures) ∙ ap not (sym c.is_inside.ensures)
 
 pub returns-then-not-is_inside : goal.returns-then-not-is_inside
-returns-then-not-is_inside c = sym (any-tab-hit corner_outside _ _ _ c.loop-i-test.true (tested (goal.at.returns-then-not-is_inside c).After-is_inside ∙ ap not c.if-not-is_inside.true))
+returns-then-not-is_inside c =
+    sym (any-tab-hit corner_outside _ _ _ c.loop-i-test.true
+    (tested (goal.at.returns-then-not-is_inside c).After-is_inside ∙ ap not c.if-not-is_inside.true))
 
 pub loop-i-preserved : goal.loop-i-preserved
-loop-i-preserved c = (omega arith, below_more _ _ c.loop-i.invariant.1 (tested (goal.at.loop-i-preserved c).After-is_inside ∙ ap not c.if-not-is_inside.false))
+loop-i-preserved c = (
+  omega arith,
+  below_more _ _ c.loop-i.invariant.1 (tested (goal.at.loop-i-preserved c).After-is_inside ∙ ap not c.if-not-is_inside.false),
+)
 
 pub returns : goal.returns
 returns c = sym (any-tab-none corner_outside _ _ (λ k l. c.loop-i.invariant.1 k (omega arith)))

@@ -34,20 +34,23 @@ tested c =
 pub returns-then-has_outside : goal.returns-then-has_outside
 returns-then-has_outside c =
     judged-held _ _ _ _ _ _
-    (judged-corner _ _ _ _ (sym c.is_off.ensures ∙ c.if-is_off.false) (tested (goal.at.returns-then-has_outside c).After-has_outside ∙ c.if-has_outside.true))
+    (judged-corner _ _ _ _ (sym c.is_off.ensures ∙ c.if-is_off.false)
+    (tested (goal.at.returns-then-has_outside c).After-has_outside ∙ c.if-has_outside.true))
     (held (goal.at.returns-then-has_outside c).After-lesser-held)
 
 pub returns-then-is_sized : goal.returns-then-is_sized
 returns-then-is_sized c =
     judged-held _ _ _ _ _ _
     (c.crowding-then-is_sized.ensures
-    ∙ judged-count _ _ _ _ (sym c.is_off.ensures ∙ c.if-is_off.false) (tested (goal.at.returns-then-is_sized c).After-has_outside ∙ c.if-has_outside.false)
+    ∙ judged-count _ _ _ _ (sym c.is_off.ensures ∙ c.if-is_off.false)
+    (tested (goal.at.returns-then-is_sized c).After-has_outside ∙ c.if-has_outside.false)
     (sym c.is_sized.ensures ∙ c.if-is_sized.true))
     (held (goal.at.returns-then-is_sized c).After-lesser-held)
 
 pub returns : goal.returns
 returns c =
     judged-held _ _ _ _ _ _
-    (judged-radius _ _ _ _ (sym c.is_off.ensures ∙ c.if-is_off.false) (tested (goal.at.returns c).After-has_outside ∙ c.if-has_outside.false)
+    (judged-radius _ _ _ _ (sym c.is_off.ensures ∙ c.if-is_off.false)
+    (tested (goal.at.returns c).After-has_outside ∙ c.if-has_outside.false)
     (sym c.is_sized.ensures ∙ c.if-is_sized.false))
     (held (goal.at.returns c).After-lesser-held)

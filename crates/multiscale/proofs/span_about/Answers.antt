@@ -35,11 +35,14 @@ high_is c =
     ]
 
 pub overflow_sub-high-2 : goal.overflow_sub-high-2
-overflow_sub-high-2 c = rw (low-is (goal.at.overflow_sub-high-2 c).Joined-c-r, high_is (goal.at.overflow_sub-high-2 c).Joined-side-b) (in_order _ _ _ _ (omega arith) (omega arith))
+overflow_sub-high-2 c =
+    rw (low-is (goal.at.overflow_sub-high-2 c).Joined-c-r, high_is (goal.at.overflow_sub-high-2 c).Joined-side-b)
+    (in_order _ _ _ _ (omega arith) (omega arith))
 
 pub returns-then-high-low : goal.returns-then-high-low
 returns-then-high-low c =
-    narrow _ _ _ _ _ _ (low-is (goal.at.returns-then-high-low c).Joined-c-r) (high_is (goal.at.returns-then-high-low c).Joined-side-b) (omega arith)
+    narrow _ _ _ _ _ _ (low-is (goal.at.returns-then-high-low c).Joined-c-r)
+    (high_is (goal.at.returns-then-high-low c).Joined-side-b) (omega arith)
     (omega arith) c.if-high-low.true
 
 pub returns : goal.returns

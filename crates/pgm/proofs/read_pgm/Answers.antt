@@ -23,7 +23,12 @@ pub returns-then-number-ne0 : goal.returns-then-number-ne0
 returns-then-number-ne0 c = refused-read _ _ c.judge-number.ensures c.if-number-ne0.true
 
 pub overflow_add-result : goal.overflow_add-result
-overflow_add-result c = omega (arith, end-inside _ _ _ _ (fields (goal.at.overflow_add-result c).After-read_field-maxval) (sym c.judge-number.ensures ∙ c.if-number-ne0.false))
+overflow_add-result c =
+    omega (
+      arith,
+      end-inside _ _ _ _ (fields (goal.at.overflow_add-result c).After-read_field-maxval)
+          (sym c.judge-number.ensures ∙ c.if-number-ne0.false),
+    )
 
 pub returns : goal.returns
 returns c = pixels-read _ _ _ _ (fields (goal.at.returns c).After-read_field-maxval) (sym c.judge-number.ensures ∙ c.if-number-ne0.false)

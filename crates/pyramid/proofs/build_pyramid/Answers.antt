@@ -17,7 +17,8 @@ returns-then-number-ne0 c = built-refused _ _ _ _ _ _ _ (sym c.build_refusal-num
 -- nothing refuses
 free : (c : After-level_count-n)
     →
-    build_refusal_of (ask (length c.args.base.now) (length c.args.levels.now) c.args.width c.args.height c.args.num_levels c.args.min_size) ≡ 0
+    build_refusal_of (ask (length c.args.base.now)
+    (length c.args.levels.now) c.args.width c.args.height c.args.num_levels c.args.min_size) ≡ 0
 free c = sym c.build_refusal-number.ensures ∙ c.if-number-ne0.false
 
 pub fill_levels-requires : goal.fill_levels-requires

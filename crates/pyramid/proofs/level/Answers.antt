@@ -18,11 +18,13 @@ returns-then-number-ne0 c =
 -- nothing refuses the level
 free : (c : Else-number-ne0)
     →
-    level_refusal_of (ask (length c.args.base.now) (length c.args.levels.now) c.args.width c.args.height c.args.num_levels c.args.min_size) c.args.k ≡ 0
+    level_refusal_of (ask (length c.args.base.now)
+    (length c.args.levels.now) c.args.width c.args.height c.args.num_levels c.args.min_size) c.args.k ≡ 0
 free c = sym c.level_refusal-number.ensures ∙ c.if-number-ne0.false
 
 pub returns-then-k-eq0 : goal.returns-then-k-eq0
-returns-then-k-eq0 c = level-base c.args.base.now c.args.levels.now _ _ _ _ _ (free (goal.at.returns-then-k-eq0 c).Else-number-ne0) c.if-k-eq0.true
+returns-then-k-eq0 c =
+    level-base c.args.base.now c.args.levels.now _ _ _ _ _ (free (goal.at.returns-then-k-eq0 c).Else-number-ne0) c.if-k-eq0.true
 
 pub overflow_add-k : goal.overflow_add-k
 overflow_add-k c = record { fits = omega (arith, level-few _ _ (free (goal.at.overflow_add-k c).Else-number-ne0)) }
@@ -33,7 +35,8 @@ between : (c : After-cells_before-end)
     c.args.height c.args.k
     c.cells_before-from.result c.cells_before-end.result
 between c =
-    level-between c.args.base.now c.args.levels.now _ _ _ _ _ (sym c.level_refusal-number.ensures ∙ c.if-number-ne0.false) _ _ c.if-k-eq0.false c.cells_before-from.ensures
+    level-between c.args.base.now c.args.levels.now _ _ _ _ _
+    (sym c.level_refusal-number.ensures ∙ c.if-number-ne0.false) _ _ c.if-k-eq0.false c.cells_before-from.ensures
     c.cells_before-end.ensures
 
 pub slice_bounds-result-count : goal.slice_bounds-result-count
@@ -47,4 +50,5 @@ slice_bounds-result-end-2 c = (between (goal.at.slice_bounds-result-end-2 c).Aft
 
 pub returns : goal.returns
 returns c =
-    level-higher c.args.base.now c.args.levels.now _ _ _ _ _ (free (goal.at.returns c).Else-number-ne0) _ _ c.if-k-eq0.false (between (goal.at.returns c).After-cells_before-end)
+    level-higher c.args.base.now c.args.levels.now _ _ _ _ _ (free (goal.at.returns c).Else-number-ne0) _ _ c.if-k-eq0.false
+    (between (goal.at.returns c).After-cells_before-end)

@@ -15,7 +15,9 @@ image : (c : Else-number-ne0) → Sized c.args.pixels c.args.width c.args.height
 image c = sized _ _ _ _ c.refusal-number.ensures c.if-number-ne0.false
 
 pub returns-then-places-cells_above : goal.returns-then-places-cells_above
-returns-then-places-cells_above c = build-short _ (image (goal.at.returns-then-places-cells_above c).Else-number-ne0) (rw c.cells_above.ensures at c.if-places-cells_above.true)
+returns-then-places-cells_above c =
+    build-short _ (image (goal.at.returns-then-places-cells_above c).Else-number-ne0)
+    (rw c.cells_above.ensures at c.if-places-cells_above.true)
 
 pub returns : goal.returns
 returns c = build-long _ (image (goal.at.returns c).Else-number-ne0) (rw c.cells_above.ensures at c.if-places-cells_above.false)

@@ -15,7 +15,8 @@ loop-k-init c = (search rules, side-base _, side-base _, refl, search rules)
 
 pub returns-then-cells-eq0 : goal.returns-then-cells-eq0
 returns-then-cells-eq0 c =
-    capped-stop _ _ _ _ _ _ _ _ (side-next _ _ _ c.loop-k.invariant.1) (side-next _ _ _ c.loop-k.invariant.2) c.loop-k.invariant.3 c.capped_product-cells.ensures
+    capped-stop _ _ _ _ _ _ _ _ (side-next _ _ _ c.loop-k.invariant.1)
+    (side-next _ _ _ c.loop-k.invariant.2) c.loop-k.invariant.3 c.capped_product-cells.ensures
     c.if-cells-eq0.true (omega arith)
 
 pub loop-k-preserved : goal.loop-k-preserved

@@ -19,7 +19,8 @@ image c = sized _ _ _ _ c.refusal-number.ensures c.if-number-ne0.false
 
 pub returns-then-not-is_ring : goal.returns-then-not-is_ring
 unfolding refusal_for
-returns-then-not-is_ring c = rw (passed _ _ _ _ (image (goal.at.returns-then-not-is_ring c).Else-number-ne0), ← c.is_ring.ensures, c.if-not-is_ring.true-raw)
+returns-then-not-is_ring c =
+    rw (passed _ _ _ _ (image (goal.at.returns-then-not-is_ring c).Else-number-ne0), ← c.is_ring.ensures, c.if-not-is_ring.true-raw)
 
 pub overflow_mul-ph : goal.overflow_mul-ph
 overflow_mul-ph c =

@@ -73,7 +73,8 @@ pub overflow_mul-w-2 : goal.overflow_mul-w-2
 overflow_mul-w-2 c = let s = image (goal.at.overflow_mul-w-2 c).Else-number-ne0 in omega (arith, area-le _ _ s.narrow s.low)
 
 pub returns-then-highs-w : goal.returns-then-highs-w
-returns-then-highs-w c = rw (places (goal.at.returns-then-highs-w c).Else-not-is_ring, le-ltb _ _ c.if-lows-w.false, lt-ltb _ _ c.if-highs-w.true)
+returns-then-highs-w c =
+    rw (places (goal.at.returns-then-highs-w c).Else-not-is_ring, le-ltb _ _ c.if-lows-w.false, lt-ltb _ _ c.if-highs-w.true)
 
 pub returns : goal.returns
 returns c = rw (places (goal.at.returns c).Else-not-is_ring, le-ltb _ _ c.if-lows-w.false, le-ltb _ _ c.if-highs-w.false)

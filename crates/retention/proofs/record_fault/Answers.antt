@@ -20,7 +20,8 @@ kind-is : (c : Else-not-is_known) → known (kind_at c.args.input.now c.args.at)
 kind-is c = sym c.is_known.ensures ∙ not-false _ c.if-not-is_known.false-raw
 
 pub returns-then-input-at-lt9 : goal.returns-then-input-at-lt9
-returns-then-input-at-lt9 c = sym (fault-cut _ _ c.if-input-at.false (kind-is (goal.at.returns-then-input-at-lt9 c).Else-not-is_known) (omega arith))
+returns-then-input-at-lt9 c =
+    sym (fault-cut _ _ c.if-input-at.false (kind-is (goal.at.returns-then-input-at-lt9 c).Else-not-is_known) (omega arith))
 
 pub returns-then-start_at-gt-LATEST : goal.returns-then-start_at-gt-LATEST
 returns-then-start_at-gt-LATEST c =

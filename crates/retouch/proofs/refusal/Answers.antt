@@ -16,11 +16,17 @@ map : (c : Else-map-ne0) → Sized c.args.cells c.args.w c.args.h
 map c = sized _ _ _ _ c.refusal-map.ensures c.if-map-ne0.false
 
 pub returns-then-map-ne0 : goal.returns-then-map-ne0
-returns-then-map-ne0 c = by_map _ _ _ _ _ _ (image (goal.at.returns-then-map-ne0 c).Else-image-ne0) _ c.refusal-map.ensures c.if-map-ne0.true
+returns-then-map-ne0 c =
+    by_map _ _ _ _ _ _ (image (goal.at.returns-then-map-ne0 c).Else-image-ne0) _ c.refusal-map.ensures c.if-map-ne0.true
 
 pub returns-then-not-is_ring : goal.returns-then-not-is_ring
 returns-then-not-is_ring c =
-    rw (by-rest _ _ _ _ _ _ (image (goal.at.returns-then-not-is_ring c).Else-image-ne0) (map (goal.at.returns-then-not-is_ring c).Else-map-ne0), ← c.is_ring.ensures, c.if-not-is_ring.true-raw)
+    rw (
+      by-rest _ _ _ _ _ _ (image (goal.at.returns-then-not-is_ring c).Else-image-ne0) (map
+          (goal.at.returns-then-not-is_ring c).Else-map-ne0),
+      ← c.is_ring.ensures,
+      c.if-not-is_ring.true-raw,
+    )
 
 pub returns-then-is_outside : goal.returns-then-is_outside
 returns-then-is_outside c =

@@ -52,4 +52,5 @@ shape_of-map c = search rules
 
 pub returns : goal.returns
 returns c =
-    when-redone _ _ _ _ _ _ _ _ _ _ _ c.refusal-number.ensures c.if-number-ne0.false refl c.redo_touched-cells.ensures.value c.redo_touched-cells.ensures.map_after
+    when-redone _ _ _ _ _ _ _ _ _ _ _ c.refusal-number.ensures c.if-number-ne0.false refl c.redo_touched-cells.ensures.value
+    c.redo_touched-cells.ensures.map_after

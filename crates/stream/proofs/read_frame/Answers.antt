@@ -42,5 +42,7 @@ store_pixels-requires c =
 pub returns : goal.returns
 returns c =
     frame-read c.args.input.now c.args.pixels.now c.stream_fault-fault.result c.stream_fault-fault.ensures
-    c.if-fault-ne0.false c.header_of-header.result (c.header_of-header.result.width * c.header_of-header.result.height) c.store_pixels.new.pixels
-    (header_is (goal.at.returns c).After-header_of-header) (pixels_are c.args.input.now c.header_of-header.result (header_is (goal.at.returns c).After-header_of-header)) c.store_pixels.ensures
+    c.if-fault-ne0.false c.header_of-header.result
+    (c.header_of-header.result.width * c.header_of-header.result.height) c.store_pixels.new.pixels
+    (header_is (goal.at.returns c).After-header_of-header)
+    (pixels_are c.args.input.now c.header_of-header.result (header_is (goal.at.returns c).After-header_of-header)) c.store_pixels.ensures

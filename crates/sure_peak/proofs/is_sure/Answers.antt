@@ -35,18 +35,21 @@ module _ (c : After-low-1) where
 
 pub returns-then-not-exceeds : goal.returns-then-not-exceeds
 returns-then-not-exceeds c =
-    when-low c.args.lows.now c.args.highs.now c.args.w c.args.h c.args.r c.args.threshold c.args.least (record { x = c.args.x; y = c.args.y }) _
+    when-low c.args.lows.now c.args.highs.now c.args.w c.args.h c.args.r c.args.threshold c.args.least
+    (record { x = c.args.x; y = c.args.y }) _
     (same (goal.at.returns-then-not-exceeds c).After-low-1)
     (sym c.exceeds.ensures ∙ not-true _ c.if-not-exceeds.true-raw)
 
 pub returns-then-count_window-ne0 : goal.returns-then-count_window-ne0
 returns-then-count_window-ne0 c =
-    when-beaten c.args.lows.now c.args.highs.now c.args.w c.args.h c.args.r c.args.threshold c.args.least (record { x = c.args.x; y = c.args.y }) _
+    when-beaten c.args.lows.now c.args.highs.now c.args.w c.args.h c.args.r c.args.threshold c.args.least
+    (record { x = c.args.x; y = c.args.y }) _
     (same (goal.at.returns-then-count_window-ne0 c).After-low-1) (sym c.exceeds.ensures ∙ not-false _ c.if-not-exceeds.false-raw) _
     c.count_window.ensures c.if-count_window-ne0.true
 
 pub returns : goal.returns
 returns c =
-    when-top c.args.lows.now c.args.highs.now c.args.w c.args.h c.args.r c.args.threshold c.args.least (record { x = c.args.x; y = c.args.y }) _
+    when-top c.args.lows.now c.args.highs.now c.args.w c.args.h c.args.r c.args.threshold c.args.least
+    (record { x = c.args.x; y = c.args.y }) _
     (same (goal.at.returns c).After-low-1) (sym c.exceeds.ensures ∙ not-false _ c.if-not-exceeds.false-raw) _
     c.count_window.ensures c.if-count_window-ne0.false _ c.count_window-2.ensures

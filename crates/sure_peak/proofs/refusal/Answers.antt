@@ -23,7 +23,8 @@ returns-then-highs-lows c = by_length _ _ _ _ _ _ _ _ (image (goal.at.returns-th
 
 pub returns-then-is_outside : goal.returns-then-is_outside
 returns-then-is_outside c =
-    by-parameters _ _ _ _ _ _ _ _ (image (goal.at.returns-then-is_outside c).Else-number-ne0) c.if-highs-lows.false (sym c.is_outside.ensures ∙ c.if-is_outside.true)
+    by-parameters _ _ _ _ _ _ _ _ (image (goal.at.returns-then-is_outside c).Else-number-ne0) c.if-highs-lows.false
+    (sym c.is_outside.ensures ∙ c.if-is_outside.true)
 
 -- past the parameters
 place : (c : Else-is_outside)
@@ -31,7 +32,8 @@ place : (c : Else-is_outside)
     refusal_of c.args.lows c.args.highs c.args.w c.args.h c.args.ring c.args.window c.args.centroid (record { x = c.args.x; y = c.args.y })
     ≡ cond (place_outside c.args.w c.args.h (record { x = c.args.x; y = c.args.y })) 14 0
 place c =
-    by_place _ _ _ _ _ _ _ _ (image (goal.at.Else-is_outside c).Else-number-ne0) c.if-highs-lows.false (sym c.is_outside.ensures ∙ c.if-is_outside.false)
+    by_place _ _ _ _ _ _ _ _ (image (goal.at.Else-is_outside c).Else-number-ne0) c.if-highs-lows.false
+    (sym c.is_outside.ensures ∙ c.if-is_outside.false)
 
 pub returns-then-w-x : goal.returns-then-w-x
 returns-then-w-x c = rw (place (goal.at.returns-then-w-x c).Else-is_outside, le-leb _ _ c.if-w-x.true)

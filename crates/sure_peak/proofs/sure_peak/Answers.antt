@@ -40,7 +40,8 @@ returns-then-not-is_inside c =
     (sym c.is_inside.ensures ∙ not-true _ c.if-not-is_inside.true-raw)
 
 pub is_inside-requires-2 : goal.is_inside-requires-2
-is_inside-requires-2 c = let g = granted (goal.at.is_inside-requires-2 c).Else-number-ne0 in (narrow (goal.at.is_inside-requires-2 c).Else-number-ne0, omega (arith, g.row, g.low-cells.low))
+is_inside-requires-2 c = let g = granted (goal.at.is_inside-requires-2 c).Else-number-ne0 in
+    (narrow (goal.at.is_inside-requires-2 c).Else-number-ne0, omega (arith, g.row, g.low-cells.low))
 
 pub returns-then-not-is_inside-2 : goal.returns-then-not-is_inside-2
 returns-then-not-is_inside-2 c =
@@ -49,14 +50,19 @@ returns-then-not-is_inside-2 c =
 
 -- ---- inside the border
 module _ (c : Else-not-is_inside-2) where
-  across : (leb (border (goal.at.Else-not-is_inside-2 c).Else-number-ne0) c.args.x && ltb (c.args.x + border (goal.at.Else-not-is_inside-2 c).Else-number-ne0) c.args.w) ≡ true
+  across : (leb (border (goal.at.Else-not-is_inside-2 c).Else-number-ne0) c.args.x && ltb
+      (c.args.x + border (goal.at.Else-not-is_inside-2 c).Else-number-ne0) c.args.w) ≡ true
   across = sym c.is_inside.ensures ∙ not-false _ c.if-not-is_inside.false-raw
 
-  down : (leb (border (goal.at.Else-not-is_inside-2 c).Else-number-ne0) c.args.y && ltb (c.args.y + border (goal.at.Else-not-is_inside-2 c).Else-number-ne0) c.args.h) ≡ true
+  down : (leb (border (goal.at.Else-not-is_inside-2 c).Else-number-ne0) c.args.y && ltb
+      (c.args.y + border (goal.at.Else-not-is_inside-2 c).Else-number-ne0) c.args.h) ≡ true
   down = sym c.is_inside-2.ensures ∙ not-false _ c.if-not-is_inside-2.false-raw
 
   within : Inside c.args.w c.args.h c.args.window (place (goal.at.Else-not-is_inside-2 c).Else-number-ne0)
-  within = narrower _ _ (border (goal.at.Else-not-is_inside-2 c).Else-number-ne0) _ (place (goal.at.Else-not-is_inside-2 c).Else-number-ne0) (omega arith) (inside _ _ _ (place (goal.at.Else-not-is_inside-2 c).Else-number-ne0) across down)
+  within =
+      narrower _ _ (border (goal.at.Else-not-is_inside-2 c).Else-number-ne0) _
+      (place (goal.at.Else-not-is_inside-2 c).Else-number-ne0) (omega arith)
+      (inside _ _ _ (place (goal.at.Else-not-is_inside-2 c).Else-number-ne0) across down)
 
 pub is_sure-requires : goal.is_sure-requires
 is_sure-requires c =
@@ -67,10 +73,13 @@ is_sure-requires c =
 
 pub returns-then-is_sure : goal.returns-then-is_sure
 returns-then-is_sure c =
-    is-sure _ _ _ _ _ _ _ _ _ _ _ c.refusal-number.ensures c.if-number-ne0.false (across (goal.at.returns-then-is_sure c).Else-not-is_inside-2) (down (goal.at.returns-then-is_sure c).Else-not-is_inside-2) _ c.is_sure.ensures
+    is-sure _ _ _ _ _ _ _ _ _ _ _ c.refusal-number.ensures c.if-number-ne0.false
+    (across (goal.at.returns-then-is_sure c).Else-not-is_inside-2)
+    (down (goal.at.returns-then-is_sure c).Else-not-is_inside-2) _ c.is_sure.ensures
     c.if-is_sure.true
 
 pub returns : goal.returns
 returns c =
-    not-sure _ _ _ _ _ _ _ _ _ _ _ c.refusal-number.ensures c.if-number-ne0.false (across (goal.at.returns c).Else-not-is_inside-2) (down (goal.at.returns c).Else-not-is_inside-2) _
+    not-sure _ _ _ _ _ _ _ _ _ _ _ c.refusal-number.ensures c.if-number-ne0.false
+    (across (goal.at.returns c).Else-not-is_inside-2) (down (goal.at.returns c).Else-not-is_inside-2) _
     c.is_sure.ensures c.if-is_sure.false

@@ -57,7 +57,8 @@ loop-s-init c =
     _ c.are_too_many.ensures c.if-are_too_many.false)
 
 pub peak_at-p-requires : goal.peak_at-p-requires
-peak_at-p-requires c = record { searchable = c.requires; peaks_listed = c.list_peaks-n.ensures; search_start = c.loop-s.invariant.search-start }
+peak_at-p-requires c =
+    record { searchable = c.requires; peaks_listed = c.list_peaks-n.ensures; search_start = c.loop-s.invariant.search-start }
 
 pub shape_of-table-then-y1-p : goal.shape_of-table-then-y1-p
 shape_of-table-then-y1-p c = search rules
@@ -82,12 +83,19 @@ pub overflow_add-held : goal.overflow_add-held
 overflow_add-held c = omega (arith, space (goal.at.overflow_add-held c).Else-y1-p, c.well_formed)
 
 pub start_at-requires : goal.start_at-requires
-start_at-requires c = record { searchable = c.requires; inside = inside (goal.at.start_at-requires c).Else-y1-p; counted = c.peak_at-p.ensures.next.counted (high (goal.at.start_at-requires c).Else-y1-p) }
+start_at-requires c =
+    record {
+      searchable = c.requires;
+      inside = inside (goal.at.start_at-requires c).Else-y1-p;
+      counted = c.peak_at-p.ensures.next.counted (high (goal.at.start_at-requires c).Else-y1-p);
+    }
 
 pub overflow_add-ties : goal.overflow_add-ties
 overflow_add-ties c =
-    omega
-    (arith, writing-few _ _ _ _ _ _ _ _ _ _ c.loop-s.invariant _ c.peak_at-p.ensures (high (goal.at.overflow_add-ties c).Else-y1-p) c.requires)
+    omega (
+      arith,
+      writing-few _ _ _ _ _ _ _ _ _ _ c.loop-s.invariant _ c.peak_at-p.ensures (high (goal.at.overflow_add-ties c).Else-y1-p) c.requires,
+    )
 
 pub overflow_add-i : goal.overflow_add-i
 overflow_add-i c = omega (arith, space (goal.at.overflow_add-i c).Else-y1-p, c.well_formed)

@@ -8,7 +8,8 @@ use Rattle.detect.proofs.adding.are_sure_to_fit.Goals as goal
 pub returns-then-cells_inside-free : goal.returns-then-cells_inside-free
 returns-then-cells_inside-free c =
     λ e.
-    let few = peaks-at-most (read_in c.args.map.now c.args.s) c.args.s.w c.args.s.h c.args.s.border c.args.s.window c.args.s.least_neighbours in
+    let few = peaks-at-most (read_in c.args.map.now c.args.s) c.args.s.w c.args.s.h c.args.s.border c.args.s.window
+    c.args.s.least_neighbours in
     omega (arith, c.cells_inside.ensures, few)
 
 pub returns-then-n-places : goal.returns-then-n-places

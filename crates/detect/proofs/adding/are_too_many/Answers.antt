@@ -22,7 +22,8 @@ pub loop-i-init : goal.loop-i-init
 loop-i-init c = counting-first _ _ _ _
 
 pub peak_at-p-requires : goal.peak_at-p-requires
-peak_at-p-requires c = record { searchable = c.requires.searchable; peaks_listed = c.requires.peaks_listed; search_start = c.loop-i.invariant.search-start }
+peak_at-p-requires c =
+    record { searchable = c.requires.searchable; peaks_listed = c.requires.peaks_listed; search_start = c.loop-i.invariant.search-start }
 
 pub returns-then-y1-p : goal.returns-then-y1-p
 returns-then-y1-p c =

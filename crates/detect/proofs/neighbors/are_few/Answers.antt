@@ -10,7 +10,8 @@ use Rattle.detect.proofs.neighbors.are_few.Goals as goal
 
 pub count_square-requires : goal.count_square-requires
 count_square-requires c =
-    let asked = asked-so _ _ _ _ c.with_window.ensures _ c.requires.inside c.requires.searchable (omega (arith, c.requires.searchable.radius, c.requires.window_value))
+    let asked = asked-so _ _ _ _ c.with_window.ensures _ c.requires.inside c.requires.searchable
+    (omega (arith, c.requires.searchable.radius, c.requires.window_value))
     (omega (arith, c.requires.searchable.inside, c.requires.window_value)) _ c.requires.v_value in
     record { searchable = asked.0; inside = asked.1.0; v_value = asked.1.1 }
 

@@ -12,8 +12,10 @@ pub loop-i-preserved : goal.loop-i-preserved
 loop-i-preserved c =
     let f = is_counted c.args.asked c.args.v in
     elim c.if-is_counted.branch [
-      | then-is_counted w ↦ count-hit f _ _ _ c.loop-i.invariant _ c.loop-i-test.true _ w.n-is (sym c.is_counted.ensures ∙ w.if-is_counted.true)
-      | else-is_counted w ↦ count-miss f _ _ _ c.loop-i.invariant _ c.loop-i-test.true _ w.n-is (sym c.is_counted.ensures ∙ w.if-is_counted.false)
+      | then-is_counted w ↦ count-hit f _ _ _ c.loop-i.invariant _ c.loop-i-test.true _ w.n-is
+          (sym c.is_counted.ensures ∙ w.if-is_counted.true)
+      | else-is_counted w ↦ count-miss f _ _ _ c.loop-i.invariant _ c.loop-i-test.true _ w.n-is
+          (sym c.is_counted.ensures ∙ w.if-is_counted.false)
     ]
 
 pub returns : goal.returns

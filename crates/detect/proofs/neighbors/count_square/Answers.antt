@@ -26,7 +26,8 @@ module _ (c : In-loop-yy) where
 -- so few are counted
 fits : (c : After-count_cells-n) → c.loop-yy.n + c.count_cells-n.result ≤ 1089
 fits c =
-    count_fits _ _ _ _ _ c.requires.searchable c.requires.inside c.requires.v_value _ c.loop-yy-test.true (test (goal.at.After-count_cells-n c).At-loop-yy) _ c.loop-yy.invariant
+    count_fits _ _ _ _ _ c.requires.searchable c.requires.inside c.requires.v_value _ c.loop-yy-test.true
+    (test (goal.at.After-count_cells-n c).At-loop-yy) _ c.loop-yy.invariant
     _ c.count_cells-n.ensures
 
 pub loop-yy-init : goal.loop-yy-init
@@ -40,12 +41,14 @@ overflow_add-n c = omega (arith, fits c)
 
 pub loop-yy-preserved : goal.loop-yy-preserved
 loop-yy-preserved c =
-    count_next _ _ _ _ _ c.requires.searchable c.requires.inside c.requires.v_value _ c.loop-yy-test.true (test (goal.at.loop-yy-preserved c).At-loop-yy) _ c.loop-yy.invariant
+    count_next _ _ _ _ _ c.requires.searchable c.requires.inside c.requires.v_value _ c.loop-yy-test.true
+    (test (goal.at.loop-yy-preserved c).At-loop-yy) _ c.loop-yy.invariant
     _ c.count_cells-n.ensures
 
 pub returns : goal.returns
 returns c =
-    count-all _ _ _ _ _ c.requires.searchable c.requires.inside c.requires.v_value _ c.loop-yy-test.false (test (goal.at.returns c).At-loop-yy) _ c.loop-yy.invariant
+    count-all _ _ _ _ _ c.requires.searchable c.requires.inside c.requires.v_value _ c.loop-yy-test.false
+    (test (goal.at.returns c).At-loop-yy) _ c.loop-yy.invariant
 
 pub overflow_mul-a : goal.overflow_mul-a
 overflow_mul-a c = omega (arith, small c)

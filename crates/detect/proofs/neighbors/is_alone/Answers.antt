@@ -15,7 +15,8 @@ returns-then-s-ne2 c = λ e. absurd (false≢true e)
 
 pub count_square-requires : goal.count_square-requires
 count_square-requires c =
-    let asked = asked-so _ _ _ _ c.with_window.ensures _ c.requires.inside c.requires.searchable (omega arith) (omega (arith, c.requires.searchable.inside)) _ c.requires.v_value in
+    let asked = asked-so _ _ _ _ c.with_window.ensures _ c.requires.inside c.requires.searchable (omega arith)
+    (omega (arith, c.requires.searchable.inside)) _ c.requires.v_value in
     record { searchable = asked.0; inside = asked.1.0; v_value = asked.1.1 }
 
 pub returns-then-v : goal.returns-then-v

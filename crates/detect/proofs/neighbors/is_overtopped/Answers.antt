@@ -22,9 +22,14 @@ pub overflow_add-i : goal.overflow_add-i
 overflow_add-i c = omega (arith, cell-small _ _ c.requires.searchable _ _ c.requires.inside)
 
 pub most_beside-requires : goal.most_beside-requires
-most_beside-requires c = record { le_w = beside-before _ _ _ _ c.requires.searchable c.requires.inside (wide c); w_in_bounds = beside-behind _ _ _ _ c.requires.searchable c.requires.inside (wide c) }
+most_beside-requires c =
+    record {
+      le_w = beside-before _ _ _ _ c.requires.searchable c.requires.inside (wide c);
+      w_in_bounds = beside-behind _ _ _ _ c.requires.searchable c.requires.inside (wide c);
+    }
 
 pub returns : goal.returns
 returns c =
-    overtopped c.args.map.now c.args.s c.args.x c.args.y c.requires.searchable c.requires.inside (wide (goal.at.returns c).Else-s-lt1) c.args.v c.requires.v_value _ refl
+    overtopped c.args.map.now c.args.s c.args.x c.args.y c.requires.searchable c.requires.inside
+    (wide (goal.at.returns c).Else-s-lt1) c.args.v c.requires.v_value _ refl
     _ c.most_beside.ensures _ c.bar_of.ensures _ c.is_larger.ensures

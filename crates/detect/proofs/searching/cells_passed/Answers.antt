@@ -15,7 +15,8 @@ loop-i-init c = (omega arith, marked-none _)
 -- the marks with that of one cell more
 next : (c : After-mark_of-marks)
     →
-    Marked (λ k. Passed c.args.map.now c.args.w c.args.t c.args.beside c.args.exact (c.args.at + k)) (c.loop-i.i + 1) (c.loop-i.marks + c.mark_of-marks.result)
+    Marked (λ k. Passed c.args.map.now c.args.w c.args.t c.args.beside c.args.exact (c.args.at + k)) (c.loop-i.i + 1)
+    (c.loop-i.marks + c.mark_of-marks.result)
 next c =
     marked_next _ c.loop-i.i c.loop-i.marks _ _ _ c.loop-i.invariant.1
     (shl_exact {a = 1} 1 c.loop-i.i 32 (omega arith) (omega arith) ∙ one-mul (2 ^ c.loop-i.i))

@@ -44,4 +44,5 @@ slice_bounds-count_low-end c = row_in _ _ c.requires _ (in_rows c) _ (omega arit
 pub returns : goal.returns
 returns c =
     λ e.
-    low-row _ _ _ _ (omega arith) (row_in _ _ c.requires _ (in_rows (goal.at.returns c).Else-minus-y) _ (omega arith)) c.count_low.ensures (leb-true _ _ e)
+    low-row _ _ _ _ (omega arith) (row_in _ _ c.requires _ (in_rows (goal.at.returns c).Else-minus-y) _ (omega arith))
+    c.count_low.ensures (leb-true _ _ e)

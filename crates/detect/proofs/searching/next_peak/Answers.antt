@@ -31,10 +31,20 @@ loop-y-init c =
     (passed_none _ _ _ c.requires.border_le_x.0 c.requires.border_le_x.1, low-none _ _ _ _ (omega arith))
 
 pub skip-x-requires : goal.skip-x-requires
-skip-x-requires c = record { searchable = c.requires.searchable; border_le_y = (c.loop-y.invariant.0.top, omega arith); border_le_x = c.loop-y.invariant.0.left; low_rows = low-fewer _ _ _ _ _ c.loop-y.invariant.1 (omega arith) }
+skip-x-requires c =
+    record {
+      searchable = c.requires.searchable;
+      border_le_y = (c.loop-y.invariant.0.top, omega arith);
+      border_le_x = c.loop-y.invariant.0.left;
+      low_rows = low-fewer _ _ _ _ _ c.loop-y.invariant.1 (omega arith);
+    }
 
 pub peak_test-requires : goal.peak_test-requires
-peak_test-requires c = record { searchable = c.requires.searchable; inside = passed-inside _ _ _ _ _ (after-skip (goal.at.peak_test-requires c).After-skip-x) (omega arith) (omega arith) }
+peak_test-requires c =
+    record {
+      searchable = c.requires.searchable;
+      inside = passed-inside _ _ _ _ _ (after-skip (goal.at.peak_test-requires c).After-skip-x) (omega arith) (omega arith);
+    }
 
 pub returns-in-Peak : goal.returns-in-Peak
 returns-in-Peak c =
@@ -43,12 +53,14 @@ returns-in-Peak c =
 
 pub loop-y-preserved-then-x-x1 : goal.loop-y-preserved-then-x-x1
 loop-y-preserved-then-x-x1 c = (
-  passed-cell _ _ _ _ _ (after-skip (goal.at.loop-y-preserved-then-x-x1 c).After-skip-x) (omega arith) (omega arith) _ c.peak_test.ensures c.in_default.is,
+  passed-cell _ _ _ _ _ (after-skip (goal.at.loop-y-preserved-then-x-x1 c).After-skip-x) (omega arith)
+      (omega arith) _ c.peak_test.ensures c.in_default.is,
   c.loop-y.invariant.1,
 )
 
 pub loop-y-preserved-then-not-is_low_row : goal.loop-y-preserved-then-not-is_low_row
-loop-y-preserved-then-not-is_low_row c = (row_done (goal.at.loop-y-preserved-then-not-is_low_row c).Else-x-x1, low-none _ _ _ _ (omega arith))
+loop-y-preserved-then-not-is_low_row c =
+    (row_done (goal.at.loop-y-preserved-then-not-is_low_row c).Else-x-x1, low-none _ _ _ _ (omega arith))
 
 pub loop-y-preserved : goal.loop-y-preserved
 loop-y-preserved c = (

@@ -32,10 +32,12 @@ returns-then-is_beaten c =
 
 pub returns-then-s-neighbours : goal.returns-then-s-neighbours
 returns-then-s-neighbours c =
-    tested-peak c.args.map.now c.args.s (place c.args.x c.args.y) _ c.value_at-v.ensures _ (neighbours (goal.at.returns-then-s-neighbours c).After-count_neighbors-neighbours)
+    tested-peak c.args.map.now c.args.s (place c.args.x c.args.y) _ c.value_at-v.ensures _
+    (neighbours (goal.at.returns-then-s-neighbours c).After-count_neighbors-neighbours)
     c.if-v-s.false (omega arith) _ c.is_beaten.ensures c.if-is_beaten.false
     _ (c.ties_of-ties.ensures ∙ ap ties_of c.window_test-t.ensures)
 
 pub returns-else-s-neighbours : goal.returns-else-s-neighbours
 returns-else-s-neighbours c =
-    tested-few c.args.map.now c.args.s (place c.args.x c.args.y) _ c.value_at-v.ensures _ (neighbours (goal.at.returns-else-s-neighbours c).After-count_neighbors-neighbours) (omega arith)
+    tested-few c.args.map.now c.args.s (place c.args.x c.args.y) _ c.value_at-v.ensures _
+    (neighbours (goal.at.returns-else-s-neighbours c).After-count_neighbors-neighbours) (omega arith)

@@ -12,7 +12,12 @@ returns-then-low-y c =
     (c.requires.low_rows _ c.if-low-y.true (omega arith))
 
 pub skip_runs-r-requires : goal.skip_runs-r-requires
-skip_runs-r-requires c = record { searchable = c.requires.searchable; border_le_y = c.requires.border_le_y; border_le_x = (c.requires.border_le_x, omega (arith, c.minus-x1.ensures)) }
+skip_runs-r-requires c =
+    record {
+      searchable = c.requires.searchable;
+      border_le_y = c.requires.border_le_y;
+      border_le_x = (c.requires.border_le_x, omega (arith, c.minus-x1.ensures));
+    }
 
 pub overflow_sub-x1 : goal.overflow_sub-x1
 overflow_sub-x1 c = omega (arith, c.skip_runs-r.ensures.1, c.minus-x1.ensures)
@@ -21,7 +26,12 @@ pub returns-then-x1-r-ge-RUN : goal.returns-then-x1-r-ge-RUN
 returns-then-x1-r-ge-RUN c = c.skip_runs-r.ensures.0
 
 pub skip_cells-requires : goal.skip_cells-requires
-skip_cells-requires c = record { searchable = c.requires.searchable; border_le_y = c.requires.border_le_y; border_le_x = omega (arith, c.requires.border_le_x, c.skip_runs-r.ensures.0.onward) }
+skip_cells-requires c =
+    record {
+      searchable = c.requires.searchable;
+      border_le_y = c.requires.border_le_y;
+      border_le_x = omega (arith, c.requires.border_le_x, c.skip_runs-r.ensures.0.onward);
+    }
 
 pub returns : goal.returns
 returns c = skipped-on _ _ _ _ _ c.skip_runs-r.ensures.0 _ c.skip_cells.ensures

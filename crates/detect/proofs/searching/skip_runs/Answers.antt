@@ -57,8 +57,10 @@ pub overflow_sub-x1-in-loop-x : goal.overflow_sub-x1-in-loop-x
 overflow_sub-x1-in-loop-x c = omega (arith, few c, c.loop-x.invariant.1)
 
 pub returns-then-x1-x-lt-RUN : goal.returns-then-x1-x-lt-RUN
-returns-then-x1-x-lt-RUN c =
-    (after (goal.at.returns-then-x1-x-lt-RUN c).After-blocks_below-x, omega (arith, few (goal.at.returns-then-x1-x-lt-RUN c).After-blocks_below-x, c.loop-x.invariant.1, c.minus-x1.ensures))
+returns-then-x1-x-lt-RUN c = (
+  after (goal.at.returns-then-x1-x-lt-RUN c).After-blocks_below-x,
+  omega (arith, few (goal.at.returns-then-x1-x-lt-RUN c).After-blocks_below-x, c.loop-x.invariant.1, c.minus-x1.ensures),
+)
 
 pub run_passed-n-requires : goal.run_passed-n-requires
 run_passed-n-requires c =
@@ -71,11 +73,15 @@ passed : (c : After-run_passed-n)
     (place (c.loop-x.x + c.blocks_below-x.result + c.run_passed-n.result) c.args.y)
 passed c =
     skipped-on c.args.map.now c.args.s c.args.x c.args.y _ (after (goal.at.After-run_passed-n c).After-blocks_below-x) _
-    (run-skipped c.args.map.now c.args.s c.requires.searchable _ c.args.y (left (goal.at.After-run_passed-n c).Else-x1-x-lt-RUN) (room (goal.at.After-run_passed-n c).Else-x1-x-lt-RUN) c.requires.border_le_y.0 c.requires.border_le_y.1 _
+    (run-skipped c.args.map.now c.args.s c.requires.searchable _ c.args.y (left (goal.at.After-run_passed-n c).Else-x1-x-lt-RUN)
+    (room (goal.at.After-run_passed-n c).Else-x1-x-lt-RUN) c.requires.border_le_y.0 c.requires.border_le_y.1 _
     c.run_passed-n.ensures)
 
 pub returns-then-n-lt-RUN : goal.returns-then-n-lt-RUN
-returns-then-n-lt-RUN c = (passed (goal.at.returns-then-n-lt-RUN c).After-run_passed-n, omega (arith, room (goal.at.returns-then-n-lt-RUN c).Else-x1-x-lt-RUN, c.run_passed-n.ensures.within))
+returns-then-n-lt-RUN c = (
+  passed (goal.at.returns-then-n-lt-RUN c).After-run_passed-n,
+  omega (arith, room (goal.at.returns-then-n-lt-RUN c).Else-x1-x-lt-RUN, c.run_passed-n.ensures.within),
+)
 
 pub loop-x-preserved : goal.loop-x-preserved
 loop-x-preserved c =

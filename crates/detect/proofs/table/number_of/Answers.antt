@@ -22,10 +22,12 @@ pub overflow_add-result-then-p-y1 : goal.overflow_add-result-then-p-y1
 overflow_add-result-then-p-y1 c = let k = small (goal.at.overflow_add-result-then-p-y1 c).Then-p-y1 in omega (arith, k.x, k.y, k.neighbours)
 
 pub overflow_mul-result-then-p-y1-2 : goal.overflow_mul-result-then-p-y1-2
-overflow_mul-result-then-p-y1-2 c = let k = small (goal.at.overflow_mul-result-then-p-y1-2 c).Then-p-y1 in omega (arith, k.x, k.y, k.neighbours)
+overflow_mul-result-then-p-y1-2 c = let k = small (goal.at.overflow_mul-result-then-p-y1-2 c).Then-p-y1 in
+    omega (arith, k.x, k.y, k.neighbours)
 
 pub overflow_add-result-then-p-y1-2 : goal.overflow_add-result-then-p-y1-2
-overflow_add-result-then-p-y1-2 c = let k = small (goal.at.overflow_add-result-then-p-y1-2 c).Then-p-y1 in omega (arith, k.x, k.y, k.neighbours, k.ties)
+overflow_add-result-then-p-y1-2 c = let k = small (goal.at.overflow_add-result-then-p-y1-2 c).Then-p-y1 in
+    omega (arith, k.x, k.y, k.neighbours, k.ties)
 
 pub returns-then-p-y1 : goal.returns-then-p-y1
 returns-then-p-y1 c = numbered-here _ _ (small (goal.at.returns-then-p-y1 c).Then-p-y1) c.if-p-y1.true

@@ -78,7 +78,8 @@ overflow_add-ties c =
     c.minus-k.result (corners_of seeds (c.loop-i.i + 1)) in
     omega (
       arith,
-      sum_fits _ _ _ _ (more.added _ _ refl).3 few _ (length-tab (c.loop-i.i + 1) (corner_at seeds)) c.loop-i-test.true c.requires.n_le_most_levels.1,
+      sum_fits _ _ _ _ (more.added _ _ refl).3 few _
+          (length-tab (c.loop-i.i + 1) (corner_at seeds)) c.loop-i-test.true c.requires.n_le_most_levels.1,
     )
 
 pub overflow_add-i : goal.overflow_add-i

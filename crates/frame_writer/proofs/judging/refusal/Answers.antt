@@ -15,7 +15,8 @@ use Rattle.frame_writer.specs.FrameWriter.{is_too_wide, refusal_of}
 use Rattle.frame_writer.proofs.Bytes.{frame-long}
 use Rattle.frame_writer.proofs.Judgement.{area_small}
 use Rattle.frame_writer.proofs.judging.refusal.Goals as goal
-use Rattle.frame_writer.proofs.judging.refusal.Goals.{Else-is_large, Else-is_outside, Else-is_outside-2, Else-is_too_wide, Else-pixels-header}
+use Rattle.frame_writer.proofs.judging.refusal.Goals.{Else-is_large, Else-is_outside, Else-is_outside-2, Else-is_too_wide}
+use Rattle.frame_writer.proofs.judging.refusal.Goals.{Else-pixels-header}
 
 -- ---- what the tests that were passed say of the arguments
 
@@ -51,33 +52,70 @@ returns-then-pixels-header c = rw (sides (goal.at.returns-then-pixels-header c).
 pub returns-then-is_outside : goal.returns-then-is_outside
 unfolding refusal_of
 returns-then-is_outside c =
-    rw (sides (goal.at.returns-then-is_outside c).Else-is_large, size (goal.at.returns-then-is_outside c).Else-pixels-header, ← c.is_outside.ensures, c.if-is_outside.true)
+    rw (
+      sides (goal.at.returns-then-is_outside c).Else-is_large,
+      size (goal.at.returns-then-is_outside c).Else-pixels-header,
+      ← c.is_outside.ensures,
+      c.if-is_outside.true,
+    )
 
 pub returns-then-is_too_wide : goal.returns-then-is_too_wide
 unfolding refusal_of
 returns-then-is_too_wide c =
-    rw (sides (goal.at.returns-then-is_too_wide c).Else-is_large, size (goal.at.returns-then-is_too_wide c).Else-pixels-header, range (goal.at.returns-then-is_too_wide c).Else-is_outside, ← c.is_too_wide.ensures, c.if-is_too_wide.true)
+    rw (
+      sides (goal.at.returns-then-is_too_wide c).Else-is_large,
+      size (goal.at.returns-then-is_too_wide c).Else-pixels-header,
+      range (goal.at.returns-then-is_too_wide c).Else-is_outside,
+      ← c.is_too_wide.ensures,
+      c.if-is_too_wide.true,
+    )
 
 pub returns-then-is_outside-2 : goal.returns-then-is_outside-2
 unfolding refusal_of
 returns-then-is_outside-2 c =
     let outside = ap radius_outside (sym c.from_bits.ensures) ∙ sym c.is_outside-2.ensures ∙ c.if-is_outside-2.true in
-    rw (sides (goal.at.returns-then-is_outside-2 c).Else-is_large, size (goal.at.returns-then-is_outside-2 c).Else-pixels-header, range (goal.at.returns-then-is_outside-2 c).Else-is_outside, narrow (goal.at.returns-then-is_outside-2 c).Else-is_too_wide, outside)
+    rw (
+      sides (goal.at.returns-then-is_outside-2 c).Else-is_large,
+      size (goal.at.returns-then-is_outside-2 c).Else-pixels-header,
+      range (goal.at.returns-then-is_outside-2 c).Else-is_outside,
+      narrow (goal.at.returns-then-is_outside-2 c).Else-is_too_wide,
+      outside,
+    )
 
 pub length_of-requires : goal.length_of-requires
 length_of-requires c =
-    omega (arith, c.if-pixels-header.false, area_small c.args.header.width c.args.header.height (sides (goal.at.length_of-requires c).Else-is_large))
+    omega (
+      arith,
+      c.if-pixels-header.false,
+      area_small c.args.header.width c.args.header.height (sides (goal.at.length_of-requires c).Else-is_large),
+    )
 
 pub returns-then-places-length_of : goal.returns-then-places-length_of
 unfolding refusal_of
 returns-then-places-length_of c =
     let long : length (frame_bytes c.args.header c.args.pixels.now) ≡ c.length_of.result =
     frame-long c.args.header c.args.pixels.now ∙ sym c.length_of.ensures in
-    rw (sides (goal.at.returns-then-places-length_of c).Else-is_large, size (goal.at.returns-then-places-length_of c).Else-pixels-header, range (goal.at.returns-then-places-length_of c).Else-is_outside, narrow (goal.at.returns-then-places-length_of c).Else-is_too_wide, radius (goal.at.returns-then-places-length_of c).Else-is_outside-2, long, lt-ltb _ _ c.if-places-length_of.true)
+    rw (
+      sides (goal.at.returns-then-places-length_of c).Else-is_large,
+      size (goal.at.returns-then-places-length_of c).Else-pixels-header,
+      range (goal.at.returns-then-places-length_of c).Else-is_outside,
+      narrow (goal.at.returns-then-places-length_of c).Else-is_too_wide,
+      radius (goal.at.returns-then-places-length_of c).Else-is_outside-2,
+      long,
+      lt-ltb _ _ c.if-places-length_of.true,
+    )
 
 pub returns : goal.returns
 unfolding refusal_of
 returns c =
     let long : length (frame_bytes c.args.header c.args.pixels.now) ≡ c.length_of.result =
     frame-long c.args.header c.args.pixels.now ∙ sym c.length_of.ensures in
-    rw (sides (goal.at.returns c).Else-is_large, size (goal.at.returns c).Else-pixels-header, range (goal.at.returns c).Else-is_outside, narrow (goal.at.returns c).Else-is_too_wide, radius (goal.at.returns c).Else-is_outside-2, long, le-ltb _ _ c.if-places-length_of.false)
+    rw (
+      sides (goal.at.returns c).Else-is_large,
+      size (goal.at.returns c).Else-pixels-header,
+      range (goal.at.returns c).Else-is_outside,
+      narrow (goal.at.returns c).Else-is_too_wide,
+      radius (goal.at.returns c).Else-is_outside-2,
+      long,
+      le-ltb _ _ c.if-places-length_of.false,
+    )

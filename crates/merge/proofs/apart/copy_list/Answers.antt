@@ -14,8 +14,10 @@ pub loop-i-smaller : goal.loop-i-smaller
 loop-i-smaller c = omega (arith, c.loop-i-test.true)
 
 pub loop-i-preserved : goal.loop-i-preserved
-loop-i-preserved c =
-    (omega (arith, c.loop-i-test.true), copied_more _ _ _ _ c.loop-i.invariant.1 _ c.requires c.loop-i-test.true _ c.corner_at-c.ensures _ c.put_corner.ensures)
+loop-i-preserved c = (
+  omega (arith, c.loop-i-test.true),
+  copied_more _ _ _ _ c.loop-i.invariant.1 _ c.requires c.loop-i-test.true _ c.corner_at-c.ensures _ c.put_corner.ensures,
+)
 
 pub shape_of-mx : goal.shape_of-mx
 shape_of-mx c = copied-xs _ _ _ _ c.loop-i.invariant.1

@@ -20,11 +20,19 @@ held c =
 
 pub returns-then-i-eq-EMPTY : goal.returns-then-i-eq-EMPTY
 returns-then-i-eq-EMPTY c =
-    record { from = c.loop-p.invariant.0; full = λ q l m. c.loop-p.invariant.3 q m l; here = inr (inl (held (goal.at.returns-then-i-eq-EMPTY c).After-to_bits-i ∙ c.if-i-eq-EMPTY.true)) }
+    record {
+      from = c.loop-p.invariant.0;
+      full = λ q l m. c.loop-p.invariant.3 q m l;
+      here = inr (inl (held (goal.at.returns-then-i-eq-EMPTY c).After-to_bits-i ∙ c.if-i-eq-EMPTY.true));
+    }
 
 pub returns-then-i-place : goal.returns-then-i-place
 returns-then-i-place c =
-    record { from = c.loop-p.invariant.0; full = λ q l m. c.loop-p.invariant.3 q m l; here = inr (inr (held (goal.at.returns-then-i-place c).After-to_bits-i ∙ c.if-i-place.true)) }
+    record {
+      from = c.loop-p.invariant.0;
+      full = λ q l m. c.loop-p.invariant.3 q m l;
+      here = inr (inr (held (goal.at.returns-then-i-place c).After-to_bits-i ∙ c.if-i-place.true));
+    }
 
 pub loop-p-preserved : goal.loop-p-preserved
 loop-p-preserved c = (
@@ -36,4 +44,8 @@ loop-p-preserved c = (
 
 pub returns : goal.returns
 returns c =
-    record { from = omega arith; full = λ q l m. c.loop-p.invariant.3 q (omega arith) l; here = inl (omega (arith, slots-long c.args.table.now)) }
+    record {
+      from = omega arith;
+      full = λ q l m. c.loop-p.invariant.3 q (omega arith) l;
+      here = inl (omega (arith, slots-long c.args.table.now));
+    }

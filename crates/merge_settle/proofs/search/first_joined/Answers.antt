@@ -17,12 +17,18 @@ tested : (c : After-is_joined)
 tested c = ap (meets c.args.g c.args.p) (sym c.position_at.ensures) ∙ sym c.is_joined.ensures
 
 pub returns-then-is_joined : goal.returns-then-is_joined
-returns-then-is_joined c = record { at_most = omega arith; passes = λ _. tested (goal.at.returns-then-is_joined c).After-is_joined ∙ c.if-is_joined.true; before = c.loop-i.invariant.1 }
+returns-then-is_joined c =
+    record {
+      at_most = omega arith;
+      passes = λ _. tested (goal.at.returns-then-is_joined c).After-is_joined ∙ c.if-is_joined.true;
+      before = c.loop-i.invariant.1;
+    }
 
 pub loop-i-preserved : goal.loop-i-preserved
 loop-i-preserved c = (
   omega arith,
-  below_more _ _ c.loop-i.invariant.1 (λ e. false≢true (sym c.if-is_joined.false ∙ sym (tested (goal.at.loop-i-preserved c).After-is_joined) ∙ e)),
+  below_more _ _ c.loop-i.invariant.1
+      (λ e. false≢true (sym c.if-is_joined.false ∙ sym (tested (goal.at.loop-i-preserved c).After-is_joined) ∙ e)),
 )
 
 pub returns : goal.returns

@@ -12,7 +12,8 @@ tested : (c : After-is_joined) →
 tested c = ap (meets c.args.g c.args.p) (sym c.position_at.ensures) ∙ sym c.is_joined.ensures
 
 pub returns-then-is_joined : goal.returns-then-is_joined
-returns-then-is_joined c = lower-here _ _ _ c.if-i-low.true (tested (goal.at.returns-then-is_joined c).After-is_joined ∙ c.if-is_joined.true)
+returns-then-is_joined c =
+    lower-here _ _ _ c.if-i-low.true (tested (goal.at.returns-then-is_joined c).After-is_joined ∙ c.if-is_joined.true)
 
 pub returns-else-is_joined : goal.returns-else-is_joined
 returns-else-is_joined c = lower-not _ _ _ (tested (goal.at.returns-else-is_joined c).After-is_joined ∙ c.if-is_joined.false)

@@ -19,10 +19,16 @@ held c = slot_is c.args.table.now c.loop-slot.slot c.to_bits-i.result (omega ari
 
 pub returns-then-i-eq-EMPTY : goal.returns-then-i-eq-EMPTY
 returns-then-i-eq-EMPTY c =
-    looking-empty _ _ _ _ _ _ c.loop-slot.invariant.0 (held (goal.at.returns-then-i-eq-EMPTY c).After-to_bits-i ∙ c.if-i-eq-EMPTY.true) (omega (arith, slots-long c.args.table.now)) (omega arith)
+    looking-empty _ _ _ _ _ _ c.loop-slot.invariant.0
+    (held (goal.at.returns-then-i-eq-EMPTY c).After-to_bits-i ∙ c.if-i-eq-EMPTY.true) (omega (arith, slots-long c.args.table.now))
+    (omega arith)
 
 pub loop-slot-preserved : goal.loop-slot-preserved
-loop-slot-preserved c = (looking-read _ _ _ _ _ _ c.loop-slot.invariant.0 _ (held (goal.at.loop-slot-preserved c).After-to_bits-i) _ c.lower_of-low.ensures, omega arith, omega arith)
+loop-slot-preserved c = (
+  looking-read _ _ _ _ _ _ c.loop-slot.invariant.0 _ (held (goal.at.loop-slot-preserved c).After-to_bits-i) _ c.lower_of-low.ensures,
+  omega arith,
+  omega arith,
+)
 
 pub returns : goal.returns
 returns c = looking-end _ _ _ _ _ _ c.loop-slot.invariant.0 _ c.first_joined.ensures

@@ -12,5 +12,6 @@ lowest_from-requires c = (home-in _ _ _ _ c.requires.0 c.home_of-home-2.ensures,
 
 pub returns : goal.returns
 returns c =
-    among_two _ _ _ _ _ _ _ _ _ (home-slots c.args.table.now _ _ _ c.home_of-home.ensures) (home-slots c.args.table.now _ _ _ c.home_of-home-2.ensures)
+    among_two _ _ _ _ _ _ _ _ _ (home-slots c.args.table.now _ _ _ c.home_of-home.ensures)
+    (home-slots c.args.table.now _ _ _ c.home_of-home-2.ensures)
     c.lowest_from-low.ensures c.lowest_from.ensures

@@ -23,7 +23,8 @@ returns-then-k-i c = settles-new _ _ _ _ c.requires.k_bound _ (found (goal.at.re
 
 pub returns-then-o-c : goal.returns-then-o-c
 returns-then-o-c c =
-    settles-stronger _ _ _ _ c.requires.k_bound _ (found (goal.at.returns-then-o-c c).After-find_joined-i) c.if-k-i.false _ c.corner_at-o.ensures c.if-o-c.true
+    settles-stronger _ _ _ _ c.requires.k_bound _
+    (found (goal.at.returns-then-o-c c).After-find_joined-i) c.if-k-i.false _ c.corner_at-o.ensures c.if-o-c.true
 
 pub returns : goal.returns
 returns c =

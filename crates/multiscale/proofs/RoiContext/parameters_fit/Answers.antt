@@ -13,7 +13,12 @@ returns-then-self-gt-LARGEST_RADIUS-2 c = rw (le-leb _ _ c.if-self-gt-LARGEST_RA
 
 pub returns-then-self-gt-LARGEST_SEARCH : goal.returns-then-self-gt-LARGEST_SEARCH
 unfolding parameters_fit
-returns-then-self-gt-LARGEST_SEARCH c = rw (le-leb _ _ c.if-self-gt-LARGEST_RADIUS.false, le-leb _ _ c.if-self-gt-LARGEST_RADIUS-2.false, lt-leb _ _ c.if-self-gt-LARGEST_SEARCH.true)
+returns-then-self-gt-LARGEST_SEARCH c =
+    rw (
+      le-leb _ _ c.if-self-gt-LARGEST_RADIUS.false,
+      le-leb _ _ c.if-self-gt-LARGEST_RADIUS-2.false,
+      lt-leb _ _ c.if-self-gt-LARGEST_SEARCH.true,
+    )
 
 pub returns-then-self-gt-LAST_LEVEL : goal.returns-then-self-gt-LAST_LEVEL
 unfolding parameters_fit

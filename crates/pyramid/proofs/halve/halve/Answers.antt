@@ -34,10 +34,18 @@ halve_rows-requires c =
     c.loop-y-test.true c.loop-y.invariant.2 c.loop-y.invariant.3
 
 pub overflow_mul-a : goal.overflow_mul-a
-overflow_mul-a c = record { fits = omega (arith, below (goal.at.overflow_mul-a c).In-loop-y, short (goal.at.overflow_mul-a c).In-loop-y, c.requires.inside) }
+overflow_mul-a c =
+    record {
+      fits =
+          omega (arith, below (goal.at.overflow_mul-a c).In-loop-y, short (goal.at.overflow_mul-a c).In-loop-y, c.requires.inside);
+    }
 
 pub overflow_add-a : goal.overflow_add-a
-overflow_add-a c = record { fits = omega (arith, below (goal.at.overflow_add-a c).In-loop-y, short (goal.at.overflow_add-a c).In-loop-y, c.requires.inside) }
+overflow_add-a c =
+    record {
+      fits =
+          omega (arith, below (goal.at.overflow_add-a c).In-loop-y, short (goal.at.overflow_add-a c).In-loop-y, c.requires.inside);
+    }
 
 pub overflow_add-at : goal.overflow_add-at
 overflow_add-at c =
@@ -49,7 +57,8 @@ loop-y-preserved c = (
   search rules,
   omega (arith, c.loop-y.invariant.2),
   omega (arith, c.loop-y.invariant.3, suc-mul c.loop-y.y (c.args.w / 2)),
-  row_more _ _ _ _ _ _ _ c.requires _ _ _ _ c.loop-y.invariant.0 c.loop-y-test.true c.loop-y.invariant.2 c.loop-y.invariant.3 _ c.loop-y.invariant.4
+  row_more _ _ _ _ _ _ _ c.requires _ _ _ _ c.loop-y.invariant.0 c.loop-y-test.true c.loop-y.invariant.2 c.loop-y.invariant.3 _
+      c.loop-y.invariant.4
       c.halve_rows.ensures,
 )
 

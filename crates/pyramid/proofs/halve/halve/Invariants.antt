@@ -5,7 +5,8 @@ use Rattle.pyramid.specs.Internal.{LevelHalved}
 use Rattle.pyramid.proofs.halve.halve.Given as goal
 
 abbrev pub invariant-loop-y : goal.invariant-loop-y
-invariant-loop-y l = (length l.levels ≡ length l.initial.levels) × (l.y ≤ l.h / 2) × (l.a ≡ l.from + 2 * l.y * l.w) × (l.at ≡ l.to + l.y * (l.w / 2))
+invariant-loop-y l =
+    (length l.levels ≡ length l.initial.levels) × (l.y ≤ l.h / 2) × (l.a ≡ l.from + 2 * l.y * l.w) × (l.at ≡ l.to + l.y * (l.w / 2))
     × LevelHalved l.base l.initial.levels l.k l.from l.w l.to l.y l.levels
 
 abbrev pub decreases-loop-y : goal.decreases-loop-y

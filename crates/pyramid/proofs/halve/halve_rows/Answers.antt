@@ -37,7 +37,10 @@ overflow_add-from c = record { fits = omega (arith, short c, (ready c).inside) }
 
 pub overflow_add-to : goal.overflow_add-to
 overflow_add-to c =
-    record { fits = omega (arith, (ready (goal.at.overflow_add-to c).After-lesser-m).fits, c.loop-x.invariant.0, c.well_formed.1.1.1.1.0.0) }
+    record {
+      fits =
+          omega (arith, (ready (goal.at.overflow_add-to c).After-lesser-m).fits, c.loop-x.invariant.0, c.well_formed.1.1.1.1.0.0);
+    }
 
 pub halve_run-requires : goal.halve_run-requires
 halve_run-requires c = ready (goal.at.halve_run-requires c).After-lesser-m

@@ -66,4 +66,5 @@ cross-requires c =
 pub returns : goal.returns
 returns c =
     let ring = ring-found _ _ _ _ _ _ c.requires.1 _ _ c.requires.2 _ _ c.gather.ensures c.ring_sums-ring.ensures in
-    balanced _ _ _ _ _ _ _ _ ring (small (goal.at.returns c).After-ring_sums-ring) refl (cross-found _ _ _ _ _ _ c.requires.1 _ _ c.requires.2 _ c.cross.ensures)
+    balanced _ _ _ _ _ _ _ _ ring (small (goal.at.returns c).After-ring_sums-ring) refl
+    (cross-found _ _ _ _ _ _ c.requires.1 _ _ c.requires.2 _ c.cross.ensures)

@@ -13,8 +13,21 @@ overflow_add-result-3 c =
 
 pub overflow_add-result-5 : goal.overflow_add-result-5
 overflow_add-result-5 c =
-    omega (arith, c.requires.0 c.args.mid, c.requires.0 (c.args.mid - c.args.s), c.requires.0 (c.args.mid + c.args.s), c.requires.0 (c.args.mid + 1))
+    omega (
+      arith,
+      c.requires.0 c.args.mid,
+      c.requires.0 (c.args.mid - c.args.s),
+      c.requires.0 (c.args.mid + c.args.s),
+      c.requires.0 (c.args.mid + 1),
+    )
 
 pub overflow_add-result-6 : goal.overflow_add-result-6
 overflow_add-result-6 c =
-    omega (arith, c.requires.0 c.args.mid, c.requires.0 (c.args.mid - c.args.s), c.requires.0 (c.args.mid + c.args.s), c.requires.0 (c.args.mid + 1), c.requires.0 (c.args.mid - 1))
+    omega (
+      arith,
+      c.requires.0 c.args.mid,
+      c.requires.0 (c.args.mid - c.args.s),
+      c.requires.0 (c.args.mid + c.args.s),
+      c.requires.0 (c.args.mid + 1),
+      c.requires.0 (c.args.mid - 1),
+    )

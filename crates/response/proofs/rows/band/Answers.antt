@@ -20,9 +20,17 @@ block-requires c =
     record {
       placed = (
         placed-still _ _ _ _ c.requires.placed.0 c.loop-i.invariant.2.long,
-        part_of _ _ _ _ _ _ _ _ _ c.requires.placed.1 c.loop-i.invariant.0 (omega (arith, c.lesser-n.ensures, c.loop-i-test.true)) (omega arith) (omega arith),
+        part_of _ _ _ _ _ _ _ _ _ c.requires.placed.1 c.loop-i.invariant.0 (omega (arith, c.lesser-n.ensures, c.loop-i-test.true))
+            (omega arith) (omega arith),
       );
-      n_nonzero = ((omega (arith, c.lesser-n.ensures, c.loop-i-test.true), omega (arith, c.lesser-n.ensures), c.requires.m_nonzero.0, c.requires.m_nonzero.1, c.loop-i.invariant.3, omega (arith, c.lesser-n.ensures)));
+      n_nonzero = ((
+        omega (arith, c.lesser-n.ensures, c.loop-i-test.true),
+        omega (arith, c.lesser-n.ensures),
+        c.requires.m_nonzero.0,
+        c.requires.m_nonzero.1,
+        c.loop-i.invariant.3,
+        omega (arith, c.lesser-n.ensures),
+      ));
     }
 
 pub loop-i-preserved : goal.loop-i-preserved

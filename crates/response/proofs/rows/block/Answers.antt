@@ -31,7 +31,8 @@ module _ (c : Start) where
       (small.0, small.1, radius-le _ _ _ c.requires.placed.0)
 
   row : (k : ℕ) → k < c.args.m →
-      ((c.args.j + k) * c.args.f.pw + c.args.i + c.args.n ≤ length c.args.map.now) × ((c.args.j + k) * c.args.f.pw + c.args.i + c.args.n ≤ largest_map)
+      ((c.args.j + k) * c.args.f.pw + c.args.i + c.args.n ≤ length c.args.map.now)
+      × ((c.args.j + k) * c.args.f.pw + c.args.i + c.args.n ≤ largest_map)
   row k l = row_in _ _ _ c.requires.placed.0 _ _ _ _ c.requires.placed.1 c.requires.n_nonzero.0 c.requires.n_nonzero.2 k l
 
 pub overflow_add-f : goal.overflow_add-f
@@ -123,7 +124,8 @@ loop-k-preserved c =
       block-step c.args.img.now _ _ c.args.f c.args.i c.args.j c.args.n c.args.m (ring_of-is _) c.requires.placed.0.own_radius
           c.requires.placed.1 c.requires.n_nonzero.0
           c.loop-k.k c.loop-k-test.true
-          (λ u v p q. c.widen.ensures.0.holds u v (omega (arith, radius, c.requires.n_nonzero.5)) (omega (arith, radius, c.requires.n_nonzero.3))
+          (λ u v p q. c.widen.ensures.0.holds u v (omega (arith, radius, c.requires.n_nonzero.5))
+          (omega (arith, radius, c.requires.n_nonzero.3))
           (omega arith) p (omega arith) q)
           _ _ _ _ _ _ _ _ (omega (arith, c.eights.ensures)) c.row_sums.ensures
           c.values.ensures refl c.loop-k.invariant.1,

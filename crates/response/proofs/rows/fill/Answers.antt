@@ -16,19 +16,27 @@ field c =
 
 placed : (c : Start) → Placed (length c.args.img.now) (field c) (length c.args.map.now)
 placed c =
-    record { image = c.requires.sized.0; own_radius = c.requires.sized.1; across = c.requires.pw_bound.0; down = c.requires.pw_bound.1; enough = c.requires.pw_bound.2 }
+    record {
+      image = c.requires.sized.0;
+      own_radius = c.requires.sized.1;
+      across = c.requires.pw_bound.0;
+      down = c.requires.pw_bound.1;
+      enough = c.requires.pw_bound.2;
+    }
 
 pub inner-requires : goal.inner-requires
 inner-requires c = (
   placed (goal.at.inner-requires c).Start,
-  part-inside c.args.img.now (field (goal.at.inner-requires c).Start) c.args.margin _ _ _ _ c.requires.sized.1 c.reach-columns.ensures c.reach-rows.ensures,
+  part-inside c.args.img.now (field (goal.at.inner-requires c).Start) c.args.margin _ _ _ _ c.requires.sized.1
+      c.reach-columns.ensures c.reach-rows.ensures,
   c.reach-columns.ensures.ordered,
   c.reach-rows.ensures.ordered,
 )
 
 pub clear_part-requires : goal.clear_part-requires
 clear_part-requires c =
-    let fit = rows_fit _ _ _ _ (placed (goal.at.clear_part-requires c).Start) c.inner.ensures.long c.reach-rows.result.from (omega (arith, c.reach-rows.ensures.ordered, c.reach-rows.ensures.ends)) in
+    let fit = rows_fit _ _ _ _ (placed (goal.at.clear_part-requires c).Start) c.inner.ensures.long c.reach-rows.result.from
+    (omega (arith, c.reach-rows.ensures.ordered, c.reach-rows.ensures.ends)) in
     (omega arith, le_refl _, omega arith, fit.0, fit.1)
 
 pub clear_part-requires-2 : goal.clear_part-requires-2
@@ -57,5 +65,6 @@ shape_of-map c = search rules
 
 pub returns : goal.returns
 returns c =
-    whole-map c.args.img.now (field (goal.at.returns c).Start) c.args.margin _ _ _ _ c.requires.sized.1 c.reach-columns.ensures c.reach-rows.ensures _ _ _ _ _ _
+    whole-map c.args.img.now (field (goal.at.returns c).Start) c.args.margin _ _ _ _ c.requires.sized.1 c.reach-columns.ensures
+    c.reach-rows.ensures _ _ _ _ _ _
     c.inner.ensures c.clear_part.ensures c.clear_part-2.ensures c.clear_part-3.ensures c.clear_part-4.ensures c.requires.pw_bound.2

@@ -37,7 +37,8 @@ pub single-requires : goal.single-requires
 single-requires c =
     let each = only (goal.at.single-requires c).Then-most-eq1 in (
       c.requires.0,
-      part_of _ _ _ _ _ _ _ _ _ c.requires.1 (omega arith) (omega (arith, each, c.requires.2)) (omega arith) (omega (arith, each, c.requires.3)),
+      part_of _ _ _ _ _ _ _ _ _ c.requires.1 (omega arith) (omega (arith, each, c.requires.2)) (omega arith)
+          (omega (arith, each, c.requires.3)),
     )
 
 pub shape_of-map-then-most-eq1 : goal.shape_of-map-then-most-eq1
@@ -52,7 +53,14 @@ returns-then-most-eq1 c =
 pub small-requires : goal.small-requires
 small-requires c =
     let each = few-each _ _ _ _ c.greater-most.ensures c.lesser.ensures c.if-lesser-eq0.false
-    c.if-most-le-SMALL_SIDE.true in record { placed = (c.requires.0, part_of _ _ _ _ _ _ _ _ _ c.requires.1 (omega arith) (omega (arith, c.requires.2)) (omega arith) (omega (arith, c.requires.3))); n_nonzero = (each) }
+    c.if-most-le-SMALL_SIDE.true in
+    record {
+      placed = (
+        c.requires.0,
+        part_of _ _ _ _ _ _ _ _ _ c.requires.1 (omega arith) (omega (arith, c.requires.2)) (omega arith) (omega (arith, c.requires.3)),
+      );
+      n_nonzero = (each);
+    }
 
 pub shape_of-map-then-most-le-SMALL_SIDE : goal.shape_of-map-then-most-le-SMALL_SIDE
 shape_of-map-then-most-le-SMALL_SIDE c = search rules

@@ -21,7 +21,8 @@ band-requires c =
     record {
       placed = (
         placed-still _ _ _ _ c.requires.0 c.loop-j.invariant.2.long,
-        part_of _ _ _ _ _ _ _ _ _ c.requires.1 (omega arith) (omega arith) c.loop-j.invariant.0 (omega (arith, c.lesser-m.ensures, c.loop-j-test.true)),
+        part_of _ _ _ _ _ _ _ _ _ c.requires.1 (omega arith) (omega arith) c.loop-j.invariant.0
+            (omega (arith, c.lesser-m.ensures, c.loop-j-test.true)),
         c.requires.2,
       );
       m_nonzero = ((omega (arith, c.lesser-m.ensures, c.loop-j-test.true), omega (arith, c.lesser-m.ensures), c.loop-j.invariant.3));

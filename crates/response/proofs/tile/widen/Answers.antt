@@ -50,8 +50,13 @@ widen_row-requires c =
 pub loop-j-preserved : goal.loop-j-preserved
 loop-j-preserved c = (
   search rules,
-  tile-row c.args.img.now c.args.w c.args.s c.args.x c.args.y c.args.n c.loop-j.j _ _ _ _ (search rules) (search rules) refl c.loop-j.invariant.1 c.widen_row.ensures.0,
-  record { long = c.widen_row.ensures.0.long ∙ c.loop-j.invariant.2.long; narrow = c.loop-j.invariant.2.narrow; bytes = c.widen_row.ensures.1 },
+  tile-row c.args.img.now c.args.w c.args.s c.args.x c.args.y c.args.n c.loop-j.j _ _ _ _ (search rules)
+      (search rules) refl c.loop-j.invariant.1 c.widen_row.ensures.0,
+  record {
+    long = c.widen_row.ensures.0.long ∙ c.loop-j.invariant.2.long;
+    narrow = c.loop-j.invariant.2.narrow;
+    bytes = c.widen_row.ensures.1;
+  },
 )
 
 pub shape_of-tile : goal.shape_of-tile

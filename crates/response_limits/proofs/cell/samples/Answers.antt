@@ -4,7 +4,11 @@ use Rattle.response_limits.proofs.Samples.{sides-small, sample_in, samples-found
 use Rattle.response_limits.proofs.cell.samples.Goals as goal
 
 pub gather-requires : goal.gather-requires
-gather-requires c = record { w_le_largest_side = sides-small _ _ _ _ _ c.requires.image_with_table _ _ c.requires.inner; by_index = sample_in _ _ _ _ _ c.requires.image_with_table _ _ c.requires.inner }
+gather-requires c =
+    record {
+      w_le_largest_side = sides-small _ _ _ _ _ c.requires.image_with_table _ _ c.requires.inner;
+      by_index = sample_in _ _ _ _ _ c.requires.image_with_table _ _ c.requires.inner;
+    }
 
 pub overflow_mul-y : goal.overflow_mul-y
 overflow_mul-y c = omega (arith, cell-small _ _ _ _ _ c.requires.image_with_table _ _ c.requires.inner)

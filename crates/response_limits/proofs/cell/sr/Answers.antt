@@ -22,7 +22,11 @@ pub overflow_add-sr : goal.overflow_add-sr
 overflow_add-sr c = omega (arith, c.loop-k.invariant.1.sum_small, (term (goal.at.overflow_add-sr c).After-apart-sr).1)
 
 pub loop-k-preserved : goal.loop-k-preserved
-loop-k-preserved c = (search rules, added_next _ _ _ _ _ c.loop-k.invariant.1 (term (goal.at.loop-k-preserved c).After-apart-sr).0 (term (goal.at.loop-k-preserved c).After-apart-sr).1)
+loop-k-preserved c = (
+  search rules,
+  added_next _ _ _ _ _ c.loop-k.invariant.1 (term (goal.at.loop-k-preserved c).After-apart-sr).0
+      (term (goal.at.loop-k-preserved c).After-apart-sr).1,
+)
 
 pub returns : goal.returns
 returns c = added-all _ _ 4 _ _ c.loop-k.invariant.1 (search rules)

@@ -33,9 +33,11 @@ run-requires c =
       lows_len_bound = (
         rw (lows-long (goal.at.run-requires c).After-lesser-e) (omega arith),
         highs-long (goal.at.run-requires c).After-lesser-e ∙ sym (lows-long (goal.at.run-requires c).After-lesser-e),
-        rw (lows-long (goal.at.run-requires c).After-lesser-e) (omega (arith, ends (goal.at.run-requires c).After-lesser-e, c.requires.highs_len.1)),
+        rw (lows-long (goal.at.run-requires c).After-lesser-e)
+            (omega (arith, ends (goal.at.run-requires c).After-lesser-e, c.requires.highs_len.1)),
       );
-      by_index = λ k l. rw add_assoc (c.requires.by_index (c.loop-i.i + k) (omega (arith, ends (goal.at.run-requires c).After-lesser-e, lows-long (goal.at.run-requires c).After-lesser-e)));
+      by_index = λ k l. rw add_assoc (c.requires.by_index (c.loop-i.i + k)
+          (omega (arith, ends (goal.at.run-requires c).After-lesser-e, lows-long (goal.at.run-requires c).After-lesser-e)));
     }
 
 pub loop-i-preserved : goal.loop-i-preserved

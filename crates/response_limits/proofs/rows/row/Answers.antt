@@ -37,8 +37,15 @@ module _ (c : After-clear_edges-2) where
 
 pub inner-requires : goal.inner-requires
 inner-requires c =
-    let low = part-long (goal.at.inner-requires c).After-clear_edges-2 (lows (goal.at.inner-requires c).After-clear_edges-2) (lows-cleared (goal.at.inner-requires c).After-clear_edges-2) in
-    let high = part-long (goal.at.inner-requires c).After-clear_edges-2 (highs (goal.at.inner-requires c).After-clear_edges-2) (highs-cleared (goal.at.inner-requires c).After-clear_edges-2) in record { image_with_table = c.requires.image_with_table; highs_len = (high ∙ sym low, rw low (omega (arith, c.reach-s.ensures.ordered, c.reach-s.ensures.ends))); by_index = λ i l. span-inner _ _ _ _ _ _ _ c.reach-s.ensures i (omega (arith, low)) }
+    let low = part-long (goal.at.inner-requires c).After-clear_edges-2 (lows (goal.at.inner-requires c).After-clear_edges-2)
+    (lows-cleared (goal.at.inner-requires c).After-clear_edges-2) in
+    let high = part-long (goal.at.inner-requires c).After-clear_edges-2 (highs (goal.at.inner-requires c).After-clear_edges-2)
+    (highs-cleared (goal.at.inner-requires c).After-clear_edges-2) in
+    record {
+      image_with_table = c.requires.image_with_table;
+      highs_len = (high ∙ sym low, rw low (omega (arith, c.reach-s.ensures.ordered, c.reach-s.ensures.ends)));
+      by_index = λ i l. span-inner _ _ _ _ _ _ _ c.reach-s.ensures i (omega (arith, low));
+    }
 
 pub shape_of-lows : goal.shape_of-lows
 shape_of-lows c = search rules
@@ -48,6 +55,10 @@ shape_of-highs c = search rules
 
 pub returns : goal.returns
 returns c = record {
-  lows_after = lows-put _ _ _ _ _ _ _ _ _ c.reach-s.ensures _ (lows-cleared (goal.at.returns c).After-clear_edges-2) _ _ (part-long (goal.at.returns c).After-clear_edges-2 (lows (goal.at.returns c).After-clear_edges-2) (lows-cleared (goal.at.returns c).After-clear_edges-2)) c.inner.ensures.lows_are;
-  highs_after = highs-put _ _ _ _ _ _ _ _ _ c.reach-s.ensures _ (highs-cleared (goal.at.returns c).After-clear_edges-2) _ _ (part-long (goal.at.returns c).After-clear_edges-2 (highs (goal.at.returns c).After-clear_edges-2) (highs-cleared (goal.at.returns c).After-clear_edges-2)) c.inner.ensures.highs_are;
+  lows_after = lows-put _ _ _ _ _ _ _ _ _ c.reach-s.ensures _ (lows-cleared (goal.at.returns c).After-clear_edges-2) _ _
+      (part-long (goal.at.returns c).After-clear_edges-2 (lows (goal.at.returns c).After-clear_edges-2)
+      (lows-cleared (goal.at.returns c).After-clear_edges-2)) c.inner.ensures.lows_are;
+  highs_after = highs-put _ _ _ _ _ _ _ _ _ c.reach-s.ensures _ (highs-cleared (goal.at.returns c).After-clear_edges-2) _ _
+      (part-long (goal.at.returns c).After-clear_edges-2 (highs (goal.at.returns c).After-clear_edges-2)
+      (highs-cleared (goal.at.returns c).After-clear_edges-2)) c.inner.ensures.highs_are;
 }

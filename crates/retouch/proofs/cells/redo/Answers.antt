@@ -22,8 +22,11 @@ abbrev pixel : Else-not-is_fit-2 → Place
 pixel c = record { x = c.args.x; y = c.args.y }
 
 small : (a : Start) → (a.args.ring ≤ largest_ring) × (a.args.x < largest_side) × (a.args.y < largest_side)
-small a =
-    (ring-small _ (ring-fits _ a.requires.known), omega (arith, a.requires.column, a.requires.image.narrow), omega (arith, a.requires.row, a.requires.image.low))
+small a = (
+  ring-small _ (ring-fits _ a.requires.known),
+  omega (arith, a.requires.column, a.requires.image.narrow),
+  omega (arith, a.requires.row, a.requires.image.low),
+)
 
 across : (c : Else-not-is_fit-2) → fits c.args.w c.args.ring c.args.x c.args.column ≡ true
 across c = sym c.is_fit.ensures ∙ not-false _ c.if-not-is_fit.false-raw
@@ -52,7 +55,8 @@ is_fit-requires c = let s = small (goal.at.is_fit-requires c).Start in (s.0, s.1
 
 pub returns-then-not-is_fit : goal.returns-then-not-is_fit
 returns-then-not-is_fit c =
-    let none = alone-across _ _ _ _ _ _ c.requires (c.args.column, c.args.row) (sym c.is_fit.ensures ∙ not-true _ c.if-not-is_fit.true-raw) in
+    let none = alone-across _ _ _ _ _ _ c.requires (c.args.column, c.args.row)
+    (sym c.is_fit.ensures ∙ not-true _ c.if-not-is_fit.true-raw) in
     record { map_after = none.0; value = none.1 }
 
 pub is_fit-requires-2 : goal.is_fit-requires-2
@@ -60,7 +64,8 @@ is_fit-requires-2 c = let s = small (goal.at.is_fit-requires-2 c).Start in (s.0,
 
 pub returns-then-not-is_fit-2 : goal.returns-then-not-is_fit-2
 returns-then-not-is_fit-2 c =
-    let none = alone-down _ _ _ _ _ _ c.requires (c.args.column, c.args.row) (sym c.is_fit-2.ensures ∙ not-true _ c.if-not-is_fit-2.true-raw) in
+    let none = alone-down _ _ _ _ _ _ c.requires (c.args.column, c.args.row)
+    (sym c.is_fit-2.ensures ∙ not-true _ c.if-not-is_fit-2.true-raw) in
     record { map_after = none.0; value = none.1 }
 
 pub overflow_sub-i : goal.overflow_sub-i

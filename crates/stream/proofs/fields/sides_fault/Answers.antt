@@ -7,11 +7,13 @@ use Rattle.stream.proofs.fields.sides_fault.Goals as goal
 
 pub returns-then-u16_at-gt-LARGEST_STREAM_SIDE : goal.returns-then-u16_at-gt-LARGEST_STREAM_SIDE
 unfolding sides_fault
-returns-then-u16_at-gt-LARGEST_STREAM_SIDE c = rw (sym c.u16_at.ensures, lt-ltb largest_stream_side _ c.if-u16_at-gt-LARGEST_STREAM_SIDE.true)
+returns-then-u16_at-gt-LARGEST_STREAM_SIDE c =
+    rw (sym c.u16_at.ensures, lt-ltb largest_stream_side _ c.if-u16_at-gt-LARGEST_STREAM_SIDE.true)
 
 pub returns-then-u16_at-gt-LARGEST_STREAM_SIDE-2 : goal.returns-then-u16_at-gt-LARGEST_STREAM_SIDE-2
 unfolding sides_fault
-returns-then-u16_at-gt-LARGEST_STREAM_SIDE-2 c = rw (sym c.u16_at-2.ensures, lt-ltb largest_stream_side _ c.if-u16_at-gt-LARGEST_STREAM_SIDE-2.true, or_right)
+returns-then-u16_at-gt-LARGEST_STREAM_SIDE-2 c =
+    rw (sym c.u16_at-2.ensures, lt-ltb largest_stream_side _ c.if-u16_at-gt-LARGEST_STREAM_SIDE-2.true, or_right)
 
 pub returns : goal.returns
 unfolding sides_fault

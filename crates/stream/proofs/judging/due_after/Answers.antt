@@ -13,8 +13,10 @@ returns-in-1 c = rw c.in-1.is
 
 pub returns-then-left-eq0 : goal.returns-then-left-eq0
 unfolding due
-returns-then-left-eq0 c = rw (ne_eqb _ 0 c.in_default.in_default-own.rest.0.1, ne_eqb _ 1 c.in_default.in_default-own.rest.1, eq-eqb _ 0 c.if-left-eq0.true)
+returns-then-left-eq0 c =
+    rw (ne_eqb _ 0 c.in_default.in_default-own.rest.0.1, ne_eqb _ 1 c.in_default.in_default-own.rest.1, eq-eqb _ 0 c.if-left-eq0.true)
 
 pub returns-else-left-eq0 : goal.returns-else-left-eq0
 unfolding due
-returns-else-left-eq0 c = rw (ne_eqb _ 0 c.in_default.in_default-own.rest.0.1, ne_eqb _ 1 c.in_default.in_default-own.rest.1, ne_eqb _ 0 c.if-left-eq0.false)
+returns-else-left-eq0 c =
+    rw (ne_eqb _ 0 c.in_default.in_default-own.rest.0.1, ne_eqb _ 1 c.in_default.in_default-own.rest.1, ne_eqb _ 0 c.if-left-eq0.false)

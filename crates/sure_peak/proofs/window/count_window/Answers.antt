@@ -67,7 +67,8 @@ module _ (c : After-t26-1) where
 
   abbrev passing : ℤ → ℕ
   passing v =
-      count (λ q. lt_z v (stored_fifths c.args.map.now c.args.w q)) (window c.args.w c.args.h c.args.r (record { x = c.args.x; y = c.args.y }))
+      count (λ q. lt_z v (stored_fifths c.args.map.now c.args.w q))
+      (window c.args.w c.args.h c.args.r (record { x = c.args.x; y = c.args.y }))
 
 pub overflow_sub-result : goal.overflow_sub-result
 overflow_sub-result c =
