@@ -53,7 +53,7 @@ pub extern "C" fn zakdomp_response(
     height: &mut usize,
 ) -> u8
     ensures { Responded (record
-        { img = img.entry.now; w = w; h = h; ring = ring_of ring; x0 = x0; y0 = y0; x1 = x1; y1 = y1 }) ring
+        { img = img.now; w = w; h = h; ring = ring_of ring; x0 = x0; y0 = y0; x1 = x1; y1 = y1 }) ring
         map.old width.old height.old result map.new width.new
         height.new }
 {

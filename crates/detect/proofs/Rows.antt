@@ -45,7 +45,6 @@ module _ (cells : List Float) (t : Float) where
                 ∙ ap (λ (x : Float). le x t) (sym (part_at cells i e (k - i) (omega arith)))
                 ∙ count-every (is_low t) (take (e - i) (drop i cells)) (k - i) nan (sym p ∙ q ∙ sym long) (rw long (omega arith))
           ]
-      -- the front of the part behind those
 
 -- ---- along a row
 module _ (m : List Float) (s : Search) (x y : ℕ) where

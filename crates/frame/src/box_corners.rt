@@ -39,9 +39,9 @@ pub(crate) fn add_patch_corners(
 ) -> Peaks
     requires { FrameChecked p img.now w h (length map.old) }
     ensures { AddsCorners (corners_in p (choice_of p exact)
-        (record { img = img.entry.now; w = w; h = h; ring = ring_of p.ring; x0 = x0; y0 = y0; x1 = x1; y1 = y1 }))
+        (record { img = img.now; w = w; h = h; ring = ring_of p.ring; x0 = x0; y0 = y0; x1 = x1; y1 = y1 }))
         (ties_on p (choice_of p exact) (record
-        { img = img.entry.now; w = w; h = h; ring = ring_of p.ring; x0 = x0; y0 = y0; x1 = x1; y1 = y1 }))
+        { img = img.now; w = w; h = h; ring = ring_of p.ring; x0 = x0; y0 = y0; x1 = x1; y1 = y1 }))
         held (slices xs.old ys.old strengths.old neighbours.old)
         result (slices xs.new ys.new strengths.new neighbours.new) }
 {

@@ -1,4 +1,4 @@
--- How far standard input was read (RULES 12.5). No contract of C's `read` can say which bytes come.
+-- How far standard input was read (RULES 12.5). No contract of a read can say which bytes come.
 use Rattle.std.specs.Prelude.{ℕ, suc, ◌+◌, ◌-◌, ◌<◌, ◌≤◌, min, ◌≡◌, Bool, true, false, List, length, take, drop, ℤ, pos}
 use Rattle.std.specs.Prelude.{negsuc, Some}
 use Rattle.std.specs.declared.io.Error.{Error}

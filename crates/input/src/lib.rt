@@ -54,7 +54,8 @@ fn answer_of(outcome: io::Result<usize>, buffer: &[u8]) -> isize
     }
 }
 
-// A failed read's answer: minus the number of the system's error, or -1 if it has none above 0.
+// A failed read's answer: minus the number of the system's error, or -1 if it has none above 0, which is then told as
+// the system's error 1.
 fn failure_of(error: io::Error) -> isize
     ensures { IsFailure error result }
 {

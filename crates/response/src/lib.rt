@@ -79,7 +79,7 @@ pub fn inner_patch(
     map: &mut [f32],
 ) -> Patch
     ensures { InnerPatched (record
-        { img = img.entry.now; w = w; h = h; ring = ring_of ring; x0 = x0; y0 = y0; x1 = x1; y1 = y1 })
+        { img = img.now; w = w; h = h; ring = ring_of ring; x0 = x0; y0 = y0; x1 = x1; y1 = y1 })
         margin ring map.old result map.new }
 {
     let across = side(w, x0, x1);
@@ -118,7 +118,7 @@ pub fn chess_response_u8_patch(
     map: &mut [f32],
 ) -> Patch
     ensures { Patched (record
-        { img = img.entry.now; w = w; h = h; ring = ring_of ring; x0 = x0; y0 = y0; x1 = x1; y1 = y1 }) ring
+        { img = img.now; w = w; h = h; ring = ring_of ring; x0 = x0; y0 = y0; x1 = x1; y1 = y1 }) ring
         map.old result map.new }
 {
     inner_patch(img, w, h, ring, x0, y0, x1, y1, 0, map)
