@@ -56,8 +56,8 @@ zakdomp.find_pgm(b"", threshold="30")
 zakdomp.merged(corners, "3")
 """
 WRONG = [4, 5, 6, 7, 8]
-BUILT = all(os.path.exists(os.path.join(TOP, "target", path))
-            for path in ("bin/corners", "bin/retained", "zakdomp/libzakdomp.a"))
+BUILT = all(os.path.exists(os.path.join(TOP, path)) for path in (
+    "crates/corners/out/corners", "crates/retained/out/retained", "target/zakdomp/libzakdomp.a"))
 
 
 HIDDEN = ("ZAKDOMP_LIBRARY", "PYTHONPATH", "ZAKDOMP_DIR", "PKG_CONFIG", "PKG_CONFIG_PATH", "PKG_CONFIG_LIBDIR")
