@@ -55,17 +55,15 @@ $parameters) -> u8
 PROOF = string.Template("""\
 -- Written by tools/entries; not edited by hand. `$crate::$name` meets its contract: the answer
 -- of the function that it calls, taken apart. Assumes nothing.
-use borrow.Author.Rules.{rules}
 use mathlib.Core.Bool.{$exact}
 use Rattle.$crate.proofs.Entries.{$law}
 use Rattle.$crate.proofs.$choice.$name.Goals as goal
 
-${shapes}pub returns : goal.returns
+pub returns : goal.returns
 returns c =
     $law $exact c.params_of-p.ensures c.$function-a.ensures
     c.number_of.ensures c.count_of.ensures c.ties_of.ensures
 """)
-SHAPE = 'pub shape_of-{0} : goal.shape_of-{0}\nshape_of-{0} c = search rules\n\n'
 
 # what is searched: the crate, how it is given, the function that searches it, and the promise with its record and law
 SEARCHED = [
@@ -104,7 +102,6 @@ def files(entry, exact):
         'given': ' '.join([f'{part}.now' for part in entry['slices']] + list(entry['sides'])),
         'params': call('params_of', NUMBERS),
         'find': call(entry['function'], [*given, 'p', flag, *BUFFERS]),
-        'shapes': ''.join(map(SHAPE.format, BUFFERS)),
     }
     crate = pathlib.Path('crates') / entry['crate']
     yield crate / 'src' / f'{choice}.rt', CODE.substitute(parts)

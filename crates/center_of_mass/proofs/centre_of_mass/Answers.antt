@@ -19,8 +19,6 @@ pub returns-in_default-down : goal.returns-in_default-down
 returns-in_default-down c =
     no_row c.args.r c.args.x c.args.y c.args.map.now c.args.w c.args.h (sym c.centre_on-down.ensures ∙ c.in_default-down.is)
 
--- before the sums: the function's entry, and both centres, about which the window lies within the map
-
 abbrev cx : In-At-down → ℕ
 cx c = c.in-At.cx
 

@@ -13,8 +13,7 @@ returns-then-number-ne0 c = by_map _ _ _ _ _ _ _ c.if-has_map.true _ c.refusal-n
 
 -- past the test of the map
 map-passed : (c : Joined-has_map)
-    →
-    MapFits c.args.radius c.args.x c.args.y c.args.cells c.args.w c.args.h c.args.has_map
+    → MapFits c.args.radius c.args.x c.args.y c.args.cells c.args.w c.args.h c.args.has_map
 map-passed c =
     elim c.if-has_map.branch [
       | then-has_map+else-number-ne0 w ↦ inl (w.if-has_map.true, sized _ _ _ _ w.refusal-number.ensures w.if-number-ne0.false)

@@ -1,5 +1,5 @@
 -- `detect::find_peaks` meets its contract, answer by answer. Assumes nothing.
-use Rattle.std.proofs.Common.{ℕ, Bool, List, [], length, sym, ◌∙◌, rules}
+use Rattle.std.proofs.Common.{ℕ, Bool, List, [], length, sym, ◌∙◌}
 use lib.Ieee.{Float}
 use Rattle.corner_list.specs.CornerList.{Slices, slices}
 use Rattle.detect.specs.declared.Search.{Search}
@@ -9,8 +9,6 @@ use Rattle.detect.specs.Internal.{Searchable}
 use Rattle.detect.proofs.Answers.{Clear, clear, searchable, found-refused, found-clear}
 use Rattle.detect.proofs.find_peaks.Goals as goal
 use Rattle.detect.proofs.find_peaks.Goals.{After-search_of-s, Else-number-ne0}
-
--- the function's start, from where no condition held
 
 -- ---- what it was given
 abbrev conditions-of : Else-number-ne0 → List (Bool × ℕ)
@@ -35,8 +33,7 @@ can-search c = rw c.search_of-s.ensures (searchable _ _ _ _ _ _ _ _ _ (fine (goa
 
 -- what is added is what the function promises
 adds : (c : After-search_of-s) (answer : Peaks) (b' : Slices)
-    →
-    PeaksAdded [] (starts_in (map_of (goal.at.After-search_of-s c).Else-number-ne0) c.search_of-s.result)
+    → PeaksAdded [] (starts_in (map_of (goal.at.After-search_of-s c).Else-number-ne0) c.search_of-s.result)
     (ties_in (map_of (goal.at.After-search_of-s c).Else-number-ne0) c.search_of-s.result) c.args.held
     (buffer-of (goal.at.After-search_of-s c).Else-number-ne0) answer b'
     → PeaksAdded (conditions-of (goal.at.After-search_of-s c).Else-number-ne0)
@@ -55,36 +52,12 @@ returns-then-number-ne0 c = found-refused _ _ _ _ _ _ c.refusal-number.ensures c
 pub add_peaks-requires : goal.add_peaks-requires
 add_peaks-requires c = can-search (goal.at.add_peaks-requires c).After-search_of-s
 
-pub shape_of-xs-then-map-lt-LARGE_MAP : goal.shape_of-xs-then-map-lt-LARGE_MAP
-shape_of-xs-then-map-lt-LARGE_MAP c = search rules
-
-pub shape_of-ys-then-map-lt-LARGE_MAP : goal.shape_of-ys-then-map-lt-LARGE_MAP
-shape_of-ys-then-map-lt-LARGE_MAP c = search rules
-
-pub shape_of-strengths-then-map-lt-LARGE_MAP : goal.shape_of-strengths-then-map-lt-LARGE_MAP
-shape_of-strengths-then-map-lt-LARGE_MAP c = search rules
-
-pub shape_of-neighbours-then-map-lt-LARGE_MAP : goal.shape_of-neighbours-then-map-lt-LARGE_MAP
-shape_of-neighbours-then-map-lt-LARGE_MAP c = search rules
-
 pub returns-then-map-lt-LARGE_MAP : goal.returns-then-map-lt-LARGE_MAP
 returns-then-map-lt-LARGE_MAP c =
     adds (goal.at.returns-then-map-lt-LARGE_MAP c).After-search_of-s c.add_peaks.result _ c.add_peaks.ensures
 
 pub add_peaks-requires-2 : goal.add_peaks-requires-2
 add_peaks-requires-2 c = can-search (goal.at.add_peaks-requires-2 c).After-search_of-s
-
-pub shape_of-xs : goal.shape_of-xs
-shape_of-xs c = search rules
-
-pub shape_of-ys : goal.shape_of-ys
-shape_of-ys c = search rules
-
-pub shape_of-strengths : goal.shape_of-strengths
-shape_of-strengths c = search rules
-
-pub shape_of-neighbours : goal.shape_of-neighbours
-shape_of-neighbours c = search rules
 
 pub returns : goal.returns
 returns c =

@@ -32,7 +32,6 @@ returns-then-not-parameters_fit c =
     )
 
 -- past 3
-
 fit : (c : Else-not-parameters_fit) → parameters_fit c.args.p ≡ true
 fit c = sym c.parameters_fit.ensures ∙ not-false _ c.if-not-parameters_fit.false-raw
 
@@ -46,7 +45,6 @@ returns-then-is_outside c =
     )
 
 -- past 5
-
 inside : (c : Else-is_outside) → radius_outside c.args.p.merge_radius ≡ false
 inside c = sym c.is_outside.ensures ∙ c.if-is_outside.false
 
@@ -64,10 +62,8 @@ returns-then-cells-w c =
     )
 
 -- past 8, what is left of the table
-
 last : (c : After-cells_above)
-    →
-    lowest (conditions c.args.p c.args.pixels c.args.w c.args.h c.args.cells c.args.places)
+    → lowest (conditions c.args.p c.args.pixels c.args.w c.args.h c.args.cells c.args.places)
     ≡ lowest ((is_level_buffer_short (ask c.args.pixels c.args.places c.args.w c.args.h c.args.p.levels c.args.p.minimum_side), 9) ∷ [])
 unfolding conditions
 last c =

@@ -5,7 +5,6 @@ use mathlib.Core.Path.{◌≡◌, sym, ap₂, ◌∙◌}
 use mathlib.Core.List.{List, ◌++◌}
 use lib.ListN.{length, drop}
 use lib.Seq.{length-take-le}
-use borrow.Author.Rules.{rules}
 use Rattle.stream.specs.RoundTrip.{frame_bytes}
 use Rattle.frame_writer.proofs.Bytes.{frame-long}
 use Rattle.frame_writer.proofs.Judgement.{Passed, passed}
@@ -42,9 +41,6 @@ put_frame-requires c = (
   (ok (goal.at.put_frame-requires c).Else-number-ne0).narrow,
   length-take-le _ _ (slice_bounds-put_frame-end (goal.at.put_frame-requires c).After-length_of-end) ∙ c.length_of-end.ensures,
 )
-
-pub shape_of-out : goal.shape_of-out
-shape_of-out c = search rules
 
 pub returns : goal.returns
 returns c =

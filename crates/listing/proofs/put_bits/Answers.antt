@@ -6,7 +6,6 @@ use Rattle.listing.specs.Text.{hexadecimal}
 use Rattle.listing.specs.Internal.{ended}
 use Rattle.listing.proofs.Numbers.{length_digits}
 use Rattle.listing.proofs.Appending.{wrote-more, wrote_as, wrote-length}
-use borrow.Author.Rules.{rules}
 use Rattle.listing.proofs.put_bits.Goals as goal
 
 pub put-requires : goal.put-requires
@@ -17,9 +16,6 @@ put-requires c =
       wrote-length c.put_digits-next.ensures,
       length_digits 16 8 c.to_bits-bits.result,
     )
-
-pub shape_of-out : goal.shape_of-out
-shape_of-out c = search rules
 
 pub returns : goal.returns
 unfolding hexadecimal

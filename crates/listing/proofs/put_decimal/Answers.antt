@@ -6,7 +6,6 @@ use Rattle.listing.specs.Text.{digits, decimal}
 use Rattle.listing.specs.Internal.{ended}
 use Rattle.listing.proofs.Numbers.{length_digits}
 use Rattle.listing.proofs.Appending.{wrote-more, wrote_as, wrote-length}
-use borrow.Author.Rules.{rules}
 use Rattle.listing.proofs.put_decimal.Goals as goal
 
 pub put_digits-next-requires : goal.put_digits-next-requires
@@ -21,9 +20,6 @@ put-requires c =
       length_digits 10 c.decimal_places-count.result c.args.n,
       c.decimal_places-count.ensures,
     )
-
-pub shape_of-out : goal.shape_of-out
-shape_of-out c = search rules
 
 pub returns : goal.returns
 unfolding decimal

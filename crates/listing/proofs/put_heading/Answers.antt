@@ -2,7 +2,6 @@
 use native.Mathlib.Omega.{arith}
 use Rattle.listing.proofs.Numbers.{places-word}
 use Rattle.listing.proofs.Appending.{wrote-length, wrote-more}
-use borrow.Author.Rules.{rules}
 use Rattle.listing.proofs.put_heading.Goals as goal
 
 pub put_decimal-requires : goal.put_decimal-requires
@@ -14,9 +13,6 @@ put_decimal-requires c =
       c.requires,
       places-word c.args.n c.ranges.n.fits,
     )
-
-pub shape_of-out : goal.shape_of-out
-shape_of-out c = search rules
 
 pub returns : goal.returns
 returns c =

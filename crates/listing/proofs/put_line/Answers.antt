@@ -9,7 +9,6 @@ use Rattle.listing.specs.Internal.{ended}
 use Rattle.listing.proofs.Numbers.{places-word, places-half-word}
 use Rattle.listing.proofs.Appending.{wrote-more, wrote_as, wrote-leaves}
 use Rattle.listing.proofs.Lines.{decimal-ended, bits-ended}
-use borrow.Author.Rules.{rules}
 use Rattle.listing.proofs.put_line.Goals as goal
 use Rattle.listing.proofs.put_line.Goals.{After-put_bits-behind_strength, After-put_bits-behind_x_bits, After-put_bits-behind_y_bits}
 use Rattle.listing.proofs.put_line.Goals.{After-put_decimal-behind_x, After-put_decimal-behind_y}
@@ -69,9 +68,6 @@ put_decimal-requires c =
       behind-strength (goal.at.put_decimal-requires c).After-put_bits-behind_strength,
       places-half-word c.args.c.neighbours small,
     )
-
-pub shape_of-out : goal.shape_of-out
-shape_of-out c = search rules
 
 pub returns : goal.returns
 returns c =

@@ -7,8 +7,7 @@ use Rattle.merge_grid.proofs.are_adjacent.Goals.{After-is_within_one}
 
 -- the cells across, by the test
 across : (c : After-is_within_one)
-    →
-    within_one (column_of c.args.g c.args.p) (column_of c.args.g c.args.q) ≡ c.is_within_one.result
+    → within_one (column_of c.args.g c.args.p) (column_of c.args.g c.args.q) ≡ c.is_within_one.result
 across c = sym (c.is_within_one.ensures ∙ ap₂ within_one c.column_of.ensures c.column_of-2.ensures)
 
 pub returns-then-is_within_one : goal.returns-then-is_within_one

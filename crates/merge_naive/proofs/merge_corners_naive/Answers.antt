@@ -10,8 +10,7 @@ use Rattle.merge_naive.proofs.merge_corners_naive.Goals.{After-refusal-number}
 
 -- the number, by the places of the buffer
 judged : (c : After-refusal-number)
-    →
-    let b = slices c.args.xs.now c.args.ys.now c.args.strengths.now c.args.neighbours.now in
+    → let b = slices c.args.xs.now c.args.ys.now c.args.strengths.now c.args.neighbours.now in
     c.refusal-number.result ≡ refusal_of c.args.radius (places_of b) c.args.count b
 judged c = judged-held _ _ _ _ _ _ c.refusal-number.ensures (omega arith)
 

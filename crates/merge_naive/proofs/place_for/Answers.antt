@@ -11,8 +11,7 @@ use Rattle.merge_naive.proofs.place_for.Goals as goal
 use Rattle.merge_naive.proofs.place_for.Goals.{After-first_near-i}
 
 found : (c : After-first_near-i)
-    →
-    IsFirst (λ m. near_by c.args.square c.args.c
+    → IsFirst (λ m. near_by c.args.square c.args.c
     (corner_at (slices c.args.xs.now c.args.ys.now c.args.strengths.now c.args.neighbours.now) m)) c.args.k
     c.first_near-i.result
 found c =

@@ -14,8 +14,7 @@ loop-i-init c = (omega arith, below_none _)
 
 -- the test, of the corner in the buffer
 tested : (c : After-is_inside)
-    →
-    corner_outside (corner_at (slices c.args.xs.now c.args.ys.now c.args.strengths.now c.args.neighbours.now)
+    → corner_outside (corner_at (slices c.args.xs.now c.args.ys.now c.args.strengths.now c.args.neighbours.now)
     c.loop-i.i)
     ≡ not c.is_inside.result
 tested c = ap corner_outside (sym c.corner_at.ensures) ∙ ap not (sym c.is_inside.ensures)

@@ -11,8 +11,7 @@ use Rattle.merge_refusal.proofs.refusal.Goals.{After-has_outside, After-lesser-h
 
 -- the places that the buffer has
 held : (c : After-lesser-held)
-    →
-    c.lesser-held.result ≡ min c.args.places (places_of (slices c.args.xs.now c.args.ys.now c.args.strengths.now c.args.neighbours.now))
+    → c.lesser-held.result ≡ min c.args.places (places_of (slices c.args.xs.now c.args.ys.now c.args.strengths.now c.args.neighbours.now))
 held c = c.lesser-held.ensures ∙ ap (min _) c.places.ensures
 
 pub returns-then-is_off : goal.returns-then-is_off
@@ -23,8 +22,7 @@ returns-then-is_off c =
 
 -- whether a corner is outside, of those that the buffer has
 tested : (c : After-has_outside)
-    →
-    any corner_outside (corners_of (slices c.args.xs.now c.args.ys.now c.args.strengths.now c.args.neighbours.now)
+    → any corner_outside (corners_of (slices c.args.xs.now c.args.ys.now c.args.strengths.now c.args.neighbours.now)
     (min c.args.count c.lesser-held.result)) ≡ c.has_outside.result
 tested c =
     ap (λ (n : ℕ). any corner_outside (corners_of (slices c.args.xs.now c.args.ys.now c.args.strengths.now c.args.neighbours.now) n))

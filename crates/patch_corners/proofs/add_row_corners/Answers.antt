@@ -2,7 +2,6 @@
 use Prim.Native.Nat.{ℕ, ◌+◌, min}
 use native.Mathlib.Omega.{arith}
 use mathlib.Core.Path.{sym, ap, ◌∙◌}
-use borrow.Author.Rules.{rules}
 use Rattle.detect.proofs.Answers.{clear, found-refused}
 use Rattle.patch_corners.proofs.Centring.{found-not, found-fits, found-changed}
 use Rattle.patch_corners.proofs.OfRows.{low, border-small, Cut, part_end, part_small, part-order, low-top, rows-added}
@@ -11,8 +10,7 @@ use Rattle.patch_corners.proofs.add_row_corners.Goals.{After-lesser-top}
 
 -- the rows that are searched
 cut : (c : After-lesser-top)
-    →
-    Cut c.args.p c.args.map.now c.args.w c.args.h c.args.a c.args.b c.lesser-end.result c.lesser-top.result
+    → Cut c.args.p c.args.map.now c.args.w c.args.h c.args.a c.args.b c.lesser-end.result c.lesser-top.result
 cut c =
     record {
       none = sym c.refusal-number.ensures ∙ c.if-number-ne0.false;
@@ -63,18 +61,6 @@ slice_bounds-find_peaks-start c = part-order _ c.args.exact _ _ _ _ _ _ _ (cut c
 pub slice_bounds-find_peaks-end : goal.slice_bounds-find_peaks-end
 slice_bounds-find_peaks-end c = part_end _ c.args.exact _ _ _ _ _ _ _ (cut c)
 
-pub shape_of-xs-in_default : goal.shape_of-xs-in_default
-shape_of-xs-in_default c = search rules
-
-pub shape_of-ys-in_default : goal.shape_of-ys-in_default
-shape_of-ys-in_default c = search rules
-
-pub shape_of-strengths-in_default : goal.shape_of-strengths-in_default
-shape_of-strengths-in_default c = search rules
-
-pub shape_of-neighbours-in_default : goal.shape_of-neighbours-in_default
-shape_of-neighbours-in_default c = search rules
-
 pub returns-in_default : goal.returns-in_default
 returns-in_default c =
     rows-added _ c.args.exact _ _ _ _ _ _ _ (cut (goal.at.returns-in_default c).After-lesser-top) _ _ _ _
@@ -85,18 +71,6 @@ centre_all-requires c = (
   found-fits (λ z. z) _ _ _ _ _ _ _ c.find_peaks-f.ensures (clear _ _ _ _ _ _) _ _ c.in-Added.is,
   low-top _ c.args.exact _ _ _ _ _ _ _ (cut (goal.at.centre_all-requires c).After-lesser-top),
 )
-
-pub shape_of-xs : goal.shape_of-xs
-shape_of-xs c = search rules
-
-pub shape_of-ys : goal.shape_of-ys
-shape_of-ys c = search rules
-
-pub shape_of-strengths : goal.shape_of-strengths
-shape_of-strengths c = search rules
-
-pub shape_of-neighbours : goal.shape_of-neighbours
-shape_of-neighbours c = search rules
 
 pub returns : goal.returns
 returns c =

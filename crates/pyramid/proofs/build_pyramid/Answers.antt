@@ -2,7 +2,6 @@
 -- nothing.
 use mathlib.Core.Path.{◌≡◌, sym, ◌∙◌}
 use lib.ListN.{length}
-use borrow.Author.Rules.{rules}
 use Rattle.pyramid_levels.specs.Refusals.{ask, build_refusal_of}
 use Rattle.pyramid_levels.proofs.Refusals.{accepted}
 use Rattle.pyramid.proofs.Building.{built-refused, built-filled}
@@ -12,12 +11,9 @@ use Rattle.pyramid.proofs.build_pyramid.Goals.{After-level_count-n}
 pub returns-then-number-ne0 : goal.returns-then-number-ne0
 returns-then-number-ne0 c = built-refused _ _ _ _ _ _ _ (sym c.build_refusal-number.ensures) c.if-number-ne0.true
 
--- the entry
-
 -- nothing refuses
 free : (c : After-level_count-n)
-    →
-    build_refusal_of (ask (length c.args.base.now)
+    → build_refusal_of (ask (length c.args.base.now)
     (length c.args.levels.now) c.args.width c.args.height c.args.num_levels c.args.min_size) ≡ 0
 free c = sym c.build_refusal-number.ensures ∙ c.if-number-ne0.false
 
@@ -25,9 +21,6 @@ pub fill_levels-requires : goal.fill_levels-requires
 fill_levels-requires c =
     let a = accepted _ (free (goal.at.fill_levels-requires c).After-level_count-n) in
     (a.image.sized, rw c.level_count-n.ensures a.fits)
-
-pub shape_of-levels : goal.shape_of-levels
-shape_of-levels c = search rules
 
 pub returns : goal.returns
 returns c =

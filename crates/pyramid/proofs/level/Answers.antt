@@ -13,12 +13,9 @@ pub returns-then-number-ne0 : goal.returns-then-number-ne0
 returns-then-number-ne0 c =
     level-refused c.args.base.now c.args.levels.now _ _ _ _ _ _ c.level_refusal-number.ensures c.if-number-ne0.true
 
--- the entry
-
 -- nothing refuses the level
 free : (c : Else-number-ne0)
-    →
-    level_refusal_of (ask (length c.args.base.now)
+    → level_refusal_of (ask (length c.args.base.now)
     (length c.args.levels.now) c.args.width c.args.height c.args.num_levels c.args.min_size) c.args.k ≡ 0
 free c = sym c.level_refusal-number.ensures ∙ c.if-number-ne0.false
 

@@ -11,8 +11,6 @@ use Rattle.pyramid_levels.proofs.level_at.Goals.{Else-number-ne0}
 pub returns-then-number-ne0 : goal.returns-then-number-ne0
 returns-then-number-ne0 c = level-refused _ _ _ (sym c.level_refusal-number.ensures) c.if-number-ne0.true
 
--- the entry
-
 -- nothing refuses the level
 free : (c : Else-number-ne0) →
     level_refusal_of (ask c.args.pixels c.args.places c.args.width c.args.height c.args.num_levels c.args.min_size) c.args.k ≡ 0

@@ -1,7 +1,6 @@
 -- `response::inner_patch` meets its contract: the sides are those of the clipped box, and the rows fill it. Assumes nothing.
 use mathlib.Core.Path.{◌≡◌, sym, ap₂, ◌∙◌}
 use Prim.Native.Nat.{◌*◌}
-use borrow.Author.Rules.{rules}
 use Prim.Native.Nat.{ℕ}
 use mathlib.Core.List.{List}
 use lib.ListN.{length}
@@ -62,9 +61,6 @@ fill-requires c =
         t.enough,
       ));
     }
-
-pub shape_of-map : goal.shape_of-map
-shape_of-map c = search rules
 
 pub returns : goal.returns
 returns c =

@@ -30,8 +30,7 @@ returns-then-high-low c = by_length _ _ _ _ _ _ _ (image (goal.at.returns-then-h
 
 -- past that of the high one, what is left of the table
 rest : (c : Else-high-low)
-    →
-    refusal_of c.args.low.now c.args.high.now c.args.w c.args.h c.args.ring c.args.lows c.args.highs
+    → refusal_of c.args.low.now c.args.high.now c.args.w c.args.h c.args.ring c.args.lows c.args.highs
     ≡ lowest ((is_crossed c.args.low.now c.args.high.now, 15) ∷ (not (is_ring c.args.ring), 3) ∷ (ltb c.args.lows (c.args.w * c.args.h), 8)
     ∷ (ltb c.args.highs (c.args.w * c.args.h), 8) ∷ [])
 rest c = by-rest _ _ _ _ _ _ _ (sized _ _ _ _ c.refusal-number.ensures c.if-number-ne0.false) c.if-high-low.false
@@ -51,8 +50,7 @@ returns-then-not-is_ring c =
 
 -- past the ring, what is left of that
 places : (c : Else-not-is_ring)
-    →
-    refusal_of c.args.low.now c.args.high.now c.args.w c.args.h c.args.ring c.args.lows c.args.highs
+    → refusal_of c.args.low.now c.args.high.now c.args.w c.args.h c.args.ring c.args.lows c.args.highs
     ≡ lowest ((ltb c.args.lows (c.args.w * c.args.h), 8) ∷ (ltb c.args.highs (c.args.w * c.args.h), 8) ∷ [])
 places c =
     rw (

@@ -1,7 +1,6 @@
 -- `response_limits::response_limits` meets its contract: refused, or both maps filled. Assumes nothing.
 use mathlib.Core.Path.{sym, ◌∙◌}
 use Rattle.response_limits.proofs.Judging.{given, when-refused, when-written}
-use borrow.Author.Rules.{rules}
 use Rattle.response_limits.proofs.response_limits.Goals as goal
 
 pub returns-then-number-ne0 : goal.returns-then-number-ne0
@@ -11,12 +10,6 @@ pub fill-requires : goal.fill-requires
 fill-requires c =
     let g = given _ _ _ _ _ _ _ (sym c.refusal-number.ensures ∙ c.if-number-ne0.false) in
     record { sized = (g.low-image, g.high-image, g.own_radius); w_in_bounds = (g.enough-lows, g.enough-highs) }
-
-pub shape_of-lows : goal.shape_of-lows
-shape_of-lows c = search rules
-
-pub shape_of-highs : goal.shape_of-highs
-shape_of-highs c = search rules
 
 pub returns : goal.returns
 returns c =

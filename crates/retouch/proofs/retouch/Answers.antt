@@ -2,7 +2,6 @@
 use mathlib.Core.Path.{refl, sym, ◌∙◌}
 use Prim.Native.Nat.{◌+◌, ◌*◌, ◌<◌}
 use native.Mathlib.Omega.{arith}
-use borrow.Author.Rules.{rules}
 use lib.ListN.{length}
 use Rattle.lists.specs.Limits.{largest_map}
 use Rattle.lists.specs.Places.{Place}
@@ -43,12 +42,6 @@ bounds-img-y c = stored (goal.at.bounds-img-y c).Else-number-ne0
 
 pub redo_touched-cells-requires : goal.redo_touched-cells-requires
 redo_touched-cells-requires c = ready-changed _ _ _ _ _ _ _ (granted (goal.at.redo_touched-cells-requires c).Else-number-ne0)
-
-pub shape_of-img : goal.shape_of-img
-shape_of-img c = search rules
-
-pub shape_of-map : goal.shape_of-map
-shape_of-map c = search rules
 
 pub returns : goal.returns
 returns c =

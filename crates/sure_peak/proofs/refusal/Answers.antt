@@ -28,8 +28,8 @@ returns-then-is_outside c =
 
 -- past the parameters
 place : (c : Else-is_outside)
-    →
-    refusal_of c.args.lows c.args.highs c.args.w c.args.h c.args.ring c.args.window c.args.centroid (record { x = c.args.x; y = c.args.y })
+    → refusal_of c.args.lows c.args.highs c.args.w c.args.h c.args.ring c.args.window c.args.centroid
+    (record { x = c.args.x; y = c.args.y })
     ≡ cond (place_outside c.args.w c.args.h (record { x = c.args.x; y = c.args.y })) 14 0
 place c =
     by_place _ _ _ _ _ _ _ _ (image (goal.at.Else-is_outside c).Else-number-ne0) c.if-highs-lows.false

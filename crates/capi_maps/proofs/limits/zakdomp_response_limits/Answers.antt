@@ -1,13 +1,6 @@
 -- `capi_maps::zakdomp_response_limits` meets its contract: the answer of the function that it calls, taken apart. Assumes nothing.
-use borrow.Author.Rules.{rules}
 use Rattle.capi_maps.proofs.Entries.{limits-told}
 use Rattle.capi_maps.proofs.limits.zakdomp_response_limits.Goals as goal
-
-pub shape_of-lows : goal.shape_of-lows
-shape_of-lows c = search rules
-
-pub shape_of-highs : goal.shape_of-highs
-shape_of-highs c = search rules
 
 pub returns : goal.returns
 returns c = limits-told _ _ _ _ _ _ _ _ _ _ _ c.response_limits.ensures c.number_of.ensures

@@ -1,10 +1,6 @@
 -- `capi_maps::zakdomp_response` meets its contract: the answer of the function that it calls, taken apart. Assumes nothing.
-use borrow.Author.Rules.{rules}
 use Rattle.capi_maps.proofs.Entries.{responded}
 use Rattle.capi_maps.proofs.patch.zakdomp_response.Goals as goal
-
-pub shape_of-map : goal.shape_of-map
-shape_of-map c = search rules
 
 pub returns : goal.returns
 returns c =

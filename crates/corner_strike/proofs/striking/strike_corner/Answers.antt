@@ -1,6 +1,5 @@
 -- `corner_strike::strike_corner` meets its contract: refused, or the corner at the place removed. Assumes nothing.
 use native.Mathlib.Omega.{arith}
-use borrow.Author.Rules.{rules}
 use Rattle.corner_list.specs.CornerList.{Slices, slices, places_of}
 use Rattle.corner_strike.specs.Editions.{edition}
 use Rattle.corner_strike.proofs.Judging.{Strikable, strike-granted, strike-refused, strike-struck}
@@ -12,8 +11,7 @@ buffer c = slices c.args.xs.now c.args.ys.now c.args.strengths.now c.args.neighb
 
 -- nothing refuses
 granted : (c : Else-number-ne0)
-    →
-    Strikable (places_of (buffer c)) (edition c.args.count.now c.args.change.now) c.args.place c.args.shown
+    → Strikable (places_of (buffer c)) (edition c.args.count.now c.args.change.now) c.args.place c.args.shown
 granted c =
     strike-granted (buffer c) _ _ _ c.places-places.ensures _ _ c.refusal-number.ensures
     c.if-number-ne0.false
@@ -29,18 +27,6 @@ overflow_sub-left c = omega (arith, (granted (goal.at.overflow_sub-left c).Else-
 
 pub overflow_add-raised : goal.overflow_add-raised
 overflow_add-raised c = omega (arith, (granted (goal.at.overflow_add-raised c).Else-number-ne0).not-largest)
-
-pub shape_of-xs : goal.shape_of-xs
-shape_of-xs c = search rules
-
-pub shape_of-ys : goal.shape_of-ys
-shape_of-ys c = search rules
-
-pub shape_of-strengths : goal.shape_of-strengths
-shape_of-strengths c = search rules
-
-pub shape_of-neighbours : goal.shape_of-neighbours
-shape_of-neighbours c = search rules
 
 pub returns : goal.returns
 returns c =

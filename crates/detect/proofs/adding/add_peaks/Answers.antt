@@ -1,6 +1,6 @@
 -- `detect::adding::add_peaks` meets its contract: the corners of the peaks passed stand in the buffer, and their ties are summed. Assumes
 -- nothing.
-use Rattle.std.proofs.Common.{◌+◌, ◌-◌, ◌<◌, arith, rules}
+use Rattle.std.proofs.Common.{◌+◌, ◌-◌, ◌<◌, arith}
 use Rattle.lists.specs.Limits.{largest_side}
 use Rattle.lists.specs.Places.{Place}
 use Rattle.corner_list.specs.CornerList.{Slices, slices, places_of}
@@ -12,11 +12,6 @@ use Rattle.detect.proofs.Answers.{fits-behind, short-behind, found-short}
 use Rattle.detect.proofs.Writing.{writing-first, writing-place, writing-few, writing-less, writing-next, writing-all}
 use Rattle.detect.proofs.adding.add_peaks.Goals as goal
 use Rattle.detect.proofs.adding.add_peaks.Goals.{Else-y1-p, Start}
-
--- ---- places of the code: the function's start, from the listing; the listing, from the test of the peaks' number and from a turn; the
--- turn, from its peak; the peak, from where the turn goes on; that, from where its corner was put; and this, from what follows
-
--- what the function was given, from where a turn goes on, and its buffer
 
 abbrev buffer : Start → Slices
 buffer c = slices c.args.xs.now c.args.ys.now c.args.strengths.now c.args.neighbours.now
@@ -41,9 +36,6 @@ module _ (c : Else-y1-p) where
 pub are_too_many-requires : goal.are_too_many-requires
 are_too_many-requires c = record { searchable = c.requires; peaks_listed = c.list_peaks-n.ensures }
 
-pub shape_of-table-then-are_too_many : goal.shape_of-table-then-are_too_many
-shape_of-table-then-are_too_many c = search rules
-
 pub returns-then-are_too_many : goal.returns-then-are_too_many
 returns-then-are_too_many c =
     found-short _ _ _ _
@@ -59,9 +51,6 @@ loop-s-init c =
 pub peak_at-p-requires : goal.peak_at-p-requires
 peak_at-p-requires c =
     record { searchable = c.requires; peaks_listed = c.list_peaks-n.ensures; search_start = c.loop-s.invariant.search-start }
-
-pub shape_of-table-then-y1-p : goal.shape_of-table-then-y1-p
-shape_of-table-then-y1-p c = search rules
 
 pub shape_of-xs-then-y1-p : goal.shape_of-xs-then-y1-p
 shape_of-xs-then-y1-p c = growing-xs _ _ _ _ _ _ c.loop-s.invariant.growing

@@ -5,8 +5,6 @@ use Rattle.detect.proofs.Scanning.{next-inside}
 use Rattle.detect.proofs.FirstPeaks.{counting-first, counting-next, counting-few, counting-fit, counting-many}
 use Rattle.detect.proofs.adding.are_too_many.Goals as goal
 
--- ---- places of the code: the function's start, from the second test and from a turn; and the turn, from its peak and from what follows
-
 pub returns-then-places-held : goal.returns-then-places-held
 returns-then-places-held c =
     let more : c.args.places < c.args.held + length (peaks_in c.args.map.now c.args.s) = omega arith in

@@ -7,8 +7,6 @@ use Rattle.detect.proofs.Above.{high-some, high-next, high-few, high-all, high-n
 use Rattle.detect.proofs.adding.cells_above.Goals as goal
 use Rattle.detect.proofs.adding.cells_above.Goals.{In-loop-y}
 
--- the function's start, from the loop
-
 -- ---- in a turn the row at hand is one of the map's, and where it begins is a small number
 module _ (c : In-loop-y) where
   in_rows : c.loop-y.y < c.args.s.h
@@ -16,8 +14,6 @@ module _ (c : In-loop-y) where
 
   small : c.loop-y.y * c.args.s.w ≤ largest_map
   small = row_small _ _ c.requires _ in_rows
-
--- the turn, from where the low cells of its row were counted
 
 pub returns-then-x1-x0 : goal.returns-then-x1-x0
 returns-then-x1-x0 c =

@@ -6,8 +6,7 @@ use Rattle.detect.proofs.adding.cells_inside.Goals.{After-minus-2}
 
 -- what is multiplied, from the second difference
 sides : (c : After-minus-2)
-    →
-    c.minus.result * c.minus-2.result ≡ (c.args.s.w - 2 * c.args.s.border) * (c.args.s.h - 2 * c.args.s.border)
+    → c.minus.result * c.minus-2.result ≡ (c.args.s.w - 2 * c.args.s.border) * (c.args.s.h - 2 * c.args.s.border)
 sides c = ap₂ (λ a b. a * b) c.minus.ensures c.minus-2.ensures
 
 pub overflow_mul-result : goal.overflow_mul-result

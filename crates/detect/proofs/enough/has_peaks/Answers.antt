@@ -12,8 +12,7 @@ returns-then-number-ne0 c = enough-refused _ _ _ _ _ c.refusal-number.ensures c.
 
 -- none of the conditions on the input holds
 none : (c : After-search_of-s)
-    →
-    lowest (conditions (length c.args.map.now) c.args.w c.args.h c.args.ring c.args.window c.args.refine_radius) ≡ 0
+    → lowest (conditions (length c.args.map.now) c.args.w c.args.h c.args.ring c.args.window c.args.refine_radius) ≡ 0
 none c = sym c.refusal-number.ensures ∙ c.if-number-ne0.false
 
 pub search_for-requires : goal.search_for-requires

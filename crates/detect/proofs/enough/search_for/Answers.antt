@@ -4,8 +4,6 @@ use Rattle.detect.proofs.Scanning.{next-inside}
 use Rattle.detect.proofs.Counting.{searching-first, searching-yes, searching-next, searching-no}
 use Rattle.detect.proofs.enough.search_for.Goals as goal
 
--- ---- places of the code: the turn that a peak was found in
-
 pub loop-i-init : goal.loop-i-init
 loop-i-init c = (searching-first _ _, omega arith)
 

@@ -6,8 +6,6 @@ use Rattle.detect.proofs.OtherWindow.{asked-so, counted-more}
 use Rattle.detect.proofs.WindowRows.{positives-are, others-few}
 use Rattle.detect.proofs.neighbors.are_few.Goals as goal
 
--- the function's start, from where the radius is named
-
 pub count_square-requires : goal.count_square-requires
 count_square-requires c =
     let asked = asked-so _ _ _ _ c.with_window.ensures _ c.requires.inside c.requires.searchable

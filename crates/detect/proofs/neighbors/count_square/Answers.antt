@@ -10,8 +10,6 @@ use Rattle.detect.proofs.WindowRows.{count_next, count_fits, count-all}
 use Rattle.detect.proofs.neighbors.count_square.Goals as goal
 use Rattle.detect.proofs.neighbors.count_square.Goals.{After-count_cells-n, At-loop-yy, In-loop-yy}
 
--- ---- places of the code: the function's start, from the loop, what is asked of a cell there, and the turn, from where its row was asked
-
 abbrev test : At-loop-yy → Float → Bool
 test c = is_counted c.args.asked c.args.v
 

@@ -4,8 +4,6 @@ use Rattle.std.proofs.Common.{arith}
 use lib.Ieee.{of_bits}
 use Rattle.detect.proofs.neighbors.has_few.Goals as goal
 
--- the function's start, from where the value is known to be positive
-
 pub are_few-requires : goal.are_few-requires
 unfolding of_bits
 are_few-requires c =

@@ -8,8 +8,6 @@ use Rattle.detect.proofs.WindowRows.{others-none}
 use Rattle.detect.proofs.Ties.{test-alone}
 use Rattle.detect.proofs.neighbors.is_alone.Goals as goal
 
--- the function's start, from where the radius is named
-
 pub returns-then-s-ne2 : goal.returns-then-s-ne2
 returns-then-s-ne2 c = λ e. absurd (false≢true e)
 

@@ -8,8 +8,6 @@ use Rattle.detect.proofs.WindowRows.{larger-here, larger-next, larger-nowhere}
 use Rattle.detect.proofs.neighbors.is_local_max.Goals as goal
 use Rattle.detect.proofs.neighbors.is_local_max.Goals.{In-loop-yy}
 
--- ---- places of the code: the function's start, from the loop, and the turn, from where its row was asked
-
 -- ---- in a turn the row at hand is one of the map's, and where it begins is a small number
 module _ (c : In-loop-yy) where
   in_rows : c.loop-yy.yy < c.args.s.h

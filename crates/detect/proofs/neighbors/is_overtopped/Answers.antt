@@ -10,8 +10,6 @@ use Rattle.detect.proofs.neighbors.is_overtopped.Goals.{Else-s-lt1}
 pub returns-then-s-lt1 : goal.returns-then-s-lt1
 returns-then-s-lt1 c = λ e. absurd (false≢true e)
 
--- the function's start, from where the window has cells
-
 wide : (c : Else-s-lt1) → 1 ≤ c.args.s.window
 wide c = omega arith
 

@@ -5,8 +5,6 @@ use Rattle.detect.proofs.Squares.{square-in, topped}
 use Rattle.detect.proofs.neighbors.is_topped.Goals as goal
 use Rattle.detect.proofs.neighbors.is_topped.Goals.{Else-s-ne2}
 
--- the function's start, from where the window has radius 2
-
 inside : (c : Else-s-ne2) → (c.args.y - 2) * c.args.s.w + (c.args.x - 2) + 4 * c.args.s.w + 5 ≤ length c.args.map.now
 inside c = square-in _ _ _ _ c.requires.searchable c.requires.inside (omega arith)
 

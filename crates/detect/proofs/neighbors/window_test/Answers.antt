@@ -5,8 +5,6 @@ use Rattle.detect.proofs.WindowRows.{equals-are}
 use Rattle.detect.proofs.Ties.{test-top, test-beaten}
 use Rattle.detect.proofs.neighbors.window_test.Goals as goal
 
--- the function's start, from where it is asked whether the cell is alone, and that, from the test whether one is larger
-
 pub returns-then-is_topped : goal.returns-then-is_topped
 returns-then-is_topped c = c.is_topped.ensures c.if-is_topped.true
 

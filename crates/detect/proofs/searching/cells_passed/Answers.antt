@@ -10,12 +10,9 @@ use Rattle.detect.proofs.searching.cells_passed.Goals.{After-mark_of-marks}
 pub loop-i-init : goal.loop-i-init
 loop-i-init c = (omega arith, marked-none _)
 
--- ---- places of the code: the function's start, from a turn of the loop, and the turn, from where the mark is known
-
 -- the marks with that of one cell more
 next : (c : After-mark_of-marks)
-    →
-    Marked (λ k. Passed c.args.map.now c.args.w c.args.t c.args.beside c.args.exact (c.args.at + k)) (c.loop-i.i + 1)
+    → Marked (λ k. Passed c.args.map.now c.args.w c.args.t c.args.beside c.args.exact (c.args.at + k)) (c.loop-i.i + 1)
     (c.loop-i.marks + c.mark_of-marks.result)
 next c =
     marked_next _ c.loop-i.i c.loop-i.marks _ _ _ c.loop-i.invariant.1

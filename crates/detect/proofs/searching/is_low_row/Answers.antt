@@ -7,8 +7,6 @@ use Rattle.detect.proofs.Rows.{low-row}
 use Rattle.detect.proofs.searching.is_low_row.Goals as goal
 use Rattle.detect.proofs.searching.is_low_row.Goals.{Else-minus-y}
 
--- the function's start, from where the map is wide and has the row
-
 -- there the row is one of the map's, and where it begins is a small number
 module _ (c : Else-minus-y) where
   in_rows : c.args.y < c.args.s.h

@@ -8,18 +8,14 @@ use Rattle.detect.proofs.Rows.{low-none, low-fewer, low-more}
 use Rattle.detect.proofs.searching.next_peak.Goals as goal
 use Rattle.detect.proofs.searching.next_peak.Goals.{After-skip-x, Else-x-x1}
 
--- ---- places of the code: the function's start, from the loop; the turn, from where cells were skipped; and that, from the test of a cell
-
 -- where the search stands after the cells that it skips
 after-skip : (c : After-skip-x)
-    →
-    Passed c.args.map.now c.args.s (place c.args.x c.args.y) (place c.skip-x.result c.loop-y.y)
+    → Passed c.args.map.now c.args.s (place c.args.x c.args.y) (place c.skip-x.result c.loop-y.y)
 after-skip c = passed-skip _ _ _ _ _ c.loop-y.invariant.0 _ c.skip-x.ensures
 
 -- at the end of a row
 row_done : (c : Else-x-x1)
-    →
-    Passed c.args.map.now c.args.s (place c.args.x c.args.y) (place c.args.s.border (c.loop-y.y + 1))
+    → Passed c.args.map.now c.args.s (place c.args.x c.args.y) (place c.args.s.border (c.loop-y.y + 1))
 row_done c = passed-row _ _ _ _ _ (after-skip (goal.at.Else-x-x1 c).After-skip-x) (omega arith) (omega arith)
 
 pub returns-then-y1-y : goal.returns-then-y1-y

@@ -8,13 +8,9 @@ use Rattle.detect.proofs.Tested.{tested_low, tested-beaten, tested-few, tested-p
 use Rattle.detect.proofs.searching.peak_test.Goals as goal
 use Rattle.detect.proofs.searching.peak_test.Goals.{After-count_neighbors-neighbours}
 
--- ---- places of the code, each from a later one: the function's start, the value, the test that saves time, the
--- window's, and whether it is beaten
-
 -- what was counted
 neighbours : (c : After-count_neighbors-neighbours)
-    →
-    c.count_neighbors-neighbours.result ≡ neighbours_at c.args.map.now c.args.s (place c.args.x c.args.y)
+    → c.count_neighbors-neighbours.result ≡ neighbours_at c.args.map.now c.args.s (place c.args.x c.args.y)
 neighbours c =
     c.count_neighbors-neighbours.ensures ∙ positives-are _ _ _ _ _ c.requires.searchable c.requires.inside c.value_at-v.ensures
 

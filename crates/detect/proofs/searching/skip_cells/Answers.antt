@@ -5,8 +5,6 @@ use Rattle.detect.proofs.Rows.{skipped-none, skipped-cell}
 use Rattle.detect.proofs.searching.skip_cells.Goals as goal
 use Rattle.detect.proofs.searching.skip_cells.Goals.{In-loop-x}
 
--- the function's start, from a turn of the loop, and the cell of that turn
-
 inside : (c : In-loop-x) →
     Inside c.args.s.w c.args.s.h c.args.s.border (place c.loop-x.x c.args.y)
 inside c =

@@ -9,9 +9,6 @@ use Rattle.detect.proofs.Rows.{below-few, skipped-none, skipped-below, skipped-o
 use Rattle.detect.proofs.searching.skip_runs.Goals as goal
 use Rattle.detect.proofs.searching.skip_runs.Goals.{After-blocks_below-x, After-run_passed-n, Else-x1-x-lt-RUN, In-loop-x}
 
--- ---- places of the code: the function's start, from a turn of the loop; the turn, from where runs were skipped; and that place, from
--- where a run is left
-
 -- the row is one of the map's, and where it begins is a small number
 module _ (c : In-loop-x) where
   in_rows : c.args.y < c.args.s.h
@@ -68,8 +65,7 @@ run_passed-n-requires c =
 
 -- and after the cells of that run that are passed over
 passed : (c : After-run_passed-n)
-    →
-    PlacesSkipped c.args.map.now c.args.s (place c.args.x c.args.y)
+    → PlacesSkipped c.args.map.now c.args.s (place c.args.x c.args.y)
     (place (c.loop-x.x + c.blocks_below-x.result + c.run_passed-n.result) c.args.y)
 passed c =
     skipped-on c.args.map.now c.args.s c.args.x c.args.y _ (after (goal.at.After-run_passed-n c).After-blocks_below-x) _

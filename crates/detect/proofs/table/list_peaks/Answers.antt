@@ -5,8 +5,6 @@ use Rattle.detect.proofs.FirstPeaks.{found-small, listing-first, listing-put, li
 use Rattle.detect.proofs.table.list_peaks.Goals as goal
 use Rattle.detect.proofs.table.list_peaks.Goals.{After-number_of}
 
--- ---- places of the code: the turn that a number was made in, and the function's start
-
 -- the table is as long as it was
 long : (c : After-number_of)
     → length (set c.loop-n.table c.loop-n.n c.number_of.result) ≡ length c.args.table.now

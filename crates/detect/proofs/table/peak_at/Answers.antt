@@ -3,8 +3,6 @@ use Rattle.std.proofs.Common.{arith}
 use Rattle.detect.proofs.FirstPeaks.{next-taken, next-searched}
 use Rattle.detect.proofs.table.peak_at.Goals as goal
 
--- the function's start, from where the peak is listed
-
 pub returns-then-i-n : goal.returns-then-i-n
 returns-then-i-n c =
     next-taken _ _ _ _ _ _ c.requires.peaks_listed c.requires.search_start c.if-i-n.true _ c.spot_of.ensures

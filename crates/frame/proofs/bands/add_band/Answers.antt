@@ -44,21 +44,6 @@ slice_bounds-chess_response_u8_patch-end c = band-end _ _ _ _ _ _ c.requires.1 c
 pub slice_bounds-add_row_corners-end : goal.slice_bounds-add_row_corners-end
 slice_bounds-add_row_corners-end c = search rules
 
-pub shape_of-map : goal.shape_of-map
-shape_of-map c = search rules
-
-pub shape_of-xs : goal.shape_of-xs
-shape_of-xs c = search rules
-
-pub shape_of-ys : goal.shape_of-ys
-shape_of-ys c = search rules
-
-pub shape_of-strengths : goal.shape_of-strengths
-shape_of-strengths c = search rules
-
-pub shape_of-neighbours : goal.shape_of-neighbours
-shape_of-neighbours c = search rules
-
 pub returns : goal.returns
 returns c =
     let held = band-held c.args.p c.args.img.now _ _ _ _ c.requires.1 c.args.map.now c.requires.0 _ _

@@ -3,7 +3,6 @@
 use Prim.Native.Nat.{◌<◌}
 use native.Mathlib.Omega.{arith}
 use mathlib.Core.Path.{refl}
-use borrow.Author.Rules.{rules}
 use Rattle.frame.specs.Internal.{Band}
 use Rattle.frame.proofs.InBands.{some-sides, rows_none, band-next, bands-none, bands-more, bands-full, bands-all}
 use Rattle.frame.proofs.InBands.{bands-tied}
@@ -19,21 +18,6 @@ band : (c : After-lesser-e) →
     Band c.args.w c.args.h c.loop-j.j c.lesser-e.result
 band c = band-next _ _ _ _ (sides (goal.at.After-lesser-e c).At-loop-j).0 c.loop-j-test.true c.lesser-e.ensures
 
-pub shape_of-map-then-img-le-ONE_MAP : goal.shape_of-map-then-img-le-ONE_MAP
-shape_of-map-then-img-le-ONE_MAP c = search rules
-
-pub shape_of-cx-then-img-le-ONE_MAP : goal.shape_of-cx-then-img-le-ONE_MAP
-shape_of-cx-then-img-le-ONE_MAP c = search rules
-
-pub shape_of-cy-then-img-le-ONE_MAP : goal.shape_of-cy-then-img-le-ONE_MAP
-shape_of-cy-then-img-le-ONE_MAP c = search rules
-
-pub shape_of-cs-then-img-le-ONE_MAP : goal.shape_of-cs-then-img-le-ONE_MAP
-shape_of-cs-then-img-le-ONE_MAP c = search rules
-
-pub shape_of-cn-then-img-le-ONE_MAP : goal.shape_of-cn-then-img-le-ONE_MAP
-shape_of-cn-then-img-le-ONE_MAP c = search rules
-
 pub loop-j-init : goal.loop-j-init
 loop-j-init c =
     (omega arith, refl, refl, refl, refl, refl, rows_none _ _ _, bands-none c.args.p c.args.img.now _ _ c.args.exact _)
@@ -47,21 +31,6 @@ add_band-f-requires c = (
   band (goal.at.add_band-f-requires c).After-lesser-e,
   c.loop-j.invariant.6,
 )
-
-pub shape_of-map-in_default : goal.shape_of-map-in_default
-shape_of-map-in_default c = search rules
-
-pub shape_of-cx-in_default : goal.shape_of-cx-in_default
-shape_of-cx-in_default c = search rules
-
-pub shape_of-cy-in_default : goal.shape_of-cy-in_default
-shape_of-cy-in_default c = search rules
-
-pub shape_of-cs-in_default : goal.shape_of-cs-in_default
-shape_of-cs-in_default c = search rules
-
-pub shape_of-cn-in_default : goal.shape_of-cn-in_default
-shape_of-cn-in_default c = search rules
 
 pub returns-in_default : goal.returns-in_default
 returns-in_default c =
@@ -109,21 +78,6 @@ loop-j-preserved c =
       c.add_band-f.ensures.1,
       more,
     )
-
-pub shape_of-map : goal.shape_of-map
-shape_of-map c = search rules
-
-pub shape_of-cx : goal.shape_of-cx
-shape_of-cx c = search rules
-
-pub shape_of-cy : goal.shape_of-cy
-shape_of-cy c = search rules
-
-pub shape_of-cs : goal.shape_of-cs
-shape_of-cs c = search rules
-
-pub shape_of-cn : goal.shape_of-cn
-shape_of-cn c = search rules
 
 pub returns : goal.returns
 returns c =

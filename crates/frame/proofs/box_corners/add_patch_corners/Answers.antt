@@ -1,11 +1,7 @@
 -- `frame::box_corners::add_patch_corners` meets its contract, by the laws of `Patches`. Assumes nothing.
-use borrow.Author.Rules.{rules}
 use native.Mathlib.Omega.{arith}
 use Rattle.frame.proofs.Patches.{never-short, map-small, map-within, map-length, box-adds}
 use Rattle.frame.proofs.box_corners.add_patch_corners.Goals as goal
-
-pub shape_of-map-in_default : goal.shape_of-map-in_default
-shape_of-map-in_default c = search rules
 
 pub returns-in_default : goal.returns-in_default
 returns-in_default c =
@@ -25,21 +21,6 @@ pub slice_bounds-add_map_corners-end-2 : goal.slice_bounds-add_map_corners-end-2
 slice_bounds-add_map_corners-end-2 c =
     map-length _ _ _ _ _ _ _ _ _ c.requires _ _ _ c.inner_patch-m.ensures _ _
     c.in-Cells.is
-
-pub shape_of-map : goal.shape_of-map
-shape_of-map c = search rules
-
-pub shape_of-xs : goal.shape_of-xs
-shape_of-xs c = search rules
-
-pub shape_of-ys : goal.shape_of-ys
-shape_of-ys c = search rules
-
-pub shape_of-strengths : goal.shape_of-strengths
-shape_of-strengths c = search rules
-
-pub shape_of-neighbours : goal.shape_of-neighbours
-shape_of-neighbours c = search rules
 
 pub returns : goal.returns
 returns c =

@@ -12,21 +12,6 @@ use Rattle.frame.proofs.Adding.{adds-held, turn-none, turn_more, turn-full, turn
 use Rattle.frame.proofs.Levels.{found-whole, found-boxes}
 use Rattle.frame.proofs.search.add_found.Goals as goal
 
-pub shape_of-map-then-n-eq1 : goal.shape_of-map-then-n-eq1
-shape_of-map-then-n-eq1 c = search rules
-
-pub shape_of-cx-then-n-eq1 : goal.shape_of-cx-then-n-eq1
-shape_of-cx-then-n-eq1 c = search rules
-
-pub shape_of-cy-then-n-eq1 : goal.shape_of-cy-then-n-eq1
-shape_of-cy-then-n-eq1 c = search rules
-
-pub shape_of-cs-then-n-eq1 : goal.shape_of-cs-then-n-eq1
-shape_of-cs-then-n-eq1 c = search rules
-
-pub shape_of-cn-then-n-eq1 : goal.shape_of-cn-then-n-eq1
-shape_of-cn-then-n-eq1 c = search rules
-
 pub returns-then-n-eq1 : goal.returns-then-n-eq1
 returns-then-n-eq1 c =
     found-whole (choice_of c.args.p c.args.exact) _ _ _ _ _ c.if-n-eq1.true _ _ _ _
@@ -41,21 +26,6 @@ add_patch-f-requires c = (
   adds-held _ _ _ _ _ _ c.loop-i.invariant.6,
   omega (arith, c.minus-k.ensures, c.requires.n_le_most_levels.0),
 )
-
-pub shape_of-map-in_default : goal.shape_of-map-in_default
-shape_of-map-in_default c = search rules
-
-pub shape_of-cx-in_default : goal.shape_of-cx-in_default
-shape_of-cx-in_default c = search rules
-
-pub shape_of-cy-in_default : goal.shape_of-cy-in_default
-shape_of-cy-in_default c = search rules
-
-pub shape_of-cs-in_default : goal.shape_of-cs-in_default
-shape_of-cs-in_default c = search rules
-
-pub shape_of-cn-in_default : goal.shape_of-cn-in_default
-shape_of-cn-in_default c = search rules
 
 pub returns-in_default : goal.returns-in_default
 returns-in_default c =
@@ -90,21 +60,6 @@ loop-i-preserved c =
     let more = turn_more _ _ _ _ _ _ _ _ c.loop-i.invariant.6 _ c.corner_at-seed.ensures _ _
     c.add_patch-f.ensures _ _ c.in-Added.is in
     (omega arith, search rules, search rules, search rules, search rules, search rules, more)
-
-pub shape_of-map : goal.shape_of-map
-shape_of-map c = search rules
-
-pub shape_of-cx : goal.shape_of-cx
-shape_of-cx c = search rules
-
-pub shape_of-cy : goal.shape_of-cy
-shape_of-cy c = search rules
-
-pub shape_of-cs : goal.shape_of-cs
-shape_of-cs c = search rules
-
-pub shape_of-cn : goal.shape_of-cn
-shape_of-cn c = search rules
 
 pub returns : goal.returns
 returns c =

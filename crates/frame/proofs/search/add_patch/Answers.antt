@@ -41,20 +41,11 @@ shift-requires-2 c =
     c.added-m.ensures in
     omega (arith, fit, c.add_patch_corners-f.auto)
 
-pub shape_of-map : goal.shape_of-map
-shape_of-map c = search rules
-
 pub shape_of-xs : goal.shape_of-xs
 shape_of-xs c = omega (arith, c.shift.auto, c.add_patch_corners-f.auto)
 
 pub shape_of-ys : goal.shape_of-ys
 shape_of-ys c = omega (arith, c.shift-2.auto, c.add_patch_corners-f.auto)
-
-pub shape_of-strengths : goal.shape_of-strengths
-shape_of-strengths c = search rules
-
-pub shape_of-neighbours : goal.shape_of-neighbours
-shape_of-neighbours c = search rules
 
 pub returns : goal.returns
 returns c =

@@ -1,5 +1,4 @@
 -- `frame::search::add_seeds` meets its contract, by the laws of `Levels`. Assumes nothing.
-use borrow.Author.Rules.{rules}
 use native.Mathlib.Omega.{arith}
 use mathlib.Core.Path.{refl}
 use Rattle.patch_corners.specs.OneMap.{choice_of}
@@ -19,21 +18,6 @@ pub add_image_corners-requires : goal.add_image_corners-requires
 add_image_corners-requires c =
     last-ready _ _ _ _ _ _ c.requires.built_levels c.if-n-lt2.false _ refl _ c.requires.frame_checked _
     c.level-last.ensures _ _ refl refl
-
-pub shape_of-map : goal.shape_of-map
-shape_of-map c = search rules
-
-pub shape_of-sx : goal.shape_of-sx
-shape_of-sx c = search rules
-
-pub shape_of-sy : goal.shape_of-sy
-shape_of-sy c = search rules
-
-pub shape_of-ss : goal.shape_of-ss
-shape_of-ss c = search rules
-
-pub shape_of-sn : goal.shape_of-sn
-shape_of-sn c = search rules
 
 pub returns : goal.returns
 returns c =

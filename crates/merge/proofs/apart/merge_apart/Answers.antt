@@ -9,8 +9,7 @@ use Rattle.merge.proofs.apart.merge_apart.Goals.{After-refusal_apart-number}
 
 -- the number, by the places of the separate buffer
 judged : (c : After-refusal_apart-number)
-    →
-    c.refusal_apart-number.result ≡ refusal_apart c.args.radius
+    → c.refusal_apart-number.result ≡ refusal_apart c.args.radius
     (places_of (slices c.args.mx.now c.args.my.now c.args.ms.now c.args.mn.now)) c.args.count
     (slices c.args.xs.now c.args.ys.now c.args.strengths.now c.args.neighbours.now)
 judged c =

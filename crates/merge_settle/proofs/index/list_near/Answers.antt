@@ -1,14 +1,10 @@
 -- `merge_settle::index::list_near` meets its contract. Assumes nothing.
-use borrow.Author.Rules.{rules}
 use Prim.Native.Nat.{ℕ, ◌+◌}
 use mathlib.Core.Path.{refl, sym, ap, ◌∙◌}
 use mathlib.Core.Logic.{inl, inr}
 use borrow.Author.Tests.{leb-false}
 use lib.Dec.{leb}
 use Rattle.merge_settle.proofs.index.list_near.Goals as goal
-
-pub shape_of-table : goal.shape_of-table
-shape_of-table c = search rules
 
 pub returns-then-reaches : goal.returns-then-reaches
 returns-then-reaches c = inr c.list_place.ensures

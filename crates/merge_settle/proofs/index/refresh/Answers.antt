@@ -6,6 +6,3 @@ use Rattle.merge_settle.proofs.index.refresh.Goals as goal
 pub list_kept-requires : goal.list_kept-requires
 list_kept-requires c =
     let some = some-floats c.args.table.now c.requires.some in search rules
-
-pub shape_of-table : goal.shape_of-table
-shape_of-table c = search rules

@@ -11,8 +11,7 @@ use Rattle.merge_settle.proofs.search.place_for.Goals.{After-find_joined-i}
 
 -- what was found, of corners
 found : (c : After-find_joined-i)
-    →
-    IsFirst (λ m. joins c.args.g c.args.c (corner_at (slices c.args.xs.now c.args.ys.now c.args.strengths.now c.args.neighbours.now) m))
+    → IsFirst (λ m. joins c.args.g c.args.c (corner_at (slices c.args.xs.now c.args.ys.now c.args.strengths.now c.args.neighbours.now) m))
     c.args.k c.find_joined-i.result
 found c =
     subst (λ (p : Position). IsFirst (joins_at c.args.g p c.args.xs.now c.args.ys.now) c.args.k c.find_joined-i.result)

@@ -10,8 +10,5 @@ loop-i-init c = (search rules, prefix-none _ _ _ refl)
 pub loop-i-preserved : goal.loop-i-preserved
 loop-i-preserved c = (search rules, prefix-set _ _ _ _ _ c.loop-i.invariant.1 c.loop-i-test.true refl)
 
-pub shape_of-out : goal.shape_of-out
-shape_of-out c = search rules
-
 pub returns : goal.returns
 returns c = prefix-all _ _ _ _ _ c.loop-i.invariant.1 (search rules) refl

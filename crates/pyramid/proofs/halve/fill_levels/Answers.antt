@@ -9,8 +9,6 @@ use Rattle.pyramid.proofs.halve.fill_levels.Goals.{In-loop-k}
 pub loop-k-init : goal.loop-k-init
 loop-k-init c = reach-base _ _ _ _ _
 
--- the entry
-
 pub halve-requires : goal.halve-requires
 halve-requires c =
     level-ok _ _ _ _ _ _ _ _ _ _ _ c.requires.0 c.requires.1 c.loop-k.invariant c.loop-k-test.true

@@ -13,8 +13,6 @@ use Rattle.pyramid.proofs.halve.halve.Goals.{In-loop-y}
 pub loop-y-init : goal.loop-y-init
 loop-y-init c = (refl, search rules, omega arith, omega arith, level-none _ _ _ _ _ _)
 
--- the entry
-
 -- row y ends within the level, and within the new one
 below : (c : In-loop-y)
     → c.loop-y.a + 2 * c.args.w ≤ c.args.from + c.args.w * c.args.h
@@ -61,9 +59,6 @@ loop-y-preserved c = (
       c.loop-y.invariant.4
       c.halve_rows.ensures,
 )
-
-pub shape_of-levels : goal.shape_of-levels
-shape_of-levels c = search rules
 
 pub returns : goal.returns
 returns c = let e : c.loop-y.y ≡ c.args.h / 2 = omega arith in rw e at c.loop-y.invariant.4

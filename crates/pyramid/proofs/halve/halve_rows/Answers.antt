@@ -12,8 +12,6 @@ use Rattle.pyramid.proofs.halve.halve_rows.Goals.{After-lesser-m}
 pub loop-x-init : goal.loop-x-init
 loop-x-init c = (refl, search rules, row-none _ _ _ _ _ _)
 
--- the entry
-
 -- the run ends within the row
 ends : (c : After-lesser-m) → c.loop-x.x + c.lesser-m.result ≤ c.args.w / 2
 ends c = omega (arith, c.lesser-m.ensures, c.loop-x-test.true)
@@ -51,9 +49,6 @@ loop-x-preserved c = (
   ends (goal.at.loop-x-preserved c).After-lesser-m,
   row_put _ _ _ _ _ _ c.requires _ _ _ _ c.loop-x.invariant.2 (ends (goal.at.loop-x-preserved c).After-lesser-m) c.halve_run.ensures,
 )
-
-pub shape_of-levels : goal.shape_of-levels
-shape_of-levels c = search rules
 
 pub returns : goal.returns
 returns c = let e : c.loop-x.x ≡ c.args.w / 2 = omega arith in rw e at c.loop-x.invariant.2

@@ -3,7 +3,6 @@ use Prim.Native.Nat.{◌+◌, ◌-◌, ◌^◌, ◌<◌}
 use native.Mathlib.Omega.{arith}
 use mathlib.Core.Path.{◌≡◌, refl}
 use lib.ListN.{length, take, drop}
-use borrow.Author.Rules.{rules}
 use Rattle.lists.proofs.Tab.{part_length}
 use Rattle.pyramid.specs.Internal.{holder_of}
 use Rattle.pyramid.proofs.Halving.{holder-short, run-put}
@@ -28,9 +27,6 @@ part c = part_length c.args.at c.args.n c.args.levels.now c.requires.fits
 pub copy-requires : goal.copy-requires
 copy-requires c =
     rw (part (goal.at.copy-requires c).Start) c.requires.few
-
-pub shape_of-levels : goal.shape_of-levels
-shape_of-levels c = search rules
 
 pub returns : goal.returns
 returns c =

@@ -12,8 +12,5 @@ pub loop-i-preserved : goal.loop-i-preserved
 unfolding of_bits
 loop-i-preserved c = (search rules, written-set _ _ _ _ _ _ _ c.loop-i.invariant.1 (search rules) refl)
 
-pub shape_of-map : goal.shape_of-map
-shape_of-map c = search rules
-
 pub returns : goal.returns
 returns c = written-end _ _ _ _ _ _ _ c.loop-i.invariant.1 (search rules)

@@ -38,8 +38,5 @@ loop-j-preserved c = (
   c.clear.ensures.long ∙ c.loop-j.invariant.3,
 )
 
-pub shape_of-map : goal.shape_of-map
-shape_of-map c = search rules
-
 pub returns : goal.returns
 returns c = cleared-end _ _ _ _ _ _ _ _ c.loop-j.invariant.2 (search rules)

@@ -2,7 +2,6 @@
 use mathlib.Core.Path.{◌∙◌}
 use native.Mathlib.Nat.{le_refl}
 use native.Mathlib.Omega.{arith}
-use borrow.Author.Rules.{rules}
 use lib.ListN.{length}
 use Rattle.response.specs.declared.rows.Field.{Field}
 use Rattle.response.specs.Internal.{Placed}
@@ -59,9 +58,6 @@ clear_part-requires-4 c =
     let long = cleared-long c.clear_part-3.ensures ∙ second ∙ first ∙ c.inner.ensures.long in
     let fit = rows_fit _ _ _ _ (placed (goal.at.clear_part-requires-4 c).Start) long c.args.ph (le_refl _) in
     (omega arith, le_refl _, c.reach-rows.ensures.ends, fit.0, fit.1)
-
-pub shape_of-map : goal.shape_of-map
-shape_of-map c = search rules
 
 pub returns : goal.returns
 returns c =

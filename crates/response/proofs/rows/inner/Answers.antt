@@ -2,7 +2,6 @@
 use mathlib.Core.Path.{◌≡◌}
 use Prim.Native.Nat.{ℕ, ◌-◌, ◌<◌, ◌≤◌, min, max}
 use native.Mathlib.Omega.{arith}
-use borrow.Author.Rules.{rules}
 use Rattle.float32.specs.Float32.{zero}
 use Rattle.response.specs.Internal.{small_side}
 use Rattle.response.proofs.Filling.{filled_none, filled-to}
@@ -41,9 +40,6 @@ single-requires c =
           (omega (arith, each, c.requires.3)),
     )
 
-pub shape_of-map-then-most-eq1 : goal.shape_of-map-then-most-eq1
-shape_of-map-then-most-eq1 c = search rules
-
 pub returns-then-most-eq1 : goal.returns-then-most-eq1
 returns-then-most-eq1 c =
     let each = only (goal.at.returns-then-most-eq1 c).Then-most-eq1 in
@@ -62,12 +58,6 @@ small-requires c =
       n_nonzero = (each);
     }
 
-pub shape_of-map-then-most-le-SMALL_SIDE : goal.shape_of-map-then-most-le-SMALL_SIDE
-shape_of-map-then-most-le-SMALL_SIDE c = search rules
-
 pub returns-then-most-le-SMALL_SIDE : goal.returns-then-most-le-SMALL_SIDE
 returns-then-most-le-SMALL_SIDE c =
     filled-to zero _ _ _ _ _ _ _ _ _ _ _ (omega (arith, c.requires.2)) (omega (arith, c.requires.3)) c.small.ensures
-
-pub shape_of-map : goal.shape_of-map
-shape_of-map c = search rules

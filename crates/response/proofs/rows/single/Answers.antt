@@ -1,7 +1,6 @@
 -- `response::rows::single` meets its contract. Assumes nothing.
 use Prim.Native.Nat.{◌+◌, ◌*◌, ◌<◌}
 use native.Mathlib.Omega.{arith}
-use borrow.Author.Rules.{rules}
 use lib.ListN.{length}
 use Rattle.lists.specs.Limits.{largest_map}
 use Rattle.ring.proofs.Table.{ring_of-is}
@@ -42,9 +41,6 @@ offset_bounds-map-j c = omega (arith, place (goal.at.offset_bounds-map-j c).Star
 
 pub bounds-map-j : goal.bounds-map-j
 bounds-map-j c = (place (goal.at.bounds-map-j c).Start).0
-
-pub shape_of-map : goal.shape_of-map
-shape_of-map c = search rules
 
 pub returns : goal.returns
 returns c =

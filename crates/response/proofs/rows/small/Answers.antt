@@ -1,7 +1,6 @@
 -- `response::rows::small` meets its contract: it is that of one block. Assumes nothing.
 use mathlib.Core.Path.{refl}
 use native.Mathlib.Omega.{arith}
-use borrow.Author.Rules.{rules}
 use Rattle.response.specs.Internal.{small_tile}
 use Rattle.response.proofs.Filling.{bytes-none}
 use Rattle.response.proofs.rows.small.Goals as goal
@@ -19,9 +18,6 @@ block-requires c =
         omega (arith, c.requires.n_nonzero.1),
       ));
     }
-
-pub shape_of-map : goal.shape_of-map
-shape_of-map c = search rules
 
 pub returns : goal.returns
 returns c = c.block.ensures.0

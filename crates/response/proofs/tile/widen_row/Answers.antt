@@ -13,8 +13,5 @@ loop-i-preserved c =
     let bytes = bytes-set c.loop-i.tile (c.args.at + c.loop-i.i) c.wide.result c.loop-i.invariant.2 c.wide.ensures.1 in
     (search rules, next, bytes)
 
-pub shape_of-tile : goal.shape_of-tile
-shape_of-tile c = search rules
-
 pub returns : goal.returns
 returns c = (written-end _ _ _ _ _ _ _ c.loop-i.invariant.1 (search rules), c.loop-i.invariant.2)

@@ -12,8 +12,7 @@ loop-k-init c = (search rules, added_none _ _)
 
 -- what a turn adds
 term : (c : After-apart-sr)
-    →
-    (c.apart-sr.result ≡ sr_term c.args.p c.args.q c.loop-k.k) × (c.apart-sr.result ≤ 510)
+    → (c.apart-sr.result ≡ sr_term c.args.p c.args.q c.loop-k.k) × (c.apart-sr.result ≤ 510)
 term c =
     sr-term c.args.p c.args.q c.loop-k.k _ _ _ _ _ c.pair-a.ensures.0 c.pair-b.ensures.0 c.pair-c.ensures.0
     c.pair-d.ensures.0 c.pair-a.ensures.1 c.pair-b.ensures.1 c.apart-sr.ensures

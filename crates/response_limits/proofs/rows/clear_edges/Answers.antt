@@ -5,9 +5,6 @@ use Rattle.response_limits.proofs.Edges.{edges-cleared}
 use borrow.Author.Rules.{rules}
 use Rattle.response_limits.proofs.rows.clear_edges.Goals as goal
 
-pub shape_of-out : goal.shape_of-out
-shape_of-out c = search rules
-
 pub returns : goal.returns
 returns c =
     edges-cleared _ _ _ _ _ c.requires.0 c.requires.1 c.clear.ensures

@@ -61,12 +61,6 @@ loop-y-preserved c = (
   search rules,
 )
 
-pub shape_of-lows : goal.shape_of-lows
-shape_of-lows c = search rules
-
-pub shape_of-highs : goal.shape_of-highs
-shape_of-highs c = search rules
-
 pub returns : goal.returns
 returns c =
     record {

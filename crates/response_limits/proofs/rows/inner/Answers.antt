@@ -49,12 +49,6 @@ loop-i-preserved c = (
       (highs-shifted _ _ _ _ _ _ _ _ _ _ c.run.ensures.highs_are) (highs-long (goal.at.loop-i-preserved c).After-lesser-e),
 )
 
-pub shape_of-lows : goal.shape_of-lows
-shape_of-lows c = search rules
-
-pub shape_of-highs : goal.shape_of-highs
-shape_of-highs c = search rules
-
 pub returns : goal.returns
 returns c =
     record {

@@ -8,7 +8,6 @@ use lib.IntN.{ℤ}
 use Rattle.lists.proofs.Tab.{part-length-to}
 use Rattle.response_limits.specs.Internal.{EdgesCleared}
 use Rattle.response_limits.proofs.Edges.{span-inner, lows-put, highs-put}
-use borrow.Author.Rules.{rules}
 use Rattle.response_limits.proofs.rows.row.Goals as goal
 use Rattle.response_limits.proofs.rows.row.Goals.{After-clear_edges-2}
 
@@ -46,12 +45,6 @@ inner-requires c =
       highs_len = (high ∙ sym low, rw low (omega (arith, c.reach-s.ensures.ordered, c.reach-s.ensures.ends)));
       by_index = λ i l. span-inner _ _ _ _ _ _ _ c.reach-s.ensures i (omega (arith, low));
     }
-
-pub shape_of-lows : goal.shape_of-lows
-shape_of-lows c = search rules
-
-pub shape_of-highs : goal.shape_of-highs
-shape_of-highs c = search rules
 
 pub returns : goal.returns
 returns c = record {

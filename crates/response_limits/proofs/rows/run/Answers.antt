@@ -50,12 +50,6 @@ loop-i-preserved c =
           (stored _ _ c.difference-in-loop-i.type_inv c.difference-in-loop-i.ensures)),
     )
 
-pub shape_of-lows : goal.shape_of-lows
-shape_of-lows c = search rules
-
-pub shape_of-highs : goal.shape_of-highs
-shape_of-highs c = search rules
-
 pub returns : goal.returns
 returns c =
     record {

@@ -1,6 +1,5 @@
 -- `retention::list::put_refusal` meets its contract: the listing's own text, copied. Assumes nothing.
 use native.Mathlib.Omega.{arith}
-use borrow.Author.Rules.{rules}
 use Rattle.retention.proofs.Texts.{text-short, part-holds, copied}
 use Rattle.retention.proofs.list.put_refusal.Goals as goal
 
@@ -13,9 +12,6 @@ slice_bounds-copy_from_slice-end c = omega (arith, text-short _ c.requires.0 _ _
 pub copy_from_slice-requires : goal.copy_from_slice-requires
 copy_from_slice-requires c =
     part-holds _ c.requires.0 _ _ _ c.write_refusal-n.ensures _ _ c.requires.1
-
-pub shape_of-out : goal.shape_of-out
-shape_of-out c = search rules
 
 pub returns : goal.returns
 returns c =

@@ -3,7 +3,6 @@ use mathlib.Core.Path.{◌≡◌, sym, ◌∙◌}
 use mathlib.Core.Bool.{true}
 use Prim.Native.Nat.{ℕ, ◌+◌, ◌*◌, ◌-◌, ◌<◌, ◌≤◌}
 use native.Mathlib.Omega.{arith}
-use borrow.Author.Rules.{rules}
 use borrow.Author.Tests.{not-true, not-false}
 use lib.ListN.{length}
 use Rattle.lists.specs.Limits.{largest_side, largest_map, largest_ring}
@@ -88,9 +87,6 @@ offset_bounds-map-a c = omega (arith, near (goal.at.offset_bounds-map-a c).Else-
 
 pub slice_bounds-chess_response_u8_patch-end : goal.slice_bounds-chess_response_u8_patch-end
 slice_bounds-chess_response_u8_patch-end c = omega (arith, found (goal.at.slice_bounds-chess_response_u8_patch-end c).Else-not-is_fit-2)
-
-pub shape_of-map : goal.shape_of-map
-shape_of-map c = search rules
 
 pub returns : goal.returns
 returns c =

@@ -11,7 +11,6 @@ use Rattle.retouch.proofs.cells.sample_place.Goals as goal
 use Rattle.retouch.proofs.cells.sample_place.Goals.{After-struct_known-1}
 
 -- the ring's table, as the code holds it
-
 table : (c : After-struct_known-1) → c.ring_offsets-t.result ≡ offsets_of (ring_of c.args.ring)
 table c = c.ring_offsets-t.ensures
 

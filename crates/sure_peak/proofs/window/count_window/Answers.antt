@@ -19,8 +19,6 @@ use Rattle.sure_peak.proofs.WindowRows.{centre-off, centre-not}
 use Rattle.sure_peak.proofs.window.count_window.Goals as goal
 use Rattle.sure_peak.proofs.window.count_window.Goals.{After-count_above-n, After-t26-1, In-loop-yy}
 
--- ---- places of the code: the function's start, from the loop, and the turn, from where its row was counted
-
 -- in a turn the row at hand begins at a small number
 small : (c : In-loop-yy) → c.loop-yy.yy * c.args.w ≤ largest_map
 small c = row_small _ _ _ _ _ c.requires (to_z w32 (of_z w32 c.args.v)) _ c.loop-yy-test.true
