@@ -2,13 +2,16 @@
 use Prim.Native.Nat.{ℕ, ◌*◌}
 use mathlib.Core.Path.{◌≡◌, sym, ◌∙◌}
 use mathlib.Core.Bool.{Bool, true, false, cond}
-use mathlib.Core.List.{[]}
+use mathlib.Core.List.{[], ◌∷◌}
+use Rattle.std.specs.Prelude.{Ok, Err}
 use borrow.Author.Tests.{le-ltb, eq-eqb}
 use Rattle.lists.specs.Limits.{largest_side}
-use Rattle.lists.specs.Refusals.{is_large, is_misfit}
+use Rattle.lists.specs.declared.refusal.Refusal.{Refusal}
+use Rattle.lists.specs.Refusals.{is_large, is_misfit, judged, verdict}
 use Rattle.lists.specs.Internal.{Sized}
 use Rattle.lists.proofs.Refusals.{sized-none}
-use Rattle.image_size.specs.ImageSize.{refusal_of}
+use Rattle.lists.proofs.Judged.{judged-ok, judged-first}
+use Rattle.image_size.specs.ImageSize.{conditions, refusal_of}
 
 module _ (size w h : ℕ) where
   -- the number of a table that begins with the two, as `lowest` computes it from that of its rest
@@ -16,19 +19,15 @@ module _ (size w h : ℕ) where
   before rest = cond (is_large w h) 1 (cond (is_misfit size w h) 2 rest)
 
   -- a refusal is the whole table's
-  pub refused : (n rest : ℕ) → n ≡ refusal_of size w h → (n ≡ 0 → ⊥) → n ≡ before rest
+  pub refused : {A : Type 0} (due : A) (e : Refusal) (rest : ℕ) → Err e ≡ verdict (refusal_of size w h)
+      → Err e ≡ judged (before rest) due
   unfolding refusal_of
-  refused n rest = go (is_large w h) (is_misfit size w h)
-    where
-      go : (large misfit : Bool) → n ≡ cond large 1 (cond misfit 2 0) → (n ≡ 0 → ⊥) → n ≡ cond large 1 (cond misfit 2 rest)
-      go true misfit e z = e
-      go false true e z = e
-      go false false e z = absurd (z e)
+  refused due e rest p = judged-first (conditions size w h) ((true, rest) ∷ []) tt due e p
 
   -- no refusal: an image or a map of w by h
-  pub sized : (n : ℕ) → n ≡ refusal_of size w h → n ≡ 0 → Sized size w h
+  pub sized : (v : Unit {0}) → Ok v ≡ verdict (refusal_of size w h) → Sized size w h
   unfolding refusal_of
-  sized n e z = (sized-none size w h [] (sym e ∙ z)).0
+  sized v p = (sized-none size w h [] (judged-ok (refusal_of size w h) tt v p).0).0
 
   -- of which the rest of the table decides
   pub passed : (rest : ℕ) → Sized size w h → before rest ≡ rest

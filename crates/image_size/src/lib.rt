@@ -2,8 +2,10 @@
 #![tactic(auto)]
 
 ghost use Rattle.std.specs.Prelude.{◌≡◌};
-ghost use Rattle.lists.specs.Refusals.{is_large};
+ghost use Rattle.lists.specs.Refusals.{is_large, verdict};
 ghost use Rattle.image_size.specs.ImageSize.{refusal_of};
+
+use lists::Refusal;
 
 // Whether a side is above the largest.
 pub fn is_large(w: usize, h: usize) -> bool
@@ -15,16 +17,16 @@ pub fn is_large(w: usize, h: usize) -> bool
     lists::LARGEST_SIDE < h
 }
 
-// Why an image or a map of w by h with `size` elements is refused: 1 for a side above the largest, 2 for a size that is
-// not w * h, 0 for neither. The product is computed only for sides up to the largest.
-pub fn refusal(size: usize, w: usize, h: usize) -> u8
-    ensures { result ≡ refusal_of size w h }
+// Why an image or a map of w by h with `size` elements is refused: for a side above the largest, or for a size that is
+// not w * h. The product is computed only for sides up to the largest.
+pub fn refusal(size: usize, w: usize, h: usize) -> Result<(), Refusal>
+    ensures { result ≡ verdict (refusal_of size w h) }
 {
     if is_large(w, h) {
-        return 1;
+        return Err(Refusal::SideTooLarge);
     }
     if size != w * h {
-        return 2;
+        return Err(Refusal::WrongLength);
     }
-    0
+    Ok(())
 }

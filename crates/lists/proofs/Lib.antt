@@ -4,6 +4,7 @@ pub mod Places
 pub mod Members
 pub mod Buffer
 pub mod Refusals
+pub mod Judged
 pub mod Answers
 pub mod Scan
 pub mod Parts

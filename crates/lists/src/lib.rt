@@ -2,6 +2,10 @@
 // the limits of the rules, as specs/Limits.antt has them.
 #![tactic(auto)]
 
+mod refusal; // Refusal: why a call is refused
+
+pub use refusal::{Refusal, number_of};
+
 // The largest side of an image or a map.
 pub const LARGEST_SIDE: usize = 4096;
 

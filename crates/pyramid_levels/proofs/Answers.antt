@@ -1,19 +1,19 @@
--- What `level_at` promises, by its number. Assumes nothing.
-use Prim.Native.Nat.{ℕ, zero, suc}
-use mathlib.Core.Path.{◌≡◌, refl, sym}
-use Rattle.pyramid_levels.specs.Levels.{level_side, cells_above}
+-- What `level_at` promises, by its answer. Assumes nothing.
+use Prim.Native.Nat.{ℕ}
+use native.Mathlib.Omega.{arith}
+use mathlib.Core.Path.{◌≡◌}
+use Rattle.std.specs.Prelude.{Result}
+use Rattle.lists.specs.declared.refusal.Refusal.{Refusal}
+use Rattle.lists.proofs.Judged.{number-judged, values-judged}
 use Rattle.pyramid_levels.specs.Refusals.{Ask, level_refusal_of}
 use Rattle.pyramid_levels.specs.Level.{level_answer, LevelFound}
-use Rattle.pyramid_levels.specs.declared.LevelAnswer.TheVariants.{Level, Refused}
+use Rattle.pyramid_levels.specs.declared.Level.{Level}
 
-module _ (a : Ask) (k : ℕ) where
-  pub level-refused : (n : ℕ) → level_refusal_of a k ≡ n → (n ≡ 0 → ⊥)
-      → LevelFound a k (Refused n)
-  unfolding level_answer
-  level-refused zero e z = absurd (z refl)
-  level-refused (suc n) e z = record { answer = rw e; number = sym e; values = rw e }
-
-  pub level-found : (from : ℕ) → level_refusal_of a k ≡ 0 → from ≡ cells_above a.w a.h k
-      → LevelFound a k (Level from (level_side a.w k) (level_side a.h k))
-  unfolding level_answer
-  level-found from e f = record { answer = rw (e, f); number = sym e; values = rw (e, f) }
+pub level-found : (a : Ask) (k : ℕ) (r : Result Level Refusal) → r ≡ level_answer a k → LevelFound a k r
+unfolding level_answer level_refusal_of
+level-found a k r e =
+    record {
+      answer = e;
+      number = number-judged _ _ e (grind arith);
+      values = values-judged _ _ _ e;
+    }

@@ -4,7 +4,10 @@ use native.Mathlib.Omega.{arith}
 use mathlib.Core.Path.{◌≡◌, sym, ◌∙◌}
 use mathlib.Core.List.{[], ◌∷◌}
 use borrow.Author.Tests.{lt-ltb, le-ltb, le-leb, lt-leb, ltb-false, leb-false}
+use Rattle.std.specs.Prelude.{Ok, Err}
 use Rattle.lists.specs.Limits.{most_levels}
+use Rattle.lists.specs.declared.refusal.Refusal.TheVariants.{OutOfRange, LevelsTooShort}
+use Rattle.lists.specs.Refusals.{verdict}
 use Rattle.lists.specs.Internal.{Sized}
 use Rattle.lists.proofs.Refusals.{lowest-none, sized-none}
 use Rattle.image_size.proofs.Judged.{passed}
@@ -21,11 +24,11 @@ module _ (a : Ask) where
     exact : capped (cells_above a.w a.h (levels_of a)) ≡ cells_above a.w a.h (levels_of a)
     exact = cells-exact a.w a.h (levels_of a) s.narrow s.low
 
-    pub build-short : a.places < capped (cells_above a.w a.h (levels_of a)) → 9 ≡ build_refusal_of a
+    pub build-short : a.places < capped (cells_above a.w a.h (levels_of a)) → Err LevelsTooShort ≡ verdict (build_refusal_of a)
     unfolding build_refusal_of
     build-short l = rw (passed _ _ _ _ s, lt-ltb _ _ (rw exact at l))
 
-    pub build-long : capped (cells_above a.w a.h (levels_of a)) ≤ a.places → 0 ≡ build_refusal_of a
+    pub build-long : capped (cells_above a.w a.h (levels_of a)) ≤ a.places → Ok tt ≡ verdict (build_refusal_of a)
     unfolding build_refusal_of
     build-long l = rw (passed _ _ _ _ s, le-ltb _ _ (rw exact at l))
 
@@ -46,7 +49,7 @@ module _ (a : Ask) where
     unfolding build_refusal_of level_refusal_of
     level-there l = simp (lt-leb _ _ l)
 
-    pub level-absent : Sized a.pixels a.w a.h → levels_of a ≤ k → 3 ≡ level_refusal_of a k
+    pub level-absent : Sized a.pixels a.w a.h → levels_of a ≤ k → Err OutOfRange ≡ verdict (level_refusal_of a k)
     unfolding level_refusal_of
     level-absent s l = rw (passed _ _ _ _ s, le-leb _ _ l)
 

@@ -4,19 +4,19 @@
 mod count; // count.rt: which levels are built, and capped sums
 
 ghost use Rattle.std.specs.Prelude.{◌≡◌};
+ghost use Rattle.lists.specs.Refusals.{verdict};
 ghost use Rattle.pyramid_levels.specs.Levels.{level_count, cells_above, capped};
 ghost use Rattle.pyramid_levels.specs.Refusals.{ask, build_refusal_of, level_refusal_of};
 ghost use Rattle.pyramid_levels.specs.Level.{LevelFound};
 
-// Where a level begins, in the base or in the level buffer, and its sides, or the number of a refusal.
+use lists::Refusal;
+
+// Where a level begins, in the base or in the level buffer, and its sides.
 #[derive(Clone, Copy)]
-pub enum LevelAnswer {
-    Level {
-        from: usize,
-        width: usize,
-        height: usize,
-    },
-    Refused(u8),
+pub struct Level {
+    pub from: usize,
+    pub width: usize,
+    pub height: usize,
 }
 
 // How many levels a pyramid over a base of these sides has: at most num_levels, the base included, and none with a side
@@ -79,7 +79,7 @@ pub fn cells_above(width: usize, height: usize, num_levels: u32, min_size: usize
     )
 }
 
-// Why no pyramid is built over a base of `pixels` pixels in a level buffer of `places` places, or 0.
+// Why no pyramid is built over a base of `pixels` pixels in a level buffer of `places` places.
 pub fn build_refusal(
     pixels: usize,
     places: usize,
@@ -87,20 +87,17 @@ pub fn build_refusal(
     height: usize,
     num_levels: u32,
     min_size: usize,
-) -> u8
-    ensures { result ≡ build_refusal_of (ask pixels places width height num_levels min_size) }
+) -> Result<(), Refusal>
+    ensures { result ≡ verdict (build_refusal_of (ask pixels places width height num_levels min_size)) }
 {
-    let number = image_size::refusal(pixels, width, height);
-    if number != 0 {
-        return number;
-    }
+    image_size::refusal(pixels, width, height)?;
     if places < cells_above(width, height, num_levels, min_size) {
-        return 9;
+        return Err(Refusal::LevelsTooShort);
     }
-    0
+    Ok(())
 }
 
-// Why level k over such a base is refused, or 0.
+// Why level k over such a base is refused.
 pub fn level_refusal(
     pixels: usize,
     places: usize,
@@ -109,14 +106,14 @@ pub fn level_refusal(
     num_levels: u32,
     min_size: usize,
     k: usize,
-) -> u8
-    ensures { result ≡ level_refusal_of (ask pixels places width height num_levels min_size) k }
+) -> Result<(), Refusal>
+    ensures { result ≡ verdict (level_refusal_of (ask pixels places width height num_levels min_size) k) }
 {
     if k < level_count(width, height, num_levels, min_size) {
         return build_refusal(pixels, places, width, height, num_levels, min_size);
     }
-    let number = image_size::refusal(pixels, width, height);
-    if number != 0 { number } else { 3 }
+    image_size::refusal(pixels, width, height)?;
+    Err(Refusal::OutOfRange)
 }
 
 // Where level k lies and its sides, for a base of `pixels` pixels and a level buffer of `places` places.
@@ -128,16 +125,13 @@ pub fn level_at(
     num_levels: u32,
     min_size: usize,
     k: usize,
-) -> LevelAnswer
+) -> Result<Level, Refusal>
     ensures { LevelFound (ask pixels places width height num_levels min_size) k result }
 {
-    let number = level_refusal(pixels, places, width, height, num_levels, min_size, k);
-    if number != 0 {
-        return LevelAnswer::Refused(number);
-    }
-    LevelAnswer::Level {
+    level_refusal(pixels, places, width, height, num_levels, min_size, k)?;
+    Ok(Level {
         from: cells_before(width, height, k),
         width: width >> k,
         height: height >> k,
-    }
+    })
 }

@@ -1,0 +1,57 @@
+-- Laws of answers by their numbers. Assumes nothing.
+use Prim.Native.Nat.{ℕ, zero, suc}
+use native.Mathlib.Omega.{arith}
+use mathlib.Core.Path.{◌≡◌, refl, ap, ◌∙◌}
+use mathlib.Core.Bool.{Bool, true, false}
+use mathlib.Core.List.{List, [], ◌∷◌, ◌++◌}
+use Rattle.std.proofs.lemmas.Result.{err_from_is_err_and}
+use Rattle.std.specs.Prelude.{Result, IsErrAnd, Ok, Err}
+use Rattle.lists.specs.declared.refusal.Refusal.{Refusal}
+use Rattle.lists.specs.Places.{All}
+use Rattle.lists.specs.Refusals.{lowest, number_of, values_by, values_unless, judged, result_or}
+
+-- a number is that of a refusal, or 0
+abbrev pub Known : ℕ → Type 0
+Known n = number_of (judged n n) ≡ n
+
+-- then it is the number of the answer with it, whose values are those of what is due, if it is 0
+pub number-judged : {A : Type 0} {r : Result A Refusal} (n : ℕ) (due : A) → r ≡ judged n due → Known n → number_of r ≡ n
+number-judged zero due e k = ap number_of e
+number-judged (suc n) due e k = ap number_of e ∙ k
+
+pub values-judged : {A B : Type 0} {r : Result A Refusal} (values : A → List B) (n : ℕ) (due : A) → r ≡ judged n due
+    → values_by values r ≡ values_unless n (values due)
+values-judged values zero due e = ap (values_by values) e
+values-judged values (suc n) due e = ap (values_by values) e
+
+-- the number of a table is one of its own, or 0
+pub lowest-known : (cs : List (Bool × ℕ)) → All (λ c. Known c.1) cs → Known (lowest cs)
+lowest-known [] h = refl
+lowest-known ((true, n) ∷ cs) h = h.0
+lowest-known ((false, n) ∷ cs) h = lowest-known cs h.1
+
+-- an answer that is not refused: its number is 0, and it is what is due
+pub judged-ok : {A : Type 0} (n : ℕ) (due v : A) → Ok v ≡ judged n due → (n ≡ 0) × (v ≡ due)
+judged-ok zero due v p = (refl, grind arith)
+judged-ok (suc n) due v p = absurd (let no : ⊥ = grind arith in no)
+
+-- a refused one: any answer with its number is refused so
+pub judged-err : {A B : Type 0} (n : ℕ) (due : A) (other : B) (e : Refusal) → Err e ≡ judged n due → Err e ≡ judged n other
+judged-err zero due other e p = absurd (let no : ⊥ = grind arith in no)
+judged-err (suc n) due other e p = grind arith
+
+-- and a buffer is as it was
+pub refused-stays : {A B : Type 0} (n : ℕ) (due : A) (e : Refusal) (after before : B) → Err e ≡ judged n due → result_or n after before ≡ before
+refused-stays zero due e after before p = absurd (let no : ⊥ = grind arith in no)
+refused-stays (suc n) due e after before p = refl
+
+-- so is that of a table that begins with the conditions
+pub judged-first : {A B : Type 0} (cs ds : List (Bool × ℕ)) (due : A) (other : B) (e : Refusal)
+    → Err e ≡ judged (lowest cs) due → Err e ≡ judged (lowest (cs ++ ds)) other
+judged-first [] ds due other e p = absurd (let no : ⊥ = grind arith in no)
+judged-first ((true, n) ∷ cs) ds due other e p = judged-err n due other e p
+judged-first ((false, n) ∷ cs) ds due other e p = judged-first cs ds due other e p
+
+-- ---- a refusal that is passed on by `?`
+pub passed-on : {A : Type 0} {e : Refusal} (r : Result A Refusal) → IsErrAnd r (λ y. y ≡ e) → r ≡ Err e
+passed-on r h = let p = err_from_is_err_and r h in p.1 ∙ ap Err p.2
