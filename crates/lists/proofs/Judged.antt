@@ -8,11 +8,15 @@ use Rattle.std.proofs.lemmas.Result.{err_from_is_err_and}
 use Rattle.std.specs.Prelude.{Result, IsErrAnd, Ok, Err}
 use Rattle.lists.specs.declared.refusal.Refusal.{Refusal}
 use Rattle.lists.specs.Places.{All}
-use Rattle.lists.specs.Refusals.{lowest, number_of, values_by, values_unless, judged, result_or}
+use Rattle.lists.specs.Refusals.{lowest, refusal_number, number_of, values_by, values_unless, judged, result_or}
 
 -- a number is that of a refusal, or 0
 abbrev pub Known : ℕ → Type 0
 Known n = number_of (judged n n) ≡ n
+
+-- a refusal has one
+pub refused-above : (e : Refusal) → refusal_number e ≡ 0 → ⊥
+refused-above e p = grind arith
 
 -- then it is the number of the answer with it, whose values are those of what is due, if it is 0
 pub number-judged : {A : Type 0} {r : Result A Refusal} (n : ℕ) (due : A) → r ≡ judged n due → Known n → number_of r ≡ n

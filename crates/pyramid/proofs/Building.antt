@@ -1,11 +1,15 @@
 -- Building the levels one behind the other, and what `build_pyramid` answers and leaves. Assumes nothing.
-use Prim.Native.Nat.{ℕ, zero, suc, ◌+◌, ◌*◌, ◌/◌, ◌<◌, ◌≤◌, ◌-◌}
+use Prim.Native.Nat.{ℕ, suc, ◌+◌, ◌*◌, ◌/◌, ◌<◌, ◌≤◌, ◌-◌}
 use native.Mathlib.Numerals.{add-one}
 use native.Mathlib.Omega.{arith}
 use mathlib.Core.Path.{◌≡◌, refl, sym, ap, ap₂, ◌∙◌}
 use mathlib.Core.List.{List}
 use lib.ListN.{length, drop}
+use Rattle.std.specs.Prelude.{Result, Ok, Err}
+use Rattle.lists.specs.declared.refusal.Refusal.{Refusal}
+use Rattle.lists.specs.Refusals.{verdict, judged, result_or}
 use Rattle.lists.specs.Buffer.{front, placed}
+use Rattle.lists.proofs.Judged.{number-judged, values-judged, judged-err, refused-stays}
 use Rattle.lists.proofs.Buffer.{front-more}
 use Rattle.pyramid_levels.specs.Levels.{level_side, level_count, cells_above}
 use Rattle.pyramid_levels.specs.Refusals.{ask, build_refusal_of}
@@ -14,7 +18,6 @@ use Rattle.pyramid_levels.proofs.Cells.{cells-next, cells-step, cells-mono}
 use Rattle.pyramid.specs.Pyramid.{halved, level_pixels, above}
 use Rattle.pyramid.specs.Build.{Built}
 use Rattle.pyramid.specs.Internal.{holder_of, Halving, LevelHalved, LevelsFilled}
-use Rattle.pyramid.specs.declared.Pyramid.TheVariants.{Levels, Refused}
 use Rattle.pyramid.proofs.Lengths.{above-last, length_above}
 use Rattle.pyramid.proofs.Above.{level-inside, part-is, level-built}
 use Rattle.pyramid.proofs.Halving.{halved-take}
@@ -86,12 +89,18 @@ module _ (base d : List ℕ) (w h n k a b from to : ℕ) (s : List ℕ) (sized :
 -- ---- the answer
 
 module _ (base : List ℕ) (w h count minimum_side : ℕ) (d : List ℕ) where
-  pub built-refused : (n : ℕ) → build_refusal_of (ask (length base) (length d) w h count minimum_side) ≡ n → (n ≡ 0 → ⊥)
-      → Built base w h count minimum_side d (Refused n) d
-  built-refused zero e z = absurd (z refl)
-  built-refused (suc n) e z = record { answer = rw e; number = sym e; values = rw e; buffer = rw e }
+  abbrev pub number : ℕ
+  number = build_refusal_of (ask (length base) (length d) w h count minimum_side)
 
-  pub built-filled : (n : ℕ) (s : List ℕ) → build_refusal_of (ask (length base) (length d) w h count minimum_side) ≡ 0
-      → n ≡ level_count w h count minimum_side → LevelsFilled base w h n d s
-      → Built base w h count minimum_side d (Levels n) s
-  built-filled n s e q f = record { answer = rw (e, q); number = sym e; values = rw (e, q); buffer = f.is ∙ rw (e, q) }
+  answered : (r : Result ℕ Refusal) (s : List ℕ) → r ≡ judged number (level_count w h count minimum_side)
+      → s ≡ result_or number (front (above base w h (level_count w h count minimum_side)) d) d → Built base w h count minimum_side d r s
+  unfolding build_refusal_of
+  answered r s e b =
+      record { answer = e; number = number-judged _ _ e (grind arith); values = values-judged _ _ _ e; buffer = b }
+
+  pub built-refused : (e : Refusal) → Err e ≡ verdict number → Built base w h count minimum_side d (Err e) d
+  built-refused e p = answered _ _ (judged-err _ _ _ e p) (sym (refused-stays _ _ e _ _ p))
+
+  pub built-filled : (n : ℕ) (s : List ℕ) → number ≡ 0 → n ≡ level_count w h count minimum_side → LevelsFilled base w h n d s
+      → Built base w h count minimum_side d (Ok n) s
+  built-filled n s e q f = answered _ _ (rw (e, q)) (f.is ∙ rw (e, q))

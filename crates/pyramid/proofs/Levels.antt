@@ -2,49 +2,38 @@
 -- lengths stand in Lengths. Assumes nothing.
 use Prim.Native.Nat.{ℕ, zero, suc, ◌*◌, ◌/◌, ◌<◌, ◌≤◌}
 use native.Mathlib.Omega.{arith}
-use mathlib.Core.Path.{◌≡◌, refl, sym, ap, ◌∙◌}
+use mathlib.Core.Path.{◌≡◌, sym, ap, ◌∙◌}
 use mathlib.Core.List.{List}
 use lib.ListN.{length, get_or}
 use Rattle.lists.specs.Limits.{largest_side, most_levels}
 use Rattle.lists.specs.Buffer.{front}
-use Rattle.lists.specs.Refusals.{unless}
-use Rattle.lists.proofs.Answers.{refused-keeps}
+use Rattle.std.specs.Prelude.{Result, Ok, Err}
+use Rattle.lists.specs.declared.refusal.Refusal.{Refusal}
+use Rattle.lists.specs.Refusals.{judged}
+use Rattle.lists.proofs.Judged.{judged-ok, refused-stays}
 use Rattle.lists.proofs.Tab.{get_d-grid-any}
 use Rattle.lists.proofs.Buffer.{front_length}
 use Rattle.pyramid_levels.specs.Levels.{level_side, level_count, cells_above}
-use Rattle.pyramid_levels.specs.Refusals.{ask, build_refusal_of, level_refusal_of}
+use Rattle.pyramid_levels.specs.Refusals.{ask, level_refusal_of}
 use Rattle.pyramid_levels.specs.Level.{level_answer}
-use Rattle.pyramid_levels.specs.declared.LevelAnswer.TheVariants.{Level}
 use Rattle.pyramid_levels.proofs.Sides.{side-le, count-few}
 use Rattle.pyramid_levels.specs.Internal.{LevelsAccepted}
 use Rattle.pyramid_levels.proofs.Refusals.{accepts, accepted, level-accepts}
-use Rattle.pyramid_levels.proofs.Answers as answers
 use Rattle.pyramid.specs.Pyramid.{box_of, half_pixel, halved, level_pixels, above}
 use Rattle.pyramid.specs.Build.{Built}
 use Rattle.pyramid.specs.Level.{level_in}
 use Rattle.pyramid.specs.Internal.{LevelsComplete}
-use Rattle.pyramid.specs.declared.Pyramid.{Pyramid}
-use Rattle.pyramid.specs.declared.Pyramid.TheVariants.{Levels, Refused}
 use Rattle.pyramid.proofs.Lengths.{length_above, length-level}
 use Rattle.pyramid.proofs.Above.{level-built}
 
 -- ---- the answer
 
-levels-is : (n k m : ℕ) → unless Refused k (Levels n) ≡ Levels m → (k ≡ 0) × (m ≡ n)
-levels-is n zero m e = (refl, (cc))
-levels-is n (suc k) m e = let z : ◌≡◌ {A = ℕ} 0 1 = cc in absurd (omega arith)
-
-refused-is : (n k m : ℕ) → unless Refused k (Levels n) ≡ Refused m → (k ≡ m) × (0 < m)
-refused-is n zero m e = let z : ◌≡◌ {A = ℕ} 0 1 = cc in absurd (omega arith)
-refused-is n (suc k) m e = let q : suc k ≡ m = cc in (q, omega arith)
-
-module _ (base : List ℕ) (w h count minimum_side : ℕ) (d : List ℕ) (r : Pyramid) (e : List ℕ)
+module _ (base : List ℕ) (w h count minimum_side : ℕ) (d : List ℕ) (r : Result ℕ Refusal) (e : List ℕ)
     (b : Built base w h count minimum_side d r e) where
   -- a pyramid was built
-  pub built : (n : ℕ) → r ≡ Levels n → LevelsComplete base w h count minimum_side d e n
+  pub built : (n : ℕ) → r ≡ Ok n → LevelsComplete base w h count minimum_side d e n
   built n c =
-      let q = levels-is (level_count w h count minimum_side) (build_refusal_of (ask (length base) (length d) w h count minimum_side)) n
-      (sym b.answer ∙ c) in
+      let q = judged-ok _ _ _ (sym c ∙ b.answer) in
       let a = accepted _ q.0 in
       let f : e ≡ front (above base w h n) d = b.buffer ∙ rw (q.0, q.1) in
       record {
@@ -55,19 +44,12 @@ module _ (base : List ℕ) (w h count minimum_side : ℕ) (d : List ℕ) (r : Py
       }
 
   -- or refused, and the level buffer is as it was
-  pub refused : (n : ℕ) → r ≡ Refused n → (build_refusal_of (ask (length base) (length d) w h count minimum_side) ≡ n) × (e ≡ d)
-  refused n c =
-      let q = refused-is (level_count w h count minimum_side)
-      (build_refusal_of (ask (length base) (length d) w h count minimum_side)) n (sym b.answer ∙ c) in
-      let kept =
-      refused-keeps (build_refusal_of (ask (length base) (length d) w h count minimum_side))
-      (front (above base w h (level_count w h count minimum_side)) d) d
-      (rw q.0 q.1) in
-      (q.0, b.buffer ∙ kept)
+  pub refused : (f : Refusal) → r ≡ Err f → e ≡ d
+  refused f c = b.buffer ∙ refused-stays _ _ f _ _ (sym c ∙ b.answer)
 
   -- where nothing refuses, all levels are built
-  pub builds : LevelsAccepted (ask (length base) (length d) w h count minimum_side) → r ≡ Levels (level_count w h count minimum_side)
-  builds a = b.answer ∙ ap (λ (k : ℕ). unless Refused k (Levels (level_count w h count minimum_side))) (accepts _ a)
+  pub builds : LevelsAccepted (ask (length base) (length d) w h count minimum_side) → r ≡ Ok (level_count w h count minimum_side)
+  builds a = b.answer ∙ ap (λ (k : ℕ). judged k (level_count w h count minimum_side)) (accepts _ a)
 
 -- ---- how many levels
 pub levels-few : (base : List ℕ) (w h count minimum_side : ℕ) (d e : List ℕ) (n : ℕ)
@@ -86,8 +68,9 @@ module _ (base : List ℕ) (w h count minimum_side : ℕ) (d e : List ℕ) (n : 
 
   -- `level_at` says where level k lies
   pub level-place : level_answer (ask (length base) (length e) w h count minimum_side) k
-      ≡ Level (cells_above w h k) (level_side w k) (level_side h k)
-  level-place = sym (answers.level-found _ _ _ free refl).answer
+      ≡ Ok (record { from = cells_above w h k; width = level_side w k; height = level_side h k })
+  unfolding level_answer
+  level-place = rw free
 
   -- `level` hands out the base, halved k times
   pub level-found : level_in base e w h count minimum_side k ≡ level_pixels base w h k

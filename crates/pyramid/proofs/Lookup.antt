@@ -6,6 +6,10 @@ use mathlib.Core.Path.{◌≡◌, refl, ◌∙◌}
 use mathlib.Core.List.{List, []}
 use lib.ListN.{length, take, drop}
 use borrow.Author.Tests.{ne_eqb}
+use Rattle.std.specs.Prelude.{Err}
+use Rattle.lists.specs.declared.refusal.Refusal.{Refusal}
+use Rattle.lists.specs.Refusals.{verdict}
+use Rattle.lists.proofs.Judged.{judged-err, refused-above}
 use Rattle.pyramid_levels.specs.Levels.{level_cells, level_count, cells_above, capped}
 use Rattle.pyramid_levels.specs.Refusals.{ask, level_refusal_of}
 use Rattle.pyramid_levels.specs.Level.{level_answer}
@@ -30,11 +34,10 @@ pub record Between (levels : List ℕ) (w h k from end : ℕ) : Type 0 where
   pub fits : end ≤ length levels
 
 module _ (base levels : List ℕ) (w h count minimum_side k : ℕ) where
-  pub level-refused : (n : ℕ) → n ≡ level_refusal_of (ask (length base) (length levels) w h count minimum_side) k → (n ≡ 0 → ⊥)
+  pub level-refused : (e : Refusal) → Err e ≡ verdict (level_refusal_of (ask (length base) (length levels) w h count minimum_side) k)
       → [] ≡ level_in base levels w h count minimum_side k
   unfolding level_in level_answer
-  level-refused zero e z = absurd (z refl)
-  level-refused (suc n) e z = rw (← e, ne_eqb (suc n) 0 z)
+  level-refused e p = rw (← judged-err _ _ _ e p, ne_eqb _ 0 (refused-above e))
 
   module _ (free : level_refusal_of (ask (length base) (length levels) w h count minimum_side) k ≡ 0) where
     level-part : level_part base levels w h k ≡ level_in base levels w h count minimum_side k

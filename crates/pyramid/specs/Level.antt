@@ -1,8 +1,9 @@
 -- What `level` returns: the pixels of level k.
 use Rattle.std.specs.Prelude.{ℕ, zero, suc, cond, List, [], eqb, length, take, drop}
 use Rattle.pyramid_levels.specs.Levels.{level_cells, cells_above}
+use Rattle.lists.specs.Refusals.{number_of}
 use Rattle.pyramid_levels.specs.Refusals.{ask}
-use Rattle.pyramid_levels.specs.Level.{number_of, level_answer}
+use Rattle.pyramid_levels.specs.Level.{level_answer}
 
 -- level 0 is the base, and each other level a part of the level buffer
 abbrev pub level_part : List ℕ → List ℕ → ℕ → ℕ → ℕ → List ℕ

@@ -8,17 +8,11 @@ ghost use Rattle.std.specs.Prelude.{◌≡◌};
 ghost use Rattle.pyramid.specs.Build.{Built};
 ghost use Rattle.pyramid.specs.Level.{level_in};
 
+use lists::Refusal;
 use pyramid_levels::{build_refusal, cells_before, level_count, level_refusal};
 
-// How many levels the pyramid has, or the number of a refusal.
-#[derive(Clone, Copy)]
-pub enum Pyramid {
-    Levels(usize),
-    Refused(u8),
-}
-
-// Writes the levels above the base to the level buffer, one after the other. The rest of the buffer stays, and a
-// refusal leaves all of it unchanged.
+// Writes the levels above the base to the level buffer, one after the other, and returns how many levels the pyramid
+// has. The rest of the buffer stays, and a refusal leaves all of it unchanged.
 pub fn build_pyramid(
     base: &[u8],
     width: usize,
@@ -26,24 +20,21 @@ pub fn build_pyramid(
     num_levels: u32,
     min_size: usize,
     levels: &mut [u8],
-) -> Pyramid
+) -> Result<usize, Refusal>
     ensures { Built base.now width height num_levels min_size levels.old result
         levels.new }
 {
-    let number = build_refusal(
+    build_refusal(
         base.len(),
         levels.len(),
         width,
         height,
         num_levels,
         min_size,
-    );
-    if number != 0 {
-        return Pyramid::Refused(number);
-    }
+    )?;
     let n = level_count(width, height, num_levels, min_size);
     halve::fill_levels(base, width, height, n, levels);
-    Pyramid::Levels(n)
+    Ok(n)
 }
 
 // Level k: the base or a part of the level buffer, empty if it is refused.
@@ -59,7 +50,7 @@ pub fn level<'a>(
     ensures { result.now ≡ level_in base.now
         levels.now width height num_levels min_size k }
 {
-    let number = level_refusal(
+    let checked = level_refusal(
         base.len(),
         levels.len(),
         width,
@@ -68,9 +59,9 @@ pub fn level<'a>(
         min_size,
         k,
     );
-    if number != 0 {
+    let Ok(()) = checked else {
         return &base[..0];
-    }
+    };
     if k == 0 {
         return base;
     }

@@ -3,28 +3,29 @@
 use native.Mathlib.Omega.{arith}
 use mathlib.Core.Path.{◌≡◌, sym, ◌∙◌}
 use lib.ListN.{length}
+use Rattle.lists.proofs.Judged.{judged-ok}
 use Rattle.pyramid_levels.specs.Refusals.{ask, level_refusal_of}
 use Rattle.pyramid_levels.proofs.Refusals.{level-few}
 use Rattle.pyramid.proofs.Lookup.{Between, level-refused, level-base, level-between, level-higher}
 use Rattle.pyramid.proofs.level.Goals as goal
-use Rattle.pyramid.proofs.level.Goals.{After-cells_before-end, Else-number-ne0}
+use Rattle.pyramid.proofs.level.Goals.{After-cells_before-end, In-Ok}
 
-pub returns-then-number-ne0 : goal.returns-then-number-ne0
-returns-then-number-ne0 c =
-    level-refused c.args.base.now c.args.levels.now _ _ _ _ _ _ c.level_refusal-number.ensures c.if-number-ne0.true
+pub returns-in_default : goal.returns-in_default
+returns-in_default c =
+    level-refused c.args.base.now c.args.levels.now _ _ _ _ _ _ (sym c.in_default.is ∙ c.level_refusal-checked.ensures)
 
 -- nothing refuses the level
-free : (c : Else-number-ne0)
+free : (c : In-Ok)
     → level_refusal_of (ask (length c.args.base.now)
     (length c.args.levels.now) c.args.width c.args.height c.args.num_levels c.args.min_size) c.args.k ≡ 0
-free c = sym c.level_refusal-number.ensures ∙ c.if-number-ne0.false
+free c = (judged-ok _ _ _ c.in-Ok.ensures).0
 
 pub returns-then-k-eq0 : goal.returns-then-k-eq0
 returns-then-k-eq0 c =
-    level-base c.args.base.now c.args.levels.now _ _ _ _ _ (free (goal.at.returns-then-k-eq0 c).Else-number-ne0) c.if-k-eq0.true
+    level-base c.args.base.now c.args.levels.now _ _ _ _ _ (free (goal.at.returns-then-k-eq0 c).In-Ok) c.if-k-eq0.true
 
 pub overflow_add-k : goal.overflow_add-k
-overflow_add-k c = record { fits = omega (arith, level-few _ _ (free (goal.at.overflow_add-k c).Else-number-ne0)) }
+overflow_add-k c = record { fits = omega (arith, level-few _ _ (free (goal.at.overflow_add-k c).In-Ok)) }
 
 -- where the level begins and ends
 between : (c : After-cells_before-end)
@@ -33,7 +34,7 @@ between : (c : After-cells_before-end)
     c.cells_before-from.result c.cells_before-end.result
 between c =
     level-between c.args.base.now c.args.levels.now _ _ _ _ _
-    (sym c.level_refusal-number.ensures ∙ c.if-number-ne0.false) _ _ c.if-k-eq0.false c.cells_before-from.ensures
+    ((judged-ok _ _ _ c.in-Ok.ensures).0) _ _ c.if-k-eq0.false c.cells_before-from.ensures
     c.cells_before-end.ensures
 
 pub slice_bounds-result-count : goal.slice_bounds-result-count
@@ -47,5 +48,5 @@ slice_bounds-result-end-2 c = (between (goal.at.slice_bounds-result-end-2 c).Aft
 
 pub returns : goal.returns
 returns c =
-    level-higher c.args.base.now c.args.levels.now _ _ _ _ _ (free (goal.at.returns c).Else-number-ne0) _ _ c.if-k-eq0.false
+    level-higher c.args.base.now c.args.levels.now _ _ _ _ _ (free (goal.at.returns c).In-Ok) _ _ c.if-k-eq0.false
     (between (goal.at.returns c).After-cells_before-end)
