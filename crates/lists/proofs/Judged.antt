@@ -1,11 +1,12 @@
 -- Laws of answers by their numbers. Assumes nothing.
 use Prim.Native.Nat.{ℕ, zero, suc}
 use native.Mathlib.Omega.{arith}
-use mathlib.Core.Path.{◌≡◌, refl, ap, ◌∙◌}
+use mathlib.Core.Path.{◌≡◌, refl, sym, ap, ◌∙◌}
 use mathlib.Core.Bool.{Bool, true, false}
 use mathlib.Core.List.{List, [], ◌∷◌, ◌++◌}
 use Rattle.std.proofs.lemmas.Result.{err_from_is_err_and}
 use Rattle.std.specs.Prelude.{Result, IsErrAnd, Ok, Err}
+use Rattle.std.specs.Result.{result_unwrap_or}
 use Rattle.lists.specs.declared.refusal.Refusal.{Refusal}
 use Rattle.lists.specs.Places.{All}
 use Rattle.lists.specs.Refusals.{lowest, refusal_number, number_of, values_by, values_unless, judged, result_or}
@@ -59,3 +60,17 @@ judged-first ((false, n) ∷ cs) ds due other e p = judged-first cs ds due other
 -- ---- a refusal that is passed on by `?`
 pub passed-on : {A : Type 0} {e : Refusal} (r : Result A Refusal) → IsErrAnd r (λ y. y ≡ e) → r ≡ Err e
 passed-on r h = let p = err_from_is_err_and r h in p.1 ∙ ap Err p.2
+
+-- ---- an answer told by its number: the answer with that number
+pub judged-number : {A : Type 0} (e : Refusal) (due : A) → judged (refusal_number e) due ≡ Err e
+judged-number e due = grind arith
+
+pub told : {A : Type 0} (r : Result A Refusal) (n : ℕ) (due : A) → r ≡ judged n due → r ≡ judged (number_of r) due
+told (Ok v) n due e = let q = judged-ok n due v e in ap Ok q.1
+told (Err f) n due e = sym (judged-number f due)
+
+-- and its value, or what was there before
+pub told-value : {A : Type 0} (r : Result A Refusal) (n : ℕ) (due before : A) → r ≡ judged n due
+    → result_unwrap_or r before ≡ result_or (number_of r) due before
+told-value (Ok v) n due before e = (judged-ok n due v e).1
+told-value (Err f) n due before e = grind arith
