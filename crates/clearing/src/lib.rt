@@ -1,36 +1,59 @@
 // Clears the unused end of a buffer: a frame leaves its buffers so (RULES 9.6).
 #![tactic(auto)]
 
-ghost use Rattle.std.specs.Prelude.{◌≡◌, length, replicate};
+ghost use Rattle.std.specs.Prelude.{◌≡◌};
 ghost use Rattle.lists.specs.Buffer.{wiped_from};
 ghost use Rattle.float32.specs.Float32.{zero};
 ghost use Rattle.corner_list.specs.CornerList.{slices};
 ghost use Rattle.clearing.specs.Clearing.{cleared_from};
 
+// An element of a buffer that is cleared, with its zero. A copy never fails, and equals what was copied.
+pub trait Zero: Copy {
+    const ZERO: Self;
+
+    ghost ZERO: { Self };
+
+    ghost succeeds: { (x : Self) → Self.is_infallible x };
+
+    ghost equals: { (x y : Self) → Self.is_clone x y → y ≡ x };
+}
+
+impl Zero for f32 {
+    const ZERO: f32 = 0.0;
+
+    ghost ZERO = { zero };
+
+    ghost succeeds = { λ x. tt };
+
+    ghost equals = { λ x y e. e };
+}
+
+impl Zero for u32 {
+    const ZERO: u32 = 0;
+
+    ghost ZERO = { 0 };
+
+    ghost succeeds = { λ x. tt };
+
+    ghost equals = { λ x y e. e };
+}
+
+impl Zero for u8 {
+    const ZERO: u8 = 0;
+
+    ghost ZERO = { 0 };
+
+    ghost succeeds = { λ x. tt };
+
+    ghost equals = { λ x y e. e };
+}
+
 // Sets the places of a buffer from n on to 0.
-pub fn clear(d: &mut [f32], n: usize)
-    ensures { d.new ≡ wiped_from n zero d.old }
+pub fn clear<T: Zero>(d: &mut [T], n: usize)
+    ensures { d.new ≡ wiped_from n T.ZERO d.old }
 {
-    for i in n..d.len() {
-        d[i] = 0.0;
-    }
-}
-
-// Sets all of a buffer to 0.
-pub fn clear_bytes(d: &mut [u8])
-    ensures { d.new ≡ replicate (length d.old) 0 }
-{
-    for i in 0..d.len() {
-        d[i] = 0;
-    }
-}
-
-// Sets the counts of a slice from n on to 0.
-fn clear_counts(counts: &mut [u32], n: usize)
-    ensures { counts.new ≡ wiped_from n 0 counts.old }
-{
-    for i in n..counts.len() {
-        counts[i] = 0;
+    if n < d.len() {
+        d[n..].fill(T::ZERO);
     }
 }
 
@@ -49,5 +72,5 @@ pub fn clear_list(
     clear(xs, n);
     clear(ys, n);
     clear(strengths, n);
-    clear_counts(neighbours, n);
+    clear(neighbours, n);
 }

@@ -1,8 +1,7 @@
 // Corners, and lists of them in a buffer of four slices.
 #![tactic(auto)]
 
-ghost use Rattle.std.specs.Prelude.{◌≡◌, min, get_or};
-ghost use Rattle.std.specs.Float.{nan};
+ghost use Rattle.std.specs.Prelude.{◌≡◌, min};
 ghost use Rattle.corner_list.specs.CornerList.{is_inside, slices, corner_at, with_corner};
 
 // Where a corner is, in pixels, the response at its peak, and how many neighbours of that peak are above 0.
@@ -21,31 +20,8 @@ const LARGEST_COORDINATE: f32 = 4096.0;
 pub fn is_inside(c: Corner) -> bool
     ensures { result ≡ is_inside c }
 {
-    if float32::is_between(0.0, LARGEST_COORDINATE, c.x) {
-        float32::is_between(0.0, LARGEST_COORDINATE, c.y)
-    } else {
-        false
-    }
-}
-
-// The element at a place of a slice, or NaN past its end.
-fn element(s: &[f32], at: usize) -> f32
-    ensures { result ≡ get_or s.now at nan }
-{
-    if at < s.len() {
-        return s[at];
-    }
-    0.0 / 0.0
-}
-
-// The count at a place of a slice, or 0 past its end.
-fn count(s: &[u32], at: usize) -> u32
-    ensures { result ≡ get_or s.now at 0 }
-{
-    if at < s.len() {
-        return s[at];
-    }
-    0
+    float32::is_between(0.0, LARGEST_COORDINATE, c.x)
+        && float32::is_between(0.0, LARGEST_COORDINATE, c.y)
 }
 
 // The corner at a place of a buffer. A field whose slice is too short is NaN, and 0 for the neighbours.
@@ -54,10 +30,10 @@ pub fn corner_at(xs: &[f32], ys: &[f32], strengths: &[f32], neighbours: &[u32], 
         neighbours.now) at }
 {
     Corner {
-        x: element(xs, at),
-        y: element(ys, at),
-        strength: element(strengths, at),
-        neighbours: count(neighbours, at),
+        x: lists::element_or(xs, at, f32::NAN),
+        y: lists::element_or(ys, at, f32::NAN),
+        strength: lists::element_or(strengths, at, f32::NAN),
+        neighbours: lists::element_or(neighbours, at, 0),
     }
 }
 
@@ -86,8 +62,5 @@ pub fn put_corner(
 pub fn places(xs: usize, ys: usize, strengths: usize, neighbours: usize) -> usize
     ensures { result ≡ min xs (min ys (min strengths neighbours)) }
 {
-    numbers::lesser(
-        xs,
-        numbers::lesser(ys, numbers::lesser(strengths, neighbours)),
-    )
+    xs.min(ys.min(strengths.min(neighbours)))
 }

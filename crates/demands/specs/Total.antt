@@ -23,7 +23,7 @@
 -- merge_refusal   refusal (the number alone)
 -- merge_grid      position_of, position_at, grid_of, column_of, row_of, is_near, is_joined
 -- merge_settle    settle_list (one for how many are kept, one for the buffer)
--- clearing        clear, clear_bytes, clear_list
+-- clearing        clear, clear_list
 -- frame_pass      refusal (the number before the pass)
 -- stream          wanted
 -- listing         write_refusal (one for its answer, one for its buffer)

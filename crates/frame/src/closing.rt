@@ -12,7 +12,7 @@ pub(crate) fn clear_levels(levels: &mut [u8], fit: bool)
     if fit {
         return;
     }
-    clearing::clear_bytes(levels);
+    clearing::clear(levels, 0);
 }
 
 // The answer: k corners and the number of their ties, or that a list does not fit.

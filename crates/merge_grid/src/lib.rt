@@ -28,21 +28,19 @@ pub struct Grid {
     pub square: f32,
 }
 
+impl From<Corner> for Position {
+    ghost from_gives = { λ c p. p ≡ position_of c };
+
+    fn from(c: Corner) -> Position {
+        Position { x: c.x, y: c.y }
+    }
+}
+
 // Where a corner is.
 pub fn position_of(c: Corner) -> Position
     ensures { result ≡ position_of c }
 {
-    Position { x: c.x, y: c.y }
-}
-
-// The coordinate at a place of a slice, or NaN past its end.
-fn coordinate_at(vs: &[f32], at: usize) -> f32
-    ensures { result ≡ get_or vs.now at nan }
-{
-    if at < vs.len() {
-        return vs[at];
-    }
-    0.0 / 0.0
+    Position::from(c)
 }
 
 // Where the corner at a place of a buffer is; NaN past the end of a slice.
@@ -50,8 +48,8 @@ pub fn position_at(xs: &[f32], ys: &[f32], at: usize) -> Position
     ensures { result ≡ position_at xs.now ys.now at }
 {
     Position {
-        x: coordinate_at(xs, at),
-        y: coordinate_at(ys, at),
+        x: lists::element_or(xs, at, f32::NAN),
+        y: lists::element_or(ys, at, f32::NAN),
     }
 }
 

@@ -8,11 +8,7 @@ ghost use Rattle.merge_radius.specs.MergeRadius.{is_off, is_sized, radius_outsid
 pub fn is_off(radius: f32) -> bool
     ensures { result ≡ is_off radius }
 {
-    if float32::is_finite(radius) {
-        radius <= 0.0
-    } else {
-        true
-    }
+    !float32::is_finite(radius) || radius <= 0.0
 }
 
 // The least radius, 1/64.
@@ -32,8 +28,5 @@ pub fn is_sized(radius: f32) -> bool
 pub fn is_outside(radius: f32) -> bool
     ensures { result ≡ radius_outside radius }
 {
-    if is_off(radius) {
-        return false;
-    }
-    if is_sized(radius) { false } else { true }
+    !is_off(radius) && !is_sized(radius)
 }

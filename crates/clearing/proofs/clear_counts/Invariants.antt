@@ -1,9 +1,0 @@
-use Prim.Native.Nat.{ℕ, ◌-◌}
-use Rattle.clearing.proofs.Wiping.{Wiping}
-use Rattle.clearing.proofs.clear_counts.Given as goal
-
-abbrev pub invariant-loop-i : goal.invariant-loop-i
-invariant-loop-i l = Wiping {A = ℕ} l.n l.i 0 l.initial.counts l.counts
-
-abbrev pub decreases-loop-i : goal.decreases-loop-i
-decreases-loop-i l = l.i-end - l.i
