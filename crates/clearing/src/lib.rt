@@ -5,7 +5,10 @@ ghost use Rattle.std.specs.Prelude.{◌≡◌, length, replicate};
 ghost use Rattle.lists.specs.Buffer.{wiped_from};
 ghost use Rattle.float32.specs.Float32.{zero};
 ghost use Rattle.corner_list.specs.CornerList.{slices};
+ghost use Rattle.corner_list.specs.Buffer.{held, Kept};
 ghost use Rattle.clearing.specs.Clearing.{cleared_from};
+
+use corner_list::CornerBuffer;
 
 // Sets the places of a buffer from n on to 0.
 pub fn clear(d: &mut [f32], n: usize)
@@ -50,4 +53,15 @@ pub fn clear_list(
     clear(ys, n);
     clear(strengths, n);
     clear_counts(neighbours, n);
+}
+
+// Sets the places of a buffer of corners from n on to 0.
+pub fn clear_corners(b: &mut CornerBuffer<'_>, n: usize)
+    ensures same_slices { Kept b.old b.new }
+    ensures cleared { held b.new ≡ cleared_from n (held b.old) }
+{
+    clear(b.xs, n);
+    clear(b.ys, n);
+    clear(b.strengths, n);
+    clear_counts(b.neighbours, n);
 }

@@ -1,6 +1,10 @@
 // Corners, and lists of them in a buffer of four slices.
 #![tactic(auto)]
 
+mod buffer; // CornerBuffer: four borrowed slices
+
+pub use buffer::CornerBuffer;
+
 ghost use Rattle.std.specs.Prelude.{◌≡◌, min, get_or};
 ghost use Rattle.std.specs.Float.{nan};
 ghost use Rattle.corner_list.specs.CornerList.{is_inside, slices, corner_at, with_corner};
