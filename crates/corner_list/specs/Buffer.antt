@@ -2,10 +2,15 @@
 use Rattle.std.specs.Prelude.{ℕ, ◌≡◌, List, Float}
 use Rattle.corner_list.specs.CornerList.{Slices, slices}
 use Rattle.corner_list.specs.declared.buffer.CornerBuffer.{CornerBuffer}
+use Rattle.corner_list.specs.declared.buffer.CornerView.{CornerView}
 
 -- the contents of its slices
 abbrev pub held : CornerBuffer → Slices
 held b = slices b.xs.now b.ys.now b.strengths.now b.neighbours.now
+
+-- the contents of the slices of a view
+abbrev pub seen : CornerView → Slices
+seen v = slices v.xs.now v.ys.now v.strengths.now v.neighbours.now
 
 -- both borrow the same four slices
 pub record Kept (a b : CornerBuffer) : Type 0 where

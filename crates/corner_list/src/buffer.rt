@@ -1,7 +1,7 @@
 // A buffer of corners: the four slices that it borrows.
 ghost use Rattle.std.specs.Prelude.{◌≡◌};
 ghost use Rattle.corner_list.specs.CornerList.{with_corner, corner_at, places_of};
-ghost use Rattle.corner_list.specs.Buffer.{held, Kept};
+ghost use Rattle.corner_list.specs.Buffer.{held, seen, Kept};
 
 use crate::Corner;
 
@@ -14,19 +14,56 @@ pub struct CornerBuffer<'a> {
     pub neighbours: &'a mut [u32],
 }
 
+// The same four slices, only read.
+#[derive(Clone, Copy)]
+pub struct CornerView<'a> {
+    pub xs: &'a [f32],
+    pub ys: &'a [f32],
+    pub strengths: &'a [f32],
+    pub neighbours: &'a [u32],
+}
+
+impl CornerView<'_> {
+    // How many corners it has a place for.
+    pub fn places(self) -> usize
+        ensures { result ≡ places_of (seen self.entry) }
+    {
+        crate::places(self.xs.len(), self.ys.len(), self.strengths.len(), self.neighbours.len())
+    }
+
+    // The corner at a place. A field whose slice is too short is NaN, and 0 for the neighbours.
+    pub fn at(self, at: usize) -> Corner
+        ensures { result ≡ corner_at (seen self.entry) at }
+    {
+        crate::corner_at(self.xs, self.ys, self.strengths, self.neighbours, at)
+    }
+}
+
 impl CornerBuffer<'_> {
+    // The buffer, only read.
+    pub fn view(&self) -> CornerView<'_>
+        ensures { seen result ≡ held self.now }
+    {
+        CornerView {
+            xs: self.xs,
+            ys: self.ys,
+            strengths: self.strengths,
+            neighbours: self.neighbours,
+        }
+    }
+
     // How many corners it can hold.
     pub fn places(&self) -> usize
         ensures { result ≡ places_of (held self.now) }
     {
-        crate::places(self.xs.len(), self.ys.len(), self.strengths.len(), self.neighbours.len())
+        self.view().places()
     }
 
     // The corner at a place. A field whose slice is too short is NaN, and 0 for the neighbours.
     pub fn at(&self, at: usize) -> Corner
         ensures { result ≡ corner_at (held self.now) at }
     {
-        crate::corner_at(self.xs, self.ys, self.strengths, self.neighbours, at)
+        self.view().at(at)
     }
 
     // Puts a corner at a place. If one slice has no such place, no slice changes.

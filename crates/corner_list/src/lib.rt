@@ -3,7 +3,7 @@
 
 mod buffer; // CornerBuffer: four borrowed slices
 
-pub use buffer::CornerBuffer;
+pub use buffer::{CornerBuffer, CornerView};
 
 ghost use Rattle.std.specs.Prelude.{◌≡◌, min, get_or};
 ghost use Rattle.std.specs.Float.{nan};

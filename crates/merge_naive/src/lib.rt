@@ -7,13 +7,13 @@
 
 ghost use Rattle.std.specs.Prelude.{◌≡◌, ◌<◌, ◌≤◌};
 ghost use Rattle.corner_list.specs.CornerList.{places_of, corners_of};
-ghost use Rattle.corner_list.specs.Buffer.{held, Kept};
+ghost use Rattle.corner_list.specs.Buffer.{held, seen, Kept};
 ghost use Rattle.merge_grid.specs.Grid.{position_at, near};
 ghost use Rattle.merge_settle.specs.Settle.{Left};
 ghost use Rattle.merge_settle.specs.Internal.{IsFirst, SettlesAt, Settled};
 ghost use Rattle.merge_naive.specs.MergeNaive.{near_by, naive_of, MergesNaive};
 
-use corner_list::{Corner, CornerBuffer};
+use corner_list::{Corner, CornerBuffer, CornerView};
 use merge::Merged;
 use merge_grid::Position;
 
@@ -21,11 +21,11 @@ use merge_grid::Position;
 const NOWHERE: usize = 18446744073709551615;
 
 // The lowest of the first k places of a buffer whose corner is near a position, or k.
-fn first_near(b: &CornerBuffer<'_>, square: f32, k: usize, p: Position) -> usize
-    ensures { IsFirst (λ i. near square p (position_at b.now.xs.now b.now.ys.now i)) k result }
+fn first_near(v: CornerView<'_>, square: f32, k: usize, p: Position) -> usize
+    ensures { IsFirst (λ i. near square p (position_at v.entry.xs.now v.entry.ys.now i)) k result }
 {
     for i in 0..k {
-        if merge_grid::is_near(square, p, merge_grid::position_at(b.xs, b.ys, i)) {
+        if merge_grid::is_near(square, p, merge_grid::position_at(v.xs, v.ys, i)) {
             return i;
         }
     }
@@ -35,20 +35,20 @@ fn first_near(b: &CornerBuffer<'_>, square: f32, k: usize, p: Position) -> usize
 // The place for c among the first k of a buffer: that of the first corner that it is near, if c is stronger; k, if it
 // is near none; NOWHERE, if it is dropped.
 fn place_for(
-    b: &CornerBuffer<'_>,
+    v: CornerView<'_>,
     square: f32,
     k: usize,
     c: Corner,
 ) -> usize
-    requires { k < places_of (held b.now) }
+    requires { k < places_of (seen v) }
     ensures { SettlesAt (near_by square) k c
-        (held b.now) result }
+        (seen v.entry) result }
 {
-    let i = first_near(b, square, k, merge_grid::position_of(c));
+    let i = first_near(v, square, k, merge_grid::position_of(c));
     if k <= i {
         return k;
     }
-    let o = b.at(i);
+    let o = v.at(i);
     if o.strength < c.strength {
         return i;
     }
@@ -68,7 +68,7 @@ fn settle_corner(
         (held b.old)
         result (held b.new) }
 {
-    let at = place_for(b, square, k, c);
+    let at = place_for(b.view(), square, k, c);
     b.put(at, c);
     if at == k { k + 1 } else { k }
 }
@@ -110,7 +110,7 @@ pub fn merge_corners_naive(
         (held b.old) result
         (held b.new) }
 {
-    let number = merge_refusal::refusal_for(b, b.xs.len(), count, radius);
+    let number = merge_refusal::refusal_for(b.view(), b.xs.len(), count, radius);
     if number != 0 {
         return Merged::Refused(number);
     }

@@ -2,7 +2,7 @@
 use native.Mathlib.Omega.{arith}
 use mathlib.Core.Path.{subst}
 use Rattle.corner_list.specs.CornerList.{corner_at}
-use Rattle.corner_list.specs.Buffer.{held}
+use Rattle.corner_list.specs.Buffer.{seen}
 use Rattle.merge_grid.specs.declared.Position.{Position}
 use Rattle.merge_grid.specs.Grid.{position_at, near}
 use Rattle.merge_settle.specs.Internal.{IsFirst}
@@ -13,10 +13,10 @@ use Rattle.merge_naive.proofs.place_for.Goals.{After-first_near-i}
 
 found : (c : After-first_near-i)
     → IsFirst (λ m. near_by c.args.square c.args.c
-    (corner_at (held c.args.b.now) m)) c.args.k
+    (corner_at (seen c.args.v) m)) c.args.k
     c.first_near-i.result
 found c =
-    subst (λ (p : Position). IsFirst (λ i. near c.args.square p (position_at c.args.b.now.xs.now c.args.b.now.ys.now i)) c.args.k c.first_near-i.result)
+    subst (λ (p : Position). IsFirst (λ i. near c.args.square p (position_at c.args.v.xs.now c.args.v.ys.now i)) c.args.k c.first_near-i.result)
     c.position_of.ensures c.first_near-i.ensures
 
 pub returns-then-k-i : goal.returns-then-k-i

@@ -9,10 +9,10 @@ overflow_add-result c = omega (arith, c.requires, c.well_formed)
 
 pub returns-then-at-k-clause-settled : goal.returns-then-at-k-clause-settled
 returns-then-at-k-clause-settled c =
-    settled-put _ _ _ _ _ _ _ c.place_for-at.ensures (simp (eq-eqb _ _ c.if-at-k.true))
+    settled-put _ _ _ _ _ _ _ (rw c.view.ensures at c.place_for-at.ensures) (simp (eq-eqb _ _ c.if-at-k.true))
     c.put.ensures.put
 
 pub returns-else-at-k-clause-settled : goal.returns-else-at-k-clause-settled
 returns-else-at-k-clause-settled c =
-    settled-put _ _ _ _ _ _ _ c.place_for-at.ensures
+    settled-put _ _ _ _ _ _ _ (rw c.view.ensures at c.place_for-at.ensures)
     (simp (ne_eqb _ _ c.if-at-k.false)) c.put.ensures.put

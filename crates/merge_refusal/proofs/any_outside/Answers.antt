@@ -5,7 +5,7 @@ use mathlib.Core.Path.{◌≡◌, sym, ap, ◌∙◌}
 use mathlib.Core.Bool.{not}
 use Rattle.lists.proofs.Places.{any-tab-hit, any-tab-none}
 use Rattle.corner_list.specs.CornerList.{corner_at}
-use Rattle.corner_list.specs.Buffer.{held}
+use Rattle.corner_list.specs.Buffer.{seen}
 use Rattle.merge_refusal.specs.Refusals.{corner_outside}
 use Rattle.merge_refusal.proofs.any_outside.Goals as goal
 use Rattle.merge_refusal.proofs.any_outside.Goals.{After-is_inside}
@@ -15,7 +15,7 @@ loop-i-init c = (omega arith, below_none _)
 
 -- the test, of the corner in the buffer
 tested : (c : After-is_inside)
-    → corner_outside (corner_at (held c.args.b.now)
+    → corner_outside (corner_at (seen c.args.v)
     c.loop-i.i)
     ≡ not c.is_inside.result
 tested c = ap corner_outside (sym c.at.ensures) ∙ ap not (sym c.is_inside.ensures)

@@ -4,7 +4,7 @@ use Prim.Native.Nat.{ℕ, min}
 use mathlib.Core.Path.{◌≡◌, sym, ap, ◌∙◌}
 use Rattle.lists.specs.Places.{any}
 use Rattle.corner_list.specs.CornerList.{corners_of, places_of}
-use Rattle.corner_list.specs.Buffer.{held as contents}
+use Rattle.corner_list.specs.Buffer.{seen}
 use Rattle.merge_refusal.specs.Refusals.{corner_outside}
 use Rattle.merge_refusal.proofs.Judged.{judged-held, judged-off, judged-corner, judged-radius, judged-count}
 use Rattle.merge_refusal.proofs.refusal_for.Goals as goal
@@ -12,7 +12,7 @@ use Rattle.merge_refusal.proofs.refusal_for.Goals.{After-any_outside, After-less
 
 -- the places that the buffer has
 held : (c : After-lesser-held)
-    → c.lesser-held.result ≡ min c.args.places (places_of (contents c.args.b.now))
+    → c.lesser-held.result ≡ min c.args.places (places_of (seen c.args.v))
 held c = c.lesser-held.ensures ∙ ap (min _) c.places.ensures
 
 pub returns-then-is_off : goal.returns-then-is_off
@@ -23,10 +23,10 @@ returns-then-is_off c =
 
 -- whether a corner is outside, of those that the buffer has
 tested : (c : After-any_outside)
-    → any corner_outside (corners_of (contents c.args.b.now)
+    → any corner_outside (corners_of (seen c.args.v)
     (min c.args.count c.lesser-held.result)) ≡ c.any_outside.result
 tested c =
-    ap (λ (n : ℕ). any corner_outside (corners_of (contents c.args.b.now) n))
+    ap (λ (n : ℕ). any corner_outside (corners_of (seen c.args.v) n))
     (sym c.lesser.ensures)
     ∙ sym c.any_outside.ensures
 
