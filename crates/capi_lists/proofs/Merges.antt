@@ -63,10 +63,11 @@ merged-by-table radius count b table kept a r b' table' kept' m n x =
     }
 
 -- ---- merging by distance alone
-pub merged-naively : (radius : Float) (count : ℕ) (b : Slices) (kept : ℕ) (a : Merged) (r : ℕ) (b' : Slices) (kept' : ℕ)
-    → MergesNaive radius count b a b' → r ≡ number_of a → kept' ≡ get_or (values_of a) 0 kept
+pub merged-naively : (radius : Float) (count : ℕ) (b : Slices) (kept : ℕ) (a : Merged) (r : ℕ) (b' : Slices) (kept' : ℕ) (left : Slices)
+    → left ≡ b' → MergesNaive radius count b a left → r ≡ number_of a → kept' ≡ get_or (values_of a) 0 kept
     → CornersMergedNaively radius count b kept r b' kept'
-merged-naively radius count b kept a r b' kept' m n x =
+merged-naively radius count b kept a r b' kept' d e m n x =
     let number = refusal_of radius (places_of b) count b in
     let left : List Corner = naive_of radius (corners_of b count) in
+    let m = subst (λ (d : Slices). MergesNaive radius count b a d) e m in
     record { answer = leaves-told number left b a b' m r n; kept_is = kept-told number left b a b' m r n kept kept' x }

@@ -2,6 +2,7 @@
 ghost use Rattle.corner_list.specs.CornerList.{slices};
 ghost use Rattle.capi_lists.specs.Naive.{CornersMergedNaively};
 
+use corner_list::CornerBuffer;
 use merge::answers::{kept_of, number_of};
 
 // Merges the first `count` corners of a buffer in place by distance alone. `kept` gets the number of corners left.
@@ -20,7 +21,13 @@ pub extern "C" fn zakdomp_merge_naive(
         kept.old result (slices xs.new ys.new strengths.new
         neighbours.new) kept.new }
 {
-    let a = merge_naive::merge_corners_naive(xs, ys, strengths, neighbours, count, radius);
+    let mut b = CornerBuffer {
+        xs,
+        ys,
+        strengths,
+        neighbours,
+    };
+    let a = merge_naive::merge_corners_naive(&mut b, count, radius);
     *kept = kept_of(a, *kept);
     number_of(a)
 }

@@ -5,7 +5,10 @@ ghost use Rattle.std.specs.Prelude.{◌≡◌};
 ghost use Rattle.lists.specs.Buffer.{wiped_from};
 ghost use Rattle.float32.specs.Float32.{zero};
 ghost use Rattle.corner_list.specs.CornerList.{slices};
+ghost use Rattle.corner_list.specs.Buffer.{contents, SameSlices};
 ghost use Rattle.clearing.specs.Clearing.{cleared_from};
+
+use corner_list::CornerBuffer;
 
 // An element of a buffer that is cleared, with its zero. A copy never fails, and equals what was copied.
 pub trait Zero: Copy {
@@ -58,19 +61,12 @@ pub fn clear<T: Zero>(d: &mut [T], n: usize)
 }
 
 // Sets the places of a buffer of corners from n on to 0.
-pub fn clear_list(
-    xs: &mut [f32],
-    ys: &mut [f32],
-    strengths: &mut [f32],
-    neighbours: &mut [u32],
-    n: usize,
-)
-    ensures { slices xs.new ys.new strengths.new neighbours.new
-        ≡ cleared_from n (slices xs.old ys.old strengths.old
-        neighbours.old) }
+pub fn clear_list(b: &mut CornerBuffer<'_>, n: usize)
+    ensures same_slices { SameSlices b.old b.new }
+    ensures cleared { contents b.new ≡ cleared_from n (contents b.old) }
 {
-    clear(xs, n);
-    clear(ys, n);
-    clear(strengths, n);
-    clear(neighbours, n);
+    clear(b.xs, n);
+    clear(b.ys, n);
+    clear(b.strengths, n);
+    clear(b.neighbours, n);
 }

@@ -1,1 +1,2 @@
 pub mod CornerList
+pub mod Buffer

@@ -1,8 +1,12 @@
 // Corners, and lists of them in a buffer of four slices.
 #![tactic(auto)]
 
+mod buffer; // CornerBuffer, CornerView: four borrowed slices
+
 ghost use Rattle.std.specs.Prelude.{◌≡◌, min};
 ghost use Rattle.corner_list.specs.CornerList.{is_inside, slices, corner_at, with_corner};
+
+pub use buffer::{CornerBuffer, CornerView};
 
 // Where a corner is, in pixels, the response at its peak, and how many neighbours of that peak are above 0.
 #[derive(Clone, Copy)]

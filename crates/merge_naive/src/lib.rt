@@ -6,13 +6,14 @@
 #![tactic(auto)]
 
 ghost use Rattle.std.specs.Prelude.{◌≡◌, ◌<◌, ◌≤◌};
-ghost use Rattle.corner_list.specs.CornerList.{slices, places_of, corners_of};
+ghost use Rattle.corner_list.specs.CornerList.{places_of, corners_of};
+ghost use Rattle.corner_list.specs.Buffer.{contents, seen, SameSlices};
 ghost use Rattle.merge_grid.specs.Grid.{position_at, near};
 ghost use Rattle.merge_settle.specs.Settle.{Left};
 ghost use Rattle.merge_settle.specs.Internal.{IsFirst, SettlesAt, Settled};
 ghost use Rattle.merge_naive.specs.MergeNaive.{near_by, naive_of, MergesNaive};
 
-use corner_list::Corner;
+use corner_list::{Corner, CornerBuffer, CornerView};
 use merge::Merged;
 use merge_grid::Position;
 
@@ -20,11 +21,11 @@ use merge_grid::Position;
 const NOWHERE: usize = 18446744073709551615;
 
 // The lowest of the first k places of a buffer whose corner is near a position, or k.
-fn first_near(xs: &[f32], ys: &[f32], square: f32, k: usize, p: Position) -> usize
-    ensures { IsFirst (λ i. near square p (position_at xs.now ys.now i)) k result }
+fn first_near(v: CornerView<'_>, square: f32, k: usize, p: Position) -> usize
+    ensures { IsFirst (λ i. near square p (position_at v.entry.xs.now v.entry.ys.now i)) k result }
 {
     for i in 0..k {
-        if merge_grid::is_near(square, p, merge_grid::position_at(xs, ys, i)) {
+        if merge_grid::is_near(square, p, merge_grid::position_at(v.xs, v.ys, i)) {
             return i;
         }
     }
@@ -34,23 +35,20 @@ fn first_near(xs: &[f32], ys: &[f32], square: f32, k: usize, p: Position) -> usi
 // The place for c among the first k of a buffer: that of the first corner that it is near, if c is stronger; k, if it
 // is near none; NOWHERE, if it is dropped.
 fn place_for(
-    xs: &[f32],
-    ys: &[f32],
-    strengths: &[f32],
-    neighbours: &[u32],
+    v: CornerView<'_>,
     square: f32,
     k: usize,
     c: Corner,
 ) -> usize
-    requires { k < places_of (slices xs.now ys.now strengths.now neighbours.now) }
+    requires { k < places_of (seen v) }
     ensures { SettlesAt (near_by square) k c
-        (slices xs.now ys.now strengths.now neighbours.now) result }
+        (seen v.entry) result }
 {
-    let i = first_near(xs, ys, square, k, merge_grid::position_of(c));
+    let i = first_near(v, square, k, merge_grid::position_of(c));
     if k <= i {
         return k;
     }
-    let o = corner_list::corner_at(xs, ys, strengths, neighbours, i);
+    let o = v.at(i);
     if o.strength < c.strength {
         return i;
     }
@@ -59,38 +57,34 @@ fn place_for(
 
 // Settles c among the first k corners of a buffer, and returns how many are kept then.
 fn settle_corner(
-    xs: &mut [f32],
-    ys: &mut [f32],
-    strengths: &mut [f32],
-    neighbours: &mut [u32],
+    b: &mut CornerBuffer<'_>,
     square: f32,
     k: usize,
     c: Corner,
 ) -> usize
-    requires { k < places_of (slices xs.old ys.old strengths.old neighbours.old) }
-    ensures { Settled (near_by square) k c
-        (slices xs.old ys.old strengths.old neighbours.old)
-        result (slices xs.new ys.new strengths.new neighbours.new) }
+    requires { k < places_of (contents b.old) }
+    ensures same_slices { SameSlices b.old b.new }
+    ensures settled { Settled (near_by square) k c
+        (contents b.old)
+        result (contents b.new) }
 {
-    let at = place_for(xs, ys, strengths, neighbours, square, k, c);
-    corner_list::put_corner(xs, ys, strengths, neighbours, at, c);
+    let at = place_for(b.view(), square, k, c);
+    b.put(at, c);
     if at == k { k + 1 } else { k }
 }
 
 // Merges the first n corners of a buffer in place, and returns how many are left. It checks nothing.
 fn merge_list(
-    xs: &mut [f32],
-    ys: &mut [f32],
-    strengths: &mut [f32],
-    neighbours: &mut [u32],
+    b: &mut CornerBuffer<'_>,
     n: usize,
     radius: f32,
 ) -> usize
-    requires { n ≤ places_of (slices xs.old ys.old strengths.old neighbours.old) }
-    ensures { Left (naive_of radius
-        (corners_of (slices xs.old ys.old strengths.old neighbours.old) n))
-        (slices xs.old ys.old strengths.old neighbours.old) result
-        (slices xs.new ys.new strengths.new neighbours.new) }
+    requires { n ≤ places_of (contents b.old) }
+    ensures same_slices { SameSlices b.old b.new }
+    ensures left { Left (naive_of radius
+        (corners_of (contents b.old) n))
+        (contents b.old) result
+        (contents b.new) }
 {
     if merge_radius::is_off(radius) {
         return n;
@@ -98,8 +92,8 @@ fn merge_list(
     let square = radius * radius;
     let mut k = 0;
     for i in 0..n {
-        let c = corner_list::corner_at(xs, ys, strengths, neighbours, i);
-        k = settle_corner(xs, ys, strengths, neighbours, square, k, c);
+        let c = b.at(i);
+        k = settle_corner(b, square, k, c);
     }
     k
 }
@@ -107,20 +101,18 @@ fn merge_list(
 // Merges the first `count` corners of a buffer in place, like the Rust's `merge_corners_naive`. It refuses what
 // `merge_corners_simple` refuses.
 pub fn merge_corners_naive(
-    xs: &mut [f32],
-    ys: &mut [f32],
-    strengths: &mut [f32],
-    neighbours: &mut [u32],
+    b: &mut CornerBuffer<'_>,
     count: usize,
     radius: f32,
 ) -> Merged
-    ensures { MergesNaive radius count
-        (slices xs.old ys.old strengths.old neighbours.old) result
-        (slices xs.new ys.new strengths.new neighbours.new) }
+    ensures same_slices { SameSlices b.old b.new }
+    ensures merged { MergesNaive radius count
+        (contents b.old) result
+        (contents b.new) }
 {
-    let number = merge_refusal::refusal(xs, ys, strengths, neighbours, xs.len(), count, radius);
+    let number = merge_refusal::refusal_for(b.view(), b.xs.len(), count, radius);
     if number != 0 {
         return Merged::Refused(number);
     }
-    Merged::Kept(merge_list(xs, ys, strengths, neighbours, count, radius))
+    Merged::Kept(merge_list(b, count, radius))
 }

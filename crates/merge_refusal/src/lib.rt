@@ -4,7 +4,10 @@
 ghost use Rattle.std.specs.Prelude.{◌≡◌, cond, min, ltb};
 ghost use Rattle.lists.specs.Places.{any};
 ghost use Rattle.corner_list.specs.CornerList.{slices, corners_of, places_of};
+ghost use Rattle.corner_list.specs.Buffer.{seen};
 ghost use Rattle.merge_refusal.specs.Refusals.{corner_outside, refusal_of};
+
+use corner_list::CornerView;
 
 // Whether one of the first n corners of a buffer is not inside.
 fn has_outside(xs: &[f32], ys: &[f32], strengths: &[f32], neighbours: &[u32], n: usize) -> bool
@@ -47,13 +50,42 @@ pub fn refusal(
         corner_list::places(xs.len(), ys.len(), strengths.len(), neighbours.len()),
     );
     if merge_radius::is_off(radius) {
-        return crowding(held, count);
+        return crowding(contents, count);
     }
     if has_outside(xs, ys, strengths, neighbours, numbers::lesser(count, held)) {
         return 4;
     }
     if merge_radius::is_sized(radius) {
-        return crowding(held, count);
+        return crowding(contents, count);
+    }
+    5
+}
+
+// Whether one of the first n corners of a buffer is not inside.
+fn any_outside(v: CornerView<'_>, n: usize) -> bool
+    ensures { result ≡ any corner_outside (corners_of (seen v.entry) n) }
+{
+    for i in 0..n {
+        if !corner_list::is_inside(v.at(i)) {
+            return true;
+        }
+    }
+    false
+}
+
+// The number of the refusal for merging the first `count` corners of a buffer of at most `places` places, 0 for none.
+pub fn refusal_for(v: CornerView<'_>, places: usize, count: usize, radius: f32) -> u8
+    ensures { result ≡ refusal_of radius (min places (places_of (seen v.entry))) count (seen v.entry) }
+{
+    let held = numbers::lesser(places, v.places());
+    if merge_radius::is_off(radius) {
+        return crowding(contents, count);
+    }
+    if any_outside(v, numbers::lesser(count, held)) {
+        return 4;
+    }
+    if merge_radius::is_sized(radius) {
+        return crowding(contents, count);
     }
     5
 }

@@ -12,7 +12,7 @@ loop-i-init c = (omega arith, below_none _)
 
 -- the test, of the corner in the buffer
 tested : (c : After-is_near)
-    → near c.args.square c.args.p (position_at c.args.xs.now c.args.ys.now c.loop-i.i) ≡ c.is_near.result
+    → near c.args.square c.args.p (position_at c.args.v.xs.now c.args.v.ys.now c.loop-i.i) ≡ c.is_near.result
 tested c =
     ap (near c.args.square c.args.p) (sym c.position_at.ensures) ∙ sym c.is_near.ensures
 
