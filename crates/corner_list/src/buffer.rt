@@ -28,7 +28,12 @@ impl CornerView<'_> {
     pub fn places(self) -> usize
         ensures { result ≡ places_of (seen self.entry) }
     {
-        crate::places(self.xs.len(), self.ys.len(), self.strengths.len(), self.neighbours.len())
+        crate::places(
+            self.xs.len(),
+            self.ys.len(),
+            self.strengths.len(),
+            self.neighbours.len(),
+        )
     }
 
     // The corner at a place. A field whose slice is too short is NaN, and 0 for the neighbours.

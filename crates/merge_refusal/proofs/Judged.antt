@@ -7,6 +7,9 @@ use mathlib.Core.List.{List, [], ◌∷◌}
 use lib.Dec.{ltb}
 use borrow.Author.Tests.{ltb-false, le-ltb, not-true, not-false}
 use lib.Ieee.{Float}
+use Rattle.std.specs.Prelude.{Result}
+use Rattle.lists.specs.declared.refusal.Refusal.{Refusal}
+use Rattle.lists.specs.Refusals.{verdict}
 use Rattle.lists.specs.Places.{any, All}
 use Rattle.lists.proofs.Tests.{is_false}
 use Rattle.lists.proofs.Members.{all_map, none_any, any_none}
@@ -17,9 +20,9 @@ use Rattle.merge_radius.specs.MergeRadius.{is_off, is_sized}
 use Rattle.merge_refusal.specs.Refusals.{corner_outside, refusal_of}
 
 -- ---- the number does not change with another name for the places
-pub judged-held : (radius : Float) (held places count : ℕ) (b : Slices) (k : ℕ) → k ≡ refusal_of radius held count b → held ≡ places
-    → k ≡ refusal_of radius places count b
-judged-held radius held places count b k e is = e ∙ ap (λ (n : ℕ). refusal_of radius n count b) is
+pub judged-held : (radius : Float) (held places count : ℕ) (b : Slices) (r : Result (Unit {0}) Refusal)
+    → r ≡ verdict (refusal_of radius held count b) → held ≡ places → r ≡ verdict (refusal_of radius places count b)
+judged-held radius held places count b r e is = e ∙ ap (λ (n : ℕ). verdict (refusal_of radius n count b)) is
 
 module _ (radius : Float) (places count : ℕ) (b : Slices) where
   -- ---- the number, by the tests

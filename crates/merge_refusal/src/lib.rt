@@ -3,89 +3,55 @@
 
 ghost use Rattle.std.specs.Prelude.{◌≡◌, cond, min, ltb};
 ghost use Rattle.lists.specs.Places.{any};
-ghost use Rattle.corner_list.specs.CornerList.{slices, corners_of, places_of};
+ghost use Rattle.lists.specs.Refusals.{verdict};
+ghost use Rattle.corner_list.specs.CornerList.{corners_of, places_of};
 ghost use Rattle.corner_list.specs.Buffer.{seen};
 ghost use Rattle.merge_refusal.specs.Refusals.{corner_outside, refusal_of};
 
 use corner_list::CornerView;
+use lists::Refusal;
 
 // Whether one of the first n corners of a buffer is not inside.
-fn has_outside(xs: &[f32], ys: &[f32], strengths: &[f32], neighbours: &[u32], n: usize) -> bool
-    ensures { result ≡ any corner_outside
-        (corners_of (slices xs.now ys.now strengths.now
-        neighbours.now) n) }
+fn has_outside(list: CornerView<'_>, n: usize) -> bool
+    ensures { result ≡ any corner_outside (corners_of (seen list.entry) n) }
 {
     for i in 0..n {
-        if !corner_list::is_inside(corner_list::corner_at(xs, ys, strengths, neighbours, i)) {
+        if !corner_list::is_inside(list.at(i)) {
             return true;
         }
     }
     false
 }
 
-// 10 if more corners are stated than there are places.
-fn crowding(places: usize, count: usize) -> u8
-    ensures { result ≡ cond (ltb places count) 10 0 }
+// Refuses more corners than there are places.
+fn crowding(places: usize, count: usize) -> Result<(), Refusal>
+    ensures { result ≡ verdict (cond (ltb places count) 10 0) }
 {
-    if places < count { 10 } else { 0 }
+    if places < count {
+        return Err(Refusal::ListTooLong);
+    }
+    Ok(())
 }
 
-// The number of the refusal for merging the first `count` corners of a buffer of at most `places` places, 0 for none.
+// Why merging the first `count` corners of a buffer of at most `places` places is refused.
 pub fn refusal(
-    xs: &[f32],
-    ys: &[f32],
-    strengths: &[f32],
-    neighbours: &[u32],
+    list: CornerView<'_>,
     places: usize,
     count: usize,
     radius: f32,
-) -> u8
-    ensures { result ≡ refusal_of radius
-        (min places (places_of (slices xs.now ys.now strengths.now
-        neighbours.now))) count
-        (slices xs.now ys.now strengths.now neighbours.now) }
+) -> Result<(), Refusal>
+    ensures { result ≡ verdict (refusal_of radius (min places (places_of (seen list.entry))) count
+        (seen list.entry)) }
 {
-    let held = numbers::lesser(
-        places,
-        corner_list::places(xs.len(), ys.len(), strengths.len(), neighbours.len()),
-    );
+    let held = places.min(list.places());
     if merge_radius::is_off(radius) {
-        return crowding(contents, count);
+        return crowding(held, count);
     }
-    if has_outside(xs, ys, strengths, neighbours, numbers::lesser(count, held)) {
-        return 4;
+    if has_outside(list, count.min(held)) {
+        return Err(Refusal::PositionOutside);
     }
     if merge_radius::is_sized(radius) {
-        return crowding(contents, count);
+        return crowding(held, count);
     }
-    5
-}
-
-// Whether one of the first n corners of a buffer is not inside.
-fn any_outside(v: CornerView<'_>, n: usize) -> bool
-    ensures { result ≡ any corner_outside (corners_of (seen v.entry) n) }
-{
-    for i in 0..n {
-        if !corner_list::is_inside(v.at(i)) {
-            return true;
-        }
-    }
-    false
-}
-
-// The number of the refusal for merging the first `count` corners of a buffer of at most `places` places, 0 for none.
-pub fn refusal_for(v: CornerView<'_>, places: usize, count: usize, radius: f32) -> u8
-    ensures { result ≡ refusal_of radius (min places (places_of (seen v.entry))) count (seen v.entry) }
-{
-    let held = numbers::lesser(places, v.places());
-    if merge_radius::is_off(radius) {
-        return crowding(contents, count);
-    }
-    if any_outside(v, numbers::lesser(count, held)) {
-        return 4;
-    }
-    if merge_radius::is_sized(radius) {
-        return crowding(contents, count);
-    }
-    5
+    Err(Refusal::RadiusOutside)
 }

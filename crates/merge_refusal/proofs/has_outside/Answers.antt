@@ -4,7 +4,8 @@ use native.Mathlib.Omega.{arith}
 use mathlib.Core.Path.{◌≡◌, sym, ap, ◌∙◌}
 use mathlib.Core.Bool.{not}
 use Rattle.lists.proofs.Places.{any-tab-hit, any-tab-none}
-use Rattle.corner_list.specs.CornerList.{slices, corner_at}
+use Rattle.corner_list.specs.CornerList.{corner_at}
+use Rattle.corner_list.specs.Buffer.{seen}
 use Rattle.merge_refusal.specs.Refusals.{corner_outside}
 use Rattle.merge_refusal.proofs.has_outside.Goals as goal
 use Rattle.merge_refusal.proofs.has_outside.Goals.{After-is_inside}
@@ -14,10 +15,10 @@ loop-i-init c = (omega arith, below_none _)
 
 -- the test, of the corner in the buffer
 tested : (c : After-is_inside)
-    → corner_outside (corner_at (slices c.args.xs.now c.args.ys.now c.args.strengths.now c.args.neighbours.now)
+    → corner_outside (corner_at (seen c.args.list)
     c.loop-i.i)
     ≡ not c.is_inside.result
-tested c = ap corner_outside (sym c.corner_at.ensures) ∙ ap not (sym c.is_inside.ensures)
+tested c = ap corner_outside (sym c.at.ensures) ∙ ap not (sym c.is_inside.ensures)
 
 pub returns-then-not-is_inside : goal.returns-then-not-is_inside
 returns-then-not-is_inside c =
