@@ -11,8 +11,9 @@ use Rattle.detect.specs.declared.enough.Enough.{Enough}
 use Rattle.detect.specs.declared.enough.Enough.TheVariants.{Yes, No, Refused}
 use Rattle.detect.specs.Detect.{peaks_in}
 use Rattle.detect.specs.Enough.{rows_inside, rows_to, rows_for, answer_of, enough_of, number_of, values_of, EnoughFound}
-use Rattle.detect.specs.Internal.{place, place_behind, peaks_from, NextPeak}
-use Rattle.detect.proofs.Scanning.{peaks-start, next-none, next-inside, next-first}
+use Rattle.detect.specs.declared.searching.Spot.{Spot}
+use Rattle.detect.specs.Internal.{place, place_of, place_behind, peaks_from, FirstFrom}
+use Rattle.detect.proofs.Scanning.{peaks-start}
 
 -- what stands behind the place i of a list
 drop-next : {A : Type 0} (l : List A) (i : ℕ) (a : A) (t : List A) → drop i l ≡ a ∷ t → drop (i + 1) l ≡ t
@@ -40,31 +41,29 @@ module _ (m : List Float) (s : Search) (rows i : ℕ) (p : Place) (a : Searching
       let enough = le-leb wanted (length peaks) (omega (arith, a.found)) in
       ap Yes (a.looked ∙ ap (λ (n : ℕ). rows_for s n peaks) e) ∙ ap (λ (b : Bool). answer_of b (rows_for s wanted peaks)) (sym enough)
 
-  module _ (q : Place) (f : NextPeak m s p q) where
-    -- one more is found
-    pub searching-next : q.y < s.h - s.border → (rows' : ℕ) → rows' ≡ q.y - s.border + 1
-        → Searching m s rows' (i + 1) (place_behind q)
-    searching-next l rows' e =
-        let inside = next-inside m s p q f l in
-        let here = a.ahead ∙ next-first m s p q f l in record {
-          left = omega (arith, inside.left);
-          top = inside.top;
-          ahead = drop-next (peaks_in m s) i q (peaks_from m s (place_behind q)) here;
-          found = omega (arith, length-drop i (peaks_in m s), ap length here);
-          looked = e ∙ ap (rows_to s) (sym here) ∙ ap (λ (n : ℕ). rows_for s n (peaks_in m s)) (sym (add-one i));
-        }
+  -- one more is found
+  pub searching-next : (q : Spot) → FirstFrom m s p q → (rows' : ℕ) → rows' ≡ q.y - s.border + 1
+      → Searching m s rows' (i + 1) (place_behind (place_of q))
+  searching-next q f rows' e =
+      let here = a.ahead ∙ f.ahead in record {
+        left = omega (arith, f.inside.left);
+        top = f.inside.top;
+        ahead = drop-next (peaks_in m s) i (place_of q) (peaks_from m s (place_behind (place_of q))) here;
+        found = omega (arith, length-drop i (peaks_in m s), ap length here);
+        looked = e ∙ ap (rows_to s) (sym here) ∙ ap (λ (n : ℕ). rows_for s n (peaks_in m s)) (sym (add-one i));
+      }
 
-    -- there is none, and another was wanted
-    pub searching-no : s.h - s.border ≤ q.y → (wanted : ℕ) → i < wanted
-        → (rows' : ℕ) → rows' ≡ rows_inside s → No rows' ≡ enough_of s wanted (peaks_in m s)
-    unfolding enough_of
-    searching-no l zero o rows' e = absurd (let no : ⊥ = omega arith in no)
-    searching-no l (suc n) o rows' e =
-        let peaks = peaks_in m s in
-        let all : length peaks ≤ i = omega (arith, length-drop i peaks, ap length (a.ahead ∙ next-none m s p q f l)) in
-        let none = drop_of_length-le peaks {i = n} (omega arith) in
-        let few = lt-leb (suc n) (length peaks) (omega arith) in
-        ap No (e ∙ ap (rows_to s) (sym none)) ∙ ap (λ (b : Bool). answer_of b (rows_to s (drop n peaks))) (sym few)
+  -- there is none, and another was wanted
+  pub searching-no : peaks_from m s p ≡ [] → (wanted : ℕ) → i < wanted
+      → (rows' : ℕ) → rows' ≡ rows_inside s → No rows' ≡ enough_of s wanted (peaks_in m s)
+  unfolding enough_of
+  searching-no f zero o rows' e = absurd (let no : ⊥ = omega arith in no)
+  searching-no f (suc n) o rows' e =
+      let peaks = peaks_in m s in
+      let all : length peaks ≤ i = omega (arith, length-drop i peaks, ap length (a.ahead ∙ f)) in
+      let none = drop_of_length-le peaks {i = n} (omega arith) in
+      let few = lt-leb (suc n) (length peaks) (omega arith) in
+      ap No (e ∙ ap (rows_to s) (sym none)) ∙ ap (λ (b : Bool). answer_of b (rows_to s (drop n peaks))) (sym few)
 
 -- ---- the promise
 module _ (conds : List (Bool × ℕ)) (m : List Float) (s : Search) (wanted : ℕ) where

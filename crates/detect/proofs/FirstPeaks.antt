@@ -1,9 +1,9 @@
 -- A table of the first peaks: numbers of peaks, a peak listed, and the peaks taken from it one after the other. Assumes nothing.
-use Rattle.std.proofs.Common.{◌≡◌, ℕ, zero, suc, ◌+◌, ◌-◌, ◌*◌, ◌/◌, ◌%◌, ◌<◌, ◌≤◌, true, false, ltb, List, length, get_or, set, sym, refl}
-use Rattle.std.proofs.Common.{ap, ◌∙◌, add-zero, mod-eq_of_lt, add-one, arith, length-set, get_or-set_other, get_or-set_same, le-ltb}
+use Rattle.std.proofs.Common.{◌≡◌, ℕ, zero, suc, ◌+◌, ◌-◌, ◌*◌, ◌/◌, ◌%◌, ◌<◌, ◌≤◌, Bool, true, false, cond, ltb, leb, List, Option, Some, None, IfSome, length, get_or, set, sym, refl}
+use Rattle.std.proofs.Common.{ap, subst, ◌∙◌, add-zero, mod-eq_of_lt, add-one, arith, length-set, get_or-set_other, get_or-set_same, le-ltb}
 use Rattle.std.proofs.Common.{lt-ltb}
 use native.Mathlib.Nat.{div-eq_of_lt, mul-add-mod_self_right, mul-add-div_right}
-use native.Mathlib.Decide.{dec_lt}
+use borrow.Author.Tests.{lt-leb}
 use lib.Ieee.{Float}
 use borrow.Author.Count as passed
 use Rattle.lists.specs.Limits.{largest_side, largest_map}
@@ -11,12 +11,11 @@ use Rattle.lists.specs.Places.{Place}
 use Rattle.detect.specs.declared.Search.{Search}
 use Rattle.detect.specs.declared.searching.Spot.{Spot}
 use Rattle.detect.specs.Detect.{read_in, peaks_in}
-use Rattle.detect.specs.Internal.{place, place_behind, place_of, spot_of, start_of, peaks_from, Searchable, NextFound, SpotInRange}
-use Rattle.detect.specs.Internal.{counts, Numbered}
-use Rattle.detect.specs.Internal.{PeaksListed, IsSearchStart, NextListed}
+use Rattle.detect.specs.Internal.{place, place_behind, place_of, counts, spot_of, found_of, start_of, peaks_from, Searchable}
+use Rattle.detect.specs.Internal.{FirstFrom, NextFound, SpotInRange, PeaksListed, IsSearchStart, NextListed}
 use Rattle.detect.proofs.Cells.{inside-few}
 use Rattle.detect.proofs.Choice.{peaks-at-most}
-use Rattle.detect.proofs.Scanning.{peaks-start, next-none, next-inside, next-first, found-past}
+use Rattle.detect.proofs.Scanning.{peaks-start}
 use Rattle.detect.proofs.Ties.{few-at, neighbours-few}
 
 -- ---- numbers
@@ -46,19 +45,31 @@ spot-number f k =
       high 4096 f.y f.x k.x,
     )
 
-pub numbered-here : (f : Spot) (y1 : ℕ) → SpotInRange f → f.y < y1 → Numbered f y1 (counted_number f * counts + f.ties)
-numbered-here f y1 k i = record { here = λ _. spot-number f k; past = λ o. absurd (let no : ⊥ = omega arith in no) }
+pub numbered : (f : Spot) → SpotInRange f → found_of (counted_number f * counts + f.ties) ≡ Some f
+numbered f k =
+    let below : counted_number f * counts + f.ties < largest_side * largest_side * counts * counts
+    = omega (arith, k.x, k.y, k.neighbours, k.ties)
+    in
+    rw (lt-leb (largest_side * largest_side * counts * counts) (counted_number f * counts + f.ties) below, spot-number f k)
+
+-- the peak that a number stands for is the one that it encodes
+spot-found : (a : ℕ) (f : Spot) → found_of a ≡ Some f → spot_of a ≡ f
+spot-found a f = pick (leb (largest_side * largest_side * counts * counts) a)
+  where
+    pick : (b : Bool) → cond b None (Some (spot_of a)) ≡ Some f → spot_of a ≡ f
+    pick true e = cc
+    pick false e = cc
 
 -- a peak has a number of its own
-pub found-small : (m : List Float) (s : Search) → Searchable m s → (p : Place) (f : Spot) → NextFound m s p f
-    → f.y < s.h - s.border → SpotInRange f
-found-small m s k p f a l =
-    let i = next-inside m s p (place_of f) a.next l in record {
-      x = omega (arith, i.right, k.wide);
-      y = omega (arith, i.bottom, k.high);
-      neighbours = omega (arith, (a.counted l).neighbours, neighbours-few m s k (place_of f));
-      ties = omega (arith, (a.counted l).ties, few-at m s k (place_of f));
-    }
+pub found-small : (m : List Float) (s : Search) → Searchable m s → (p : Place) (o : Option Spot) → NextFound m s p o
+    → IfSome o SpotInRange
+found-small m s k p None a = tt
+found-small m s k p (Some f) a = record {
+  x = omega (arith, a.inside.right, k.wide);
+  y = omega (arith, a.inside.bottom, k.high);
+  neighbours = omega (arith, a.counted.neighbours, neighbours-few m s k (place_of f));
+  ties = omega (arith, a.counted.ties, few-at m s k (place_of f));
+}
 
 -- ---- the table that is filled
 
@@ -71,7 +82,7 @@ pub record Listing (m : List Float) (s : Search) (t : List ℕ) (n : ℕ) (p : P
 
 pub listing-first : (m : List Float) (s : Search) (t : List ℕ) → Listing m s t 0 (place s.border s.border)
 listing-first m s t = record {
-  listed = record { within = omega arith; each = passed.below_none (λ i. NextFound m s (start_of s t i) (spot_of (get_or t i 0))) };
+  listed = record { within = omega arith; each = passed.below_none (λ i. NextFound m s (start_of s t i) (found_of (get_or t i 0))) };
   left = omega arith;
   top = omega arith;
   start = refl;
@@ -87,38 +98,32 @@ start-set s t n a zero l = refl
 start-set s t n a (suc i) l =
     ap (λ (k : ℕ). place_behind (place_of (spot_of k))) (get_or-set_other t n i a 0 (λ e. let no : ⊥ = omega arith in no))
 
-module _ (m : List Float) (s : Search) (t : List ℕ) (n : ℕ) (p : Place) (q : Spot) (a : ℕ) (g : Listing m s t n p)
-    (below : s.h ≤ largest_side)
-    (k : n < length t) (f : NextFound m s p q) (y1 : ℕ) (e : y1 ≡ s.h - s.border) (b : Numbered q y1 a) where
-  by_number : NextFound m s p (spot_of a)
-  by_number =
-      elim (dec_lt q.y (s.h - s.border)) [
-        | yes l ↦ rw (b.here (omega arith)) f
-        | no l ↦ found-past m s p q f (spot_of a) (omega arith) (omega (arith, b.past (omega arith)))
-      ]
-
+module _ (m : List Float) (s : Search) (t : List ℕ) (n : ℕ) (p : Place) (o : Option Spot) (a : ℕ) (g : Listing m s t n p)
+    (k : n < length t) (f : NextFound m s p o) (b : found_of a ≡ o) where
   pub listing-put : PeaksListed m s (set t n a) (n + 1)
   listing-put = record { within = rw length-set (omega arith); each = passed.below_more Each n old new }
     where
       Each : ℕ → Type 0
-      Each i = NextFound m s (start_of s (set t n a) i) (spot_of (get_or (set t n a) i 0))
+      Each i = NextFound m s (start_of s (set t n a) i) (found_of (get_or (set t n a) i 0))
 
-      old : (i : ℕ) → i < n → NextFound m s (start_of s (set t n a) i) (spot_of (get_or (set t n a) i 0))
+      old : (i : ℕ) → i < n → NextFound m s (start_of s (set t n a) i) (found_of (get_or (set t n a) i 0))
       old i l =
           let other : i ≡ n → ⊥ = λ e. let no : ⊥ = omega arith in no in
           rw (start-set s t n a i (omega arith), get_or-set_other t n i a 0 other) (g.listed.each i l)
 
-      new : NextFound m s (start_of s (set t n a) n) (spot_of (get_or (set t n a) n 0))
-      new = rw (start-set s t n a n (omega arith), get_or-set_same t n a 0 k, ← g.start) by_number
+      new : NextFound m s (start_of s (set t n a) n) (found_of (get_or (set t n a) n 0))
+      new = rw (start-set s t n a n (omega arith), get_or-set_same t n a 0 k, ← g.start, b) f
 
-  pub listing-next : q.y < s.h - s.border → Listing m s (set t n a) (n + 1) (place_behind (place_of q))
-  listing-next l = record {
-    listed = listing-put;
-    left = omega (arith, (next-inside m s p (place_of q) f.next l).left);
-    top = (next-inside m s p (place_of q) f.next l).top;
-    start = ap (λ (j : Spot). place_behind (place_of j)) (sym (b.here (omega arith)) ∙ ap spot_of (sym (get_or-set_same t n a 0 k)))
-        ∙ sym (start-next s (set t n a) n);
-  }
+  pub listing-next : (q : Spot) → o ≡ Some q → Listing m s (set t n a) (n + 1) (place_behind (place_of q))
+  listing-next q e =
+      let first : FirstFrom m s p q = subst (NextFound m s p) e f in record {
+        listed = listing-put;
+        left = omega (arith, first.inside.left);
+        top = first.inside.top;
+        start = ap (λ (j : Spot). place_behind (place_of j))
+            (sym (spot-found a q (b ∙ e)) ∙ ap spot_of (sym (get_or-set_same t n a 0 k)))
+            ∙ sym (start-next s (set t n a) n);
+      }
 
 -- ---- the peaks by the table
 
@@ -127,20 +132,20 @@ search-start-first s t n = record { left = omega arith; top = omega arith; liste
 
 module _ (m : List Float) (s : Search) (t : List ℕ) (n i : ℕ) (p : Place) where
   -- from the table
-  pub next-taken : PeaksListed m s t n → IsSearchStart s t n i p → i < n → (q : Spot) → q ≡ spot_of (get_or t i 0)
-      → NextListed m s t n i p q
-  next-taken g a l q e = record { next = rw (a.listed l, e) (g.each i l); listed = λ _. e }
+  pub next-taken : PeaksListed m s t n → IsSearchStart s t n i p → i < n → (o : Option Spot) → o ≡ found_of (get_or t i 0)
+      → NextListed m s t n i p o
+  next-taken g a l o e = record { next = rw (a.listed l, e) (g.each i l); listed = λ _. e }
 
   -- by the search
-  pub next-searched : n ≤ i → (q : Spot) → NextFound m s p q → NextListed m s t n i p q
-  next-searched l q f = record { next = f; listed = λ o. absurd (let no : ⊥ = omega arith in no) }
+  pub next-searched : n ≤ i → (o : Option Spot) → NextFound m s p o → NextListed m s t n i p o
+  next-searched l o f = record { next = f; listed = λ w. absurd (let no : ⊥ = omega arith in no) }
 
-  pub search-start-next : (q : Spot) → NextListed m s t n i p q → q.y < s.h - s.border
-      → IsSearchStart s t n (i + 1) (place_behind (place_of q))
-  search-start-next q f l = record {
-    left = omega (arith, (next-inside m s p (place_of q) f.next.next l).left);
-    top = (next-inside m s p (place_of q) f.next.next l).top;
-    listed = λ o. ap (λ (j : Spot). place_behind (place_of j)) (f.listed (omega arith)) ∙ sym (start-next s t i);
+  pub search-start-next : (q : Spot) → NextListed m s t n i p (Some q) → IsSearchStart s t n (i + 1) (place_behind (place_of q))
+  search-start-next q f = record {
+    left = omega (arith, f.next.inside.left);
+    top = f.next.inside.top;
+    listed = λ o. ap (λ (j : Spot). place_behind (place_of j)) (sym (spot-found (get_or t i 0) q (sym (f.listed (omega arith)))))
+        ∙ sym (start-next s t i);
   }
 
 -- ---- the peaks counted: i come before p, where the search goes on
@@ -151,18 +156,17 @@ pub record Counting (m : List Float) (s : Search) (t : List ℕ) (n i : ℕ) (p 
 pub counting-first : (m : List Float) (s : Search) (t : List ℕ) (n : ℕ) → Counting m s t n 0 (place s.border s.border)
 counting-first m s t n = record { sum = omega (arith, ap length (peaks-start m s)); search-start = search-start-first s t n }
 
-module _ (m : List Float) (s : Search) (t : List ℕ) (n i : ℕ) (p : Place) (a : Counting m s t n i p)
-    (q : Spot) (f : NextListed m s t n i p q) where
-  pub counting-next : q.y < s.h - s.border → Counting m s t n (i + 1) (place_behind (place_of q))
-  counting-next l = record {
-    sum = omega (arith, a.sum, ap length (next-first m s p (place_of q) f.next.next l));
-    search-start = search-start-next m s t n i p q f l;
+module _ (m : List Float) (s : Search) (t : List ℕ) (n i : ℕ) (p : Place) (a : Counting m s t n i p) where
+  pub counting-next : (q : Spot) → NextListed m s t n i p (Some q) → Counting m s t n (i + 1) (place_behind (place_of q))
+  counting-next q f = record {
+    sum = omega (arith, a.sum, ap length f.next.ahead);
+    search-start = search-start-next m s t n i p q f;
   }
 
-  pub counting-fit : s.h - s.border ≤ q.y → (places held : ℕ) → held + i ≤ places
+  pub counting-fit : NextListed m s t n i p None → (places held : ℕ) → held + i ≤ places
       → false ≡ ltb places (held + length (peaks_in m s))
-  counting-fit l places held o =
-      let all : held + length (peaks_in m s) ≤ places = omega (arith, a.sum, ap length (next-none m s p (place_of q) f.next.next l)) in
+  counting-fit f places held o =
+      let all : held + length (peaks_in m s) ≤ places = omega (arith, a.sum, ap length f.next) in
       sym (le-ltb places (held + length (peaks_in m s)) all)
 
 -- there are no more than cells

@@ -2,7 +2,7 @@ pub mod Choice
 pub mod Window
 pub mod Overtopping
 pub mod Squares
-pub mod OtherWindow
+pub mod Listed
 pub mod Agreement
 pub mod Answers
 pub mod Cells

@@ -1,5 +1,5 @@
 -- The test of a place by what led to its answer, and what its answer says. Assumes nothing.
-use Rattle.std.proofs.Common.{◌≡◌, ℕ, ◌<◌, ◌≤◌, Bool, true, false, cond, not, List, get_or, sym, refl, ap, ◌∙◌, ap₂, le-leb}
+use Rattle.std.proofs.Common.{◌≡◌, ℕ, ◌<◌, ◌≤◌, Bool, true, false, cond, not, List, Option, Some, None, sym, refl, ap, ◌∙◌, ap₂, le-leb}
 use mathlib.Core.Bool.{false≢true}
 use lib.Ieee.{Float, le}
 use borrow.Author.Tests.{not-true, not-false}
@@ -9,27 +9,15 @@ use Rattle.lists.proofs.Members.{Implies, any-more, all_of}
 use Rattle.detect.specs.declared.Search.{Search}
 use Rattle.detect.specs.declared.WindowTest.{WindowTest}
 use Rattle.detect.specs.declared.WindowTest.TheVariants.{Beaten, Top}
-use Rattle.detect.specs.declared.searching.PeakTest.{PeakTest}
-use Rattle.detect.specs.declared.searching.PeakTest.TheVariants.{No, Peak}
+use Rattle.detect.specs.declared.searching.Spot.{Spot}
 use Rattle.detect.specs.Peaks.{value_at, window, larger_in, larger_by, beaten, equals, equal_in, window_test}
 use Rattle.detect.specs.Detect.{peak_in, neighbours_at, test_at, ties_at}
-use Rattle.detect.specs.Internal.{peak_test, values_of}
+use Rattle.detect.specs.Internal.{peak_test}
 use Rattle.detect.proofs.Choice.{cell_below, cell-few, cell-beaten, cell-counted}
 
 abbrev is_top : WindowTest → Bool
 is_top Beaten = false
 is_top (Top n) = true
-
-abbrev passes : PeakTest → Bool
-passes No = false
-passes (Peak n k) = true
-
--- the two counts, or what stands for them where there is no peak
-abbrev neighbours_or : ℕ → PeakTest → ℕ
-neighbours_or d t = get_or (values_of t) 0 d
-
-abbrev ties_or : ℕ → PeakTest → ℕ
-ties_or d t = get_or (values_of t) 1 d
 
 module _ (m : List Float) (s : Search) (p : Place) where
   -- ---- what led to the answer
@@ -69,52 +57,43 @@ module _ (m : List Float) (s : Search) (p : Place) where
   pub lost-plainly : s.exact ≡ false → (t : WindowTest) → t ≡ test_at m s p → t ≡ Beaten → true ≡ lost s.exact
   lost-plainly x t told is = rw x (sym (not-false (lost false) (sym (top-told t told) ∙ ap is_top is)))
 
-  tested-no : false ≡ peak_in m s p → No ≡ peak_test m s p
+  -- the peak there, if it is one
+  abbrev here : Spot
+  here = record { x = p.x; y = p.y; neighbours = neighbours_at m s p; ties = ties_at m s p }
+
+  tested-no : false ≡ peak_in m s p → None ≡ peak_test m s p
   tested-no e = rw (← e)
 
   module _ (u : Float) (e : u ≡ value_at m s.w p) where
-    pub tested_low : le u s.threshold ≡ true → No ≡ peak_test m s p
+    pub tested_low : le u s.threshold ≡ true → None ≡ peak_test m s p
     tested_low l = tested-no (cell_below m s p u e l)
 
-    pub tested-beaten : (b : Bool) → b ≡ lost s.exact → b ≡ true → No ≡ peak_test m s p
+    pub tested-beaten : (b : Bool) → b ≡ lost s.exact → b ≡ true → None ≡ peak_test m s p
     tested-beaten b told is = tested-no (cell-beaten m s p u e (not b) (ap not told) (ap not is))
 
     module _ (n : ℕ) (c : n ≡ neighbours_at m s p) where
-      pub tested-few : n < s.least_neighbours → No ≡ peak_test m s p
+      pub tested-few : n < s.least_neighbours → None ≡ peak_test m s p
       tested-few o = tested-no (cell-few m s p u e n c o)
 
       pub tested-peak : le u s.threshold ≡ false → s.least_neighbours ≤ n → (b : Bool) → b ≡ lost s.exact → b ≡ false
-          → (k : ℕ) → k ≡ ties_at m s p → Peak n k ≡ peak_test m s p
+          → (k : ℕ) → k ≡ ties_at m s p
+          → Some (record { x = p.x; y = p.y; neighbours = n; ties = k }) ≡ peak_test m s p
       tested-peak l o b told is k tied =
           let enough = cell-counted m s p u e (not b) (ap not told) l (ap not is) n c in
-          rw (← (sym (le-leb s.least_neighbours n o) ∙ enough)) (ap₂ Peak c tied)
+          rw (← (sym (le-leb s.least_neighbours n o) ∙ enough), c, tied)
 
   -- ---- what the answer says
-  module _ (t : PeakTest) (told : t ≡ peak_test m s p) where
-    test-says : passes t ≡ peak_in m s p
-    test-says = ap passes told ∙ pick (peak_in m s p)
+  module _ (o : Option Spot) (told : o ≡ peak_test m s p) where
+    pub test-none : o ≡ None → peak_in m s p ≡ false
+    test-none is = pick (peak_in m s p) (sym told ∙ is)
       where
-        pick : (b : Bool) → passes (cond b (Peak (neighbours_at m s p) (ties_at m s p)) No) ≡ b
-        pick true = refl
-        pick false = refl
+        pick : (b : Bool) → cond b (Some here) None ≡ None → b ≡ false
+        pick true e = cc
+        pick false e = refl
 
-    pub test-neighbours : (n k : ℕ) → t ≡ Peak n k → n ≡ neighbours_at m s p
-    test-neighbours n k is = ap (neighbours_or (neighbours_at m s p)) (sym is ∙ told) ∙ pick (peak_in m s p)
+    pub test-some : (f : Spot) → o ≡ Some f → (peak_in m s p ≡ true) × (f ≡ here)
+    test-some f is = pick (peak_in m s p) (sym told ∙ is)
       where
-        pick : (b : Bool) → neighbours_or (neighbours_at m s p) (cond b (Peak (neighbours_at m s p) (ties_at m s p)) No)
-            ≡ neighbours_at m s p
-        pick true = refl
-        pick false = refl
-
-    pub test-ties : (n k : ℕ) → t ≡ Peak n k → k ≡ ties_at m s p
-    test-ties n k is = ap (ties_or (ties_at m s p)) (sym is ∙ told) ∙ pick (peak_in m s p)
-      where
-        pick : (b : Bool) → ties_or (ties_at m s p) (cond b (Peak (neighbours_at m s p) (ties_at m s p)) No) ≡ ties_at m s p
-        pick true = refl
-        pick false = refl
-
-    pub test-no : t ≡ No → peak_in m s p ≡ false
-    test-no is = sym test-says ∙ ap passes is
-
-    pub test-peak : (n k : ℕ) → t ≡ Peak n k → peak_in m s p ≡ true
-    test-peak n k is = sym test-says ∙ ap passes is
+        pick : (b : Bool) → cond b (Some here) None ≡ Some f → (b ≡ true) × (f ≡ here)
+        pick true e = (refl, cc)
+        pick false e = cc

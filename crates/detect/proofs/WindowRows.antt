@@ -15,14 +15,14 @@ use Rattle.detect.proofs.Cells.{row_in}
 use Rattle.detect.proofs.Window.{over-bar, beaten-whole, count-whole}
 
 -- the first column or row of the window about x, and the one past its last
-abbrev from : Search → ℕ → ℕ
+abbrev pub from : Search → ℕ → ℕ
 from s x = x - s.window
 
-abbrev past : Search → ℕ → ℕ
+abbrev pub past : Search → ℕ → ℕ
 past s x = x + s.window + 1
 
 -- the part of row yy of a map that lies in the window about column x
-abbrev part : List Float → Search → ℕ → ℕ → List Float
+abbrev pub part : List Float → Search → ℕ → ℕ → List Float
 part m s x yy = row_part m s.w yy (from s x) (past s x)
 
 module _ (m : List Float) (s : Search) (x y : ℕ) where
@@ -110,6 +110,10 @@ module _ (n k : ℕ) (b : Bool) (e : n ≡ k + cond b 1 0) where
 
   pub centre-not : b ≡ false → n ≡ k
   centre-not q = omega (arith, rw q at e)
+
+  -- as a cell that is counted is
+  pub with-centre : b ≡ true → n ≡ k + 1
+  with-centre q = omega (arith, rw q at e)
 
 -- and where it was: how few the others are
 module _ (n k : ℕ) (e : n ≡ k + 1) where

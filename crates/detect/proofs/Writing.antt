@@ -1,5 +1,5 @@
 -- The corners that the peaks start as, put into the buffer one after the other, and the sum of their ties. Assumes nothing.
-use Rattle.std.proofs.Common.{◌≡◌, ℕ, ◌+◌, ◌-◌, ◌<◌, ◌≤◌, List, [], ◌∷◌, map, length, ap, ◌∙◌, arith}
+use Rattle.std.proofs.Common.{◌≡◌, ℕ, ◌+◌, ◌-◌, ◌<◌, ◌≤◌, List, [], ◌∷◌, Some, None, map, length, ap, ◌∙◌, arith}
 use lib.Ieee.{Float}
 use Rattle.lists.specs.Places.{Place, sum_of}
 use Rattle.corner_list.specs.declared.Corner.{Corner}
@@ -12,7 +12,7 @@ use Rattle.detect.specs.declared.searching.Spot.{Spot}
 use Rattle.detect.specs.declared.Peaks.TheVariants.{Added}
 use Rattle.detect.specs.Detect.{start_at, starts_in, ties_at, ties_in, PeaksAdded}
 use Rattle.detect.specs.Internal.{place, place_behind, place_of, peaks_from, Searchable, IsSearchStart, NextListed}
-use Rattle.detect.proofs.Scanning.{peaks-start, next-none, next-first}
+use Rattle.detect.proofs.Scanning.{peaks-start}
 use Rattle.detect.proofs.FirstPeaks.{search-start-first, search-start-next}
 use Rattle.detect.proofs.Answers.{found-added}
 use Rattle.detect.proofs.Ties.{ties-few}
@@ -31,24 +31,19 @@ writing-first m s t n held b h = record {
   tied = omega (arith, ap (sum_of (ties_at m s)) (peaks-start m s));
 }
 
-module _ (m : List Float) (s : Search) (t : List ℕ) (n held i ties : ℕ) (b₀ b : Slices) (p : Place) (a : Writing m s t n held i ties b₀ b p)
-    (q : Spot) (f : NextListed m s t n i p q) where
-  pub writing-all : s.h - s.border ≤ q.y → PeaksAdded [] (starts_in m s) (ties_in m s) held b₀ (Added i ties) b
-  writing-all l =
-      let none = next-none m s p (place_of q) f.next.next l in
-      let k = growing-all _ _ _ _ _ _ a.growing (ap (map (start_at m s)) none) in
+module _ (m : List Float) (s : Search) (t : List ℕ) (n held i ties : ℕ) (b₀ b : Slices) (p : Place) (a : Writing m s t n held i ties b₀ b p) where
+  pub writing-all : NextListed m s t n i p None → PeaksAdded [] (starts_in m s) (ties_in m s) held b₀ (Added i ties) b
+  writing-all f =
+      let k = growing-all _ _ _ _ _ _ a.growing (ap (map (start_at m s)) f.next) in
       found-added (starts_in m s) (ties_in m s) held b₀ a.growing.fits i ties b k.0
-      (omega (arith, a.tied, ap (sum_of (ties_at m s)) none)) k.1
+      (omega (arith, a.tied, ap (sum_of (ties_at m s)) f.next)) k.1
 
-  module _ (l : q.y < s.h - s.border) where
+  module _ (q : Spot) (f : NextListed m s t n i p (Some q)) where
     abbrev here : Place
     here = place_of q
 
-    ahead : peaks_from m s p ≡ here ∷ peaks_from m s (place_behind here)
-    ahead = next-first m s p here f.next.next l
-
     first : map (start_at m s) (peaks_from m s p) ≡ start_at m s here ∷ map (start_at m s) (peaks_from m s (place_behind here))
-    first = ap (map (start_at m s)) ahead
+    first = ap (map (start_at m s)) f.next.ahead
 
     -- there was a place for its corner in the buffer at the start
     pub writing-place : held + i < places_of b₀
@@ -59,11 +54,11 @@ module _ (m : List Float) (s : Search) (t : List ℕ) (n held i ties : ℕ) (b�
         (growing-fits _ _ _ _ _ _ g _ _ first)
 
     pub writing-less : length (peaks_from m s (place_behind here)) < length (peaks_from m s p)
-    writing-less = omega (arith, ap length ahead)
+    writing-less = omega (arith, ap length f.next.ahead)
 
     -- the peak at hand and the sum so far
     more-tied : ties + q.ties + sum_of (ties_at m s) (peaks_from m s (place_behind here)) ≡ ties_in m s
-    more-tied = omega (arith, (f.next.counted l).ties, a.tied, ap (sum_of (ties_at m s)) ahead)
+    more-tied = omega (arith, f.next.counted.ties, a.tied, ap (sum_of (ties_at m s)) f.next.ahead)
 
     pub writing-few : Searchable m s → ties + q.ties ≤ 18270388224
     writing-few k = omega (arith, more-tied, ties-few m s k)
@@ -74,6 +69,6 @@ module _ (m : List Float) (s : Search) (t : List ℕ) (n held i ties : ℕ) (b�
       growing =
           growing-put _ _ _ _ _ _ a.growing (start_at m s here) _ first b'
           (put ∙ ap (λ (d : Corner). with_corner (held + i) d b) e);
-      search-start = search-start-next m s t n i p q f l;
+      search-start = search-start-next m s t n i p q f;
       tied = more-tied;
     }

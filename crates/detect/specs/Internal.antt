@@ -1,6 +1,6 @@
 -- What the private functions require and promise: no public promise depends on it.
 use Rattle.std.specs.Prelude.{◌≡◌, ℕ, zero, suc, ◌+◌, ◌-◌, ◌*◌, ◌/◌, ◌%◌, ◌<◌, ◌≤◌, Bool, true, false, cond, ◌||◌, List}
-use Rattle.std.specs.Prelude.{[], ◌∷◌, ◌++◌, length, nat_lt, slice_index, slice_index_or, Float}
+use Rattle.std.specs.Prelude.{[], ◌∷◌, ◌++◌, length, nat_le, nat_lt, slice_index, slice_index_or, Float, Option, Some, None}
 use Rattle.std.specs.Float.{nan}
 use Rattle.std.specs.Float.Ieee.{lt, le, eq}
 use Rattle.lists.specs.Limits.{largest_side, largest_radius, largest_border}
@@ -8,11 +8,9 @@ use Rattle.lists.specs.Places.{Place, row, block, any, keep, count}
 use Rattle.float32.specs.Float32 as float32
 use Rattle.detect.specs.declared.Search.{Search}
 use Rattle.detect.specs.declared.searching.Spot.{Spot}
-use Rattle.detect.specs.declared.searching.PeakTest.{PeakTest}
-use Rattle.detect.specs.declared.searching.PeakTest.TheVariants.{No, Peak}
 use Rattle.detect.specs.declared.neighbors.Asked.{Asked}
 use Rattle.detect.specs.declared.neighbors.Asked.TheVariants.{Positive, AtLeast, Equal}
-use Rattle.detect.specs.Peaks.{window, value_at, beats, is_low}
+use Rattle.detect.specs.Peaks.{window, value_at, beats, larger_by, beaten, is_low}
 use Rattle.detect.specs.Detect.{peak_in, neighbours_at, ties_at}
 
 -- column x of row y
@@ -51,18 +49,9 @@ is_counted Equal v u = eq v u
 abbrev pub counted_at : List Float → Search → Place → Asked → Float → ℕ
 counted_at m s p asked v = count (λ q. is_counted asked v (value_at m s.w q)) (window s.w s.h s.window p)
 
--- the search with a window of radius r
-abbrev pub with_window : Search → ℕ → Search
-with_window s r =
-    record {
-      w = s.w;
-      h = s.h;
-      border = s.border;
-      window = r;
-      threshold = s.threshold;
-      least_neighbours = s.least_neighbours;
-      exact = s.exact;
-    }
+-- whether the cell at p is beaten in its window, by computed or by exact values
+abbrev pub beaten_at : Bool → List Float → Search → Place → Bool
+beaten_at exact m s p = beaten (larger_by exact m s.w) s.w s.h s.window p
 
 -- the four cells beside cell i of a map of width w: above, below, left and right of it
 abbrev pub cells_beside : List Float → ℕ → ℕ → List Float
@@ -93,18 +82,11 @@ pub record Rival (m : List Float) (w i : ℕ) (beside : Bool) (u : Float) : Type
 
 -- ---- the search
 
--- the test of a place: whether it is a peak, and then its positive neighbours and its ties
-abbrev pub peak_test : List Float → Search → Place → PeakTest
-peak_test m s p = cond (peak_in m s p) (Peak (neighbours_at m s p) (ties_at m s p)) No
-
--- number and values of each case: it refuses nothing, and a peak has two values
-abbrev pub number_of : PeakTest → ℕ
-number_of No = 0
-number_of (Peak n k) = 0
-
-abbrev pub values_of : PeakTest → List ℕ
-values_of No = []
-values_of (Peak n k) = n ∷ k ∷ []
+-- the test of a place: the peak there, if it is one, with its positive neighbours and its ties
+abbrev pub peak_test : List Float → Search → Place → Option Spot
+peak_test m s p =
+    cond (peak_in m s p)
+    (Some (record { x = p.x; y = p.y; neighbours = neighbours_at m s p; ties = ties_at m s p })) None
 
 -- how many cells are compared at a time
 abbrev pub run_cells : ℕ
@@ -156,11 +138,6 @@ pub record PlacesSkipped (m : List Float) (s : Search) (p q : Place) : Type 0 wh
   pub onward : p.x ≤ q.x
   pub same_ahead : peaks_from m s p ≡ peaks_from m s q
 
--- q is the first peak from p on, or lies past the last row inside the border if there is none
-pub record NextPeak (m : List Float) (s : Search) (p q : Place) : Type 0 where
-  pub same_ahead : peaks_from m s p ≡ peaks_from m s q
-  pub is-peak : q.y < s.h - s.border → Inside s.w s.h s.border q × (peak_in m s q ≡ true)
-
 -- the place of what was found
 abbrev pub place_of : Spot → Place
 place_of f = place f.x f.y
@@ -170,16 +147,22 @@ pub record Counted (m : List Float) (s : Search) (f : Spot) : Type 0 where
   pub neighbours : f.neighbours ≡ neighbours_at m s (place_of f)
   pub ties : f.ties ≡ ties_at m s (place_of f)
 
--- f is the first peak from p on, with what was counted at it, or lies past the last row
-pub record NextFound (m : List Float) (s : Search) (p : Place) (f : Spot) : Type 0 where
-  pub next : NextPeak m s p (place_of f)
-  pub counted : f.y < s.h - s.border → Counted m s f
-
--- ---- a table of the first peaks
-
 -- the place after p in its row
 abbrev pub place_behind : Place → Place
 place_behind p = place (p.x + 1) p.y
+
+-- f is the first peak from p on, with what was counted at it
+pub record FirstFrom (m : List Float) (s : Search) (p : Place) (f : Spot) : Type 0 where
+  pub inside : Inside s.w s.h s.border (place_of f)
+  pub counted : Counted m s f
+  pub ahead : peaks_from m s p ≡ place_of f ∷ peaks_from m s (place_behind (place_of f))
+
+-- what a search from p on finds: the first peak, or that there is none
+abbrev pub NextFound : List Float → Search → Place → Option Spot → Type 0
+NextFound m s p None = peaks_from m s p ≡ []
+NextFound m s p (Some f) = FirstFrom m s p f
+
+-- ---- a table of the first peaks
 
 -- how many numbers a count has: more than a window has cells
 abbrev pub counts : ℕ
@@ -195,6 +178,10 @@ spot_of a =
       ties = a % counts;
     }
 
+-- and behind the numbers of all peaks, that no peak is left
+abbrev pub found_of : ℕ → Option Spot
+found_of a = cond (nat_le (largest_side * largest_side * counts * counts) a) None (Some (spot_of a))
+
 -- f has a number of its own
 pub record SpotInRange (f : Spot) : Type 0 where
   pub x : f.x < largest_side
@@ -202,21 +189,16 @@ pub record SpotInRange (f : Spot) : Type 0 where
   pub neighbours : f.neighbours < counts
   pub ties : f.ties < counts
 
--- a is the number of f or, from row y1 on, that of a place past the last row of any map
-pub record Numbered (f : Spot) (y1 a : ℕ) : Type 0 where
-  pub here : f.y < y1 → spot_of a ≡ f
-  pub past : y1 ≤ f.y → largest_side ≤ (spot_of a).y
-
 -- where the search for the peak at place i of a table begins: at the first place inside the border, or after the peak
 -- before it
 abbrev pub start_of : Search → List ℕ → ℕ → Place
 start_of s t zero = place s.border s.border
 start_of s t (suc i) = place_behind (place_of (spot_of (slice_index t i)))
 
--- the first n entries of a table are the first n peaks; the last of them may lie past the last row, if no peak is left
+-- the first n entries of a table are the first n peaks; the last of them may say that no peak is left
 pub record PeaksListed (m : List Float) (s : Search) (t : List ℕ) (n : ℕ) : Type 0 where
   pub within : n ≤ length t
-  pub each : (i : ℕ) → i < n → NextFound m s (start_of s t i) (spot_of (slice_index t i))
+  pub each : (i : ℕ) → i < n → NextFound m s (start_of s t i) (found_of (slice_index t i))
 
 -- p is where the search for peak i begins
 pub record IsSearchStart (s : Search) (t : List ℕ) (n i : ℕ) (p : Place) : Type 0 where
@@ -224,7 +206,7 @@ pub record IsSearchStart (s : Search) (t : List ℕ) (n i : ℕ) (p : Place) : T
   pub top : s.border ≤ p.y
   pub listed : i < n → p ≡ start_of s t i
 
--- f is the first peak from p on, as the table has it
-pub record NextListed (m : List Float) (s : Search) (t : List ℕ) (n i : ℕ) (p : Place) (f : Spot) : Type 0 where
-  pub next : NextFound m s p f
-  pub listed : i < n → f ≡ spot_of (slice_index t i)
+-- o is what a search from p on finds, as the table has it
+pub record NextListed (m : List Float) (s : Search) (t : List ℕ) (n i : ℕ) (p : Place) (o : Option Spot) : Type 0 where
+  pub next : NextFound m s p o
+  pub listed : i < n → o ≡ found_of (slice_index t i)

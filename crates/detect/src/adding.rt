@@ -6,11 +6,11 @@ ghost use Rattle.lists.specs.Limits.{largest_side, largest_border};
 ghost use Rattle.corner_list.specs.CornerList.{slices};
 ghost use Rattle.detect.specs.Internal.{Inside};
 ghost use Rattle.detect.specs.Detect.{peaks_in, start_at, starts_in, ties_in, PeaksAdded};
-ghost use Rattle.detect.specs.Internal.{place_of, Searchable, Counted, PeaksListed};
+ghost use Rattle.detect.specs.Internal.{place_of, Counted, PeaksListed};
 
-use crate::searching::{Spot, count_low, value_at};
-use crate::table::{list_peaks, peak_at};
-use crate::{Peaks, Search};
+use crate::Peaks;
+use crate::searched::SearchedMap;
+use crate::searching::{Spot, count_low};
 use corner_list::Corner;
 
 // The number of peaks that the small and the large table hold, and the least number of cells of a map that gets the
@@ -29,143 +29,123 @@ fn coordinate(n: usize) -> f32
     n as f32
 }
 
-// The corner that a peak starts as.
-fn start_at(map: &[f32], s: Search, p: Spot) -> Corner
-    requires searchable { Searchable map.now s }
-    requires inside { Inside s.w s.h s.border (place_of p) }
-    requires counted { Counted map.now s p }
-    ensures { result ≡ start_at map.now s (place_of p) }
-{
-    let x = p.x;
-    let y = p.y;
-    Corner {
-        x: coordinate(x),
-        y: coordinate(y),
-        strength: value_at(map, s, x, y),
-        neighbours: p.neighbours,
+impl SearchedMap<'_> {
+    // The corner that a peak starts as.
+    fn start_at(&self, p: Spot) -> Corner
+        requires inside { Inside self.now.search.w self.now.search.h self.now.search.border (place_of p) }
+        requires counted { Counted self.now.cells.now self.now.search p }
+        ensures { result ≡ start_at self.now.cells.now self.now.search (place_of p) }
+    {
+        Corner {
+            x: coordinate(p.x),
+            y: coordinate(p.y),
+            strength: self.value_at(p.x, p.y),
+            neighbours: p.neighbours,
+        }
     }
-}
 
-// How many cells lie inside the border.
-fn cells_inside(s: Search) -> usize
-    requires w_le_largest_side { (s.w ≤ largest_side) × (s.h ≤ largest_side) }
-    requires border_le_largest_border { s.border ≤ largest_border }
-    ensures { result ≡ (s.w - 2 * s.border) * (s.h - 2 * s.border) }
-{
-    let b = 2 * s.border;
-    numbers::minus(s.w, b) * numbers::minus(s.h, b)
-}
+    // How many cells lie inside the border.
+    fn cells_inside(&self) -> usize
+        ensures { result ≡ (self.now.search.w - 2 * self.now.search.border)
+            * (self.now.search.h - 2 * self.now.search.border) }
+    {
+        let both = 2 * self.search.border;
+        self.search.w.saturating_sub(both) * self.search.h.saturating_sub(both)
+    }
 
-// How many cells inside the border are above the threshold or NaN: there are at most as many peaks.
-fn cells_above(map: &[f32], s: Search) -> usize
-    requires { Searchable map.now s }
-    ensures { length (peaks_in map.now s) ≤ result }
-{
-    let w = s.w;
-    let x0 = s.border;
-    let x1 = numbers::minus(w, s.border);
-    let y1 = numbers::minus(s.h, s.border);
-    if x1 <= x0 {
-        return 0;
+    // How many cells inside the border are above the threshold or NaN: there are at most as many peaks.
+    fn cells_above(&self) -> usize
+        ensures { length (peaks_in self.now.cells.now self.now.search) ≤ result }
+    {
+        let x0 = self.search.border;
+        let x1 = self.right();
+        if x1 <= x0 {
+            return 0;
+        }
+        let mut n = 0;
+        for y in x0..self.bottom() {
+            n += x1 - x0 - count_low(self.row(y, x0, x1), self.search.threshold) as usize;
+        }
+        n
     }
-    let mut n = 0;
-    let mut y = s.border;
-    while y < y1 {
-        let a = y * w + x0;
-        let e = y * w + x1;
-        n += x1 - x0 - count_low(&map[a..e], s.threshold) as usize;
-        y += 1;
-    }
-    n
-}
 
-// Whether at most `free` peaks are known to exist, without searching for them: because no more cells lie inside the
-// border, or no more of these are above the threshold. The cells above the threshold are counted only if all `places`
-// of the table are filled, so that more peaks may follow: counting takes less time than a second search. They are not
-// counted if the n peaks of the table are too many already.
-fn are_sure_to_fit(map: &[f32], s: Search, places: usize, n: usize, free: usize) -> bool
-    requires { Searchable map.now s }
-    ensures { result ≡ true → length (peaks_in map.now s) ≤ free }
-{
-    if cells_inside(s) <= free {
-        return true;
-    }
-    if n < places {
-        return false;
-    }
-    if free < n {
-        return false;
-    }
-    cells_above(map, s) <= free
-}
-
-// Whether the peaks are too many for a buffer with `places` places, of which `held` are taken. They are counted only if
-// `are_sure_to_fit` does not know.
-fn are_too_many(map: &[f32], s: Search, table: &[u64], n: usize, places: usize, held: usize) -> bool
-    requires searchable { Searchable map.now s }
-    requires peaks_listed { PeaksListed map.now s table.now n }
-    ensures { result ≡ nat_lt places (held + length (peaks_in map.now s)) }
-{
-    if places < held {
-        return true;
-    }
-    let free = places - held;
-    if are_sure_to_fit(map, s, table.len(), n, free) {
-        return false;
-    }
-    let y1 = numbers::minus(s.h, s.border);
-    let mut x = s.border;
-    let mut y = s.border;
-    let mut i = 0;
-    while i <= free {
-        let p = peak_at(map, s, table, n, i, x, y);
-        if y1 <= p.y {
+    // Whether at most `free` peaks are known to exist, without searching for them: because no more cells lie inside the
+    // border, or no more of these are above the threshold. The cells above the threshold are counted only if all
+    // `places` of the table are filled, so that more peaks may follow: counting takes less time than a second search.
+    // They are not counted if the n peaks of the table are too many already.
+    fn are_sure_to_fit(&self, places: usize, n: usize, free: usize) -> bool
+        ensures { result ≡ true → length (peaks_in self.now.cells.now self.now.search) ≤ free }
+    {
+        if self.cells_inside() <= free {
+            return true;
+        }
+        if n < places || free < n {
             return false;
         }
-        i += 1;
-        x = p.x + 1;
-        y = p.y;
+        self.cells_above() <= free
     }
-    true
-}
 
-// Adds the corners that the peaks start as to a buffer, after the first `held`, and sums their ties. The map is
-// searched once if the table has a place for each peak. Peaks that do not fit the table are searched for again to write
-// them.
-pub(crate) fn add_peaks(
-    map: &[f32],
-    s: Search,
-    table: &mut [u64],
-    xs: &mut [f32],
-    ys: &mut [f32],
-    strengths: &mut [f32],
-    neighbours: &mut [u32],
-    held: usize,
-) -> Peaks
-    requires { Searchable map.now s }
-    ensures { PeaksAdded [] (starts_in map.now s) (ties_in map.now s) held
-        (slices xs.old ys.old strengths.old neighbours.old)
-        result (slices xs.new ys.new strengths.new neighbours.new) }
-{
-    let n = list_peaks(map, s, table);
-    let places = corner_list::places(xs.len(), ys.len(), strengths.len(), neighbours.len());
-    if are_too_many(map, s, table, n, places, held) {
-        return Peaks::Refused(10);
-    }
-    let y1 = numbers::minus(s.h, s.border);
-    let mut x = s.border;
-    let mut y = s.border;
-    let mut i = 0;
-    let mut ties: u64 = 0;
-    loop {
-        let p = peak_at(map, s, table, n, i, x, y);
-        if y1 <= p.y {
-            return Peaks::Added(i, ties);
+    // Whether the peaks are too many for a buffer with `places` places, of which `held` are taken. They are counted
+    // only if `are_sure_to_fit` does not know.
+    fn are_too_many(&self, table: &[u64], n: usize, places: usize, held: usize) -> bool
+        requires { PeaksListed self.now.cells.now self.now.search table.now n }
+        ensures { result ≡ nat_lt places (held + length (peaks_in self.now.cells.now self.now.search)) }
+    {
+        if places < held {
+            return true;
         }
-        corner_list::put_corner(xs, ys, strengths, neighbours, held + i, start_at(map, s, p));
-        ties += p.ties as u64;
-        i += 1;
-        x = p.x + 1;
-        y = p.y;
+        let free = places - held;
+        if self.are_sure_to_fit(table.len(), n, free) {
+            return false;
+        }
+        let mut x = self.search.border;
+        let mut y = self.search.border;
+        let mut i = 0;
+        while let Some(peak) = self.peak_at(table, n, i, x, y) {
+            i += 1;
+            if free < i {
+                return true;
+            }
+            x = peak.x + 1;
+            y = peak.y;
+        }
+        false
+    }
+
+    // Adds the corners that the peaks start as to a buffer, after the first `held`, and sums their ties. The map is
+    // searched once if the table has a place for each peak. Peaks that do not fit the table are searched for again to
+    // write them.
+    pub(crate) fn add_peaks(
+        &self,
+        table: &mut [u64],
+        xs: &mut [f32],
+        ys: &mut [f32],
+        strengths: &mut [f32],
+        neighbours: &mut [u32],
+        held: usize,
+    ) -> Peaks
+        ensures { PeaksAdded [] (starts_in self.now.cells.now self.now.search)
+            (ties_in self.now.cells.now self.now.search) held
+            (slices xs.old ys.old strengths.old neighbours.old)
+            result (slices xs.new ys.new strengths.new neighbours.new) }
+    {
+        let n = self.list_peaks(table);
+        let places = corner_list::places(xs.len(), ys.len(), strengths.len(), neighbours.len());
+        if self.are_too_many(table, n, places, held) {
+            return Peaks::Refused(10);
+        }
+        let mut x = self.search.border;
+        let mut y = self.search.border;
+        let mut i = 0;
+        let mut ties: u64 = 0;
+        while let Some(peak) = self.peak_at(table, n, i, x, y) {
+            let corner = self.start_at(peak);
+            corner_list::put_corner(xs, ys, strengths, neighbours, held + i, corner);
+            ties += u64::from(peak.ties);
+            i += 1;
+            x = peak.x + 1;
+            y = peak.y;
+        }
+        Peaks::Added(i, ties)
     }
 }

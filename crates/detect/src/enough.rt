@@ -4,10 +4,9 @@ ghost use Rattle.std.specs.Prelude.{◌≡◌, ◌≤◌, length};
 ghost use Rattle.lists.specs.Limits.{largest_border};
 ghost use Rattle.detect.specs.Detect.{search_of, peaks_in, conditions};
 ghost use Rattle.detect.specs.Enough.{rows_inside, enough_of, EnoughFound};
-ghost use Rattle.detect.specs.Internal.{Searchable};
 
 use crate::Search;
-use crate::searching::next_peak;
+use crate::searched::SearchedMap;
 
 // The answer: whether there are at least `wanted` peaks and how many rows were looked at, or the number of the refusal.
 #[derive(Clone, Copy)]
@@ -26,28 +25,24 @@ fn rows_inside(s: Search) -> usize
     if s.w <= b {
         return 0;
     }
-    numbers::minus(s.h, b)
+    s.h.saturating_sub(b)
 }
 
 // Searches for that many peaks, one after the other, and stops at the last of them.
-fn search_for(map: &[f32], s: Search, wanted: usize) -> Enough
-    requires { Searchable map.now s }
-    ensures { result ≡ enough_of s wanted (peaks_in map.now s) }
+fn search_for(map: &SearchedMap, wanted: usize) -> Enough
+    ensures { result ≡ enough_of map.now.search wanted (peaks_in map.now.cells.now map.now.search) }
 {
-    let y1 = numbers::minus(s.h, s.border);
-    let mut x = s.border;
-    let mut y = s.border;
+    let border = map.search.border;
+    let mut x = border;
+    let mut y = border;
     let mut rows = 0;
-    let mut i = 0;
-    while i < wanted {
-        let p = next_peak(map, s, x, y);
-        if y1 <= p.y {
-            return Enough::No(rows_inside(s));
-        }
-        i += 1;
-        x = p.x + 1;
-        y = p.y;
-        rows = y - s.border + 1;
+    for _ in 0..wanted {
+        let Some(peak) = map.next_peak(x, y) else {
+            return Enough::No(rows_inside(map.search));
+        };
+        x = peak.x + 1;
+        y = peak.y;
+        rows = y - border + 1;
     }
     Enough::Yes(rows)
 }
@@ -72,7 +67,7 @@ pub fn has_peaks(
     if number != 0 {
         return Enough::Refused(number);
     }
-    let s = crate::search_of(
+    let search = crate::search_of(
         w,
         h,
         ring,
@@ -82,5 +77,6 @@ pub fn has_peaks(
         refine_radius,
         false,
     );
-    search_for(map, s, wanted)
+    let searched = SearchedMap { cells: map, search };
+    search_for(&searched, wanted)
 }

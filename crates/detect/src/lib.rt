@@ -5,6 +5,7 @@ mod adding;
 mod enough; // has_peaks: whether there are as many as wanted
 mod fifths; // the threshold of the choice by exact values
 mod neighbors;
+mod searched; // a map with what it is searched with
 mod searching;
 mod table;
 
@@ -15,8 +16,9 @@ ghost use Rattle.lists.specs.Refusals.{lowest};
 ghost use Rattle.corner_list.specs.CornerList.{slices};
 ghost use Rattle.detect.specs.Detect.{search_by, starts_in, ties_in, conditions, PeaksAdded};
 
-use adding::{FEW, LARGE_MAP, MANY, add_peaks};
+use adding::{FEW, LARGE_MAP, MANY};
 pub use enough::{Enough, has_peaks};
+use searched::SearchedMap;
 
 // What a map is searched with: its sides, the border that no peak lies in, the window's radius, the lifted threshold,
 // the least number of positive neighbours, and whether peaks are chosen by exact values. Public because the promise
@@ -127,7 +129,7 @@ pub fn find_peaks(
     if number != 0 {
         return Peaks::Refused(number);
     }
-    let s = search_of(
+    let search = search_of(
         w,
         h,
         ring,
@@ -137,10 +139,11 @@ pub fn find_peaks(
         refine_radius,
         exact,
     );
+    let searched = SearchedMap { cells: map, search };
     if map.len() < LARGE_MAP {
         let mut table = [0u64; FEW];
-        return add_peaks(map, s, &mut table, xs, ys, strengths, neighbours, held);
+        return searched.add_peaks(&mut table, xs, ys, strengths, neighbours, held);
     }
     let mut table = [0u64; MANY];
-    add_peaks(map, s, &mut table, xs, ys, strengths, neighbours, held)
+    searched.add_peaks(&mut table, xs, ys, strengths, neighbours, held)
 }

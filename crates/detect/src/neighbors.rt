@@ -1,18 +1,19 @@
 // The tests of a cell by its window, as in neighbors.rs: whether a cell of the window is larger, how many are above 0,
 // and how many equal it.
-ghost use Rattle.std.specs.Prelude.{◌≡◌, ◌+◌, ◌*◌, ◌<◌, ◌≤◌, true, not, ◌&&◌, length, if◌then◌else◌};
+ghost use Rattle.std.specs.Prelude.{◌≡◌, ◌+◌, ◌*◌, ◌<◌, ◌≤◌, true, false, not, ◌&&◌, length, if◌then◌else◌};
 ghost use Rattle.std.specs.Float.{binary32};
 ghost use Rattle.std.specs.Float.Ieee.{add, lt};
 ghost use Rattle.lists.specs.Places.{any, count};
 ghost use Rattle.float32.specs.Float32.{zero};
-ghost use Rattle.detect.specs.Peaks.{value_at, slack, larger_by, beaten, ties_of};
-ghost use Rattle.detect.specs.Internal.{Inside};
+ghost use Rattle.detect.specs.Peaks.{value_at, slack, ties_of};
+ghost use Rattle.detect.specs.Detect.{neighbours_at, test_at, peak_in, WindowTested};
 ghost use Rattle.detect.specs.declared.WindowTest.TheVariants.{Beaten, Top};
-ghost use Rattle.detect.specs.Detect.{neighbours_at, test_at, WindowTested};
-ghost use Rattle.detect.specs.Internal.{place, Searchable, largest_row, is_counted, counted_at, with_window, Beside};
-ghost use Rattle.detect.specs.Internal.{OfFive, OfSquare};
+ghost use Rattle.detect.specs.Internal.{Inside, place, largest_row, is_counted, counted_at, beaten_at, peak_test};
+ghost use Rattle.detect.specs.Internal.{Beside, OfFive, OfSquare};
 
-use crate::{Search, WindowTest};
+use crate::WindowTest;
+use crate::searched::SearchedMap;
+use crate::searching::Spot;
 
 // What is counted in a window: the cells above 0, those with at least the centre's value, or those that equal it.
 #[derive(Clone, Copy)]
@@ -34,21 +35,14 @@ pub(crate) fn bar_of(v: f32, exact: bool) -> f32
 pub(crate) fn is_larger(u: f32, v: f32, bar: f32) -> bool
     ensures { result ≡ (lt v u && lt bar u) }
 {
-    if v < u { bar < u } else { false }
+    v < u && bar < u
 }
 
 // Whether one of the cells exceeds both.
 fn any_larger(cells: &[f32], v: f32, bar: f32) -> bool
     ensures { result ≡ any (λ u. lt v u && lt bar u) cells.now }
 {
-    let mut i = 0;
-    while i < cells.len() {
-        if is_larger(cells[i], v, bar) {
-            return true;
-        }
-        i += 1;
-    }
-    false
+    cells.iter().any(|u| is_larger(*u, v, bar))
 }
 
 // Whether a cell of value u is counted if the centre's value is v.
@@ -67,98 +61,7 @@ fn count_cells(cells: &[f32], asked: Asked, v: f32) -> u32
     requires { length cells.now ≤ largest_row }
     ensures { result ≡ count (is_counted asked v) cells.now }
 {
-    let mut n: u32 = 0;
-    let mut i = 0;
-    while i < cells.len() {
-        if is_counted(asked, v, cells[i]) {
-            n += 1;
-        }
-        i += 1;
-    }
-    n
-}
-
-// Whether no cell of the window around (x, y) beats v, the value there, by computed or by exact values. Inside the
-// border the window needs no clipping. The centre is compared too, which does no harm: it does not beat itself.
-fn is_local_max(map: &[f32], s: Search, x: usize, y: usize, v: f32, exact: bool) -> bool
-    requires searchable { Searchable map.now s }
-    requires inside { Inside s.w s.h s.border (place x y) }
-    requires v_value { v ≡ value_at map.now s.w (place x y) }
-    ensures { result ≡ not (beaten (larger_by exact map.now s.w) s.w s.h s.window
-        (place x y)) }
-{
-    let bar = bar_of(v, exact);
-    let w = s.w;
-    let r = s.window;
-    let x0 = x - r;
-    let x1 = x + r + 1;
-    let y1 = y + r + 1;
-    let mut yy = y - r;
-    while yy < y1 {
-        let a = yy * w + x0;
-        let e = yy * w + x1;
-        if any_larger(&map[a..e], v, bar) {
-            return false;
-        }
-        yy += 1;
-    }
-    true
-}
-
-// The search with a window of radius r.
-fn with_window(s: Search, r: usize) -> Search
-    ensures { result ≡ with_window s r }
-{
-    Search {
-        w: s.w,
-        h: s.h,
-        border: s.border,
-        window: r,
-        threshold: s.threshold,
-        least_neighbours: s.least_neighbours,
-        exact: s.exact,
-    }
-}
-
-// How many cells are counted in the square around (x, y), the centre included, whose value is v.
-fn count_square(map: &[f32], s: Search, x: usize, y: usize, asked: Asked, v: f32) -> u32
-    requires searchable { Searchable map.now s }
-    requires inside { Inside s.w s.h s.border (place x y) }
-    requires v_value { v ≡ value_at map.now s.w (place x y) }
-    ensures { result ≡ counted_at map.now s (place x y) asked v + (if is_counted asked v v then 1 else 0) }
-{
-    let w = s.w;
-    let r = s.window;
-    let x0 = x - r;
-    let x1 = x + r + 1;
-    let y1 = y + r + 1;
-    let mut n: u32 = 0;
-    let mut yy = y - r;
-    while yy < y1 {
-        let a = yy * w + x0;
-        let e = yy * w + x1;
-        n += count_cells(&map[a..e], asked, v);
-        yy += 1;
-    }
-    n
-}
-
-// How many cells are counted in the window around (x, y), where the value is v: those of the square without the centre.
-pub(crate) fn count_neighbors(
-    map: &[f32],
-    s: Search,
-    x: usize,
-    y: usize,
-    asked: Asked,
-    v: f32,
-) -> u32
-    requires searchable { Searchable map.now s }
-    requires inside { Inside s.w s.h s.border (place x y) }
-    requires v_value { v ≡ value_at map.now s.w (place x y) }
-    ensures { result ≡ counted_at map.now s (place x y) asked v }
-{
-    let n = count_square(map, s, x, y, asked, v);
-    if is_counted(asked, v, v) { n - 1 } else { n }
+    cells.iter().filter(|u| is_counted(asked, v, **u)).count() as u32
 }
 
 // The greater of two values; a if one of them is NaN.
@@ -178,75 +81,6 @@ pub(crate) fn most_beside(map: &[f32], w: usize, i: usize) -> f32
     let p = greater_of(map[i - w], map[i + w]);
     let q = greater_of(map[i - 1], map[i + 1]);
     greater_of(p, q)
-}
-
-// A fast path: true if one of the four cells beside (x, y) beats v, the value there. In a photograph most beaten cells
-// are beaten by one of these. False for a window of radius 0, which has no cells.
-pub(crate) fn is_overtopped(map: &[f32], s: Search, x: usize, y: usize, v: f32) -> bool
-    requires searchable { Searchable map.now s }
-    requires inside { Inside s.w s.h s.border (place x y) }
-    requires v_value { v ≡ value_at map.now s.w (place x y) }
-    ensures { result ≡ true → beaten (larger_by s.exact map.now s.w) s.w s.h
-        s.window (place x y) ≡ true }
-{
-    if s.window < 1 {
-        return false;
-    }
-    let w = s.w;
-    let i = y * w + x;
-    is_larger(most_beside(map, w, i), v, bar_of(v, s.exact))
-}
-
-// Whether the window around (x, y), whose radius is r, has fewer positive cells than a peak needs, where the value v is
-// positive. A compiler makes code without inner loops for each r that is given as a number.
-fn are_few(map: &[f32], s: Search, x: usize, y: usize, v: f32, r: usize) -> bool
-    requires searchable { Searchable map.now s }
-    requires inside { Inside s.w s.h s.border (place x y) }
-    requires v_value { v ≡ value_at map.now s.w (place x y) }
-    requires v_value_2 { lt zero v ≡ true }
-    requires window_value { s.window ≡ r }
-    ensures { result ≡ true → neighbours_at map.now s (place x y) < s.least_neighbours }
-{
-    count_square(map, with_window(s, r), x, y, Asked::Positive, v) <= s.least_neighbours
-}
-
-// A fast path: true if the window around (x, y), where the value is v, has fewer positive cells than a peak needs. Only
-// for windows of radius 2, the usual ones, and smaller ones. Otherwise false.
-pub(crate) fn has_few(map: &[f32], s: Search, x: usize, y: usize, v: f32) -> bool
-    requires searchable { Searchable map.now s }
-    requires inside { Inside s.w s.h s.border (place x y) }
-    requires v_value { v ≡ value_at map.now s.w (place x y) }
-    ensures { result ≡ true → neighbours_at map.now s (place x y) < s.least_neighbours }
-{
-    if 0.0 < v {
-        if s.window == 2 {
-            return are_few(map, s, x, y, v, 2);
-        }
-        if s.window == 1 {
-            return are_few(map, s, x, y, v, 1);
-        }
-        if s.window == 0 {
-            return are_few(map, s, x, y, v, 0);
-        }
-    }
-    false
-}
-
-// A fast path like `has_few`: true if no other cell of the window around (x, y) is at least v, the value there. Then
-// none is larger and none equals it.
-fn is_alone(map: &[f32], s: Search, x: usize, y: usize, v: f32) -> bool
-    requires searchable { Searchable map.now s }
-    requires inside { Inside s.w s.h s.border (place x y) }
-    requires v_value { v ≡ value_at map.now s.w (place x y) }
-    ensures { result ≡ true → WindowTested map.now s (place x y) (Top 0) }
-{
-    if s.window != 2 {
-        return false;
-    }
-    if v <= v {
-        return count_square(map, with_window(s, 2), x, y, Asked::AtLeast, v) == 1;
-    }
-    false
 }
 
 // The greatest of the five cells from place a of a map on; if one is NaN it may be another of them.
@@ -269,57 +103,220 @@ fn most_of_square(map: &[f32], w: usize, a: usize) -> f32
     greater_of(greater_of(p, q), most_of_five(map, a + 2 * w))
 }
 
-// A fast path: true if a cell of the window around (x, y) is larger than v, the value there. Only for windows of radius
-// 2. The greatest of its cells is found without a branch, in a quarter of the time of a count.
-fn is_topped(map: &[f32], s: Search, x: usize, y: usize, v: f32) -> bool
-    requires searchable { Searchable map.now s }
-    requires inside { Inside s.w s.h s.border (place x y) }
-    requires v_value { v ≡ value_at map.now s.w (place x y) }
-    ensures { result ≡ true → WindowTested map.now s (place x y) Beaten }
-{
-    if s.window != 2 {
-        return false;
-    }
-    let w = s.w;
-    v < most_of_square(map, w, (y - 2) * w + (x - 2))
+// A cell inside the border of a map that is searched, with its value.
+#[derive(Clone, Copy)]
+pub(crate) struct Cell<'a> {
+    map: SearchedMap<'a>,
+    x: usize,
+    y: usize,
+    value: f32,
+    ghost inside: { Inside map.search.w map.search.h map.search.border (place x y) },
+    ghost read: { value ≡ value_at map.cells.now map.search.w (place x y) },
 }
 
-// The window test of the cell (x, y), whose value is v. If the cell is beaten, nothing is counted.
-pub(crate) fn window_test(map: &[f32], s: Search, x: usize, y: usize, v: f32) -> WindowTest
-    requires searchable { Searchable map.now s }
-    requires inside { Inside s.w s.h s.border (place x y) }
-    requires v_value { v ≡ value_at map.now s.w (place x y) }
-    ensures { WindowTested map.now s (place x y) result }
-{
-    if is_topped(map, s, x, y, v) {
-        return WindowTest::Beaten;
+impl<'a> SearchedMap<'a> {
+    // The cell in column x of row y.
+    pub(crate) fn cell(&self, x: usize, y: usize) -> Cell<'a>
+        requires { Inside self.now.search.w self.now.search.h self.now.search.border (place x y) }
+        ensures map { result.map ≡ self.now }
+        ensures x { result.x ≡ x }
+        ensures y { result.y ≡ y }
+    {
+        Cell {
+            map: *self,
+            x,
+            y,
+            value: self.value_at(x, y),
+        }
     }
-    if is_alone(map, s, x, y, v) {
-        return WindowTest::Top(0);
-    }
-    if is_local_max(map, s, x, y, v, false) {
-        return WindowTest::Top(count_neighbors(map, s, x, y, Asked::Equal, v));
-    }
-    WindowTest::Beaten
 }
 
-// Whether the cell (x, y), whose value is v and whose window test is t, is beaten. By exact values some cells are not
-// beaten that the test, which goes by computed values, calls beaten.
-pub(crate) fn is_beaten(map: &[f32], s: Search, x: usize, y: usize, v: f32, t: WindowTest) -> bool
-    requires searchable { Searchable map.now s }
-    requires inside { Inside s.w s.h s.border (place x y) }
-    requires v_value { v ≡ value_at map.now s.w (place x y) }
-    requires t_value { t ≡ test_at map.now s (place x y) }
-    ensures { result ≡ beaten (larger_by s.exact map.now s.w) s.w s.h s.window
-        (place x y) }
-{
-    let WindowTest::Beaten = t else {
-        return false;
-    };
-    if s.exact {
-        return !is_local_max(map, s, x, y, v, true);
+impl Cell<'_> {
+    // Whether no cell of the window beats this one, by computed or by exact values. Inside the border the window needs
+    // no clipping. The cell is compared with itself too, which does no harm: it does not beat itself.
+    fn is_local_max(&self, exact: bool) -> bool
+        ensures { result
+            ≡ not (beaten_at exact self.now.map.cells.now self.now.map.search (place self.now.x self.now.y)) }
+    {
+        let bar = bar_of(self.value, exact);
+        let r = self.map.search.window;
+        for row in self.y - r..self.y + r + 1 {
+            if any_larger(
+                self.map.row(row, self.x - r, self.x + r + 1),
+                self.value,
+                bar,
+            ) {
+                return false;
+            }
+        }
+        true
     }
-    true
+
+    // How many cells are counted in the square around this one, itself included. The radius of the square is that of
+    // the window: a compiler makes code without inner loops for each r that is given as a number.
+    fn count_square(&self, r: usize, asked: Asked) -> u32
+        requires { r ≡ self.now.map.search.window }
+        ensures { result
+            ≡ counted_at self.now.map.cells.now self.now.map.search (place self.now.x self.now.y) asked self.now.value
+            + (if is_counted asked self.now.value self.now.value then 1 else 0) }
+    {
+        let mut n: u32 = 0;
+        for row in self.y - r..self.y + r + 1 {
+            n += count_cells(
+                self.map.row(row, self.x - r, self.x + r + 1),
+                asked,
+                self.value,
+            );
+        }
+        n
+    }
+
+    // How many cells are counted in the window: those of the square without the centre.
+    fn count_neighbors(&self, asked: Asked) -> u32
+        ensures { result ≡ counted_at self.now.map.cells.now self.now.map.search (place self.now.x self.now.y) asked
+            self.now.value }
+    {
+        let v = self.value;
+        let n = self.count_square(self.map.search.window, asked);
+        if is_counted(asked, v, v) { n - 1 } else { n }
+    }
+
+    // A fast path: true if one of the four cells beside this one beats it. In a photograph most beaten cells are beaten
+    // by one of these. False for a window of radius 0, which has no cells.
+    fn is_overtopped(&self) -> bool
+        ensures { result ≡ true → beaten_at self.now.map.search.exact self.now.map.cells.now self.now.map.search
+            (place self.now.x self.now.y) ≡ true }
+    {
+        let s = self.map.search;
+        if s.window < 1 {
+            return false;
+        }
+        let i = self.y * s.w + self.x;
+        is_larger(
+            most_beside(self.map.cells, s.w, i),
+            self.value,
+            bar_of(self.value, s.exact),
+        )
+    }
+
+    // Whether the cell may be a peak: it is neither at or below the threshold nor overtopped.
+    pub(crate) fn may_be_peak(&self) -> bool
+        ensures { result ≡ false
+            → peak_in self.now.map.cells.now self.now.map.search (place self.now.x self.now.y) ≡ false }
+    {
+        !(self.value <= self.map.search.threshold || self.is_overtopped())
+    }
+
+    // A fast path: true if the window, whose radius is r, has fewer positive cells than a peak needs.
+    fn are_few(&self, r: usize) -> bool
+        requires positive { lt zero self.now.value ≡ true }
+        requires radius { r ≡ self.now.map.search.window }
+        ensures { result ≡ true
+            → neighbours_at self.now.map.cells.now self.now.map.search (place self.now.x self.now.y)
+            < self.now.map.search.least_neighbours }
+    {
+        self.count_square(r, Asked::Positive) <= self.map.search.least_neighbours
+    }
+
+    // The same for windows of radius 2, the usual ones, and smaller ones. Otherwise false.
+    fn has_few(&self) -> bool
+        ensures { result ≡ true
+            → neighbours_at self.now.map.cells.now self.now.map.search (place self.now.x self.now.y)
+            < self.now.map.search.least_neighbours }
+    {
+        if !(0.0 < self.value) {
+            return false;
+        }
+        match self.map.search.window {
+            2 => self.are_few(2),
+            1 => self.are_few(1),
+            0 => self.are_few(0),
+            _ => false,
+        }
+    }
+
+    // A fast path like `has_few`: true if no other cell of the window is at least this one. Then none is larger and
+    // none equals it.
+    fn is_alone(&self) -> bool
+        ensures { result ≡ true → WindowTested self.now.map.cells.now self.now.map.search
+            (place self.now.x self.now.y) (Top 0) }
+    {
+        if self.map.search.window != 2 || !(self.value <= self.value) {
+            return false;
+        }
+        self.count_square(2, Asked::AtLeast) == 1
+    }
+
+    // A fast path: true if a cell of the window is larger than this one. Only for windows of radius 2. The greatest of
+    // its cells is found without a branch, in a quarter of the time of a count.
+    fn is_topped(&self) -> bool
+        ensures { result ≡ true → WindowTested self.now.map.cells.now self.now.map.search
+            (place self.now.x self.now.y) Beaten }
+    {
+        if self.map.search.window != 2 {
+            return false;
+        }
+        let w = self.map.search.w;
+        self.value < most_of_square(self.map.cells, w, (self.y - 2) * w + (self.x - 2))
+    }
+
+    // The window test, by computed values.
+    fn window_test(&self) -> WindowTest
+        ensures { WindowTested self.now.map.cells.now self.now.map.search (place self.now.x self.now.y) result }
+    {
+        if self.is_topped() {
+            return WindowTest::Beaten;
+        }
+        if self.is_alone() {
+            return WindowTest::Top(0);
+        }
+        if self.is_local_max(false) {
+            return WindowTest::Top(self.count_neighbors(Asked::Equal));
+        }
+        WindowTest::Beaten
+    }
+
+    // Whether the cell, whose window test is t, is beaten. By exact values some cells are not beaten that the test,
+    // which goes by computed values, calls beaten.
+    fn is_beaten(&self, t: WindowTest) -> bool
+        requires { t ≡ test_at self.now.map.cells.now self.now.map.search (place self.now.x self.now.y) }
+        ensures { result ≡ beaten_at self.now.map.search.exact self.now.map.cells.now self.now.map.search
+            (place self.now.x self.now.y) }
+    {
+        let WindowTest::Beaten = t else {
+            return false;
+        };
+        if self.map.search.exact {
+            return !self.is_local_max(true);
+        }
+        true
+    }
+
+    // The peak at this cell, if it is one, with its positive neighbours and ties: they are counted while its window is
+    // in the cache. The test that drops most cells in noise comes first, to save time: too few positive neighbours. A
+    // cell that is overtopped was skipped.
+    pub(crate) fn peak_test(&self) -> Option<Spot>
+        ensures { result ≡ peak_test self.now.map.cells.now self.now.map.search (place self.now.x self.now.y) }
+    {
+        if self.value <= self.map.search.threshold || self.has_few() {
+            return None;
+        }
+        let t = self.window_test();
+        if self.is_beaten(t) {
+            return None;
+        }
+        let ties = ties_of(t);
+        let neighbours = self.count_neighbors(Asked::Positive);
+        if neighbours < self.map.search.least_neighbours {
+            return None;
+        }
+        Some(Spot {
+            x: self.x,
+            y: self.y,
+            neighbours,
+            ties,
+        })
+    }
 }
 
 // The number of ties in a window test: none if the cell is beaten by computed values.

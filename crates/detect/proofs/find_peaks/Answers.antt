@@ -8,7 +8,7 @@ use Rattle.detect.specs.Detect.{search_by, starts_in, ties_in, conditions, Peaks
 use Rattle.detect.specs.Internal.{Searchable}
 use Rattle.detect.proofs.Answers.{Clear, clear, searchable, found-refused, found-clear}
 use Rattle.detect.proofs.find_peaks.Goals as goal
-use Rattle.detect.proofs.find_peaks.Goals.{After-search_of-s, Else-number-ne0}
+use Rattle.detect.proofs.find_peaks.Goals.{After-search_of-search, Else-number-ne0}
 
 -- ---- what it was given
 abbrev conditions-of : Else-number-ne0 → List (Bool × ℕ)
@@ -28,37 +28,37 @@ buffer-of c = slices c.args.xs.now c.args.ys.now c.args.strengths.now c.args.nei
 fine : (c : Else-number-ne0) → Clear (conditions-of c)
 fine c = clear _ _ _ _ _ _ (sym c.refusal-number.ensures ∙ c.if-number-ne0.false)
 
-can-search : (c : After-search_of-s) → Searchable (map_of (goal.at.After-search_of-s c).Else-number-ne0) c.search_of-s.result
-can-search c = rw c.search_of-s.ensures (searchable _ _ _ _ _ _ _ _ _ (fine (goal.at.After-search_of-s c).Else-number-ne0))
+can-search : (c : After-search_of-search) → Searchable (map_of (goal.at.After-search_of-search c).Else-number-ne0) c.search_of-search.result
+can-search c = rw c.search_of-search.ensures (searchable _ _ _ _ _ _ _ _ _ (fine (goal.at.After-search_of-search c).Else-number-ne0))
 
 -- what is added is what the function promises
-adds : (c : After-search_of-s) (answer : Peaks) (b' : Slices)
-    → PeaksAdded [] (starts_in (map_of (goal.at.After-search_of-s c).Else-number-ne0) c.search_of-s.result)
-    (ties_in (map_of (goal.at.After-search_of-s c).Else-number-ne0) c.search_of-s.result) c.args.held
-    (buffer-of (goal.at.After-search_of-s c).Else-number-ne0) answer b'
-    → PeaksAdded (conditions-of (goal.at.After-search_of-s c).Else-number-ne0)
-    (starts_in (map_of (goal.at.After-search_of-s c).Else-number-ne0) (search-of (goal.at.After-search_of-s c).Else-number-ne0))
-    (ties_in (map_of (goal.at.After-search_of-s c).Else-number-ne0) (search-of (goal.at.After-search_of-s c).Else-number-ne0)) c.args.held
-    (buffer-of (goal.at.After-search_of-s c).Else-number-ne0) answer b'
+adds : (c : After-search_of-search) (answer : Peaks) (b' : Slices)
+    → PeaksAdded [] (starts_in (map_of (goal.at.After-search_of-search c).Else-number-ne0) c.search_of-search.result)
+    (ties_in (map_of (goal.at.After-search_of-search c).Else-number-ne0) c.search_of-search.result) c.args.held
+    (buffer-of (goal.at.After-search_of-search c).Else-number-ne0) answer b'
+    → PeaksAdded (conditions-of (goal.at.After-search_of-search c).Else-number-ne0)
+    (starts_in (map_of (goal.at.After-search_of-search c).Else-number-ne0) (search-of (goal.at.After-search_of-search c).Else-number-ne0))
+    (ties_in (map_of (goal.at.After-search_of-search c).Else-number-ne0) (search-of (goal.at.After-search_of-search c).Else-number-ne0)) c.args.held
+    (buffer-of (goal.at.After-search_of-search c).Else-number-ne0) answer b'
 adds c =
-    found-clear (map_of (goal.at.After-search_of-s c).Else-number-ne0) c.search_of-s.result
-    (search-of (goal.at.After-search_of-s c).Else-number-ne0) c.search_of-s.ensures
-    (conditions-of (goal.at.After-search_of-s c).Else-number-ne0) (fine (goal.at.After-search_of-s c).Else-number-ne0)
-    c.args.held (buffer-of (goal.at.After-search_of-s c).Else-number-ne0)
+    found-clear (map_of (goal.at.After-search_of-search c).Else-number-ne0) c.search_of-search.result
+    (search-of (goal.at.After-search_of-search c).Else-number-ne0) c.search_of-search.ensures
+    (conditions-of (goal.at.After-search_of-search c).Else-number-ne0) (fine (goal.at.After-search_of-search c).Else-number-ne0)
+    c.args.held (buffer-of (goal.at.After-search_of-search c).Else-number-ne0)
 
 pub returns-then-number-ne0 : goal.returns-then-number-ne0
 returns-then-number-ne0 c = found-refused _ _ _ _ _ _ c.refusal-number.ensures c.if-number-ne0.true
 
-pub add_peaks-requires : goal.add_peaks-requires
-add_peaks-requires c = can-search (goal.at.add_peaks-requires c).After-search_of-s
+pub invariant_of-searched : goal.invariant_of-searched
+invariant_of-searched c = record { searchable = can-search (goal.at.invariant_of-searched c).After-search_of-search }
 
 pub returns-then-map-lt-LARGE_MAP : goal.returns-then-map-lt-LARGE_MAP
 returns-then-map-lt-LARGE_MAP c =
-    adds (goal.at.returns-then-map-lt-LARGE_MAP c).After-search_of-s c.add_peaks.result _ c.add_peaks.ensures
+    adds (goal.at.returns-then-map-lt-LARGE_MAP c).After-search_of-search c.add_peaks.result _ c.add_peaks.ensures
 
-pub add_peaks-requires-2 : goal.add_peaks-requires-2
-add_peaks-requires-2 c = can-search (goal.at.add_peaks-requires-2 c).After-search_of-s
+pub invariant_of-searched-2 : goal.invariant_of-searched-2
+invariant_of-searched-2 c = record { searchable = can-search (goal.at.invariant_of-searched-2 c).After-search_of-search }
 
 pub returns : goal.returns
 returns c =
-    adds (goal.at.returns c).After-search_of-s c.add_peaks-2.result _ c.add_peaks-2.ensures
+    adds (goal.at.returns c).After-search_of-search c.add_peaks-2.result _ c.add_peaks-2.ensures

@@ -10,4 +10,4 @@ returns-then-s-b c = rw (le-leb _ _ c.if-s-b.true)
 
 pub returns : goal.returns
 unfolding rows_inside
-returns c = rw (lt-leb _ _ c.if-s-b.false, c.minus.ensures)
+returns c = rw (lt-leb _ _ c.if-s-b.false, c.saturating_sub.ensures)

@@ -1,0 +1,11 @@
+use Rattle.std.proofs.Common.{◌+◌, ◌-◌}
+use lib.Ieee.{nan}
+use Rattle.lists.proofs.Rows.{CountRows}
+use Rattle.detect.specs.Internal.{is_counted}
+use Rattle.detect.proofs.neighbors.Cell.count_square.Given as goal
+
+abbrev pub invariant-loop-row : goal.invariant-loop-row
+invariant-loop-row l =
+    let r = l.self.map.search.window in
+    CountRows (is_counted l.asked l.self.value) l.self.map.cells.now l.self.map.search.w nan (l.self.x - r) (l.self.x + r + 1)
+    (l.self.y - r) (l.self.y + r + 1) l.n l.row

@@ -1,0 +1,19 @@
+-- `detect::neighbors::Cell::is_beaten` meets its contract, by the window test. Assumes nothing.
+use Rattle.detect.specs.Internal.{place}
+use Rattle.detect.proofs.Tested.{lost-not, lost-exactly, lost-plainly}
+use Rattle.detect.proofs.neighbors.Cell.is_beaten.Goals as goal
+
+pub returns-in_default : goal.returns-in_default
+returns-in_default c =
+    lost-not c.args.self.now.map.cells.now c.args.self.now.map.search (place c.args.self.now.x c.args.self.now.y) _ c.requires _
+    c.in_default.is
+
+pub returns-then-self : goal.returns-then-self
+returns-then-self c =
+    lost-exactly c.args.self.now.map.cells.now c.args.self.now.map.search (place c.args.self.now.x c.args.self.now.y) c.if-self.true
+    _ c.is_local_max.ensures
+
+pub returns : goal.returns
+returns c =
+    lost-plainly c.args.self.now.map.cells.now c.args.self.now.map.search (place c.args.self.now.x c.args.self.now.y) c.if-self.false
+    _ c.requires c.in-Beaten.is
