@@ -8,18 +8,21 @@ use lib.Ieee.{Float}
 use borrow.Author.Tests.{not-false}
 use Rattle.lists.specs.Limits.{largest_side}
 use Rattle.lists.specs.Places.{All}
-use Rattle.lists.specs.Refusals.{lowest, values_unless, unless, result_or}
+use Rattle.std.specs.Prelude.{Result, Ok, Err}
+use Rattle.lists.specs.declared.refusal.Refusal.{Refusal}
+use Rattle.lists.specs.declared.refusal.Refusal.TheVariants.{ListTooLong}
+use Rattle.lists.specs.Refusals.{lowest, number_of, values_unless, judged, verdict, result_or}
+use Rattle.lists.proofs.Judged.{Known, number-judged, values-judged, lowest-known, judged-ok, judged-err, refused-some, refused-stays}
 use Rattle.lists.proofs.Tests.{or-neither}
-use Rattle.lists.proofs.Refusals.{all-clear, lowest-some, lowest-past, sized_of}
+use Rattle.lists.proofs.Refusals.{all-clear, lowest-some, lowest-before, lowest-past, sized_of}
 use Rattle.ring.proofs.Places.{ring-small}
 use Rattle.corner_list.specs.CornerList.{Slices, places_of, placed_corners}
 use Rattle.corner_list.specs.declared.Corner.{Corner}
 use Rattle.detect.specs.declared.Search.{Search}
 use Rattle.detect.specs.declared.Peaks.{Peaks}
-use Rattle.detect.specs.declared.Peaks.TheVariants.{Added, Refused}
 use Rattle.ring.specs.Ring.{is_ring}
 use Rattle.detect.specs.Detect.{search_by, peaks_in, start_at, starts_in, ties_in}
-use Rattle.detect.specs.Detect.{conditions, refusal_of, number_of, values_of, PeaksAdded}
+use Rattle.detect.specs.Detect.{conditions, refusal_of, PeaksAdded}
 use Rattle.detect.specs.Internal.{Searchable}
 
 -- ---- inputs
@@ -111,54 +114,50 @@ module _ (places held n : ℕ) where
     refusal-none l = lowest-past cs _ c.numbered c.none ∙ rw (le-ltb places (held + n) l)
 
 -- ---- answers, by what led to them
-pub number_is : (k n ties : ℕ) → number_of (unless Refused k (Added n ties)) ≡ k
-number_is zero n ties = refl
-number_is (suc k) n ties = refl
-
-pub values-are : (k n ties : ℕ) → values_of (unless Refused k (Added n ties)) ≡ values_unless k (n ∷ ties ∷ [])
-values-are zero n ties = refl
-values-are (suc k) n ties = refl
-
 module _ (conds : List (Bool × ℕ)) (cs : List Corner) (ties held : ℕ) (b : Slices) where
+  abbrev pub due : Peaks
+  due = record { count = length cs; ties = ties }
+
   -- by the refusal's number
-  pub found-by : (k : ℕ) → refusal_of conds (places_of b) held (length cs) ≡ k → (answer : Peaks) (b' : Slices)
-      → answer ≡ unless Refused k (Added (length cs) ties) → b' ≡ result_or k (placed_corners held cs b) b
+  pub found-by : (k : ℕ) → refusal_of conds (places_of b) held (length cs) ≡ k → (answer : Result Peaks Refusal) (b' : Slices)
+      → answer ≡ judged k due → number_of answer ≡ k → b' ≡ result_or k (placed_corners held cs b) b
       → PeaksAdded conds cs ties held b answer b'
-  found-by k e answer b' p q = record {
-    answer = p ∙ ap (λ (r : ℕ). unless Refused r (Added (length cs) ties)) (sym e);
-    number = ap number_of p ∙ number_is k (length cs) ties ∙ sym e;
-    values = ap values_of p ∙ values-are k (length cs) ties ∙ ap (λ (r : ℕ). values_unless r (length cs ∷ ties ∷ [])) (sym e);
+  found-by k e answer b' p n q = record {
+    answer = p ∙ ap (λ (r : ℕ). judged r due) (sym e);
+    number = n ∙ sym e;
+    values = values-judged _ k due p ∙ ap (λ (r : ℕ). values_unless r (length cs ∷ ties ∷ [])) (sym e);
     buffer = q ∙ ap (λ (r : ℕ). result_or r (placed_corners held cs b) b) (sym e);
   }
 
-  pub found-refused : (k : ℕ) → k ≡ lowest conds → (k ≡ 0 → ⊥) → PeaksAdded conds cs ties held b (Refused k) b
-  found-refused zero e n = absurd (n refl)
-  found-refused (suc k) e n =
-      let number = refusal-input (places_of b) held (length cs) conds (λ z. n (e ∙ z)) ∙ sym e in
-      found-by (suc k) number (Refused (suc k)) b refl refl
+  pub found-refused : (e : Refusal) → All (λ c. Known c.1) conds → Err e ≡ verdict (lowest conds) → PeaksAdded conds cs ties held b (Err e) b
+  found-refused e known p =
+      let number = refusal-input (places_of b) held (length cs) conds (refused-some _ _ e p) in
+      let answer = judged-err _ _ due e p in
+      found-by (lowest conds) number (Err e) b answer (number-judged _ _ answer (lowest-known conds known))
+      (sym (refused-stays _ _ e _ _ p))
 
 -- where there are no conditions
 module _ (cs : List Corner) (ties held : ℕ) (b : Slices) where
   none : Clear []
   none = record { numbered = tt; none = refl }
 
-  pub found-short : places_of b < held + length cs → PeaksAdded [] cs ties held b (Refused 10) b
-  found-short l = found-by [] cs ties held b 10 (refusal-short (places_of b) held (length cs) [] none l) (Refused 10) b refl refl
+  pub found-short : places_of b < held + length cs → PeaksAdded [] cs ties held b (Err ListTooLong) b
+  found-short l = found-by [] cs ties held b 10 (refusal-short (places_of b) held (length cs) [] none l) _ b refl refl refl
 
   pub found-added : held + length cs ≤ places_of b → (n t : ℕ) (b' : Slices) → n ≡ length cs → t ≡ ties → b' ≡ placed_corners held cs b
-      → PeaksAdded [] cs ties held b (Added n t) b'
+      → PeaksAdded [] cs ties held b (Ok (record { count = n; ties = t })) b'
   found-added l n t b' e f w =
-      found-by [] cs ties held b 0 (refusal-none (places_of b) held (length cs) [] none l) (Added n t) b' (ap₂ Added e f) w
+      found-by [] cs ties held b 0 (refusal-none (places_of b) held (length cs) [] none l) _ b' (rw (e, f)) refl w
 
 -- and where they do not hold
 pub found-clear : (m : List Float) (s t : Search) → s ≡ t → (conds : List (Bool × ℕ)) → Clear conds
-    → (held : ℕ) (b : Slices) (answer : Peaks) (b' : Slices)
+    → (held : ℕ) (b : Slices) (answer : Result Peaks Refusal) (b' : Slices)
     → PeaksAdded [] (starts_in m s) (ties_in m s) held b answer b' → PeaksAdded conds (starts_in m t) (ties_in m t) held b answer b'
 found-clear m s t same conds clear held b answer b' f =
     let places = places_of b in
     let n = length (starts_in m s) in
     rw (← same)
-    (found-by conds (starts_in m s) (ties_in m s) held b (refusal_of [] places held n) (past places n) answer b' f.answer f.buffer)
+    (found-by conds (starts_in m s) (ties_in m s) held b (refusal_of [] places held n) (past places n) answer b' f.answer f.number f.buffer)
   where
     past : (places n : ℕ) → refusal_of conds places held n ≡ refusal_of [] places held n
     past places n = unfold refusal_of in (lowest-past conds _ clear.numbered clear.none)
@@ -166,12 +165,10 @@ found-clear m s t same conds clear held b answer b' f =
 -- ---- and what they tell
 
 -- where corners were added, no condition on the input holds
-pub unrefused : (conds : List (Bool × ℕ)) (cs : List Corner) (ties held : ℕ) (b : Slices) (n t : ℕ) (b' : Slices)
-    → PeaksAdded conds cs ties held b (Added n t) b' → lowest conds ≡ 0
-unrefused conds cs ties held b n t b' f = ⊎_elim (λ z. z) (λ l. sym (f.number ∙ refused l)) (eq-zero-or-pos (lowest conds))
-  where
-    refused : 0 < lowest conds → refusal_of conds (places_of b) held (length cs) ≡ lowest conds
-    refused l = refusal-input (places_of b) held (length cs) conds (λ z. let no : ⊥ = omega arith in no)
+pub unrefused : (conds : List (Bool × ℕ)) (cs : List Corner) (ties held : ℕ) (b : Slices) (p : Peaks) (b' : Slices)
+    → PeaksAdded conds cs ties held b (Ok p) b' → lowest conds ≡ 0
+unfolding refusal_of
+unrefused conds cs ties held b p b' f = lowest-before conds _ (judged-ok _ _ p f.answer).0
 
 -- where the conditions on the input do not hold
 pub record Fitted (cs : List Corner) (ties held : ℕ) (b : Slices) (n t : ℕ) (b' : Slices) : Type 0 where
@@ -180,43 +177,38 @@ pub record Fitted (cs : List Corner) (ties held : ℕ) (b : Slices) (n t : ℕ) 
   pub fits : held + n ≤ places_of b
   pub buffer : b' ≡ placed_corners held cs b
 
-pub record Short (cs : List Corner) (held : ℕ) (b : Slices) (k : ℕ) (b' : Slices) : Type 0 where
-  pub number : k ≡ 10
+pub record Short (cs : List Corner) (held : ℕ) (b : Slices) (e : Refusal) (b' : Slices) : Type 0 where
+  pub refusal : e ≡ ListTooLong
   pub short : places_of b < held + length cs
   pub buffer : b' ≡ b
 
 module _ (conds : List (Bool × ℕ)) (clear : Clear conds) (cs : List Corner) (ties held : ℕ) (b : Slices)
-    (answer : Peaks) (b' : Slices) (f : PeaksAdded conds cs ties held b answer b') where
+    (answer : Result Peaks Refusal) (b' : Slices) (f : PeaksAdded conds cs ties held b answer b') where
   by_number : (k : ℕ) → refusal_of conds (places_of b) held (length cs) ≡ k
-      → (answer ≡ unless Refused k (Added (length cs) ties)) × (b' ≡ result_or k (placed_corners held cs b) b)
+      → (answer ≡ judged k (due conds cs ties held b)) × (b' ≡ result_or k (placed_corners held cs b) b)
   by_number k r = (
-    f.answer ∙ ap (λ (j : ℕ). unless Refused j (Added (length cs) ties)) r,
+    f.answer ∙ ap (λ (j : ℕ). judged j (due conds cs ties held b)) r,
     f.buffer ∙ ap (λ (j : ℕ). result_or j (placed_corners held cs b) b) r,
   )
 
-  pub added-tells : (n t : ℕ) → answer ≡ Added n t → Fitted cs ties held b n t b'
-  added-tells n t q =
+  pub added-tells : (p : Peaks) → answer ≡ Ok p → Fitted cs ties held b p.count p.ties b'
+  added-tells p q =
       elim (dec_lt (places_of b) (held + length cs)) [
-        | yes l ↦
-            let z = sym q ∙ (by_number 10 (refusal-short (places_of b) held (length cs) conds clear l)).0 in
-            absurd (let y : ◌≡◌ {A = ℕ} 0 1 = cc in let no : ⊥ = omega arith in no)
+        | yes l ↦ absurd (let z = sym q ∙ (by_number 10 (refusal-short (places_of b) held (length cs) conds clear l)).0 in
+            let no : ⊥ = grind arith in no)
         | no g ↦
             let r = by_number 0 (refusal-none (places_of b) held (length cs) conds clear (omega arith)) in
-            let z = sym q ∙ r.0 in
-            let c : n ≡ length cs = cc in
-            let d : t ≡ ties = cc in
-            record { count = c; tied = d; fits = omega arith; buffer = r.1 }
+            let same = (judged-ok 0 _ p (sym q ∙ r.0)).1 in
+            record { count = ap (λ (p : Peaks). p.count) same; tied = ap (λ (p : Peaks). p.ties) same; fits = rw same (omega arith); buffer = r.1 }
       ]
 
-  pub refused-tells : (k : ℕ) → answer ≡ Refused k → Short cs held b k b'
-  refused-tells k q =
+  pub refused-tells : (e : Refusal) → answer ≡ Err e → Short cs held b e b'
+  refused-tells e q =
       elim (dec_lt (places_of b) (held + length cs)) [
         | yes l ↦
             let r = by_number 10 (refusal-short (places_of b) held (length cs) conds clear l) in
             let z = sym q ∙ r.0 in
-            let c : k ≡ 10 = cc in
-            record { number = c; short = l; buffer = r.1 }
-        | no g ↦
-            let z = sym q ∙ (by_number 0 (refusal-none (places_of b) held (length cs) conds clear (omega arith))).0 in
-            absurd (let y : ◌≡◌ {A = ℕ} 0 1 = cc in let no : ⊥ = omega arith in no)
+            record { refusal = grind arith; short = l; buffer = r.1 }
+        | no g ↦ absurd (let z = sym q ∙ (by_number 0 (refusal-none (places_of b) held (length cs) conds clear (omega arith))).0 in
+            let no : ⊥ = grind arith in no)
       ]

@@ -1,6 +1,6 @@
 -- The definitions of RULES 26 on a map of 11 by 13 whose border of 5 leaves three cells, which hold 1, 2 and 3, and on a map of 10 by 13,
 -- which is no wider than twice the border. By computation. Assumes nothing.
-use Rattle.std.proofs.Common.{◌≡◌, ℕ, List, [], ◌∷◌, set, replicate, refl}
+use Rattle.std.proofs.Common.{◌≡◌, ℕ, List, [], ◌∷◌, set, replicate, refl, Ok}
 use lib.Ieee.{Float, lt, le, eq, of_int}
 use Rattle.lists.specs.Places.{counted, range, row, rows_from, block, count, flat_map}
 use Rattle.float32.specs.Float32.{zero, lift, float_of}
@@ -13,7 +13,7 @@ column = set (set (set (replicate 143 zero) 60 (float_of 1)) 71 (float_of 2)) 82
 
 -- 1 for yes and 0 for no, and the rows, for so many peaks of a map of w by 13
 abbrev enough : List Float → ℕ → ℕ → List ℕ
-enough m w wanted = let s = search_of w 13 5 zero 0 0 0 in values_of (enough_of s wanted (peaks_in m s))
+enough m w wanted = let s = search_of w 13 5 zero 0 0 0 in values_of (Ok (enough_of s wanted (peaks_in m s)))
 
 -- none to four wanted
 high : flat_map (enough column 11) (0 ∷ 1 ∷ 2 ∷ 3 ∷ 4 ∷ []) ≡ 1 ∷ 0 ∷ 1 ∷ 1 ∷ 1 ∷ 2 ∷ 1 ∷ 3 ∷ 0 ∷ 3 ∷ []

@@ -1,16 +1,18 @@
 -- Peaks searched for one after the other until there are as many as wanted: where the search stands, and the answer. Assumes nothing.
-use Rattle.std.proofs.Common.{◌≡◌, ℕ, zero, suc, ◌+◌, ◌-◌, ◌<◌, ◌≤◌, Bool, true, false, cond, leb, List, [], ◌∷◌, length, drop, sym, refl}
+use Rattle.std.proofs.Common.{◌≡◌, ℕ, zero, suc, ◌+◌, ◌-◌, ◌<◌, ◌≤◌, Bool, true, false, cond, leb, List, [], ◌∷◌, length, drop, sym, refl, Ok, Err}
 use Rattle.std.proofs.Common.{ap, ◌∙◌, add-one, arith, length-drop, drop_of_length-le, drop-cons, le-leb}
 use mathlib.Core.List.{tail-eq_of_cons-eq}
 use lib.Ieee.{Float}
 use borrow.Author.Tests.{lt-leb}
-use Rattle.lists.specs.Places.{Place}
-use Rattle.lists.specs.Refusals.{lowest, unless, values_unless}
+use Rattle.lists.specs.declared.refusal.Refusal.{Refusal}
+use Rattle.lists.specs.Places.{Place, All}
+use Rattle.lists.specs.Refusals.{lowest, verdict}
+use Rattle.lists.proofs.Judged.{Known, lowest-known, judged-err, number-judged, values-refused}
 use Rattle.detect.specs.declared.Search.{Search}
 use Rattle.detect.specs.declared.enough.Enough.{Enough}
-use Rattle.detect.specs.declared.enough.Enough.TheVariants.{Yes, No, Refused}
+use Rattle.detect.specs.declared.enough.Enough.TheVariants.{Yes, No}
 use Rattle.detect.specs.Detect.{peaks_in}
-use Rattle.detect.specs.Enough.{rows_inside, rows_to, rows_for, answer_of, enough_of, number_of, values_of, EnoughFound}
+use Rattle.detect.specs.Enough.{rows_inside, rows_to, rows_for, answer_of, enough_of, values_of, EnoughFound}
 use Rattle.detect.specs.declared.searching.Spot.{Spot}
 use Rattle.detect.specs.Internal.{place, place_of, place_behind, peaks_from, FirstFrom}
 use Rattle.detect.proofs.Scanning.{peaks-start}
@@ -67,30 +69,26 @@ module _ (m : List Float) (s : Search) (rows i : ℕ) (p : Place) (a : Searching
 
 -- ---- the promise
 module _ (conds : List (Bool × ℕ)) (m : List Float) (s : Search) (wanted : ℕ) where
-  pub enough-refused : (k : ℕ) → k ≡ lowest conds → (k ≡ 0 → ⊥) → EnoughFound conds m s wanted (Refused k)
-  enough-refused zero e n = absurd (n refl)
-  enough-refused (suc k) e n = record {
-    answer = ap (λ (j : ℕ). unless Refused j (enough_of s wanted (peaks_in m s))) e;
-    number = e;
-    values = ap (λ (j : ℕ). values_unless j (cond (leb wanted (length (peaks_in m s))) 1 0 ∷ rows_for s wanted (peaks_in m s) ∷ [])) e;
-  }
+  pub enough-refused : (e : Refusal) → All (λ c. Known c.1) conds → Err e ≡ verdict (lowest conds) → EnoughFound conds m s wanted (Err e)
+  enough-refused e known p =
+      let answer = judged-err _ _ (enough_of s wanted (peaks_in m s)) e p in
+      record {
+        answer = answer;
+        number = number-judged _ _ answer (lowest-known conds known);
+        values = values-refused _ _ e _ p;
+      }
 
   -- where none of the conditions holds, by the search with t
   pub enough-found : lowest conds ≡ 0 → (t : Search) → t ≡ s → (r : Enough) → r ≡ enough_of t wanted (peaks_in m t)
-      → EnoughFound conds m s wanted r
+      → EnoughFound conds m s wanted (Ok r)
   enough-found z t same r is =
       let e = is ∙ ap (λ (u : Search). enough_of u wanted (peaks_in m u)) same in record {
-        answer = e ∙ rw z;
-        number = ap number_of e ∙ unfold enough_of in
-            (number (leb wanted (length (peaks_in m s))) (rows_for s wanted (peaks_in m s))) ∙ sym z;
-        values = ap values_of e ∙ unfold enough_of in
+        answer = rw (e, z);
+        number = sym z;
+        values = ap (λ (a : Enough). values_of (Ok a)) e ∙ unfold enough_of in
             (values (leb wanted (length (peaks_in m s))) (rows_for s wanted (peaks_in m s))) ∙ rw z;
       }
     where
-      number : (b : Bool) (rows : ℕ) → number_of (answer_of b rows) ≡ 0
-      number true rows = refl
-      number false rows = refl
-
-      values : (b : Bool) (rows : ℕ) → values_of (answer_of b rows) ≡ cond b 1 0 ∷ rows ∷ []
+      values : (b : Bool) (rows : ℕ) → values_of (Ok (answer_of b rows)) ≡ cond b 1 0 ∷ rows ∷ []
       values true rows = refl
       values false rows = refl

@@ -1,5 +1,5 @@
 -- The corners that the peaks start as, put into the buffer one after the other, and the sum of their ties. Assumes nothing.
-use Rattle.std.proofs.Common.{◌≡◌, ℕ, ◌+◌, ◌-◌, ◌<◌, ◌≤◌, List, [], ◌∷◌, Some, None, map, length, ap, ◌∙◌, arith}
+use Rattle.std.proofs.Common.{◌≡◌, ℕ, ◌+◌, ◌-◌, ◌<◌, ◌≤◌, List, [], ◌∷◌, Some, None, Ok, map, length, ap, ◌∙◌, arith}
 use lib.Ieee.{Float}
 use Rattle.lists.specs.Places.{Place, sum_of}
 use Rattle.corner_list.specs.declared.Corner.{Corner}
@@ -9,7 +9,6 @@ use Rattle.corner_list.proofs.Growing.{Growing, growing-none, growing-to, growin
 use Rattle.corner_list.proofs.Growing.{growing-xs, growing-ys, growing-strengths, growing-neighbours}
 use Rattle.detect.specs.declared.Search.{Search}
 use Rattle.detect.specs.declared.searching.Spot.{Spot}
-use Rattle.detect.specs.declared.Peaks.TheVariants.{Added}
 use Rattle.detect.specs.Detect.{start_at, starts_in, ties_at, ties_in, PeaksAdded}
 use Rattle.detect.specs.Internal.{place, place_behind, place_of, peaks_from, Searchable, IsSearchStart, NextListed}
 use Rattle.detect.proofs.Scanning.{peaks-start}
@@ -32,7 +31,7 @@ writing-first m s t n held b h = record {
 }
 
 module _ (m : List Float) (s : Search) (t : List ℕ) (n held i ties : ℕ) (b₀ b : Slices) (p : Place) (a : Writing m s t n held i ties b₀ b p) where
-  pub writing-all : NextListed m s t n i p None → PeaksAdded [] (starts_in m s) (ties_in m s) held b₀ (Added i ties) b
+  pub writing-all : NextListed m s t n i p None → PeaksAdded [] (starts_in m s) (ties_in m s) held b₀ (Ok (record { count = i; ties = ties })) b
   writing-all f =
       let k = growing-all _ _ _ _ _ _ a.growing (ap (map (start_at m s)) f.next) in
       found-added (starts_in m s) (ties_in m s) held b₀ a.growing.fits i ties b k.0

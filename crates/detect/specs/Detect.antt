@@ -1,15 +1,15 @@
 -- Peak finding (RULES 4): the corners that a map's peaks start as, the refusals, and what is promised about the answer
 -- and the buffer.
-use Rattle.std.specs.Prelude.{◌≡◌, ℕ, ◌+◌, Bool, false, cond, List, [], ◌∷◌, ◌++◌, map, length, nat_lt, Float}
+use Rattle.std.specs.Prelude.{◌≡◌, ℕ, ◌+◌, Bool, false, cond, List, [], ◌∷◌, ◌++◌, map, length, nat_lt, Float, Result}
 use Rattle.lists.specs.Places.{Place, sum_of}
-use Rattle.lists.specs.Refusals.{lowest, values_unless, is_large, is_misfit, unless, result_or}
+use Rattle.lists.specs.declared.refusal.Refusal.{Refusal}
+use Rattle.lists.specs.Refusals.{lowest, number_of, values_by, values_unless, is_large, is_misfit, judged, result_or}
 use Rattle.float32.specs.Float32.{lift, float_of}
 use Rattle.frame_params.specs.Ranges.{range_outside}
 use Rattle.corner_list.specs.CornerList.{Slices, places_of, placed_corners}
 use Rattle.corner_list.specs.declared.Corner.{Corner}
 use Rattle.detect.specs.declared.Search.{Search}
 use Rattle.detect.specs.declared.Peaks.{Peaks}
-use Rattle.detect.specs.declared.Peaks.TheVariants.{Added, Refused}
 use Rattle.detect.specs.declared.WindowTest.{WindowTest}
 use Rattle.detect.specs.Fifths.{between_fifths}
 use Rattle.detect.specs.Peaks.{CellTests, is_peak, peak_places, value_at, larger_in, equal_in, positive_in, reading}
@@ -90,22 +90,18 @@ refusal_of conds places held n = lowest (conds ++ ((nat_lt places (held + n), 10
 
 -- ---- the promise
 
--- RULES 15.1: the number and the values of each case
-abbrev pub number_of : Peaks → ℕ
-number_of (Added n ties) = 0
-number_of (Refused number) = number
-
-abbrev pub values_of : Peaks → List ℕ
-values_of (Added n ties) = n ∷ ties ∷ []
-values_of (Refused number) = []
+-- RULES 15.1: the values of an answer
+abbrev pub values_of : Result Peaks Refusal → List ℕ
+values_of = values_by (λ p. p.count ∷ p.ties ∷ [])
 
 -- What peak finding promises, under the conditions conds on the input, for a map whose peaks start as the corners cs
 -- and have `ties` ties, and for a buffer b that holds `held`: the answer (how many peaks were added and how many ties
 -- they have) with its number and values, and the buffer after (RULES 2.5): the corners cs after its first `held`, or
 -- unchanged
-pub record PeaksAdded (conds : List (Bool × ℕ)) (cs : List Corner) (ties held : ℕ) (b : Slices) (r : Peaks)
+pub record PeaksAdded (conds : List (Bool × ℕ)) (cs : List Corner) (ties held : ℕ) (b : Slices) (r : Result Peaks Refusal)
     (b' : Slices) : Type 0 where
-  pub answer : r ≡ unless Refused (refusal_of conds (places_of b) held (length cs)) (Added (length cs) ties)
+  pub answer : r
+      ≡ judged (refusal_of conds (places_of b) held (length cs)) (record { count = length cs; ties = ties })
   pub number : number_of r ≡ refusal_of conds (places_of b) held (length cs)
   pub values : values_of r ≡ values_unless (refusal_of conds (places_of b) held (length cs)) (length cs ∷ ties ∷ [])
   pub buffer : b' ≡ result_or (refusal_of conds (places_of b) held (length cs)) (placed_corners held cs b) b

@@ -1,12 +1,13 @@
 -- Enough peaks (RULES 26): whether a map has at least a given number, how many rows are looked at, and what is
 -- promised.
 use Rattle.std.specs.Prelude.{◌≡◌, ℕ, zero, suc, ◌+◌, ◌-◌, ◌*◌, ◌<◌, ◌≤◌, Bool, true, false, cond, List, [], ◌∷◌}
-use Rattle.std.specs.Prelude.{length, drop, nat_le, Float}
+use Rattle.std.specs.Prelude.{length, drop, nat_le, Float, Result, Ok, Err}
 use Rattle.lists.specs.Places.{Place}
-use Rattle.lists.specs.Refusals.{lowest, unless, values_unless}
+use Rattle.lists.specs.declared.refusal.Refusal.{Refusal}
+use Rattle.lists.specs.Refusals.{lowest, number_of, judged, values_unless}
 use Rattle.detect.specs.declared.Search.{Search}
 use Rattle.detect.specs.declared.enough.Enough.{Enough}
-use Rattle.detect.specs.declared.enough.Enough.TheVariants.{Yes, No, Refused}
+use Rattle.detect.specs.declared.enough.Enough.TheVariants.{Yes, No}
 use Rattle.detect.specs.Peaks.{value_at}
 use Rattle.detect.specs.Detect.{peaks_in}
 
@@ -33,21 +34,17 @@ answer_of false rows = No rows
 unfoldable pub enough_of : Search → ℕ → List Place → Enough
 enough_of s n ps = answer_of (nat_le n (length ps)) (rows_for s n ps)
 
--- RULES 15.1: the number and the values of each case: 1 for yes and 0 for no, and the rows
-abbrev pub number_of : Enough → ℕ
-number_of (Yes rows) = 0
-number_of (No rows) = 0
-number_of (Refused number) = number
-
-abbrev pub values_of : Enough → List ℕ
-values_of (Yes rows) = 1 ∷ rows ∷ []
-values_of (No rows) = 0 ∷ rows ∷ []
-values_of (Refused number) = []
+-- RULES 15.1: the values of each case: 1 for yes and 0 for no, and the rows
+abbrev pub values_of : Result Enough Refusal → List ℕ
+values_of (Ok (Yes rows)) = 1 ∷ rows ∷ []
+values_of (Ok (No rows)) = 0 ∷ rows ∷ []
+values_of (Err e) = []
 
 -- What `has_peaks` promises, under the conditions conds on the input, for a map m that is searched with s for a given
 -- number of peaks
-pub record EnoughFound (conds : List (Bool × ℕ)) (m : List Float) (s : Search) (wanted : ℕ) (r : Enough) : Type 0 where
-  pub answer : r ≡ unless Refused (lowest conds) (enough_of s wanted (peaks_in m s))
+pub record EnoughFound (conds : List (Bool × ℕ)) (m : List Float) (s : Search) (wanted : ℕ)
+    (r : Result Enough Refusal) : Type 0 where
+  pub answer : r ≡ judged (lowest conds) (enough_of s wanted (peaks_in m s))
   pub number : number_of r ≡ lowest conds
   pub values : values_of r
       ≡ values_unless (lowest conds) (cond (nat_le wanted (length (peaks_in m s))) 1 0 ∷ rows_for s wanted

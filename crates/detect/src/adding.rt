@@ -3,7 +3,7 @@ ghost use Rattle.std.specs.Prelude.{◌≡◌, ◌+◌, ◌-◌, ◌*◌, ◌≤
 ghost use Rattle.std.specs.Float.Ieee.{of_int};
 ghost use Rattle.std.specs.Float.{binary32};
 ghost use Rattle.lists.specs.Limits.{largest_side, largest_border};
-ghost use Rattle.corner_list.specs.CornerList.{slices};
+ghost use Rattle.corner_list.specs.Buffer.{contents, SameSlices};
 ghost use Rattle.detect.specs.Internal.{Inside};
 ghost use Rattle.detect.specs.Detect.{peaks_in, start_at, starts_in, ties_in, PeaksAdded};
 ghost use Rattle.detect.specs.Internal.{place_of, Counted, PeaksListed};
@@ -11,7 +11,8 @@ ghost use Rattle.detect.specs.Internal.{place_of, Counted, PeaksListed};
 use crate::Peaks;
 use crate::searched::SearchedMap;
 use crate::searching::{Spot, count_low};
-use corner_list::Corner;
+use corner_list::{Corner, CornerBuffer};
+use lists::Refusal;
 
 // The number of peaks that the small and the large table hold, and the least number of cells of a map that gets the
 // large one. For a smaller map, clearing the large table would take longer than the search.
@@ -118,34 +119,29 @@ impl SearchedMap<'_> {
     pub(crate) fn add_peaks(
         &self,
         table: &mut [u64],
-        xs: &mut [f32],
-        ys: &mut [f32],
-        strengths: &mut [f32],
-        neighbours: &mut [u32],
+        list: &mut CornerBuffer<'_>,
         held: usize,
-    ) -> Peaks
-        ensures { PeaksAdded [] (starts_in self.now.cells.now self.now.search)
+    ) -> Result<Peaks, Refusal>
+        ensures same_slices { SameSlices list.old list.new }
+        ensures added { PeaksAdded [] (starts_in self.now.cells.now self.now.search)
             (ties_in self.now.cells.now self.now.search) held
-            (slices xs.old ys.old strengths.old neighbours.old)
-            result (slices xs.new ys.new strengths.new neighbours.new) }
+            (contents list.old) result (contents list.new) }
     {
         let n = self.list_peaks(table);
-        let places = corner_list::places(xs.len(), ys.len(), strengths.len(), neighbours.len());
-        if self.are_too_many(table, n, places, held) {
-            return Peaks::Refused(10);
+        if self.are_too_many(table, n, list.places(), held) {
+            return Err(Refusal::ListTooLong);
         }
         let mut x = self.search.border;
         let mut y = self.search.border;
         let mut i = 0;
         let mut ties: u64 = 0;
         while let Some(peak) = self.peak_at(table, n, i, x, y) {
-            let corner = self.start_at(peak);
-            corner_list::put_corner(xs, ys, strengths, neighbours, held + i, corner);
+            list.put(held + i, self.start_at(peak));
             ties += u64::from(peak.ties);
             i += 1;
             x = peak.x + 1;
             y = peak.y;
         }
-        Peaks::Added(i, ties)
+        Ok(Peaks { count: i, ties })
     }
 }

@@ -7,13 +7,13 @@ ghost use Rattle.detect.specs.Enough.{rows_inside, enough_of, EnoughFound};
 
 use crate::Search;
 use crate::searched::SearchedMap;
+use lists::Refusal;
 
-// The answer: whether there are at least `wanted` peaks and how many rows were looked at, or the number of the refusal.
+// Whether there are at least `wanted` peaks, with how many rows were looked at.
 #[derive(Clone, Copy)]
 pub enum Enough {
     Yes(usize),
     No(usize),
-    Refused(u8),
 }
 
 // How many rows lie inside the border: none if a side is at most twice the border.
@@ -58,15 +58,12 @@ pub fn has_peaks(
     least_neighbours: u32,
     refine_radius: u32,
     wanted: usize,
-) -> Enough
+) -> Result<Enough, Refusal>
     ensures { EnoughFound (conditions (length map.now) w h ring window refine_radius)
         map.now
         (search_of w h ring threshold window least_neighbours refine_radius) wanted result }
 {
-    let number = crate::refusal(map.len(), w, h, ring, window, refine_radius);
-    if number != 0 {
-        return Enough::Refused(number);
-    }
+    crate::refusal(map.len(), w, h, ring, window, refine_radius)?;
     let search = crate::search_of(
         w,
         h,
@@ -78,5 +75,5 @@ pub fn has_peaks(
         false,
     );
     let searched = SearchedMap { cells: map, search };
-    search_for(&searched, wanted)
+    Ok(search_for(&searched, wanted))
 }

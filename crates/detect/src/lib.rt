@@ -12,12 +12,14 @@ mod table;
 ghost use Rattle.std.specs.Prelude.{◌≡◌, length, if◌then◌else◌};
 ghost use Rattle.float32.specs.Float32.{lift};
 ghost use Rattle.detect.specs.Fifths.{between_fifths};
-ghost use Rattle.lists.specs.Refusals.{lowest};
-ghost use Rattle.corner_list.specs.CornerList.{slices};
+ghost use Rattle.lists.specs.Refusals.{lowest, verdict};
+ghost use Rattle.corner_list.specs.Buffer.{contents, SameSlices};
 ghost use Rattle.detect.specs.Detect.{search_by, starts_in, ties_in, conditions, PeaksAdded};
 
 use adding::{FEW, LARGE_MAP, MANY};
+use corner_list::CornerBuffer;
 pub use enough::{Enough, has_peaks};
+use lists::Refusal;
 use searched::SearchedMap;
 
 // What a map is searched with: its sides, the border that no peak lies in, the window's radius, the lifted threshold,
@@ -42,26 +44,29 @@ pub enum WindowTest {
     Top(u32),
 }
 
-// The answer: how many peaks were added to the buffer and how many ties they have, or the number of the refusal.
+// How many peaks were added to a buffer, and how many ties they have.
 #[derive(Clone, Copy)]
-pub enum Peaks {
-    Added(usize, u64),
-    Refused(u8),
+pub struct Peaks {
+    pub count: usize,
+    pub ties: u64,
 }
 
-// The number of the first condition that refuses the input, 0 for none. The input is a map or an image of `size` cells,
-// w by h, and the parameters that it is searched with.
-pub fn refusal(size: usize, w: usize, h: usize, ring: u32, window: u32, refine_radius: u32) -> u8
-    ensures { result ≡ lowest (conditions size w h ring window refine_radius) }
+// Why a map or an image of `size` cells, w by h, cannot be searched with these parameters.
+pub fn refusal(
+    size: usize,
+    w: usize,
+    h: usize,
+    ring: u32,
+    window: u32,
+    refine_radius: u32,
+) -> Result<(), Refusal>
+    ensures { result ≡ verdict (lowest (conditions size w h ring window refine_radius)) }
 {
-    let number = image_size::refusal(size, w, h);
-    if number != 0 {
-        return number;
-    }
+    image_size::refusal(size, w, h)?;
     if frame_params::is_outside(ring, window, refine_radius) {
-        return 3;
+        return Err(Refusal::OutOfRange);
     }
-    0
+    Ok(())
 }
 
 // The threshold that cells are compared with.
@@ -113,22 +118,16 @@ pub fn find_peaks(
     least_neighbours: u32,
     refine_radius: u32,
     exact: bool,
-    xs: &mut [f32],
-    ys: &mut [f32],
-    strengths: &mut [f32],
-    neighbours: &mut [u32],
+    list: &mut CornerBuffer<'_>,
     held: usize,
-) -> Peaks
-    ensures { PeaksAdded (conditions (length map.now) w h ring window refine_radius)
+) -> Result<Peaks, Refusal>
+    ensures same_slices { SameSlices list.old list.new }
+    ensures added { PeaksAdded (conditions (length map.now) w h ring window refine_radius)
         (starts_in map.now (search_by exact w h ring threshold window least_neighbours refine_radius))
         (ties_in map.now (search_by exact w h ring threshold window least_neighbours refine_radius))
-        held (slices xs.old ys.old strengths.old neighbours.old)
-        result (slices xs.new ys.new strengths.new neighbours.new) }
+        held (contents list.old) result (contents list.new) }
 {
-    let number = refusal(map.len(), w, h, ring, window, refine_radius);
-    if number != 0 {
-        return Peaks::Refused(number);
-    }
+    refusal(map.len(), w, h, ring, window, refine_radius)?;
     let search = search_of(
         w,
         h,
@@ -142,8 +141,8 @@ pub fn find_peaks(
     let searched = SearchedMap { cells: map, search };
     if map.len() < LARGE_MAP {
         let mut table = [0u64; FEW];
-        return searched.add_peaks(&mut table, xs, ys, strengths, neighbours, held);
+        return searched.add_peaks(&mut table, list, held);
     }
     let mut table = [0u64; MANY];
-    searched.add_peaks(&mut table, xs, ys, strengths, neighbours, held)
+    searched.add_peaks(&mut table, list, held)
 }

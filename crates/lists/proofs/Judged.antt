@@ -45,6 +45,17 @@ pub judged-err : {A B : Type 0} (n : ℕ) (due : A) (other : B) (e : Refusal) �
 judged-err zero due other e p = absurd (let no : ⊥ = grind arith in no)
 judged-err (suc n) due other e p = grind arith
 
+-- its number is not 0
+pub refused-some : {A : Type 0} (n : ℕ) (due : A) (e : Refusal) → Err e ≡ judged n due → n ≡ 0 → ⊥
+refused-some zero due e p z = grind arith
+refused-some (suc n) due e p z = omega (arith, z)
+
+-- it has no values
+pub values-refused : {A B : Type 0} (n : ℕ) (due : A) (e : Refusal) (values : List B) → Err e ≡ judged n due
+    → [] ≡ values_unless n values
+values-refused zero due e values p = absurd (let no : ⊥ = grind arith in no)
+values-refused (suc n) due e values p = refl
+
 -- and a buffer is as it was
 pub refused-stays : {A B : Type 0} (n : ℕ) (due : A) (e : Refusal) (after before : B) → Err e ≡ judged n due → result_or n after before ≡ before
 refused-stays zero due e after before p = absurd (let no : ⊥ = grind arith in no)
