@@ -5,11 +5,11 @@ ghost use Rattle.std.specs.Float.Ieee.{lt};
 ghost use Rattle.lists.specs.Limits.{largest_side};
 ghost use Rattle.lists.specs.Places.{count};
 ghost use Rattle.detect.specs.Peaks.{value_at, is_low};
-ghost use Rattle.detect.specs.Internal.{Inside};
-ghost use Rattle.detect.specs.Internal.{place, run_cells, Below, LowRow, LowRows};
+ghost use Rattle.detect.specs.Detect.{peak_in};
+ghost use Rattle.detect.specs.Internal.{Inside, place, Below, LowRow, LowRows};
 ghost use Rattle.detect.specs.Internal.{Rival, RunInMap, RunPassed, PlacesSkipped, NextFound};
 
-use crate::neighbors::{bar_of, is_larger, most_beside};
+use crate::neighbors::{Cell, bar_of, is_larger, most_beside};
 use crate::searched::SearchedMap;
 
 // How many cells are compared at a time: as many as pay, on boards and in noise (docs/changes/peaks.md).
@@ -97,6 +97,16 @@ fn cells_passed(map: &[f32], w: usize, at: usize, t: f32, beside: bool, exact: b
         marks += mark_of(v, t, u, bar_of(v, exact), 1u32 << i);
     }
     u32::trailing_zeros(marks + BEHIND_RUN) as usize
+}
+
+impl Cell<'_> {
+    // Whether the cell may be a peak: it is neither at or below the threshold nor overtopped.
+    fn may_be_peak(&self) -> bool
+        ensures { result ≡ false
+            → peak_in self.now.map.cells.now self.now.map.search (place self.now.x self.now.y) ≡ false }
+    {
+        !(self.value <= self.map.search.threshold || self.is_overtopped())
+    }
 }
 
 impl SearchedMap<'_> {

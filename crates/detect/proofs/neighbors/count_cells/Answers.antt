@@ -1,14 +1,22 @@
--- `detect::neighbors::count_cells` meets its contract. Assumes nothing.
-use Rattle.std.proofs.Common.{rules, tests}
-use Rattle.std.proofs.lemmas.Iterator.{YieldsList-from_slice}
-use Rattle.std.proofs.lemmas.Iterator.Consumers.{count_from_yields_List, YieldsList-from_filter}
+-- `detect::neighbors::count_cells` meets its contract: what is counted and the count from i on make the whole count. Assumes nothing.
+use Rattle.std.proofs.Common.{sym, ◌∙◌}
+use Rattle.lists.proofs.Scan.{count-start, count-hit, count-miss, count-end}
 use Rattle.detect.specs.Internal.{is_counted}
-use Rattle.detect.proofs.Listed.{count-listed}
 use Rattle.detect.proofs.neighbors.count_cells.Goals as goal
+use Rattle.detect.proofs.neighbors.count_cells.Goals.{then-is_counted, else-is_counted}
+
+pub loop-u-init : goal.loop-u-init
+loop-u-init c = count-start (is_counted c.args.asked c.args.v) _
+
+pub loop-u-preserved : goal.loop-u-preserved
+loop-u-preserved c =
+    let f = is_counted c.args.asked c.args.v in
+    elim c.if-is_counted.branch [
+      | then-is_counted w ↦ count-hit f _ _ _ c.loop-u.invariant _ c.loop-u-test.true _ w.n-is
+          (sym c.is_counted.ensures ∙ w.if-is_counted.true)
+      | else-is_counted w ↦ count-miss f _ _ _ c.loop-u.invariant _ c.loop-u-test.true _ w.n-is
+          (sym c.is_counted.ensures ∙ w.if-is_counted.false)
+    ]
 
 pub returns : goal.returns
-returns c =
-    rw count-listed
-    (count_from_yields_List c.filter.result _ c.count.ensures.ran
-    (YieldsList-from_filter _ (is_counted c.args.asked c.args.v) (YieldsList-from_slice c.args.cells.now cc) c.filter.ensures.closure
-    (λ x b q k. search (rules, tests))))
+returns c = count-end (is_counted c.args.asked c.args.v) _ _ _ c.loop-u.invariant c.loop-u-test.false
