@@ -1,5 +1,5 @@
 -- What a buffer that borrows its four slices holds, and which slices they are.
-use Rattle.std.specs.Prelude.{ℕ, ◌≡◌, List, Float}
+use Rattle.std.specs.Prelude.{◌≡◌}
 use Rattle.corner_list.specs.CornerList.{Slices, slices}
 use Rattle.corner_list.specs.declared.buffer.CornerBuffer.{CornerBuffer}
 use Rattle.corner_list.specs.declared.buffer.CornerView.{CornerView}
@@ -18,8 +18,3 @@ pub record Kept (a b : CornerBuffer) : Type 0 where
   pub ys : b.ys.ghost_name ≡ a.ys.ghost_name
   pub strengths : b.strengths.ghost_name ≡ a.strengths.ghost_name
   pub neighbours : b.neighbours.ghost_name ≡ a.neighbours.ghost_name
-
--- the slices that a buffer borrowed, once it is gone
-pub ended : {xs ys strengths : List Float} {neighbours : List ℕ} (b : CornerBuffer) → xs ≡ b.xs.now → ys ≡ b.ys.now
-    → strengths ≡ b.strengths.now → neighbours ≡ b.neighbours.now → held b ≡ slices xs ys strengths neighbours
-ended b p q r t = rw (p, q, r, t)
