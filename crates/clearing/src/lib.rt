@@ -5,7 +5,7 @@ ghost use Rattle.std.specs.Prelude.{◌≡◌, length, replicate};
 ghost use Rattle.lists.specs.Buffer.{wiped_from};
 ghost use Rattle.float32.specs.Float32.{zero};
 ghost use Rattle.corner_list.specs.CornerList.{slices};
-ghost use Rattle.corner_list.specs.Buffer.{held, Kept};
+ghost use Rattle.corner_list.specs.Buffer.{held, SameSlices};
 ghost use Rattle.clearing.specs.Clearing.{cleared_from};
 
 use corner_list::CornerBuffer;
@@ -57,7 +57,7 @@ pub fn clear_list(
 
 // Sets the places of a buffer of corners from n on to 0.
 pub fn clear_corners(b: &mut CornerBuffer<'_>, n: usize)
-    ensures same_slices { Kept b.old b.new }
+    ensures same_slices { SameSlices b.old b.new }
     ensures cleared { held b.new ≡ cleared_from n (held b.old) }
 {
     clear(b.xs, n);

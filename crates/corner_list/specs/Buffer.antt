@@ -13,7 +13,7 @@ abbrev pub seen : CornerView → Slices
 seen v = slices v.xs.now v.ys.now v.strengths.now v.neighbours.now
 
 -- both borrow the same four slices
-pub record Kept (a b : CornerBuffer) : Type 0 where
+pub record SameSlices (a b : CornerBuffer) : Type 0 where
   pub xs : b.xs.ghost_name ≡ a.xs.ghost_name
   pub ys : b.ys.ghost_name ≡ a.ys.ghost_name
   pub strengths : b.strengths.ghost_name ≡ a.strengths.ghost_name

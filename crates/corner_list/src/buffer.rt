@@ -1,7 +1,7 @@
 // A buffer of corners: the four slices that it borrows.
 ghost use Rattle.std.specs.Prelude.{◌≡◌};
 ghost use Rattle.corner_list.specs.CornerList.{with_corner, corner_at, places_of};
-ghost use Rattle.corner_list.specs.Buffer.{held, seen, Kept};
+ghost use Rattle.corner_list.specs.Buffer.{held, seen, SameSlices};
 
 use crate::Corner;
 
@@ -68,7 +68,7 @@ impl CornerBuffer<'_> {
 
     // Puts a corner at a place. If one slice has no such place, no slice changes.
     pub fn put(&mut self, at: usize, c: Corner)
-        ensures same_slices { Kept self.old self.new }
+        ensures same_slices { SameSlices self.old self.new }
         ensures put { held self.new ≡ with_corner at c (held self.old) }
     {
         if at < self.places() {

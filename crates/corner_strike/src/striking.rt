@@ -1,7 +1,7 @@
 // The corner at a place of a list removed.
 ghost use Rattle.std.specs.Prelude.{◌≡◌, ◌<◌, ◌≤◌};
 ghost use Rattle.corner_list.specs.CornerList.{places_of, without_corner};
-ghost use Rattle.corner_list.specs.Buffer.{held, Kept};
+ghost use Rattle.corner_list.specs.Buffer.{held, SameSlices};
 ghost use Rattle.corner_strike.specs.Editions.{edition};
 ghost use Rattle.corner_strike.specs.Striking.{refusal_of, Strikes};
 
@@ -43,7 +43,7 @@ fn remove_corner(
     place: usize,
 )
     requires { (place < count) × (count ≤ places_of (held b.old)) }
-    ensures same_slices { Kept b.old b.new }
+    ensures same_slices { SameSlices b.old b.new }
     ensures removed { held b.new ≡ without_corner place count (held b.old) }
 {
     let last = count - 1;
@@ -72,7 +72,7 @@ pub fn strike_corner(
     place: usize,
     shown: u32,
 ) -> Strike
-    ensures same_slices { Kept b.old b.new }
+    ensures same_slices { SameSlices b.old b.new }
     ensures struck { Strikes (held b.old) (edition count.old change.old) place shown
         result (held b.new) (edition count.new change.new) }
 {

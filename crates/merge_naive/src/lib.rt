@@ -7,7 +7,7 @@
 
 ghost use Rattle.std.specs.Prelude.{◌≡◌, ◌<◌, ◌≤◌};
 ghost use Rattle.corner_list.specs.CornerList.{places_of, corners_of};
-ghost use Rattle.corner_list.specs.Buffer.{held, seen, Kept};
+ghost use Rattle.corner_list.specs.Buffer.{held, seen, SameSlices};
 ghost use Rattle.merge_grid.specs.Grid.{position_at, near};
 ghost use Rattle.merge_settle.specs.Settle.{Left};
 ghost use Rattle.merge_settle.specs.Internal.{IsFirst, SettlesAt, Settled};
@@ -63,7 +63,7 @@ fn settle_corner(
     c: Corner,
 ) -> usize
     requires { k < places_of (held b.old) }
-    ensures same_slices { Kept b.old b.new }
+    ensures same_slices { SameSlices b.old b.new }
     ensures settled { Settled (near_by square) k c
         (held b.old)
         result (held b.new) }
@@ -80,7 +80,7 @@ fn merge_list(
     radius: f32,
 ) -> usize
     requires { n ≤ places_of (held b.old) }
-    ensures same_slices { Kept b.old b.new }
+    ensures same_slices { SameSlices b.old b.new }
     ensures left { Left (naive_of radius
         (corners_of (held b.old) n))
         (held b.old) result
@@ -105,7 +105,7 @@ pub fn merge_corners_naive(
     count: usize,
     radius: f32,
 ) -> Merged
-    ensures same_slices { Kept b.old b.new }
+    ensures same_slices { SameSlices b.old b.new }
     ensures merged { MergesNaive radius count
         (held b.old) result
         (held b.new) }

@@ -1,13 +1,13 @@
 use Prim.Native.Nat.{◌-◌}
 use mathlib.Core.Bool.{false}
-use Rattle.corner_list.specs.Buffer.{held, Kept}
+use Rattle.corner_list.specs.Buffer.{held, SameSlices}
 use Rattle.merge_settle.specs.Internal.{start, step, StepAfter}
 use Rattle.merge_naive.specs.MergeNaive.{near_by}
 use Rattle.merge_naive.proofs.merge_list.Given as goal
 
 abbrev pub invariant-loop-i : goal.invariant-loop-i
 invariant-loop-i l = let first = held l.initial.b in
-    Kept l.initial.b l.b × StepAfter (near_by l.square) false first l.n first start (held l.b) (step l.i l.k)
+    SameSlices l.initial.b l.b × StepAfter (near_by l.square) false first l.n first start (held l.b) (step l.i l.k)
 
 abbrev pub decreases-loop-i : goal.decreases-loop-i
 decreases-loop-i l = l.n - l.i

@@ -1,11 +1,11 @@
 use Prim.Native.Nat.{◌-◌}
-use Rattle.corner_list.specs.Buffer.{held, Kept}
+use Rattle.corner_list.specs.Buffer.{held, SameSlices}
 use Rattle.corner_strike.proofs.Removing.{Moving}
 use Rattle.corner_strike.proofs.striking.remove_corner.Given as goal
 
 abbrev pub invariant-loop-at : goal.invariant-loop-at
 invariant-loop-at l =
-    Kept l.initial.b l.b × Moving (held l.initial.b) l.count l.place l.at (held l.b)
+    SameSlices l.initial.b l.b × Moving (held l.initial.b) l.count l.place l.at (held l.b)
 
 abbrev pub decreases-loop-at : goal.decreases-loop-at
 decreases-loop-at l = l.last - l.at
