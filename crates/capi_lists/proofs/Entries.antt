@@ -46,9 +46,10 @@ module _ (b : Slices) (e : Edition) (place : ℕ) (a : Shown) (r : ℕ) (p : sho
 
 -- ---- a corner struck
 module _ (b : Slices) (e : Edition) (place change : ℕ) (a : Strike) (r : ℕ) (b' : Slices) (e' : Edition) where
-  pub corner-struck : striking.Strikes b e place change a b' e' → r ≡ striking.number_of a
+  pub corner-struck : (left : Slices) → left ≡ b' → striking.Strikes b e place change a left e' → r ≡ striking.number_of a
       → CornerStruck b e place change r b' e'
-  corner-struck p n =
+  corner-struck left same p n =
+      let p = subst (λ (d : Slices). striking.Strikes b e place change a d e') same p in
       let number = striking.refusal_of (places_of b) e place change in
       record {
         answer =

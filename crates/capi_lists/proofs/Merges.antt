@@ -32,19 +32,21 @@ module _ (number : ℕ) (left : List Corner) (b : Slices) (a : Merged) (b' : Sli
   kept-told kept kept' x = value number_of a number m.number r n values_of (length left ∷ []) m.values 0 kept kept' x
 
 -- ---- merging in place
-pub corners-merged : (radius : Float) (count : ℕ) (b : Slices) (kept : ℕ) (a : Merged) (r : ℕ) (b' : Slices) (kept' : ℕ)
-    → Merges radius (places_of b) count b a b' → r ≡ number_of a → kept' ≡ get_or (values_of a) 0 kept
+pub corners-merged : (radius : Float) (count : ℕ) (b : Slices) (kept : ℕ) (a : Merged) (r : ℕ) (b' : Slices) (kept' : ℕ) (d : Slices)
+    → d ≡ b' → Merges radius (places_of b) count b a d → r ≡ number_of a → kept' ≡ get_or (values_of a) 0 kept
     → CornersMerged radius count b kept r b' kept'
-corners-merged radius count b kept a r b' kept' m n x =
+corners-merged radius count b kept a r b' kept' d e m n x =
+    let m = subst (λ (d : Slices). Merges radius (places_of b) count b a d) e m in
     let number = refusal_of radius (places_of b) count b in
     let left : List Corner = result_of radius (corners_of b count) in
     record { answer = leaves-told number left b a b' m r n; kept_is = kept-told number left b a b' m r n kept kept' x }
 
 -- ---- merging apart
-pub merged-apart : (radius : Float) (count : ℕ) (b d : Slices) (kept : ℕ) (a : Merged) (r : ℕ) (d' : Slices) (kept' : ℕ)
-    → MergedApart radius count b d a d' → r ≡ number_of a → kept' ≡ get_or (values_of a) 0 kept
+pub merged-apart : (radius : Float) (count : ℕ) (b d : Slices) (kept : ℕ) (a : Merged) (r : ℕ) (d' : Slices) (kept' : ℕ) (left : Slices)
+    → left ≡ d' → MergedApart radius count b d a left → r ≡ number_of a → kept' ≡ get_or (values_of a) 0 kept
     → CornersMergedApart radius count b d kept r d' kept'
-merged-apart radius count b d kept a r d' kept' m n x =
+merged-apart radius count b d kept a r d' kept' left e m n x =
+    let m = subst (λ (f : Slices). MergedApart radius count b d a f) e m in
     let number = refusal_apart radius (places_of d) count b in
     let left : List Corner = result_of radius (corners_of b count) in
     record { answer = leaves-told number left d a d' m r n; kept_is = kept-told number left d a d' m r n kept kept' x }
@@ -52,9 +54,10 @@ merged-apart radius count b d kept a r d' kept' m n x =
 -- ---- merging by a table
 pub merged-by-table : (radius : Float) (count : ℕ) (b : Slices) (table : List Float) (kept : ℕ) (a : Merged) (r : ℕ) (b' : Slices)
     (table' : List Float)
-    (kept' : ℕ) → MergesByTable radius count b table a b' table' → r ≡ number_of a → kept' ≡ get_or (values_of a) 0 kept
+    (kept' : ℕ) (d : Slices) → d ≡ b' → MergesByTable radius count b table a d table' → r ≡ number_of a → kept' ≡ get_or (values_of a) 0 kept
     → CornersMergedByTable radius count b table kept r b' table' kept'
-merged-by-table radius count b table kept a r b' table' kept' m n x =
+merged-by-table radius count b table kept a r b' table' kept' d e m n x =
+    let m = subst (λ (d : Slices). MergesByTable radius count b table a d table') e m in
     let number = refusal_of radius (places_of b) count b in
     let left : List Corner = result_of radius (corners_of b count) in
     record {

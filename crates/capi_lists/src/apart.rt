@@ -2,6 +2,7 @@
 ghost use Rattle.corner_list.specs.CornerList.{slices};
 ghost use Rattle.capi_lists.specs.Apart.{CornersMergedApart};
 
+use corner_list::{CornerBuffer, CornerView};
 use merge::answers::{kept_of, number_of};
 
 // Writes to a separate buffer, `mx` to `mn`, what merging the first `count` corners of a buffer in place would leave
@@ -25,7 +26,19 @@ pub extern "C" fn zakdomp_merge_apart(
         (slices mx.old my.old ms.old mn.old) kept.old
         result (slices mx.new my.new ms.new mn.new) kept.new }
 {
-    let a = merge::apart::merge_apart(xs, ys, strengths, neighbours, count, radius, mx, my, ms, mn);
+    let list = CornerView {
+        xs,
+        ys,
+        strengths,
+        neighbours,
+    };
+    let mut b = CornerBuffer {
+        xs: mx,
+        ys: my,
+        strengths: ms,
+        neighbours: mn,
+    };
+    let a = merge::apart::merge_apart(list, count, radius, &mut b);
     *kept = kept_of(a, *kept);
     number_of(a)
 }

@@ -2,6 +2,7 @@
 ghost use Rattle.corner_list.specs.CornerList.{slices};
 ghost use Rattle.capi_lists.specs.Merging.{CornersMerged};
 
+use corner_list::CornerBuffer;
 use merge::answers::{kept_of, number_of};
 
 // Merges the first `count` corners of a buffer in place. `kept` gets the number of corners left.
@@ -20,7 +21,13 @@ pub extern "C" fn zakdomp_merge(
         kept.old result (slices xs.new ys.new strengths.new
         neighbours.new) kept.new }
 {
-    let a = merge::merge_corners_simple(xs, ys, strengths, neighbours, count, radius);
+    let mut b = CornerBuffer {
+        xs,
+        ys,
+        strengths,
+        neighbours,
+    };
+    let a = merge::merge_corners_simple(&mut b, count, radius);
     *kept = kept_of(a, *kept);
     number_of(a)
 }

@@ -5,7 +5,7 @@ ghost use Rattle.corner_strike.specs.Editions.{edition};
 ghost use Rattle.corner_strike.specs.Showing.{number_of, values_of};
 ghost use Rattle.capi_lists.specs.Showing.{corner, CornerShown};
 
-use corner_list::Corner;
+use corner_list::{Corner, CornerView};
 use corner_strike::Shown;
 
 // The number of an answer, 0 if a corner is shown.
@@ -62,7 +62,13 @@ pub extern "C" fn zakdomp_show_corner(
         result (corner x.new y.new strength.new neighbour_count.new)
         shown.new }
 {
-    let a = corner_strike::show_corner(xs, ys, strengths, neighbours, count, change, place);
+    let v = CornerView {
+        xs,
+        ys,
+        strengths,
+        neighbours,
+    };
+    let a = corner_strike::show_corner(v, count, change, place);
     let before = Corner {
         x: *x,
         y: *y,

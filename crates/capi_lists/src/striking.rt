@@ -5,6 +5,7 @@ ghost use Rattle.corner_strike.specs.Editions.{edition};
 ghost use Rattle.corner_strike.specs.Striking.{number_of};
 ghost use Rattle.capi_lists.specs.Striking.{CornerStruck};
 
+use corner_list::CornerBuffer;
 use corner_strike::Strike;
 
 // The number of an answer, 0 if a corner was struck.
@@ -36,8 +37,12 @@ pub extern "C" fn zakdomp_strike_corner(
         result (slices xs.new ys.new strengths.new neighbours.new)
         (edition count.new change.new) }
 {
-    let a = corner_strike::strike_corner(
-        xs, ys, strengths, neighbours, count, change, place, shown,
-    );
+    let mut b = CornerBuffer {
+        xs,
+        ys,
+        strengths,
+        neighbours,
+    };
+    let a = corner_strike::strike_corner(&mut b, count, change, place, shown);
     number_of(a)
 }

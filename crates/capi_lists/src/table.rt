@@ -2,6 +2,7 @@
 ghost use Rattle.corner_list.specs.CornerList.{slices};
 ghost use Rattle.capi_lists.specs.Table.{CornersMergedByTable};
 
+use corner_list::CornerBuffer;
 use merge::answers::{kept_of, number_of};
 
 // Merges the first `count` corners of a buffer in place with a table, which is cleared, and puts the number of those
@@ -23,7 +24,13 @@ pub extern "C" fn zakdomp_merge_by_table(
         (slices xs.new ys.new strengths.new neighbours.new)
         table.new kept.new }
 {
-    let a = merge::table::merge_by_table(xs, ys, strengths, neighbours, table, count, radius);
+    let mut b = CornerBuffer {
+        xs,
+        ys,
+        strengths,
+        neighbours,
+    };
+    let a = merge::table::merge_by_table(&mut b, table, count, radius);
     *kept = kept_of(a, *kept);
     number_of(a)
 }

@@ -1,10 +1,10 @@
 // The corner at a place of a list, and the list's change number.
 ghost use Rattle.std.specs.Prelude.{◌≡◌};
-ghost use Rattle.corner_list.specs.CornerList.{slices};
+ghost use Rattle.corner_list.specs.Buffer.{seen};
 ghost use Rattle.corner_strike.specs.Editions.{edition};
 ghost use Rattle.corner_strike.specs.Showing.{refusal_of, Shows};
 
-use corner_list::Corner;
+use corner_list::{Corner, CornerView};
 
 // The corner with the list's change number, or the number of the refusal.
 #[derive(Clone, Copy)]
@@ -29,23 +29,17 @@ fn refusal(places: usize, count: usize, place: usize) -> u8
 // Shows the corner at a place of a list of `count` corners, and the list's change number `change`. With that number the
 // corner can be struck.
 pub fn show_corner(
-    xs: &[f32],
-    ys: &[f32],
-    strengths: &[f32],
-    neighbours: &[u32],
+    v: CornerView<'_>,
     count: usize,
     change: u32,
     place: usize,
 ) -> Shown
-    ensures { Shows (slices xs.now ys.now strengths.now
-        neighbours.now)
-        (edition count change) place result }
+    ensures { Shows (seen v.entry) (edition count change) place result }
 {
-    let places = corner_list::places(xs.len(), ys.len(), strengths.len(), neighbours.len());
-    let number = refusal(places, count, place);
+    let number = refusal(v.places(), count, place);
     if number != 0 {
         return Shown::Refused(number);
     }
-    let c = corner_list::corner_at(xs, ys, strengths, neighbours, place);
+    let c = v.at(place);
     Shown::Found(c, change)
 }

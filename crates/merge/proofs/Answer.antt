@@ -31,12 +31,13 @@ module _ (radius : Float) (b : Slices) (n : ℕ) (d : Slices) (k : ℕ) (d' : Sl
       same = unfold result_of in (rw e)
 
   pub left-on : (g : Grid) → is_off radius ≡ false
-      → ((strengths : List Float) (counts : List ℕ) → g ≡ grid_of radius (corners_of (slices b.xs b.ys strengths counts) n))
+      → (viewed : Slices) → viewed ≡ b
+      → ((strengths : List Float) (counts : List ℕ) → g ≡ grid_of radius (corners_of (slices viewed.xs viewed.ys strengths counts) n))
       → Left (merged (joins g) [] (corners_of b n)) d k d' → Left (result_of radius (corners_of b n)) d k d'
-  left-on g e is l = subst (λ (cs : List Corner). Left cs d k d') same l
+  left-on g e viewed all is l = subst (λ (cs : List Corner). Left cs d k d') same l
     where
       same : merged (joins g) [] (corners_of b n) ≡ result_of radius (corners_of b n)
-      same = unfold result_of in (rw (e, is b.strengths b.neighbours))
+      same = unfold result_of in (rw (e, is viewed.strengths viewed.neighbours, all))
 
 -- a list that the buffer has places for is settled whole
 pub left-settled : (g : Grid) (apart : Bool) (own : Slices) (n : ℕ) (b : Slices) (k : ℕ) (b' : Slices) → n ≤ places_of b

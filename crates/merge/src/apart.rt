@@ -1,65 +1,54 @@
 // The list that merging a buffer would leave, written to a separate buffer. The merged buffer is only read. After the
 // list, the separate buffer stays as it was, so a corner is written only when it is kept.
 ghost use Rattle.std.specs.Prelude.{◌≡◌, cond, ◌≤◌, ltb};
-ghost use Rattle.corner_list.specs.CornerList.{slices, corners_of, places_of, front_corners};
+ghost use Rattle.corner_list.specs.CornerList.{corners_of, places_of, front_corners};
+ghost use Rattle.corner_list.specs.Buffer.{contents, seen, SameSlices};
 ghost use Rattle.merge_settle.specs.Settle.{Left};
 ghost use Rattle.merge.specs.Merge.{result_of};
 ghost use Rattle.merge.specs.Apart.{or_else, MergedApart};
 
 use crate::Merged;
+use corner_list::{CornerBuffer, CornerView};
 
 // Copies the first n corners of a buffer into another.
 fn copy_list(
-    xs: &[f32],
-    ys: &[f32],
-    strengths: &[f32],
-    neighbours: &[u32],
+    list: CornerView<'_>,
     n: usize,
-    mx: &mut [f32],
-    my: &mut [f32],
-    ms: &mut [f32],
-    mn: &mut [u32],
+    b: &mut CornerBuffer<'_>,
 )
-    requires { n ≤ places_of (slices mx.old my.old ms.old mn.old) }
-    ensures { slices mx.new my.new ms.new mn.new
-        ≡ front_corners (corners_of (slices xs.now ys.now strengths.now
-        neighbours.now) n)
-        (slices mx.old my.old ms.old mn.old) }
+    requires { n ≤ places_of (contents b.old) }
+    ensures same_slices { SameSlices b.old b.new }
+    ensures copied { contents b.new
+        ≡ front_corners (corners_of (seen list.entry) n)
+        (contents b.old) }
 {
     for i in 0..n {
-        let c = corner_list::corner_at(xs, ys, strengths, neighbours, i);
-        corner_list::put_corner(mx, my, ms, mn, i, c);
+        let c = list.at(i);
+        b.put(i, c);
     }
 }
 
 // Merges the first n corners of a buffer into another, and returns how many are left. It checks nothing.
 fn merge_into(
-    xs: &[f32],
-    ys: &[f32],
-    strengths: &[f32],
-    neighbours: &[u32],
+    list: CornerView<'_>,
     n: usize,
     radius: f32,
-    mx: &mut [f32],
-    my: &mut [f32],
-    ms: &mut [f32],
-    mn: &mut [u32],
+    b: &mut CornerBuffer<'_>,
 ) -> usize
-    requires { n ≤ places_of (slices mx.old my.old ms.old mn.old) }
-    ensures { Left (result_of radius
-        (corners_of (slices xs.now ys.now strengths.now neighbours.now) n))
-        (slices mx.old my.old ms.old mn.old) result
-        (slices mx.new my.new ms.new mn.new) }
+    requires { n ≤ places_of (contents b.old) }
+    ensures same_slices { SameSlices b.old b.new }
+    ensures left { Left (result_of radius
+        (corners_of (seen list.entry) n))
+        (contents b.old) result
+        (contents b.new) }
 {
     if merge_radius::is_off(radius) {
-        copy_list(xs, ys, strengths, neighbours, n, mx, my, ms, mn);
+        copy_list(list, n, b);
         return n;
     }
-    let g = merge_grid::grid_of(xs, ys, n, radius);
+    let g = merge_grid::grid_of(list.xs, list.ys, n, radius);
     let mut none: [f32; 0] = [0.0; 0];
-    merge_settle::settle_list(
-        xs, ys, strengths, neighbours, true, mx, my, ms, mn, &mut none, g, n,
-    )
+    merge_settle::settle_list(list, true, b, &mut none, g, n)
 }
 
 // The number of the refusal of merging `count` corners into a separate buffer with a given number of places, 0 for
@@ -75,27 +64,22 @@ fn refusal_apart(number: u8, places: usize, count: usize) -> u8
 
 // Writes to a separate buffer what merging the first `count` corners of a buffer in place would leave there.
 pub fn merge_apart(
-    xs: &[f32],
-    ys: &[f32],
-    strengths: &[f32],
-    neighbours: &[u32],
+    list: CornerView<'_>,
     count: usize,
     radius: f32,
-    mx: &mut [f32],
-    my: &mut [f32],
-    ms: &mut [f32],
-    mn: &mut [u32],
+    b: &mut CornerBuffer<'_>,
 ) -> Merged
-    ensures { MergedApart radius count
-        (slices xs.now ys.now strengths.now neighbours.now)
-        (slices mx.old my.old ms.old mn.old) result
-        (slices mx.new my.new ms.new mn.new) }
+    ensures same_slices { SameSlices b.old b.new }
+    ensures merged { MergedApart radius count
+        (seen list.entry)
+        (contents b.old) result
+        (contents b.new) }
 {
-    let places = corner_list::places(mx.len(), my.len(), ms.len(), mn.len());
-    let own = merge_refusal::refusal(xs, ys, strengths, neighbours, xs.len(), count, radius);
+    let places = b.places();
+    let own = merge_refusal::refusal_for(list, list.xs.len(), count, radius);
     let number = refusal_apart(own, places, count);
     if number != 0 {
         return Merged::Refused(number);
     }
-    Merged::Kept(merge_into(xs, ys, strengths, neighbours, count, radius, mx, my, ms, mn))
+    Merged::Kept(merge_into(list, count, radius, b))
 }

@@ -13,9 +13,12 @@ pub mod table; // merge_by_table: merging in place with a borrowed table
 ghost use Rattle.std.specs.Prelude.{◌≡◌, ◌≤◌, min};
 ghost use Rattle.lists.specs.Buffer.{wiped_from};
 ghost use Rattle.float32.specs.Float32.{zero};
-ghost use Rattle.corner_list.specs.CornerList.{slices, corners_of, places_of};
+ghost use Rattle.corner_list.specs.CornerList.{corners_of, places_of};
+ghost use Rattle.corner_list.specs.Buffer.{contents, SameSlices};
 ghost use Rattle.merge_settle.specs.Settle.{Left};
 ghost use Rattle.merge.specs.Merge.{result_of, Merges};
+
+use corner_list::{CornerBuffer, CornerView};
 
 // The answer of merging: how many corners are left, or the number of the refusal.
 #[derive(Clone, Copy)]
@@ -27,70 +30,68 @@ pub enum Merged {
 // Merges the first n corners of a buffer in place, with a borrowed table, and returns how many are left. It refuses
 // nothing.
 pub(crate) fn merge_list(
-    xs: &mut [f32],
-    ys: &mut [f32],
-    strengths: &mut [f32],
-    neighbours: &mut [u32],
+    b: &mut CornerBuffer<'_>,
     table: &mut [f32],
     n: usize,
     radius: f32,
 ) -> usize
-    requires { n ≤ places_of (slices xs.old ys.old strengths.old neighbours.old) }
+    requires { n ≤ places_of (contents b.old) }
+    ensures same_slices { SameSlices b.old b.new }
     ensures left { Left (result_of radius
-        (corners_of (slices xs.old ys.old strengths.old neighbours.old) n))
-        (slices xs.old ys.old strengths.old neighbours.old) result
-        (slices xs.new ys.new strengths.new neighbours.new) }
+        (corners_of (contents b.old) n))
+        (contents b.old) result
+        (contents b.new) }
     ensures table_after { table.new ≡ wiped_from 0 zero table.old }
 {
     if merge_radius::is_off(radius) {
         clearing::clear(table, 0);
         return n;
     }
-    let g = merge_grid::grid_of(xs, ys, n, radius);
+    let v = b.view();
+    let g = merge_grid::grid_of(v.xs, v.ys, n, radius);
     let none: [f32; 0] = [0.0; 0];
     let no_counts: [u32; 0] = [0; 0];
-    merge_settle::settle_list(
-        &none, &none, &none, &no_counts, false, xs, ys, strengths, neighbours, table, g, n,
-    )
+    let list = CornerView {
+        xs: &none,
+        ys: &none,
+        strengths: &none,
+        neighbours: &no_counts,
+    };
+    merge_settle::settle_list(list, false, b, table, g, n)
 }
 
 // Merges the first `count` corners of a buffer of at most `places` places.
 pub fn merge_within(
-    xs: &mut [f32],
-    ys: &mut [f32],
-    strengths: &mut [f32],
-    neighbours: &mut [u32],
+    b: &mut CornerBuffer<'_>,
     places: usize,
     count: usize,
     radius: f32,
 ) -> Merged
-    ensures { Merges radius (min places
-        (places_of (slices xs.old ys.old strengths.old
-        neighbours.old))) count
-        (slices xs.old ys.old strengths.old neighbours.old) result
-        (slices xs.new ys.new strengths.new neighbours.new) }
+    ensures same_slices { SameSlices b.old b.new }
+    ensures merged { Merges radius (min places
+        (places_of (contents b.old))) count
+        (contents b.old) result
+        (contents b.new) }
 {
-    let number = merge_refusal::refusal(xs, ys, strengths, neighbours, places, count, radius);
+    let number = merge_refusal::refusal_for(b.view(), places, count, radius);
     if number != 0 {
         return Merged::Refused(number);
     }
     let mut none: [f32; 0] = [0.0; 0];
-    Merged::Kept(merge_list(xs, ys, strengths, neighbours, &mut none, count, radius))
+    Merged::Kept(merge_list(b, &mut none, count, radius))
 }
 
 // Merges the first `count` corners of a buffer in place, as the Rust's `merge_corners_simple`.
 pub fn merge_corners_simple(
-    xs: &mut [f32],
-    ys: &mut [f32],
-    strengths: &mut [f32],
-    neighbours: &mut [u32],
+    b: &mut CornerBuffer<'_>,
     count: usize,
     radius: f32,
 ) -> Merged
-    ensures { Merges radius (places_of
-        (slices xs.old ys.old strengths.old neighbours.old)) count
-        (slices xs.old ys.old strengths.old neighbours.old) result
-        (slices xs.new ys.new strengths.new neighbours.new) }
+    ensures same_slices { SameSlices b.old b.new }
+    ensures merged { Merges radius (places_of
+        (contents b.old)) count
+        (contents b.old) result
+        (contents b.new) }
 {
-    merge_within(xs, ys, strengths, neighbours, xs.len(), count, radius)
+    merge_within(b, b.xs.len(), count, radius)
 }

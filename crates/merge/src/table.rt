@@ -1,30 +1,29 @@
 // Merging in place with a borrowed table, the index of the kept corners. With more than two slots for each corner, the
 // time does not grow faster than the list, whatever its order.
-ghost use Rattle.corner_list.specs.CornerList.{slices};
+ghost use Rattle.corner_list.specs.Buffer.{contents, SameSlices};
 ghost use Rattle.merge.specs.Table.{MergesByTable};
 
 use crate::Merged;
+use corner_list::CornerBuffer;
 
 // Merges the first `count` corners of a buffer in place, as `merge_corners_simple`, with a table of any length, and
 // clears the table.
 pub fn merge_by_table(
-    xs: &mut [f32],
-    ys: &mut [f32],
-    strengths: &mut [f32],
-    neighbours: &mut [u32],
+    b: &mut CornerBuffer<'_>,
     table: &mut [f32],
     count: usize,
     radius: f32,
 ) -> Merged
-    ensures { MergesByTable radius count
-        (slices xs.old ys.old strengths.old neighbours.old)
+    ensures same_slices { SameSlices b.old b.new }
+    ensures merged { MergesByTable radius count
+        (contents b.old)
         table.old result
-        (slices xs.new ys.new strengths.new neighbours.new)
+        (contents b.new)
         table.new }
 {
-    let number = merge_refusal::refusal(xs, ys, strengths, neighbours, xs.len(), count, radius);
+    let number = merge_refusal::refusal_for(b.view(), b.xs.len(), count, radius);
     if number != 0 {
         return Merged::Refused(number);
     }
-    Merged::Kept(crate::merge_list(xs, ys, strengths, neighbours, table, count, radius))
+    Merged::Kept(crate::merge_list(b, table, count, radius))
 }

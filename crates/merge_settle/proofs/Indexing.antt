@@ -95,3 +95,8 @@ module _ (g : Grid) (floor : ℕ) where
   pub indexed-fewer : (table : List ℕ) (xs ys : List Float) (k n : ℕ) → Indexed g floor table xs ys k → n ≤ k
       → Indexed g floor table xs ys n
   indexed-fewer table xs ys k n index h = record { some = index.some; each = λ i l. index.each i (omega arith) }
+
+-- the slices of a view are those of the buffer
+pub indexed-viewed : {g : Grid} {floor : ℕ} {slots : List ℕ} {k : ℕ} (s s' : Slices) → s ≡ s' → Indexed g floor slots s.xs s.ys k
+    → Indexed g floor slots s'.xs s'.ys k
+indexed-viewed {g} {floor} {slots} {k} s s' e i = subst (λ (d : Slices). Indexed g floor slots d.xs d.ys k) e i

@@ -9,9 +9,10 @@ mod settling;
 ghost use Rattle.std.specs.Prelude.{◌≡◌};
 ghost use Rattle.lists.specs.Buffer.{wiped_from};
 ghost use Rattle.float32.specs.Float32.{zero};
-ghost use Rattle.corner_list.specs.CornerList.{slices};
+ghost use Rattle.corner_list.specs.Buffer.{contents, seen, SameSlices};
 ghost use Rattle.merge_settle.specs.Settle.{Settles};
 
+use corner_list::{CornerBuffer, CornerView};
 use merge_grid::Grid;
 use settling::{Step, merge_up_to, merge_with, slots_for};
 
@@ -21,40 +22,26 @@ use settling::{Step, merge_up_to, merge_with, slots_for};
 // short, a table on the stack is used instead, which has at most 131,072 slots. If more corners are kept than that,
 // from a list that does not come row by row, the time grows with the square of their number.
 pub fn settle_list(
-    lx: &[f32],
-    ly: &[f32],
-    ls: &[f32],
-    ln: &[u32],
+    list: CornerView<'_>,
     apart: bool,
-    xs: &mut [f32],
-    ys: &mut [f32],
-    ss: &mut [f32],
-    ns: &mut [u32],
+    b: &mut CornerBuffer<'_>,
     table: &mut [f32],
     g: Grid,
     n: usize,
 ) -> usize
-    ensures settles { Settles g apart (slices lx.now ly.now ls.now ln.now) n
-        (slices xs.old ys.old ss.old ns.old) result
-        (slices xs.new ys.new ss.new ns.new) }
+    ensures same_slices { SameSlices b.old b.new }
+    ensures settles { Settles g apart (seen list.entry) n (contents b.old) result (contents b.new) }
     ensures table_after { table.new ≡ wiped_from 0 zero table.old }
 {
-    let places = corner_list::places(xs.len(), ys.len(), ss.len(), ns.len());
-    let held = numbers::lesser(n, places);
+    let held = numbers::lesser(n, b.places());
     let slots = slots_for(table.len(), held);
     if 0 < slots {
         index::clear(&mut table[..slots]);
         let s = Step { done: 0, kept: 0 };
         let t = merge_with(
-            lx,
-            ly,
-            ls,
-            ln,
+            list,
             apart,
-            xs,
-            ys,
-            ss,
-            ns,
+            b,
             &mut table[..slots],
             g,
             held,
@@ -64,7 +51,7 @@ pub fn settle_list(
         clearing::clear(table, 0);
         return t.kept;
     }
-    let s = merge_up_to(lx, ly, ls, ln, apart, xs, ys, ss, ns, g, held, held);
+    let s = merge_up_to(list, apart, b, g, held, held);
     clearing::clear(table, 0);
     s.kept
 }

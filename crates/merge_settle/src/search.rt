@@ -1,12 +1,13 @@
 // The first of the kept corners that a corner joins, and the place that it takes.
 ghost use Rattle.std.specs.Prelude.{◌≡◌, ◌⊎◌, true, cond, ◌&&◌, ◌+◌, ◌^◌, ◌<◌, ◌≤◌, length, ltb};
-ghost use Rattle.corner_list.specs.CornerList.{slices, places_of};
+ghost use Rattle.corner_list.specs.CornerList.{places_of};
+ghost use Rattle.corner_list.specs.Buffer.{seen};
 ghost use Rattle.merge_grid.specs.Grid.{joins};
 ghost use Rattle.merge_settle.specs.Internal.{joins_at, IsFirst, IsFirstAmong, SettlesAt, empty, slots_of};
 ghost use Rattle.merge_settle.specs.Internal.{PlaceListed};
 ghost use Rattle.merge_settle.specs.Internal.{ListedAt, Indexed};
 
-use corner_list::Corner;
+use corner_list::{Corner, CornerView};
 use merge_grid::{Grid, Position};
 
 // The value for no place: no buffer has such a place, and no slot holds it.
@@ -122,26 +123,23 @@ fn find_joined(
 // The place that c takes among the first k of a buffer: that of the first that it joins, if it is stronger; k, if it
 // joins none; and NOWHERE, if it is dropped.
 pub(crate) fn place_for(
-    xs: &[f32],
-    ys: &[f32],
-    strengths: &[f32],
-    neighbours: &[u32],
+    v: CornerView<'_>,
     table: &[f32],
     g: Grid,
     floor: usize,
     k: usize,
     c: Corner,
 ) -> usize
-    requires k_bound { k < places_of (slices xs.now ys.now strengths.now neighbours.now) }
-    requires indexed { Indexed g floor (slots_of table.now) xs.now ys.now k }
+    requires k_bound { k < places_of (seen v) }
+    requires indexed { Indexed g floor (slots_of table.now) v.xs.now v.ys.now k }
     ensures { SettlesAt (joins g) k c
-        (slices xs.now ys.now strengths.now neighbours.now) result }
+        (seen v.entry) result }
 {
-    let i = find_joined(xs, ys, table, g, floor, k, merge_grid::position_of(c));
+    let i = find_joined(v.xs, v.ys, table, g, floor, k, merge_grid::position_of(c));
     if k <= i {
         return k;
     }
-    let o = corner_list::corner_at(xs, ys, strengths, neighbours, i);
+    let o = v.at(i);
     if o.strength < c.strength {
         return i;
     }

@@ -1,15 +1,16 @@
-// The kept corners are at the start of a buffer, xs to ns, and each corner of the list is settled among them. If the
-// list is merged in place, it is in that buffer too; if it is merged apart, it is in a buffer of its own, lx to ln. The
+// The kept corners are at the start of a buffer, and each corner of the list is settled among them. If the
+// list is merged in place, it is in that buffer too; if it is merged apart, it is in a buffer of its own. The
 // index of the kept corners is a borrowed table, or one on the stack, whose size depends on the list and on how many
 // are kept: merging goes on with the largest table when they outgrow the one before.
 ghost use Rattle.std.specs.Prelude.{◌≡◌, ◌+◌, ◌^◌, ◌<◌, ◌≤◌, length};
-ghost use Rattle.corner_list.specs.CornerList.{slices, corner_at, places_of};
+ghost use Rattle.corner_list.specs.CornerList.{corner_at, places_of};
+ghost use Rattle.corner_list.specs.Buffer.{contents, seen, SameSlices};
 ghost use Rattle.merge_grid.specs.Grid.{joins};
 ghost use Rattle.merge_settle.specs.Settle.{given};
 ghost use Rattle.merge_settle.specs.Internal.{slots_of, Indexed, count_with, Settled, start, many_kept};
 ghost use Rattle.merge_settle.specs.Internal.{IsStep, StopAfter};
 
-use corner_list::Corner;
+use corner_list::{Corner, CornerBuffer, CornerView};
 use merge_grid::Grid;
 
 // The lists that the small table on the stack is for, and the kept corners that the middle one is for.
@@ -41,59 +42,49 @@ fn count_with(k: usize, at: usize) -> usize
 
 // Settles c among the first k corners of a buffer, lists its place, and returns how many are then kept.
 fn settle_corner(
-    xs: &mut [f32],
-    ys: &mut [f32],
-    strengths: &mut [f32],
-    neighbours: &mut [u32],
+    b: &mut CornerBuffer<'_>,
     table: &mut [f32],
     g: Grid,
     floor: usize,
     k: usize,
     c: Corner,
 ) -> usize
-    requires k_bound { k < places_of (slices xs.old ys.old strengths.old neighbours.old) }
-    requires indexed { Indexed g floor (slots_of table.old) xs.old ys.old k }
+    requires k_bound { k < places_of (contents b.old) }
+    requires indexed { Indexed g floor (slots_of table.old) b.old.xs.now b.old.ys.now k }
+    ensures same_slices { SameSlices b.old b.new }
     ensures settled { Settled (joins g) k c
-        (slices xs.old ys.old strengths.old neighbours.old)
-        result (slices xs.new ys.new strengths.new neighbours.new) }
-    ensures indexed_2 { Indexed g floor (slots_of table.new) xs.new ys.new result }
+        (contents b.old)
+        result (contents b.new) }
+    ensures indexed_2 { Indexed g floor (slots_of table.new) b.new.xs.now b.new.ys.now result }
 {
-    let at = crate::search::place_for(xs, ys, strengths, neighbours, table, g, floor, k, c);
-    corner_list::put_corner(xs, ys, strengths, neighbours, at, c);
+    let at = crate::search::place_for(b.view(), table, g, floor, k, c);
+    b.put(at, c);
     crate::index::list_place(table, g, at, merge_grid::position_of(c));
     count_with(k, at)
 }
 
 // The corner at a place of the list.
 fn given_at(
-    lx: &[f32],
-    ly: &[f32],
-    ls: &[f32],
-    ln: &[u32],
+    list: CornerView<'_>,
     apart: bool,
-    xs: &[f32],
-    ys: &[f32],
-    ss: &[f32],
-    ns: &[u32],
+    v: CornerView<'_>,
     at: usize,
 ) -> Corner
     ensures { result ≡ corner_at (given apart
-        (slices lx.now ly.now ls.now ln.now)
-        (slices xs.now ys.now ss.now ns.now)) at }
+        (seen list.entry)
+        (seen v.entry)) at }
 {
     if apart {
-        return corner_list::corner_at(lx, ly, ls, ln, at);
+        return list.at(at);
     }
-    corner_list::corner_at(xs, ys, ss, ns, at)
+    v.at(at)
 }
 
 // The result of `floor_at` for the list.
 fn floor_of(
-    lx: &[f32],
-    ly: &[f32],
+    list: CornerView<'_>,
     apart: bool,
-    xs: &[f32],
-    ys: &[f32],
+    v: CornerView<'_>,
     slots: usize,
     g: Grid,
     low: usize,
@@ -101,49 +92,46 @@ fn floor_of(
     n: usize,
 ) -> usize {
     if apart {
-        return crate::index::floor_at(lx, ly, slots, g, low, i, n);
+        return crate::index::floor_at(list.xs, list.ys, slots, g, low, i, n);
     }
-    crate::index::floor_at(xs, ys, slots, g, low, i, n)
+    crate::index::floor_at(v.xs, v.ys, slots, g, low, i, n)
 }
 
 // Merges on from a step, with a table for the index: to the end of a list of n corners, or until `most` are kept.
 pub(crate) fn merge_with(
-    lx: &[f32],
-    ly: &[f32],
-    ls: &[f32],
-    ln: &[u32],
+    list: CornerView<'_>,
     apart: bool,
-    xs: &mut [f32],
-    ys: &mut [f32],
-    ss: &mut [f32],
-    ns: &mut [u32],
+    b: &mut CornerBuffer<'_>,
     table: &mut [f32],
     g: Grid,
     n: usize,
     s: Step,
     most: usize,
 ) -> Step
-    requires n_bound { n ≤ places_of (slices xs.old ys.old ss.old ns.old) }
+    requires n_bound { n ≤ places_of (contents b.old) }
     requires table_nonzero { 0 < length table.old }
     requires step { IsStep n s }
-    ensures { StopAfter (joins g) apart
-        (slices lx.now ly.now ls.now ln.now) most n
-        (slices xs.old ys.old ss.old ns.old) s
-        (slices xs.new ys.new ss.new ns.new) result }
+    ensures same_slices { SameSlices b.old b.new }
+    ensures stopped { StopAfter (joins g) apart
+        (seen list.entry) most n
+        (contents b.old) s
+        (contents b.new) result }
 {
     let done = s.done;
     let mut k = s.kept;
     let mut floor = 0;
     let mut low = 0;
-    crate::index::list_kept(xs, ys, table, g, floor, k);
+    let v = b.view();
+    crate::index::list_kept(v.xs, v.ys, table, g, floor, k);
     for i in done..n {
         if most <= k {
             return Step { done: i, kept: k };
         }
-        low = floor_of(lx, ly, apart, xs, ys, table.len(), g, low, i, n);
-        floor = crate::index::refresh(xs, ys, table, g, floor, low, k, i);
-        let c = given_at(lx, ly, ls, ln, apart, xs, ys, ss, ns, i);
-        k = settle_corner(xs, ys, ss, ns, table, g, floor, k, c);
+        let v = b.view();
+        low = floor_of(list, apart, v, table.len(), g, low, i, n);
+        floor = crate::index::refresh(v.xs, v.ys, table, g, floor, low, k, i);
+        let c = given_at(list, apart, v, i);
+        k = settle_corner(b, table, g, floor, k, c);
     }
     Step { done: n, kept: k }
 }
@@ -165,89 +153,74 @@ pub(crate) fn slots_for(slots: usize, n: usize) -> usize
 // Merges a list of n corners from the start, until `many_kept` are kept: a short list with the small table, any other
 // with the middle one. A long list of which few stay pays for clearing the middle table, some five microseconds.
 fn merge_some(
-    lx: &[f32],
-    ly: &[f32],
-    ls: &[f32],
-    ln: &[u32],
+    list: CornerView<'_>,
     apart: bool,
-    xs: &mut [f32],
-    ys: &mut [f32],
-    ss: &mut [f32],
-    ns: &mut [u32],
+    b: &mut CornerBuffer<'_>,
     g: Grid,
     n: usize,
 ) -> Step
-    requires { n ≤ places_of (slices xs.old ys.old ss.old ns.old) }
-    ensures { StopAfter (joins g) apart
-        (slices lx.now ly.now ls.now ln.now) many_kept n
-        (slices xs.old ys.old ss.old ns.old) start
-        (slices xs.new ys.new ss.new ns.new) result }
+    requires { n ≤ places_of (contents b.old) }
+    ensures same_slices { SameSlices b.old b.new }
+    ensures stopped { StopAfter (joins g) apart
+        (seen list.entry) many_kept n
+        (contents b.old) start
+        (contents b.new) result }
 {
     let s = Step { done: 0, kept: 0 };
     if n <= FEW {
         let mut t = [1.0; SMALL_TABLE];
-        return merge_with(lx, ly, ls, ln, apart, xs, ys, ss, ns, &mut t, g, n, s, MANY);
+        return merge_with(list, apart, b, &mut t, g, n, s, MANY);
     }
     let mut t = [1.0; MIDDLE_TABLE];
-    merge_with(lx, ly, ls, ln, apart, xs, ys, ss, ns, &mut t, g, n, s, MANY)
+    merge_with(list, apart, b, &mut t, g, n, s, MANY)
 }
 
 // Merges on with the largest table, to the end.
 fn merge_most(
-    lx: &[f32],
-    ly: &[f32],
-    ls: &[f32],
-    ln: &[u32],
+    list: CornerView<'_>,
     apart: bool,
-    xs: &mut [f32],
-    ys: &mut [f32],
-    ss: &mut [f32],
-    ns: &mut [u32],
+    b: &mut CornerBuffer<'_>,
     g: Grid,
     n: usize,
     s: Step,
 ) -> Step
-    requires n_bound { n ≤ places_of (slices xs.old ys.old ss.old ns.old) }
+    requires n_bound { n ≤ places_of (contents b.old) }
     requires step { IsStep n s }
-    ensures { StopAfter (joins g) apart
-        (slices lx.now ly.now ls.now ln.now) n n
-        (slices xs.old ys.old ss.old ns.old) s
-        (slices xs.new ys.new ss.new ns.new) result }
+    ensures same_slices { SameSlices b.old b.new }
+    ensures stopped { StopAfter (joins g) apart
+        (seen list.entry) n n
+        (contents b.old) s
+        (contents b.new) result }
 {
     let mut t = [1.0; LARGEST_TABLE];
-    merge_with(lx, ly, ls, ln, apart, xs, ys, ss, ns, &mut t, g, n, s, n)
+    merge_with(list, apart, b, &mut t, g, n, s, n)
 }
 
 // Merges to the end of a list of n corners, or until `most` are kept: with a smaller table first, as far as it goes.
 // Recursive only so that LLVM does not inline the functions with the tables: so a table takes stack only while it is
 // used.
 pub(crate) fn merge_up_to(
-    lx: &[f32],
-    ly: &[f32],
-    ls: &[f32],
-    ln: &[u32],
+    list: CornerView<'_>,
     apart: bool,
-    xs: &mut [f32],
-    ys: &mut [f32],
-    ss: &mut [f32],
-    ns: &mut [u32],
+    b: &mut CornerBuffer<'_>,
     g: Grid,
     n: usize,
     most: usize,
 ) -> Step
-    requires n_bound { n ≤ places_of (slices xs.old ys.old ss.old ns.old) }
+    requires n_bound { n ≤ places_of (contents b.old) }
     requires most_le_n { most ≤ n }
-    ensures { StopAfter (joins g) apart
-        (slices lx.now ly.now ls.now ln.now) most n
-        (slices xs.old ys.old ss.old ns.old) start
-        (slices xs.new ys.new ss.new ns.new) result }
+    ensures same_slices { SameSlices b.old b.new }
+    ensures stopped { StopAfter (joins g) apart
+        (seen list.entry) most n
+        (contents b.old) start
+        (contents b.new) result }
 {
     if most <= MANY {
-        return merge_some(lx, ly, ls, ln, apart, xs, ys, ss, ns, g, n);
+        return merge_some(list, apart, b, g, n);
     }
-    let s = merge_up_to(lx, ly, ls, ln, apart, xs, ys, ss, ns, g, n, most / 16);
+    let s = merge_up_to(list, apart, b, g, n, most / 16);
     if n <= s.done {
         return s;
     }
-    merge_most(lx, ly, ls, ln, apart, xs, ys, ss, ns, g, n, s)
+    merge_most(list, apart, b, g, n, s)
 }

@@ -14,8 +14,8 @@ use Rattle.lists.specs.Places.{any}
 use Rattle.lists.proofs.Buffer.{front_length, front-behind, front-next, front-tab}
 use Rattle.lists.proofs.Places.{any_append}
 use Rattle.corner_list.specs.declared.Corner.{Corner}
-use Rattle.corner_list.specs.CornerList.{Slices, corner_at, corners_of, front_corners}
-use Rattle.corner_list.proofs.Corners.{corners-length, corners-behind}
+use Rattle.corner_list.specs.CornerList.{Slices, places_of, with_corner, corner_at, corners_of, front_corners}
+use Rattle.corner_list.proofs.Corners.{corners-length, corners-behind, corners-next}
 use Rattle.merge_refusal.specs.Refusals.{corner_outside}
 
 -- what a place past the end of a slice of corners is taken for
@@ -39,26 +39,16 @@ module _ (cs : List Corner) (b : Slices) (i : ℕ) where
       ap (set (corners_upto cs b i) i) (corners-behind (take i cs) b i (omega (arith, length-take-le i cs h)))
       ∙ front-tab (corner_at b) cs i l
 
--- ---- a slice of the buffer after i places; g is the field that it takes
-abbrev pub fields_upto : {A : Type 0} → (Corner → A) → List Corner → List A → ℕ → List A
-fields_upto g cs d i = front (map g (take i cs)) d
-
-module _ {A : Type 0} (g : Corner → A) (cs : List Corner) (d : List A) (i : ℕ) (h : i ≤ length cs) where
-  long : length (map g (take i cs)) ≡ i
-  long = length-map (take i cs) g ∙ length-take-le i cs h
-
-  pub fields-long : i ≤ length d → length (fields_upto g cs d i) ≡ length d
-  fields-long k = front_length (map g (take i cs)) d (omega (arith, long))
-
-  pub fields-turn : (b : Slices) → i < length cs → i < length d
-      → set (fields_upto g cs d i) i (g (get_or (corners_upto cs b i) i nowhere)) ≡ fields_upto g cs d (i + 1)
-  fields-turn b l k =
-      ap (λ (c : Corner). set (fields_upto g cs d i) i (g c)) (corners-ahead cs b i)
-      ∙ front-next (map g (take i cs)) d i (g (get_or cs i nowhere)) (sym long) k
-      ∙ ap (λ (v : List A). front v d) more
+  -- ---- the buffer after a place more
+  pub buffer-turn : i < length cs → i < places_of b
+      → with_corner i (get_or (corners_upto cs b i) i nowhere) (front_corners (take i cs) b) ≡ front_corners (take (i + 1) cs) b
+  buffer-turn l h =
+      ap (λ (c : Corner). with_corner i c (front_corners (take i cs) b)) corners-ahead
+      ∙ corners-next (take i cs) b i (get_or cs i nowhere) (sym (length-take-le i cs (omega arith))) h
+      ∙ ap (λ (l : List Corner). front_corners l b) (sym more)
     where
-      more : map g (take i cs) ++ (g (get_or cs i nowhere) ∷ []) ≡ map g (take (i + 1) cs)
-      more = rw (add-one i, take-suc cs i nowhere l) (sym (map-append g (take i cs) (get_or cs i nowhere ∷ [])))
+      more : take (i + 1) cs ≡ take i cs ++ (get_or cs i nowhere ∷ [])
+      more = rw (add-one i) (take-suc cs i nowhere l)
 
 -- ---- the corners that are counted, of those that there are
 pub take_counted : {A : Type 0} (count : ℕ) (l : List A) → take (min count (length l)) l ≡ take count l

@@ -5,31 +5,15 @@
 ghost use Rattle.std.specs.Prelude.{◌≡◌, cond, not, ◌&&◌, ◌||◌, ◌≤◌, min, length, take};
 ghost use Rattle.lists.specs.Buffer.{front};
 ghost use Rattle.lists.specs.Places.{any};
-ghost use Rattle.corner_list.specs.CornerList.{slices, places_of, corners_of, front_corners};
+ghost use Rattle.corner_list.specs.CornerList.{places_of, corners_of, front_corners};
+ghost use Rattle.corner_list.specs.Buffer.{contents, SameSlices};
 ghost use Rattle.merge_radius.specs.MergeRadius.{is_off};
 ghost use Rattle.merge_refusal.specs.Refusals.{corner_outside};
 ghost use Rattle.merge.specs.declared.Merged.TheVariants.{Refused};
 ghost use Rattle.merge_slice.specs.MergeSlice.{MergesSlice};
 
-use corner_list::Corner;
+use corner_list::{Corner, CornerBuffer};
 use merge::Merged;
-
-// The least of a count and the lengths of the five slices.
-fn shared_places(
-    count: usize,
-    corners: usize,
-    xs: usize,
-    ys: usize,
-    strengths: usize,
-    neighbours: usize,
-) -> usize
-    ensures { result ≡ min count (min corners (min xs (min ys (min strengths neighbours)))) }
-{
-    numbers::lesser(
-        count,
-        numbers::lesser(corners, corner_list::places(xs, ys, strengths, neighbours)),
-    )
-}
 
 // Whether this corner or one before it is outside.
 fn either_outside(before: bool, c: Corner) -> bool
@@ -55,33 +39,22 @@ fn has_outside(corners: &[Corner], count: usize) -> bool
 // Swaps the first n corners with the first n places of a buffer.
 fn exchange(
     corners: &mut [Corner],
-    xs: &mut [f32],
-    ys: &mut [f32],
-    strengths: &mut [f32],
-    neighbours: &mut [u32],
+    b: &mut CornerBuffer<'_>,
     n: usize,
 )
     requires { (n ≤ length corners.old)
-        × (n ≤ places_of (slices xs.old ys.old strengths.old neighbours.old)) }
-    ensures { (corners.new
-        ≡ front (corners_of (slices xs.old ys.old strengths.old
-        neighbours.old) n) corners.old)
-        × (slices xs.new ys.new strengths.new neighbours.new
+        × (n ≤ places_of (contents b.old)) }
+    ensures same_slices { SameSlices b.old b.new }
+    ensures exchanged { (corners.new
+        ≡ front (corners_of (contents b.old) n) corners.old)
+        × (contents b.new
         ≡ front_corners (take n corners.old)
-        (slices xs.old ys.old strengths.old neighbours.old)) }
+        (contents b.old)) }
 {
     for i in 0..n {
         let c = corners[i];
-        corners[i] = Corner {
-            x: xs[i],
-            y: ys[i],
-            strength: strengths[i],
-            neighbours: neighbours[i],
-        };
-        xs[i] = c.x;
-        ys[i] = c.y;
-        strengths[i] = c.strength;
-        neighbours[i] = c.neighbours;
+        corners[i] = b.at(i);
+        b.put(i, c);
     }
 }
 
@@ -100,32 +73,22 @@ fn judged(outside: bool, radius: f32, answer: Merged) -> Merged
 }
 
 // Merges the first `count` corners of a slice in place, as `merge_corners_simple` does for four slices. The other
-// slices are scratch space: at the end they hold what they held before.
+// slices are scratch space: at the end they hold what they contents before.
 pub fn merge_corner_slice(
     corners: &mut [Corner],
-    xs: &mut [f32],
-    ys: &mut [f32],
-    strengths: &mut [f32],
-    neighbours: &mut [u32],
+    b: &mut CornerBuffer<'_>,
     count: usize,
     radius: f32,
 ) -> Merged
-    ensures { MergesSlice radius count corners.old
-        (slices xs.old ys.old strengths.old neighbours.old)
-        result corners.new (slices xs.new ys.new strengths.new
-        neighbours.new) }
+    ensures same_slices { SameSlices b.old b.new }
+    ensures merged { MergesSlice radius count corners.old
+        (contents b.old)
+        result corners.new (contents b.new) }
 {
     let outside = has_outside(corners, count);
-    let n = shared_places(
-        count,
-        corners.len(),
-        xs.len(),
-        ys.len(),
-        strengths.len(),
-        neighbours.len(),
-    );
-    exchange(corners, xs, ys, strengths, neighbours, n);
-    let answer = merge::merge_within(xs, ys, strengths, neighbours, n, count, radius);
-    exchange(corners, xs, ys, strengths, neighbours, n);
+    let n = count.min(corners.len().min(b.places()));
+    exchange(corners, b, n);
+    let answer = merge::merge_within(b, n, count, radius);
+    exchange(corners, b, n);
     judged(outside, radius, answer)
 }

@@ -2,5 +2,5 @@
 use Rattle.merge.proofs.Answer.{merges-whole}
 use Rattle.merge.proofs.merge_corners_simple.Goals as goal
 
-pub returns : goal.returns
-returns c = merges-whole _ _ _ _ _ c.merge_within.ensures
+pub returns-clause-merged : goal.returns-clause-merged
+returns-clause-merged c = merges-whole _ _ _ _ _ c.merge_within.ensures.merged

@@ -3,16 +3,17 @@ use mathlib.Core.Path.{sym, ◌∙◌}
 use mathlib.Core.Bool.{false}
 use mathlib.Core.List.{[]}
 use Rattle.corner_list.specs.CornerList.{slices}
+use Rattle.corner_list.specs.Buffer.{contents}
 use Rattle.merge.proofs.Answer.{left-off, left-on, left-all, left-settled}
 use Rattle.merge.proofs.merge_list.Goals as goal
 
 pub returns-then-is_off-clause-left : goal.returns-then-is_off-clause-left
 returns-then-is_off-clause-left c =
-    left-off _ (slices c.args.xs.now c.args.ys.now c.args.strengths.now c.args.neighbours.now) _ _ _ _
+    left-off _ (contents c.args.b.now) _ _ _ _
     (sym c.is_off.ensures ∙ c.if-is_off.true) (left-all _ _ c.requires)
 
 pub returns-clause-left : goal.returns-clause-left
 returns-clause-left c =
-    left-on _ (slices c.args.xs.now c.args.ys.now c.args.strengths.now c.args.neighbours.now) _ _ _ _ _
-    (sym c.is_off.ensures ∙ c.if-is_off.false) c.grid_of-g.ensures
+    left-on _ (contents c.args.b.now) _ _ _ _ _
+    (sym c.is_off.ensures ∙ c.if-is_off.false) _ c.view-v.ensures c.grid_of-g.ensures
     (left-settled c.grid_of-g.result false (slices [] [] [] []) _ _ _ _ c.requires c.settle_list.ensures.settles)

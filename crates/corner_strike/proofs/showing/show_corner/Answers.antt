@@ -3,9 +3,9 @@ use Rattle.corner_strike.proofs.Judging.{show-refused, show-found}
 use Rattle.corner_strike.proofs.showing.show_corner.Goals as goal
 
 pub returns-then-number-ne0 : goal.returns-then-number-ne0
-returns-then-number-ne0 c = show-refused _ _ _ _ c.places-places.ensures _ c.refusal-number.ensures c.if-number-ne0.true
+returns-then-number-ne0 c = show-refused _ _ _ _ c.places.ensures _ c.refusal-number.ensures c.if-number-ne0.true
 
 pub returns : goal.returns
 returns c =
-    show-found _ _ _ _ c.places-places.ensures _ _ c.refusal-number.ensures
-    c.if-number-ne0.false c.corner_at-c.ensures
+    show-found _ _ _ _ c.places.ensures _ _ c.refusal-number.ensures
+    c.if-number-ne0.false c.at-c.ensures

@@ -1,21 +1,22 @@
 -- `merge::apart::merge_into` meets its contract: copied where the radius is off, else merged by the grid. Assumes nothing.
-use mathlib.Core.Path.{sym, ◌∙◌}
+use mathlib.Core.Path.{refl, sym, ◌∙◌}
 use mathlib.Core.Bool.{true}
-use Rattle.corner_list.specs.CornerList.{Slices, slices}
+use Rattle.corner_list.specs.CornerList.{Slices}
+use Rattle.corner_list.specs.Buffer.{seen}
 use Rattle.merge.proofs.Answer.{left-off, left-on, left-copied, left-settled}
 use Rattle.merge.proofs.apart.merge_into.Goals as goal
 use Rattle.merge.proofs.apart.merge_into.Goals.{Start}
 
 -- the buffer of the list
 abbrev list : Start → Slices
-list c = slices c.args.xs.now c.args.ys.now c.args.strengths.now c.args.neighbours.now
+list c = seen c.args.list
 
-pub returns-then-is_off : goal.returns-then-is_off
-returns-then-is_off c =
-    left-off _ (list (goal.at.returns-then-is_off c).Start) _ _ _ _ (sym c.is_off.ensures ∙ c.if-is_off.true)
-    (left-copied (list (goal.at.returns-then-is_off c).Start) _ _ _ c.copy_list.ensures)
+pub returns-then-is_off-clause-left : goal.returns-then-is_off-clause-left
+returns-then-is_off-clause-left c =
+    left-off _ (list (goal.at.returns-then-is_off-clause-left c).Start) _ _ _ _ (sym c.is_off.ensures ∙ c.if-is_off.true)
+    (left-copied (list (goal.at.returns-then-is_off-clause-left c).Start) _ _ _ c.copy_list.ensures.copied)
 
-pub returns : goal.returns
-returns c =
-    left-on _ (list (goal.at.returns c).Start) _ _ _ _ _ (sym c.is_off.ensures ∙ c.if-is_off.false) c.grid_of-g.ensures
-    (left-settled c.grid_of-g.result true (list (goal.at.returns c).Start) _ _ _ _ c.requires c.settle_list.ensures.settles)
+pub returns-clause-left : goal.returns-clause-left
+returns-clause-left c =
+    left-on _ (list (goal.at.returns-clause-left c).Start) _ _ _ _ _ (sym c.is_off.ensures ∙ c.if-is_off.false) _ refl c.grid_of-g.ensures
+    (left-settled c.grid_of-g.result true (list (goal.at.returns-clause-left c).Start) _ _ _ _ c.requires c.settle_list.ensures.settles)
