@@ -9,10 +9,7 @@ ghost use Rattle.image_size.specs.ImageSize.{refusal_of};
 pub fn is_large(w: usize, h: usize) -> bool
     ensures { result ≡ is_large w h }
 {
-    if lists::LARGEST_SIDE < w {
-        return true;
-    }
-    lists::LARGEST_SIDE < h
+    lists::LARGEST_SIDE < w || lists::LARGEST_SIDE < h
 }
 
 // Why an image or a map of w by h with `size` elements is refused: 1 for a side above the largest, 2 for a size that is
