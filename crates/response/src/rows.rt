@@ -7,17 +7,16 @@ ghost use Rattle.lists.specs.Tab.{grid};
 ghost use Rattle.lists.specs.Internal.{Sized};
 ghost use Rattle.ring.specs.Ring.{ring_of};
 ghost use Rattle.response.specs.Response.{is_within, response_at};
-ghost use Rattle.response.specs.Internal.{IsTile, Filled, PlacesWritten, Cleared, Stretched, Placed, InnerPart};
+ghost use Rattle.response.specs.Internal.{IsTile, Filled, Cleared, Stretched, Placed, InnerPart};
 ghost use Rattle.response.specs.Internal.{responses};
 ghost use Rattle.response.specs.Internal.{eights_of, block_columns, block_rows, small_side, beyond, large_row};
 
 use crate::alone::alone;
-use crate::runs::{eights, row_sums, values};
+use crate::runs::{eights, no_sums, row_sums, values};
 use crate::tile::{
     BLOCK_COLUMNS, BLOCK_ROWS, LARGE_ROW, LARGE_TILE, SMALL_ROW, SMALL_SIDE, SMALL_TILE,
     offsets_in, widen,
 };
-use numbers::{greater, lesser, minus};
 
 // A map of pw by ph cells of an image of w by h, with a ring of that radius. Its first cell is the image's cell (x, y).
 #[derive(Clone, Copy)]
@@ -31,27 +30,13 @@ struct Field {
     ph: usize,
 }
 
-// Writes 0 to n places from `at` on.
-fn clear(map: &mut [f32], at: usize, n: usize)
-    requires { at + n ≤ length map.old }
-    ensures { PlacesWritten zero at n (λ _. zero) map.old map.new }
-{
-    let mut i = 0usize;
-    while i < n {
-        map[at + i] = 0.0;
-        i += 1;
-    }
-}
-
 // Writes 0 to the cells in columns a up to b and rows c up to e, in rows of w cells.
 fn clear_part(map: &mut [f32], w: usize, a: usize, b: usize, c: usize, e: usize)
     requires { (a ≤ b) × (b ≤ w) × (c ≤ e) × (e * w ≤ length map.old) × (e * w ≤ largest_map) }
     ensures { Cleared w a b c e map.old map.new }
 {
-    let mut j = c;
-    while j < e {
-        clear(map, j * w + a, b - a);
-        j += 1;
+    for j in c..e {
+        map[j * w + a..j * w + b].fill(0.0);
     }
 }
 
@@ -85,23 +70,11 @@ fn block(
         tile,
         s,
     );
-    let mut balance = [0u16; BLOCK_COLUMNS];
-    let mut sum = [0u16; BLOCK_COLUMNS];
-    let mut cross = [0u16; BLOCK_COLUMNS];
-    let mut k = 0usize;
-    while k < m {
-        row_sums(
-            tile,
-            s,
-            r,
-            r + k,
-            eights(n),
-            &mut balance,
-            &mut sum,
-            &mut cross,
-        );
-        values(&balance, &sum, &cross, n, map, (j + k) * f.pw + i);
-        k += 1;
+    let mut sums = no_sums();
+    for k in 0..m {
+        row_sums(tile, s, r, r + k, eights(n), &mut sums);
+        let at = (j + k) * f.pw + i;
+        values(&sums, &mut map[at..at + n]);
     }
 }
 
@@ -123,7 +96,7 @@ fn band(
 {
     let mut i = a;
     while i < b {
-        let n = lesser(BLOCK_COLUMNS, b - i);
+        let n = BLOCK_COLUMNS.min(b - i);
         block(img, f, i, j, n, m, tile, LARGE_ROW, map);
         i += n;
     }
@@ -138,7 +111,7 @@ fn large(img: &[u8], f: Field, a: usize, b: usize, c: usize, e: usize, map: &mut
     let mut tile = [0u16; LARGE_TILE];
     let mut j = c;
     while j < e {
-        let m = lesser(BLOCK_ROWS, e - j);
+        let m = BLOCK_ROWS.min(e - j);
         band(img, f, a, b, j, m, &mut tile, map);
         j += m;
     }
@@ -173,8 +146,8 @@ fn inner(img: &[u8], f: Field, a: usize, b: usize, c: usize, e: usize, map: &mut
 {
     let n = b - a;
     let m = e - c;
-    let most = greater(n, m);
-    if lesser(n, m) == 0 {
+    let most = n.max(m);
+    if n.min(m) == 0 {
         return;
     }
     if most == 1 {
@@ -200,8 +173,11 @@ struct Stretch {
 fn reach(w: usize, radius: usize, x: usize, n: usize, margin: usize) -> Stretch
     ensures { Stretched w radius x n margin result.from result.to }
 {
-    let from = lesser(n, greater(margin, minus(radius, x)));
-    let to = greater(from, lesser(minus(n, margin), minus(minus(w, radius), x)));
+    let from = margin.max(radius.saturating_sub(x)).min(n);
+    let to = n
+        .saturating_sub(margin)
+        .min(w.saturating_sub(radius).saturating_sub(x))
+        .max(from);
     Stretch { from, to }
 }
 

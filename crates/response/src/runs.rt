@@ -1,10 +1,9 @@
 // Runs of cells of a row of a block. The whole numbers are computed in one loop and the floats in another, so that each
 // loop handles as many cells at a time as the machine's vectors hold.
-ghost use Rattle.std.specs.Prelude.{◌≡◌, ◌+◌, ◌≤◌, length, get_or};
-ghost use Rattle.float32.specs.Float32.{zero};
+ghost use Rattle.std.specs.Prelude.{◌≡◌, ◌≤◌, length};
+ghost use Rattle.lists.specs.Tab.{tab};
 ghost use Rattle.ring.specs.Ring.{ring_of};
-ghost use Rattle.response.specs.Response.{response_of};
-ghost use Rattle.response.specs.Internal.{PlacesWritten, SumPlaces, CellsInRow, CellsSummed, eights_of};
+ghost use Rattle.response.specs.Internal.{SumPlaces, CellsInRow, CellsSummed, response_from, eights_of};
 ghost use Rattle.response.specs.Internal.{block_columns};
 
 use crate::cell::{cell_sums, value};
@@ -19,76 +18,58 @@ pub(crate) fn eights(n: usize) -> usize
     (n + 7) / 8 * 8
 }
 
+// The whole numbers of the responses of a row of a block, each kind in an array of its own, as vectors read them.
+#[derive(Drop)]
+pub(crate) struct RowSums {
+    balance: [u16; BLOCK_COLUMNS],
+    sum: [u16; BLOCK_COLUMNS],
+    cross: [u16; BLOCK_COLUMNS],
+}
+
+// The places for them, all 0.
+pub(crate) fn no_sums() -> RowSums
+    ensures { SumPlaces result }
+{
+    RowSums {
+        balance: [0; BLOCK_COLUMNS],
+        sum: [0; BLOCK_COLUMNS],
+        cross: [0; BLOCK_COLUMNS],
+    }
+}
+
 // The sums of the first n cells in row y of a tile, with rows of s places, whose ring lies in the tile.
-fn sums(
-    tile: &[u16],
-    s: usize,
-    radius: usize,
-    y: usize,
-    n: usize,
-    balance: &mut [u16; BLOCK_COLUMNS],
-    sum: &mut [u16; BLOCK_COLUMNS],
-    cross: &mut [u16; BLOCK_COLUMNS],
-)
-    requires { CellsInRow tile.now s radius y n × SumPlaces balance.old sum.old cross.old }
-    ensures { CellsSummed tile.now s (ring_of radius) radius y n balance.new
-        sum.new cross.new }
+fn sums(tile: &[u16], s: usize, radius: usize, y: usize, n: usize, row: &mut RowSums)
+    requires { CellsInRow tile.now s radius y n × SumPlaces row.old }
+    ensures { CellsSummed tile.now s (ring_of radius) radius y n row.new }
 {
     let off = offsets_in(radius as u32, s);
-    let mut i = 0usize;
-    while i < n {
+    for i in 0..n {
         let p = cell_sums(tile, s, radius, off, radius + i, y);
-        balance[i] = p.balance;
-        sum[i] = p.sum;
-        cross[i] = p.cross;
-        i += 1;
+        row.balance[i] = p.balance;
+        row.sum[i] = p.sum;
+        row.cross[i] = p.cross;
     }
 }
 
 // The same. For a large tile the length of a row and each ring's radius are written out: so the compiler makes a loop
 // for each ring, and knows the offsets of its places.
-pub(crate) fn row_sums(
-    tile: &[u16],
-    s: usize,
-    radius: usize,
-    y: usize,
-    n: usize,
-    balance: &mut [u16; BLOCK_COLUMNS],
-    sum: &mut [u16; BLOCK_COLUMNS],
-    cross: &mut [u16; BLOCK_COLUMNS],
-)
-    requires { CellsInRow tile.now s radius y n × SumPlaces balance.old sum.old cross.old }
-    ensures { CellsSummed tile.now s (ring_of radius) radius y n balance.new
-        sum.new cross.new }
+pub(crate) fn row_sums(tile: &[u16], s: usize, radius: usize, y: usize, n: usize, row: &mut RowSums)
+    requires { CellsInRow tile.now s radius y n × SumPlaces row.old }
+    ensures { CellsSummed tile.now s (ring_of radius) radius y n row.new }
 {
-    if s != LARGE_ROW {
-        sums(tile, s, radius, y, n, balance, sum, cross);
-        return;
+    match (s, radius) {
+        (LARGE_ROW, 5) => sums(tile, LARGE_ROW, 5, y, n, row),
+        (LARGE_ROW, 10) => sums(tile, LARGE_ROW, 10, y, n, row),
+        _ => sums(tile, s, radius, y, n, row),
     }
-    if radius == 5 {
-        sums(tile, LARGE_ROW, 5, y, n, balance, sum, cross);
-        return;
-    }
-    sums(tile, LARGE_ROW, 10, y, n, balance, sum, cross);
 }
 
-// Writes the responses from the first n sums to the places of the map from `at` on.
-pub(crate) fn values(
-    balance: &[u16; BLOCK_COLUMNS],
-    sum: &[u16; BLOCK_COLUMNS],
-    cross: &[u16; BLOCK_COLUMNS],
-    n: usize,
-    map: &mut [f32],
-    at: usize,
-)
-    requires { (n ≤ block_columns) × (at + n ≤ length map.old) }
-    ensures { PlacesWritten zero at n
-        (λ i. response_of (get_or balance.now i 0) 4096 (get_or sum.now i 0)
-        (get_or cross.now i 0)) map.old map.new }
+// Writes the responses from the first sums to a row of as many cells.
+pub(crate) fn values(row: &RowSums, cells: &mut [f32])
+    requires { length cells.old ≤ block_columns }
+    ensures { cells.new ≡ tab (length cells.old) (response_from row.now) }
 {
-    let mut i = 0usize;
-    while i < n {
-        map[at + i] = value(balance[i], sum[i], cross[i]);
-        i += 1;
+    for (i, cell) in cells.iter_mut().enumerate() {
+        *cell = value(row.balance[i], row.sum[i], row.cross[i]);
     }
 }

@@ -4,7 +4,7 @@ ghost use Rattle.std.specs.Prelude.{◌≡◌, ◌+◌, ◌*◌, ◌<◌, ◌≤
 ghost use Rattle.lists.specs.Limits.{largest_side, largest_map};
 ghost use Rattle.lists.specs.Tab.{tab, pixel};
 ghost use Rattle.ring.specs.Ring.{ring_of};
-ghost use Rattle.response.specs.Internal.{Bytes, IsTile, Filled, PlacesWritten, offset_at, tile_rows};
+ghost use Rattle.response.specs.Internal.{Bytes, IsTile, Filled, offset_at, tile_rows};
 
 // The most columns, and rows, of cells of a block.
 pub(crate) const BLOCK_COLUMNS: usize = 192;
@@ -35,7 +35,7 @@ fn offset(rows: u8, columns: u8, w: usize) -> usize
     requires { w ≤ largest_side }
     ensures { result ≡ rows * w + columns }
 {
-    (rows as usize) * w + (columns as usize)
+    usize::from(rows) * w + usize::from(columns)
 }
 
 // The offset of each place of the ring from the corner of the ring's square, in rows of w places.
@@ -44,34 +44,20 @@ pub(crate) fn offsets_in(ring: u32, w: usize) -> [usize; 16]
     ensures { result ≡ tab 16 (offset_at (ring_of ring) w) }
 {
     let t = ring::ring_offsets(ring);
-    let columns = t.columns;
-    let rows = t.rows;
     let mut off = [0usize; 16];
-    let mut k = 0usize;
-    while k < 16 {
-        off[k] = offset(rows[k], columns[k], w);
-        k += 1;
+    for k in 0..16 {
+        off[k] = offset(t.rows[k], t.columns[k], w);
     }
     off
 }
 
-// A byte as a u16.
-pub(crate) fn wide(b: u8) -> u16
-    ensures { (result ≡ b) × (result < 256) }
+// Copies pixels to as many places.
+fn widen_row(pixels: &[u8], places: &mut [u16])
+    requires { length places.old ≡ length pixels.now }
+    ensures { places.new ≡ pixels.now }
 {
-    b as u16
-}
-
-// Copies n pixels, from place `from` of the image on, to the places from `at` on.
-fn widen_row(img: &[u8], from: usize, n: usize, tile: &mut [u16], at: usize)
-    requires { (from + n ≤ length img.now) × (at + n ≤ length tile.old) × Bytes tile.old }
-    ensures { PlacesWritten 0 at n (λ i. get_or img.now (from + i) 0) tile.old
-        tile.new × Bytes tile.new }
-{
-    let mut i = 0usize;
-    while i < n {
-        tile[at + i] = wide(img[from + i]);
-        i += 1;
+    for (i, place) in places.iter_mut().enumerate() {
+        *place = u16::from(pixels[i]);
     }
 }
 
@@ -91,9 +77,8 @@ pub(crate) fn widen(
     ensures { Filled 0 s tile_rows (λ i j. pixel img.now w (x + i) (y + j)) 0 n 0 m
         tile.old tile.new × IsTile s tile.new }
 {
-    let mut j = 0usize;
-    while j < m {
-        widen_row(img, (y + j) * w + x, n, tile, j * s);
-        j += 1;
+    for j in 0..m {
+        let from = (y + j) * w + x;
+        widen_row(&img[from..from + n], &mut tile[j * s..j * s + n]);
     }
 }

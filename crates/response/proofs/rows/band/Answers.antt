@@ -20,23 +20,23 @@ block-requires c =
     record {
       placed = (
         placed-still _ _ _ _ c.requires.placed.0 c.loop-i.invariant.2.long,
-        part_of _ _ _ _ _ _ _ _ _ c.requires.placed.1 c.loop-i.invariant.0 (omega (arith, c.lesser-n.ensures, c.loop-i-test.true))
+        part_of _ _ _ _ _ _ _ _ _ c.requires.placed.1 c.loop-i.invariant.0 (omega (arith, c.min-n.ensures, c.loop-i-test.true))
             (omega arith) (omega arith),
       );
       n_nonzero = ((
-        omega (arith, c.lesser-n.ensures, c.loop-i-test.true),
-        omega (arith, c.lesser-n.ensures),
+        omega (arith, c.min-n.ensures, c.loop-i-test.true),
+        omega (arith, c.min-n.ensures),
         c.requires.m_nonzero.0,
         c.requires.m_nonzero.1,
         c.loop-i.invariant.3,
-        omega (arith, c.lesser-n.ensures),
+        omega (arith, c.min-n.ensures),
       ));
     }
 
 pub loop-i-preserved : goal.loop-i-preserved
 loop-i-preserved c = (
   omega (arith, c.loop-i.invariant.0),
-  omega (arith, c.lesser-n.ensures, c.loop-i-test.true),
+  omega (arith, c.min-n.ensures, c.loop-i-test.true),
   then-beside zero _ _ _ _ _ _ _ _ _ _ _ c.loop-i.invariant.2 c.block.ensures.0,
   c.block.ensures.1,
 )

@@ -22,16 +22,16 @@ band-requires c =
       placed = (
         placed-still _ _ _ _ c.requires.0 c.loop-j.invariant.2.long,
         part_of _ _ _ _ _ _ _ _ _ c.requires.1 (omega arith) (omega arith) c.loop-j.invariant.0
-            (omega (arith, c.lesser-m.ensures, c.loop-j-test.true)),
+            (omega (arith, c.min-m.ensures, c.loop-j-test.true)),
         c.requires.2,
       );
-      m_nonzero = ((omega (arith, c.lesser-m.ensures, c.loop-j-test.true), omega (arith, c.lesser-m.ensures), c.loop-j.invariant.3));
+      m_nonzero = ((omega (arith, c.min-m.ensures, c.loop-j-test.true), omega (arith, c.min-m.ensures), c.loop-j.invariant.3));
     }
 
 pub loop-j-preserved : goal.loop-j-preserved
 loop-j-preserved c = (
   omega (arith, c.loop-j.invariant.0),
-  omega (arith, c.lesser-m.ensures, c.loop-j-test.true),
+  omega (arith, c.min-m.ensures, c.loop-j-test.true),
   then-below zero _ _ _ _ _ _ _ _ _ _ _ c.loop-j.invariant.2 c.band.ensures.0,
   c.band.ensures.1,
 )

@@ -2,7 +2,7 @@
 use native.Mathlib.Omega.{arith}
 use borrow.Author.Rules.{rules}
 use Rattle.ring.proofs.Places.{radius-small}
-use Rattle.response.proofs.Samples.{summed-set, summed-end}
+use Rattle.response.proofs.Samples.{summed-set}
 use Rattle.response.proofs.Tiles.{tile-framed}
 use Rattle.response.proofs.runs.sums.Goals as goal
 
@@ -13,7 +13,7 @@ pub offsets_in-off-requires : goal.offsets_in-off-requires
 offsets_in-off-requires c = omega (arith, c.requires.0.is_tile.narrow)
 
 pub loop-i-init : goal.loop-i-init
-loop-i-init c = (search rules, record { long = c.requires.1; cells = λ i l. absurd (omega arith) })
+loop-i-init c = record { long = c.requires.1; cells = λ i l. absurd (omega arith) }
 
 pub cell_sums-p-requires : goal.cell_sums-p-requires
 cell_sums-p-requires c = (
@@ -23,7 +23,4 @@ cell_sums-p-requires c = (
 )
 
 pub loop-i-preserved : goal.loop-i-preserved
-loop-i-preserved c = (search rules, summed-set _ _ _ _ _ _ _ _ _ _ _ _ (search rules) c.loop-i.invariant.1 c.cell_sums-p.ensures)
-
-pub returns : goal.returns
-returns c = summed-end _ _ _ _ _ _ _ _ _ _ c.loop-i.invariant.1 (search rules)
+loop-i-preserved c = summed-set _ _ _ _ _ _ _ _ _ _ (search rules) c.loop-i.invariant c.cell_sums-p.ensures

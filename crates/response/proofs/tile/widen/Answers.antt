@@ -1,66 +1,58 @@
 -- `response::tile::widen` meets its contract: the rows passed hold their pixels. Assumes nothing.
-use mathlib.Core.Path.{refl, ◌∙◌}
-use Prim.Native.Nat.{ℕ, ◌+◌, ◌*◌, ◌<◌, ◌≤◌}
+use mathlib.Core.Path.{refl, sym, ◌∙◌}
+use Prim.Native.Nat.{◌+◌, ◌*◌, ◌≤◌}
 use native.Mathlib.Nat.{mul_comm}
 use native.Mathlib.Omega.{arith}
 use borrow.Author.Rules.{rules}
 use lib.ListN.{length}
-use Rattle.lists.specs.Limits.{largest_map}
+use Rattle.lists.proofs.Tab.{part_length}
 use Rattle.response.specs.Internal.{tile_rows, large_tile}
-use Rattle.response.proofs.Filling.{filled_none, filled-to, row-after}
+use Rattle.response.proofs.Filling.{filled_none, filled-to, row-after, written-copy, bytes-written}
 use Rattle.response.proofs.Tiles.{tile-row}
 use Rattle.response.proofs.tile.widen.Goals as goal
-use Rattle.response.proofs.tile.widen.Goals.{Start}
+use Rattle.response.proofs.tile.widen.Goals.{In-loop-j}
 
 pub loop-j-init : goal.loop-j-init
-loop-j-init c = (search rules, filled_none 0 _ tile_rows _ 0 _ 0 0 _ (λ i j p q u v. absurd (omega arith)), c.requires.6)
+loop-j-init c = (filled_none 0 _ tile_rows _ 0 _ 0 0 _ (λ i j p q u v. absurd (omega arith)), c.requires.6)
 
--- where a row of the image ends
-row-end : (c : Start) (j : ℕ) → j < c.args.m
-    → ((c.args.y + j) * c.args.w + c.args.w ≤ length c.args.img.now) × ((c.args.y + j) * c.args.w + c.args.w ≤ largest_map)
-row-end c j l =
-    let row = row-after c.args.w (c.args.y + j) (c.args.y + c.args.m) (omega arith) in
-    (omega (arith, row, c.requires.1), omega (arith, row, c.requires.1, c.requires.2))
+-- the row's part of the image, and of the tile
+row-lies : (c : In-loop-j) → (c.args.y + c.loop-j.j) * c.args.w + c.args.x + c.args.n ≤ length c.args.img.now
+row-lies c =
+    omega (arith, row-after c.args.w (c.args.y + c.loop-j.j) (c.args.y + c.args.m) (omega arith), c.requires.0, c.requires.1)
 
-pub overflow_mul-y : goal.overflow_mul-y
-overflow_mul-y c = omega (arith, row-end (goal.at.overflow_mul-y c).Start c.loop-j.j (search rules))
-
-pub overflow_add-y-in-loop-j : goal.overflow_add-y-in-loop-j
-overflow_add-y-in-loop-j c =
-    omega (arith, row-end (goal.at.overflow_add-y-in-loop-j c).Start c.loop-j.j (search rules), c.requires.0)
-
--- where a row of the tile ends
-tile-end : (c : Start) (j : ℕ) → j < c.args.m
-    → (j * c.args.s + c.args.s ≤ length c.args.tile.now) × (j * c.args.s + c.args.s ≤ large_tile)
-tile-end c j l =
-    let row = row-after c.args.s j tile_rows (omega (arith, c.requires.5)) in
-    (omega (arith, row, c.requires.6.long, mul_comm c.args.s tile_rows), omega (arith, row, c.requires.6.narrow))
+tile-lies : (c : In-loop-j)
+    → (c.loop-j.j * c.args.s + c.args.n ≤ length c.loop-j.tile) × (c.loop-j.j * c.args.s + c.args.n ≤ large_tile)
+tile-lies c =
+    let row = row-after c.args.s c.loop-j.j tile_rows (omega (arith, c.requires.5)) in (
+      omega (arith, row, c.requires.4, c.requires.6.long, mul_comm c.args.s tile_rows, c.loop-j.invariant.0.long),
+      omega (arith, row, c.requires.4, c.requires.6.narrow),
+    )
 
 pub overflow_mul-j : goal.overflow_mul-j
-overflow_mul-j c = omega (arith, tile-end (goal.at.overflow_mul-j c).Start c.loop-j.j (search rules))
+overflow_mul-j c = omega (arith, tile-lies (goal.at.overflow_mul-j c).In-loop-j)
 
 pub widen_row-requires : goal.widen_row-requires
 widen_row-requires c =
-    let behind = tile-end (goal.at.widen_row-requires c).Start c.loop-j.j (search rules) in (
-      omega (arith, row-end (goal.at.widen_row-requires c).Start c.loop-j.j (search rules), c.requires.0),
-      omega (arith, behind, c.requires.4, c.loop-j.invariant.1.long),
-      c.loop-j.invariant.2.bytes,
-    )
+    part_length _ c.args.n c.loop-j.tile (tile-lies (goal.at.widen_row-requires c).In-loop-j).0
+    ∙ sym (part_length _ c.args.n c.args.img.now (row-lies (goal.at.widen_row-requires c).In-loop-j))
 
 pub loop-j-preserved : goal.loop-j-preserved
-loop-j-preserved c = (
-  search rules,
-  tile-row c.args.img.now c.args.w c.args.s c.args.x c.args.y c.args.n c.loop-j.j _ _ _ _ (search rules)
-      (search rules) refl c.loop-j.invariant.1 c.widen_row.ensures.0,
-  record {
-    long = c.widen_row.ensures.0.long ∙ c.loop-j.invariant.2.long;
-    narrow = c.loop-j.invariant.2.narrow;
-    bytes = c.widen_row.ensures.1;
-  },
-)
+loop-j-preserved c =
+    let wr =
+    written-copy (c.loop-j.j * c.args.s) c.args.n ((c.args.y + c.loop-j.j) * c.args.w + c.args.x) c.args.img.now c.loop-j.tile _
+    (tile-lies (goal.at.loop-j-preserved c).In-loop-j).0 (row-lies (goal.at.loop-j-preserved c).In-loop-j) c.widen_row.ensures in (
+      tile-row c.args.img.now c.args.w c.args.s c.args.x c.args.y c.args.n c.loop-j.j _ _ _ _
+          (omega (arith, c.requires.5, c.loop-j-test.true))
+          (search rules) refl c.loop-j.invariant.0 wr,
+      record {
+        long = wr.long ∙ c.loop-j.invariant.1.long;
+        narrow = c.loop-j.invariant.1.narrow;
+        bytes = bytes-written _ _ _ _ _ wr c.loop-j.invariant.1.bytes (λ i. (c.type_inv.img _).fits);
+      },
+    )
 
 pub shape_of-tile : goal.shape_of-tile
-shape_of-tile c = c.loop-j.invariant.1.long
+shape_of-tile c = c.loop-j.invariant.0.long
 
 pub returns : goal.returns
-returns c = (filled-to 0 _ tile_rows _ _ _ _ _ _ _ _ _ refl (search rules) c.loop-j.invariant.1, c.loop-j.invariant.2)
+returns c = (filled-to 0 _ tile_rows _ _ _ _ _ _ _ _ _ refl (search rules) c.loop-j.invariant.0, c.loop-j.invariant.1)
