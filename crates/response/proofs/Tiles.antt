@@ -6,6 +6,7 @@ use native.Mathlib.Nat.{mul_comm, mul-le-mul_right}
 use native.Mathlib.Omega.{arith}
 use native.Mathlib.Decide.{dec_lt}
 use lib.Ieee.{Float}
+use prog.Memory.{up}
 use lib.ListN.{length, get_or, set, length-set}
 use lib.Seq.{get_or-set_same, get_or-set_other}
 use Rattle.lists.specs.Limits.{largest_side, largest_map}
@@ -18,8 +19,8 @@ use Rattle.ring.proofs.Table.{ring_of-is}
 use Rattle.response.specs.declared.rows.Field.{Field}
 use Rattle.response.specs.declared.runs.RowSums.{RowSums}
 use Rattle.response.specs.Response.{samples, cross_of, response}
-use Rattle.response.specs.Internal.{offset_at, ImageWithOffsets, Inner, IsTile, CellsSummed, PlacesWritten, Filled, Placed, InnerPart}
-use Rattle.response.specs.Internal.{responses, response_from, tile_rows}
+use Rattle.response.specs.Internal.{offset_at, ImageWithOffsets, Inner, CellsSummed, PlacesWritten, Filled, Placed, InnerPart}
+use Rattle.response.specs.Internal.{responses, response_from, tile_rows, large_row}
 use Rattle.response.proofs.Filling.{row-after, row-filled, then-below}
 use Rattle.response.proofs.Indices.{area-le}
 use Rattle.response.proofs.Inside.{at-inside}
@@ -55,12 +56,16 @@ module _ (img tile : List ℕ) (w s X Y n m : ℕ) (same : (u v : ℕ) → u < n
             at (x - 1) y (X + x - 1) (Y + y) (omega arith) (omega arith) (omega (arith, one)) (omega arith),
           )
 
+-- ---- the places of a tile fit in memory
+pub tile-fits : (s n : ℕ) → n ≡ s * tile_rows → s ≤ large_row → up 2 (0 + n * 2) < 9223372036854775808
+tile-fits s n e narrow = omega arith
+
 -- ---- where a block lies
-pub tile-framed : (tile : List ℕ) (s r : ℕ) (off : List ℕ) → IsTile s tile → (ring_of r).radius ≡ r → off ≡ tab 16 (offset_at (ring_of r) s)
-    → ImageWithOffsets tile s tile_rows (ring_of r) r off
-tile-framed tile s r off is own e =
+pub tile-framed : (tile : List ℕ) (s r : ℕ) (off : List ℕ) → length tile ≡ s * tile_rows → s ≤ large_row → (ring_of r).radius ≡ r
+    → off ≡ tab 16 (offset_at (ring_of r) s) → ImageWithOffsets tile s tile_rows (ring_of r) r off
+tile-framed tile s r off long narrow own e =
     record {
-      image = record { narrow = omega (arith, is.narrow); low = omega arith; sized = is.long };
+      image = record { narrow = omega (arith, narrow); low = omega arith; sized = long };
       is-ring = ring_of-is r;
       own_radius = own;
       offsets = e;

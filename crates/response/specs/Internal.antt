@@ -101,12 +101,6 @@ large_tile = large_row * tile_rows
 abbrev pub small_tile : ℕ
 small_tile = small_row * tile_rows
 
--- a tile: rows of s places that hold bytes
-pub record IsTile (s : ℕ) (l : List ℕ) : Type 0 where
-  pub long : length l ≡ s * tile_rows
-  pub narrow : s ≤ large_row
-  pub bytes : Bytes l
-
 -- n rounded up to a multiple of 8
 abbrev pub eights_of : ℕ → ℕ
 eights_of n = (n + 7) / 8 * 8
@@ -141,8 +135,7 @@ pub record SumPlaces (r : RowSums) : Type 0 where
   pub cross_long : length r.cross ≡ block_columns
 
 -- row y of a tile with rows of s places: the ring of a radius lies in the tile for n cells from column `radius` on
-pub record CellsInRow (tile : List ℕ) (s radius y n : ℕ) : Type 0 where
-  pub is_tile : IsTile s tile
+pub record CellsInRow (s radius y n : ℕ) : Type 0 where
   pub own_radius : (ring_of radius).radius ≡ radius
   pub above : radius ≤ y
   pub below : y + radius < tile_rows

@@ -9,6 +9,7 @@ ghost use Rattle.response.specs.OnePass.{with_pair, RingPassed};
 ghost use Rattle.response.specs.Internal.{Bytes, ImageWithOffsets, Inner, SumsBounded, CellSumsOf, tile_rows};
 
 use crate::Held;
+use crate::tile::Tile;
 
 // The greater of two numbers. They are compared as i16: the machine's vector instructions can compare i16, but not u16.
 fn most(a: u16, b: u16) -> u16
@@ -108,25 +109,24 @@ pub(crate) struct CellSums {
     pub(crate) cross: u16,
 }
 
-// The sums of a cell of a tile with rows of s places. Its ring lies in the tile.
-pub(crate) fn cell_sums(
-    tile: &[u16],
-    s: usize,
+// The sums of a cell of a tile. Its ring lies in the tile.
+pub(crate) fn cell_sums<const ROW: usize, const PLACES: usize>(
+    tile: &Tile<ROW, PLACES>,
     radius: usize,
     off: [usize; 16],
     x: usize,
     y: usize,
 ) -> CellSums
-    requires { Bytes tile.now × ImageWithOffsets tile.now s tile_rows (ring_of radius) radius off
-        × Inner s tile_rows radius x y }
-    ensures { CellSumsOf tile.now s (ring_of radius) x y result.balance result.sum result.cross }
+    requires { ImageWithOffsets tile.now.places ROW tile_rows (ring_of radius) radius off
+        × Inner ROW tile_rows radius x y }
+    ensures { CellSumsOf tile.now.places ROW (ring_of radius) x y result.balance result.sum result.cross }
 {
-    let base = (y - radius) * s + (x - radius);
-    let ring = ring_sums(gather(tile, base, off), 8);
+    let base = (y - radius) * ROW + (x - radius);
+    let ring = ring_sums(gather(&tile.places, base, off), 8);
     CellSums {
         balance: ring.sr + 4096 - ring.dr,
         sum: ring.sum,
-        cross: cross(tile, s, y * s + x),
+        cross: cross(&tile.places, ROW, y * ROW + x),
     }
 }
 

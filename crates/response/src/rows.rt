@@ -7,16 +7,13 @@ ghost use Rattle.lists.specs.Tab.{grid};
 ghost use Rattle.lists.specs.Internal.{Sized};
 ghost use Rattle.ring.specs.Ring.{ring_of};
 ghost use Rattle.response.specs.Response.{is_within, response_at};
-ghost use Rattle.response.specs.Internal.{IsTile, Filled, Cleared, Stretched, Placed, InnerPart};
+ghost use Rattle.response.specs.Internal.{Filled, Cleared, Stretched, Placed, InnerPart};
 ghost use Rattle.response.specs.Internal.{responses};
-ghost use Rattle.response.specs.Internal.{eights_of, block_columns, block_rows, small_side, beyond, large_row};
+ghost use Rattle.response.specs.Internal.{eights_of, block_columns, block_rows, small_side, beyond};
 
 use crate::alone::alone;
 use crate::runs::{eights, no_sums, row_sums, values};
-use crate::tile::{
-    BLOCK_COLUMNS, BLOCK_ROWS, LARGE_ROW, LARGE_TILE, SMALL_ROW, SMALL_SIDE, SMALL_TILE,
-    offsets_in, widen,
-};
+use crate::tile::{BLOCK_COLUMNS, BLOCK_ROWS, LargeTile, SMALL_SIDE, SmallTile, Tile, offsets_in};
 
 // A map of pw by ph cells of an image of w by h, with a ring of that radius. Its first cell is the image's cell (x, y).
 #[derive(Clone, Copy)]
@@ -40,39 +37,27 @@ fn clear_part(map: &mut [f32], w: usize, a: usize, b: usize, c: usize, e: usize)
     }
 }
 
-// Computes the responses of n by m cells from the map's column i and row j on, using a tile with rows of s places. All
-// these cells have their ring in the image.
-fn block(
+// Computes the responses of n by m cells from the map's column i and row j on, using a tile. All these cells have their
+// ring in the image.
+fn block<const ROW: usize, const PLACES: usize>(
     img: &[u8],
     f: Field,
     i: usize,
     j: usize,
     n: usize,
     m: usize,
-    tile: &mut [u16],
-    s: usize,
+    tile: &mut Tile<ROW, PLACES>,
     map: &mut [f32],
 )
     requires placed { Placed (length img.now) f (length map.old) × InnerPart f i (i + n) j (j + m) }
-    requires n_nonzero { (0 < n) × (n ≤ block_columns) × (0 < m) × (m ≤ block_rows) × IsTile s tile.old
-        × (eights_of n + beyond ≤ s) }
-    ensures { Filled zero f.pw f.ph (responses img.now f) i (i + n) j (j + m)
-        map.old map.new × IsTile s tile.new }
+    requires n_nonzero { (0 < n) × (n ≤ block_columns) × (0 < m) × (m ≤ block_rows) × (eights_of n + beyond ≤ ROW) }
+    ensures { Filled zero f.pw f.ph (responses img.now f) i (i + n) j (j + m) map.old map.new }
 {
     let r = f.radius;
-    widen(
-        img,
-        f.w,
-        f.x + i - r,
-        f.y + j - r,
-        n + r + r,
-        m + r + r,
-        tile,
-        s,
-    );
+    tile.widen(img, f.w, f.x + i - r, f.y + j - r, n + r + r, m + r + r);
     let mut sums = no_sums();
     for k in 0..m {
-        row_sums(tile, s, r, r + k, eights(n), &mut sums);
+        row_sums(tile, r, r + k, eights(n), &mut sums);
         let at = (j + k) * f.pw + i;
         values(&sums, &mut map[at..at + n]);
     }
@@ -86,18 +71,17 @@ fn band(
     b: usize,
     j: usize,
     m: usize,
-    tile: &mut [u16],
+    tile: &mut LargeTile,
     map: &mut [f32],
 )
     requires placed { Placed (length img.now) f (length map.old) × InnerPart f a b j (j + m) × (a ≤ b) }
-    requires m_nonzero { (0 < m) × (m ≤ block_rows) × IsTile large_row tile.old }
-    ensures { Filled zero f.pw f.ph (responses img.now f) a b j (j + m)
-        map.old map.new × IsTile large_row tile.new }
+    requires m_nonzero { (0 < m) × (m ≤ block_rows) }
+    ensures { Filled zero f.pw f.ph (responses img.now f) a b j (j + m) map.old map.new }
 {
     let mut i = a;
     while i < b {
         let n = BLOCK_COLUMNS.min(b - i);
-        block(img, f, i, j, n, m, tile, LARGE_ROW, map);
+        block(img, f, i, j, n, m, tile, map);
         i += n;
     }
 }
@@ -108,7 +92,7 @@ fn large(img: &[u8], f: Field, a: usize, b: usize, c: usize, e: usize, map: &mut
     ensures { Filled zero f.pw f.ph (responses img.now f) a b c e map.old
         map.new }
 {
-    let mut tile = [0u16; LARGE_TILE];
+    let mut tile = LargeTile::new();
     let mut j = c;
     while j < e {
         let m = BLOCK_ROWS.min(e - j);
@@ -124,8 +108,8 @@ fn small(img: &[u8], f: Field, i: usize, j: usize, n: usize, m: usize, map: &mut
     ensures { Filled zero f.pw f.ph (responses img.now f) i (i + n) j (j + m)
         map.old map.new }
 {
-    let mut tile = [0u16; SMALL_TILE];
-    block(img, f, i, j, n, m, &mut tile, SMALL_ROW, map);
+    let mut tile = SmallTile::new();
+    block(img, f, i, j, n, m, &mut tile, map);
 }
 
 // Computes the response of the cell in the map's column i and row j.

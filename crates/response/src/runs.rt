@@ -7,7 +7,7 @@ ghost use Rattle.response.specs.Internal.{SumPlaces, CellsInRow, CellsSummed, re
 ghost use Rattle.response.specs.Internal.{block_columns};
 
 use crate::cell::{cell_sums, value};
-use crate::tile::{BLOCK_COLUMNS, LARGE_ROW, offsets_in};
+use crate::tile::{BLOCK_COLUMNS, Tile, offsets_in};
 
 // n rounded up to a multiple of 8. Sums are computed for that many cells, to fill the vectors; those past n are not
 // used.
@@ -37,30 +37,42 @@ pub(crate) fn no_sums() -> RowSums
     }
 }
 
-// The sums of the first n cells in row y of a tile, with rows of s places, whose ring lies in the tile.
-fn sums(tile: &[u16], s: usize, radius: usize, y: usize, n: usize, row: &mut RowSums)
-    requires { CellsInRow tile.now s radius y n × SumPlaces row.old }
-    ensures { CellsSummed tile.now s (ring_of radius) radius y n row.new }
+// The sums of the first n cells in row y of a tile, whose ring lies in the tile.
+fn sums<const ROW: usize, const PLACES: usize>(
+    tile: &Tile<ROW, PLACES>,
+    radius: usize,
+    y: usize,
+    n: usize,
+    row: &mut RowSums,
+)
+    requires { CellsInRow ROW radius y n × SumPlaces row.old }
+    ensures { CellsSummed tile.now.places ROW (ring_of radius) radius y n row.new }
 {
-    let off = offsets_in(radius as u32, s);
+    let off = offsets_in(radius as u32, ROW);
     for i in 0..n {
-        let p = cell_sums(tile, s, radius, off, radius + i, y);
+        let p = cell_sums(tile, radius, off, radius + i, y);
         row.balance[i] = p.balance;
         row.sum[i] = p.sum;
         row.cross[i] = p.cross;
     }
 }
 
-// The same. For a large tile the length of a row and each ring's radius are written out: so the compiler makes a loop
-// for each ring, and knows the offsets of its places.
-pub(crate) fn row_sums(tile: &[u16], s: usize, radius: usize, y: usize, n: usize, row: &mut RowSums)
-    requires { CellsInRow tile.now s radius y n × SumPlaces row.old }
-    ensures { CellsSummed tile.now s (ring_of radius) radius y n row.new }
+// The same. Each ring's radius is written out: so the compiler makes a loop for each ring, and knows the offsets of its
+// places.
+pub(crate) fn row_sums<const ROW: usize, const PLACES: usize>(
+    tile: &Tile<ROW, PLACES>,
+    radius: usize,
+    y: usize,
+    n: usize,
+    row: &mut RowSums,
+)
+    requires { CellsInRow ROW radius y n × SumPlaces row.old }
+    ensures { CellsSummed tile.now.places ROW (ring_of radius) radius y n row.new }
 {
-    match (s, radius) {
-        (LARGE_ROW, 5) => sums(tile, LARGE_ROW, 5, y, n, row),
-        (LARGE_ROW, 10) => sums(tile, LARGE_ROW, 10, y, n, row),
-        _ => sums(tile, s, radius, y, n, row),
+    if radius == 5 {
+        sums(tile, 5, y, n, row)
+    } else {
+        sums(tile, 10, y, n, row)
     }
 }
 
