@@ -37,28 +37,27 @@ pub(crate) fn no_sums() -> RowSums
     }
 }
 
-// The sums of the first n cells in row y of a tile, whose ring lies in the tile.
-fn sums<const ROW: usize, const PLACES: usize>(
+// The sums of the first n cells in row y of a tile, whose ring lies in the tile. The ring's radius is a parameter of the
+// type: so the compiler makes a loop for each ring, and knows the offsets of its places.
+fn sums<const RADIUS: usize, const ROW: usize, const PLACES: usize>(
     tile: &Tile<ROW, PLACES>,
-    radius: usize,
     y: usize,
     n: usize,
     row: &mut RowSums,
 )
-    requires { CellsInRow ROW radius y n × SumPlaces row.old }
-    ensures { CellsSummed tile.now.places ROW (ring_of radius) radius y n row.new }
+    requires { CellsInRow ROW RADIUS y n × SumPlaces row.old }
+    ensures { CellsSummed tile.now.places ROW (ring_of RADIUS) RADIUS y n row.new }
 {
-    let off = offsets_in(radius as u32, ROW);
+    let off = offsets_in(RADIUS as u32, ROW);
     for i in 0..n {
-        let p = cell_sums(tile, radius, off, radius + i, y);
+        let p = cell_sums(tile, RADIUS, off, RADIUS + i, y);
         row.balance[i] = p.balance;
         row.sum[i] = p.sum;
         row.cross[i] = p.cross;
     }
 }
 
-// The same. Each ring's radius is written out: so the compiler makes a loop for each ring, and knows the offsets of its
-// places.
+// The same for the ring of that radius.
 pub(crate) fn row_sums<const ROW: usize, const PLACES: usize>(
     tile: &Tile<ROW, PLACES>,
     radius: usize,
@@ -70,9 +69,9 @@ pub(crate) fn row_sums<const ROW: usize, const PLACES: usize>(
     ensures { CellsSummed tile.now.places ROW (ring_of radius) radius y n row.new }
 {
     if radius == 5 {
-        sums(tile, 5, y, n, row)
+        sums::<5, ROW, PLACES>(tile, y, n, row)
     } else {
-        sums(tile, 10, y, n, row)
+        sums::<10, ROW, PLACES>(tile, y, n, row)
     }
 }
 

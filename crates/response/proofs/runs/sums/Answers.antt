@@ -6,8 +6,8 @@ use Rattle.response.proofs.Samples.{summed-set}
 use Rattle.response.proofs.Tiles.{tile-framed, tile-fits}
 use Rattle.response.proofs.runs.sums.Goals as goal
 
-pub overflow_cast-radius : goal.overflow_cast-radius
-overflow_cast-radius g c = omega (arith, radius-small c.args.radius, c.requires.0.own_radius)
+pub overflow_cast-offsets_in : goal.overflow_cast-offsets_in
+overflow_cast-offsets_in g c = omega (arith, radius-small g.row.RADIUS, c.requires.0.own_radius)
 
 pub offsets_in-off-requires : goal.offsets_in-off-requires
 offsets_in-off-requires g c = omega (arith, c.args.tile.now.narrow)

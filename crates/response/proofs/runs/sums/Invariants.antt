@@ -3,4 +3,4 @@ use Rattle.response.specs.Internal.{CellsSummed}
 use Rattle.response.proofs.runs.sums.Given as goal
 
 abbrev pub invariant-loop-i : goal.invariant-loop-i
-invariant-loop-i g l = CellsSummed l.tile.places g.row.ROW (ring_of l.radius) l.radius l.y l.i l.row
+invariant-loop-i g l = CellsSummed l.tile.places g.row.ROW (ring_of g.row.RADIUS) g.row.RADIUS l.y l.i l.row
