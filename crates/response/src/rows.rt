@@ -14,6 +14,7 @@ ghost use Rattle.response.specs.Internal.{eights_of, block_columns, block_rows, 
 use crate::alone::alone;
 use crate::runs::{eights, no_sums, row_sums, values};
 use crate::tile::{BLOCK_COLUMNS, BLOCK_ROWS, LargeTile, SMALL_SIDE, SmallTile, Tile, offsets_in};
+use std::ops::Range;
 
 // A map of pw by ph cells of an image of w by h, with a ring of that radius. Its first cell is the image's cell (x, y).
 #[derive(Clone, Copy)]
@@ -79,6 +80,7 @@ fn band(
     ensures { Filled zero f.pw f.ph (responses img.now f) a b j (j + m) map.old map.new }
 {
     let mut i = a;
+    // Not a range: a step is as wide as the block.
     while i < b {
         let n = BLOCK_COLUMNS.min(b - i);
         block(img, f, i, j, n, m, tile, map);
@@ -94,6 +96,7 @@ fn large(img: &[u8], f: Field, a: usize, b: usize, c: usize, e: usize, map: &mut
 {
     let mut tile = LargeTile::new();
     let mut j = c;
+    // Not a range: a step is as high as the band.
     while j < e {
         let m = BLOCK_ROWS.min(e - j);
         band(img, f, a, b, j, m, &mut tile, map);
@@ -145,24 +148,17 @@ fn inner(img: &[u8], f: Field, a: usize, b: usize, c: usize, e: usize, map: &mut
     large(img, f, a, b, c, e, map);
 }
 
-// A part of a row or of a column of cells, from one place up to another.
-#[derive(Clone, Copy)]
-struct Stretch {
-    from: usize,
-    to: usize,
-}
-
 // Which of n cells from place x on lie at least the radius from either end of w places, and at least the margin from
 // either end of the n cells.
-fn reach(w: usize, radius: usize, x: usize, n: usize, margin: usize) -> Stretch
-    ensures { Stretched w radius x n margin result.from result.to }
+fn reach(w: usize, radius: usize, x: usize, n: usize, margin: usize) -> Range<usize>
+    ensures { Stretched w radius x n margin result.start result.end }
 {
     let from = margin.max(radius.saturating_sub(x)).min(n);
     let to = n
         .saturating_sub(margin)
         .min(w.saturating_sub(radius).saturating_sub(x))
         .max(from);
-    Stretch { from, to }
+    from..to
 }
 
 // Writes the responses of pw by ph cells from column x and row y on to the start of the buffer, with 0 in the cells
@@ -197,9 +193,17 @@ pub(crate) fn fill(
         pw,
         ph,
     };
-    inner(img, f, columns.from, columns.to, rows.from, rows.to, map);
-    clear_part(map, pw, 0, pw, 0, rows.from);
-    clear_part(map, pw, 0, columns.from, rows.from, rows.to);
-    clear_part(map, pw, columns.to, pw, rows.from, rows.to);
-    clear_part(map, pw, 0, pw, rows.to, ph);
+    inner(
+        img,
+        f,
+        columns.start,
+        columns.end,
+        rows.start,
+        rows.end,
+        map,
+    );
+    clear_part(map, pw, 0, pw, 0, rows.start);
+    clear_part(map, pw, 0, columns.start, rows.start, rows.end);
+    clear_part(map, pw, columns.end, pw, rows.start, rows.end);
+    clear_part(map, pw, 0, pw, rows.end, ph);
 }

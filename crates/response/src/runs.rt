@@ -37,8 +37,8 @@ pub(crate) fn no_sums() -> RowSums
     }
 }
 
-// The sums of the first n cells in row y of a tile, whose ring lies in the tile. The ring's radius is a parameter of the
-// type: so the compiler makes a loop for each ring, and knows the offsets of its places.
+// The sums of the first n cells in row y of a tile, whose ring lies in the tile. The radius is a parameter of the
+// function's type: so the compiler makes a loop for each ring, and knows the offsets of its places.
 fn sums<const RADIUS: usize, const ROW: usize, const PLACES: usize>(
     tile: &Tile<ROW, PLACES>,
     y: usize,
