@@ -24,7 +24,7 @@ use Rattle.float32.proofs.Classes.{lift-above}
 use Rattle.float32.proofs.Units.{units_of}
 use Rattle.float32.proofs.Running.{exactly}
 use Rattle.float32.proofs.Bounds.{nearly-positive-only}
-use Rattle.center_of_mass.specs.declared.Centre.TheVariants.{At}
+use Rattle.std.specs.Prelude.{Some}
 use Rattle.center_of_mass.specs.declared.Outcome.TheVariants.{Accepted}
 use Rattle.center_of_mass.specs.CenterOfMass.{weight_at, cells_about, window_sums, furthest_seed, seed_fits, centre_on, refined}
 use Rattle.center_of_mass.proofs.Axis.{in_place}
@@ -57,7 +57,7 @@ module _ (p : ℕ) (h : p ≤ largest_side) where
       half : (p : ℕ) → (2 * p + 1) / (2 * 1) ≡ p
       half p = omega arith
 
-  pub centre-itself : (r side : ℕ) → r ≤ p → p + r < side → centre_on r side (of_int binary32 (pos p)) ≡ At p
+  pub centre-itself : (r side : ℕ) → r ≤ p → p + r < side → centre_on r side (of_int binary32 (pos p)) ≡ Some p
   unfolding centre_on
   centre-itself r side a b = rw rounds-to-itself (sym (in_place r side p a b))
 

@@ -9,8 +9,7 @@ use lib.Ieee.{Float, binary32, div, lt}
 use Rattle.lists.specs.Refusals.{unless, values_unless}
 use Rattle.float32.specs.Float32.{zero as zero32}
 use Rattle.center_of_mass.specs.declared.Sums.{Sums}
-use Rattle.center_of_mass.specs.declared.Centre.{Centre}
-use Rattle.center_of_mass.specs.declared.Centre.TheVariants.{At, Outside}
+use Rattle.std.specs.Prelude.{Option, None, Some}
 use Rattle.center_of_mass.specs.declared.Outcome.{Outcome}
 use Rattle.center_of_mass.specs.declared.Outcome.TheVariants.{Accepted, Rejected, OutOfBounds, IllConditioned, Refused}
 use Rattle.center_of_mass.specs.CenterOfMass.{window_sums, refusal_of, centre_on, mean_of, weighed, outcome_of, refined, number_of}
@@ -36,10 +35,10 @@ mean-unrefused x y s = go (lt zero32 s.sw)
     go true k e = let z : ◌≡◌ {A = ℕ} 0 1 = cc in omega arith
     go false k e = let z : ◌≡◌ {A = ℕ} 0 1 = cc in omega arith
 
-weighed-unrefused : (r : ℕ) (x y : Float) (m : List Float) (w : ℕ) (a b : Centre) → Unrefused (weighed r x y m w a b)
-weighed-unrefused r x y m w (At cx) (At cy) k e = mean-unrefused x y (window_sums r m w cx cy) k e
-weighed-unrefused r x y m w (At cx) Outside k e = let z : ◌≡◌ {A = ℕ} 0 1 = cc in omega arith
-weighed-unrefused r x y m w Outside b k e = let z : ◌≡◌ {A = ℕ} 0 1 = cc in omega arith
+weighed-unrefused : (r : ℕ) (x y : Float) (m : List Float) (w : ℕ) (a b : Option ℕ) → Unrefused (weighed r x y m w a b)
+weighed-unrefused r x y m w (Some cx) (Some cy) k e = mean-unrefused x y (window_sums r m w cx cy) k e
+weighed-unrefused r x y m w (Some cx) None k e = let z : ◌≡◌ {A = ℕ} 0 1 = cc in omega arith
+weighed-unrefused r x y m w None b k e = let z : ◌≡◌ {A = ℕ} 0 1 = cc in omega arith
 
 -- with a map it is none
 pub outcome-unrefused : (r : ℕ) (x y : Float) (m : List Float) (w h k : ℕ) → outcome_of r x y m w h ≡ Refused k → ⊥

@@ -20,8 +20,7 @@ use Rattle.float32.specs.declared.Rounded.TheVariants.{Natural}
 use Rattle.float32.proofs.Bounds.{UpTo, upto-more, whole-upto, add-upto}
 use Rattle.center_of_mass.specs.declared.Sums.{Sums}
 use Rattle.center_of_mass.specs.declared.Outcome.TheVariants.{Accepted, Rejected, IllConditioned, Refused}
-use Rattle.center_of_mass.specs.declared.Centre.{Centre}
-use Rattle.center_of_mass.specs.declared.Centre.TheVariants.{At, Outside}
+use Rattle.std.specs.Prelude.{Option, None, Some}
 use Rattle.center_of_mass.specs.CenterOfMass.{no_sums, weight_at, cells_about, window_sums, refusal_of, centre_on, mean_of, weighed}
 use Rattle.center_of_mass.specs.CenterOfMass.{outcome_of, refined}
 use Rattle.center_of_mass.proofs.Axis.{centre-rounded, window-in}
@@ -92,9 +91,9 @@ module _ (r : ℕ) (x y : Float) (m : List Float) (w h : ℕ) (cx cy mass : Floa
 
   -- the map, which nothing is refused of
   module _ (radius : r ≤ largest_radius) (sides : (w ≤ largest_side) × (h ≤ largest_side)) (cells : length m ≡ w * h) where
-    weighing-at : (a b : Centre) → centre_on r w x ≡ a → centre_on r h y ≡ b → weighed r x y m w a b ≡ Accepted cx cy mass
+    weighing-at : (a b : Option ℕ) → centre_on r w x ≡ a → centre_on r h y ≡ b → weighed r x y m w a b ≡ Accepted cx cy mass
         → Weighing r x y m w h cx cy mass
-    weighing-at (At px) (At py) p q e =
+    weighing-at (Some px) (Some py) p q e =
         let k = mean-accepted (window_sums r m w px py) e in
         record {
           px = px;
@@ -113,8 +112,8 @@ module _ (r : ℕ) (x y : Float) (m : List Float) (w h : ℕ) (cx cy mass : Floa
           cy-is = k.2;
           mass-is = k.3;
         }
-    weighing-at (At px) Outside p q e = absurd (let z : ◌≡◌ {A = ℕ} 0 1 = cc in omega arith)
-    weighing-at Outside b p q e = absurd (let z : ◌≡◌ {A = ℕ} 0 1 = cc in omega arith)
+    weighing-at (Some px) None p q e = absurd (let z : ◌≡◌ {A = ℕ} 0 1 = cc in omega arith)
+    weighing-at None b p q e = absurd (let z : ◌≡◌ {A = ℕ} 0 1 = cc in omega arith)
 
   pub weighing : (has_map : Bool) → refined r x y has_map m w h ≡ Accepted cx cy mass → Weighing r x y m w h cx cy mass
   unfolding refined outcome_of

@@ -9,8 +9,7 @@ use Rattle.float32.specs.Float32.{zero, round_half_away}
 use Rattle.float32.specs.declared.Rounded.{Rounded}
 use Rattle.float32.specs.declared.Rounded.TheVariants.{Natural, Negative, Beyond}
 use Rattle.float32.proofs.Running.{summed}
-use Rattle.center_of_mass.specs.declared.Centre.{Centre}
-use Rattle.center_of_mass.specs.declared.Centre.TheVariants.{At, Outside}
+use Rattle.std.specs.Prelude.{Option, None, Some}
 use Rattle.center_of_mass.specs.declared.Outcome.{Outcome}
 use Rattle.center_of_mass.specs.declared.Outcome.TheVariants.{Accepted, OutOfBounds, IllConditioned}
 use Rattle.center_of_mass.specs.CenterOfMass.{no_sums, weight_at, cells_about, centre_from, centre_on, weighed, outcome_of}
@@ -26,7 +25,7 @@ is_out r side Beyond = true
 abbrev pub mean_by : Float → Float → Float → Float → Float → Outcome
 mean_by x y sx sy sw = cond (lt zero sw) (Accepted (div binary32 sx sw) (div binary32 sy sw) sw) (IllConditioned x y)
 
-out-placed : (r side : ℕ) (o : Rounded) → is_out r side o ≡ true → centre_from r side o ≡ Outside
+out-placed : (r side : ℕ) (o : Rounded) → is_out r side o ≡ true → centre_from r side o ≡ None
 out-placed r side (Natural p) e = rw e
 out-placed r side (Negative n) e = refl
 out-placed r side Beyond e = refl
@@ -36,9 +35,9 @@ module _ (r : ℕ) (x y : Float) (m : List Float) (w h : ℕ) where
   unfolding outcome_of centre_on
   outcome-out e = go (is_out r w (round_half_away x)) (is_out r h (round_half_away y)) refl refl e
     where
-      second : (c : Centre) → weighed r x y m w c Outside ≡ OutOfBounds x y
-      second (At p) = refl
-      second Outside = refl
+      second : (c : Option ℕ) → weighed r x y m w c None ≡ OutOfBounds x y
+      second (Some p) = refl
+      second None = refl
 
       go : (a b : Bool) → is_out r w (round_half_away x) ≡ a → is_out r h (round_half_away y) ≡ b → (a || b) ≡ true
           → weighed r x y m w (centre_from r w (round_half_away x)) (centre_from r h (round_half_away y)) ≡ OutOfBounds x y

@@ -11,8 +11,7 @@ use Rattle.float32.specs.Float32.{zero as zero32, abs, lift, round_half_away, fl
 use Rattle.float32.specs.declared.Rounded.{Rounded}
 use Rattle.float32.specs.declared.Rounded.TheVariants.{Natural, Negative, Beyond}
 use Rattle.center_of_mass.specs.declared.Sums.{Sums}
-use Rattle.center_of_mass.specs.declared.Centre.{Centre}
-use Rattle.center_of_mass.specs.declared.Centre.TheVariants.{At, Outside}
+use Rattle.std.specs.Prelude.{Option, None, Some}
 use Rattle.center_of_mass.specs.declared.Outcome.{Outcome}
 use Rattle.center_of_mass.specs.declared.Outcome.TheVariants.{Accepted, Rejected, OutOfBounds, IllConditioned}
 use Rattle.center_of_mass.specs.declared.Outcome.TheVariants.{Refused}
@@ -71,14 +70,14 @@ unfoldable pub refusal_of : ℕ → Float → Float → Bool → ℕ → ℕ →
 refusal_of r x y has_map cells w h = lowest (conditions r x y has_map cells w h)
 
 -- ---- the outcome
--- the window's centre on one axis, from the rounded seed: `Outside` at x < r and at x ≥ side - r
-abbrev pub centre_from : ℕ → ℕ → Rounded → Centre
-centre_from r side (Natural p) = cond (ltb p r || leb (side - r) p) Outside (At p)
-centre_from r side (Negative n) = Outside
-centre_from r side Beyond = Outside
+-- the window's centre on one axis, from the rounded seed: `None` at x < r and at x ≥ side - r
+abbrev pub centre_from : ℕ → ℕ → Rounded → Option ℕ
+centre_from r side (Natural p) = cond (ltb p r || leb (side - r) p) None (Some p)
+centre_from r side (Negative n) = None
+centre_from r side Beyond = None
 
 -- the seed is rounded half away from zero
-unfoldable pub centre_on : ℕ → ℕ → Float → Centre
+unfoldable pub centre_on : ℕ → ℕ → Float → Option ℕ
 unfolding round_half_away
 centre_on r side x = centre_from r side (round_half_away x)
 
@@ -88,10 +87,10 @@ mean_of x y s =
     cond (lt zero32 s.sw) (Accepted (div binary32 s.sx s.sw) (div binary32 s.sy s.sw) s.sw)
     (IllConditioned x y)
 
-abbrev pub weighed : ℕ → Float → Float → List Float → ℕ → Centre → Centre → Outcome
-weighed r x y m w (At cx) (At cy) = mean_of x y (window_sums r m w cx cy)
-weighed r x y m w (At cx) Outside = OutOfBounds x y
-weighed r x y m w Outside c = OutOfBounds x y
+abbrev pub weighed : ℕ → Float → Float → List Float → ℕ → Option ℕ → Option ℕ → Outcome
+weighed r x y m w (Some cx) (Some cy) = mean_of x y (window_sums r m w cx cy)
+weighed r x y m w (Some cx) None = OutOfBounds x y
+weighed r x y m w None c = OutOfBounds x y
 
 -- with a map w wide and h high
 unfoldable pub outcome_of : ℕ → Float → Float → List Float → ℕ → ℕ → Outcome

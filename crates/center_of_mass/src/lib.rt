@@ -30,30 +30,18 @@ struct Sums {
     sw: f32,
 }
 
-// The window's centre on one axis, if the whole window lies within the side.
-#[derive(Clone, Copy)]
-enum Centre {
-    At(usize),
-    Outside,
-}
-
 // The sums s plus the cells of row y from column x0 up to, not including, column x1, of a map w wide.
-fn row_sums(map: &[f32], w: usize, x0: usize, x1: usize, y: usize, s: Sums) -> Sums
+fn row_sums(map: &[f32], w: usize, x0: usize, x1: usize, y: usize, mut s: Sums) -> Sums
     requires { (x1 ≤ w) × (w ≤ largest_side) × (y ≤ largest_side) × (y * w + w ≤ length map.now) }
     ensures { result ≡ with_cells map.now w s (row y x0 x1) }
 {
-    let mut sx = s.sx;
-    let mut sy = s.sy;
-    let mut sw = s.sw;
-    let mut x = x0;
-    while x < x1 {
+    for x in x0..x1 {
         let weight = float32::lifted(map[y * w + x]);
-        sx = sx + (x as f32) * weight;
-        sy = sy + (y as f32) * weight;
-        sw = sw + weight;
-        x += 1;
+        s.sx += x as f32 * weight;
+        s.sy += y as f32 * weight;
+        s.sw += weight;
     }
-    Sums { sx, sy, sw }
+    s
 }
 
 // The sums over columns x0 to x1 and rows y0 to y1, without x1 and y1, row by row.
@@ -66,10 +54,8 @@ fn window_sums(map: &[f32], w: usize, x0: usize, x1: usize, y0: usize, y1: usize
         sy: 0.0,
         sw: 0.0,
     };
-    let mut y = y0;
-    while y < y1 {
+    for y in y0..y1 {
         s = row_sums(map, w, x0, x1, y, s);
-        y += 1;
     }
     s
 }
@@ -104,23 +90,18 @@ fn refusal(radius: u32, x: f32, y: f32, has_map: bool, cells: usize, w: usize, h
     4
 }
 
-fn centre_on(x: f32, r: usize, side: usize) -> Centre
+// The window's centre on one axis, if the whole window lies within the side.
+fn centre_on(x: f32, r: usize, side: usize) -> Option<usize>
     ensures { result ≡ centre_on r side x }
 {
     let nearest = float32::round_half_away(x);
     let float32::Rounded::Natural(p) = nearest else {
-        return Centre::Outside;
+        return None;
     };
-    if p < r {
-        return Centre::Outside;
+    if p < r || side <= p || side - p <= r {
+        return None;
     }
-    if side <= p {
-        return Centre::Outside;
-    }
-    if side - p <= r {
-        return Centre::Outside;
-    }
-    Centre::At(p)
+    Some(p)
 }
 
 // The outcome if nothing is refused and a map is given.
@@ -128,12 +109,10 @@ fn centre_of_mass(r: usize, x: f32, y: f32, map: &[f32], w: usize, h: usize) -> 
     requires { (r ≤ largest_radius) × (w ≤ largest_side) × (h ≤ largest_side) × (length map.now ≡ w * h) }
     ensures { result ≡ outcome_of r x y map.now w h }
 {
-    let across = centre_on(x, r, w);
-    let Centre::At(cx) = across else {
+    let Some(cx) = centre_on(x, r, w) else {
         return Outcome::OutOfBounds(x, y);
     };
-    let down = centre_on(y, r, h);
-    let Centre::At(cy) = down else {
+    let Some(cy) = centre_on(y, r, h) else {
         return Outcome::OutOfBounds(x, y);
     };
     let s = window_sums(map, w, cx - r, cx + r + 1, cy - r, cy + r + 1);

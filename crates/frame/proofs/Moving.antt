@@ -23,46 +23,8 @@ use Rattle.patch_corners.proofs.Changing.{placed-behind, placed-again}
 use Rattle.frame.specs.Internal.{AddsCorners, added_of}
 use Rattle.frame.proofs.Adding.{adds, adds-not}
 
--- ---- i of the n floats of a slice d, which was d₀, are replaced
-pub record Raising (g : Float → Float) (held n i : ℕ) (d₀ d : List Float) : Type 0 where
-  pub upto : i ≤ n
-  pub long : length d ≡ length d₀
-  pub is : d ≡ placed held (tab i (λ j. g (get_or d₀ (held + j) nan))) d₀
+-- ---- floats that were placed, and then replaced
 
-module _ (g : Float → Float) (held n : ℕ) (d₀ : List Float) where
-  pub raising-none : Raising g held n 0 d₀ d₀
-  unfolding tab
-  raising-none = record { upto = omega arith; long = refl; is = placed-none held d₀ }
-
-  module _ (fits : held + n ≤ length d₀) (i : ℕ) (d : List Float) (at : Raising g held n i d₀ d) where
-    abbrev read : ℕ → Float
-    read j = g (get_or d₀ (held + j) nan)
-
-    same : get_or d (held + i) nan ≡ get_or d₀ (held + i) nan
-    same =
-        ap (λ (l : List Float). get_or l (held + i) nan) at.is
-        ∙ placed-behind held (tab i read) d₀ (omega arith) (held + i) nan (omega (arith, length-tab i read))
-
-    -- one more
-    pub raising-set : i < n → Raising g held n (i + 1) d₀ (set d (held + i) (g (get_or d (held + i) nan)))
-    unfolding tab
-    raising-set l =
-        let e : held + i ≡ held + length (tab i read) = omega (arith, length-tab i read) in
-        record {
-          upto = omega arith;
-          long = length-set d (held + i) _ ∙ at.long;
-          is =
-              ap₂ (λ (s : List Float) (v : Float). set s (held + i) v) at.is (ap g same)
-              ∙ ap (λ (k : ℕ). set (placed held (tab i read) d₀) k (read i)) e
-              ∙ placed-set held (tab i read) d₀ (read i) (omega (arith, length-tab i read))
-              ∙ ap (λ (k : ℕ). placed held (tab k read) d₀) (sym (add-one i));
-        }
-
-    -- all
-    pub raising-all : n ≤ i → d ≡ placed held (tab n read) d₀
-    raising-all l = let e : i ≡ n = omega (arith, at.upto) in at.is ∙ ap (λ (k : ℕ). placed held (tab k read) d₀) e
-
--- of floats that were placed before
 raised : (g : Float → Float) (held : ℕ) (vs d : List Float) → held ≤ length d → (n : ℕ) → n ≡ length vs
     → placed held (tab n (λ j. g (get_or (placed held vs d) (held + j) nan))) (placed held vs d) ≡ placed held (map g vs) d
 raised g held vs d h n e =

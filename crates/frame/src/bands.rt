@@ -11,7 +11,6 @@ ghost use Rattle.frame.specs.Internal.{FrameChecked, AddsCorners, border_of, Row
 use crate::box_corners;
 use detect::Peaks;
 use frame_params::FrameParams;
-use numbers::{lesser, minus};
 
 // The rows of a band: it takes a megabyte at most, so it stays in the cache.
 const ROWS: usize = 64;
@@ -69,8 +68,8 @@ fn add_band(
         &map[..h * w],
         w,
         h,
-        minus(j, b),
-        minus(e, b),
+        j.saturating_sub(b),
+        e.saturating_sub(b),
         p,
         exact,
         xs,
@@ -109,7 +108,7 @@ pub(crate) fn add_image_corners(
     let mut held = 0usize;
     let mut ties = 0u64;
     while j < h {
-        let e = lesser(h, j + ROWS);
+        let e = h.min(j + ROWS);
         let f = add_band(img, w, h, p, exact, j, e, map, cx, cy, cs, cn, held);
         let Peaks::Added(more, t) = f else {
             return f;

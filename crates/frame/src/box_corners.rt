@@ -8,14 +8,13 @@ ghost use Rattle.frame.specs.Internal.{FrameChecked, AddsCorners};
 
 use detect::Peaks;
 use frame_params::FrameParams;
-use numbers::lesser;
 use response::Patch;
 
 // How many cells at each edge of a map are never read.
 fn margin(p: FrameParams) -> usize
     ensures { result ≡ margin_of p }
 {
-    p.ring as usize + lesser(p.window as usize, p.centroid_radius as usize)
+    p.ring as usize + p.window.min(p.centroid_radius) as usize
 }
 
 // Adds the corners of a box of an image of w by h, the columns x0 up to, not including, x1 of the rows y0 up to y1,

@@ -9,10 +9,9 @@ pub(crate) fn clear_levels(levels: &mut [u8], fit: bool)
     ensures { levels.new
         ≡ cond fit levels.old (replicate (length levels.old) 0) }
 {
-    if fit {
-        return;
+    if !fit {
+        clearing::clear(levels, 0);
     }
-    clearing::clear(levels, 0);
 }
 
 // The answer: k corners and the number of their ties, or that a list does not fit.

@@ -109,11 +109,10 @@ pub(crate) fn add_found(
     if n == 1 {
         return bands::add_image_corners(img, w, h, p, exact, map, cx, cy, cs, cn);
     }
-    let k = numbers::minus(n, 1);
+    let k = n.saturating_sub(1);
     let mut held = 0usize;
     let mut ties = 0u64;
-    let mut i = 0usize;
-    while i < m {
+    for i in 0..m {
         let seed = corner_list::corner_at(sx, sy, ss, sn, i);
         let f = add_patch(img, w, h, p, exact, k, seed, map, cx, cy, cs, cn, held);
         let Peaks::Added(more, t) = f else {
@@ -121,7 +120,6 @@ pub(crate) fn add_found(
         };
         held += more;
         ties += t;
-        i += 1;
     }
     Peaks::Added(held, ties)
 }

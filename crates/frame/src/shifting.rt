@@ -11,7 +11,7 @@ pub(crate) fn shift(d: &mut [f32], held: usize, n: usize, by: f32)
     ensures { d.new ≡ placed held
         (tab n (λ i. add binary32 (get_or d.old (held + i) nan) by)) d.old }
 {
-    for i in 0..n {
-        d[held + i] = d[held + i] + by;
+    for x in d[held..held + n].iter_mut() {
+        *x += by;
     }
 }

@@ -53,21 +53,14 @@ pub fn params_of(
 pub fn is_outside(ring: u32, window: u32, centroid_radius: u32) -> bool
     ensures { result ≡ range_outside ring window centroid_radius }
 {
-    if !ring::is_ring(ring) {
-        return true;
-    }
-    if lists::LARGEST_RADIUS < window {
-        return true;
-    }
-    lists::LARGEST_RADIUS < centroid_radius
+    !ring::is_ring(ring)
+        || lists::LARGEST_RADIUS < window
+        || lists::LARGEST_RADIUS < centroid_radius
 }
 
 // Whether the parameters of a frame that have a range are in it. The merge radius has a condition of its own.
 pub fn parameters_fit(p: FrameParams) -> bool
     ensures { result ≡ parameters_fit p }
 {
-    if is_outside(p.ring, p.window, p.centroid_radius) {
-        return false;
-    }
-    p.search_radius <= lists::LARGEST_SEARCH
+    !is_outside(p.ring, p.window, p.centroid_radius) && p.search_radius <= lists::LARGEST_SEARCH
 }

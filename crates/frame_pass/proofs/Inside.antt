@@ -92,7 +92,7 @@ module _ (p : FrameParams) (img : List ℕ) (w h : ℕ) where
       record {
         width = s.narrow;
         height = s.low;
-        ring = ring_is p.ring r.ring;
+        ring = r.ring;
         window = r.window;
         centroid_radius = r.centroid_radius;
         search_radius = r.search_radius;

@@ -11,10 +11,7 @@ use lists::Refusal;
 pub fn is_large(w: usize, h: usize) -> bool
     ensures { result ≡ is_large w h }
 {
-    if lists::LARGEST_SIDE < w {
-        return true;
-    }
-    lists::LARGEST_SIDE < h
+    lists::LARGEST_SIDE < w || lists::LARGEST_SIDE < h
 }
 
 // Why an image or a map of w by h with `size` elements is refused: for a side above the largest, or for a size that is

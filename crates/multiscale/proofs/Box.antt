@@ -12,33 +12,32 @@ use Rattle.corner_list.specs.CornerList.{is_inside}
 use Rattle.corner_list.specs.declared.Corner.{Corner}
 use Rattle.multiscale.specs.declared.RoiContext.{RoiContext}
 use Rattle.multiscale.specs.declared.RoiAnswer.TheVariants.{Bounds, Refused}
-use Rattle.multiscale.specs.declared.Span.{Span}
-use Rattle.multiscale.specs.declared.Span.TheVariants.{Ends, Nothing}
+use Rattle.std.specs.Prelude.{Option, None, Some}
 use Rattle.multiscale.specs.Multiscale.{refusal_of, border, roi_radius, centre_of, span_at, span_on, bounds, roi_of}
 use Rattle.multiscale.specs.Internal.{SoundContext}
 use Rattle.multiscale.proofs.Axis.{Between, ends-between}
 use Rattle.multiscale.proofs.Contexts.{never-refused}
 
 -- ---- one axis
-span_between : (c : RoiContext) (side : ℕ) (x : Float) (low high : ℕ) → span_on c side x ≡ Ends low high → Between (border c) side low high
+span_between : (c : RoiContext) (side : ℕ) (x : Float) (low high : ℕ) → span_on c side x ≡ Some (low, high) → Between (border c) side low high
 unfolding span_on
 span_between c side x low high e = go (centre_of c.level x) e
   where
-    go : (o : Rounded) → span_at (border c) (roi_radius c) side o ≡ Ends low high → Between (border c) side low high
+    go : (o : Rounded) → span_at (border c) (roi_radius c) side o ≡ Some (low, high) → Between (border c) side low high
     go (Natural p) e = ends-between (border c) (roi_radius c) side p low high e
     go (Negative n) e = absurd (let z : ◌≡◌ {A = ℕ} 0 1 = cc in omega arith)
     go Beyond e = absurd (let z : ◌≡◌ {A = ℕ} 0 1 = cc in omega arith)
 
-bounds-are : (s t : Span) (x0 y0 x1 y1 : ℕ) → bounds s t ≡ Bounds x0 y0 x1 y1 → (s ≡ Ends x0 x1) × (t ≡ Ends y0 y1)
-bounds-are (Ends a b) (Ends c d) x0 y0 x1 y1 e = ((cc), (cc))
-bounds-are (Ends a b) Nothing x0 y0 x1 y1 e = absurd (let z : ◌≡◌ {A = ℕ} 0 1 = cc in omega arith)
-bounds-are Nothing t x0 y0 x1 y1 e = absurd (let z : ◌≡◌ {A = ℕ} 0 1 = cc in omega arith)
+bounds-are : (s t : Option (ℕ × ℕ)) (x0 y0 x1 y1 : ℕ) → bounds s t ≡ Bounds x0 y0 x1 y1 → (s ≡ Some (x0, x1)) × (t ≡ Some (y0, y1))
+bounds-are (Some (a, b)) (Some (c, d)) x0 y0 x1 y1 e = ((cc), (cc))
+bounds-are (Some (a, b)) None x0 y0 x1 y1 e = absurd (let z : ◌≡◌ {A = ℕ} 0 1 = cc in omega arith)
+bounds-are None t x0 y0 x1 y1 e = absurd (let z : ◌≡◌ {A = ℕ} 0 1 = cc in omega arith)
 
 -- the ends of two axes are no refusal
-bounds-unrefused : (s t : Span) (n : ℕ) → bounds s t ≡ Refused n → ⊥
-bounds-unrefused (Ends x0 x1) (Ends y0 y1) n e = let z : ◌≡◌ {A = ℕ} 0 1 = cc in omega arith
-bounds-unrefused (Ends x0 x1) Nothing n e = let z : ◌≡◌ {A = ℕ} 0 1 = cc in omega arith
-bounds-unrefused Nothing t n e = let z : ◌≡◌ {A = ℕ} 0 1 = cc in omega arith
+bounds-unrefused : (s t : Option (ℕ × ℕ)) (n : ℕ) → bounds s t ≡ Refused n → ⊥
+bounds-unrefused (Some (x0, x1)) (Some (y0, y1)) n e = let z : ◌≡◌ {A = ℕ} 0 1 = cc in omega arith
+bounds-unrefused (Some (x0, x1)) None n e = let z : ◌≡◌ {A = ℕ} 0 1 = cc in omega arith
+bounds-unrefused None t n e = let z : ◌≡◌ {A = ℕ} 0 1 = cc in omega arith
 
 -- ---- a box
 module _ (c : RoiContext) (s : Corner) where

@@ -5,14 +5,14 @@ use mathlib.Core.Bool.{true, false}
 use Prim.Native.Nat.{◌*◌, ◌%◌, ◌^◌, ◌≤◌}
 use native.Mathlib.Nat.{mul-le-mul, one-mul}
 use native.Mathlib.Omega.{arith}
-use lib.Dec.{T, leb, lit<, le→leb}
+use lib.Dec.{leb, lit<}
 use lib.Pow.{pow_mono, shl_exact}
 use borrow.Author.Tests.{le-ltb, le-leb, leb-true, not-false}
 use Rattle.lists.specs.Limits.{largest_side, largest_radius, largest_search, last_level, largest_border}
 use Rattle.lists.specs.Refusals.{is_large}
 use Rattle.lists.proofs.Tests.{and_parts}
 use Rattle.lists.proofs.Refusals.{all-clear, sides-small}
-use Rattle.ring.proofs.Places.{ring_is, ring-fits, ring-small}
+use Rattle.ring.proofs.Places.{ring-small}
 use Rattle.corner_list.specs.CornerList.{is_inside}
 use Rattle.corner_list.specs.declared.Corner.{Corner}
 use Rattle.multiscale.specs.declared.RoiContext.{RoiContext}
@@ -22,7 +22,7 @@ use Rattle.multiscale.specs.Internal.{SoundContext}
 -- ---- the sizes of a sound context are small
 module _ (c : RoiContext) (s : SoundContext c) where
   pub border-small : border c ≤ largest_border
-  border-small = omega (arith, ring-small c.ring (ring-fits c.ring s.ring), s.window, s.centroid_radius)
+  border-small = omega (arith, ring-small c.ring s.ring, s.window, s.centroid_radius)
 
   search-small : c.search_radius * 2 ^ c.level ≤ largest_search * largest_side
   search-small = mul-le-mul s.search_radius (pow_mono {j = last_level} s.level)
@@ -35,12 +35,9 @@ module _ (c : RoiContext) (s : SoundContext c) where
   pub search-shifted : c.search_radius * 2 ^ c.level % 2 ^ 32 ≡ c.search_radius * 2 ^ c.level
   search-shifted = shl_exact {a = c.search_radius} 8 c.level 32 (omega (arith, s.search_radius)) (omega (arith, s.level))
 
-  -- the scale, and that a float holds it
+  -- the scale
   pub scale-is : 1 * 2 ^ c.level % 2 ^ 32 ≡ 2 ^ c.level
   scale-is = shl_exact {a = 1} 1 c.level 32 (omega arith) (omega (arith, s.level)) ∙ one-mul (2 ^ c.level)
-
-  pub scale-held : T (leb (1 * 2 ^ c.level % 2 ^ 32) (2 ^ 24))
-  scale-held = le→leb (1 * 2 ^ c.level % 2 ^ 32) (2 ^ 24) (rw scale-is (pow_mono {j = 24} (omega (arith, s.level))))
 
   sound-fits : parameters_fit c ≡ true
   unfolding parameters_fit
@@ -50,7 +47,7 @@ module _ (c : RoiContext) (s : SoundContext c) where
         le-leb c.centroid_radius largest_radius s.centroid_radius,
         le-leb c.search_radius largest_search s.search_radius,
         le-leb c.level last_level s.level,
-      ) (ring-fits c.ring s.ring)
+      ) s.ring
 
 -- ---- the table, by the tests
 module _ (c : RoiContext) (s : Corner) where
@@ -84,7 +81,7 @@ module _ (c : RoiContext) (s : Corner) where
       record {
         width = sides.0;
         height = sides.1;
-        ring = ring_is c.ring t.1;
+        ring = t.1;
         window = leb-true c.window largest_radius p.0;
         centroid_radius = leb-true c.centroid_radius largest_radius q.0;
         search_radius = leb-true c.search_radius largest_search r.0;

@@ -6,15 +6,14 @@ use Rattle.corner_list.specs.declared.Corner.{Corner}
 use Rattle.multiscale.specs.declared.RoiContext.{RoiContext}
 use Rattle.multiscale.specs.declared.RoiAnswer.{RoiAnswer}
 use Rattle.multiscale.specs.declared.RoiAnswer.TheVariants.{Bounds, NoRoi, Refused}
-use Rattle.multiscale.specs.declared.Span.{Span}
-use Rattle.multiscale.specs.declared.Span.TheVariants.{Ends, Nothing}
+use Rattle.std.specs.Prelude.{Option, None, Some}
 use Rattle.multiscale.specs.Multiscale.{refusal_of, span_on, bounds, roi_of, number_of, values_of}
 use Rattle.multiscale.specs.Promise.{Boxed}
 
-bounds-number : (s t : Span) → number_of (bounds s t) ≡ 0
-bounds-number (Ends x0 x1) (Ends y0 y1) = refl
-bounds-number (Ends x0 x1) Nothing = refl
-bounds-number Nothing t = refl
+bounds-number : (s t : Option (ℕ × ℕ)) → number_of (bounds s t) ≡ 0
+bounds-number (Some (x0, x1)) (Some (y0, y1)) = refl
+bounds-number (Some (x0, x1)) None = refl
+bounds-number None t = refl
 
 module _ (c : RoiContext) (s : Corner) where
   number_is : number_of (roi_of c s) ≡ refusal_of c s
@@ -49,15 +48,15 @@ module _ (c : RoiContext) (s : Corner) where
         go (suc k) z = refl
 
     module _ (k : n ≡ 0) where
-      pub no-columns : span_on c c.width s.x ≡ Nothing → Boxed c s NoRoi
+      pub no-columns : span_on c c.width s.x ≡ None → Boxed c s NoRoi
       unfolding roi_of
       no-columns p = promised NoRoi (rw (sym e ∙ k, p))
 
-      module _ (x0 x1 : ℕ) (p : span_on c c.width s.x ≡ Ends x0 x1) where
-        pub no_rows : span_on c c.height s.y ≡ Nothing → Boxed c s NoRoi
+      module _ (x0 x1 : ℕ) (p : span_on c c.width s.x ≡ Some (x0, x1)) where
+        pub no_rows : span_on c c.height s.y ≡ None → Boxed c s NoRoi
         unfolding roi_of
         no_rows q = promised NoRoi (rw (sym e ∙ k, p, q))
 
-        pub a-box : (y0 y1 : ℕ) → span_on c c.height s.y ≡ Ends y0 y1 → Boxed c s (Bounds x0 y0 x1 y1)
+        pub a-box : (y0 y1 : ℕ) → span_on c c.height s.y ≡ Some (y0, y1) → Boxed c s (Bounds x0 y0 x1 y1)
         unfolding roi_of
         a-box y0 y1 q = promised (Bounds x0 y0 x1 y1) (rw (sym e ∙ k, p, q))

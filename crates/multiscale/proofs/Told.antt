@@ -7,7 +7,7 @@ use Rattle.float32.specs.declared.Rounded.TheVariants.{Natural}
 use Rattle.corner_list.specs.declared.Corner.{Corner}
 use Rattle.multiscale.specs.declared.RoiContext.{RoiContext}
 use Rattle.multiscale.specs.declared.RoiAnswer.TheVariants.{Bounds, NoRoi}
-use Rattle.multiscale.specs.declared.Span.TheVariants.{Ends, Nothing}
+use Rattle.std.specs.Prelude.{None, Some}
 use Rattle.multiscale.specs.Multiscale.{refusal_of, border, roi_radius, centre_of, low_end, high_end, span_about, span_on, bounds, roi_of}
 
 -- nothing about a centre p on one axis
@@ -26,7 +26,7 @@ roi-told c s p q e column row =
     rw (e, column, row) (go _ _ _ _ (is_off (border c) (roi_radius c) c.width p) (is_off (border c) (roi_radius c) c.height q))
   where
     go : (x0 x1 y0 y1 : ℕ) (a b : Bool)
-        → bounds (cond a Nothing (Ends x0 x1)) (cond b Nothing (Ends y0 y1)) ≡ cond (a || b) NoRoi (Bounds x0 y0 x1 y1)
+        → bounds (cond a None (Some (x0, x1))) (cond b None (Some (y0, y1))) ≡ cond (a || b) NoRoi (Bounds x0 y0 x1 y1)
     go x0 x1 y0 y1 true b = refl
     go x0 x1 y0 y1 false true = refl
     go x0 x1 y0 y1 false false = refl

@@ -1,7 +1,7 @@
 -- The box of the base image in which a seed of a coarser level is looked for again (`RoiContext::compute_roi` and
 -- `make_roi_context`).
 use Rattle.std.specs.Prelude.{ℕ, ◌+◌, ◌-◌, ◌*◌, ◌^◌, min, max, Bool, cond, not, ◌&&◌, ◌||◌, List, [], ◌∷◌, leb, ltb}
-use Rattle.std.specs.Prelude.{Float}
+use Rattle.std.specs.Prelude.{Float, Option, None, Some}
 use Rattle.std.specs.Float.{binary32}
 use Rattle.std.specs.Float.Ieee.{mul}
 use Rattle.lists.specs.Limits.{largest_radius, largest_search, last_level}
@@ -15,8 +15,6 @@ use Rattle.corner_list.specs.declared.Corner.{Corner}
 use Rattle.multiscale.specs.declared.RoiContext.{RoiContext}
 use Rattle.multiscale.specs.declared.RoiAnswer.{RoiAnswer}
 use Rattle.multiscale.specs.declared.RoiAnswer.TheVariants.{Bounds, NoRoi, Refused}
-use Rattle.multiscale.specs.declared.Span.{Span}
-use Rattle.multiscale.specs.declared.Span.TheVariants.{Ends, Nothing}
 
 -- ---- refusals
 -- window, centroid and search radius at most the largest, a level up to the last, and a ring of 5 or 10
@@ -61,25 +59,25 @@ abbrev pub high_end : ℕ → ℕ → ℕ → ℕ → ℕ
 high_end b r side c = min (c + r + 1) (side - b)
 
 -- none if centre < border + 1, centre ≥ side − (border + 1), or the span is at most 2·border wide
-unfoldable pub span_about : ℕ → ℕ → ℕ → ℕ → Span
+unfoldable pub span_about : ℕ → ℕ → ℕ → ℕ → Option (ℕ × ℕ)
 span_about b r side c =
     cond (ltb c (b + 1) || (leb (side - (b + 1)) c || leb (high_end b r side c - low_end b r c) (2 * b)))
-    Nothing (Ends (low_end b r c) (high_end b r side c))
+    None (Some (low_end b r c, high_end b r side c))
 
-abbrev pub span_at : ℕ → ℕ → ℕ → Rounded → Span
+abbrev pub span_at : ℕ → ℕ → ℕ → Rounded → Option (ℕ × ℕ)
 span_at b r side (Natural c) = span_about b r side c
-span_at b r side (Negative n) = Nothing
-span_at b r side Beyond = Nothing
+span_at b r side (Negative n) = None
+span_at b r side Beyond = None
 
-unfoldable pub span_on : RoiContext → ℕ → Float → Span
+unfoldable pub span_on : RoiContext → ℕ → Float → Option (ℕ × ℕ)
 unfolding roi_radius centre_of span_about
 span_on c side x = span_at (border c) (roi_radius c) side (centre_of c.level x)
 
 -- ---- the answer
-abbrev pub bounds : Span → Span → RoiAnswer
-bounds (Ends x0 x1) (Ends y0 y1) = Bounds x0 y0 x1 y1
-bounds (Ends x0 x1) Nothing = NoRoi
-bounds Nothing v = NoRoi
+abbrev pub bounds : Option (ℕ × ℕ) → Option (ℕ × ℕ) → RoiAnswer
+bounds (Some x) (Some y) = Bounds x.0 y.0 x.1 y.1
+bounds (Some x) None = NoRoi
+bounds None y = NoRoi
 
 unfoldable pub roi_of : RoiContext → Corner → RoiAnswer
 unfolding refusal_of span_on

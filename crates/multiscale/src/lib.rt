@@ -31,56 +31,66 @@ pub enum RoiAnswer {
     Refused(u8),
 }
 
-// The box's ends on one axis.
+// A context with which no seed with coordinates from 0 to the largest is refused.
 #[derive(Clone, Copy)]
-enum Span {
-    Ends(usize, usize),
-    Nothing,
+struct SoundRoi {
+    context: RoiContext,
+    ghost sound: { SoundContext context },
 }
 
-// The box around a centre on one axis: r pixels both ways, clipped to the border b.
-fn span_about(c: usize, r: usize, b: usize, side: usize) -> Span
+// The ends of the box around a centre on one axis: r pixels both ways, clipped to the border b.
+fn span_about(c: usize, r: usize, b: usize, side: usize) -> Option<(usize, usize)>
     requires { (r ≤ largest_search * largest_side) × (b ≤ largest_border) × (side ≤ largest_side) }
     ensures { result ≡ span_about b r side c }
 {
-    if c < b + 1 {
-        return Span::Nothing;
+    if c < b + 1 || side <= c || side - c <= b + 1 {
+        return None;
     }
-    if side <= c {
-        return Span::Nothing;
-    }
-    if side - c <= b + 1 {
-        return Span::Nothing;
-    }
-    let low = if c < r + b { b } else { c - r };
-    let high = if side - b < c + r + 1 {
-        side - b
-    } else {
-        c + r + 1
-    };
+    let low = b.max(c.saturating_sub(r));
+    let high = (c + r + 1).min(side - b);
     if high - low <= 2 * b {
-        return Span::Nothing;
+        return None;
     }
-    Span::Ends(low, high)
+    Some((low, high))
+}
+
+impl SoundRoi {
+    fn border(self) -> usize
+        ensures { result ≡ border_of self.context }
+    {
+        (self.context.ring + self.context.window + self.context.centroid_radius) as usize
+    }
+
+    // The box's radius around its centre.
+    fn roi_radius(self) -> usize
+        ensures { result ≡ roi_radius self.context }
+    {
+        let search = (self.context.search_radius << self.context.level) as usize;
+        search.max(self.border() + 2)
+    }
+
+    // The box's ends on the axis of a side, for a seed's coordinate.
+    fn span_on(self, side: usize, x: f32) -> Option<(usize, usize)>
+        requires { side ≤ largest_side }
+        ensures { result ≡ span_on self.context side x }
+    {
+        let scale = (1u32 << self.context.level) as f32;
+        let float32::Rounded::Natural(c) = float32::round_half_away(x * scale) else {
+            return None;
+        };
+        span_about(c, self.roi_radius(), self.border(), side)
+    }
 }
 
 impl RoiContext {
     fn parameters_fit(self) -> bool
         ensures { result ≡ parameters_fit self }
     {
-        if lists::LARGEST_RADIUS < self.window {
-            return false;
-        }
-        if lists::LARGEST_RADIUS < self.centroid_radius {
-            return false;
-        }
-        if lists::LARGEST_SEARCH < self.search_radius {
-            return false;
-        }
-        if lists::LAST_LEVEL < self.level {
-            return false;
-        }
-        ring::is_ring(self.ring)
+        self.window <= lists::LARGEST_RADIUS
+            && self.centroid_radius <= lists::LARGEST_RADIUS
+            && self.search_radius <= lists::LARGEST_SEARCH
+            && self.level <= lists::LAST_LEVEL
+            && ring::is_ring(self.ring)
     }
 
     // The number of the refusal, 0 for none.
@@ -99,36 +109,6 @@ impl RoiContext {
         3
     }
 
-    fn border(self) -> usize
-        requires { SoundContext self }
-        ensures { result ≡ border_of self }
-    {
-        (self.ring + self.window + self.centroid_radius) as usize
-    }
-
-    // The box's radius around its centre.
-    fn roi_radius(self) -> usize
-        requires { SoundContext self }
-        ensures { result ≡ roi_radius self }
-    {
-        let least = self.border() + 2;
-        let search = (self.search_radius << self.level) as usize;
-        if search < least { least } else { search }
-    }
-
-    // The box's ends on the axis of a side, for a seed's coordinate.
-    fn span_on(self, side: usize, x: f32) -> Span
-        requires { SoundContext self × (side ≤ largest_side) }
-        ensures { result ≡ span_on self side x }
-    {
-        let scale = (1u32 << self.level) as f32;
-        let centre = float32::round_half_away(x * scale);
-        let float32::Rounded::Natural(c) = centre else {
-            return Span::Nothing;
-        };
-        span_about(c, self.roi_radius(), self.border(), side)
-    }
-
     // The box of a seed.
     pub fn compute_roi(self, c: Corner) -> RoiAnswer
         ensures { Boxed self c result }
@@ -137,10 +117,11 @@ impl RoiContext {
         if number != 0 {
             return RoiAnswer::Refused(number);
         }
-        let Span::Ends(x0, x1) = self.span_on(self.width, c.x) else {
+        let roi = SoundRoi { context: self };
+        let Some((x0, x1)) = roi.span_on(self.width, c.x) else {
             return RoiAnswer::NoRoi;
         };
-        let Span::Ends(y0, y1) = self.span_on(self.height, c.y) else {
+        let Some((y0, y1)) = roi.span_on(self.height, c.y) else {
             return RoiAnswer::NoRoi;
         };
         RoiAnswer::Bounds(x0, y0, x1, y1)

@@ -9,7 +9,6 @@ ghost use Rattle.patch_corners.specs.MapCorners.{CornersAdded, RowCornersAdded};
 
 use detect::Peaks;
 use frame_params::FrameParams;
-use numbers::{lesser, minus};
 
 // Adds the peaks in the rows a up to, not including, b of a map of w by h, by computed or by exact values, after the
 // first `held` of a buffer: each at its centre of mass if that is accepted, otherwise at the peak itself. The search
@@ -37,8 +36,8 @@ pub fn add_row_corners(
         return Peaks::Refused(number);
     }
     let border = p.ring as usize + p.window as usize + p.centroid_radius as usize;
-    let end = lesser(lesser(b, h) + border, h);
-    let top = lesser(minus(a, border), end);
+    let end = (b.min(h) + border).min(h);
+    let top = a.saturating_sub(border).min(end);
     let f = detect::find_peaks(
         &map[top * w..end * w],
         w,

@@ -17,12 +17,7 @@ fn centre(c: Corner, radius: u32, map: &[f32], w: usize, h: usize) -> Corner
     let Outcome::Accepted(x, y, _) = o else {
         return c;
     };
-    Corner {
-        x,
-        y,
-        strength: c.strength,
-        neighbours: c.neighbours,
-    }
+    Corner { x, y, ..c }
 }
 
 // A corner moved down by some rows.
@@ -31,10 +26,8 @@ fn lower(c: Corner, rows: usize) -> Corner
     ensures { result ≡ lowered rows c }
 {
     Corner {
-        x: c.x,
         y: c.y + rows as f32,
-        strength: c.strength,
-        neighbours: c.neighbours,
+        ..c
     }
 }
 

@@ -1,12 +1,13 @@
 -- How many pixels the levels have, where each level begins and ends, and that those above the base are fewer than its own. Assumes nothing.
-use Prim.Native.Nat.{ℕ, zero, suc, ◌+◌, ◌-◌, ◌*◌, ◌/◌, ◌^◌, ◌<◌, ◌≤◌}
-use native.Mathlib.Nat.{zero-mul, mul-le-mul, eq-or-lt_of_le, le_of_suc-le-suc, le_trans, pos_of_ne-zero}
+use Prim.Native.Nat.{ℕ, zero, suc, ◌+◌, ◌-◌, ◌*◌, ◌/◌, ◌<◌, ◌≤◌}
+use native.Mathlib.Nat.{mul-le-mul, eq-or-lt_of_le, le_of_suc-le-suc, le_trans}
+use native.Mathlib.Numerals.{add-one}
 use native.Mathlib.Omega.{arith}
 use mathlib.Core.Path.{◌≡◌, refl, ap, ap₂, ◌∙◌}
 use mathlib.Core.Logic.{⊎_elim}
 use Rattle.lists.specs.Limits.{largest_side}
 use Rattle.pyramid_levels.specs.Levels.{level_side, level_cells, cells_above, capped}
-use Rattle.pyramid_levels.proofs.Sides.{side-base, side-next, side-few}
+use Rattle.pyramid_levels.proofs.Sides.{side-base, side-next}
 
 -- ---- where a loop over the levels begins, goes on and ends
 
@@ -16,11 +17,12 @@ pub cells-next : (w h k a b : ℕ) → a ≡ level_side w (suc k) → b ≡ leve
 unfolding cells_above
 cells-next w h k a b p q = rw (p, q)
 
--- n levels have a last one, or there are none
-pub cells-last : (w h n k : ℕ) → n ≤ k + 1 → k ≤ n - 1 → cells_above w h (suc k) ≡ cells_above w h n
+-- the levels counted up to k are those below n
+pub cells-last : (w h n k : ℕ) → n ≤ k → k - 1 ≤ n - 1 → cells_above w h k ≡ cells_above w h n
 unfolding cells_above
-cells-last w h zero k p q = let z : k ≡ 0 = omega arith in rw z
-cells-last w h (suc n) k p q = let z : k ≡ n = omega arith in rw z
+cells-last w h zero zero p q = refl
+cells-last w h zero (suc k) p q = let z : k ≡ 0 = omega arith in rw z
+cells-last w h (suc n) k p q = let z : k ≡ suc n = omega arith in rw z
 
 -- level 0 has the base's pixels
 pub cells-base : (w h : ℕ) → w * h ≡ level_cells w h 0
@@ -33,6 +35,11 @@ pub cells-step : (w h k : ℕ) → (k ≡ 0 → ⊥) → cells_above w h (suc k)
 unfolding cells_above
 cells-step w h zero z = absurd (z refl)
 cells-step w h (suc k) z = refl
+
+-- level k, of a by b, added to those below it
+pub cells-with : (w h k a b : ℕ) → 0 < k → a ≡ level_side w k → b ≡ level_side h k
+    → cells_above w h (k + 1) ≡ cells_above w h k + a * b
+cells-with w h k a b z p q = rw (p, q) (rw add-one (cells-step w h k (λ (y : k ≡ 0). omega arith)))
 
 cells_up : (w h n : ℕ) → cells_above w h n ≤ cells_above w h (suc n)
 unfolding cells_above
@@ -56,14 +63,14 @@ cells-fall w h k (suc n) l =
     down : (n : ℕ) → level_cells w h (suc n) ≤ level_cells w h n
     down n = mul-le-mul (omega (arith, side-next w n (level_side w n) refl)) (omega (arith, side-next h n (level_side h n) refl))
 
-pub cells-stop : (w h k n : ℕ) → level_cells w h (suc k) ≡ 0 → suc k ≤ n → cells_above w h (suc k) ≡ cells_above w h n
-cells-stop w h k zero e l = absurd (let none : ⊥ = omega arith in none)
-cells-stop w h k (suc n) e l =
-    ⊎_elim (λ (q : suc k ≡ suc n). rw q)
-    (λ (m : suc k < suc n).
-    let m' : suc k ≤ n = le_of_suc-le-suc m in
-    let one = cells-step w h n (λ (z : n ≡ 0). let none : ⊥ = omega arith in none) in
-    omega (arith, cells-stop w h k n e m', one, cells-fall w h (suc k) n m')) (eq-or-lt_of_le l)
+pub cells-stop : (w h k n : ℕ) → (k ≡ 0 → ⊥) → level_cells w h k ≡ 0 → k ≤ n → cells_above w h k ≡ cells_above w h n
+cells-stop w h k zero z e l = absurd (z (omega arith))
+cells-stop w h k (suc n) z e l =
+    ⊎_elim (λ (q : k ≡ suc n). rw q)
+    (λ (m : k < suc n).
+    let m' : k ≤ n = le_of_suc-le-suc m in
+    let one = cells-step w h n (λ (y : n ≡ 0). z (omega arith)) in
+    omega (arith, cells-stop w h k n z e m', one, cells-fall w h k n m')) (eq-or-lt_of_le l)
 
 -- ---- three times the pixels of the levels above the base are at most its own
 
@@ -87,22 +94,13 @@ cells-le w h (suc k) = omega (arith, third w h k)
 
 -- ---- as a usize holds them
 
--- levels 1 .. k, and one level more, of a by b
-pub capped-next : (w h k a b s t r : ℕ) → a ≡ level_side w (suc k) → b ≡ level_side h (suc k) → s ≡ capped (cells_above w h (suc k))
-    → t ≡ capped (a * b) → r ≡ capped (s + t)
-    → r ≡ capped (cells_above w h (suc (suc k)))
-capped-next w h k a b s t r p q i j e = omega (arith, cells-next w h k a b p q)
-
--- or the level has none, and neither has one above it; a level that has some is one of the first 64
-pub capped-stop : (w h k n a b s t : ℕ) → a ≡ level_side w (suc k) → b ≡ level_side h (suc k) → s ≡ capped (cells_above w h (suc k))
+-- a level, of a by b, has no pixels, and neither has one above it
+pub capped-stop : (w h k n a b s t : ℕ) → 0 < k → a ≡ level_side w k → b ≡ level_side h k → s ≡ capped (cells_above w h k)
     → t ≡ capped (a * b)
-    → t ≡ 0 → suc k ≤ n → s ≡ capped (cells_above w h n)
-capped-stop w h k n a b s t p q i j z l =
-    let none : level_cells w h (suc k) ≡ 0 = rw (← p, ← q) (omega arith) in
-    i ∙ ap capped (cells-stop w h k n none l)
-
-pub cells-few : (w k a b t : ℕ) → w < 2 ^ 64 → a ≡ level_side w k → t ≡ capped (a * b) → (t ≡ 0 → ⊥) → k < 64
-cells-few w k a b t l p j z = side-few w 64 k l (rw (← p) (pos_of_ne-zero (λ (e : a ≡ 0). z (j ∙ rw e (omega (arith, zero-mul b))))))
+    → t ≡ 0 → k ≤ n → s ≡ capped (cells_above w h n)
+capped-stop w h k n a b s t z p q i j e l =
+    let none : level_cells w h k ≡ 0 = rw (← p, ← q) (omega arith) in
+    i ∙ ap capped (cells-stop w h k n (λ (y : k ≡ 0). omega arith) none l)
 
 -- up to the largest side no count is cut off
 pub cells-exact : (w h n : ℕ) → w ≤ largest_side → h ≤ largest_side → capped (cells_above w h n) ≡ cells_above w h n

@@ -1,7 +1,7 @@
 // The levels of an image pyramid: how many there are, how many pixels they have, and where each lies.
 #![tactic(auto)]
 
-mod count; // count.rt: which levels are built, and capped sums
+mod count; // count.rt: which levels are built
 
 ghost use Rattle.std.specs.Prelude.{◌≡◌};
 ghost use Rattle.lists.specs.Refusals.{verdict};
@@ -25,24 +25,19 @@ pub fn level_count(width: usize, height: usize, num_levels: u32, min_size: usize
     ensures { result ≡ level_count width height num_levels min_size }
 {
     let most = num_levels as usize;
-    if most == 0 {
-        return 0;
-    }
-    if count::is_below(width, height, min_size) {
+    if most == 0 || count::is_below(width, height, min_size) {
         return 0;
     }
     let mut w = width;
     let mut h = height;
-    let mut n = 1usize;
-    while n < most {
-        w = w / 2;
-        h = h / 2;
+    for n in 1..most {
+        w /= 2;
+        h /= 2;
         if count::is_too_small(w, h, min_size) {
             return n;
         }
-        n += 1;
     }
-    n
+    most
 }
 
 // How many pixels levels 1 .. n - 1 have, after which level n begins; the largest usize if there are more. Above a
@@ -53,16 +48,14 @@ pub fn cells_before(width: usize, height: usize, n: usize) -> usize
     let mut w = width;
     let mut h = height;
     let mut sum = 0usize;
-    let mut k = 0usize;
-    while k + 1 < n {
-        w = w / 2;
-        h = h / 2;
-        let cells = count::capped_product(w, h);
+    for _k in 1..n {
+        w /= 2;
+        h /= 2;
+        let cells = w.saturating_mul(h);
         if cells == 0 {
             return sum;
         }
-        sum = count::capped_sum(sum, cells);
-        k += 1;
+        sum = sum.saturating_add(cells);
     }
     sum
 }

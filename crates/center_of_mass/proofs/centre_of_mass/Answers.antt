@@ -3,40 +3,40 @@ use mathlib.Core.Path.{◌≡◌, sym, ◌∙◌}
 use Prim.Native.Nat.{ℕ, ◌+◌, ◌≤◌, ◌<◌}
 use native.Mathlib.Omega.{arith}
 use lib.Ieee.{of_bits}
-use Rattle.center_of_mass.specs.declared.Centre.TheVariants.{At}
+use Rattle.std.specs.Prelude.{Some}
 use Rattle.center_of_mass.specs.CenterOfMass.{centre_on}
 use Rattle.center_of_mass.proofs.Window.{rows_in}
 use Rattle.center_of_mass.proofs.Axis.{window-in}
 use Rattle.center_of_mass.proofs.Outcomes.{no-column, no_row, with-mass, no-mass}
 use Rattle.center_of_mass.proofs.centre_of_mass.Goals as goal
-use Rattle.center_of_mass.proofs.centre_of_mass.Goals.{In-At-down}
+use Rattle.center_of_mass.proofs.centre_of_mass.Goals.{In-Some-centre_on}
 
 pub returns-in_default : goal.returns-in_default
 returns-in_default c =
-    no-column c.args.r c.args.x c.args.y c.args.map.now c.args.w c.args.h (sym c.centre_on-across.ensures ∙ c.in_default.is)
+    no-column c.args.r c.args.x c.args.y c.args.map.now c.args.w c.args.h (sym c.centre_on.ensures ∙ c.in_default.is)
 
-pub returns-in_default-down : goal.returns-in_default-down
-returns-in_default-down c =
-    no_row c.args.r c.args.x c.args.y c.args.map.now c.args.w c.args.h (sym c.centre_on-down.ensures ∙ c.in_default-down.is)
+pub returns-in_default-centre_on : goal.returns-in_default-centre_on
+returns-in_default-centre_on c =
+    no_row c.args.r c.args.x c.args.y c.args.map.now c.args.w c.args.h (sym c.centre_on-2.ensures ∙ c.in_default-centre_on.is)
 
-abbrev cx : In-At-down → ℕ
-cx c = c.in-At.cx
+abbrev cx : In-Some-centre_on → ℕ
+cx c = c.in-Some.cx
 
-abbrev cy : In-At-down → ℕ
-cy c = c.in-At-down.cy
+abbrev cy : In-Some-centre_on → ℕ
+cy c = c.in-Some-centre_on.cy
 
-column-at : (c : In-At-down) → centre_on c.args.r c.args.w c.args.x ≡ At (cx c)
+column-at : (c : In-Some-centre_on) → centre_on c.args.r c.args.w c.args.x ≡ Some (cx c)
 column-at c =
-    sym c.centre_on-across.ensures
-    ∙ c.in-At.is
+    sym c.centre_on.ensures
+    ∙ c.in-Some.is
 
-row_at : (c : In-At-down) → centre_on c.args.r c.args.h c.args.y ≡ At (cy c)
-row_at c = sym c.centre_on-down.ensures ∙ c.in-At-down.is
+row_at : (c : In-Some-centre_on) → centre_on c.args.r c.args.h c.args.y ≡ Some (cy c)
+row_at c = sym c.centre_on-2.ensures ∙ c.in-Some-centre_on.is
 
-columns-in : (c : In-At-down) → (c.args.r ≤ cx c) × (cx c + c.args.r < c.args.w)
+columns-in : (c : In-Some-centre_on) → (c.args.r ≤ cx c) × (cx c + c.args.r < c.args.w)
 columns-in c = window-in _ _ _ _ (sym (column-at c))
 
-rows-in-map : (c : In-At-down) → (c.args.r ≤ cy c) × (cy c + c.args.r < c.args.h)
+rows-in-map : (c : In-Some-centre_on) → (c.args.r ≤ cy c) × (cy c + c.args.r < c.args.h)
 rows-in-map c = window-in _ _ _ _ (sym (row_at c))
 
 pub overflow_sub-cx : goal.overflow_sub-cx
@@ -70,16 +70,16 @@ window_sums-s-requires c =
 pub returns-then-s : goal.returns-then-s
 unfolding of_bits
 returns-then-s c =
-    with-mass c.args.r c.args.x c.args.y c.args.map.now c.args.w c.args.h (cx (goal.at.returns-then-s c).In-At-down)
-    (cy (goal.at.returns-then-s c).In-At-down) (column-at (goal.at.returns-then-s c).In-At-down)
-    (row_at (goal.at.returns-then-s c).In-At-down)
+    with-mass c.args.r c.args.x c.args.y c.args.map.now c.args.w c.args.h (cx (goal.at.returns-then-s c).In-Some-centre_on)
+    (cy (goal.at.returns-then-s c).In-Some-centre_on) (column-at (goal.at.returns-then-s c).In-Some-centre_on)
+    (row_at (goal.at.returns-then-s c).In-Some-centre_on)
     c.window_sums-s.result c.window_sums-s.ensures
     c.if-s.true
 
 pub returns : goal.returns
 unfolding of_bits
 returns c =
-    no-mass c.args.r c.args.x c.args.y c.args.map.now c.args.w c.args.h (cx (goal.at.returns c).In-At-down)
-    (cy (goal.at.returns c).In-At-down) (column-at (goal.at.returns c).In-At-down)
-    (row_at (goal.at.returns c).In-At-down) c.window_sums-s.result
+    no-mass c.args.r c.args.x c.args.y c.args.map.now c.args.w c.args.h (cx (goal.at.returns c).In-Some-centre_on)
+    (cy (goal.at.returns c).In-Some-centre_on) (column-at (goal.at.returns c).In-Some-centre_on)
+    (row_at (goal.at.returns c).In-Some-centre_on) c.window_sums-s.result
     c.window_sums-s.ensures c.if-s.false

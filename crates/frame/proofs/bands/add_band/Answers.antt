@@ -51,8 +51,8 @@ returns c =
     let long = slice_bounds-add_row_corners-end (goal.at.returns c).After-border-b in (
       band-adds c.args.p c.args.img.now _ _ _ _ c.requires.1 _
           (record { sound = c.requires.0.sound; enough = omega (arith, long, mul_comm c.args.w c.args.h) }) c.args.exact held _ _
-          (c.minus.ensures ∙ ap (λ (k : ℕ). c.args.j - k) c.border-b.ensures)
-          (c.minus-2.ensures ∙ ap (λ (k : ℕ). c.args.e - k) c.border-b.ensures) _ _ _ _
+          (c.saturating_sub.ensures ∙ ap (λ (k : ℕ). c.args.j - k) c.border-b.ensures)
+          (c.saturating_sub-2.ensures ∙ ap (λ (k : ℕ). c.args.e - k) c.border-b.ensures) _ _ _ _
           c.add_row_corners.ensures,
       held,
     )

@@ -7,16 +7,16 @@ use Rattle.frame.specs.Internal.{Band}
 use Rattle.frame.proofs.InBands.{some-sides, rows_none, band-next, bands-none, bands-more, bands-full, bands-all}
 use Rattle.frame.proofs.InBands.{bands-tied}
 use Rattle.frame.proofs.bands.add_image_corners.Goals as goal
-use Rattle.frame.proofs.bands.add_image_corners.Goals.{After-lesser-e, At-loop-j}
+use Rattle.frame.proofs.bands.add_image_corners.Goals.{After-min-e, At-loop-j}
 
 -- an image of so many pixels has rows and columns
 sides : (c : At-loop-j) → (0 < c.args.w) × (0 < c.args.h)
 sides c = some-sides _ _ _ c.requires.sound.sized (omega (arith, c.if-img-le-ONE_MAP.false))
 
 -- the next band
-band : (c : After-lesser-e) →
-    Band c.args.w c.args.h c.loop-j.j c.lesser-e.result
-band c = band-next _ _ _ _ (sides (goal.at.After-lesser-e c).At-loop-j).0 c.loop-j-test.true c.lesser-e.ensures
+band : (c : After-min-e) →
+    Band c.args.w c.args.h c.loop-j.j c.min-e.result
+band c = band-next _ _ _ _ (sides (goal.at.After-min-e c).At-loop-j).0 c.loop-j-test.true c.min-e.ensures
 
 pub loop-j-init : goal.loop-j-init
 loop-j-init c =
@@ -28,22 +28,22 @@ overflow_add-j c = omega (arith, c.loop-j.invariant.0, c.requires.sound.low)
 pub add_band-f-requires : goal.add_band-f-requires
 add_band-f-requires c = (
   record { sound = c.requires.sound; enough = omega (arith, c.requires.enough, c.loop-j.invariant.1) },
-  band (goal.at.add_band-f-requires c).After-lesser-e,
+  band (goal.at.add_band-f-requires c).After-min-e,
   c.loop-j.invariant.6,
 )
 
 pub returns-in_default : goal.returns-in_default
 returns-in_default c =
     let some = sides (goal.at.returns-in_default c).At-loop-j in
-    let rows = (band (goal.at.returns-in_default c).After-lesser-e).some in
+    let rows = (band (goal.at.returns-in_default c).After-min-e).some in
     bands-all c.args.p c.args.img.now c.args.w c.args.h c.args.exact some.0 some.1 _ c.requires _ (omega arith)
     (omega arith) _ _ _
     (bands-full c.args.p c.args.img.now c.args.w c.args.h c.args.exact _ _ _ _ (omega arith) _ _ c.loop-j.invariant.7 _ _
-    c.add_band-f.ensures.0 _ c.in_default.is (band (goal.at.returns-in_default c).After-lesser-e).within)
+    c.add_band-f.ensures.0 _ c.in_default.is (band (goal.at.returns-in_default c).After-min-e).within)
 
 pub overflow_add-held : goal.overflow_add-held
 overflow_add-held c =
-    let some = (band (goal.at.overflow_add-held c).After-lesser-e).some in
+    let some = (band (goal.at.overflow_add-held c).After-min-e).some in
     let more = bands-more c.args.p c.args.img.now c.args.w c.args.h c.args.exact _ _ _ _ (omega arith) _ _ c.loop-j.invariant.7 _ _
     c.add_band-f.ensures.0 _ _ c.in-Added.is in
     omega (arith, (more.added _ _ refl).1, c.well_formed)
@@ -51,25 +51,25 @@ overflow_add-held c =
 pub overflow_add-ties : goal.overflow_add-ties
 overflow_add-ties c =
     let some = sides (goal.at.overflow_add-ties c).At-loop-j in
-    let rows = (band (goal.at.overflow_add-ties c).After-lesser-e).some in
+    let rows = (band (goal.at.overflow_add-ties c).After-min-e).some in
     let more = bands-more c.args.p c.args.img.now c.args.w c.args.h c.args.exact _ _ _ _ (omega arith) _ _ c.loop-j.invariant.7 _ _
     c.add_band-f.ensures.0 _ _ c.in-Added.is in
     omega (
       arith,
       (more.added _ _ refl).3,
       bands-tied c.args.p c.args.img.now c.args.w c.args.h c.args.exact some.0 some.1 _ c.requires
-          c.lesser-e.result (band (goal.at.overflow_add-ties c).After-lesser-e).within,
+          c.min-e.result (band (goal.at.overflow_add-ties c).After-min-e).within,
     )
 
 pub loop-j-smaller : goal.loop-j-smaller
-loop-j-smaller c = let b = band (goal.at.loop-j-smaller c).After-lesser-e in omega (arith, b.some, b.within)
+loop-j-smaller c = let b = band (goal.at.loop-j-smaller c).After-min-e in omega (arith, b.some, b.within)
 
 pub loop-j-preserved : goal.loop-j-preserved
 loop-j-preserved c =
-    let some = (band (goal.at.loop-j-preserved c).After-lesser-e).some in
+    let some = (band (goal.at.loop-j-preserved c).After-min-e).some in
     let more = bands-more c.args.p c.args.img.now c.args.w c.args.h c.args.exact _ _ _ _ (omega arith) _ _ c.loop-j.invariant.7 _ _
     c.add_band-f.ensures.0 _ _ c.in-Added.is in (
-      (band (goal.at.loop-j-preserved c).After-lesser-e).within,
+      (band (goal.at.loop-j-preserved c).After-min-e).within,
       omega (arith, c.add_band-f.auto, c.loop-j.invariant.1),
       omega (arith, c.add_band-f.auto, c.loop-j.invariant.2),
       omega (arith, c.add_band-f.auto, c.loop-j.invariant.3),

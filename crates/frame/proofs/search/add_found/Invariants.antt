@@ -1,4 +1,3 @@
-use Prim.Native.Nat.{◌-◌, ◌≤◌}
 use mathlib.Core.Path.{◌≡◌}
 use lib.ListN.{length}
 use Rattle.lists.specs.Places.{flat_map, sum_of}
@@ -11,13 +10,10 @@ use Rattle.frame.proofs.search.add_found.Given as goal
 
 abbrev pub invariant-loop-i : goal.invariant-loop-i
 invariant-loop-i l =
-    (l.i ≤ l.m) × (length l.map ≡ length l.initial.map) × (length l.cx ≡ length l.initial.cx)
+    (length l.map ≡ length l.initial.map) × (length l.cx ≡ length l.initial.cx)
     × (length l.cy ≡ length l.initial.cy) × (length l.cs ≡ length l.initial.cs)
     × (length l.cn ≡ length l.initial.cn)
     × AddsCorners (flat_map (corners_about l.p l.img l.w l.h (choice_of l.p l.exact) l.k) (corners_of (slices l.sx l.sy l.ss l.sn) l.i))
     (sum_of (ties_about l.p l.img l.w l.h (choice_of l.p l.exact) l.k) (corners_of (slices l.sx l.sy l.ss l.sn) l.i)) 0
     (slices l.initial.cx l.initial.cy l.initial.cs l.initial.cn)
     (Added l.held l.ties) (slices l.cx l.cy l.cs l.cn)
-
-abbrev pub decreases-loop-i : goal.decreases-loop-i
-decreases-loop-i l = l.m - l.i

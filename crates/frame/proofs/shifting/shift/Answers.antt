@@ -1,27 +1,38 @@
 -- `frame::shifting::shift` meets its contract. Assumes nothing.
+use Prim.Native.Nat.{ℕ, ◌+◌, ◌-◌, ◌<◌}
 use native.Mathlib.Omega.{arith}
-use Rattle.frame.proofs.Moving.{raising-none, raising-set, raising-all}
+use mathlib.Core.Path.{◌≡◌, refl, ap, ◌∙◌}
+use mathlib.Core.List.{List}
+use lib.ListN.{length, get_or, take, drop}
+use lib.Ieee.{Float, nan, binary32, add}
+use lib.Seq.{get_or-drop, get_or-take}
+use Rattle.std.proofs.Common.{get_or-set_other, ◌≢◌}
+use Rattle.lists.specs.Buffer.{placed}
+use Rattle.lists.proofs.Tab.{part_length, prefix-none, prefix-set, prefix-all}
+use Rattle.lists.proofs.Buffer.{put-placed}
 use Rattle.frame.proofs.shifting.shift.Goals as goal
 
-pub loop-i-init : goal.loop-i-init
-loop-i-init c = raising-none _ _ _ _
+-- a part of a list, place by place
+part_at : (a n : ℕ) (d : List Float) (i : ℕ) → i < n → get_or (take (a + n - a) (drop a d)) i nan ≡ get_or d (a + i) nan
+part_at a n d i h = get_or-take (a + n - a) (drop a d) i nan (omega arith) ∙ get_or-drop a d i nan
 
-pub bounds-d-held : goal.bounds-d-held
-bounds-d-held c = omega (arith, c.loop-i.invariant.long)
+pub loop-x-init : goal.loop-x-init
+loop-x-init c = (prefix-none _ _ _ (part_length c.args.held c.args.n c.args.d.now c.requires), λ i h. refl)
 
-pub bounds-d-held-in-loop-i : goal.bounds-d-held-in-loop-i
-bounds-d-held-in-loop-i c = omega (arith, c.loop-i.invariant.long)
-
-pub overflow_step-i : goal.overflow_step-i
-overflow_step-i c = omega (arith, c.well_formed)
-
-pub loop-i-preserved : goal.loop-i-preserved
-loop-i-preserved c =
-    raising-set _ _ _ _ c.requires _ _ c.loop-i.invariant
-    c.loop-i-test.true
-
-pub shape_of-d : goal.shape_of-d
-shape_of-d c = c.loop-i.invariant.long
+pub loop-x-preserved : goal.loop-x-preserved
+loop-x-preserved c =
+    let part = part_length c.args.held c.args.n c.args.d.now c.requires in
+    let at : c.loop-x.x-index < c.args.n = omega (arith, part, c.loop-x-test.true) in (
+      prefix-set _ _ _ _ _ c.loop-x.invariant.0 at
+          (ap (λ (z : Float). add binary32 z c.args.by)
+          (c.loop-x.invariant.1 _ (omega arith) ∙ part_at c.args.held c.args.n c.args.d.now _ at)),
+      λ i h. let ne : i ≢ c.loop-x.x-index = omega arith in rw get_or-set_other (c.loop-x.invariant.1 i (omega arith)),
+    )
 
 pub returns : goal.returns
-returns c = raising-all _ _ _ _ c.requires _ _ c.loop-i.invariant (omega arith)
+returns c =
+    let part = part_length c.args.held c.args.n c.args.d.now c.requires in
+    let long = c.loop-x.invariant.0.long in
+    put-placed c.args.held _ c.loop-x.x-items c.args.d.now (omega (arith, long))
+    ∙ ap (λ (ys : List Float). placed c.args.held ys c.args.d.now)
+    (prefix-all _ _ c.loop-x.x-index _ _ c.loop-x.invariant.0 (omega (arith, part, c.loop-x-test.false, c.loop-x.auto.x-index-end)) refl)

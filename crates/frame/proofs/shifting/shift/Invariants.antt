@@ -1,10 +1,12 @@
-use Prim.Native.Nat.{◌-◌}
-use lib.Ieee.{binary32, add}
-use Rattle.frame.proofs.Moving.{Raising}
+-- The floats before the index are raised, and those from it on are as they were.
+use Prim.Native.Nat.{ℕ, ◌+◌, ◌≤◌}
+use mathlib.Core.Path.{◌≡◌}
+use lib.ListN.{get_or}
+use lib.Ieee.{nan, binary32, add}
+use Rattle.lists.proofs.Tab.{Prefix}
 use Rattle.frame.proofs.shifting.shift.Given as goal
 
-abbrev pub invariant-loop-i : goal.invariant-loop-i
-invariant-loop-i l = Raising (λ z. add binary32 z l.by) l.held l.n l.i l.initial.d l.d
-
-abbrev pub decreases-loop-i : goal.decreases-loop-i
-decreases-loop-i l = l.n - l.i
+abbrev pub invariant-loop-x : goal.invariant-loop-x
+invariant-loop-x l =
+    Prefix l.n (λ i. add binary32 (get_or l.fn.d (l.held + i) nan) l.by) l.x-index l.x-items
+    × ((i : ℕ) → l.x-index ≤ i → get_or l.x-items i nan ≡ get_or l.initial.x-items i nan)
