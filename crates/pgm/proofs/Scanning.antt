@@ -100,7 +100,8 @@ module _ (upload : List ℕ) where
         pub trailing-past : trailing f (bare_from upload at) ≡ trailing f (bare_from upload (at + 1))
         trailing-past = rw (first-is, passes)
 
-        pub leading-past : leading f (bare_from upload at) ≡ record { code = code_at at; place = at } ∷ leading f (bare_from upload (at + 1))
+        pub leading-past : leading f (bare_from upload at)
+            ≡ record { code = code_at at; place = at } ∷ leading f (bare_from upload (at + 1))
         leading-past = rw (first-is, passes)
 
     -- what passes from `from` on is past

@@ -1,6 +1,7 @@
 -- What the private functions that scan a header require and promise. A place of the upload stands for the characters
 -- from there on, comments removed.
-use Rattle.std.specs.Prelude.{ℕ, ◌-◌, ◌<◌, ◌≤◌, min, ◌≡◌, Bool, true, false, ◌&&◌, List, Option, MatchOption, length, get_or}
+use Rattle.std.specs.Prelude.{ℕ, ◌-◌, ◌<◌, ◌≤◌, min, ◌≡◌, Bool, true, false, ◌&&◌, List, Option, MatchOption, length}
+use Rattle.std.specs.Prelude.{get_or}
 use Rattle.std.specs.Prelude.{drop}
 use Rattle.pgm.specs.declared.header.Number.{Number}
 use Rattle.pgm.specs.declared.header.Sides.{Sides}
