@@ -1,4 +1,5 @@
 -- `retention::reading::wanted` meets its contract. The invariant: the items before this one are passed. Assumes nothing.
+use native.Mathlib.Omega.{arith}
 use mathlib.Core.Path.{sym, ◌∙◌}
 use Rattle.retention.proofs.Passing.{passing-none, passing-next, passing-stops, passing-all}
 use Rattle.retention.proofs.reading.wanted.Goals as goal
@@ -22,4 +23,6 @@ loop-passed-preserved c =
     passing-next _ _ _ c.loop-passed.invariant c.loop-passed-test.true (sym c.item_fault.ensures ∙ c.if-item_fault-ne0.false)
 
 pub returns : goal.returns
-returns c = passing-all _ _ _ c.loop-passed.invariant c.loop-passed-test.false
+returns c =
+    passing-all _ _ _ c.loop-passed.invariant c.loop-passed-test.false _
+    (omega (arith, c.max.ensures, c.loop-passed.invariant.near))
