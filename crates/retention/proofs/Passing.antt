@@ -1,5 +1,5 @@
 -- Items passed one after the other, and the bytes that are wanted. Assumes nothing.
-use Prim.Native.Nat.{ℕ, zero, suc, ◌+◌, ◌-◌, ◌*◌, ◌<◌, ◌≤◌}
+use Prim.Native.Nat.{ℕ, zero, suc, ◌+◌, ◌-◌, ◌*◌, ◌<◌, ◌≤◌, max}
 use native.Mathlib.Decide.{dec_lt}
 use native.Mathlib.Numerals.{add-one}
 use native.Mathlib.Omega.{arith}
@@ -68,6 +68,14 @@ module _ (s : List ℕ) where
       passing-stops h n e =
           let stop = ne_eqb (item_fault s p) 0 h in
           record { passed = sym (w.passed ∙ rw (one, stop)); bytes = e ∙ sym (w.bytes ∙ rw (one, stop)) }
+
+-- where a `for` over the items from item k on ends
+pub last-is : (k p : ℕ) → items ≤ p → (k ≤ items → p ≤ items) → (items ≤ k → p ≡ k) → max k items ≡ p
+last-is k p l within near =
+    elim (dec_lt k items) [
+      | yes a ↦ let w = within (omega arith) in omega arith
+      | no b ↦ let n = near (omega arith) in omega arith
+    ]
 
 -- ---- the items before item p have no fault
 pub record Before (s : List ℕ) (p : ℕ) : Type 0 where
