@@ -12,12 +12,9 @@ fn has_outside(xs: &[f32], ys: &[f32], strengths: &[f32], neighbours: &[u32], n:
         (corners_of (slices xs.now ys.now strengths.now
         neighbours.now) n) }
 {
-    for i in 0..n {
-        if !corner_list::is_inside(corner_list::corner_at(xs, ys, strengths, neighbours, i)) {
-            return true;
-        }
-    }
-    false
+    (0..n).any(|i| {
+        !corner_list::is_inside(corner_list::corner_at(xs, ys, strengths, neighbours, i))
+    })
 }
 
 // 10 if more corners are stated than there are places.
@@ -42,14 +39,16 @@ pub fn refusal(
         neighbours.now))) count
         (slices xs.now ys.now strengths.now neighbours.now) }
 {
-    let held = numbers::lesser(
-        places,
-        corner_list::places(xs.len(), ys.len(), strengths.len(), neighbours.len()),
-    );
+    let held = places.min(corner_list::places(
+        xs.len(),
+        ys.len(),
+        strengths.len(),
+        neighbours.len(),
+    ));
     if merge_radius::is_off(radius) {
         return crowding(held, count);
     }
-    if has_outside(xs, ys, strengths, neighbours, numbers::lesser(count, held)) {
+    if has_outside(xs, ys, strengths, neighbours, count.min(held)) {
         return 4;
     }
     if merge_radius::is_sized(radius) {
