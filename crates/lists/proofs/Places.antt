@@ -11,6 +11,9 @@ use lib.ListN.{length, length-append, length-map}
 use Rattle.lists.specs.Tab.{tab}
 use Rattle.lists.specs.Places.{Place, counted, range, row, rows_from, block, any, keep, count}
 use Rattle.lists.proofs.Tests.{or_right}
+use Rattle.lists.proofs.Tab.{tab-ext, tab-add}
+use Rattle.std.proofs.Common.{add-zero}
+use Rattle.std.specs.List.{list_any, range_with_len}
 
 -- the place of a cell lies in the map
 pub in_map : (w h x y : ℕ) → x < w → y < h → y * w + x < w * h
@@ -105,6 +108,23 @@ module _ {A : Type 0} (f : A → Bool) (h : ℕ → A) where
   unfolding tab
   any-tab-none zero g = refl
   any-tab-none (suc n) g = any_last n ∙ rw (any-tab-none n (λ i l. g i (omega arith)), g n (omega arith))
+
+  -- the test of numbers from a on, the first of them first
+  any_first : (n : ℕ) (g : ℕ → A) → any f (tab (suc n) g) ≡ (f (g 0) || any f (tab n (λ i. g (1 + i))))
+  unfolding tab
+  any_first n g = let e : suc n ≡ 1 + n = omega arith in ap (λ (k : ℕ). any f (tab k g)) e ∙ ap (any f) (tab-add 1 n g)
+
+  any-from : (a n : ℕ) → list_any (λ i. f (h i)) (range_with_len a n) ≡ any f (tab n (λ i. h (a + i)))
+  unfolding tab
+  any-from a zero = refl
+  any-from a (suc n) =
+      ap (λ (b : Bool). f (h a) || b) (any-from (a + 1) n ∙ ap (any f) (tab-ext n _ _ (λ i l. ap h (omega arith))))
+      ∙ ap (λ (k : ℕ). f (h k) || any f (tab n (λ i. h (a + (1 + i))))) (sym (add-zero a))
+      ∙ sym (any_first n (λ i. h (a + i)))
+
+  -- the test of the numbers below n, as `any` over a range of them asks it
+  pub any-range : (n : ℕ) → list_any (λ i. f (h i)) (range_with_len 0 n) ≡ any f (tab n h)
+  any-range n = any-from 0 n ∙ ap (any f) (tab-ext n _ _ (λ i l. ap h (omega arith)))
 
 -- ---- a block has as many places as its sides say, and a test passes at no more
 
