@@ -9,56 +9,22 @@ ghost use Rattle.std.specs.Prelude.{◌≡◌, ◌<◌, ◌≤◌};
 ghost use Rattle.corner_list.specs.CornerList.{slices, places_of, corners_of};
 ghost use Rattle.merge_grid.specs.Grid.{position_at, near};
 ghost use Rattle.merge_settle.specs.Settle.{Left};
-ghost use Rattle.merge_settle.specs.Internal.{IsFirst, SettlesAt, Settled};
+ghost use Rattle.merge_settle.specs.Internal.{FirstPasses, Settled};
 ghost use Rattle.merge_naive.specs.MergeNaive.{near_by, naive_of, MergesNaive};
 
 use corner_list::Corner;
 use merge::Merged;
 use merge_grid::Position;
 
-// Means "no place": no buffer is this long.
-const NOWHERE: usize = 18446744073709551615;
-
-// The lowest of the first k places of a buffer whose corner is near a position, or k.
-fn first_near(xs: &[f32], ys: &[f32], square: f32, k: usize, p: Position) -> usize
-    ensures { IsFirst (λ i. near square p (position_at xs.now ys.now i)) k result }
+// The lowest of the first k places of a buffer whose corner is near a position.
+fn first_near(xs: &[f32], ys: &[f32], square: f32, k: usize, p: Position) -> Option<usize>
+    ensures { FirstPasses (λ i. near square p (position_at xs.now ys.now i)) k result }
 {
-    for i in 0..k {
-        if merge_grid::is_near(square, p, merge_grid::position_at(xs, ys, i)) {
-            return i;
-        }
-    }
-    k
-}
-
-// The place for c among the first k of a buffer: that of the first corner that it is near, if c is stronger; k, if it
-// is near none; NOWHERE, if it is dropped.
-fn place_for(
-    xs: &[f32],
-    ys: &[f32],
-    strengths: &[f32],
-    neighbours: &[u32],
-    square: f32,
-    k: usize,
-    c: Corner,
-) -> usize
-    requires { k < places_of (slices xs.now ys.now strengths.now neighbours.now) }
-    ensures { SettlesAt (near_by square) k c
-        (slices xs.now ys.now strengths.now neighbours.now) result }
-{
-    let i = first_near(xs, ys, square, k, merge_grid::position_of(c));
-    if k <= i {
-        return k;
-    }
-    let o = corner_list::corner_at(xs, ys, strengths, neighbours, i);
-    if o.strength < c.strength {
-        return i;
-    }
-    NOWHERE
+    (0..k).find(|i| merge_grid::is_near(square, p, merge_grid::position_at(xs, ys, *i)))
 }
 
 // Settles c among the first k corners of a buffer, and returns how many are kept then.
-fn settle_corner(
+fn settle_near(
     xs: &mut [f32],
     ys: &mut [f32],
     strengths: &mut [f32],
@@ -72,9 +38,9 @@ fn settle_corner(
         (slices xs.old ys.old strengths.old neighbours.old)
         result (slices xs.new ys.new strengths.new neighbours.new) }
 {
-    let at = place_for(xs, ys, strengths, neighbours, square, k, c);
-    corner_list::put_corner(xs, ys, strengths, neighbours, at, c);
-    if at == k { k + 1 } else { k }
+    let joined = first_near(xs, ys, square, k, Position::from(c));
+    let at = merge_settle::settle_corner(xs, ys, strengths, neighbours, k, c, joined);
+    merge_settle::count_with(k, at)
 }
 
 // Merges the first n corners of a buffer in place, and returns how many are left. It checks nothing.
@@ -99,7 +65,7 @@ fn merge_list(
     let mut k = 0;
     for i in 0..n {
         let c = corner_list::corner_at(xs, ys, strengths, neighbours, i);
-        k = settle_corner(xs, ys, strengths, neighbours, square, k, c);
+        k = settle_near(xs, ys, strengths, neighbours, square, k, c);
     }
     k
 }

@@ -3,6 +3,7 @@
 #![tactic(auto)]
 
 mod index;
+mod placing;
 mod search;
 mod settling;
 
@@ -13,6 +14,7 @@ ghost use Rattle.corner_list.specs.CornerList.{slices};
 ghost use Rattle.merge_settle.specs.Settle.{Settles};
 
 use merge_grid::Grid;
+pub use placing::{count_with, settle_corner};
 use settling::{Step, merge_up_to, merge_with, slots_for};
 
 // Settles the first n corners of a list, or as many as the buffer xs to ns has places for, by a grid, and returns how
@@ -40,10 +42,10 @@ pub fn settle_list(
     ensures table_after { table.new ≡ wiped_from 0 zero table.old }
 {
     let places = corner_list::places(xs.len(), ys.len(), ss.len(), ns.len());
-    let held = numbers::lesser(n, places);
+    let held = n.min(places);
     let slots = slots_for(table.len(), held);
     if 0 < slots {
-        index::clear(&mut table[..slots]);
+        table[..slots].fill(index::EMPTY_SLOT);
         let s = Step { done: 0, kept: 0 };
         let t = merge_with(
             lx,

@@ -2,15 +2,15 @@
 // list is merged in place, it is in that buffer too; if it is merged apart, it is in a buffer of its own, lx to ln. The
 // index of the kept corners is a borrowed table, or one on the stack, whose size depends on the list and on how many
 // are kept: merging goes on with the largest table when they outgrow the one before.
-ghost use Rattle.std.specs.Prelude.{◌≡◌, ◌+◌, ◌^◌, ◌<◌, ◌≤◌, length};
+ghost use Rattle.std.specs.Prelude.{◌≡◌, ◌<◌, ◌≤◌, length};
 ghost use Rattle.corner_list.specs.CornerList.{slices, corner_at, places_of};
 ghost use Rattle.merge_grid.specs.Grid.{joins};
 ghost use Rattle.merge_settle.specs.Settle.{given};
-ghost use Rattle.merge_settle.specs.Internal.{slots_of, Indexed, count_with, Settled, start, many_kept};
+ghost use Rattle.merge_settle.specs.Internal.{slots_of, Indexed, Settled, start, many_kept};
 ghost use Rattle.merge_settle.specs.Internal.{IsStep, StopAfter};
 
 use corner_list::Corner;
-use merge_grid::Grid;
+use merge_grid::{Grid, Position};
 
 // The lists that the small table on the stack is for, and the kept corners that the middle one is for.
 const FEW: usize = 512;
@@ -31,16 +31,8 @@ pub(crate) struct Step {
     pub(crate) kept: usize,
 }
 
-// How many corners are kept after one takes a place among the first k, or the place right after them, or none.
-fn count_with(k: usize, at: usize) -> usize
-    requires { k + 1 < 2 ^ 64 }
-    ensures { result ≡ count_with k at }
-{
-    if at == k { k + 1 } else { k }
-}
-
 // Settles c among the first k corners of a buffer, lists its place, and returns how many are then kept.
-fn settle_corner(
+fn settle_listed(
     xs: &mut [f32],
     ys: &mut [f32],
     strengths: &mut [f32],
@@ -58,10 +50,14 @@ fn settle_corner(
         result (slices xs.new ys.new strengths.new neighbours.new) }
     ensures indexed_2 { Indexed g floor (slots_of table.new) xs.new ys.new result }
 {
-    let at = crate::search::place_for(xs, ys, strengths, neighbours, table, g, floor, k, c);
-    corner_list::put_corner(xs, ys, strengths, neighbours, at, c);
-    crate::index::list_place(table, g, at, merge_grid::position_of(c));
-    count_with(k, at)
+    let p = Position::from(c);
+    let joined = crate::search::find_joined(xs, ys, table, g, floor, k, p);
+    let at = crate::settle_corner(xs, ys, strengths, neighbours, k, c, joined);
+    let Some(place) = at else {
+        return k;
+    };
+    crate::index::list_place(table, g, place, p);
+    crate::count_with(k, Some(place))
 }
 
 // The corner at a place of the list.
@@ -143,7 +139,7 @@ pub(crate) fn merge_with(
         low = floor_of(lx, ly, apart, xs, ys, table.len(), g, low, i, n);
         floor = crate::index::refresh(xs, ys, table, g, floor, low, k, i);
         let c = given_at(lx, ly, ls, ln, apart, xs, ys, ss, ns, i);
-        k = settle_corner(xs, ys, ss, ns, table, g, floor, k, c);
+        k = settle_listed(xs, ys, ss, ns, table, g, floor, k, c);
     }
     Step { done: n, kept: k }
 }

@@ -13,8 +13,8 @@ returns-then-is_off c = left-off _ _ _ (sym c.is_off.ensures ∙ c.if-is_off.tru
 pub loop-i-init : goal.loop-i-init
 loop-i-init c = stepped-none _ _ _ _ _ _ c.requires (record { few = omega arith; upto = omega arith })
 
-pub settle_corner-k-requires : goal.settle_corner-k-requires
-settle_corner-k-requires c =
+pub settle_near-k-requires : goal.settle_near-k-requires
+settle_near-k-requires c =
     stepped-fits _ _ _ _ _ _ _ _ c.loop-i.invariant c.requires c.loop-i-test.true
 
 pub overflow_step-i : goal.overflow_step-i
@@ -26,7 +26,7 @@ loop-i-smaller c = omega (arith, c.loop-i-test.true)
 pub loop-i-preserved : goal.loop-i-preserved
 loop-i-preserved c =
     stepped-turn _ _ _ _ _ _ _ _ c.loop-i.invariant c.loop-i-test.true _
-    c.corner_at-c.ensures _ _ c.settle_corner-k.ensures
+    c.corner_at-c.ensures _ _ c.settle_near-k.ensures
 
 pub shape_of-xs : goal.shape_of-xs
 shape_of-xs c = stepped-xs _ _ _ _ _ _ _ _ c.loop-i.invariant c.requires

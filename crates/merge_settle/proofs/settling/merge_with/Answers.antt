@@ -33,8 +33,8 @@ returns-then-most-k c = record { stepped = c.loop-i.invariant.0; far = inr c.if-
 pub refresh-floor-requires : goal.refresh-floor-requires
 refresh-floor-requires c = c.loop-i.invariant.1
 
-pub settle_corner-k-requires : goal.settle_corner-k-requires
-settle_corner-k-requires c =
+pub settle_listed-k-requires : goal.settle_listed-k-requires
+settle_listed-k-requires c =
     record {
       k_bound = stepped-fits _ _ _ _ _ _ _ _ c.loop-i.invariant.0 c.requires.n_bound c.loop-i-test.true;
       indexed = c.refresh-floor.ensures;
@@ -49,8 +49,8 @@ loop-i-smaller c = omega (arith, c.loop-i-test.true)
 pub loop-i-preserved : goal.loop-i-preserved
 loop-i-preserved c =
     let step = stepped-turn _ _ _ _ _ _ _ _ c.loop-i.invariant.0 c.loop-i-test.true _ c.given_at-c.ensures _ _
-    c.settle_corner-k.ensures.settled in
-    (step, c.settle_corner-k.ensures.indexed_2, omega (arith, c.settle_corner-k.auto, c.refresh-floor.auto, c.loop-i.invariant.2))
+    c.settle_listed-k.ensures.settled in
+    (step, c.settle_listed-k.ensures.indexed_2, omega (arith, c.settle_listed-k.auto, c.refresh-floor.auto, c.loop-i.invariant.2))
 
 pub shape_of-xs : goal.shape_of-xs
 shape_of-xs c = stepped-xs _ _ _ _ _ _ _ _ c.loop-i.invariant.0 c.requires.n_bound
