@@ -17,6 +17,7 @@ use Rattle.merge_radius.specs.MergeRadius.{is_off, radius_outside}
 use Rattle.merge.specs.declared.Merged.{Merged}
 use Rattle.merge.specs.declared.Merged.TheVariants.{Kept, Refused}
 use Rattle.merge_refusal.specs.Refusals.{corner_outside, refusal_of}
+use Rattle.merge_refusal.proofs.Judged.{judged-fits}
 use Rattle.merge.specs.Merge.{result_of, number_of, Merges}
 use Rattle.merge.specs.Apart.{refusal_apart, or_else, MergedApart}
 
@@ -67,7 +68,7 @@ module _ (radius : Float) (places count : ℕ) (b : Slices) where
       ∙ sym (apart-number radius places count b)
 
   -- no refusal: the separate buffer has the places
-  pub apart_fits : refusal_apart radius places count b ≡ 0 → count ≤ places
+  apart_fits : refusal_apart radius places count b ≡ 0 → count ≤ places
   apart_fits e =
       let own : ℕ = refusal_of radius (places_of b) count b in
       ltb-false places count (none (ltb places count) (or-else-zero own _ (sym (apart-number radius places count b) ∙ e)))
@@ -82,6 +83,12 @@ module _ (radius : Float) (places count : ℕ) (b : Slices) where
       apart-number radius places count b
       ∙ ap (λ (t : Bool). or_else (refusal_of radius (places_of b) count b) (cond t 10 0)) (le-ltb places count h)
       ∙ or_else_none _
+
+  -- so a list that is not refused has its places in both
+  pub apart_both : refusal_apart radius places count b ≡ 0 → (count ≤ places_of b) × (count ≤ places)
+  apart_both e =
+      let fits = apart_fits e in
+      (judged-fits radius (places_of b) count b (sym (apart-as-own fits) ∙ e), fits)
 
   pub apart-crowded : places < count → refusal_apart radius places count b ≡ or_else (refusal_of radius (places_of b) count b) 10
   apart-crowded h =

@@ -20,16 +20,17 @@ fn copy_list(
     ms: &mut [f32],
     mn: &mut [u32],
 )
-    requires { n ≤ places_of (slices mx.old my.old ms.old mn.old) }
+    requires from { n ≤ places_of (slices xs.now ys.now strengths.now neighbours.now) }
+    requires to { n ≤ places_of (slices mx.old my.old ms.old mn.old) }
     ensures { slices mx.new my.new ms.new mn.new
         ≡ front_corners (corners_of (slices xs.now ys.now strengths.now
         neighbours.now) n)
         (slices mx.old my.old ms.old mn.old) }
 {
-    for i in 0..n {
-        let c = corner_list::corner_at(xs, ys, strengths, neighbours, i);
-        corner_list::put_corner(mx, my, ms, mn, i, c);
-    }
+    mx[..n].copy_from_slice(&xs[..n]);
+    my[..n].copy_from_slice(&ys[..n]);
+    ms[..n].copy_from_slice(&strengths[..n]);
+    mn[..n].copy_from_slice(&neighbours[..n]);
 }
 
 // Merges the first n corners of a buffer into another, and returns how many are left. It checks nothing.
@@ -45,7 +46,8 @@ fn merge_into(
     ms: &mut [f32],
     mn: &mut [u32],
 ) -> usize
-    requires { n ≤ places_of (slices mx.old my.old ms.old mn.old) }
+    requires from { n ≤ places_of (slices xs.now ys.now strengths.now neighbours.now) }
+    requires to { n ≤ places_of (slices mx.old my.old ms.old mn.old) }
     ensures { Left (result_of radius
         (corners_of (slices xs.now ys.now strengths.now neighbours.now) n))
         (slices mx.old my.old ms.old mn.old) result
@@ -56,9 +58,8 @@ fn merge_into(
         return n;
     }
     let g = merge_grid::grid_of(xs, ys, n, radius);
-    let mut none: [f32; 0] = [0.0; 0];
     merge_settle::settle_list(
-        xs, ys, strengths, neighbours, true, mx, my, ms, mn, &mut none, g, n,
+        xs, ys, strengths, neighbours, true, mx, my, ms, mn, &mut [], g, n,
     )
 }
 

@@ -47,10 +47,8 @@ pub(crate) fn merge_list(
         return n;
     }
     let g = merge_grid::grid_of(xs, ys, n, radius);
-    let none: [f32; 0] = [0.0; 0];
-    let no_counts: [u32; 0] = [0; 0];
     merge_settle::settle_list(
-        &none, &none, &none, &no_counts, false, xs, ys, strengths, neighbours, table, g, n,
+        &[], &[], &[], &[], false, xs, ys, strengths, neighbours, table, g, n,
     )
 }
 
@@ -74,8 +72,7 @@ pub fn merge_within(
     if number != 0 {
         return Merged::Refused(number);
     }
-    let mut none: [f32; 0] = [0.0; 0];
-    Merged::Kept(merge_list(xs, ys, strengths, neighbours, &mut none, count, radius))
+    Merged::Kept(merge_list(xs, ys, strengths, neighbours, &mut [], count, radius))
 }
 
 // Merges the first `count` corners of a buffer in place, as the Rust's `merge_corners_simple`.

@@ -2,7 +2,7 @@
 use mathlib.Core.Path.{◌≡◌, sym, ◌∙◌}
 use Rattle.corner_list.specs.CornerList.{slices, places_of}
 use Rattle.merge.specs.Apart.{refusal_apart}
-use Rattle.merge.proofs.Separate.{apart-judged, apart_fits}
+use Rattle.merge.proofs.Separate.{apart-judged, apart_both}
 use Rattle.merge.proofs.Answer.{leaves-refused, leaves_kept}
 use Rattle.merge.proofs.apart.merge_apart.Goals as goal
 use Rattle.merge.proofs.apart.merge_apart.Goals.{After-refusal_apart-number}
@@ -21,7 +21,8 @@ returns-then-number-ne0 c =
 
 pub merge_into-requires : goal.merge_into-requires
 merge_into-requires c =
-    apart_fits _ _ _ _ (sym (judged (goal.at.merge_into-requires c).After-refusal_apart-number) ∙ c.if-number-ne0.false)
+    let fits = apart_both _ _ _ _ (sym (judged (goal.at.merge_into-requires c).After-refusal_apart-number) ∙ c.if-number-ne0.false) in
+    record { from = fits.0; to = fits.1 }
 
 pub returns : goal.returns
 returns c =

@@ -18,4 +18,4 @@ returns-then-is_off c =
 pub returns : goal.returns
 returns c =
     left-on _ (list (goal.at.returns c).Start) _ _ _ _ _ (sym c.is_off.ensures ∙ c.if-is_off.false) c.grid_of-g.ensures
-    (left-settled c.grid_of-g.result true (list (goal.at.returns c).Start) _ _ _ _ c.requires c.settle_list.ensures.settles)
+    (left-settled c.grid_of-g.result true (list (goal.at.returns c).Start) _ _ _ _ c.requires.to c.settle_list.ensures.settles)
