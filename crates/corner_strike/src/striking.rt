@@ -13,8 +13,8 @@ pub enum Strike {
     Refused(u8),
 }
 
-// The largest change number, the largest u32.
-const LARGEST_CHANGE: u32 = 4294967295;
+// The largest change number.
+const LARGEST_CHANGE: u32 = u32::MAX;
 
 // The number of the refusal, 0 for none.
 fn refusal(places: usize, count: usize, change: u32, place: usize, shown: u32) -> u8
@@ -50,11 +50,9 @@ fn remove_corner(
         neighbours.old) }
 {
     let last = count - 1;
-    let mut at = place;
-    while at < last {
+    for at in place..last {
         let next = corner_list::corner_at(xs, ys, strengths, neighbours, at + 1);
         corner_list::put_corner(xs, ys, strengths, neighbours, at, next);
-        at += 1;
     }
     let none = Corner {
         x: 0.0,

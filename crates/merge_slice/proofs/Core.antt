@@ -18,7 +18,8 @@ use Rattle.merge.specs.declared.Merged.{Merged}
 use Rattle.merge.specs.Merge.{result_of, refusal_of, Merges}
 use Rattle.merge_refusal.proofs.Judged.{judged-fits}
 use Rattle.merge_slice.specs.MergeSlice.{refusal_for, MergesSlice}
-use Rattle.merge_slice.proofs.Turns.{nowhere, take_counted}
+use Rattle.std.proofs.lemmas.List.{take_min}
+use Rattle.merge_slice.proofs.Turns.{nowhere}
 use Rattle.merge.specs.declared.Merged.TheVariants.{Kept, Refused}
 
 -- ---- the corners of a slice as four slices hold them: the first n, those that stand first, and how many there are
@@ -67,7 +68,7 @@ module _ (radius : Float) (count : ℕ) (cs : List Corner) where
   same-judged =
       columns-corners cs (min count (places_of (columns cs))) (omega (arith, columns-places cs))
       ∙ ap (λ (k : ℕ). take (min count k) cs) (columns-places cs)
-      ∙ take_counted count cs
+      ∙ take_min count cs
 
   same_number : (scratch : Slices) → length cs ≤ places_of scratch → refusal_for radius count cs scratch ≡ number
   unfolding refusal_for refusal_of

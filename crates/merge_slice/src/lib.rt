@@ -2,7 +2,7 @@
 // with the elements of four borrowed slices, merged there, and swapped back.
 #![tactic(auto)]
 
-ghost use Rattle.std.specs.Prelude.{◌≡◌, cond, not, ◌&&◌, ◌||◌, ◌≤◌, min, length, take};
+ghost use Rattle.std.specs.Prelude.{◌≡◌, cond, not, ◌&&◌, ◌≤◌, min, length, take};
 ghost use Rattle.lists.specs.Buffer.{front};
 ghost use Rattle.lists.specs.Places.{any};
 ghost use Rattle.corner_list.specs.CornerList.{slices, places_of, corners_of, front_corners};
@@ -25,34 +25,17 @@ fn shared_places(
 ) -> usize
     ensures { result ≡ min count (min corners (min xs (min ys (min strengths neighbours)))) }
 {
-    numbers::lesser(
-        count,
-        numbers::lesser(corners, corner_list::places(xs, ys, strengths, neighbours)),
-    )
-}
-
-// Whether this corner or one before it is outside.
-fn either_outside(before: bool, c: Corner) -> bool
-    ensures { result ≡ (before || corner_outside c) }
-{
-    if before {
-        return true;
-    }
-    !corner_list::is_inside(c)
+    count.min(corners.min(corner_list::places(xs, ys, strengths, neighbours)))
 }
 
 // Whether one of the first `count` corners of a slice is outside; those past its end do not count.
 fn has_outside(corners: &[Corner], count: usize) -> bool
     ensures { result ≡ any corner_outside (take count corners.now) }
 {
-    let mut outside = false;
-    for i in 0..numbers::lesser(count, corners.len()) {
-        outside = either_outside(outside, corners[i]);
-    }
-    outside
+    corners.iter().take(count).any(|c| !corner_list::is_inside(*c))
 }
 
-// Swaps the first n corners with the first n places of a buffer.
+// Swaps the first n corners with the first n places of a buffer: by the place, since a zip of five slices is no plainer.
 fn exchange(
     corners: &mut [Corner],
     xs: &mut [f32],
@@ -90,10 +73,7 @@ fn exchange(
 fn judged(outside: bool, radius: f32, answer: Merged) -> Merged
     ensures { result ≡ cond (not (is_off radius) && outside) (Refused 4) answer }
 {
-    if merge_radius::is_off(radius) {
-        return answer;
-    }
-    if outside {
+    if !merge_radius::is_off(radius) && outside {
         return Merged::Refused(4);
     }
     answer

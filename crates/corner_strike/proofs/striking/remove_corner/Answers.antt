@@ -11,9 +11,6 @@ overflow_sub-last c = omega (arith, c.requires.0)
 pub loop-at-init : goal.loop-at-init
 loop-at-init c = moving-none _ _ _ c.requires.0 c.requires.1
 
-pub loop-at-smaller : goal.loop-at-smaller
-loop-at-smaller c = omega (arith, c.loop-at-test.true)
-
 pub loop-at-preserved : goal.loop-at-preserved
 loop-at-preserved c =
     moving-next _ _ _ c.requires.0 c.requires.1 _ _ c.loop-at.invariant _ _ c.loop-at-test.true

@@ -1,4 +1,3 @@
-use Prim.Native.Nat.{◌-◌}
 use Rattle.corner_list.specs.CornerList.{slices}
 use Rattle.corner_strike.proofs.Removing.{Moving}
 use Rattle.corner_strike.proofs.striking.remove_corner.Given as goal
@@ -7,6 +6,3 @@ abbrev pub invariant-loop-at : goal.invariant-loop-at
 invariant-loop-at l =
     Moving (slices l.initial.xs l.initial.ys l.initial.strengths l.initial.neighbours) l.count l.place l.at
     (slices l.xs l.ys l.strengths l.neighbours)
-
-abbrev pub decreases-loop-at : goal.decreases-loop-at
-decreases-loop-at l = l.last - l.at
