@@ -59,7 +59,18 @@ fn merge_into(
     }
     let g = merge_grid::grid_of(xs, ys, n, radius);
     merge_settle::settle_list(
-        xs, ys, strengths, neighbours, true, mx, my, ms, mn, &mut [], g, n,
+        xs,
+        ys,
+        strengths,
+        neighbours,
+        true,
+        mx,
+        my,
+        ms,
+        mn,
+        &mut [],
+        g,
+        n,
     )
 }
 

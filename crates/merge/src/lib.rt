@@ -48,7 +48,18 @@ pub(crate) fn merge_list(
     }
     let g = merge_grid::grid_of(xs, ys, n, radius);
     merge_settle::settle_list(
-        &[], &[], &[], &[], false, xs, ys, strengths, neighbours, table, g, n,
+        &[],
+        &[],
+        &[],
+        &[],
+        false,
+        xs,
+        ys,
+        strengths,
+        neighbours,
+        table,
+        g,
+        n,
     )
 }
 

@@ -5,8 +5,8 @@ ghost use Rattle.merge_settle.specs.Internal.{place_of, count_with, put_at};
 
 use corner_list::Corner;
 
-// The place that c takes among the first k corners of a buffer, of which `joined` is the first that it joins: that one's
-// if c is stronger, and none if not; the place after them all if it joins none.
+// The place that c takes among the first k corners of a buffer, of which `joined` is the first that it joins: that
+// one's if c is stronger, and none if not; the place after them all if it joins none.
 fn place_for(
     xs: &[f32],
     ys: &[f32],

@@ -32,10 +32,13 @@ fn shared_places(
 fn has_outside(corners: &[Corner], count: usize) -> bool
     ensures { result ≡ any corner_outside (take count corners.now) }
 {
-    corners.iter().take(count).any(|c| !corner_list::is_inside(*c))
+    corners
+        .iter()
+        .take(count)
+        .any(|c| !corner_list::is_inside(*c))
 }
 
-// Swaps the first n corners with the first n places of a buffer: by the place, since a zip of five slices is no plainer.
+// Swaps the first n corners with the first n places of a buffer. By the place: a zip of five slices is no plainer.
 fn exchange(
     corners: &mut [Corner],
     xs: &mut [f32],

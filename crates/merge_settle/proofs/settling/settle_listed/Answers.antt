@@ -45,6 +45,7 @@ returns c =
           settles-by _ _ _ _ c.requires.k_bound _ first _ place _ (c.count_with.ensures ∙ ap (count_with c.args.k) (sym c.in-Some.is))
           _ c.settle_corner-at.ensures.put;
       indexed_2 =
-          indexed-placed _ _ _ (buffer (goal.at.returns c).After-find_joined-joined) _ c.requires.indexed _ _ _ c.settle_corner-at.ensures.put
-          _ c.in-Some.is (place-by (joins c.args.g) _ c.args.c _ c.requires.k_bound _ first _ place) _ c.from-p.ensures _ c.list_place.ensures _ c.count_with.ensures;
+          indexed-placed _ _ _ (buffer (goal.at.returns c).After-find_joined-joined) _ c.requires.indexed _ _ _
+          c.settle_corner-at.ensures.put _ c.in-Some.is (place-by (joins c.args.g) _ c.args.c _ c.requires.k_bound _ first _ place)
+          _ c.from-p.ensures _ c.list_place.ensures _ c.count_with.ensures;
     }
