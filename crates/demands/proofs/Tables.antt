@@ -1,14 +1,17 @@
 -- Laws of numbered conditions. Assumes nothing.
 use Prim.Native.Nat.{ℕ, zero, suc, ◌<◌}
 use native.Mathlib.Omega.{arith}
-use mathlib.Core.Path.{◌≡◌, refl, sym, ◌∙◌, subst}
+use mathlib.Core.Path.{◌≡◌, refl, sym, ap, ◌∙◌, subst}
 use mathlib.Core.Logic.{inl, inr, ⊎_elim}
 use mathlib.Core.Bool.{Bool, true, false, cond, ◌&&◌}
 use mathlib.Core.List.{List, [], ◌∷◌, map}
 use lib.Dec.{eqb}
 use borrow.Author.Tests.{eqb-true}
 use Rattle.lists.specs.Places.{any}
-use Rattle.lists.specs.Refusals.{lowest}
+use Rattle.std.specs.Prelude.{Result}
+use Rattle.lists.specs.declared.refusal.Refusal.{Refusal}
+use Rattle.lists.specs.Refusals.{lowest, refusal_number, number_of}
+use Rattle.lists.proofs.Judged.{refused-above}
 use Rattle.lists.proofs.Tests.{and_parts, or-either}
 use Rattle.demands.specs.Numbers.{OneOf, Refuses}
 
@@ -46,12 +49,8 @@ above_zero n ns o l = ⊎_elim (λ z. absurd (let no : ⊥ = omega arith in no))
 pub numbered-one : (cs : List (Bool × ℕ)) (k : ℕ) → k ≡ lowest cs → 0 < k → OneOf k (map (λ c. c.1) cs)
 numbered-one cs k e l = above_zero k (map (λ c. c.1) cs) (subst (λ (j : ℕ). OneOf j (0 ∷ map (λ c. c.1) cs)) (sym e) (lowest-one cs)) l
 
--- an answer by a table's number, where that of 0 is no refusal and any other is the refusal with that number
-module _ {A : Type 0} (refused : ℕ → A) (answer : ℕ → A) (none : (k : ℕ) → answer 0 ≡ refused k → ⊥)
-    (some : (n k : ℕ) → answer (suc n) ≡ refused k → k ≡ suc n) where
-  by_number : (n k : ℕ) → answer n ≡ refused k → (k ≡ n) × (0 < k)
-  by_number zero k e = absurd (none k e)
-  by_number (suc n) k e = let s = some n k e in (s, omega arith)
-
-  pub refused-one : (cs : List (Bool × ℕ)) (r : A) → r ≡ answer (lowest cs) → Refuses refused (map (λ c. c.1) cs) r
-  refused-one cs r a k e = let b = by_number (lowest cs) k (sym a ∙ e) in numbered-one cs k b.0 b.1
+-- an answer with a table's number
+pub refused-one : {A : Type 0} (cs : List (Bool × ℕ)) (r : Result A Refusal) → number_of r ≡ lowest cs → Refuses (map (λ c. c.1) cs) r
+refused-one cs r n e q =
+    let above : 0 < refusal_number e = omega (arith, refused-above e) in
+    numbered-one cs (refusal_number e) (sym (ap number_of q) ∙ n) above

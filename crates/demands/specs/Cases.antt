@@ -7,7 +7,8 @@ use Rattle.std.specs.Float.Ieee.{lt, to_bits}
 use Rattle.float32.specs.Float32.{zero, float_of}
 use Rattle.corner_list.specs.declared.Corner.{Corner}
 use Rattle.multiscale.specs.declared.RoiContext.{RoiContext}
-use Rattle.multiscale.specs.Multiscale.{roi_of, number_of, values_of}
+use Rattle.lists.specs.Refusals.{number_of}
+use Rattle.multiscale.specs.Multiscale.{roi_of, values_of}
 use Rattle.pyramid_levels.specs.Levels.{level_side, level_count}
 use Rattle.pyramid.specs.Pyramid.{halved}
 use Rattle.ring.specs.Ring.{ring5}

@@ -1,6 +1,6 @@
 -- Demand 3: "Whatever the frame not refused, with the two lists alike for each map it looks at, its whole corner list
 -- is the one that exact peak choice leads to: as many corners, in that order, each field bit for bit."
-use Rattle.std.specs.Prelude.{ℕ, ◌≡◌, ◌↔◌, List, map, length}
+use Rattle.std.specs.Prelude.{ℕ, ◌≡◌, ◌↔◌, List, map, length, Ok}
 use Rattle.lists.specs.Places.{All}
 use Rattle.lists.specs.Refusals.{lowest}
 use Rattle.float32.specs.Float32.{lift}
@@ -16,7 +16,6 @@ use Rattle.frame_params.specs.declared.FrameParams.{FrameParams}
 use Rattle.patch_corners.specs.OneMap.{Choice, search_on, computed_choice, exact_choice}
 use Rattle.frame_pass.specs.Pass.{frame_pass, looked_at}
 use Rattle.frame_pass.specs.Theorems.{CornersInside, BoxesAnswered, NoneDropped}
-use Rattle.frame.specs.declared.FrameAnswer.TheVariants.{Corners}
 use Rattle.frame.specs.Frame.{Buffers, FrameFound}
 use Rattle.demands.specs.PeakCall.{PeakCall, search_in}
 use Rattle.demands.specs.PeaksAlike.{program_list, position, name_of}
@@ -35,7 +34,8 @@ pub record CallBy (choose : FrameParams → Choice) : Type 0 where
   pub after : Buffers
   pub count : ℕ
   pub ties : ℕ
-  pub promise : FrameFound (choose parameters) parameters img w h before (Corners count ties) after
+  pub promise : FrameFound (choose parameters) parameters img w h before
+      (Ok (record { corners = count; ties = ties })) after
 
 abbrev pub FrameCall : Type 0
 FrameCall = CallBy computed_choice

@@ -1,6 +1,6 @@
 -- Request 9, "Pixels known between limits" (RULES 28): what the calls of `response_limits` and `sure_peak` leave and
 -- answer, by their promises. What holds for both rings is stated for any ring table.
-use Rattle.std.specs.Prelude.{ℕ, ◌+◌, ◌*◌, ◌≡◌, true, List, get_or, take, ℤ, pos, ◌≤ℤ◌, Float}
+use Rattle.std.specs.Prelude.{ℕ, ◌+◌, ◌*◌, ◌≡◌, true, List, get_or, take, ℤ, pos, ◌≤ℤ◌, Float, Ok}
 use Rattle.float32.specs.Float32.{lift}
 use Rattle.float32.specs.Value.{IsWhole}
 use Rattle.lists.specs.Places.{Place, any}
@@ -9,10 +9,8 @@ use Rattle.response.specs.Exact.{fifths_at}
 use Rattle.detect.specs.Peaks.{same, peak_places}
 use Rattle.detect.specs.Detect.{search_of}
 use Rattle.detect.specs.Exact.{exact_peaks}
-use Rattle.response_limits.specs.declared.Limits.TheVariants.{Written}
 use Rattle.response_limits.specs.Limits.{Between, low_at, high_at}
 use Rattle.response_limits.specs.Promise.{LimitsWritten}
-use Rattle.sure_peak.specs.declared.Sure.TheVariants.{Yes}
 use Rattle.sure_peak.specs.SurePeak.{by_limits}
 use Rattle.sure_peak.specs.Promise.{SurePeakTold}
 use Rattle.demands.specs.Retouch.{InImage}
@@ -28,7 +26,7 @@ pub record LimitsCall : Type 0 where
   pub highs : List ℤ
   pub lows' : List ℤ
   pub highs' : List ℤ
-  pub promise : LimitsWritten low high w h ring lows highs Written lows' highs'
+  pub promise : LimitsWritten low high w h ring lows highs (Ok tt) lows' highs'
 
 -- the two numbers of a cell of its maps, and the paper's exact value for an image with the same sides
 abbrev pub low_cell : LimitsCall → Place → ℤ
@@ -63,7 +61,7 @@ pub record SureCall (c : LimitsCall) : Type 0 where
   pub centroid : ℕ
   pub place : Place
   pub promise : SurePeakTold (take (c.h * c.w) c.lows') (take (c.h * c.w) c.highs') c.w c.h
-      c.ring threshold window least_neighbours centroid place Yes
+      c.ring threshold window least_neighbours centroid place (Ok true)
 
 -- "With maps so made for the ring given it is then a peak by exact values of every such image": it is in the list of
 -- peaks that exact values choose, for any u32 threshold; and if that threshold is also a float, in the exact list of a

@@ -6,7 +6,7 @@ use Rattle.std.specs.Prelude.{ℕ, ◌+◌, ◌^◌, min, ◌≡◌, Bool, true,
 use Rattle.std.specs.Prelude.{pos, Float}
 use Rattle.std.specs.Float.{nan, fin}
 use Rattle.lists.specs.Places.{Place}
-use Rattle.lists.specs.Refusals.{lowest}
+use Rattle.lists.specs.Refusals.{lowest, number_of}
 use Rattle.float32.specs.Float32.{zero}
 use Rattle.response.specs.Patch as response
 use Rattle.pyramid_levels.specs.Refusals.{ask, build_refusal_of, level_refusal_of}
@@ -167,7 +167,7 @@ photographs choose p upload m = photograph.refusal_of (choose p) p upload (with_
 
 -- RULES 11.4
 abbrev read : List ℕ → ℕ
-read input = stream.number_of (stream.answer_of (read_frame input))
+read input = number_of (stream.answer_of (read_frame input))
 
 -- RULES 30.2: into a buffer with no place
 abbrev write : Header → List ℕ → ℕ

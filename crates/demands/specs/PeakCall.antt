@@ -1,9 +1,8 @@
 -- A call of `find_peaks` by computed values, on a map m of w by h cells, that added corners to its buffer, with its
 -- promise word for word.
-use Rattle.std.specs.Prelude.{ℕ, List, length, Float}
+use Rattle.std.specs.Prelude.{ℕ, List, length, Float, Ok}
 use Rattle.corner_list.specs.CornerList.{Slices}
 use Rattle.detect.specs.declared.Search.{Search}
-use Rattle.detect.specs.declared.Peaks.TheVariants.{Added}
 use Rattle.detect.specs.Detect.{search_of, starts_in, ties_in, conditions, PeaksAdded}
 
 pub record PeakCall (m : List Float) (w h : ℕ) : Type 0 where
@@ -22,7 +21,7 @@ pub record PeakCall (m : List Float) (w h : ℕ) : Type 0 where
   pub promise : PeaksAdded (conditions (length m) w h ring window radius)
       (starts_in m (search_of w h ring threshold window least_neighbours radius))
       (ties_in m (search_of w h ring threshold window least_neighbours radius))
-      held before (Added added ties) after
+      held before (Ok (record { count = added; ties = ties })) after
 
 -- what the map was searched with: the border, the lifted threshold and so on
 abbrev pub search_in : {m : List Float} {w h : ℕ} → PeakCall m w h → Search

@@ -1,18 +1,17 @@
 -- Request 1, "PGM photographs": what a call of `find_pgm_corners` leaves is what the frame of the upload's pixels
 -- leaves, so demands 2 and 3 hold for it; and what the reader `read_pgm` makes of uploads. `Total` says which numbers
 -- they give.
-use Rattle.std.specs.Prelude.{ℕ, ◌+◌, ◌*◌, ◌≤◌, ◌≡◌, List, [], ◌∷◌, ◌++◌, map, length, take, replicate}
+use Rattle.std.specs.Prelude.{ℕ, ◌+◌, ◌*◌, ◌≤◌, ◌≡◌, List, [], ◌∷◌, ◌++◌, map, length, take, replicate, Result, Ok, Err}
+use Rattle.lists.specs.declared.refusal.Refusal.{Refusal}
 use Rattle.lists.specs.Limits.{largest_side}
-use Rattle.lists.specs.Refusals.{values_unless}
+use Rattle.lists.specs.Refusals.{refusal_with, values_unless}
 use Rattle.accuracy.specs.Accurate.{Bytes}
 use Rattle.listing.specs.Text.{decimal, space, newline}
 use Rattle.frame_params.specs.declared.FrameParams.{FrameParams}
 use Rattle.patch_corners.specs.OneMap.{Choice}
-use Rattle.frame.specs.declared.FrameAnswer.{FrameAnswer}
-use Rattle.frame.specs.declared.FrameAnswer.TheVariants.{Corners, Refused}
+use Rattle.frame.specs.declared.Found.{Found}
 use Rattle.frame.specs.Frame.{Buffers, FrameFound}
 use Rattle.pgm.specs.declared.PgmImage.{PgmImage}
-use Rattle.pgm.specs.declared.PgmImage.TheVariants.{Pixels}
 use Rattle.pgm.specs.Header.{width_of, height_of, raster_at}
 use Rattle.pgm.specs.Pgm.{refusal_of, pixels_in, PgmRead}
 use Rattle.pgm_frame.specs.PgmFrame.{PhotographFound}
@@ -32,7 +31,8 @@ pub record PhotographCall (choose : FrameParams → Choice) : Type 0 where
   pub after : Buffers
   pub count : ℕ
   pub ties : ℕ
-  pub promise : PhotographFound (choose parameters) parameters upload before (Corners count ties) after
+  pub promise : PhotographFound (choose parameters) parameters upload before
+      (Ok (record { corners = count; ties = ties })) after
 
 -- "The frame is the image's pixels": it is a call of `find_corners` on them (`CallBy`), to which demands 2 and 3 and
 -- request 14 apply
@@ -41,23 +41,26 @@ pub record OnPixels {choose : FrameParams → Choice} (c : PhotographCall choose
   pub pixels : Bytes (pixels_in c.upload)
   pub promise : FrameFound (choose c.parameters) c.parameters (pixels_in c.upload)
       (width_of c.upload) (height_of c.upload) c.before
-      (Corners c.count c.ties) c.after
+      (Ok (record { corners = c.count; ties = c.ties })) c.after
 
 pub record PhotographIsFrame : Type 0 where
   pub finished : (choose : FrameParams → Choice) (c : PhotographCall choose) → OnPixels c
   -- finished or not: an accepted upload has the frame's promise; a refused one its own number, and no buffer changes
-  pub accepted : (choose : Choice) (p : FrameParams) (upload : List ℕ) (b b' : Buffers) (r : FrameAnswer)
+  pub accepted : (choose : Choice) (p : FrameParams) (upload : List ℕ) (b b' : Buffers)
+      (r : Result Found Refusal)
       → PhotographFound choose p upload b r b'
       → refusal_of upload ≡ 0 → FrameFound choose p (pixels_in upload) (width_of upload) (height_of upload) b r b'
-  pub refused : (choose : Choice) (p : FrameParams) (upload : List ℕ) (b b' : Buffers) (r : FrameAnswer)
+  pub refused : (choose : Choice) (p : FrameParams) (upload : List ℕ) (b b' : Buffers)
+      (r : Result Found Refusal)
       → PhotographFound choose p upload b r b'
-      → (refusal_of upload ≡ 0 → ⊥) → (r ≡ Refused (refusal_of upload)) × (b' ≡ b)
+      → (refusal_of upload ≡ 0 → ⊥) → (r ≡ Err (refusal_with (refusal_of upload))) × (b' ≡ b)
 
 -- ---- the reader
 
 -- what `read_pgm` answers, and `pgm_pixels` returns
 pub record ReadAs (upload : List ℕ) (at w h : ℕ) (pixels : List ℕ) : Type 0 where
-  pub image : (r : PgmImage) → PgmRead upload r → r ≡ Pixels at w h
+  pub image : (r : Result PgmImage Refusal) → PgmRead upload r
+      → r ≡ Ok (record { at = at; w = w; h = h })
   pub part : pixels_in upload ≡ pixels
 
 -- a header as most programs write it: P5, the sides and 255, each number plainly in decimal
@@ -81,7 +84,7 @@ pub record BehindUnread : Type 0 where
       → ReadAs (with_behind upload behind) (raster_at upload) (width_of upload) (height_of upload) (pixels_in upload)
   -- and in what a call of `find_pgm_corners` answers and leaves in the same buffers, finished or not
   pub frame : (choose : Choice) (p : FrameParams) (upload : List ℕ) → refusal_of upload ≡ 0
-      → (behind : List ℕ) (b b₁ b₂ : Buffers) (r₁ r₂ : FrameAnswer)
+      → (behind : List ℕ) (b b₁ b₂ : Buffers) (r₁ r₂ : Result Found Refusal)
       → PhotographFound choose p upload b r₁ b₁ → PhotographFound choose p (with_behind upload behind) b r₂ b₂
       → (r₂ ≡ r₁) × (b₂ ≡ b₁)
 

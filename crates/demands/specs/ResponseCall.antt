@@ -1,12 +1,11 @@
 -- A call of `chess_response_u8_patch` that answered a map of pw by ph cells: what it was given, what it left, and its
 -- promise, word for word as in its contract.
-use Rattle.std.specs.Prelude.{ℕ, ◌+◌, ◌*◌, ◌<◌, List, get_or, take, ℤ, Float}
+use Rattle.std.specs.Prelude.{ℕ, ◌+◌, ◌*◌, ◌<◌, List, get_or, take, ℤ, Float, Ok}
 use Rattle.std.specs.Float.{nan}
 use Rattle.lists.specs.Places.{Place}
 use Rattle.ring.specs.Ring.{ring_of}
 use Rattle.response.specs.Patch.{View, Patched}
 use Rattle.response.specs.Exact.{fifths_in}
-use Rattle.response.specs.declared.Patch.TheVariants.{Cells}
 use Rattle.accuracy.specs.Accurate.{Bytes}
 
 -- the box x0, y0, x1, y1 of an image of w by h pixels, with the ring that a radius selects
@@ -30,7 +29,8 @@ pub record ResponseCall : Type 0 where
   pub after : List Float
   pub pw : ℕ
   pub ph : ℕ
-  pub promise : Patched (view_of img w h ring x0 y0 x1 y1) ring before (Cells pw ph) after
+  pub promise : Patched (view_of img w h ring x0 y0 x1 y1) ring before
+      (Ok (record { w = pw; h = ph })) after
 
 -- a cell of the map, by column and row
 abbrev pub InMap : ResponseCall → Place → Type 0

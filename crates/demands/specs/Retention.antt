@@ -1,11 +1,11 @@
 -- Request 13, "What may be deleted": what `holding` tells about an item, what the program `retained` prints for a
 -- stream, which is `output_of` of its input bytes, and how many of them it reads.
-use Rattle.std.specs.Prelude.{ℕ, ◌+◌, ◌-◌, ◌<◌, ◌≤◌, ◌≡◌, ◌↔◌, ◌⊎◌, List, [], ◌∷◌, ◌++◌, length, take}
+use Rattle.std.specs.Prelude.{ℕ, ◌+◌, ◌-◌, ◌<◌, ◌≤◌, ◌≡◌, ◌↔◌, ◌⊎◌, List, [], ◌∷◌, ◌++◌, length, take, Ok}
 use Rattle.lists.specs.Places.{counted, flat_map, All}
 use Rattle.listing.specs.Text.{newline, refused_text}
 use Rattle.retention.specs.declared.Holding.{Holding}
 use Rattle.retention.specs.declared.Holding.TheVariants.{NotYet, Held, Gone}
-use Rattle.retention.specs.Retention.{day_of, number_of, letter_of}
+use Rattle.retention.specs.Retention.{day_of, letter_of}
 use Rattle.retention.specs.Stream.{most_records, longest_input, state_at, place_of, output_of}
 use Rattle.retention.specs.Wanted.{item_fault, items, wanted}
 use Rattle.retention.specs.Answer.{StateTold}
@@ -18,8 +18,7 @@ pub record HoldingCall (kind : ℕ) : Type 0 where
   pub start : ℕ
   pub time : ℕ
   pub answer : Holding
-  pub promise : StateTold kind start time answer
-  pub finished : number_of answer ≡ 0
+  pub promise : StateTold kind start time (Ok answer)
 
 pub record HeldWhen : Type 0 where
   -- "Corner files: always from receipt."

@@ -1,6 +1,6 @@
 -- Request 8, "Retouched pixels": what a call of `retouch` leaves, by its promise. What holds for both rings is stated
 -- for any ring table.
-use Rattle.std.specs.Prelude.{ℕ, ◌+◌, ◌*◌, ◌<◌, ◌≤◌, ◌≡◌, true, false, List, length, get_or, ℤ, nat_abs, ◌-ℤ◌, Float}
+use Rattle.std.specs.Prelude.{ℕ, ◌+◌, ◌*◌, ◌<◌, ◌≤◌, ◌≡◌, true, false, List, length, get_or, ℤ, nat_abs, ◌-ℤ◌, Float, Ok}
 use Rattle.std.specs.Float.{nan}
 use Rattle.float32.specs.Value.{dist}
 use Rattle.lists.specs.Places.{Place}
@@ -8,7 +8,6 @@ use Rattle.ring.specs.Ring.{Ring, ring_of, IsRing}
 use Rattle.response.specs.Response.{response_at}
 use Rattle.response.specs.Patch.{View, whole, cells}
 use Rattle.response.specs.Exact.{fifths_at}
-use Rattle.retouch.specs.declared.Retouched.TheVariants.{Redone}
 use Rattle.retouch.specs.Retouch.{on_ring, in_cross, touched, touched_count, changed, redone}
 use Rattle.retouch.specs.Promise.{Retouches}
 use Rattle.demands.specs.ResponseCall.{ResponseCall, view_in, map_of}
@@ -25,7 +24,7 @@ pub record RetouchCall : Type 0 where
   pub count : ℕ
   pub img' : List ℕ
   pub map' : List Float
-  pub promise : Retouches w h ring pixel value img map (Redone count) img' map'
+  pub promise : Retouches w h ring pixel value img map (Ok count) img' map'
 
 -- a place of an image of w by h
 abbrev pub InImage : ℕ → ℕ → Place → Type 0

@@ -1,16 +1,16 @@
 -- Request 10, "Strike a corner in two steps" (RULES 29): for any sequence of calls of `strike_corner`, refused or not.
 -- `show_corner` borrows the buffer only to read it and takes count and change number by value, so it cannot change the
 -- list.
-use Rattle.std.specs.Prelude.{ℕ, ◌+◌, ◌<◌, ◌≤◌, ◌≡◌, List, ◌∷◌, ◌++◌, length}
+use Rattle.std.specs.Prelude.{ℕ, ◌+◌, ◌<◌, ◌≤◌, ◌≡◌, List, ◌∷◌, ◌++◌, length, Result, Ok, Err}
+use Rattle.lists.specs.declared.refusal.Refusal.{Refusal}
+use Rattle.lists.specs.Refusals.{number_of}
 use Rattle.corner_list.specs.declared.Corner.{Corner}
 use Rattle.corner_list.specs.CornerList.{Slices, corner_at, corners_of, no_corner}
 use Rattle.corner_strike.specs.declared.showing.Shown.{Shown}
-use Rattle.corner_strike.specs.declared.showing.Shown.TheVariants.{Found}
 use Rattle.corner_strike.specs.declared.striking.Strike.{Strike}
-use Rattle.corner_strike.specs.declared.striking.Strike.TheVariants.{Struck, Refused}
 use Rattle.corner_strike.specs.Editions.{Edition}
 use Rattle.corner_strike.specs.Showing.{Shows}
-use Rattle.corner_strike.specs.Striking.{number_of, Strikes}
+use Rattle.corner_strike.specs.Striking.{Strikes}
 
 -- a list that is edited, and its corners
 pub record Edited : Type 0 where
@@ -25,7 +25,7 @@ edited_corners s = corners_of s.buffer s.edition.count
 -- of `show_corner`
 pub record ShowCall (s : Edited) : Type 0 where
   pub place : ℕ
-  pub answer : Shown
+  pub answer : Result Shown Refusal
   pub promise : Shows s.buffer s.edition place answer
 
 -- of `strike_corner`, with any place and any change number: `after` is the list that it leaves, in the buffer and the
@@ -33,7 +33,7 @@ pub record ShowCall (s : Edited) : Type 0 where
 pub record StrikeCall (s : Edited) : Type 0 where
   pub place : ℕ
   pub change : ℕ
-  pub answer : Strike
+  pub answer : Result Strike Refusal
   pub after : Edited
   pub promise : Strikes s.buffer s.edition place change answer after.buffer after.edition
 
@@ -43,9 +43,9 @@ pub data StrikeCalls : Edited → Edited → Type 0 where
   more : (s s' : Edited) → StrikeCalls s s' → (c : StrikeCall s') → StrikeCalls s c.after
 
 -- how many of them struck a corner
-abbrev pub strikes_of : Strike → ℕ
-strikes_of (Struck count change) = 1
-strikes_of (Refused number) = 0
+abbrev pub strikes_of : Result Strike Refusal → ℕ
+strikes_of (Ok s) = 1
+strikes_of (Err e) = 0
 
 unfoldable pub struck_in : (s s' : Edited) → StrikeCalls s s' → ℕ
 struck_in s s' (none _) = 0
@@ -56,7 +56,7 @@ pub record RaisedByStrikesOnly : Type 0 where
   -- one call: a strike removes one corner and raises the number by one, a refusal leaves the list unchanged
   pub struck : (s : Edited) (c : StrikeCall s) → number_of c.answer ≡ 0
       → (c.after.edition.change ≡ s.edition.change + 1) × (c.after.edition.count + 1 ≡ s.edition.count)
-  pub refused : (s : Edited) (c : StrikeCall s) (number : ℕ) → c.answer ≡ Refused number → c.after ≡ s
+  pub refused : (s : Edited) (c : StrikeCall s) (e : Refusal) → c.answer ≡ Err e → c.after ≡ s
   -- many: the number has grown by how many corners were struck; if it began at 0, as the owner of a new list sets it,
   -- it is that number
   pub counted : (s s' : Edited) (calls : StrikeCalls s s')
@@ -94,7 +94,8 @@ pub record Removed (k : Corner) (place : ℕ) (before after : List Corner) : Typ
 
 abbrev pub ShownIsStruck : Type 0
 ShownIsStruck =
-    (s s' : Edited) (showing : ShowCall s) (shown : Corner) (number : ℕ) → showing.answer ≡ Found shown number
+    (s s' : Edited) (showing : ShowCall s) (shown : Corner) (number : ℕ)
+    → showing.answer ≡ Ok (record { corner = shown; change = number })
     → StrikeCalls s s'
     → (c : StrikeCall s') → c.place ≡ showing.place → c.change ≡ number → number_of c.answer ≡ 0
     → Removed shown c.place (edited_corners s') (edited_corners c.after)

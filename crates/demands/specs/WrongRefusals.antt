@@ -3,7 +3,7 @@ use Rattle.std.specs.Prelude.{ℕ, ◌+◌, ◌*◌, ◌%◌, ◌^◌, Bool, tru
 use Rattle.std.specs.Prelude.{length, take, drop, Float}
 use Rattle.std.specs.Float.{nan}
 use Rattle.lists.specs.Places.{any}
-use Rattle.lists.specs.Refusals.{lowest, is_large}
+use Rattle.lists.specs.Refusals.{lowest, is_large, number_of}
 use Rattle.float32.specs.Float32.{zero, float_of}
 use Rattle.ring.specs.Ring.{is_ring}
 use Rattle.corner_list.specs.CornerList.{Slices, corners_of}
@@ -50,7 +50,7 @@ base =
     -- "1 and 2 are then not judged", without a map: 1 too (RULES 2.4)
     ∷ road (center.refusal_of 0 zero zero false 0 4097 0) 0 (center.refusal_of 0 zero zero true 0 4097 0) 1
     -- "11 before its body": a record out of order, whose body is cut short (RULES 11.4)
-    ∷ road (stream.number_of (stream.answer_of (read_frame (2 ∷ [])))) 11
+    ∷ road (number_of (stream.answer_of (read_frame (2 ∷ [])))) 11
     (lowest ((ltb 0 (body_length 2), 7) ∷ (not (eqb 2 1), 11) ∷ [])) 7
     ∷ []
 

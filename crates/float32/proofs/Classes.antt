@@ -2,26 +2,20 @@
 use Rattle.std.proofs.Common.{◌≡◌, ℕ, suc, ◌+◌, ◌*◌, ◌%◌, ◌<◌, ◌≤◌, Bool, true, false, cond, not, ◌&&◌, ◌||◌, T, eqb, ltb, sym, refl, ◌∙◌}
 use Rattle.std.proofs.Common.{subst, true≢false, mul-pos, zero-mul, arith, lt→ltb, le-ltb, lt-ltb}
 use native.Mathlib.Decide.{dec_lt}
-use lib.Ieee.{Float, nan, inf, fin, binary32, lt, le, eq, ne, up, down, of_bits, nan_bits, is_nan}
+use lib.Ieee.{Float, nan, inf, fin, binary32, lt, le, eq, up, down, of_bits, nan_bits, is_nan}
 use lib.Ieee.Bits.{nan_bits_is, nan_bits_above}
 use lib.Ieee.Fits.{up_pos}
 use lib.Ieee.Scale.{finite}
+use Rattle.std.specs.Float.{float_is_finite}
 use Rattle.lists.proofs.Tests.{to-T-not}
 use Rattle.float32.specs.Float32.{zero, lift}
 
--- ---- finite: between the infinities
-pub finite-below : (x : Float) → lt x (inf false) ≡ true → lt (inf true) x ≡ finite x
-unfolding lt
-finite-below nan h = refl
-finite-below (inf true) h = refl
-finite-below (inf false) h = absurd (true≢false (sym h))
-finite-below (fin s m e) h = refl
-
-pub finite-above : (x : Float) → lt x (inf false) ≡ false → false ≡ finite x
-unfolding lt
-finite-above nan h = refl
-finite-above (inf s) h = refl
-finite-above (fin s m e) h = absurd (true≢false h)
+-- ---- std's finite is the logic's
+pub finite-is : (x : Float) → float_is_finite x ≡ finite x
+unfolding float_is_finite
+finite-is nan = refl
+finite-is (inf s) = refl
+finite-is (fin s m e) = refl
 
 -- ---- no value is below itself
 pub lt-self : (x : Float) → lt x x ≡ false
@@ -98,7 +92,7 @@ pub above-lifted : (t x : Float) → T (not (is_nan x)) → le x (lift t) ≡ fa
 above-lifted t x h e = above-plus (lift t) x (lift-plus t) h e
 
 -- ---- NaN and its patterns
-is-nan : (x : Float) → T (is_nan x) → nan ≡ x
+pub is-nan : (x : Float) → T (is_nan x) → nan ≡ x
 unfolding is_nan
 is-nan nan t = refl
 is-nan (inf s) t = absurd t
@@ -111,10 +105,3 @@ nan_pattern n h =
 
 pub no-nan-pattern : (n : ℕ) → n % 0x8000_0000 ≤ 0x7f80_0000 → T (not (nan_bits binary32 n))
 no-nan-pattern n h = to-T-not (nan_bits_above binary32 n ∙ le-ltb 0x7f80_0000 (n % 0x8000_0000) h)
-
--- a value that does not differ from itself
-pub no_nan : (x : Float) → ne x x ≡ false → T (not (is_nan x))
-unfolding ne is_nan
-no_nan nan h = absurd (true≢false h)
-no_nan (inf s) h = tt
-no_nan (fin s m e) h = tt

@@ -1,35 +1,12 @@
 -- A float cut off to a whole number (`to_unsigned`, Rust's `as`): within its range and at its ends. Assumes nothing.
-use Rattle.std.proofs.Common.{◌≡◌, ℕ, ◌+◌, ◌-◌, ◌*◌, ◌/◌, ◌^◌, ◌<◌, ◌≤◌, min, Bool, true, false, pos, sym, refl, ◌∙◌, true≢false, le_trans}
-use Rattle.std.proofs.Common.{le_of_eq, lt_of_le_of_lt, mul_comm, mul-pos, one-mul, le-div_iff_mul-le, arith, pow_pos, pow_mono, ltb-false}
+use Rattle.std.proofs.Common.{◌≡◌, ℕ, ◌-◌, ◌*◌, ◌/◌, ◌^◌, ◌<◌, ◌≤◌, min, Bool, true, false, sym, ◌∙◌, true≢false, le_trans}
+use Rattle.std.proofs.Common.{le_of_eq, lt_of_le_of_lt, mul_comm, arith, pow_mono}
 use native.Mathlib.Nat.{div-le_of_le-mul, div-eq_of_lt}
-use lib.Ieee.{Float, nan, inf, fin, up, down, lt, to_unsigned}
+use lib.Ieee.{Float, nan, inf, fin, up, down, to_unsigned}
 use lib.Ieee.Fits.{down_pos}
 use lib.Ieee.Nearest.{div_same}
 use lib.Ieee.Exact.{HasValue}
 use Rattle.float32.proofs.Bounds.{UpTo}
-
--- ---- at the ends of the range
-pub cut-none : (x : Float) → lt (fin true 1 (pos 0)) x ≡ false → 0 ≡ to_unsigned 64 x
-unfolding lt to_unsigned
-cut-none nan h = refl
-cut-none (inf true) h = refl
-cut-none (inf false) h = absurd (true≢false h)
-cut-none (fin true m e) h = refl
-cut-none (fin false m e) h =
-    absurd (omega (arith, ltb-false 0 (1 * 1 * down e + m * up e * 1) h, one-mul (down e), down_pos e))
-
-capped : (n d : ℕ) → 0 < d → 2 ^ 64 * d ≤ n → min (n / d) (2 ^ 64 - 1) ≡ 2 ^ 64 - 1
-capped n d p h = omega (arith, (le-div_iff_mul-le {k = d} {x = 2 ^ 64} {y = n} p).1 h)
-
-pub cut_all : (x : Float) → lt (fin true 1 (pos 0)) x ≡ true → lt x (fin false 1 (pos 64)) ≡ false → 2 ^ 64 - 1 ≡ to_unsigned 64 x
-unfolding lt to_unsigned
-cut_all nan h k = absurd (true≢false (sym h))
-cut_all (inf true) h k = absurd (true≢false (sym h))
-cut_all (inf false) h k = refl
-cut_all (fin true m e) h k =
-    absurd (omega (arith, ltb-false 0 (m * up e * 1 + 1 * 2 ^ 64 * down e) k, mul-pos {m = 2 ^ 64} {n = down e} (pow_pos 64) (down_pos e)))
-cut_all (fin false m e) h k =
-    sym (capped (m * up e) (down e) (down_pos e) (omega (arith, ltb-false (m * up e * 1) (1 * 2 ^ 64 * down e) k)))
 
 -- ---- within it: the whole part of a value ±a / c above -1
 pub cut-value : (w : ℕ) (v : Float) (s : Bool) (a c : ℕ) → 0 < c → (s ≡ true → a < c) → a / c < 2 ^ w → HasValue v s a c

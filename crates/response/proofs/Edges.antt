@@ -33,7 +33,7 @@ rows_fit pixels places n f p same e l =
 -- ---- which cells of a row or a column are computed, as the code finds them
 
 -- the first of them
-module _ (radius x n margin l g from : ℕ) (el : l ≡ radius - x) (eg : g ≡ max margin l) (ef : from ≡ min n g) where
+module _ (radius x n margin l g from : ℕ) (el : l ≡ radius - x) (eg : g ≡ max margin l) (ef : from ≡ min g n) where
   first-in : from ≤ n
   first-in = omega arith
 
@@ -45,7 +45,7 @@ module _ (radius x n margin l g from : ℕ) (el : l ≡ radius - x) (eg : g ≡ 
 
 -- and where they end
 module _ (w radius x n margin from k r s m to : ℕ) (lies : from ≤ n) (ek : k ≡ n - margin) (er : r ≡ w - radius) (es : s ≡ r - x)
-    (em : m ≡ min k s) (et : to ≡ max from m) where
+    (em : m ≡ min k s) (et : to ≡ max m from) where
   to_last : (i : ℕ) → from ≤ i → i < to → (x + i + radius < w) × (i + margin < n)
   to_last i a b = (omega arith, omega arith)
 
@@ -55,8 +55,8 @@ module _ (w radius x n margin from k r s m to : ℕ) (lies : from ≤ n) (ek : k
   end-in : (from ≤ to) × (to ≤ n)
   end-in = (omega arith, omega arith)
 
-pub stretched : (w radius x n margin l g from k r s m to : ℕ) → l ≡ radius - x → g ≡ max margin l → from ≡ min n g
-    → k ≡ n - margin → r ≡ w - radius → s ≡ r - x → m ≡ min k s → to ≡ max from m → Stretched w radius x n margin from to
+pub stretched : (w radius x n margin l g from k r s m to : ℕ) → l ≡ radius - x → g ≡ max margin l → from ≡ min g n
+    → k ≡ n - margin → r ≡ w - radius → s ≡ r - x → m ≡ min k s → to ≡ max m from → Stretched w radius x n margin from to
 stretched w radius x n margin l g from k r s m to el eg ef ek er es em et =
     let lies = first-in radius x n margin l g from el eg ef in
     let last = to_last w radius x n margin from k r s m to lies ek er es em et in

@@ -5,11 +5,14 @@ use Prim.Native.Nat.{ℕ, zero, suc, ◌+◌, ◌*◌, ◌-◌, ◌<◌, ◌≤�
 use native.Mathlib.Nat.{mul-le-mul_right, suc-mul, zero-mul}
 use native.Mathlib.Decide.{dec_lt}
 use native.Mathlib.Omega.{arith}
-use lib.ListN.{length, get_or, set, drop, replicate, length-set, length-append, length-drop, get_or-append}
-use lib.Seq.{get_or-drop, get_or-append-add, ext_get_or, get_or-set_same, get_or-set_other}
+use lib.ListN.{length, get_or, set, take, drop, replicate, length-set, length-append, length-drop, get_or-append}
+use Rattle.std.proofs.lemmas.List.{get_or-replicate, length-replicate}
+use lib.Seq.{get_or-drop, get_or-take, get_or-append-add, get_or-append_right, length-take-le, ext_get_or, get_or-set_same}
+use lib.Seq.{get_or-set_other}
+use borrow.Rule.Slice.PartMut.{put_mid, same_len_mid}
 use lib.Arith.{lt_of_le-ne}
 use Rattle.lists.specs.Tab.{tab, grid}
-use Rattle.lists.proofs.Tab.{length-tab, get_d-tab, length-grid, get_d-grid}
+use Rattle.lists.proofs.Tab.{length-tab, get_d-tab, length-grid, get_d-grid, part_length}
 use lib.Ieee.{Float}
 use Rattle.float32.specs.Float32 as float32
 use Rattle.response.specs.Internal.{Bytes, PlacesWritten, Filled, Cleared}
@@ -119,28 +122,67 @@ quarters-all f k s q l =
 
 -- ---- places written one after the other
 module _ {A : Type 0} (d : A) (at : ℕ) (g : ℕ → A) (s : List A) where
-  pub written_none : PlacesWritten d at 0 g s s
-  written_none = record { long = refl; within = λ i p. absurd (omega arith); before = λ i p. refl; behind = λ i p. refl }
+  -- a part of the list that comes back as ys
+  module _ (n : ℕ) (ys : List A) (fits : at + n ≤ length s) where
+    pub written-part : length ys ≡ n → ((i : ℕ) → i < n → get_or ys i d ≡ g i) → PlacesWritten d at n g s (put_mid at (at + n - at) s ys)
+    written-part own each =
+        record {
+          long = same_len_mid at (at + n - at) s ys (own ∙ sym (part_length at n s fits));
+          within = λ i p.
+              get_or-append_right (take at s) (ys ++ post) (at + i) d (omega (arith, front))
+              ∙ ap (λ (z : ℕ). get_or (ys ++ post) z d) (omega (arith, front))
+              ∙ get_or-append ys post d i (omega (arith, own))
+              ∙ each i p;
+          before = λ i p. get_or-append (take at s) (ys ++ post) d i (omega (arith, front)) ∙ get_or-take at s i d p;
+          behind = λ i p.
+              get_or-append_right (take at s) (ys ++ post) i d (omega (arith, front))
+              ∙ get_or-append_right ys post (i - length (take at s)) d (omega (arith, front, own))
+              ∙ get_or-drop (at + n - at) (drop at s) (i - length (take at s) - length ys) d
+              ∙ get_or-drop at s (at + n - at + (i - length (take at s) - length ys)) d
+              ∙ ap (λ (z : ℕ). get_or s z d) (omega (arith, front, own));
+        }
+      where
+        post : List A
+        post = drop (at + n - at) (drop at s)
 
-  pub written-set : (i : ℕ) (t : List A) (v : A) → PlacesWritten d at i g s t → at + i < length s → v ≡ g i
-      → PlacesWritten d at (i + 1) g s (set t (at + i) v)
-  written-set i t v w l e =
-      record {
-        long = length-set t (at + i) v ∙ w.long;
-        within = within;
-        before = λ j p. get_or-set_other t (at + i) j v d (λ q. absurd (omega arith)) ∙ w.before j p;
-        behind = λ j p. get_or-set_other t (at + i) j v d (λ q. absurd (omega arith)) ∙ w.behind j (omega arith);
-      }
-    where
-      within : (j : ℕ) → j < i + 1 → get_or (set t (at + i) v) (at + j) d ≡ g j
-      within j p =
-          elim (dec_lt j i) [
-            | yes q ↦ get_or-set_other t (at + i) (at + j) v d (λ r. absurd (omega arith)) ∙ w.within j q
-            | no q ↦ let same : j ≡ i = omega arith in rw same (get_or-set_same t (at + i) v d (omega (arith, w.long)) ∙ e)
-          ]
+        front : length (take at s) ≡ at
+        front = length-take-le at s (omega arith)
 
-  pub written-end : (i n : ℕ) (t : List A) → PlacesWritten d at i g s t → i ≡ n → PlacesWritten d at n g s t
-  written-end i n t w e = subst (λ (k : ℕ). PlacesWritten d at k g s t) e w
+    -- as long as the part was, element by element
+    pub written-tab : ys ≡ tab (length (take (at + n - at) (drop at s))) g → PlacesWritten d at n g s (put_mid at (at + n - at) s ys)
+    written-tab is =
+        let part = part_length at n s fits in
+        written-part (ap length is ∙ length-tab (length (take (at + n - at) (drop at s))) g ∙ part)
+        (λ i p. rw (is, part) (get_d-tab n g i d p))
+
+-- places that hold a copy of a part of another list
+pub written-copy : (at n from : ℕ) (img s ys : List ℕ) → at + n ≤ length s → from + n ≤ length img
+    → ys ≡ take (from + n - from) (drop from img)
+    → PlacesWritten 0 at n (λ i. get_or img (from + i) 0) s (put_mid at (at + n - at) s ys)
+written-copy at n from img s ys fits lies is =
+    written-part 0 at (λ i. get_or img (from + i) 0) s n ys fits (ap length is ∙ part_length from n img lies)
+    (λ i p. rw is (get_or-take (from + n - from) (drop from img) i 0 (omega arith) ∙ get_or-drop from img i 0))
+
+-- and bytes stay bytes
+pub bytes-written : (at n : ℕ) (g : ℕ → ℕ) (s t : List ℕ) → PlacesWritten 0 at n g s t → Bytes s → ((i : ℕ) → g i < 256) → Bytes t
+bytes-written at n g s t wr h new i =
+    elim (dec_lt i at) [
+      | yes x ↦ rw (wr.before i x) (h i)
+      | no x ↦ elim (dec_lt i (at + n)) [
+        | yes y ↦
+            let e : at + (i - at) ≡ i = omega arith in
+            subst (λ (k : ℕ). get_or t k 0 < 256) e (rw (wr.within (i - at) (omega arith)) (new (i - at)))
+        | no y ↦ rw (wr.behind i (omega arith)) (h i)
+      ]
+    ]
+
+-- places that hold one value
+pub written-fill : {A : Type 0} (d v : A) (at n : ℕ) (s ys : List A) → at + n ≤ length s
+    → ys ≡ replicate (length (take (at + n - at) (drop at s))) v → PlacesWritten d at n (λ _. v) s (put_mid at (at + n - at) s ys)
+written-fill d v at n s ys fits is =
+    let part = part_length at n s fits in
+    written-part d at (λ _. v) s n ys fits (ap length is ∙ length-replicate (length (take (at + n - at) (drop at s))) v ∙ part)
+    (λ i p. rw (is, part) (get_or-replicate n i v d p))
 
 -- ---- parts of rows
 pub row-after : (w j k : ℕ) → j < k → j * w + w ≤ k * w

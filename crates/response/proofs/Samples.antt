@@ -15,6 +15,7 @@ use Rattle.ring.specs.Ring.{Ring, dx, dy, IsRing}
 use Rattle.ring.proofs.Places.{dx-le, dy-le, radius-pos}
 use Rattle.response.specs.Response.{samples, sr_of, dr_of, cross_of, response_of, response}
 use Rattle.response.specs.declared.Held.{Held}
+use Rattle.response.specs.declared.runs.RowSums.{RowSums}
 use Rattle.response.specs.OnePass.{passed_after}
 use Rattle.response.specs.Internal.{offset_at, Bytes, SumsBounded, ImageWithOffsets, Inner, RingSumsOf, CellSumsOf, SumPlaces}
 use Rattle.response.specs.Internal.{CellsSummed, block_columns}
@@ -138,40 +139,40 @@ assembled img w t x y b m q v p e =
     (omega (arith, p.dr_small)) m q ∙ (rw (p.sum_is, p.cross_is))
 
 -- ---- the sums of a run
-pub summed-set : (tile : List ℕ) (w : ℕ) (t : Ring) (radius y i : ℕ) (a b c : List ℕ) (p q r : ℕ) → i < block_columns
-    → CellsSummed tile w t radius y i a b c
-    → CellSumsOf tile w t (radius + i) y p q r → CellsSummed tile w t radius y (i + 1) (set a i p) (set b i q) (set c i r)
-summed-set tile w t radius y i a b c p q r small sums new =
+abbrev with_sums : RowSums → ℕ → ℕ → ℕ → ℕ → RowSums
+with_sums r i p q v = record { balance = set r.balance i p; sum = set r.sum i q; cross = set r.cross i v }
+
+pub summed-set : (tile : List ℕ) (w : ℕ) (t : Ring) (radius y i : ℕ) (r : RowSums) (p q v : ℕ) → i < block_columns
+    → CellsSummed tile w t radius y i r
+    → CellSumsOf tile w t (radius + i) y p q v → CellsSummed tile w t radius y (i + 1) (with_sums r i p q v)
+summed-set tile w t radius y i r p q v small sums new =
     record {
       long =
           record {
-            balance_long = length-set a i p ∙ long.balance_long;
-            sum_long = length-set b i q ∙ long.sum_long;
-            cross_long = length-set c i r ∙ long.cross_long;
+            balance_long = length-set r.balance i p ∙ long.balance_long;
+            sum_long = length-set r.sum i q ∙ long.sum_long;
+            cross_long = length-set r.cross i v ∙ long.cross_long;
           };
       cells = cells;
     }
   where
-    long : SumPlaces a b c
+    long : SumPlaces r
     long = sums.long
 
-    cells : (k : ℕ) → k < i + 1 → CellSumsOf tile w t (radius + k) y (get_or (set a i p) k 0) (get_or (set b i q) k 0)
-        (get_or (set c i r) k 0)
+    cells : (k : ℕ) → k < i + 1 → CellSumsOf tile w t (radius + k) y (get_or (set r.balance i p) k 0) (get_or (set r.sum i q) k 0)
+        (get_or (set r.cross i v) k 0)
     cells k l = elim (dec_lt k i) [
       | yes x ↦
           let other : k ≡ i → ⊥ = λ e. absurd (omega arith) in
-          rw (get_or-set_other a i k p 0 other, get_or-set_other b i k q 0 other, get_or-set_other c i k r 0 other) (sums.cells k x)
+          rw (get_or-set_other r.balance i k p 0 other, get_or-set_other r.sum i k q 0 other, get_or-set_other r.cross i k v 0 other)
+          (sums.cells k x)
       | no x ↦
           let same : k ≡ i = omega arith in
           rw (
             same,
-            get_or-set_same a i p 0 (omega (arith, long.balance_long)),
-            get_or-set_same b i q 0 (omega (arith, long.sum_long)),
-            get_or-set_same c i r 0 (omega (arith, long.cross_long)),
+            get_or-set_same r.balance i p 0 (omega (arith, long.balance_long)),
+            get_or-set_same r.sum i q 0 (omega (arith, long.sum_long)),
+            get_or-set_same r.cross i v 0 (omega (arith, long.cross_long)),
           )
           new
     ]
-
-pub summed-end : (tile : List ℕ) (w : ℕ) (t : Ring) (radius y i n : ℕ) (a b c : List ℕ) → CellsSummed tile w t radius y i a b c → i ≡ n
-    → CellsSummed tile w t radius y n a b c
-summed-end tile w t radius y i n a b c sums e = subst (λ (k : ℕ). CellsSummed tile w t radius y k a b c) e sums

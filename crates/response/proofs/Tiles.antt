@@ -6,6 +6,7 @@ use native.Mathlib.Nat.{mul_comm, mul-le-mul_right}
 use native.Mathlib.Omega.{arith}
 use native.Mathlib.Decide.{dec_lt}
 use lib.Ieee.{Float}
+use prog.Memory.{up}
 use lib.ListN.{length, get_or, set, length-set}
 use lib.Seq.{get_or-set_same, get_or-set_other}
 use Rattle.lists.specs.Limits.{largest_side, largest_map}
@@ -16,9 +17,10 @@ use Rattle.ring.specs.Ring.{Ring, ring5, ring_of, dx, dy, IsRing}
 use Rattle.ring.proofs.Places.{dx-le, dy-le, radius-pos, radius-small, selects-first}
 use Rattle.ring.proofs.Table.{ring_of-is}
 use Rattle.response.specs.declared.rows.Field.{Field}
-use Rattle.response.specs.Response.{samples, cross_of, response, response_of}
-use Rattle.response.specs.Internal.{offset_at, ImageWithOffsets, Inner, IsTile, CellsSummed, PlacesWritten, Filled, Placed, InnerPart}
-use Rattle.response.specs.Internal.{responses, tile_rows}
+use Rattle.response.specs.declared.runs.RowSums.{RowSums}
+use Rattle.response.specs.Response.{samples, cross_of, response}
+use Rattle.response.specs.Internal.{offset_at, ImageWithOffsets, Inner, CellsSummed, PlacesWritten, Filled, Placed, InnerPart}
+use Rattle.response.specs.Internal.{responses, response_from, tile_rows, large_row}
 use Rattle.response.proofs.Filling.{row-after, row-filled, then-below}
 use Rattle.response.proofs.Indices.{area-le}
 use Rattle.response.proofs.Inside.{at-inside}
@@ -54,12 +56,16 @@ module _ (img tile : List ℕ) (w s X Y n m : ℕ) (same : (u v : ℕ) → u < n
             at (x - 1) y (X + x - 1) (Y + y) (omega arith) (omega arith) (omega (arith, one)) (omega arith),
           )
 
+-- ---- the places of a tile fit in memory
+pub tile-fits : (s n : ℕ) → n ≡ s * tile_rows → s ≤ large_row → up 2 (0 + n * 2) < 9223372036854775808
+tile-fits s n e narrow = omega arith
+
 -- ---- where a block lies
-pub tile-framed : (tile : List ℕ) (s r : ℕ) (off : List ℕ) → IsTile s tile → (ring_of r).radius ≡ r → off ≡ tab 16 (offset_at (ring_of r) s)
-    → ImageWithOffsets tile s tile_rows (ring_of r) r off
-tile-framed tile s r off is own e =
+pub tile-framed : (tile : List ℕ) (s r : ℕ) (off : List ℕ) → length tile ≡ s * tile_rows → s ≤ large_row → (ring_of r).radius ≡ r
+    → off ≡ tab 16 (offset_at (ring_of r) s) → ImageWithOffsets tile s tile_rows (ring_of r) r off
+tile-framed tile s r off long narrow own e =
     record {
-      image = record { narrow = omega (arith, is.narrow); low = omega arith; sized = is.long };
+      image = record { narrow = omega (arith, narrow); low = omega arith; sized = long };
       is-ring = ring_of-is r;
       own_radius = own;
       offsets = e;
@@ -151,17 +157,17 @@ module _ (img tile : List ℕ) (w : ℕ) (f : Field) (i j n m : ℕ) (is-ring : 
       ∙ (rw (column, row))
       ∙ sym (at-inside f.w f.h (ring_of f.radius) (f.x + (i + p)) (f.y + (j + k)) img f.radius own (in_image p l))
 
-  pub block-step : (a b c : List ℕ) (z at : ℕ) (s₀ s t : List Float) → n ≤ z
-      → CellsSummed tile w (ring_of f.radius) f.radius (f.radius + k) z a b c
-      → PlacesWritten zero at n (λ p. response_of (get_or a p 0) 4096 (get_or b p 0) (get_or c p 0)) s t → at ≡ (j + k) * f.pw + i
+  pub block-step : (r : RowSums) (z at : ℕ) (s₀ s t : List Float) → n ≤ z
+      → CellsSummed tile w (ring_of f.radius) f.radius (f.radius + k) z r
+      → PlacesWritten zero at n (response_from r) s t → at ≡ (j + k) * f.pw + i
       → Filled zero f.pw f.ph (responses img f) i (i + n) j (j + k) s₀ s
       → Filled zero f.pw f.ph (responses img f) i (i + n) j (j + (k + 1)) s₀ t
-  block-step a b c z at s₀ s t l sums wr is before =
-      let g : ℕ → Float = λ p. response_of (get_or a p 0) 4096 (get_or b p 0) (get_or c p 0) in
+  block-step r z at s₀ s t l sums wr is before =
       let next : j + k + 1 ≡ j + (k + 1) = omega arith in
       subst (λ (e : ℕ). Filled zero f.pw f.ph (responses img f) i (i + n) j e s₀ t) next
       (then-below zero f.pw f.ph (responses img f) i (i + n) j (j + k) (j + k + 1) s₀ s t before
-      (row-filled zero f.pw f.ph (responses img f) at n i (i + n) (j + k) g s t wr is refl part.across (omega (arith, part.down))
+      (row-filled zero f.pw f.ph (responses img f) at n i (i + n) (j + k) (response_from r) s t wr is refl part.across
+      (omega (arith, part.down))
       (λ p q. assembled tile w (ring_of f.radius) (f.radius + p) (f.radius + k) _ _ _ _ (sums.cells p (omega arith)) refl
       ∙ cell-is p q)))
 

@@ -9,7 +9,9 @@ use Rattle.lists.specs.Internal.{Sized}
 use Rattle.ring.specs.Ring.{Ring, dx, dy, is_ring, IsRing, ring_of}
 use Rattle.response.specs.declared.Held.{Held}
 use Rattle.response.specs.declared.rows.Field.{Field}
+use Rattle.response.specs.declared.runs.RowSums.{RowSums}
 use Rattle.response.specs.Response.{is_within, inside, samples, sr_of, dr_of, ring_sum_of, cross_of, response_at}
+use Rattle.response.specs.Response.{response_of}
 pub use Rattle.response.specs.Response.{Bytes}
 
 -- the offset of place k of a ring from the corner of the ring's square, in an image w wide
@@ -99,12 +101,6 @@ large_tile = large_row * tile_rows
 abbrev pub small_tile : ℕ
 small_tile = small_row * tile_rows
 
--- a tile: rows of s places that hold bytes
-pub record IsTile (s : ℕ) (l : List ℕ) : Type 0 where
-  pub long : length l ≡ s * tile_rows
-  pub narrow : s ≤ large_row
-  pub bytes : Bytes l
-
 -- n rounded up to a multiple of 8
 abbrev pub eights_of : ℕ → ℕ
 eights_of n = (n + 7) / 8 * 8
@@ -133,14 +129,13 @@ Cleared w a b c e s t =
     → Filled float32.zero w h f a b c e s t
 
 -- places for the sums of a row of a block
-pub record SumPlaces (balance sum cross : List ℕ) : Type 0 where
-  pub balance_long : length balance ≡ block_columns
-  pub sum_long : length sum ≡ block_columns
-  pub cross_long : length cross ≡ block_columns
+pub record SumPlaces (r : RowSums) : Type 0 where
+  pub balance_long : length r.balance ≡ block_columns
+  pub sum_long : length r.sum ≡ block_columns
+  pub cross_long : length r.cross ≡ block_columns
 
 -- row y of a tile with rows of s places: the ring of a radius lies in the tile for n cells from column `radius` on
-pub record CellsInRow (tile : List ℕ) (s radius y n : ℕ) : Type 0 where
-  pub is_tile : IsTile s tile
+pub record CellsInRow (s radius y n : ℕ) : Type 0 where
   pub own_radius : (ring_of radius).radius ≡ radius
   pub above : radius ≤ y
   pub below : y + radius < tile_rows
@@ -148,10 +143,14 @@ pub record CellsInRow (tile : List ℕ) (s radius y n : ℕ) : Type 0 where
   pub across : n + radius + radius ≤ s
 
 -- the sums of the first n cells in row y of a tile whose ring lies in it
-pub record CellsSummed (tile : List ℕ) (s : ℕ) (t : Ring) (radius y n : ℕ) (balance sum cross : List ℕ) : Type 0 where
-  pub long : SumPlaces balance sum cross
-  pub cells : (i : ℕ) → i < n → CellSumsOf tile s t (radius + i) y (get_or balance i 0) (get_or sum i 0)
-      (get_or cross i 0)
+pub record CellsSummed (tile : List ℕ) (s : ℕ) (t : Ring) (radius y n : ℕ) (r : RowSums) : Type 0 where
+  pub long : SumPlaces r
+  pub cells : (i : ℕ) → i < n → CellSumsOf tile s t (radius + i) y (get_or r.balance i 0) (get_or r.sum i 0)
+      (get_or r.cross i 0)
+
+-- the response of its cell i
+abbrev pub response_from : RowSums → ℕ → Float
+response_from r i = response_of (get_or r.balance i 0) 4096 (get_or r.sum i 0) (get_or r.cross i 0)
 
 -- of n cells from place x on, those from the a-th up to the b-th lie at least the radius from either end of w places
 -- and at least the margin from either end of the n cells, and no others do

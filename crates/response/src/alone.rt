@@ -6,7 +6,6 @@ ghost use Rattle.response.specs.Response.{response};
 ghost use Rattle.response.specs.Internal.{Bytes, ImageWithOffsets, Inner};
 
 use crate::cell::{ring_sums, value};
-use crate::tile::wide;
 
 // The pixels at the given offsets from `base`.
 fn pick(img: &[u8], base: usize, off: [usize; 16]) -> [u16; 16]
@@ -14,11 +13,8 @@ fn pick(img: &[u8], base: usize, off: [usize; 16]) -> [u16; 16]
     ensures { (result ≡ tab 16 (λ k. get_or img.now (base + get_or off k 0) 0)) × Bytes result }
 {
     let mut s = [0u16; 16];
-    let mut k = 0usize;
-    while k < 16 {
-        let o = off[k];
-        s[k] = wide(img[base + o]);
-        k += 1;
+    for (k, o) in off.iter().enumerate() {
+        s[k] = u16::from(img[base + *o]);
     }
     s
 }
@@ -27,7 +23,7 @@ fn pick(img: &[u8], base: usize, off: [usize; 16]) -> [u16; 16]
 fn four(a: u8, b: u8, c: u8, d: u8) -> u16
     ensures { (result ≡ a + b + c + d) × (result < 1021) }
 {
-    wide(a) + wide(b) + wide(c) + wide(d)
+    u16::from(a) + u16::from(b) + u16::from(c) + u16::from(d)
 }
 
 // The sum of the cross around the pixel at `mid`, in an image w wide.
@@ -36,7 +32,7 @@ fn middle(img: &[u8], w: usize, mid: usize) -> u16
     ensures { result ≡ get_or img.now mid 0 + get_or img.now (mid - w) 0 + get_or
         img.now (mid + w) 0 + get_or img.now (mid + 1) 0 + get_or img.now (mid - 1) 0 }
 {
-    four(img[mid], img[mid - w], img[mid + w], img[mid + 1]) + wide(img[mid - 1])
+    four(img[mid], img[mid - w], img[mid + w], img[mid + 1]) + u16::from(img[mid - 1])
 }
 
 // The response of a cell whose ring lies in an image of w by h.

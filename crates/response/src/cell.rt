@@ -9,7 +9,7 @@ ghost use Rattle.response.specs.OnePass.{with_pair, RingPassed};
 ghost use Rattle.response.specs.Internal.{Bytes, ImageWithOffsets, Inner, SumsBounded, CellSumsOf, tile_rows};
 
 use crate::Held;
-use numbers::lesser;
+use crate::tile::Tile;
 
 // The greater of two numbers. They are compared as i16: the machine's vector instructions can compare i16, but not u16.
 fn most(a: u16, b: u16) -> u16
@@ -41,17 +41,17 @@ fn with_pair(h: Held, k: usize, a: u16, b: u16) -> Held
     if k < 4 {
         first[k] = q;
         return Held {
-            sr: h.sr,
             dr,
             sum,
             first,
+            ..h
         };
     }
     Held {
         sr: h.sr + gap(first[k - 4], q),
         dr,
         sum,
-        first,
+        ..h
     }
 }
 
@@ -61,17 +61,14 @@ pub(crate) fn ring_sums(s: [u16; 16], n: usize) -> Held
     requires { Bytes s }
     ensures { RingPassed s n result }
 {
-    let last = lesser(n, 8);
     let mut h = Held {
         sr: 0,
         dr: 0,
         sum: 0,
         first: [0u16; 4],
     };
-    let mut k = 0usize;
-    while k < last {
+    for k in 0..n.min(8) {
         h = with_pair(h, k, s[k], s[k + 8]);
-        k += 1;
     }
     h
 }
@@ -83,13 +80,11 @@ fn gather(tile: &[u16], base: usize, off: [usize; 16]) -> [u16; 16]
     ensures { result ≡ tab 16 (λ k. get_or tile.now (base + get_or off k 0) 0) }
 {
     let mut s = [0u16; 16];
-    let mut k = 0usize;
-    while k < 4 {
+    for k in 0..4 {
         s[k + 4] = tile[base + off[k + 4]];
         s[k] = tile[base + off[k]];
         s[k + 12] = tile[base + off[k + 12]];
         s[k + 8] = tile[base + off[k + 8]];
-        k += 1;
     }
     s
 }
@@ -114,25 +109,24 @@ pub(crate) struct CellSums {
     pub(crate) cross: u16,
 }
 
-// The sums of a cell of a tile with rows of s places. Its ring lies in the tile.
-pub(crate) fn cell_sums(
-    tile: &[u16],
-    s: usize,
+// The sums of a cell of a tile. Its ring lies in the tile.
+pub(crate) fn cell_sums<const ROW: usize, const PLACES: usize>(
+    tile: &Tile<ROW, PLACES>,
     radius: usize,
     off: [usize; 16],
     x: usize,
     y: usize,
 ) -> CellSums
-    requires { Bytes tile.now × ImageWithOffsets tile.now s tile_rows (ring_of radius) radius off
-        × Inner s tile_rows radius x y }
-    ensures { CellSumsOf tile.now s (ring_of radius) x y result.balance result.sum result.cross }
+    requires { ImageWithOffsets tile.now.places ROW tile_rows (ring_of radius) radius off
+        × Inner ROW tile_rows radius x y }
+    ensures { CellSumsOf tile.now.places ROW (ring_of radius) x y result.balance result.sum result.cross }
 {
-    let base = (y - radius) * s + (x - radius);
-    let ring = ring_sums(gather(tile, base, off), 8);
+    let base = (y - radius) * ROW + (x - radius);
+    let ring = ring_sums(gather(&tile.places, base, off), 8);
     CellSums {
         balance: ring.sr + 4096 - ring.dr,
         sum: ring.sum,
-        cross: cross(tile, s, y * s + x),
+        cross: cross(&tile.places, ROW, y * ROW + x),
     }
 }
 

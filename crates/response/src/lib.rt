@@ -12,8 +12,6 @@ ghost use Rattle.ring.specs.Ring.{ring_of};
 ghost use Rattle.response.specs.Patch.{side_of, besides, InnerPatched, Patched};
 ghost use Rattle.response.specs.Internal.{refusal_for};
 
-use numbers::{lesser, minus};
-
 // What is kept from the pairs of opposite samples read so far: SR, DR and the sum, and the sums of the first four
 // pairs. Public because a promise mentions it.
 #[derive(Clone, Copy)]
@@ -28,7 +26,7 @@ pub struct Held {
 fn side(n: usize, a: usize, b: usize) -> usize
     ensures { result ≡ side_of n a b }
 {
-    minus(lesser(b, n), lesser(a, n))
+    b.min(n).saturating_sub(a.min(n))
 }
 
 // A side, or 0 if the other is 0.
@@ -90,18 +88,7 @@ pub fn inner_patch(
     if number != 0 {
         return Patch::Refused(number);
     }
-    rows::fill(
-        img,
-        w,
-        h,
-        ring,
-        lesser(x0, w),
-        lesser(y0, h),
-        pw,
-        ph,
-        margin,
-        map,
-    );
+    rows::fill(img, w, h, ring, x0.min(w), y0.min(h), pw, ph, margin, map);
     Patch::Cells { w: pw, h: ph }
 }
 

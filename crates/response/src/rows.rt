@@ -7,17 +7,14 @@ ghost use Rattle.lists.specs.Tab.{grid};
 ghost use Rattle.lists.specs.Internal.{Sized};
 ghost use Rattle.ring.specs.Ring.{ring_of};
 ghost use Rattle.response.specs.Response.{is_within, response_at};
-ghost use Rattle.response.specs.Internal.{IsTile, Filled, PlacesWritten, Cleared, Stretched, Placed, InnerPart};
+ghost use Rattle.response.specs.Internal.{Filled, Cleared, Stretched, Placed, InnerPart};
 ghost use Rattle.response.specs.Internal.{responses};
-ghost use Rattle.response.specs.Internal.{eights_of, block_columns, block_rows, small_side, beyond, large_row};
+ghost use Rattle.response.specs.Internal.{eights_of, block_columns, block_rows, small_side, beyond};
 
 use crate::alone::alone;
-use crate::runs::{eights, row_sums, values};
-use crate::tile::{
-    BLOCK_COLUMNS, BLOCK_ROWS, LARGE_ROW, LARGE_TILE, SMALL_ROW, SMALL_SIDE, SMALL_TILE,
-    offsets_in, widen,
-};
-use numbers::{greater, lesser, minus};
+use crate::runs::{eights, no_sums, row_sums, values};
+use crate::tile::{BLOCK_COLUMNS, BLOCK_ROWS, LargeTile, SMALL_SIDE, SmallTile, Tile, offsets_in};
+use std::ops::Range;
 
 // A map of pw by ph cells of an image of w by h, with a ring of that radius. Its first cell is the image's cell (x, y).
 #[derive(Clone, Copy)]
@@ -31,77 +28,39 @@ struct Field {
     ph: usize,
 }
 
-// Writes 0 to n places from `at` on.
-fn clear(map: &mut [f32], at: usize, n: usize)
-    requires { at + n ≤ length map.old }
-    ensures { PlacesWritten zero at n (λ _. zero) map.old map.new }
-{
-    let mut i = 0usize;
-    while i < n {
-        map[at + i] = 0.0;
-        i += 1;
-    }
-}
-
 // Writes 0 to the cells in columns a up to b and rows c up to e, in rows of w cells.
 fn clear_part(map: &mut [f32], w: usize, a: usize, b: usize, c: usize, e: usize)
     requires { (a ≤ b) × (b ≤ w) × (c ≤ e) × (e * w ≤ length map.old) × (e * w ≤ largest_map) }
     ensures { Cleared w a b c e map.old map.new }
 {
-    let mut j = c;
-    while j < e {
-        clear(map, j * w + a, b - a);
-        j += 1;
+    for j in c..e {
+        map[j * w + a..j * w + b].fill(0.0);
     }
 }
 
-// Computes the responses of n by m cells from the map's column i and row j on, using a tile with rows of s places. All
-// these cells have their ring in the image.
-fn block(
+// Computes the responses of n by m cells from the map's column i and row j on, using a tile. All these cells have their
+// ring in the image.
+fn block<const ROW: usize, const PLACES: usize>(
     img: &[u8],
     f: Field,
     i: usize,
     j: usize,
     n: usize,
     m: usize,
-    tile: &mut [u16],
-    s: usize,
+    tile: &mut Tile<ROW, PLACES>,
     map: &mut [f32],
 )
     requires placed { Placed (length img.now) f (length map.old) × InnerPart f i (i + n) j (j + m) }
-    requires n_nonzero { (0 < n) × (n ≤ block_columns) × (0 < m) × (m ≤ block_rows) × IsTile s tile.old
-        × (eights_of n + beyond ≤ s) }
-    ensures { Filled zero f.pw f.ph (responses img.now f) i (i + n) j (j + m)
-        map.old map.new × IsTile s tile.new }
+    requires n_nonzero { (0 < n) × (n ≤ block_columns) × (0 < m) × (m ≤ block_rows) × (eights_of n + beyond ≤ ROW) }
+    ensures { Filled zero f.pw f.ph (responses img.now f) i (i + n) j (j + m) map.old map.new }
 {
     let r = f.radius;
-    widen(
-        img,
-        f.w,
-        f.x + i - r,
-        f.y + j - r,
-        n + r + r,
-        m + r + r,
-        tile,
-        s,
-    );
-    let mut balance = [0u16; BLOCK_COLUMNS];
-    let mut sum = [0u16; BLOCK_COLUMNS];
-    let mut cross = [0u16; BLOCK_COLUMNS];
-    let mut k = 0usize;
-    while k < m {
-        row_sums(
-            tile,
-            s,
-            r,
-            r + k,
-            eights(n),
-            &mut balance,
-            &mut sum,
-            &mut cross,
-        );
-        values(&balance, &sum, &cross, n, map, (j + k) * f.pw + i);
-        k += 1;
+    tile.widen(img, f.w, f.x + i - r, f.y + j - r, n + r + r, m + r + r);
+    let mut sums = no_sums();
+    for k in 0..m {
+        row_sums(tile, r, r + k, eights(n), &mut sums);
+        let at = (j + k) * f.pw + i;
+        values(&sums, &mut map[at..at + n]);
     }
 }
 
@@ -113,18 +72,18 @@ fn band(
     b: usize,
     j: usize,
     m: usize,
-    tile: &mut [u16],
+    tile: &mut LargeTile,
     map: &mut [f32],
 )
     requires placed { Placed (length img.now) f (length map.old) × InnerPart f a b j (j + m) × (a ≤ b) }
-    requires m_nonzero { (0 < m) × (m ≤ block_rows) × IsTile large_row tile.old }
-    ensures { Filled zero f.pw f.ph (responses img.now f) a b j (j + m)
-        map.old map.new × IsTile large_row tile.new }
+    requires m_nonzero { (0 < m) × (m ≤ block_rows) }
+    ensures { Filled zero f.pw f.ph (responses img.now f) a b j (j + m) map.old map.new }
 {
     let mut i = a;
+    // Not a range: a step is as wide as the block.
     while i < b {
-        let n = lesser(BLOCK_COLUMNS, b - i);
-        block(img, f, i, j, n, m, tile, LARGE_ROW, map);
+        let n = BLOCK_COLUMNS.min(b - i);
+        block(img, f, i, j, n, m, tile, map);
         i += n;
     }
 }
@@ -135,10 +94,11 @@ fn large(img: &[u8], f: Field, a: usize, b: usize, c: usize, e: usize, map: &mut
     ensures { Filled zero f.pw f.ph (responses img.now f) a b c e map.old
         map.new }
 {
-    let mut tile = [0u16; LARGE_TILE];
+    let mut tile = LargeTile::new();
     let mut j = c;
+    // Not a range: a step is as high as the band.
     while j < e {
-        let m = lesser(BLOCK_ROWS, e - j);
+        let m = BLOCK_ROWS.min(e - j);
         band(img, f, a, b, j, m, &mut tile, map);
         j += m;
     }
@@ -151,8 +111,8 @@ fn small(img: &[u8], f: Field, i: usize, j: usize, n: usize, m: usize, map: &mut
     ensures { Filled zero f.pw f.ph (responses img.now f) i (i + n) j (j + m)
         map.old map.new }
 {
-    let mut tile = [0u16; SMALL_TILE];
-    block(img, f, i, j, n, m, &mut tile, SMALL_ROW, map);
+    let mut tile = SmallTile::new();
+    block(img, f, i, j, n, m, &mut tile, map);
 }
 
 // Computes the response of the cell in the map's column i and row j.
@@ -173,8 +133,8 @@ fn inner(img: &[u8], f: Field, a: usize, b: usize, c: usize, e: usize, map: &mut
 {
     let n = b - a;
     let m = e - c;
-    let most = greater(n, m);
-    if lesser(n, m) == 0 {
+    let most = n.max(m);
+    if n.min(m) == 0 {
         return;
     }
     if most == 1 {
@@ -188,21 +148,17 @@ fn inner(img: &[u8], f: Field, a: usize, b: usize, c: usize, e: usize, map: &mut
     large(img, f, a, b, c, e, map);
 }
 
-// A part of a row or of a column of cells, from one place up to another.
-#[derive(Clone, Copy)]
-struct Stretch {
-    from: usize,
-    to: usize,
-}
-
 // Which of n cells from place x on lie at least the radius from either end of w places, and at least the margin from
 // either end of the n cells.
-fn reach(w: usize, radius: usize, x: usize, n: usize, margin: usize) -> Stretch
-    ensures { Stretched w radius x n margin result.from result.to }
+fn reach(w: usize, radius: usize, x: usize, n: usize, margin: usize) -> Range<usize>
+    ensures { Stretched w radius x n margin result.start result.end }
 {
-    let from = lesser(n, greater(margin, minus(radius, x)));
-    let to = greater(from, lesser(minus(n, margin), minus(minus(w, radius), x)));
-    Stretch { from, to }
+    let from = margin.max(radius.saturating_sub(x)).min(n);
+    let to = n
+        .saturating_sub(margin)
+        .min(w.saturating_sub(radius).saturating_sub(x))
+        .max(from);
+    from..to
 }
 
 // Writes the responses of pw by ph cells from column x and row y on to the start of the buffer, with 0 in the cells
@@ -237,9 +193,17 @@ pub(crate) fn fill(
         pw,
         ph,
     };
-    inner(img, f, columns.from, columns.to, rows.from, rows.to, map);
-    clear_part(map, pw, 0, pw, 0, rows.from);
-    clear_part(map, pw, 0, columns.from, rows.from, rows.to);
-    clear_part(map, pw, columns.to, pw, rows.from, rows.to);
-    clear_part(map, pw, 0, pw, rows.to, ph);
+    inner(
+        img,
+        f,
+        columns.start,
+        columns.end,
+        rows.start,
+        rows.end,
+        map,
+    );
+    clear_part(map, pw, 0, pw, 0, rows.start);
+    clear_part(map, pw, 0, columns.start, rows.start, rows.end);
+    clear_part(map, pw, columns.end, pw, rows.start, rows.end);
+    clear_part(map, pw, 0, pw, rows.end, ph);
 }

@@ -3,55 +3,64 @@ use mathlib.Core.Path.{◌≡◌, sym, ap, ◌∙◌, subst}
 use mathlib.Core.Bool.{false}
 use mathlib.Core.List.{List, [], ◌++◌, append-nil}
 use Prim.Native.Nat.{ℕ, ◌+◌, ◌-◌, ◌<◌, ◌≤◌}
-use native.Mathlib.Nat.{add_assoc, zero-add}
+use native.Mathlib.Nat.{le_refl, add_assoc, zero-add}
 use native.Mathlib.Omega.{arith}
-use lib.ListN.{length, take, drop, length-append, length-drop, drop_of_length-le}
-use lib.Seq.{length-take-le, take-append-le, take-take, take_at, drop_at, drop-drop}
+use lib.ListN.{length, take, drop, replicate, length-append, length-drop, drop_of_length-le}
+use Rattle.std.proofs.lemmas.List.{get_or-replicate, length-replicate}
+use lib.Seq.{ext_get_or, length-take-le, take-append-le, take-take, take_at, drop_at, drop-drop}
 use lib.IntN.{ℤ, pos}
 use borrow.Rule.Slice.PartMut.{put_mid, post_of, Post-is}
 use Rattle.lists.specs.Tab.{tab}
-use Rattle.lists.proofs.Tab.{length-tab, tab-ext, tab-add, part-length-to}
+use Rattle.lists.proofs.Tab.{length-tab, get_d-tab, tab-ext, tab-add, part-length-to}
 use Rattle.ring.specs.Ring.{Ring}
 use Rattle.response.specs.Response.{inside}
 use Rattle.response.specs.Internal.{Inner, InnerSpan}
 use Rattle.response_limits.specs.Limits.{low_at, high_at}
 use Rattle.response_limits.specs.Internal.{EdgesCleared}
 
-abbrev zeros : ℕ → List ℤ
+abbrev pub zeros : ℕ → List ℤ
 zeros n = tab n (λ _. pos 0)
 
+-- std's way to say it
+pub zeros-are : (n : ℕ) → replicate n (pos 0) ≡ zeros n
+zeros-are n =
+    ext_get_or (pos 0) (replicate n (pos 0)) (zeros n) (length-replicate n (pos 0) ∙ sym (length-tab n _))
+    (λ i l.
+    let k : i < n = omega (arith, length-replicate n (pos 0)) in
+    get_or-replicate n i (pos 0) (pos 0) k ∙ sym (get_d-tab n _ i (pos 0) k))
+
 -- the two parts that were cleared, of a list s
-module _ (from to : ℕ) (s ys : List ℤ) (k : ℕ) (l : from ≤ to) (r : to ≤ length s) (a : ys ≡ zeros k) (ka : k ≡ from) where
-  abbrev first : List ℤ
-  first = ys ++ post_of 0 (from - 0) s
+module _ (from to : ℕ) (s ys : List ℤ) (l : from ≤ to) (r : to ≤ length s) (a : ys ≡ zeros from) where
+  abbrev pub first : List ℤ
+  first = ys ++ drop from s
 
   ys-long : length ys ≡ from
-  ys-long = ap length a ∙ length-tab k _ ∙ ka
+  ys-long = ap length a ∙ length-tab from _
 
   first-long : length first ≡ length s
-  first-long = omega (arith, length-append ys (post_of 0 (from - 0) s), ys-long, length-drop (from - 0) s)
+  first-long = omega (arith, length-append ys (drop from s), ys-long, length-drop from s)
 
-  behind-long : length (take (length s - to) (drop to first)) ≡ length s - to
-  behind-long = part-length-to to (length s) first (omega (arith, first-long))
-
-  pub edges-cleared : (zs : List ℤ) → zs ≡ zeros (length (take (length s - to) (drop to first)))
-      → EdgesCleared from to (length s) (put_mid to (length s - to) first zs)
+  pub edges-cleared : (zs : List ℤ) → zs ≡ zeros (length (take (length first - to) (drop to first)))
+      → EdgesCleared from to (length s) (put_mid to (length first - to) first zs)
   edges-cleared zs b =
-      let rest : drop (length s - to) (drop to first) ≡ [] =
-      drop-drop (length s - to) to first
-      ∙ drop_of_length-le first (let l : length first ≤ to + (length s - to) = omega (arith, first-long) in l) in
+      let behind-long = part-length-to to (length first) first (le_refl _) in
+      let rest : drop (length first - to) (drop to first) ≡ [] =
+      drop-drop (length first - to) to first
+      ∙ drop_of_length-le first (let l : length first ≤ to + (length first - to) = omega arith in l) in
       let front : length (take to first) ≡ to = length-take-le to first (omega (arith, first-long)) in
       record {
-        long = rw (rest, append-nil) (omega (arith, length-append (take to first) zs, front, ap length b ∙ length-tab _ _ ∙ behind-long));
+        long = rw (
+          rest,
+          append-nil,
+        ) (omega (arith, length-append (take to first) zs, front, first-long, ap length b ∙ length-tab _ _ ∙ behind-long));
         before =
-            take-append-le from (take to first) (zs ++ post_of to (length s - to) first) (omega (arith, front))
+            take-append-le from (take to first) (zs ++ post_of to (length first - to) first) (omega (arith, front))
             ∙ take-take from to first l
-            ∙ take_at ys (post_of 0 (from - 0) s) from ys-long
-            ∙ a
-            ∙ ap zeros ka;
+            ∙ take_at ys (drop from s) from ys-long
+            ∙ a;
         behind =
-            drop_at (take to first) (zs ++ post_of to (length s - to) first) to front
-            ∙ rw (rest, append-nil) (b ∙ ap zeros behind-long);
+            drop_at (take to first) (zs ++ post_of to (length first - to) first) to front
+            ∙ rw (rest, append-nil) (b ∙ ap zeros (behind-long ∙ ap (λ (n : ℕ). n - to) first-long));
       }
 
 -- the middle of a row of w places, put between edges that are 0 where f is 0 there

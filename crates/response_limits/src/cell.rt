@@ -1,6 +1,6 @@
 // What the exact response of one cell can be: its samples in two images, and the naturals whose differences are the two
 // limits.
-ghost use Rattle.std.specs.Prelude.{◌≡◌, ℕ, ◌+◌, ◌-◌, ◌*◌, ◌<◌, ◌≤◌, max, length, get_or};
+ghost use Rattle.std.specs.Prelude.{◌≡◌, ℕ, ◌+◌, ◌-◌, ◌*◌, ◌<◌, ◌≤◌, length, get_or};
 ghost use Rattle.std.proofs.Math.IntN.{sub_ℕ};
 ghost use Rattle.lists.specs.Limits.{largest_side};
 ghost use Rattle.lists.specs.Tab.{tab, pixel};
@@ -10,57 +10,26 @@ ghost use Rattle.response_limits.specs.Internal.{ImageWithTable, SamplesOf, gain
 
 use ring::RingOffsets;
 
-// ---- for bytes, sixteen of which fill a vector register, and for wider numbers: a - b, or 0 if that is negative; and
-// the greater of two
-pub(crate) fn byte_minus(a: u8, b: u8) -> u8
-    ensures { result ≡ a - b }
-{
-    if a < b { 0 } else { a - b }
-}
-
-pub(crate) fn byte_greater(a: u8, b: u8) -> u8
-    ensures { result ≡ max a b }
-{
-    if a < b { b } else { a }
-}
-
-fn minus(a: u16, b: u16) -> u16
-    ensures { result ≡ a - b }
-{
-    if a < b { 0 } else { a - b }
-}
-
-fn greater(a: u16, b: u16) -> u16
-    ensures { result ≡ max a b }
-{
-    if a < b { b } else { a }
-}
-
 // The least that |A - B| can be, with A from a up to c and B from b up to d. With (a, b) and (c, d) swapped it is the
-// greatest.
+// greatest. For bytes, sixteen of which fill a vector register, and for wider numbers: one function for both would need
+// a trait with both operations, longer than the second function.
 fn byte_apart(a: u8, b: u8, c: u8, d: u8) -> u16
     ensures { (result ≡ least_dist (record { low = a; high = c }) (record { low = b; high = d })) × (result < 256) }
 {
-    wide(byte_greater(byte_minus(a, d), byte_minus(b, c)))
+    u16::from(a.saturating_sub(d).max(b.saturating_sub(c)))
 }
 
 fn apart(a: u16, b: u16, c: u16, d: u16) -> u16
     ensures { result ≡ least_dist (record { low = a; high = c }) (record { low = b; high = d }) }
 {
-    greater(minus(a, d), minus(b, c))
+    a.saturating_sub(d).max(b.saturating_sub(c))
 }
 
-// A byte as a wider number, and the sum of two.
-fn wide(b: u8) -> u16
-    ensures { (result ≡ b) × (result < 256) }
-{
-    b as u16
-}
-
+// The sum of two bytes.
 fn pair(a: u8, b: u8) -> u16
     ensures { (result ≡ a + b) × (result ≤ 510) }
 {
-    wide(a) + wide(b)
+    u16::from(a) + u16::from(b)
 }
 
 // SR of sixteen samples, each term at its least.
@@ -68,14 +37,12 @@ fn sr(p: [u8; 16], q: [u8; 16]) -> u16
     ensures { (result ≡ sr_least (range_at p q)) × (result ≤ 2040) }
 {
     let mut sr = 0u16;
-    let mut k = 0usize;
-    while k < 4 {
+    for k in 0..4 {
         let a = pair(p[k], p[k + 8]);
         let b = pair(p[k + 4], p[k + 12]);
         let c = pair(q[k], q[k + 8]);
         let d = pair(q[k + 4], q[k + 12]);
         sr += apart(a, b, c, d);
-        k += 1;
     }
     sr
 }
@@ -85,10 +52,8 @@ fn dr(p: [u8; 16], q: [u8; 16]) -> u16
     ensures { (result ≡ dr_least (range_at p q)) × (result ≤ 2040) }
 {
     let mut dr = 0u16;
-    let mut k = 0usize;
-    while k < 8 {
+    for k in 0..8 {
         dr += byte_apart(p[k], p[k + 8], q[k], q[k + 8]);
-        k += 1;
     }
     dr
 }
@@ -98,10 +63,8 @@ fn ring_sum(p: [u8; 16]) -> u16
     ensures { (result ≡ (ring_range (range_at p p)).low) × (result ≤ 4080) }
 {
     let mut sum = 0u16;
-    let mut k = 0usize;
-    while k < 8 {
+    for k in 0..8 {
         sum += pair(p[k], p[k + 8]);
-        k += 1;
     }
     sum
 }
@@ -143,7 +106,7 @@ fn place(w: usize, x: usize, y: usize, column: u8, row: u8) -> usize
     requires { (w ≤ largest_side) × (x ≤ largest_side) × (y ≤ largest_side) }
     ensures { result ≡ (y + row) * w + (x + column) }
 {
-    (y + (row as usize)) * w + (x + (column as usize))
+    (y + usize::from(row)) * w + (x + usize::from(column))
 }
 
 // The pixels at the places of a ring whose square begins at column x and row y.
@@ -153,10 +116,8 @@ fn gather(img: &[u8], w: usize, x: usize, y: usize, columns: [u8; 16], rows: [u8
     ensures { result ≡ tab 16 (λ k. pixel img.now w (x + get_or columns k 0) (y + get_or rows k 0)) }
 {
     let mut s = [0u8; 16];
-    let mut k = 0usize;
-    while k < 16 {
+    for k in 0..16 {
         s[k] = img[place(w, x, y, columns[k], rows[k])];
-        k += 1;
     }
     s
 }
@@ -168,7 +129,7 @@ fn cross(img: &[u8], w: usize, mid: usize) -> u16
         img.now (mid + w) 0 + get_or img.now (mid + 1) 0 + get_or img.now
         (mid - 1) 0) × (result ≤ 1275) }
 {
-    let centre = wide(img[mid]);
+    let centre = u16::from(img[mid]);
     let down = pair(img[mid - w], img[mid + w]);
     let across = pair(img[mid + 1], img[mid - 1]);
     centre + down + across
@@ -188,10 +149,8 @@ pub(crate) fn samples(
     requires inner { Inner w h radius x y }
     ensures { SamplesOf img.now w radius x y result }
 {
-    let columns = t.columns;
-    let rows = t.rows;
     CellSamples {
-        ring: gather(img, w, x - radius, y - radius, columns, rows),
+        ring: gather(img, w, x - radius, y - radius, t.columns, t.rows),
         cross: cross(img, w, y * w + x),
     }
 }
@@ -215,5 +174,5 @@ pub(crate) fn limits(low: CellSamples, high: CellSamples) -> CellLimits
 pub(crate) fn difference(gain: u16, cost: u16) -> i32
     ensures { result ≡ sub_ℕ gain cost }
 {
-    (gain as i32) - (cost as i32)
+    i32::from(gain) - i32::from(cost)
 }

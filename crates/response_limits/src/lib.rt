@@ -8,8 +8,6 @@ mod rows; // rows.rt: runs and rows of cells
 ghost use Rattle.std.specs.Prelude.{◌≡◌, length};
 ghost use Rattle.response_limits.specs.Promise.{is_crossed, refusal_of, LimitsWritten};
 
-use crate::cell::{byte_greater, byte_minus};
-
 // Both maps were written, or the number of a refusal, which leaves both buffers unchanged.
 #[derive(Clone, Copy)]
 pub enum Limits {
@@ -24,10 +22,8 @@ fn are_crossed(low: &[u8], high: &[u8]) -> bool
     ensures { result ≡ is_crossed low.now high.now }
 {
     let mut most = 0u8;
-    let mut i = 0usize;
-    while i < low.len() {
-        most = byte_greater(most, byte_minus(low[i], high[i]));
-        i += 1;
+    for (i, pixel) in low.iter().enumerate() {
+        most = most.max(pixel.saturating_sub(high[i]));
     }
     most != 0
 }

@@ -1,5 +1,6 @@
 // Runs and rows of cells.
-ghost use Rattle.std.specs.Prelude.{◌≡◌, ◌++◌, ℕ, ◌+◌, ◌*◌, ◌<◌, ◌≤◌, length, drop, pos};
+ghost use Rattle.std.specs.Prelude.{◌≡◌, ◌++◌, ℕ, ◌+◌, ◌*◌, ◌<◌, ◌≤◌, length, get_or, drop};
+ghost use Rattle.std.proofs.Math.IntN.{sub_ℕ};
 ghost use Rattle.lists.specs.Tab.{tab};
 ghost use Rattle.lists.specs.Internal.{Sized};
 ghost use Rattle.ring.specs.Ring.{ring_of};
@@ -8,8 +9,18 @@ ghost use Rattle.response_limits.specs.Limits.{low_at, high_at, low_map, high_ma
 ghost use Rattle.response_limits.specs.Internal.{ImageWithTable, CellsWritten, EdgesCleared};
 
 use crate::cell::{difference, limits, samples};
-use numbers::{greater, lesser, minus};
 use ring::RingOffsets;
+use std::ops::Range;
+
+// Writes gains[i] - costs[i] to each place.
+fn differences(gains: &[u16; 32], costs: &[u16; 32], out: &mut [i32])
+    requires { length out.old ≤ 32 }
+    ensures { out.new ≡ tab (length out.old) (λ i. sub_ℕ (get_or gains.now i 0) (get_or costs.now i 0)) }
+{
+    for (i, place) in out.iter_mut().enumerate() {
+        *place = difference(gains[i], costs[i]);
+    }
+}
 
 // The limits of up to 32 cells of row y from column x on, all with their ring in the image. First come the naturals of
 // all of them, then the differences, so that each loop handles as many cells at a time as a vector register holds.
@@ -32,28 +43,21 @@ fn run(
     ensures { CellsWritten low.now high.now w h radius x y lows.old
         highs.old lows.new highs.new }
 {
-    let n = lows.len();
-    let mut a = [0u16; 32];
-    let mut b = [0u16; 32];
-    let mut c = [0u16; 32];
-    let mut d = [0u16; 32];
-    let mut j = 0usize;
-    while j < n {
+    let mut low_gains = [0u16; 32];
+    let mut low_costs = [0u16; 32];
+    let mut high_gains = [0u16; 32];
+    let mut high_costs = [0u16; 32];
+    for j in 0..lows.len() {
         let p = samples(low, w, h, radius, t, x + j, y);
         let q = samples(high, w, h, radius, t, x + j, y);
         let l = limits(p, q);
-        a[j] = l.low_gain;
-        b[j] = l.low_cost;
-        c[j] = l.high_gain;
-        d[j] = l.high_cost;
-        j += 1;
+        low_gains[j] = l.low_gain;
+        low_costs[j] = l.low_cost;
+        high_gains[j] = l.high_gain;
+        high_costs[j] = l.high_cost;
     }
-    let mut i = 0usize;
-    while i < n {
-        lows[i] = difference(a[i], b[i]);
-        highs[i] = difference(c[i], d[i]);
-        i += 1;
-    }
+    differences(&low_gains, &low_costs, lows);
+    differences(&high_gains, &high_costs, highs);
 }
 
 // The limits of the cells of row y from column x on, all with their ring in the image.
@@ -77,8 +81,9 @@ fn inner(
 {
     let n = lows.len();
     let mut i = 0usize;
+    // Not a range: a step is as long as the run.
     while i < n {
-        let e = lesser(i + 32, n);
+        let e = n.min(i + 32);
         run(
             low,
             high,
@@ -95,40 +100,19 @@ fn inner(
     }
 }
 
-// A part of a row, from one place up to another.
-#[derive(Clone, Copy)]
-struct Stretch {
-    from: usize,
-    to: usize,
-}
-
 // Which cells of row y have their ring in the image.
-fn reach(w: usize, h: usize, radius: usize, y: usize) -> Stretch
+fn reach(w: usize, h: usize, radius: usize, y: usize) -> Range<usize>
     requires { ((ring_of radius).radius ≡ radius) × (y < h) }
-    ensures { InnerSpan w h (ring_of radius) radius 0 y w result.from result.to }
+    ensures { InnerSpan w h (ring_of radius) radius 0 y w result.start result.end }
 {
     if y < radius {
-        return Stretch { from: w, to: w };
+        return w..w;
     }
     if h - y <= radius {
-        return Stretch { from: w, to: w };
+        return w..w;
     }
-    let from = lesser(w, radius);
-    Stretch {
-        from,
-        to: greater(from, minus(w, radius)),
-    }
-}
-
-// Sets every place to 0.
-fn clear(out: &mut [i32])
-    ensures { out.new ≡ tab (length out.old) (λ _. pos 0) }
-{
-    let mut i = 0usize;
-    while i < out.len() {
-        out[i] = 0;
-        i += 1;
-    }
+    let from = w.min(radius);
+    from..from.max(w.saturating_sub(radius))
 }
 
 // Sets the places before `from`, and those from `to` on, to 0.
@@ -136,9 +120,8 @@ fn clear_edges(out: &mut [i32], from: usize, to: usize)
     requires { (from ≤ to) × (to ≤ length out.old) }
     ensures { EdgesCleared from to (length out.old) out.new }
 {
-    let n = out.len();
-    clear(&mut out[0..from]);
-    clear(&mut out[to..n]);
+    out[..from].fill(0);
+    out[to..].fill(0);
 }
 
 // The limits of row y: 0 within a ring radius of the edge.
@@ -161,8 +144,8 @@ fn row(
         ≡ tab w (λ i. high_at low.now high.now w h (ring_of radius) i y) }
 {
     let s = reach(w, h, radius, y);
-    let from = s.from;
-    let to = s.to;
+    let from = s.start;
+    let to = s.end;
     clear_edges(lows, from, to);
     clear_edges(highs, from, to);
     inner(
@@ -198,9 +181,8 @@ pub(crate) fn fill(
 {
     let t = ring::ring_offsets(ring);
     let radius = ring as usize;
-    let mut a = 0usize;
-    let mut y = 0usize;
-    while y < h {
+    for y in 0..h {
+        let a = y * w;
         let e = a + w;
         row(
             low,
@@ -213,7 +195,5 @@ pub(crate) fn fill(
             &mut lows[a..e],
             &mut highs[a..e],
         );
-        a = e;
-        y += 1;
     }
 }

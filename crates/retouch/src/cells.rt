@@ -5,47 +5,21 @@ ghost use Rattle.ring.specs.Ring.{ring_of};
 ghost use Rattle.retouch.specs.Retouch.{sample_places, touched_count, redone};
 ghost use Rattle.retouch.specs.Internal.{PixelChecked, fits, count_by, redone_by};
 
-// A place of the square around a cell, counted from the square's corner.
-#[derive(Clone, Copy)]
-struct SquarePlace {
-    column: usize,
-    row: usize,
-}
-
-// Place k of the twenty-one that a response samples: sixteen of the ring, and five of the cross.
-fn sample_place(ring: u32, k: usize) -> SquarePlace
+// Place k of the twenty-one that a response samples, sixteen of the ring and five of the cross: its column and row,
+// counted from the corner of the square around the cell.
+fn sample_place(ring: u32, k: usize) -> (usize, usize)
     requires { (k < 21) × (1 ≤ (ring_of ring).radius) }
-    ensures { (result.column, result.row) ≡ get_or (sample_places (ring_of ring)) k (0, 0) }
+    ensures { result ≡ get_or (sample_places (ring_of ring)) k (0, 0) }
 {
     let t = ring::ring_offsets(ring);
-    let columns = t.columns;
-    let rows = t.rows;
     let radius = t.radius as usize;
     match k {
-        16 => SquarePlace {
-            column: radius,
-            row: radius,
-        },
-        17 => SquarePlace {
-            column: radius,
-            row: radius - 1,
-        },
-        18 => SquarePlace {
-            column: radius,
-            row: radius + 1,
-        },
-        19 => SquarePlace {
-            column: radius + 1,
-            row: radius,
-        },
-        20 => SquarePlace {
-            column: radius - 1,
-            row: radius,
-        },
-        _ => SquarePlace {
-            column: columns[k] as usize,
-            row: rows[k] as usize,
-        },
+        16 => (radius, radius),
+        17 => (radius, radius - 1),
+        18 => (radius, radius + 1),
+        19 => (radius + 1, radius),
+        20 => (radius - 1, radius),
+        _ => (usize::from(t.columns[k]), usize::from(t.rows[k])),
     }
 }
 
@@ -54,10 +28,7 @@ fn is_fit(side: usize, radius: usize, at: usize, place: usize) -> bool
     requires { (radius ≤ largest_ring) × (at < largest_side) }
     ensures { result ≡ fits side radius at place }
 {
-    if at < place {
-        return false;
-    }
-    at - place + 2 * radius < side
+    place <= at && at - place + 2 * radius < side
 }
 
 // Recomputes the cell that has the pixel (x, y) at the place (column, row) of its square, unless the cell is within a
@@ -111,11 +82,9 @@ pub(crate) fn redo_touched(
     ensures value { result ≡ touched_count w h (ring_of ring) (record { x = x; y = y }) }
 {
     let mut n = 0usize;
-    let mut k = 0usize;
-    while k < 21 {
-        let p = sample_place(ring, k);
-        n += redo(img, w, h, ring, x, y, p.column, p.row, map);
-        k += 1;
+    for k in 0..21 {
+        let (column, row) = sample_place(ring, k);
+        n += redo(img, w, h, ring, x, y, column, row, map);
     }
     n
 }

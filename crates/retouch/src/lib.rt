@@ -19,10 +19,7 @@ pub enum Retouched {
 fn is_outside(w: usize, h: usize, x: usize, y: usize) -> bool
     ensures { result ≡ place_outside w h (record { x = x; y = y }) }
 {
-    if w <= x {
-        return true;
-    }
-    h <= y
+    w <= x || h <= y
 }
 
 // Why a call is refused, or 0.

@@ -45,8 +45,5 @@ pub fn ring_offsets(radius: u32) -> RingOffsets
 pub fn is_ring(radius: u32) -> bool
     ensures { result ≡ is_ring radius }
 {
-    if radius == 5 {
-        return true;
-    }
-    radius == 10
+    matches!(radius, 5 | 10)
 }

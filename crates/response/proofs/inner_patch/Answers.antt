@@ -54,9 +54,9 @@ fill-requires c =
     let t = allowed (goal.at.fill-requires c).Else-number-ne0 in record {
       sized = image _ _ _ _ _ _ t;
       pw_bound = ((
-        rw (c.lesser.ensures, width (goal.at.fill-requires c).After-beside-ph)
+        rw (c.min.ensures, width (goal.at.fill-requires c).After-beside-ph)
             (cols-in (view c.args.img.now c.args.w c.args.h c.args.ring c.args.x0 c.args.y0 c.args.x1 c.args.y1)),
-        rw (c.lesser-2.ensures, height (goal.at.fill-requires c).After-beside-ph)
+        rw (c.min-2.ensures, height (goal.at.fill-requires c).After-beside-ph)
             (rows_in (view c.args.img.now c.args.w c.args.h c.args.ring c.args.x0 c.args.y0 c.args.x1 c.args.y1)),
         t.enough,
       ));
@@ -66,5 +66,5 @@ pub returns : goal.returns
 returns c =
     when-filled _ _ _ _ _ _ _ _ _ _ (number (goal.at.returns c).After-refusal-number) c.if-number-ne0.false
     (width (goal.at.returns c).After-beside-ph) (height (goal.at.returns c).After-beside-ph)
-    c.lesser.ensures
-    c.lesser-2.ensures c.fill.ensures
+    c.min.ensures
+    c.min-2.ensures c.fill.ensures

@@ -4,14 +4,11 @@ use borrow.Author.Rules.{rules}
 use Rattle.response_limits.proofs.are_crossed.Goals as goal
 
 pub loop-i-init : goal.loop-i-init
-loop-i-init c = (search rules, compared-none _ _)
+loop-i-init c = compared-none _ _
 
 pub loop-i-preserved : goal.loop-i-preserved
-loop-i-preserved c = (
-  search rules,
-  compared-next _ _ _ _ c.loop-i.invariant.1 (search rules) _ _ c.byte_minus.ensures
-      c.byte_greater-most.ensures,
-)
+loop-i-preserved c =
+    compared-next _ _ _ _ c.loop-i.invariant (search rules) _ _ c.saturating_sub.ensures c.max-most.ensures
 
 pub returns : goal.returns
-returns c = compared-all _ _ _ _ c.loop-i.invariant.1 (search rules)
+returns c = compared-all _ _ _ _ c.loop-i.invariant (search rules)

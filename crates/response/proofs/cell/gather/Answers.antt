@@ -8,7 +8,7 @@ use Rattle.response.proofs.cell.gather.Goals as goal
 use Rattle.response.proofs.cell.gather.Goals.{In-loop-k}
 
 pub loop-k-init : goal.loop-k-init
-loop-k-init c = (search rules, quarters-none _ _ refl)
+loop-k-init c = quarters-none _ _ refl
 
 -- the loop's counter is below 4
 below : (c : In-loop-k) → c.loop-k.k < 4
@@ -85,7 +85,7 @@ bounds-tile-base-in-loop-k-3 c =
     (omega (arith, below (goal.at.bounds-tile-base-in-loop-k-3 c).In-loop-k))
 
 pub loop-k-preserved : goal.loop-k-preserved
-loop-k-preserved c = (search rules, quarters-set _ _ _ (search rules) c.loop-k.invariant.1)
+loop-k-preserved c = quarters-set _ _ _ (search rules) c.loop-k.invariant
 
 pub returns : goal.returns
-returns c = quarters-all _ _ _ c.loop-k.invariant.1 (search rules)
+returns c = quarters-all _ _ _ c.loop-k.invariant (search rules)

@@ -1,11 +1,7 @@
-use Prim.Native.Nat.{◌-◌, ◌≤◌, min}
 use mathlib.Core.Path.{◌≡◌}
 use Rattle.response.specs.OnePass.{passed_after}
 use Rattle.response.specs.Internal.{SumsBounded}
 use Rattle.response.proofs.cell.ring_sums.Given as goal
 
 abbrev pub invariant-loop-k : goal.invariant-loop-k
-invariant-loop-k l = (l.k ≤ l.last) × (l.last ≡ min l.n 8) × (l.h ≡ passed_after l.s l.k) × SumsBounded l.k l.h
-
-abbrev pub decreases-loop-k : goal.decreases-loop-k
-decreases-loop-k l = l.last - l.k
+invariant-loop-k l = (l.h ≡ passed_after l.s l.k) × SumsBounded l.k l.h

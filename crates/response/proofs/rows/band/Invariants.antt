@@ -1,12 +1,11 @@
 use Prim.Native.Nat.{◌+◌, ◌-◌, ◌≤◌}
 use Rattle.float32.specs.Float32.{zero}
-use Rattle.response.specs.Internal.{IsTile, Filled, responses, large_row}
+use Rattle.response.specs.Internal.{Filled, responses}
 use Rattle.response.proofs.rows.band.Given as goal
 
 abbrev pub invariant-loop-i : goal.invariant-loop-i
 invariant-loop-i l =
     (l.a ≤ l.i) × (l.i ≤ l.b) × Filled zero l.f.pw l.f.ph (responses l.img l.f) l.a l.i l.j (l.j + l.m) l.initial.map l.map
-    × IsTile large_row l.tile
 
 abbrev pub decreases-loop-i : goal.decreases-loop-i
 decreases-loop-i l = l.b - l.i

@@ -1,16 +1,18 @@
 -- `response::rows::clear_part` meets its contract. Assumes nothing.
-use mathlib.Core.Path.{refl, ◌∙◌}
-use Prim.Native.Nat.{ℕ, ◌+◌, ◌*◌, ◌<◌, ◌≤◌}
+use mathlib.Core.Path.{◌≡◌}
+use Prim.Native.Nat.{ℕ, ◌+◌, ◌-◌, ◌*◌, ◌<◌, ◌≤◌}
 use native.Mathlib.Omega.{arith}
 use borrow.Author.Rules.{rules}
 use lib.ListN.{length}
+use lib.Ieee.{of_bits}
 use Rattle.lists.specs.Limits.{largest_map}
-use Rattle.response.proofs.Filling.{cleared-none, cleared-row, cleared-end, row-after}
+use Rattle.float32.specs.Float32.{zero}
+use Rattle.response.proofs.Filling.{cleared-none, cleared-row, cleared-end, row-after, written-fill}
 use Rattle.response.proofs.rows.clear_part.Goals as goal
 use Rattle.response.proofs.rows.clear_part.Goals.{Start}
 
 pub loop-j-init : goal.loop-j-init
-loop-j-init c = (search rules, search rules, cleared-none _ _ _ _ _, refl)
+loop-j-init c = cleared-none _ _ _ _ _
 
 -- where a row ends
 row-end : (c : Start) (j : ℕ) → j < c.args.e
@@ -26,17 +28,15 @@ pub overflow_add-j : goal.overflow_add-j
 overflow_add-j c =
     omega (arith, row-end (goal.at.overflow_add-j c).Start c.loop-j.j (search rules), c.requires.0, c.requires.1)
 
-pub clear-requires : goal.clear-requires
-clear-requires c =
-    omega (arith, row-end (goal.at.clear-requires c).Start c.loop-j.j (search rules), c.requires.1, c.loop-j.invariant.3)
-
 pub loop-j-preserved : goal.loop-j-preserved
-loop-j-preserved c = (
-  search rules,
-  search rules,
-  cleared-row _ _ _ _ _ _ _ _ c.requires.0 c.requires.1 c.loop-j.invariant.0 c.loop-j.invariant.2 c.clear.ensures,
-  c.clear.ensures.long ∙ c.loop-j.invariant.3,
-)
+unfolding of_bits
+loop-j-preserved c =
+    let row = row-end (goal.at.loop-j-preserved c).Start c.loop-j.j c.loop-j-test.true in
+    let end : c.loop-j.j * c.args.w + c.args.b ≡ c.loop-j.j * c.args.w + c.args.a + (c.args.b - c.args.a) = omega (arith, c.requires.0) in
+    cleared-row _ _ _ _ _ _ _ _ c.requires.0 c.requires.1 c.loop-j.auto.j c.loop-j.invariant
+    (rw end
+    (written-fill zero zero _ (c.args.b - c.args.a) _ _ (omega (arith, row, c.requires.1, c.loop-j.auto.map))
+    (rw end at (c.fill.ensures.after (λ y e. e)))))
 
 pub returns : goal.returns
-returns c = cleared-end _ _ _ _ _ _ _ _ c.loop-j.invariant.2 (search rules)
+returns c = cleared-end _ _ _ _ _ _ _ _ c.loop-j.invariant (search rules)

@@ -34,21 +34,21 @@ inner-requires c = (
 
 pub clear_part-requires : goal.clear_part-requires
 clear_part-requires c =
-    let fit = rows_fit _ _ _ _ (placed (goal.at.clear_part-requires c).Start) c.inner.ensures.long c.reach-rows.result.from
+    let fit = rows_fit _ _ _ _ (placed (goal.at.clear_part-requires c).Start) c.inner.ensures.long c.reach-rows.result.start
     (omega (arith, c.reach-rows.ensures.ordered, c.reach-rows.ensures.ends)) in
     (omega arith, le_refl _, omega arith, fit.0, fit.1)
 
 pub clear_part-requires-2 : goal.clear_part-requires-2
 clear_part-requires-2 c =
     let long = cleared-long c.clear_part.ensures ∙ c.inner.ensures.long in
-    let fit = rows_fit _ _ _ _ (placed (goal.at.clear_part-requires-2 c).Start) long c.reach-rows.result.to c.reach-rows.ensures.ends in
+    let fit = rows_fit _ _ _ _ (placed (goal.at.clear_part-requires-2 c).Start) long c.reach-rows.result.end c.reach-rows.ensures.ends in
     (omega arith, omega (arith, c.reach-columns.ensures.ordered, c.reach-columns.ensures.ends), c.reach-rows.ensures.ordered, fit.0, fit.1)
 
 pub clear_part-requires-3 : goal.clear_part-requires-3
 clear_part-requires-3 c =
     let first = cleared-long c.clear_part.ensures in
     let long = cleared-long c.clear_part-2.ensures ∙ first ∙ c.inner.ensures.long in
-    let fit = rows_fit _ _ _ _ (placed (goal.at.clear_part-requires-3 c).Start) long c.reach-rows.result.to c.reach-rows.ensures.ends in
+    let fit = rows_fit _ _ _ _ (placed (goal.at.clear_part-requires-3 c).Start) long c.reach-rows.result.end c.reach-rows.ensures.ends in
     (c.reach-columns.ensures.ends, le_refl _, c.reach-rows.ensures.ordered, fit.0, fit.1)
 
 pub clear_part-requires-4 : goal.clear_part-requires-4

@@ -20,17 +20,17 @@ module _ (n m g l : ℕ) (greater : g ≡ max n m) (lesser : l ≡ min n m) wher
   few-each : (l ≡ 0 → ⊥) → g ≤ small_side → (0 < n) × (n ≤ small_side) × (0 < m) × (m ≤ small_side)
   few-each some e = (omega arith, omega arith, omega arith, omega arith)
 
-pub returns-then-lesser-eq0 : goal.returns-then-lesser-eq0
-returns-then-lesser-eq0 c =
+pub returns-then-min-eq0 : goal.returns-then-min-eq0
+returns-then-min-eq0 c =
     filled_none zero _ _ _ _ _ _ _ _
-    (λ i j p q u v. none (c.args.b - c.args.a) (c.args.e - c.args.c) _ _ c.greater-most.ensures c.lesser.ensures (i - c.args.a)
-    (j - c.args.c) c.if-lesser-eq0.true
+    (λ i j p q u v. none (c.args.b - c.args.a) (c.args.e - c.args.c) _ _ c.max-most.ensures c.min.ensures (i - c.args.a)
+    (j - c.args.c) c.if-min-eq0.true
     (omega arith) (omega arith))
 
 -- one cell
 only : (c : Then-most-eq1) → (c.args.b - c.args.a ≡ 1) × (c.args.e - c.args.c ≡ 1)
 only c =
-    one_each _ _ _ _ c.greater-most.ensures c.lesser.ensures c.if-lesser-eq0.false c.if-most-eq1.true
+    one_each _ _ _ _ c.max-most.ensures c.min.ensures c.if-min-eq0.false c.if-most-eq1.true
 
 pub single-requires : goal.single-requires
 single-requires c =
@@ -48,7 +48,7 @@ returns-then-most-eq1 c =
 
 pub small-requires : goal.small-requires
 small-requires c =
-    let each = few-each _ _ _ _ c.greater-most.ensures c.lesser.ensures c.if-lesser-eq0.false
+    let each = few-each _ _ _ _ c.max-most.ensures c.min.ensures c.if-min-eq0.false
     c.if-most-le-SMALL_SIDE.true in
     record {
       placed = (

@@ -3,8 +3,7 @@ use mathlib.Core.Path.{refl}
 use native.Mathlib.Omega.{arith}
 use borrow.Author.Rules.{rules}
 use Rattle.float32.specs.Float32.{zero}
-use Rattle.response.specs.Internal.{large_tile}
-use Rattle.response.proofs.Filling.{bytes-none, filled_none, filled-to, then-below}
+use Rattle.response.proofs.Filling.{filled_none, filled-to, then-below}
 use Rattle.response.proofs.Tiles.{placed-still, part_of}
 use Rattle.response.proofs.rows.large.Goals as goal
 
@@ -13,7 +12,6 @@ loop-j-init c = (
   search rules,
   c.requires.3,
   filled_none zero _ _ _ _ _ _ _ _ (λ i j p q u v. absurd (omega arith)),
-  record { long = refl; narrow = omega arith; bytes = bytes-none large_tile },
 )
 
 pub band-requires : goal.band-requires
@@ -22,18 +20,17 @@ band-requires c =
       placed = (
         placed-still _ _ _ _ c.requires.0 c.loop-j.invariant.2.long,
         part_of _ _ _ _ _ _ _ _ _ c.requires.1 (omega arith) (omega arith) c.loop-j.invariant.0
-            (omega (arith, c.lesser-m.ensures, c.loop-j-test.true)),
+            (omega (arith, c.min-m.ensures, c.loop-j-test.true)),
         c.requires.2,
       );
-      m_nonzero = ((omega (arith, c.lesser-m.ensures, c.loop-j-test.true), omega (arith, c.lesser-m.ensures), c.loop-j.invariant.3));
+      m_nonzero = ((omega (arith, c.min-m.ensures, c.loop-j-test.true), omega (arith, c.min-m.ensures)));
     }
 
 pub loop-j-preserved : goal.loop-j-preserved
 loop-j-preserved c = (
   omega (arith, c.loop-j.invariant.0),
-  omega (arith, c.lesser-m.ensures, c.loop-j-test.true),
-  then-below zero _ _ _ _ _ _ _ _ _ _ _ c.loop-j.invariant.2 c.band.ensures.0,
-  c.band.ensures.1,
+  omega (arith, c.min-m.ensures, c.loop-j-test.true),
+  then-below zero _ _ _ _ _ _ _ _ _ _ _ c.loop-j.invariant.2 c.band.ensures,
 )
 
 pub shape_of-map : goal.shape_of-map

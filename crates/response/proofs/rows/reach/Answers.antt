@@ -4,6 +4,6 @@ use Rattle.response.proofs.rows.reach.Goals as goal
 
 pub returns : goal.returns
 returns c =
-    stretched _ _ _ _ _ _ _ _ _ _ _ _ _ c.minus.ensures c.greater.ensures c.lesser-from.ensures
-    c.minus-2.ensures c.minus-3.ensures c.minus-4.ensures
-    c.lesser.ensures c.greater-to.ensures
+    stretched _ _ _ _ _ _ _ _ _ _ _ _ _ c.saturating_sub.ensures c.max.ensures c.min-from.ensures
+    c.saturating_sub-2.ensures c.saturating_sub-3.ensures c.saturating_sub-4.ensures
+    c.min.ensures c.max-to.ensures

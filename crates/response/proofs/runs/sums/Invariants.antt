@@ -1,10 +1,6 @@
-use Prim.Native.Nat.{◌-◌, ◌≤◌}
 use Rattle.ring.specs.Ring.{ring_of}
 use Rattle.response.specs.Internal.{CellsSummed}
 use Rattle.response.proofs.runs.sums.Given as goal
 
 abbrev pub invariant-loop-i : goal.invariant-loop-i
-invariant-loop-i l = (l.i ≤ l.n) × CellsSummed l.tile l.s (ring_of l.radius) l.radius l.y l.i l.balance l.sum l.cross
-
-abbrev pub decreases-loop-i : goal.decreases-loop-i
-decreases-loop-i l = l.n - l.i
+invariant-loop-i g l = CellsSummed l.tile.places g.row.ROW (ring_of g.row.RADIUS) g.row.RADIUS l.y l.i l.row

@@ -5,11 +5,11 @@ use Rattle.response_limits.proofs.Sums.{added_none, added_next, added-all}
 use Rattle.response_limits.proofs.cell.dr.Goals as goal
 
 pub loop-k-init : goal.loop-k-init
-loop-k-init c = (search rules, added_none _ _)
+loop-k-init c = added_none _ _
 
 pub loop-k-preserved : goal.loop-k-preserved
 loop-k-preserved c =
-    (search rules, added_next _ _ _ _ _ c.loop-k.invariant.1 c.byte_apart-dr.ensures.0 (omega (arith, c.byte_apart-dr.ensures.1)))
+    added_next _ _ _ _ _ c.loop-k.invariant c.byte_apart-dr.ensures.0 (omega (arith, c.byte_apart-dr.ensures.1))
 
 pub returns : goal.returns
-returns c = added-all _ _ 8 _ _ c.loop-k.invariant.1 (search rules)
+returns c = added-all _ _ 8 _ _ c.loop-k.invariant (search rules)

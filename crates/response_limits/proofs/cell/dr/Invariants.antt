@@ -1,9 +1,5 @@
-use Prim.Native.Nat.{◌-◌, ◌≤◌}
 use Rattle.response_limits.proofs.Sums.{Added, dr_term}
 use Rattle.response_limits.proofs.cell.dr.Given as goal
 
 abbrev pub invariant-loop-k : goal.invariant-loop-k
-invariant-loop-k l = (l.k ≤ 8) × Added (dr_term l.p l.q) 255 l.k l.dr
-
-abbrev pub decreases-loop-k : goal.decreases-loop-k
-decreases-loop-k l = 8 - l.k
+invariant-loop-k l = Added (dr_term l.p l.q) 255 l.k l.dr

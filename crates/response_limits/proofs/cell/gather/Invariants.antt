@@ -1,11 +1,8 @@
-use Prim.Native.Nat.{◌+◌, ◌-◌, ◌≤◌}
+use Prim.Native.Nat.{◌+◌}
 use lib.ListN.{get_or}
 use Rattle.lists.specs.Tab.{pixel}
 use Rattle.lists.proofs.Tab.{Prefix}
 use Rattle.response_limits.proofs.cell.gather.Given as goal
 
 abbrev pub invariant-loop-k : goal.invariant-loop-k
-invariant-loop-k l = (l.k ≤ 16) × Prefix 16 (λ j. pixel l.img l.w (l.x + get_or l.columns j 0) (l.y + get_or l.rows j 0)) l.k l.s
-
-abbrev pub decreases-loop-k : goal.decreases-loop-k
-decreases-loop-k l = 16 - l.k
+invariant-loop-k l = Prefix 16 (λ j. pixel l.img l.w (l.x + get_or l.columns j 0) (l.y + get_or l.rows j 0)) l.k l.s

@@ -8,7 +8,7 @@ use Rattle.response_limits.proofs.cell.sr.Goals as goal
 use Rattle.response_limits.proofs.cell.sr.Goals.{After-apart-sr}
 
 pub loop-k-init : goal.loop-k-init
-loop-k-init c = (search rules, added_none _ _)
+loop-k-init c = added_none _ _
 
 -- what a turn adds
 term : (c : After-apart-sr)
@@ -18,14 +18,12 @@ term c =
     c.pair-d.ensures.0 c.pair-a.ensures.1 c.pair-b.ensures.1 c.apart-sr.ensures
 
 pub overflow_add-sr : goal.overflow_add-sr
-overflow_add-sr c = omega (arith, c.loop-k.invariant.1.sum_small, (term (goal.at.overflow_add-sr c).After-apart-sr).1)
+overflow_add-sr c = omega (arith, c.loop-k.invariant.sum_small, (term (goal.at.overflow_add-sr c).After-apart-sr).1)
 
 pub loop-k-preserved : goal.loop-k-preserved
-loop-k-preserved c = (
-  search rules,
-  added_next _ _ _ _ _ c.loop-k.invariant.1 (term (goal.at.loop-k-preserved c).After-apart-sr).0
-      (term (goal.at.loop-k-preserved c).After-apart-sr).1,
-)
+loop-k-preserved c =
+    added_next _ _ _ _ _ c.loop-k.invariant (term (goal.at.loop-k-preserved c).After-apart-sr).0
+    (term (goal.at.loop-k-preserved c).After-apart-sr).1
 
 pub returns : goal.returns
-returns c = added-all _ _ 4 _ _ c.loop-k.invariant.1 (search rules)
+returns c = added-all _ _ 4 _ _ c.loop-k.invariant (search rules)

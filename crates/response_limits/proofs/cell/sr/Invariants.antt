@@ -1,9 +1,5 @@
-use Prim.Native.Nat.{◌-◌, ◌≤◌}
 use Rattle.response_limits.proofs.Sums.{Added, sr_term}
 use Rattle.response_limits.proofs.cell.sr.Given as goal
 
 abbrev pub invariant-loop-k : goal.invariant-loop-k
-invariant-loop-k l = (l.k ≤ 4) × Added (sr_term l.p l.q) 510 l.k l.sr
-
-abbrev pub decreases-loop-k : goal.decreases-loop-k
-decreases-loop-k l = 4 - l.k
+invariant-loop-k l = Added (sr_term l.p l.q) 510 l.k l.sr

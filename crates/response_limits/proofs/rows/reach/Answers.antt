@@ -12,7 +12,7 @@ returns-then-h-y c = span_below _ _ _ _ _ _ _ c.requires.0 (near-edge _ _ _ c.if
 pub returns : goal.returns
 returns c =
     span-row _ _ _ _ _ _ _ c.requires.0
-    c.args.radius _ c.minus.result c.minus.result c.minus.result _ c.if-y-radius.false
+    c.args.radius _ c.saturating_sub.result c.saturating_sub.result c.saturating_sub.result _ c.if-y-radius.false
     (off-edge _ _ _ c.if-h-y.false)
-    (omega arith) c.lesser-from.ensures c.minus.ensures (omega arith) (omega (arith, c.minus.ensures))
-    c.greater.ensures
+    (omega arith) c.min-from.ensures c.saturating_sub.ensures (omega arith) (omega (arith, c.saturating_sub.ensures))
+    c.max.ensures

@@ -14,10 +14,10 @@ use Rattle.response_limits.proofs.rows.row.Goals.{After-clear_edges-2}
 -- where both edges are cleared
 module _ (c : After-clear_edges-2) where
   abbrev from : ℕ
-  from = c.reach-s.result.from
+  from = c.reach-s.result.start
 
   abbrev to : ℕ
-  to = c.reach-s.result.to
+  to = c.reach-s.result.end
 
   abbrev lows : List ℤ
   lows = c.clear_edges.new.out

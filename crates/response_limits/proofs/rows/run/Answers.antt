@@ -1,17 +1,14 @@
--- `response_limits::rows::run` meets its contract. The first loop fills the naturals from the front, and the second the limits. Assumes
--- nothing.
-use mathlib.Core.Path.{refl, sym, ap}
-use Prim.Native.Nat.{◌<◌}
+-- `response_limits::rows::run` meets its contract. The loop fills the naturals from the front. Assumes nothing.
+use mathlib.Core.Path.{refl, ap, ◌∙◌}
 use native.Mathlib.Omega.{arith}
-use Rattle.lists.proofs.Tab.{prefix-none, prefix-set, prefix-at, prefix-all}
+use Rattle.lists.proofs.Tab.{tab-ext, prefix-none, prefix-set, prefix-at}
 use Rattle.response_limits.specs.declared.cell.CellLimits.{CellLimits}
-use Rattle.response_limits.proofs.Signed.{stored}
 use Rattle.response_limits.proofs.Samples.{limits-found, low-found, high-found}
 use borrow.Author.Rules.{rules}
 use Rattle.response_limits.proofs.rows.run.Goals as goal
 
 pub loop-j-init : goal.loop-j-init
-loop-j-init c = (search rules, prefix-none _ _ _ refl, prefix-none _ _ _ refl, prefix-none _ _ _ refl, prefix-none _ _ _ refl)
+loop-j-init c = (prefix-none _ _ _ refl, prefix-none _ _ _ refl, prefix-none _ _ _ refl, prefix-none _ _ _ refl)
 
 pub samples-p-requires : goal.samples-p-requires
 samples-p-requires c = record { image_with_table = c.requires.image_with_table.0; inner = c.requires.by_index _ c.loop-j-test.true }
@@ -25,34 +22,23 @@ limits-l-requires c = (c.samples-p.ensures.cross_small, c.samples-q.ensures.cros
 pub loop-j-preserved : goal.loop-j-preserved
 loop-j-preserved c =
     let found = limits-found _ _ _ _ _ _ _ _ c.samples-p.ensures c.samples-q.ensures _ c.limits-l.ensures in (
-      search rules,
-      prefix-set _ _ _ _ _ c.loop-j.invariant.1 (search rules) (ap (λ (l : CellLimits). l.low_gain) found),
-      prefix-set _ _ _ _ _ c.loop-j.invariant.2 (search rules) (ap (λ (l : CellLimits). l.low_cost) found),
-      prefix-set _ _ _ _ _ c.loop-j.invariant.3 (search rules) (ap (λ (l : CellLimits). l.high_gain) found),
-      prefix-set _ _ _ _ _ c.loop-j.invariant.4 (search rules) (ap (λ (l : CellLimits). l.high_cost) found),
-    )
-
-pub loop-i-init : goal.loop-i-init
-loop-i-init c = (search rules, prefix-none _ _ _ refl, prefix-none _ _ _ c.requires.lows_len_bound.1)
-
-pub loop-i-preserved : goal.loop-i-preserved
-loop-i-preserved c =
-    let l : c.loop-i.i < c.loop-j.j = omega arith in
-    let inner = c.requires.by_index c.loop-i.i (search rules) in (
-      search rules,
-      prefix-set _ _ _ _ _ c.loop-i.invariant.1 (search rules)
-          (low-found _ _ _ _ _ _ _ c.requires.image_with_table.0.own_radius inner _ _ (prefix-at _ _ _ _ _ _ c.loop-j.invariant.1 l)
-          (prefix-at _ _ _ _ _ _ c.loop-j.invariant.2 l) _
-          (stored _ _ c.difference.type_inv c.difference.ensures)),
-      prefix-set _ _ _ _ _ c.loop-i.invariant.2 (search rules)
-          (high-found _ _ _ _ _ _ _ c.requires.image_with_table.0.own_radius inner _ _ (prefix-at _ _ _ _ _ _ c.loop-j.invariant.3 l)
-          (prefix-at _ _ _ _ _ _ c.loop-j.invariant.4 l) _
-          (stored _ _ c.difference-in-loop-i.type_inv c.difference-in-loop-i.ensures)),
+      prefix-set _ _ _ _ _ c.loop-j.invariant.0 (search rules) (ap (λ (l : CellLimits). l.low_gain) found),
+      prefix-set _ _ _ _ _ c.loop-j.invariant.1 (search rules) (ap (λ (l : CellLimits). l.low_cost) found),
+      prefix-set _ _ _ _ _ c.loop-j.invariant.2 (search rules) (ap (λ (l : CellLimits). l.high_gain) found),
+      prefix-set _ _ _ _ _ c.loop-j.invariant.3 (search rules) (ap (λ (l : CellLimits). l.high_cost) found),
     )
 
 pub returns : goal.returns
 returns c =
     record {
-      lows_are = prefix-all _ _ _ _ _ c.loop-i.invariant.1 (search rules) refl;
-      highs_are = prefix-all _ _ _ _ _ c.loop-i.invariant.2 (search rules) (sym c.requires.lows_len_bound.1);
+      lows_are = c.differences.ensures
+          ∙ tab-ext _ _ _ (λ i l.
+          low-found _ _ _ _ _ _ _ c.requires.image_with_table.0.own_radius (c.requires.by_index i l) _ _
+          (prefix-at _ _ _ _ _ _ c.loop-j.invariant.0 (omega arith)) (prefix-at _ _ _ _ _ _ c.loop-j.invariant.1 (omega arith)) _ refl);
+      highs_are = c.differences-2.ensures
+          ∙ tab-ext _ _ _ (λ i l.
+          high-found _ _ _ _ _ _ _ c.requires.image_with_table.0.own_radius
+          (c.requires.by_index i (omega (arith, c.requires.lows_len_bound.1))) _ _
+          (prefix-at _ _ _ _ _ _ c.loop-j.invariant.2 (omega (arith, c.requires.lows_len_bound.1)))
+          (prefix-at _ _ _ _ _ _ c.loop-j.invariant.3 (omega (arith, c.requires.lows_len_bound.1))) _ refl);
     }

@@ -1,9 +1,0 @@
--- `retouch::is_outside` meets its contract. Assumes nothing.
-use borrow.Author.Tests.{le-leb, lt-leb}
-use Rattle.retouch.proofs.is_outside.Goals as goal
-
-pub returns-then-w-x : goal.returns-then-w-x
-returns-then-w-x c = rw (le-leb _ _ c.if-w-x.true)
-
-pub returns : goal.returns
-returns c = rw (lt-leb _ _ c.if-w-x.false)
