@@ -20,10 +20,10 @@ use Rattle.demands.proofs.Names.{PlaceInRange, names-only}
 
 module _ (m : List Float) (w h : ℕ) (p : PeakCall m w h) where
   pub no-fault : Clear (conditions (length m) w h p.ring p.window p.radius)
-  no-fault = clear (length m) w h p.ring p.window p.radius (unrefused _ _ _ _ _ _ _ _ p.promise)
+  no-fault = clear (length m) w h p.ring p.window p.radius (unrefused _ _ _ _ _ _ _ p.promise)
 
   fitted : Fitted (starts_in m (search_in p)) (ties_in m (search_in p)) p.held p.before p.added p.ties p.after
-  fitted = added-tells _ no-fault _ _ _ _ _ _ p.promise p.added p.ties refl
+  fitted = added-tells _ no-fault _ _ _ _ _ _ p.promise (record { count = p.added; ties = p.ties }) refl
 
   pub ties_are : p.ties ≡ ties_in m (search_in p)
   ties_are = fitted.tied

@@ -1,26 +1,20 @@
 -- From the laws of merge: what merging apart leaves is what the original's own merge leaves. Assumes nothing.
-use Prim.Native.Nat.{ℕ, zero, suc}
-use mathlib.Core.Path.{◌≡◌, refl, sym, ◌∙◌}
+use Prim.Native.Nat.{ℕ}
+use mathlib.Core.Path.{◌≡◌, sym, ◌∙◌}
 use mathlib.Core.List.{List}
-use lib.ListN.{length}
-use Rattle.lists.specs.Refusals.{unless, result_or}
+use Rattle.std.specs.Prelude.{Result, Err}
+use Rattle.lists.specs.declared.refusal.Refusal.{Refusal}
+use Rattle.lists.proofs.Judged.{refused-stays}
 use Rattle.corner_list.specs.declared.Corner.{Corner}
-use Rattle.corner_list.specs.CornerList.{Slices, front_corners}
-use Rattle.merge.specs.declared.Merged.{Merged}
-use Rattle.merge.specs.declared.Merged.TheVariants.{Kept, Refused}
+use Rattle.corner_list.specs.CornerList.{Slices}
 use Rattle.merge.specs.Merge.{Leaves}
 use Rattle.merge.proofs.Separate.{same_answer, same_list, crowded-number, same-behind}
 use Rattle.demands.specs.Apart.{ApartIsMerge}
 
--- an answer that is a refusal has a number, and so the buffer is what it was
-as_it_was : (number : ℕ) (left : List Corner) (d : Slices) (k : ℕ) → unless Refused number (Kept (length left)) ≡ Refused k
-    → result_or number (front_corners left d) d ≡ d
-as_it_was zero left d k e = cc
-as_it_was (suc number) left d k e = refl
-
-refused-as-it-was : (number : ℕ) (left : List Corner) (d : Slices) (r : Merged) (d' : Slices) → Leaves number left d r d'
-    → (k : ℕ) → r ≡ Refused k → d' ≡ d
-refused-as-it-was number left d r d' l k e = l.buffer ∙ as_it_was number left d k (sym l.answer ∙ e)
+-- if it is refused, the buffer is what it was
+refused-as-it-was : (number : ℕ) (left : List Corner) (d : Slices) (r : Result ℕ Refusal) (d' : Slices) → Leaves number left d r d'
+    → (e : Refusal) → r ≡ Err e → d' ≡ d
+refused-as-it-was number left d r d' l e q = l.buffer ∙ refused-stays _ _ e _ _ (sym q ∙ l.answer)
 
 pub apart_is_merge : ApartIsMerge
 apart_is_merge = record {

@@ -8,21 +8,23 @@ use lib.ListN.{length, take}
 use lib.Ieee.{Float}
 use Rattle.lists.proofs.Buffer.{front-take}
 use Rattle.response.specs.Patch.{cells}
-use Rattle.response.specs.declared.Patch.TheVariants.{Cells}
 use Rattle.response.proofs.Map.{filled, front-is}
 use Rattle.pyramid.proofs.Levels.{built, level-found}
 use Rattle.corner_list.specs.declared.Corner.{Corner}
 use Rattle.corner_list.specs.CornerList.{Slices, corners_of, front_corners}
+use Rattle.std.specs.Prelude.{Option, Result, Ok}
+use Rattle.lists.specs.declared.refusal.Refusal.{Refusal}
+use Rattle.lists.specs.Refusals.{number_of}
+use Rattle.lists.proofs.Judged.{judged-ok}
 use Rattle.corner_list.proofs.Corners.{corners-front}
 use Rattle.center_of_mass.specs.declared.Outcome.{Outcome}
 use Rattle.center_of_mass.specs.declared.Outcome.TheVariants.{Rejected}
 use Rattle.center_of_mass.specs.CenterOfMass as center
 use Rattle.center_of_mass.specs.Promise.{Refined}
 use Rattle.multiscale.specs.declared.RoiContext.{RoiContext}
-use Rattle.multiscale.specs.declared.RoiAnswer.{RoiAnswer}
+use Rattle.multiscale.specs.declared.Roi.{Roi}
 use Rattle.multiscale.specs.Multiscale as multiscale
 use Rattle.multiscale.specs.Promise.{Boxed}
-use Rattle.merge.specs.declared.Merged.TheVariants.{Kept, Refused}
 use Rattle.merge.specs.Merge as merge
 use Rattle.merge_slice.specs.MergeSlice.{refusal_for, MergesSlice}
 use Rattle.frame.proofs.Callers.{finished-tells}
@@ -37,7 +39,7 @@ map_is : (c : ResponseCall) → map_of c ≡ cells (view_in c)
 map_is c =
     let v = view_in c in
     front-is v c.before c.after c.pw c.ph
-    (filled v c.ring c.before c.after (Cells c.pw c.ph) c.promise c.pw c.ph refl)
+    (filled v c.ring c.before c.after (Ok (record { w = c.pw; h = c.ph })) c.promise c.pw c.ph refl)
 
 -- ---- outcomes
 refined-is : (radius : ℕ) (x y : Float) (has_map : Bool) (m : List Float) (w h : ℕ) (r : Outcome)
@@ -46,27 +48,23 @@ refined-is : (radius : ℕ) (x y : Float) (has_map : Bool) (m : List Float) (w h
 unfolding center.refined
 refined-is radius x y has_map m w h r f none = f.answer ∙ rw (sym f.number ∙ none)
 
-box-is : (c : RoiContext) (s : Corner) (r : RoiAnswer) → Boxed c s r → multiscale.number_of r ≡ 0
-    → r ≡ multiscale.bounds (multiscale.span_on c c.width s.x) (multiscale.span_on c c.height s.y)
+box-is : (c : RoiContext) (s : Corner) (r : Result (Option Roi) Refusal) → Boxed c s r → number_of r ≡ 0
+    → r ≡ Ok (multiscale.bounds (multiscale.span_on c c.width s.x) (multiscale.span_on c c.height s.y))
 unfolding multiscale.roi_of
 box-is c s r f none = f.answer ∙ rw (sym f.number ∙ none)
 
 -- ---- merged corners
-kept_is : (k n m : ℕ) → Kept n ≡ unless Refused k (Kept m) → (k ≡ 0) × (n ≡ m)
-kept_is zero n m e = (refl, (cc))
-kept_is (suc k) n m e = absurd (let z : ◌≡◌ {A = ℕ} 0 1 = cc in omega arith)
-
-left_is : (number : ℕ) (left : List Corner) (b b' : Slices) (n : ℕ) → merge.Leaves number left b (Kept n) b' → corners_of b' n ≡ left
+left_is : (number : ℕ) (left : List Corner) (b b' : Slices) (n : ℕ) → merge.Leaves number left b (Ok n) b' → corners_of b' n ≡ left
 left_is number left b b' n f =
-    let k = kept_is number n (length left) f.answer in
+    let k = judged-ok number (length left) n f.answer in
     ap (λ (s : Slices). corners_of s n) (f.buffer ∙ ap (λ (j : ℕ). result_or j (front_corners left b) b) k.0)
     ∙ corners-front left b n k.1
 
-slice_is : (radius : Float) (count : ℕ) (cs cs' : List Corner) (b b' : Slices) (n : ℕ) → MergesSlice radius count cs b (Kept n) cs' b'
+slice_is : (radius : Float) (count : ℕ) (cs cs' : List Corner) (b b' : Slices) (n : ℕ) → MergesSlice radius count cs b (Ok n) cs' b'
     → take n cs' ≡ merge.result_of radius (take count cs)
 slice_is radius count cs cs' b b' n f =
     let left = merge.result_of radius (take count cs) in
-    let k = kept_is (refusal_for radius count cs b) n (length left) f.answer in
+    let k = judged-ok (refusal_for radius count cs b) (length left) n f.answer in
     ap (take n) (f.corners ∙ ap (λ (j : ℕ). result_or j (front left cs) cs) k.0) ∙ front-take left cs n k.1
 
 pub bit_for_bit : BitForBit

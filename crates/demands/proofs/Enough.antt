@@ -9,11 +9,12 @@ use lib.ListN.{length, length-map}
 use lib.Dec.{leb}
 use lib.Ieee.{Float}
 use borrow.Author.Tests.{leb-true, le-leb}
-use Rattle.lists.specs.Refusals.{lowest, unless}
+use Rattle.std.specs.Prelude.{Result, Ok}
+use Rattle.lists.specs.declared.refusal.Refusal.{Refusal}
+use Rattle.lists.specs.Refusals.{lowest, judged}
 use Rattle.lists.proofs.Tab.{length-tab}
 use Rattle.detect.specs.declared.Search.{Search}
 use Rattle.detect.specs.declared.enough.Enough.{Enough}
-use Rattle.detect.specs.declared.enough.Enough.TheVariants.{Refused}
 use Rattle.detect.specs.Detect.{search_of, peaks_in, start_at, conditions}
 use Rattle.detect.specs.Enough.{rows_for, answer_of, enough_of, EnoughFound, SameNear}
 use Rattle.detect.proofs.Seen.{same_answer}
@@ -23,21 +24,21 @@ use Rattle.demands.proofs.Added.{no-fault, added-are}
 
 -- ---- yes and rows of an answer that is not refused
 
-yes-is : (b : Bool) (rows : ℕ) → is_yes (answer_of b rows) ≡ b
+yes-is : (b : Bool) (rows : ℕ) → is_yes (Ok (answer_of b rows)) ≡ b
 yes-is true rows = refl
 yes-is false rows = refl
 
-rows_are : (b : Bool) (rows : ℕ) → rows_of (answer_of b rows) ≡ rows
+rows_are : (b : Bool) (rows : ℕ) → rows_of (Ok (answer_of b rows)) ≡ rows
 rows_are true rows = refl
 rows_are false rows = refl
 
 -- ---- counting
-module _ (conds : List (Bool × ℕ)) (m : List Float) (s : Search) (wanted : ℕ) (r : Enough) (f : EnoughFound conds m s wanted r)
+module _ (conds : List (Bool × ℕ)) (m : List Float) (s : Search) (wanted : ℕ) (r : Result Enough Refusal) (f : EnoughFound conds m s wanted r)
     (none : lowest conds ≡ 0) where
   counted : is_yes r ≡ leb wanted (length (peaks_in m s))
   unfolding enough_of
   counted =
-      ap is_yes (f.answer ∙ ap (λ (k : ℕ). unless Refused k (enough_of s wanted (peaks_in m s))) none)
+      ap is_yes (f.answer ∙ ap (λ (k : ℕ). judged k (enough_of s wanted (peaks_in m s))) none)
       ∙ yes-is (leb wanted (length (peaks_in m s))) (rows_for s wanted (peaks_in m s))
 
   counts : (is_yes r ≡ true) ↔ (wanted ≤ length (peaks_in m s))
@@ -61,15 +62,15 @@ enough_is_counting = record {
 }
 
 -- ---- what is not looked at
-module _ (m m' : List Float) (s : Search) (wanted : ℕ) (r r' : Enough) (same : SameNear s (rows_of r) m m') where
-  looked : r ≡ enough_of s wanted (peaks_in m s) → rows_of r ≡ rows_for s wanted (peaks_in m s)
+module _ (m m' : List Float) (s : Search) (wanted : ℕ) (r r' : Result Enough Refusal) (same : SameNear s (rows_of r) m m') where
+  looked : r ≡ Ok (enough_of s wanted (peaks_in m s)) → rows_of r ≡ rows_for s wanted (peaks_in m s)
   unfolding enough_of
   looked e = ap rows_of e ∙ rows_are (leb wanted (length (peaks_in m s))) (rows_for s wanted (peaks_in m s))
 
   -- by the number of the two calls
-  same_by : (k : ℕ) → r ≡ unless Refused k (enough_of s wanted (peaks_in m s))
-      → r' ≡ unless Refused k (enough_of s wanted (peaks_in m' s)) → r ≡ r'
-  same_by zero e e' = e ∙ same_answer m m' s wanted (subst (λ (n : ℕ). SameNear s n m m') (looked e) same) ∙ sym e'
+  same_by : (k : ℕ) → r ≡ judged k (enough_of s wanted (peaks_in m s))
+      → r' ≡ judged k (enough_of s wanted (peaks_in m' s)) → r ≡ r'
+  same_by zero e e' = e ∙ ap Ok (same_answer m m' s wanted (subst (λ (n : ℕ). SameNear s n m m') (looked e) same)) ∙ sym e'
   same_by (suc k) e e' = e ∙ sym e'
 
 pub looks_no_further : LooksNoFurther
@@ -77,4 +78,4 @@ looks_no_further m m' w h ring threshold window least radius wanted r r' f f' lo
     let s = search_of w h ring threshold window least radius in
     same_by m m' s wanted r r' same (lowest (conditions (length m) w h ring window radius)) f.answer
     (f'.answer
-    ∙ ap (λ (n : ℕ). unless Refused (lowest (conditions n w h ring window radius)) (enough_of s wanted (peaks_in m' s))) (sym long))
+    ∙ ap (λ (n : ℕ). judged (lowest (conditions n w h ring window radius)) (enough_of s wanted (peaks_in m' s))) (sym long))

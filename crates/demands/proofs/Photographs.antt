@@ -10,8 +10,10 @@ use Rattle.accuracy.specs.Accurate.{Bytes}
 use Rattle.listing.specs.Text.{decimal}
 use Rattle.frame_params.specs.declared.FrameParams.{FrameParams}
 use Rattle.patch_corners.specs.OneMap.{Choice}
-use Rattle.frame.specs.declared.FrameAnswer.{FrameAnswer}
-use Rattle.frame.specs.declared.FrameAnswer.TheVariants.{Corners, Refused}
+use Rattle.std.specs.Prelude.{Result, Ok, Err}
+use Rattle.lists.specs.declared.refusal.Refusal.{Refusal}
+use Rattle.lists.specs.Refusals.{refusal_with, number_of}
+use Rattle.frame.specs.declared.Found.{Found}
 use Rattle.frame.specs.Frame.{Buffers, FrameFound}
 use Rattle.pgm.specs.Header.{bare, field_of, Field, behind_first, width_of, height_of, maxval_of, has_header, raster_at}
 use Rattle.pgm.specs.Pgm.{conditions, refusal_of, pixels_in}
@@ -25,7 +27,7 @@ use Rattle.demands.proofs.PlainHeader.{width_is, height_is, maxval-is, header_is
 use Rattle.demands.specs.FrameExact.{CallBy}
 
 -- ---- by the number of the upload
-module _ (choose : Choice) (p : FrameParams) (upload : List ℕ) (b b' : Buffers) (r : FrameAnswer)
+module _ (choose : Choice) (p : FrameParams) (upload : List ℕ) (b b' : Buffers) (r : Result Found Refusal)
     (f : PhotographFound choose p upload b r b') where
   pub photograph-accepted : refusal_of upload ≡ 0 → FrameFound choose p (pixels_in upload) (width_of upload) (height_of upload) b r b'
   unfolding photograph.refusal_of
@@ -37,13 +39,21 @@ module _ (choose : Choice) (p : FrameParams) (upload : List ℕ) (b b' : Buffers
         left = f.left ∙ rw e;
       }
 
-  pub photograph-refused : (refusal_of upload ≡ 0 → ⊥) → (r ≡ Refused (refusal_of upload)) × (b' ≡ b)
+  pub photograph-refused : (refusal_of upload ≡ 0 → ⊥) → (r ≡ Err (refusal_with (refusal_of upload))) × (b' ≡ b)
   unfolding photograph.refusal_of
   photograph-refused h = go (refusal_of upload) refl
     where
-      go : (n : ℕ) → refusal_of upload ≡ n → (r ≡ Refused (refusal_of upload)) × (b' ≡ b)
+      go : (n : ℕ) → refusal_of upload ≡ n → (r ≡ Err (refusal_with (refusal_of upload))) × (b' ≡ b)
       go zero e = absurd (h e)
       go (suc n) e = (f.answer ∙ rw e, f.left ∙ rw e)
+
+  pub photograph-number : (refusal_of upload ≡ 0 → ⊥) → number_of r ≡ refusal_of upload
+  unfolding photograph.refusal_of
+  photograph-number h = go (refusal_of upload) refl
+    where
+      go : (n : ℕ) → refusal_of upload ≡ n → number_of r ≡ refusal_of upload
+      go zero e = absurd (h e)
+      go (suc n) e = f.number ∙ rw e
 
 -- a part of bytes
 part_bytes : (n k : ℕ) (s : List ℕ) → Bytes s → Bytes (take n (drop k s))
@@ -63,13 +73,13 @@ finished choose c = go (refusal_of c.upload) refl
           accepted = e;
           pixels = rw e (part_bytes (width_of c.upload * height_of c.upload) (raster_at c.upload) c.upload c.bytes);
           promise = photograph-accepted (choose c.parameters) c.parameters c.upload c.before c.after
-              (Corners c.count c.ties) c.promise e;
+              (Ok (record { corners = c.count; ties = c.ties })) c.promise e;
         }
     go (suc n) e =
         let some : refusal_of c.upload ≡ 0 → ⊥ = λ z. omega arith in
         let refused = photograph-refused (choose c.parameters) c.parameters c.upload c.before c.after
-        (Corners c.count c.ties) c.promise some in
-        absurd (let same = refused.0 in let z : ◌≡◌ {A = ℕ} 0 1 = cc in let no : ⊥ = omega arith in no)
+        (Ok (record { corners = c.count; ties = c.ties })) c.promise some in
+        absurd (let same = refused.0 in let no : ⊥ = grind arith in no)
 
 pub photograph_is_frame : PhotographIsFrame
 photograph_is_frame = record { finished = finished; accepted = photograph-accepted; refused = photograph-refused }
@@ -97,7 +107,7 @@ read_as upload at w h pixels none place width height part =
     record { image = λ r f. f.answer ∙ rw (none, place, width, height); part = part }
 
 -- two calls on frames that are the same
-frames-same : (choose : Choice) (p : FrameParams) (i i' : List ℕ) (w w' h h' : ℕ) (b b₁ b₂ : Buffers) (r₁ r₂ : FrameAnswer)
+frames-same : (choose : Choice) (p : FrameParams) (i i' : List ℕ) (w w' h h' : ℕ) (b b₁ b₂ : Buffers) (r₁ r₂ : Result Found Refusal)
     → i' ≡ i → w' ≡ w → h' ≡ h
     → FrameFound choose p i w h b r₁ b₁ → FrameFound choose p i' w' h' b r₂ b₂ → (r₂ ≡ r₁) × (b₂ ≡ b₁)
 frames-same choose p i i' w w' h h' b b₁ b₂ r₁ r₂ pixels wide high f g =

@@ -14,7 +14,8 @@ use Rattle.lists.specs.Places.{counted, flat_map}
 use Rattle.lists.specs.Refusals.{unless}
 use Rattle.listing.specs.Text.{refused_text}
 use Rattle.retention.specs.declared.Holding.{Holding}
-use Rattle.retention.specs.declared.Holding.TheVariants.{NotYet, Held, Gone, Refused}
+use Rattle.lists.proofs.Judged.{judged-ok}
+use Rattle.retention.specs.declared.Holding.TheVariants.{NotYet, Held, Gone}
 use Rattle.retention.specs.Retention.{known, day_of, stays, state_of, is_late, letter_of}
 use Rattle.retention.specs.Stream.{most_records, longest_input, time_of, time_fault, kind_at, second_at, record_fault, place_of, lines_from}
 use Rattle.retention.specs.Stream.{output_of}
@@ -64,7 +65,7 @@ module _ {kind : ℕ} (c : HoldingCall kind) where
   answer-is : c.answer ≡ by early held
   unfolding state_of
   answer-is =
-      c.promise.answer ∙ ap (λ (n : ℕ). unless Refused n (state_of kind c.start c.time)) (sym c.promise.number ∙ c.finished)
+      (judged-ok _ _ _ c.promise.answer).1
 
   not_yet : (c.answer ≡ NotYet) ↔ (c.time < c.start)
   not_yet = (

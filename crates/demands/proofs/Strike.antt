@@ -10,10 +10,12 @@ use Rattle.corner_list.specs.CornerList.{Slices, places_of, corner_at, corners_o
 use Rattle.corner_list.proofs.Corners.{corners-length, corners-at}
 use Rattle.corner_strike.specs.declared.showing.Shown.{Shown}
 use Rattle.corner_strike.specs.declared.striking.Strike.{Strike}
-use Rattle.corner_strike.specs.declared.striking.Strike.TheVariants.{Struck, Refused}
+use Rattle.std.specs.Prelude.{Result, Ok, Err}
+use Rattle.lists.specs.declared.refusal.Refusal.{Refusal}
+use Rattle.lists.specs.Refusals.{number_of}
 use Rattle.corner_strike.specs.Editions.{Edition}
 use Rattle.corner_strike.specs.Showing.{Shows}
-use Rattle.corner_strike.specs.Striking.{number_of, Strikes}
+use Rattle.corner_strike.specs.Striking.{Strikes}
 use Rattle.corner_strike.proofs.Removing.{without-split, removed-corners, removed-before, removed-later, removed-last, removed-behind}
 use Rattle.corner_strike.proofs.Calls.{was-shown, StruckAs, was-struck, was-refused}
 use Rattle.demands.specs.Strike.{Edited, edited_corners, StrikeCall, StrikeCalls, none, more, strikes_of, struck_in}
@@ -31,27 +33,27 @@ module _ (s : Edited) (c : StrikeCall s) where
       let counts = ap (λ (e : Edition). e.count) (told z).edition-is in
       (ap (λ (e : Edition). e.change) (told z).edition-is, omega (arith, counts, (told z).can.inside))
 
-  refused : (k : ℕ) → c.answer ≡ Refused k → c.after ≡ s
-  refused k e =
-      let p = subst (λ (r : Strike). Strikes s.buffer s.edition c.place c.change r c.after.buffer
+  refused : (f : Refusal) → c.answer ≡ Err f → c.after ≡ s
+  refused f e =
+      let p = subst (λ (r : Result Strike Refusal). Strikes s.buffer s.edition c.place c.change r c.after.buffer
       c.after.edition) e c.promise in
-      let same = was-refused s.buffer s.edition c.place c.change k c.after.buffer c.after.edition p in
+      let same = was-refused s.buffer s.edition c.place c.change f c.after.buffer c.after.edition p in
       ap₂ (λ (b : Slices) (d : Edition). record { buffer = b; edition = d }) same.0 same.1
 
   -- by its answer: one strike more, or the list as it was
   counts-one : c.after.edition.change ≡ s.edition.change + strikes_of c.answer
   counts-one = go c.answer refl
     where
-      go : (r : Strike) → c.answer ≡ r → c.after.edition.change ≡ s.edition.change + strikes_of c.answer
-      go (Struck n k) q = (struck (ap number_of q)).0 ∙ ap (λ (r : Strike). s.edition.change + strikes_of r) (sym q)
-      go (Refused k) q = ap (λ (t : Edited). t.edition.change) (refused k q) ∙ omega (arith, ap strikes_of q)
+      go : (r : Result Strike Refusal) → c.answer ≡ r → c.after.edition.change ≡ s.edition.change + strikes_of c.answer
+      go (Ok t) q = (struck (ap number_of q)).0 ∙ ap (λ (r : Result Strike Refusal). s.edition.change + strikes_of r) (sym q)
+      go (Err f) q = ap (λ (t : Edited). t.edition.change) (refused f q) ∙ omega (arith, ap strikes_of q)
 
   unless-struck : strikes_of c.answer ≡ 0 → c.after ≡ s
   unless-struck z = go c.answer refl
     where
-      go : (r : Strike) → c.answer ≡ r → c.after ≡ s
-      go (Struck n k) q = absurd (let no : ⊥ = omega (arith, z, ap strikes_of q) in no)
-      go (Refused k) q = refused k q
+      go : (r : Result Strike Refusal) → c.answer ≡ r → c.after ≡ s
+      go (Ok t) q = absurd (let no : ⊥ = omega (arith, z, ap strikes_of q) in no)
+      go (Err f) q = refused f q
 
 -- ---- any sequence of calls
 counted : (s s' : Edited) (calls : StrikeCalls s s') → s'.edition.change ≡ s.edition.change + struck_in s s' calls
@@ -117,7 +119,7 @@ later_move_up s c z = record {
 
 pub shown_is_struck : ShownIsStruck
 shown_is_struck s s' showing shown number answer calls c place change z =
-    let p = subst (λ (r : Shown). Shows s.buffer s.edition showing.place r) answer showing.promise in
+    let p = subst (λ (r : Result Shown Refusal). Shows s.buffer s.edition showing.place r) answer showing.promise in
     let seen = was-shown s.buffer s.edition showing.place shown number p in
     let quiet : struck_in s s' calls ≡ 0 = omega (arith, counted s s' calls, (told s' c z).can.same, change, seen.change-is) in
     let same : s' ≡ s = same_list s s' calls quiet in

@@ -7,7 +7,7 @@ use mathlib.Core.List.{List, map}
 use lib.ListN.{length}
 use Rattle.lists.specs.Places.{All, flat_map}
 use Rattle.lists.proofs.Members.{all_map, all_both, all_of, all-mapped, all-unmapped, all-flat, all-unflat}
-use Rattle.response.specs.declared.Patch.TheVariants.{Cells}
+use Rattle.std.specs.Prelude.{Ok}
 use Rattle.response.proofs.Map.{filled}
 use Rattle.response.specs.Patch.{View, cells}
 use Rattle.corner_list.specs.declared.Corner.{Corner}
@@ -33,7 +33,7 @@ use Rattle.demands.proofs.Neighbours.{all_in}
 pub centre_tolerance : CentreTolerance
 centre_tolerance c r x y has_map cx cy mass R f =
     let v = view_in c in
-    let q = filled v c.ring c.before c.after (Cells c.pw c.ph) c.promise c.pw c.ph refl in
+    let q = filled v c.ring c.before c.after (Ok (record { w = c.pw; h = c.ph })) c.promise c.pw c.ph refl in
     tolerance.centre_tolerance v c.bytes r x y has_map cx cy mass R
     (sym (rw (bit_for_bit.chess_response_u8_patch c, q.cols-are, q.rows_are) at f.answer))
 

@@ -10,7 +10,7 @@ use lib.Ieee.{Float}
 use borrow.Author.Tests.{eq-eqb}
 use Rattle.std.specs.Prelude.{Result, Err}
 use Rattle.lists.specs.declared.refusal.Refusal.{Refusal}
-use Rattle.lists.specs.Places.{any}
+use Rattle.lists.specs.Places.{Place, any}
 use Rattle.lists.specs.Refusals.{is_large, is_misfit, lowest, refusal_number, number_of}
 use Rattle.lists.proofs.Judged.{refused-above}
 use Rattle.ring.specs.Ring.{is_ring}
@@ -56,7 +56,7 @@ use Rattle.demands.specs.ResponseCall.{view_of}
 use Rattle.demands.specs.Numbers.{OneOf, RefusesBy, Refuses}
 use Rattle.demands.specs.Total.{PeaksRefuse, FrameRefuses, PhotographRefuses, Total}
 use Rattle.demands.proofs.Tables.{widen, numbered-one, refused-one}
-use Rattle.demands.proofs.Photographs.{photograph-accepted, photograph-refused}
+use Rattle.demands.proofs.Photographs.{photograph-accepted, photograph-number}
 use Rattle.demands.proofs.Faults.{frame-few}
 
 response-refuses : (v : response.View) (cs : List Float) (radius : ℕ) (d e : List Float) (r : Result Patch Refusal)
@@ -148,7 +148,7 @@ photograph-refuses choose p upload b b' r f e q = go (pgm.refusal_of upload) ref
         (frame-fitting (choose p) p (pgm.pixels_in upload) (width_of upload) (height_of upload) b b' r (pixels-length upload none)
         (photograph-accepted (choose p) p upload b b' r f none) e q)
     go (suc n) some =
-        let same = sym (ap number_of q) ∙ photograph-refused (choose p) p upload b b' r f (λ z. let no : ⊥ = omega arith in no) in
+        let same = sym (ap number_of q) ∙ photograph-number (choose p) p upload b b' r f (λ z. let no : ⊥ = omega arith in no) in
         widen (refusal_number e) (1 ∷ 12 ∷ 13 ∷ []) (1 ∷ 3 ∷ 5 ∷ 8 ∷ 9 ∷ 10 ∷ 12 ∷ 13 ∷ []) refl (upload-one same)
 
 limits-refuse : (low high : List ℕ) (w h ring lows highs : ℕ) (r : Result (Unit {0}) Refusal)

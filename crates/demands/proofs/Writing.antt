@@ -11,14 +11,15 @@ use Rattle.lists.specs.Places.{All}
 use Rattle.lists.specs.Refusals.{lowest, unless}
 use Rattle.lists.proofs.Buffer.{front-take}
 use Rattle.stream.specs.declared.Header.{Header}
-use Rattle.stream.specs.declared.FrameStream.{FrameStream}
-use Rattle.stream.specs.declared.FrameStream.TheVariants as stream
+use Rattle.std.specs.Prelude.{Result, Ok, Err}
+use Rattle.lists.specs.declared.refusal.Refusal.{Refusal}
+use Rattle.lists.specs.declared.refusal.Refusal.TheVariants.{StreamTooLong}
+use Rattle.lists.specs.Refusals.{judged}
 use Rattle.stream.specs.Stream.{records_for, accepted, read_frame}
 use Rattle.stream.proofs.Callers.{reading_of, reading-is}
 use Rattle.stream.specs.RoundTrip.{frame_bytes}
 use Rattle.stream.proofs.RoundTrip.{frame_back}
 use Rattle.stream.proofs.Accepted.{accepted_good, accepted_only}
-use Rattle.frame_writer.specs.declared.FrameWriting.TheVariants as writing
 use Rattle.frame_writer.specs.FrameWriter.{refusal_of}
 use Rattle.frame_writer.proofs.Bytes.{frame-long}
 use Rattle.frame_writer.proofs.Accepting.{read_number}
@@ -28,13 +29,13 @@ use Rattle.demands.specs.Writing.{WriteCall, ReadCall, Returns, ReadBack, end_of
 -- ---- read back
 
 -- an answer that says a frame of a stream is that frame
-says : (a : FrameStream) (after : List ℕ) (h : Header) (pixels : List ℕ) → reading_of a after ≡ accepted h pixels
-    → (a ≡ stream.Frame h) × (take (h.width * h.height) after ≡ pixels)
-says (stream.Frame k) after h pixels e =
+says : (a : Result Header Refusal) (after : List ℕ) (h : Header) (pixels : List ℕ) → reading_of a after ≡ accepted h pixels
+    → (a ≡ Ok h) × (take (h.width * h.height) after ≡ pixels)
+says (Ok k) after h pixels e =
     let same : k ≡ h = cc in
     let stands : take (k.width * k.height) after ≡ pixels = cc in
-    (ap stream.Frame same, ap (λ (j : Header). take (j.width * j.height) after) (sym same) ∙ stands)
-says (stream.Refused n) after h pixels e = absurd (let z : ◌≡◌ {A = ℕ} 0 1 = cc in let no : ⊥ = omega arith in no)
+    (ap Ok same, ap (λ (j : Header). take (j.width * j.height) after) (sym same) ∙ stands)
+says (Err f) after h pixels e = absurd (let no : ⊥ = grind arith in no)
 
 pub read_back : ReadBack
 read_back w n e rest r i =
@@ -58,7 +59,7 @@ module _ (r : ReadCall) (w : WriteCall) (s : Returns r w.header w.pixels) (b : A
   reading : read_frame r.input ≡ accepted h w.pixels
   reading =
       sym (reading-is r.input r.before r.answer r.after r.promise)
-      ∙ ap (λ (a : FrameStream). reading_of a r.after) s.header
+      ∙ ap (λ (a : Result Header Refusal). reading_of a r.after) s.header
       ∙ ap (accepted h) s.pixels_are
 
   -- the stream's length is that of its sides
@@ -72,8 +73,8 @@ module _ (r : ReadCall) (w : WriteCall) (s : Returns r w.header w.pixels) (b : A
   number = read_number h w.pixels (length w.before) r.input reading b
 
   answers : (n : ℕ) → refusal_of h w.pixels (length w.before) ≡ n
-      → w.answer ≡ unless writing.Refused n (writing.Written (length bytes))
-  answers n e = w.promise.answer ∙ ap (λ (k : ℕ). unless writing.Refused k (writing.Written (length bytes))) e
+      → w.answer ≡ judged n (length bytes)
+  answers n e = w.promise.answer ∙ ap (λ (k : ℕ). judged k (length bytes)) e
 
   long : end_of h < length w.before → Rewritten r w (end_of h)
   long l =
@@ -87,11 +88,11 @@ module _ (r : ReadCall) (w : WriteCall) (s : Returns r w.header w.pixels) (b : A
             sym (get_or-take (end_of h + 1) r.input (end_of h) 0 (omega arith))
             ∙ ap (λ (t : List ℕ). get_or t (end_of h) 0) only
             ∙ ends-with-4 h w.pixels (end_of h) (sym bytes-long);
-        answer = answers 0 none ∙ ap writing.Written bytes-long;
+        answer = answers 0 none ∙ ap Ok bytes-long;
         same = ap (take (end_of h + 1)) stands ∙ front-take bytes w.before (end_of h + 1) (sym bytes-long) ∙ sym only;
       }
 
-  short : length w.before ≤ end_of h → w.answer ≡ writing.Refused 19
+  short : length w.before ≤ end_of h → w.answer ≡ Err StreamTooLong
   short l = answers 19 (number ∙ rw (lt-ltb (length w.before) (length bytes) (omega (arith, bytes-long))))
 
 pub written_back : WrittenBack

@@ -3,7 +3,7 @@ use Rattle.std.specs.Prelude.{ℕ, ◌+◌, ◌*◌, ◌%◌, ◌^◌, Bool, tru
 use Rattle.std.specs.Prelude.{length, take, drop, Float}
 use Rattle.std.specs.Float.{nan}
 use Rattle.lists.specs.Places.{any}
-use Rattle.lists.specs.Refusals.{lowest, is_large}
+use Rattle.lists.specs.Refusals.{lowest, is_large, number_of}
 use Rattle.float32.specs.Float32.{zero, float_of}
 use Rattle.ring.specs.Ring.{is_ring}
 use Rattle.corner_list.specs.CornerList.{Slices, corners_of}

@@ -3,8 +3,6 @@ use Rattle.std.specs.Prelude.{ℕ, ◌+◌, ◌-◌, ◌*◌, ◌/◌, ◌%◌, 
 use Rattle.stream.specs.declared.Header.{Header}
 use Rattle.stream.specs.Stream.{records_for}
 use Rattle.stream.specs.RoundTrip.{sides_bytes, parameters_bytes}
-use Rattle.frame_writer.specs.declared.records.Bytes16.{Bytes16}
-use Rattle.frame_writer.specs.declared.records.Bytes32.{Bytes32}
 
 -- how long the stream of a given number of pixels is
 abbrev pub length_of : ℕ → ℕ
@@ -21,13 +19,6 @@ pub record FieldsFit (h : Header) : Type 0 where
   pub levels : h.levels < 256
   pub minimum_side : h.minimum_side < 65536
   pub search_radius : h.search_radius < 256
-
--- the two bytes of a number, and the four
-abbrev pub halves16 : ℕ → Bytes16
-halves16 n = record { low = n % 256; high = n / 256 }
-
-abbrev pub halves32 : ℕ → Bytes32
-halves32 n = record { low = halves16 (n % 65536); high = halves16 (n / 65536) }
 
 -- the records of kinds 1 and 2
 abbrev pub head_bytes : Header → List ℕ

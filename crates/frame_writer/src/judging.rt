@@ -10,26 +10,17 @@ use stream::Header;
 fn is_large(width: usize, height: usize) -> bool
     ensures { result ≡ sides_outside width height }
 {
-    if stream::LARGEST_STREAM_SIDE < width {
-        return true;
-    }
-    stream::LARGEST_STREAM_SIDE < height
+    stream::LARGEST_STREAM_SIDE < width || stream::LARGEST_STREAM_SIDE < height
 }
 
 // Whether a value is too wide for its field: a byte, or two for the minimum size.
 fn is_too_wide(header: Header) -> bool
     ensures { result ≡ is_too_wide header }
 {
-    if 255 < header.least_neighbours {
-        return true;
-    }
-    if 255 < header.levels {
-        return true;
-    }
-    if 65535 < header.minimum_side {
-        return true;
-    }
-    255 < header.search_radius
+    255 < header.least_neighbours
+        || 255 < header.levels
+        || 65535 < header.minimum_side
+        || 255 < header.search_radius
 }
 
 // The number of the refusal for a buffer of `places` places, 0 for none.

@@ -33,8 +33,8 @@ pub fn begin() -> Input
 pub fn read_on(mut stdin: Stdin, input: Input, more: usize, buffer: &mut [u8]) -> Input
     ensures { ReadOn input more buffer.old result buffer.new }
 {
-    let start = numbers::lesser(input.count, buffer.len());
-    let end = start + numbers::lesser(more, buffer.len() - start);
+    let start = input.count.min(buffer.len());
+    let end = start + more.min(buffer.len() - start);
     let outcome = stdin.read(&mut buffer[start..end]);
     let answer = answer_of(outcome, &buffer[start..end]);
     Input {
@@ -69,7 +69,7 @@ fn failure_of(error: io::Error) -> isize
 fn count_of(answer: isize) -> usize
     ensures { result ≡ came_by answer }
 {
-    if answer < 0 { 0 } else { answer as usize }
+    usize::try_from(answer).unwrap_or(0)
 }
 
 // How many bytes came.

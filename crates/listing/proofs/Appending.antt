@@ -1,14 +1,13 @@
 -- Bytes written behind each other in a buffer: one law of appending, and what the loops need. Assumes nothing.
 use Prim.Native.Nat.{ℕ, suc, ◌+◌, ◌-◌, ◌/◌, ◌%◌, ◌<◌, ◌≤◌}
 use native.Mathlib.Nat.{add-zero}
-use native.Mathlib.Numerals.{add-one}
 use native.Mathlib.Omega.{arith}
 use mathlib.Core.Path.{◌≡◌, refl, sym, ap, ◌∙◌}
 use mathlib.Core.List.{List, [], ◌∷◌, ◌++◌, append_assoc, append-nil}
-use lib.ListN.{length, get_or, take, set, length-append}
-use lib.Seq.{take-suc, take_all}
+use lib.ListN.{length, set, length-append}
 use Rattle.lists.specs.Buffer.{placed}
-use Rattle.lists.proofs.Buffer.{placed-none, placed-set, placed-more, placed-cons, placed-length}
+use borrow.Rule.Slice.PartMut.{put_mid}
+use Rattle.lists.proofs.Buffer.{put-placed, placed-none, placed-set, placed-more, placed-cons, placed-length}
 use Rattle.listing.specs.Text.{digit_of, digits}
 use Rattle.listing.specs.Internal.{Wrote}
 
@@ -49,17 +48,10 @@ wrote-byte at before b h =
           ∙ placed-set at [] before b (omega arith);
     }
 
--- ---- a word, byte by byte
-module _ (word : List ℕ) (at i : ℕ) (before out : List ℕ) (w : Wrote (take i word) at before (at + i) out) where
-  pub word_more : i < length word → at + i < length out
-      → Wrote (take (i + 1) word) at before (at + (i + 1)) (set out (at + i) (get_or word i 0))
-  word_more h l =
-      let k : take (i + 1) word ≡ take i word ++ (get_or word i 0 ∷ []) = ap (λ (n : ℕ). take n word) (add-one i) ∙ take-suc word i 0 h in
-      let n : at + i + 1 ≡ at + (i + 1) = omega arith in
-      rw (sym n, k) (wrote-more w (wrote-byte (at + i) out (get_or word i 0) l))
-
-  pub word-all : length word ≤ i → Wrote word at before (at + i) out
-  word-all h = wrote_as (take_all i word h) w
+-- a word, copied to its place
+pub wrote-word : (word : List ℕ) (at : ℕ) (before : List ℕ) → at + length word ≤ length before
+    → Wrote word at before (at + length word) (put_mid at (length word) before word)
+wrote-word word at before h = record { fits = h; ends = refl; holds = put-placed at (length word) word before refl }
 
 -- ---- digits, from the lowest on: the i highest are ahead
 pub record Ahead (base count n at i rest : ℕ) (before out : List ℕ) : Type 0 where

@@ -1,5 +1,5 @@
 -- Laws of numbers as digits: how many there are. Assumes nothing.
-use Prim.Native.Nat.{ℕ, zero, suc, ◌+◌, ◌/◌, ◌%◌, ◌^◌, ◌<◌, ◌≤◌}
+use Prim.Native.Nat.{ℕ, zero, suc, ◌+◌, ◌*◌, ◌/◌, ◌%◌, ◌^◌, ◌<◌, ◌≤◌}
 use native.Mathlib.Decide.{dec_lt}
 use native.Mathlib.Omega.{arith}
 use mathlib.Core.Path.{◌≡◌, refl, ◌∙◌}
@@ -49,28 +49,18 @@ places-word n h = places-most 19 n n (omega arith)
 pub places-half-word : (n : ℕ) → n < 2 ^ 32 → places n n ≤ 10
 places-half-word n h = places-most 9 n n (omega arith)
 
--- ---- counted by dividing: `count` so far, and those of the rest
-pub record Counted (n count rest : ℕ) : Type 0 where
-  pub most : ℕ
-  pub enough : rest ≤ most
-  pub total : places n n + 1 ≡ count + places most rest
+ten-pos : (k : ℕ) → 0 < 10 ^ k
+ten-pos zero = omega arith
+ten-pos (suc k) = omega (arith, ten-pos k)
 
-pub counted_none : (n : ℕ) → Counted n 1 n
-counted_none n = record { most = n; enough = omega arith; total = omega arith }
-
-module _ (n count rest : ℕ) (c : Counted n count rest) where
-  pub counted-below : count ≤ places n n
-  counted-below = omega (arith, c.total, places-some c.most rest)
-
-  pub counted_next : 10 ≤ rest → Counted n (count + 1) (rest / 10)
-  counted_next h = go c.most c.enough c.total
-    where
-      go : (most : ℕ) → rest ≤ most → places n n + 1 ≡ count + places most rest → Counted n (count + 1) (rest / 10)
-      go zero e t = absurd (let no : ⊥ = omega arith in no)
-      go (suc most) e t = record { most = most; enough = omega arith; total = omega (arith, t, places-more most rest h) }
-
-  pub counted-all : rest < 10 → count ≡ places n n
-  counted-all h = omega (arith, c.total, places-one c.most rest h)
+-- by the highest power of ten that is not above n
+pub places-tens : (k most n : ℕ) → n ≤ most → 10 ^ k ≤ n → n < 10 * 10 ^ k → places most n ≡ 1 + k
+places-tens zero most n e low high = places-one most n high
+places-tens (suc k) zero n e low high = let some : 0 < 10 ^ k = ten-pos k in absurd (let no : ⊥ = omega arith in no)
+places-tens (suc k) (suc most) n e low high =
+    let some : 0 < 10 ^ k = ten-pos k in
+    let ten : 10 ≤ n = omega arith in
+    omega (arith, places-more most n ten, places-tens k most (n / 10) (omega arith) (omega arith) (omega arith))
 
 -- ---- columns
 pub decimal-long : (k n : ℕ) → n < 10 ^ suc k → length (decimal n) ≤ suc k

@@ -38,12 +38,9 @@ fn put_word(out: &mut [u8], at: usize, word: &[u8]) -> usize
     requires { at + length word.now ≤ length out.old }
     ensures { Wrote word.now at out.old result out.new }
 {
-    let mut i = 0;
-    while i < word.len() {
-        out[at + i] = word[i];
-        i += 1;
-    }
-    at + i
+    let end = at + word.len();
+    out[at..end].copy_from_slice(word);
+    end
 }
 
 // ---- numbers
@@ -54,9 +51,9 @@ fn digit(d: usize) -> u8
     ensures { result ≡ digit_of d }
 {
     if d < 10 {
-        48 + (d as u8)
+        b'0' + d as u8
     } else {
-        87 + (d as u8)
+        b'a' + (d - 10) as u8
     }
 }
 
@@ -66,11 +63,9 @@ fn put_digits(out: &mut [u8], at: usize, base: usize, count: usize, n: usize) ->
     ensures { Wrote (digits base count n) at out.old result out.new }
 {
     let mut rest = n;
-    let mut i = count;
-    while 0 < i {
-        i -= 1;
+    for i in (0..count).rev() {
         out[at + i] = digit(rest % base);
-        rest = rest / base;
+        rest /= base;
     }
     at + count
 }
@@ -79,13 +74,10 @@ fn put_digits(out: &mut [u8], at: usize, base: usize, count: usize, n: usize) ->
 fn decimal_places(n: usize) -> usize
     ensures { result ≡ places n n }
 {
-    let mut rest = n;
-    let mut count = 1;
-    while 10 <= rest {
-        rest = rest / 10;
-        count += 1;
+    match n.checked_ilog10() {
+        Some(tens) => 1 + tens as usize,
+        None => 1,
     }
-    count
 }
 
 // A number in decimal, and the byte that ends its column.
@@ -161,11 +153,9 @@ fn put_corners(
         0 out.old result out.new }
 {
     let mut at = put_heading(out, b"corners ", count);
-    let mut i = 0;
-    while i < count {
+    for i in 0..count {
         let c = corner_list::corner_at(xs, ys, strengths, neighbours, i);
         at = put_line(out, at, c);
-        i += 1;
     }
     at
 }
@@ -194,5 +184,5 @@ pub fn write_corners(
 pub fn write_refusal(number: u8, out: &mut [u8; LONGEST]) -> usize
     ensures { Written (refused_text number) out.old result out.new }
 {
-    put_heading(out, b"refused ", number as usize)
+    put_heading(out, b"refused ", usize::from(number))
 }

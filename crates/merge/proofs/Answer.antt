@@ -1,24 +1,28 @@
 -- The answers of merging: refused, the list as it came, and the list merged. Assumes nothing.
-use Prim.Native.Nat.{ℕ, zero, suc, ◌≤◌, min}
+use Prim.Native.Nat.{ℕ, ◌≤◌, min}
 use native.Mathlib.Omega.{arith}
-use mathlib.Core.Path.{◌≡◌, refl, sym, ap, ◌∙◌, subst}
+use mathlib.Core.Path.{◌≡◌, refl, sym, subst}
 use mathlib.Core.Bool.{Bool, true, false}
 use mathlib.Core.List.{List, [], ◌∷◌}
 use lib.ListN.{length}
+use lib.Dec.{ltb}
 use lib.Ieee.{Float}
 use Rattle.lists.specs.Buffer.{wiped_from}
-use Rattle.lists.specs.Refusals.{values_unless, unless, result_or}
+use Rattle.std.specs.Prelude.{Result, Ok, Err}
+use Rattle.lists.specs.declared.refusal.Refusal.{Refusal}
+use Rattle.lists.specs.Refusals.{lowest, verdict}
+use Rattle.lists.proofs.Judged.{Known, lowest-known, number-judged, values-judged, judged-err, refused-stays}
 use Rattle.float32.specs.Float32 as float32
 use Rattle.corner_list.specs.declared.Corner.{Corner}
 use Rattle.corner_list.specs.CornerList.{Slices, slices, places_of, corners_of, front_corners}
 use Rattle.corner_list.proofs.Corners.{corners-length, corners-same}
 use Rattle.merge_grid.specs.declared.Grid.{Grid}
-use Rattle.merge.specs.declared.Merged.{Merged}
-use Rattle.merge.specs.declared.Merged.TheVariants.{Kept, Refused}
 use Rattle.merge_radius.specs.MergeRadius.{is_off}
+use Rattle.merge_refusal.specs.Refusals.{conditions}
+use Rattle.merge_refusal.proofs.Judged.{judged-viewed}
 use Rattle.merge_grid.specs.Grid.{grid_of, joins}
 use Rattle.merge_settle.specs.Settle.{merged, given, Left, Settles}
-use Rattle.merge.specs.Merge.{refusal_of, result_of, values_of, Leaves, Merges}
+use Rattle.merge.specs.Merge.{refusal_of, result_of, Leaves, Merges}
 use Rattle.merge.specs.Table.{MergesByTable}
 
 -- ---- what is left of a list: all of it, as it came, or what merging leaves
@@ -55,59 +59,57 @@ pub left-copied : (b : Slices) (n : ℕ) (d d' : Slices) → d' ≡ front_corner
 left-copied b n d d' e = record { count = sym (corners-length b n); buffer = e }
 
 -- ---- the answer
-pub values-are : (k n : ℕ) → values_of (unless Refused k (Kept n)) ≡ values_unless k (n ∷ [])
-values-are zero n = refl
-values-are (suc k) n = refl
+
+-- the number of a table of merging's conditions is one of them, or 0
+pub conditions-known : (radius : Float) (cs : List Corner) (lacks : Bool) → Known (lowest (conditions radius cs lacks))
+conditions-known radius cs lacks = lowest-known (conditions radius cs lacks) (refl, (refl, (refl, tt)))
+
+pub known : (radius : Float) (places count : ℕ) (b : Slices) → Known (refusal_of radius places count b)
+unfolding refusal_of
+known radius places count b = conditions-known radius (corners_of b (min count places)) (ltb places count)
 
 module _ (number : ℕ) (left : List Corner) (b : Slices) where
-  pub leaves-refused : (k : ℕ) → k ≡ number → (k ≡ 0 → ⊥) → Leaves number left b (Refused k) b
-  leaves-refused zero e h = absurd (h refl)
-  leaves-refused (suc k) e h = record {
-    answer = ap (λ (m : ℕ). unless Refused m (Kept (length left))) e;
-    number = e;
-    values = ap (λ (m : ℕ). values_unless m (length left ∷ [])) e;
-    buffer = ap (λ (m : ℕ). result_or m (front_corners left b) b) e;
-  }
-
-  pub leaves_kept : (k n : ℕ) (b' : Slices) → k ≡ number → k ≡ 0 → Left left b n b' → Leaves number left b (Kept n) b'
-  leaves_kept k n b' e z l =
-      let f : zero ≡ number = sym z ∙ e in record {
-        answer = ap Kept l.count ∙ ap (λ (m : ℕ). unless Refused m (Kept (length left))) f;
-        number = f;
-        values = ap (λ (n : ℕ). n ∷ []) l.count ∙ ap (λ (m : ℕ). values_unless m (length left ∷ [])) f;
-        buffer = l.buffer ∙ ap (λ (m : ℕ). result_or m (front_corners left b) b) f;
+  pub leaves-refused : Known number → (e : Refusal) → Err e ≡ verdict number → Leaves number left b (Err e) b
+  leaves-refused k e p =
+      let a = judged-err number tt (length left) e p in
+      record {
+        answer = a;
+        number = number-judged number (length left) a k;
+        values = values-judged (λ n. n ∷ []) number (length left) a;
+        buffer = sym (refused-stays number tt e (front_corners left b) b p);
       }
 
+  pub leaves_kept : number ≡ 0 → (n : ℕ) (b' : Slices) → Left left b n b' → Leaves number left b (Ok n) b'
+  leaves_kept z n b' l = record {
+    answer = rw (z, l.count);
+    number = sym z;
+    values = rw (z, l.count);
+    buffer = rw z l.buffer;
+  }
+
 -- a buffer of its own places
-pub merges-whole : (radius : Float) (count : ℕ) (b : Slices) (answer : Merged) (b' : Slices)
+pub own-places : (b : Slices) → min (length b.xs) (places_of b) ≡ places_of b
+own-places b = omega arith
+
+pub merges-whole : (radius : Float) (count : ℕ) (b : Slices) (answer : Result ℕ Refusal) (b' : Slices)
     → Merges radius (min (length b.xs) (places_of b)) count b answer b' → Merges radius (places_of b) count b answer b'
-merges-whole radius count b answer b' m =
-    let e : min (length b.xs) (places_of b) ≡ places_of b = omega arith in
-    subst (λ (n : ℕ). Merges radius n count b answer b') e m
+merges-whole radius count b answer b' m = rw own-places at m
+
+-- what refuses such a call, through a view of the buffer
+pub judged-own : (radius : Float) (count : ℕ) (b b' : Slices) (r : Result (Unit {0}) Refusal) → b ≡ b'
+    → r ≡ verdict (refusal_of radius (min (length b'.xs) (places_of b)) count b) → r ≡ verdict (refusal_of radius (places_of b') count b')
+judged-own radius count b b' r e p = rw own-places at (judged-viewed radius (length b'.xs) count b b' r e p)
 
 -- by a table: refused, or merged and the table cleared
-module _ (radius : Float) (count : ℕ) (b : Slices) (table : List Float) (k : ℕ)
-    (e : k ≡ refusal_of radius (min (length b.xs) (places_of b)) count b) where
-  by-places : k ≡ refusal_of radius (places_of b) count b
-  by-places = let all : min (length b.xs) (places_of b) ≡ places_of b = omega arith in e ∙ ap (λ (n : ℕ). refusal_of radius n count b) all
-
-  by_number : (n : ℕ) → n ≡ k → result_or n (wiped_from 0 float32.zero table) table
-      ≡ result_or (refusal_of radius (places_of b) count b) (wiped_from 0 float32.zero table) table
-  by_number n is = ap (λ (m : ℕ). result_or m (wiped_from 0 float32.zero table) table) (is ∙ by-places)
-
-  pub by-table-refused : (k ≡ 0 → ⊥) → MergesByTable radius count b table (Refused k) b table
-  by-table-refused h = record {
-    merges = leaves-refused (refusal_of radius (places_of b) count b) (result_of radius (corners_of b count)) b k by-places h;
-    cleared = as_it_was k refl;
+module _ (radius : Float) (count : ℕ) (b : Slices) (table : List Float) where
+  pub by-table-refused : (e : Refusal) → Err e ≡ verdict (refusal_of radius (places_of b) count b)
+      → MergesByTable radius count b table (Err e) b table
+  by-table-refused e p = record {
+    merges = leaves-refused _ _ _ (known _ _ _ _) e p;
+    cleared = sym (refused-stays _ tt e (wiped_from 0 float32.zero table) table p);
   }
-    where
-      as_it_was : (n : ℕ) → n ≡ k → table ≡ result_or (refusal_of radius (places_of b) count b) (wiped_from 0 float32.zero table) table
-      as_it_was zero is = absurd (h (sym is))
-      as_it_was (suc n) is = by_number (suc n) is
 
-  pub by-table-kept : k ≡ 0 → (n : ℕ) (b' : Slices) → Left (result_of radius (corners_of b count)) b n b' → (table' : List Float)
-      → table' ≡ wiped_from 0 float32.zero table → MergesByTable radius count b table (Kept n) b' table'
-  by-table-kept z n b' l table' c = record {
-    merges = leaves_kept (refusal_of radius (places_of b) count b) (result_of radius (corners_of b count)) b k n b' by-places z l;
-    cleared = c ∙ by_number 0 (sym z);
-  }
+  pub by-table-kept : refusal_of radius (places_of b) count b ≡ 0 → (n : ℕ) (b' : Slices)
+      → Left (result_of radius (corners_of b count)) b n b' → (table' : List Float) → table' ≡ wiped_from 0 float32.zero table
+      → MergesByTable radius count b table (Ok n) b' table'
+  by-table-kept z n b' l table' c = record { merges = leaves_kept _ _ _ z n b' l; cleared = rw z c }

@@ -7,18 +7,17 @@ use mathlib.Core.Bool.{Bool, true, false, cond}
 use mathlib.Core.List.{List, [], ◌∷◌}
 use lib.ListN.{length}
 use lib.Ieee.{Float, lt}
+use Rattle.std.specs.Prelude.{Result, Ok}
+use Rattle.lists.specs.declared.refusal.Refusal.{Refusal}
 use Rattle.lists.specs.Places.{All}
 use Rattle.corner_list.specs.declared.Corner.{Corner}
 use Rattle.corner_list.specs.CornerList.{Slices, corners_of, front_corners}
-use Rattle.merge.specs.declared.Merged.{Merged}
-use Rattle.merge.specs.declared.Merged.TheVariants.{Kept, Refused}
 use Rattle.merge_radius.specs.MergeRadius.{is_off}
 use Rattle.merge_refusal.specs.Refusals.{refusal_of}
 use Rattle.merge_grid.specs.Grid.{grid_of, joins}
 use Rattle.merge_settle.specs.Settle.{stronger, settle, merged}
 use Rattle.merge.specs.Merge.{result_of, Leaves, Merges}
 use Rattle.merge_settle.proofs.Settle.{settle-one}
-use Rattle.lists.specs.Refusals.{unless, result_or}
 
 -- ---- no corner is added
 merged-length : (j : Corner → Corner → Bool) (kept cs : List Corner) → length (merged j kept cs) ≤ length kept + length cs
@@ -64,19 +63,13 @@ module _ (P : Corner → Type 0) where
       pick false r = r
 
 -- ---- where nothing is refused (proofs/Judged.antt) the answer is the number of corners left, which stand first in the buffer
-pub leaves-done : (number : ℕ) (left : List Corner) (b : Slices) (answer : Merged) (b' : Slices) → number ≡ 0
+pub leaves-done : (number : ℕ) (left : List Corner) (b : Slices) (answer : Result ℕ Refusal) (b' : Slices) → number ≡ 0
     → Leaves number left b answer b'
-    → (answer ≡ Kept (length left)) × (b' ≡ front_corners left b)
-leaves-done number left b answer b' none m = (
-  m.answer ∙ ap (λ (k : ℕ). unless Refused k (Kept (length left))) none,
-  m.buffer ∙ ap (λ (k : ℕ). result_or k (front_corners left b) b) none,
-)
+    → (answer ≡ Ok (length left)) × (b' ≡ front_corners left b)
+leaves-done number left b answer b' none m = (rw none at m.answer, rw none at m.buffer)
 
-pub merges-done : (radius : Float) (places count : ℕ) (b b' : Slices) (answer : Merged) (cs : List Corner) → corners_of b count ≡ cs
-    → refusal_of radius places count b ≡ 0 → Merges radius places count b answer b'
-    → (answer ≡ Kept (length (result_of radius cs))) × (b' ≡ front_corners (result_of radius cs) b)
+pub merges-done : (radius : Float) (places count : ℕ) (b b' : Slices) (answer : Result ℕ Refusal) (cs : List Corner)
+    → corners_of b count ≡ cs → refusal_of radius places count b ≡ 0 → Merges radius places count b answer b'
+    → (answer ≡ Ok (length (result_of radius cs))) × (b' ≡ front_corners (result_of radius cs) b)
 merges-done radius places count b b' answer cs is none m =
-    let done = leaves-done (refusal_of radius places count b) (result_of radius (corners_of b count)) b answer b' none m in (
-      done.0 ∙ ap (λ (l : List Corner). Kept (length (result_of radius l))) is,
-      done.1 ∙ ap (λ (l : List Corner). front_corners (result_of radius l) b) is,
-    )
+    rw is at (leaves-done (refusal_of radius places count b) (result_of radius (corners_of b count)) b answer b' none m)

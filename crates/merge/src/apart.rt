@@ -1,65 +1,69 @@
 // The list that merging a buffer would leave, written to a separate buffer. The merged buffer is only read. After the
 // list, the separate buffer stays as it was, so a corner is written only when it is kept.
-ghost use Rattle.std.specs.Prelude.{◌≡◌, cond, ◌≤◌, ltb};
+ghost use Rattle.std.specs.Prelude.{◌≡◌, ◌≤◌, length, take};
+ghost use Rattle.lists.specs.Buffer.{front};
+ghost use Rattle.lists.specs.Refusals.{verdict};
 ghost use Rattle.corner_list.specs.CornerList.{corners_of, places_of, front_corners};
 ghost use Rattle.corner_list.specs.Buffer.{contents, seen, SameSlices};
 ghost use Rattle.merge_settle.specs.Settle.{Left};
 ghost use Rattle.merge.specs.Merge.{result_of};
-ghost use Rattle.merge.specs.Apart.{or_else, MergedApart};
+ghost use Rattle.merge.specs.Apart.{refusal_apart, MergedApart};
 
-use crate::Merged;
 use corner_list::{CornerBuffer, CornerView};
+use lists::Refusal;
+
+// Copies the first n elements of a slice into another.
+fn copy_front<T: Copy>(from: &[T], n: usize, to: &mut [T])
+    requires { (n ≤ length from.now) × (n ≤ length to.old) }
+    ensures { to.new ≡ front (take n from.now) to.old }
+{
+    to[..n].copy_from_slice(&from[..n]);
+}
 
 // Copies the first n corners of a buffer into another.
-fn copy_list(
-    list: CornerView<'_>,
-    n: usize,
-    b: &mut CornerBuffer<'_>,
-)
-    requires { n ≤ places_of (contents b.old) }
+fn copy_list(list: CornerView<'_>, n: usize, b: &mut CornerBuffer<'_>)
+    requires from { n ≤ places_of (seen list) }
+    requires to { n ≤ places_of (contents b.old) }
     ensures same_slices { SameSlices b.old b.new }
     ensures copied { contents b.new
-        ≡ front_corners (corners_of (seen list.entry) n)
-        (contents b.old) }
+        ≡ front_corners (corners_of (seen list.entry) n) (contents b.old) }
 {
-    for i in 0..n {
-        let c = list.at(i);
-        b.put(i, c);
-    }
+    copy_front(list.xs, n, b.xs);
+    copy_front(list.ys, n, b.ys);
+    copy_front(list.strengths, n, b.strengths);
+    copy_front(list.neighbours, n, b.neighbours);
 }
 
 // Merges the first n corners of a buffer into another, and returns how many are left. It checks nothing.
-fn merge_into(
-    list: CornerView<'_>,
-    n: usize,
-    radius: f32,
-    b: &mut CornerBuffer<'_>,
-) -> usize
-    requires { n ≤ places_of (contents b.old) }
+fn merge_into(list: CornerView<'_>, n: usize, radius: f32, b: &mut CornerBuffer<'_>) -> usize
+    requires from { n ≤ places_of (seen list) }
+    requires to { n ≤ places_of (contents b.old) }
     ensures same_slices { SameSlices b.old b.new }
-    ensures left { Left (result_of radius
-        (corners_of (seen list.entry) n))
-        (contents b.old) result
-        (contents b.new) }
+    ensures left { Left (result_of radius (corners_of (seen list.entry) n)) (contents b.old) result (contents b.new) }
 {
     if merge_radius::is_off(radius) {
         copy_list(list, n, b);
         return n;
     }
     let g = merge_grid::grid_of(list.xs, list.ys, n, radius);
-    let mut none: [f32; 0] = [0.0; 0];
-    merge_settle::settle_list(list, true, b, &mut none, g, n)
+    merge_settle::settle_list(list, true, b, &mut [], g, n)
 }
 
-// The number of the refusal of merging `count` corners into a separate buffer with a given number of places, 0 for
-// none: `number`, that of merging them in place, or else 10 if they do not fit.
-fn refusal_apart(number: u8, places: usize, count: usize) -> u8
-    ensures { result ≡ or_else number (cond (ltb places count) 10 0) }
+// Why merging `count` corners into a separate buffer with a given number of places is refused: as merging them in place
+// is, or else because they do not fit.
+fn refusal_apart(
+    list: CornerView<'_>,
+    places: usize,
+    count: usize,
+    radius: f32,
+) -> Result<(), Refusal>
+    ensures { result ≡ verdict (refusal_apart radius places count (seen list.entry)) }
 {
-    if number != 0 {
-        return number;
+    merge_refusal::refusal(list, list.xs.len(), count, radius)?;
+    if places < count {
+        return Err(Refusal::ListTooLong);
     }
-    if places < count { 10 } else { 0 }
+    Ok(())
 }
 
 // Writes to a separate buffer what merging the first `count` corners of a buffer in place would leave there.
@@ -68,18 +72,10 @@ pub fn merge_apart(
     count: usize,
     radius: f32,
     b: &mut CornerBuffer<'_>,
-) -> Merged
+) -> Result<usize, Refusal>
     ensures same_slices { SameSlices b.old b.new }
-    ensures merged { MergedApart radius count
-        (seen list.entry)
-        (contents b.old) result
-        (contents b.new) }
+    ensures merged { MergedApart radius count (seen list.entry) (contents b.old) result (contents b.new) }
 {
-    let places = b.places();
-    let own = merge_refusal::refusal_for(list, list.xs.len(), count, radius);
-    let number = refusal_apart(own, places, count);
-    if number != 0 {
-        return Merged::Refused(number);
-    }
-    Merged::Kept(merge_into(list, count, radius, b))
+    refusal_apart(list, b.places(), count, radius)?;
+    Ok(merge_into(list, count, radius, b))
 }

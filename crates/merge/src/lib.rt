@@ -6,7 +6,6 @@
 // list's order which one is joined.
 #![tactic(auto)]
 
-pub mod answers; // number_of, kept_of: the answer of a merge, taken apart
 pub mod apart; // merge_apart: the list that merging would leave, in a separate buffer
 pub mod table; // merge_by_table: merging in place with a borrowed table
 
@@ -19,13 +18,7 @@ ghost use Rattle.merge_settle.specs.Settle.{Left};
 ghost use Rattle.merge.specs.Merge.{result_of, Merges};
 
 use corner_list::{CornerBuffer, CornerView};
-
-// The answer of merging: how many corners are left, or the number of the refusal.
-#[derive(Clone, Copy)]
-pub enum Merged {
-    Kept(usize),
-    Refused(u8),
-}
+use lists::Refusal;
 
 // Merges the first n corners of a buffer in place, with a borrowed table, and returns how many are left. It refuses
 // nothing.
@@ -37,10 +30,7 @@ pub(crate) fn merge_list(
 ) -> usize
     requires { n ≤ places_of (contents b.old) }
     ensures same_slices { SameSlices b.old b.new }
-    ensures left { Left (result_of radius
-        (corners_of (contents b.old) n))
-        (contents b.old) result
-        (contents b.new) }
+    ensures left { Left (result_of radius (corners_of (contents b.old) n)) (contents b.old) result (contents b.new) }
     ensures table_after { table.new ≡ wiped_from 0 zero table.old }
 {
     if merge_radius::is_off(radius) {
@@ -49,13 +39,11 @@ pub(crate) fn merge_list(
     }
     let v = b.view();
     let g = merge_grid::grid_of(v.xs, v.ys, n, radius);
-    let none: [f32; 0] = [0.0; 0];
-    let no_counts: [u32; 0] = [0; 0];
     let list = CornerView {
-        xs: &none,
-        ys: &none,
-        strengths: &none,
-        neighbours: &no_counts,
+        xs: &[],
+        ys: &[],
+        strengths: &[],
+        neighbours: &[],
     };
     merge_settle::settle_list(list, false, b, table, g, n)
 }
@@ -66,19 +54,13 @@ pub fn merge_within(
     places: usize,
     count: usize,
     radius: f32,
-) -> Merged
+) -> Result<usize, Refusal>
     ensures same_slices { SameSlices b.old b.new }
-    ensures merged { Merges radius (min places
-        (places_of (contents b.old))) count
-        (contents b.old) result
+    ensures merged { Merges radius (min places (places_of (contents b.old))) count (contents b.old) result
         (contents b.new) }
 {
-    let number = merge_refusal::refusal_for(b.view(), places, count, radius);
-    if number != 0 {
-        return Merged::Refused(number);
-    }
-    let mut none: [f32; 0] = [0.0; 0];
-    Merged::Kept(merge_list(b, &mut none, count, radius))
+    merge_refusal::refusal(b.view(), places, count, radius)?;
+    Ok(merge_list(b, &mut [], count, radius))
 }
 
 // Merges the first `count` corners of a buffer in place, as the Rust's `merge_corners_simple`.
@@ -86,12 +68,9 @@ pub fn merge_corners_simple(
     b: &mut CornerBuffer<'_>,
     count: usize,
     radius: f32,
-) -> Merged
+) -> Result<usize, Refusal>
     ensures same_slices { SameSlices b.old b.new }
-    ensures merged { Merges radius (places_of
-        (contents b.old)) count
-        (contents b.old) result
-        (contents b.new) }
+    ensures merged { Merges radius (places_of (contents b.old)) count (contents b.old) result (contents b.new) }
 {
     merge_within(b, b.xs.len(), count, radius)
 }

@@ -3,8 +3,8 @@
 ghost use Rattle.corner_list.specs.Buffer.{contents, SameSlices};
 ghost use Rattle.merge.specs.Table.{MergesByTable};
 
-use crate::Merged;
 use corner_list::CornerBuffer;
+use lists::Refusal;
 
 // Merges the first `count` corners of a buffer in place, as `merge_corners_simple`, with a table of any length, and
 // clears the table.
@@ -13,17 +13,10 @@ pub fn merge_by_table(
     table: &mut [f32],
     count: usize,
     radius: f32,
-) -> Merged
+) -> Result<usize, Refusal>
     ensures same_slices { SameSlices b.old b.new }
-    ensures merged { MergesByTable radius count
-        (contents b.old)
-        table.old result
-        (contents b.new)
-        table.new }
+    ensures merged { MergesByTable radius count (contents b.old) table.old result (contents b.new) table.new }
 {
-    let number = merge_refusal::refusal_for(b.view(), b.xs.len(), count, radius);
-    if number != 0 {
-        return Merged::Refused(number);
-    }
-    Merged::Kept(crate::merge_list(b, table, count, radius))
+    merge_refusal::refusal(b.view(), b.xs.len(), count, radius)?;
+    Ok(crate::merge_list(b, table, count, radius))
 }

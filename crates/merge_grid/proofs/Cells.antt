@@ -1,39 +1,19 @@
--- Numbers that decide which corners join: cell numbers, the least of a list, and the grid made of them. Assumes nothing.
-use Prim.Native.Nat.{ℕ, zero, suc, ◌+◌, ◌-◌, ◌<◌, ◌≤◌, min}
-use native.Mathlib.Numerals.{add-one}
+-- The least of a list's coordinates, and the grid made of it. Assumes nothing.
+use Prim.Native.Nat.{ℕ, zero, suc, ◌+◌, ◌<◌}
+use native.Mathlib.Decide.{dec_lt}
 use native.Mathlib.Omega.{arith}
 use mathlib.Core.Path.{◌≡◌, refl, sym, ap, ◌∙◌}
-use mathlib.Core.Bool.{Bool, true, false, cond, ◌&&◌}
+use mathlib.Core.Bool.{false, cond}
 use mathlib.Core.List.{List, [], ◌∷◌, ◌++◌}
-use lib.ListN.{length, get_or, get_or-eq_default}
-use lib.Dec.{leb}
-use borrow.Author.Tests.{leb-true, leb-false, le-leb, lt-leb}
+use lib.ListN.{length, take, get_or, get_or-eq_default}
+use lib.Seq.{take-suc, take_all}
+use Rattle.std.proofs.lemmas.List.{take_more}
 use lib.IntN.{pos}
 use lib.Ieee.{Float, nan, inf, fin, binary32, lt, div}
 use Rattle.lists.specs.Tab.{tab}
-use Rattle.lists.proofs.Tab.{tab-add, map-tab}
-use Rattle.lists.proofs.Tests.{and-on}
+use Rattle.lists.proofs.Tab.{map-tab}
 use Rattle.corner_list.specs.CornerList.{Slices, x_of, y_of, corner_at, corners_of}
-use Rattle.merge_grid.specs.Grid.{within_one, squared, least_from, grid_of}
-
--- ---- cell numbers that differ by at most one
-
-pub above-one : (a b : ℕ) → leb (b - a) 1 ≡ leb b (a + 1)
-above-one a b = go (leb (b - a) 1) refl
-  where
-    go : (t : Bool) → leb (b - a) 1 ≡ t → t ≡ leb b (a + 1)
-    go true e = sym (le-leb b (a + 1) (omega (arith, leb-true (b - a) 1 e)))
-    go false e = sym (lt-leb b (a + 1) (omega (arith, leb-false (b - a) 1 e)))
-
-pub within-one-up : (a b : ℕ) → a < b → leb (b - a) 1 ≡ within_one a b
-within-one-up a b h = above-one a b ∙ and-on (leb a (b + 1)) (leb b (a + 1)) (le-leb a (b + 1) (omega arith))
-
-pub within-one-down : (a b : ℕ) → b ≤ a → leb (a - b) 1 ≡ within_one a b
-within-one-down a b h = above-one b a ∙ right (leb a (b + 1)) (le-leb b (a + 1) (omega arith))
-  where
-    right : (t : Bool) → leb b (a + 1) ≡ true → t ≡ (t && leb b (a + 1))
-    right true e = sym e
-    right false e = refl
+use Rattle.merge_grid.specs.Grid.{squared, least_from, grid_of}
 
 -- ---- the least of a list
 
@@ -41,42 +21,35 @@ least-append : (m : Float) (s t : List Float) → least_from m (s ++ t) ≡ leas
 least-append m [] t = refl
 least-append m (v ∷ s) t = least-append (cond (lt v m) v m) s t
 
--- a NaN is never the least
-least-nan : (m : Float) (f : ℕ → Float) (k : ℕ) → ((i : ℕ) → i < k → f i ≡ nan) → least_from m (tab k f) ≡ m
-unfolding tab lt
-least-nan m f zero h = refl
-least-nan m f (suc k) h =
-    least-append m (tab k f) (f k ∷ []) ∙ rw (least-nan m f k (λ i l. h i (omega arith)), h k (omega arith))
+pub least_next : (m : Float) (s : List Float) (i : ℕ) → i < length s → least_from m (take (i + 1) s)
+    ≡ cond (lt (get_or s i nan) (least_from m (take i s))) (get_or s i nan) (least_from m (take i s))
+least_next m s i h = rw (take_more s i nan h) (least-append m (take i s) (get_or s i nan ∷ []))
 
--- the first n numbers of a list; past its end stand NaNs
+-- the first n numbers of a list; past its end stand NaNs, which are never the least
 abbrev pub numbers : List Float → ℕ → List Float
 numbers vs n = tab n (λ i. get_or vs i nan)
 
-module _ (vs : List Float) where
-  pub least_more : (i : ℕ) (m m' : Float) → m ≡ least_from (inf false) (numbers vs i) → m' ≡ least_from m (get_or vs i nan ∷ [])
-      → m' ≡ least_from (inf false) (numbers vs (i + 1))
-  unfolding tab
-  least_more i m m' e f =
-      f ∙ ap (λ (u : Float). least_from u (get_or vs i nan ∷ [])) e
-      ∙ sym (least-append (inf false) (numbers vs i) (get_or vs i nan ∷ []))
-      ∙ ap (λ (k : ℕ). least_from (inf false) (numbers vs k)) (sym (add-one i))
+module _ (vs : List Float) (m : Float) where
+  one-more : (n : ℕ) → least_from m (take (suc n) vs) ≡ least_from (least_from m (take n vs)) (get_or vs n nan ∷ [])
+  unfolding lt
+  one-more n =
+      elim (dec_lt n (length vs)) [
+        | yes h ↦ rw (take-suc vs n nan h) (least-append m (take n vs) (get_or vs n nan ∷ []))
+        | no h ↦ rw (take_all (suc n) vs (omega arith), take_all n vs (omega arith), get_or-eq_default vs nan {n = n} (omega arith)) refl
+      ]
 
-  pub least-all : (i n : ℕ) (m : Float) → i ≡ min n (length vs) → m ≡ least_from (inf false) (numbers vs i)
-      → m ≡ least_from (inf false) (numbers vs n)
-  least-all i n m q e =
-      let past : least_from (least_from (inf false) (numbers vs i)) (tab (n - i)
-      (λ k. get_or vs (i + k) nan)) ≡ least_from (inf false) (numbers vs i) =
-      least-nan (least_from (inf false) (numbers vs i)) (λ k. get_or vs (i + k) nan) (n - i)
-      (λ k l. get_or-eq_default vs nan {n = i + k} (omega arith)) in
-      let upto : i + (n - i) ≡ n = omega arith in
-      e ∙ sym past
-      ∙ sym (least-append (inf false) (numbers vs i) (tab (n - i) (λ k. get_or vs (i + k) nan)))
-      ∙ ap (least_from (inf false)) (sym (tab-add i (n - i) (λ k. get_or vs k nan)) ∙ ap (numbers vs) upto)
+  pub least-numbers : (n : ℕ) → least_from m (take n vs) ≡ least_from m (numbers vs n)
+  unfolding tab
+  least-numbers zero = refl
+  least-numbers (suc n) =
+      one-more n ∙ ap (λ (u : Float). least_from u (get_or vs n nan ∷ [])) (least-numbers n)
+      ∙ sym (least-append m (numbers vs n) (get_or vs n nan ∷ []))
 
 -- ---- the grid, by its fields
-pub grid-is : (b : Slices) (n : ℕ) (radius left top : Float) → left ≡ least_from (inf false) (numbers b.xs n)
-    → top ≡ least_from (inf false) (numbers b.ys n)
+pub grid-is : (b : Slices) (n : ℕ) (radius left top : Float) → left ≡ least_from (inf false) (take n b.xs)
+    → top ≡ least_from (inf false) (take n b.ys)
     → record { left = left; top = top; inverse = div binary32 (fin false 1 (pos 0)) radius; square = squared radius }
     ≡ grid_of radius (corners_of b n)
 unfolding grid_of
-grid-is b n radius left top p q = rw (p, q, map-tab x_of (corner_at b) n, map-tab y_of (corner_at b) n)
+grid-is b n radius left top p q =
+    rw (p, q, least-numbers b.xs (inf false) n, least-numbers b.ys (inf false) n, map-tab x_of (corner_at b) n, map-tab y_of (corner_at b) n)

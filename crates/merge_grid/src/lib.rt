@@ -2,9 +2,8 @@
 // grid is stored; the cell numbers decide. Only a corner's position counts, not its strength.
 #![tactic(auto)]
 
-ghost use Rattle.std.specs.Prelude.{◌≡◌, false, List, [], ◌∷◌, ℕ, get_or, Float};
-ghost use Rattle.std.specs.Float.{nan, inf};
-ghost use Rattle.lists.specs.Tab.{tab};
+ghost use Rattle.std.specs.Prelude.{◌≡◌, false, List, ℕ, take, Float};
+ghost use Rattle.std.specs.Float.{inf};
 ghost use Rattle.corner_list.specs.CornerList.{slices, corners_of};
 ghost use Rattle.merge_grid.specs.Grid.{position_of, position_at, cell_of, column_of, row_of, within_one};
 ghost use Rattle.merge_grid.specs.Grid.{adjacent_cells};
@@ -36,7 +35,7 @@ impl From<Corner> for Position {
     }
 }
 
-// Where a corner is.
+// Where a corner is. Beside `Position::from`, because RULES 1.8 names it.
 pub fn position_of(c: Corner) -> Position
     ensures { result ≡ position_of c }
 {
@@ -53,22 +52,16 @@ pub fn position_at(xs: &[f32], ys: &[f32], at: usize) -> Position
     }
 }
 
-// The lower of two numbers, the second unless the first is below it.
-fn lower(v: f32, m: f32) -> f32
-    ensures { result ≡ least_from m (v ∷ []) }
-{
-    if v < m { v } else { m }
-}
-
 // The least of the first n numbers of a slice, or infinity if there is none. If the slice is shorter, the least of all
-// of them.
+// of them. By a comparison: of two zeros `f32::min` does not say which it returns.
 fn least(vs: &[f32], n: usize) -> f32
-    ensures { result ≡ least_from (inf false) (tab n (λ i. get_or vs.now i nan)) }
+    ensures { result ≡ least_from (inf false) (take n vs.now) }
 {
-    let held = numbers::lesser(n, vs.len());
-    let mut m = f32::from_bits(0x7f80_0000);
-    for i in 0..held {
-        m = lower(vs[i], m);
+    let mut m = f32::INFINITY;
+    for v in &vs[..n.min(vs.len())] {
+        if *v < m {
+            m = *v;
+        }
     }
     m
 }
@@ -111,21 +104,19 @@ pub fn row_of(g: Grid, p: Position) -> usize
 fn is_within_one(a: usize, b: usize) -> bool
     ensures { result ≡ within_one a b }
 {
-    if a < b { b - a <= 1 } else { a - b <= 1 }
+    a.abs_diff(b) <= 1
 }
 
 // Whether the cells of two positions differ by at most one each way.
+#[tactic(auto, unfolding(crate::specs::Grid::adjacent_cells))]
 fn are_adjacent(g: Grid, p: Position, q: Position) -> bool
     ensures { result ≡ adjacent_cells g p q }
 {
-    if is_within_one(column_of(g, p), column_of(g, q)) {
-        is_within_one(row_of(g, p), row_of(g, q))
-    } else {
-        false
-    }
+    is_within_one(column_of(g, p), column_of(g, q)) && is_within_one(row_of(g, p), row_of(g, q))
 }
 
 // Whether the squared distance of two positions is at most a number.
+#[tactic(auto, unfolding(crate::specs::Grid::near))]
 pub fn is_near(square: f32, p: Position, q: Position) -> bool
     ensures { result ≡ near square p q }
 {
@@ -138,9 +129,5 @@ pub fn is_near(square: f32, p: Position, q: Position) -> bool
 pub fn is_joined(g: Grid, p: Position, q: Position) -> bool
     ensures { result ≡ meets g p q }
 {
-    if is_near(g.square, p, q) {
-        are_adjacent(g, p, q)
-    } else {
-        false
-    }
+    is_near(g.square, p, q) && are_adjacent(g, p, q)
 }

@@ -1,7 +1,7 @@
 -- The refusals of merging: what each test says of the number, and what the number 0 says. Assumes nothing.
 use Prim.Native.Nat.{ℕ, ◌≤◌, min}
 use native.Mathlib.Omega.{arith}
-use mathlib.Core.Path.{◌≡◌, sym, ap, ◌∙◌, subst}
+use mathlib.Core.Path.{◌≡◌, sym, ap, ◌∙◌}
 use mathlib.Core.Bool.{Bool, true, false, not, cond, ◌&&◌, true≢false}
 use mathlib.Core.List.{List, [], ◌∷◌}
 use lib.Dec.{ltb}
@@ -92,7 +92,8 @@ module _ (radius : Float) (places count : ℕ) (b : Slices) where
         (all_map _ _ (λ c e o. true≢false (sym e ∙ not-true (is_inside c) o)) (corners_of b count) inside) in
         sym (judged-count on (ap (λ (n : ℕ). any corner_outside (corners_of b n)) few ∙ each) sized) ∙ none
 
--- ---- the number by a view is that by the buffer
-pub judged-viewed : (radius : Float) (places count k : ℕ) (b b' : Slices) → b ≡ b' → k ≡ refusal_of radius (min places (places_of b)) count b
-    → k ≡ refusal_of radius (min places (places_of b')) count b'
-judged-viewed radius places count k b b' e n = subst (λ (d : Slices). k ≡ refusal_of radius (min places (places_of d)) count d) e n
+-- ---- the answer by a view is that by the buffer
+pub judged-viewed : (radius : Float) (places count : ℕ) (b b' : Slices) (r : Result (Unit {0}) Refusal) → b ≡ b'
+    → r ≡ verdict (refusal_of radius (min places (places_of b)) count b)
+    → r ≡ verdict (refusal_of radius (min places (places_of b')) count b')
+judged-viewed radius places count b b' r e p = rw e at p

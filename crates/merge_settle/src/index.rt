@@ -74,7 +74,7 @@ pub(crate) fn list_place(table: &mut [f32], g: Grid, place: usize, p: Position)
 fn reaches(floor: usize, row: usize) -> bool
     ensures { result ≡ leb floor (row + 1) }
 {
-    if row < floor { floor - row <= 1 } else { true }
+    floor.saturating_sub(row) <= 1
 }
 
 // Empties every slot.

@@ -33,7 +33,7 @@ pub fn settle_list(
     ensures settles { Settles g apart (seen list.entry) n (contents b.old) result (contents b.new) }
     ensures table_after { table.new ≡ wiped_from 0 zero table.old }
 {
-    let held = numbers::lesser(n, b.places());
+    let held = n.min(b.places());
     let slots = slots_for(table.len(), held);
     if 0 < slots {
         index::clear(&mut table[..slots]);

@@ -3,24 +3,12 @@ use Prim.Native.Nat.{ℕ, ◌≤◌}
 use native.Mathlib.Omega.{arith}
 use mathlib.Core.Path.{◌≡◌}
 use mathlib.Core.Bool.{true, false}
-use mathlib.Core.Logic.{⊎_elim}
 use lib.Dec.{leb}
 use borrow.Author.Tests.{leb-true, ne_eqb}
-use native.Mathlib.Nat.{eq-or-lt_of_le}
 use Rattle.lists.proofs.Tests.{and_parts}
 use Rattle.pgm.specs.Header.{is_space, is_digit}
 
--- TAB, LF, VT, FF and CR are 9 to 13
-pub space-control : (c : ℕ) → 9 ≤ c → c ≤ 13 → true ≡ is_space c
-space-control c low high =
-    ⊎_elim (λ e. rw (← e))
-    (λ l. ⊎_elim (λ e. rw (← e))
-    (λ l. ⊎_elim (λ e. rw (← e))
-    (λ l. ⊎_elim (λ e. rw (← e))
-    (λ l. let last : c ≡ 13 = omega arith in rw last)
-    (eq-or-lt_of_le l)) (eq-or-lt_of_le l)) (eq-or-lt_of_le l)) (eq-or-lt_of_le low)
-
--- and but for the blank there is no other
+-- a blank, TAB, LF, VT, FF and CR, which are 9 to 13, are all
 pub space-none : (c : ℕ) → (c ≡ 32 → ⊥) → (9 ≤ c → c ≤ 13 → ⊥) → false ≡ is_space c
 space-none c blank control =
     rw (

@@ -1,49 +1,42 @@
 -- The fields of a header from their parts, and where the characters of an upload stand. Assumes nothing.
 use Prim.Native.Nat.{ℕ, suc, ◌+◌, ◌<◌, ◌≤◌}
 use native.Mathlib.Omega.{arith}
-use mathlib.Core.Path.{◌≡◌, ap, ap₂, ◌∙◌, subst}
-use mathlib.Core.Bool.{Bool, true, false, cond, ◌&&◌, ◌||◌}
+use mathlib.Core.Path.{◌≡◌, subst}
+use mathlib.Core.Bool.{Bool, true, false, cond, ◌||◌}
 use mathlib.Core.List.{List, [], ◌∷◌}
 use lib.Dec.{eqb}
 use lib.ListN.{length}
+use Rattle.std.specs.Prelude.{Option, Some, None}
 use Rattle.lists.specs.Places.{All}
 use Rattle.lists.proofs.Members.{all_map}
-use Rattle.pgm.specs.declared.header.Scanned.{Scanned}
-use Rattle.pgm.specs.declared.header.Digits.{Digits}
-use Rattle.pgm.specs.Header.{Character, in_comment, bare, is_space, is_digit, begins, leading, trailing, number_from, field_of}
+use Rattle.pgm.specs.declared.header.Number.{Number}
+use Rattle.pgm.specs.Header.{Character, in_comment, bare, is_space, is_digit, begins, trailing, field_of}
 use Rattle.pgm.specs.Header.{behind_first}
-use Rattle.pgm.specs.Header.{width_field, height_field}
-use Rattle.pgm.specs.Internal.{capped, bare_from, Reaches, CommentsSkipped, DigitsRead, FieldRead, FieldsRead}
+use Rattle.pgm.specs.Internal.{bare_from, Reaches, NumberRead, FieldRead}
+
+-- no field without whitespace before it
+pub field-none : (cs : List Character) → begins is_space cs ≡ false → (field_of cs).there ≡ false
+unfolding field_of
+field-none cs e = rw e
 
 module _ (upload : List ℕ) where
   -- ---- a field
-  pub field-read : (from first : ℕ) → Reaches upload (trailing is_space (bare_from upload from)) first
-      → (spaced numbered there : Bool) → spaced ≡ begins is_space (bare_from upload from)
-      → numbered ≡ begins is_digit (bare_from upload first)
-      → there ≡ (spaced && numbered) → (d : Digits) → DigitsRead upload (bare_from upload first) d
-      → FieldRead upload (field_of (bare_from upload from)) (record { there = there; number = d.number; end = d.end })
+  pub field-read : (from first : ℕ) → begins is_space (bare_from upload from) ≡ true
+      → Reaches upload (trailing is_space (bare_from upload from)) first
+      → (r : Option Number) → NumberRead upload (bare_from upload first) r → FieldRead upload (field_of (bare_from upload from)) r
   unfolding field_of
-  field-read from first r spaced numbered there s n t d read =
+  field-read from first spaced reached None read = rw (spaced, ← reached.same) read
+  field-read from first spaced reached (Some n) read =
       record {
-        there = t ∙ ap₂ (λ (a b : Bool). a && b) s (n ∙ ap (begins is_digit) r.same);
-        number = read.number ∙ ap (λ (cs : List Character). capped (number_from 0 (leading is_digit cs))) r.same;
-        end = record { same = read.end.same ∙ ap (trailing is_digit) r.same; plain = read.end.plain };
+        there_is = rw (spaced, ← reached.same) read.there_is;
+        value = rw (← reached.same) read.value;
+        end = rw (← reached.same) read.end;
       }
 
-  field-from : (cs : List Character) (at : ℕ) (r : Scanned) → bare_from upload at ≡ cs → FieldRead upload (field_of (bare_from upload at)) r
-      → FieldRead upload (field_of cs) r
-  field-from cs at r e = subst (λ (l : List Character). FieldRead upload (field_of l) r) e
-
-  -- all three, one behind the other
-  pub fields_read : (start : ℕ) → CommentsSkipped upload 2 start → (width height maxval : Scanned)
-      → FieldRead upload (field_of (bare_from upload start)) width
-      → FieldRead upload (field_of (bare_from upload width.end)) height → FieldRead upload (field_of (bare_from upload height.end)) maxval
-      → FieldsRead upload width height maxval
-  fields_read start s width height maxval w h m =
-      let first = field-from (bare_from upload 2) start width s.reaches.same w in
-      let second = field-from (width_field upload).rest width.end height first.end.same h in
-      let third = field-from (height_field upload).rest height.end maxval second.end.same m in
-      record { width_read = first; height_read = second; maxval_read = third }
+  -- from a place where some characters begin
+  pub field-from : (cs : List Character) (at : ℕ) → Reaches upload cs at → (r : Option Number)
+      → FieldRead upload (field_of (bare_from upload at)) r → FieldRead upload (field_of cs) r
+  field-from cs at reached r = subst (λ (l : List Character). FieldRead upload (field_of l) r) reached.same
 
 -- ---- a fact of each character
 module _ (P : Character → Type 0) where

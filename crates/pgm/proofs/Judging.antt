@@ -9,45 +9,27 @@ use mathlib.Core.List.{List, [], ◌∷◌}
 use lib.Dec.{ltb, eqb}
 use lib.ListN.{length, take, drop, length-drop}
 use lib.Seq.{length-take-le}
-use borrow.Author.Tests.{ltb-false, le-ltb, eqb-true, eq-eqb, ne_eqb, not-false}
+use borrow.Author.Tests.{ltb-false, lt-ltb, le-ltb, eqb-true, eq-eqb, ne_eqb, not-false}
 use Rattle.lists.specs.Limits.{largest_side, largest_map}
-use Rattle.lists.specs.Refusals.{lowest, unless, is_large}
+use Rattle.lists.specs.Refusals.{unless, is_large}
 use Rattle.lists.proofs.Tests.{and_parts, and_none, or-neither}
 use Rattle.lists.proofs.Refusals.{lowest-none, sides-small}
 use Rattle.pgm.specs.declared.PgmImage.{PgmImage}
 use Rattle.pgm.specs.declared.PgmImage.TheVariants.{Pixels, Refused}
-use Rattle.pgm.specs.declared.header.Scanned.{Scanned}
-use Rattle.pgm.specs.Header.{Character, is_space, bare, begins, width_field, height_field, maxval_field}
+use Rattle.pgm.specs.declared.header.Number.{Number}
+use Rattle.pgm.specs.declared.header.Sides.{Sides}
+use Rattle.std.specs.Prelude.{Some}
+use Rattle.pgm.specs.Header.{is_space, bare, begins, field_of, width_field, height_field, maxval_field}
 use Rattle.pgm.specs.Header.{has_magic, has_sides, has_header, width_of, height_of, maxval_of, raster_at}
 use Rattle.pgm.specs.Pgm.{conditions, refusal_of, pixels_in, PgmRead}
-use Rattle.pgm.specs.Internal.{conditions_by, capped, bare_from, FieldsRead}
+use Rattle.pgm.specs.Internal.{capped, bare_from, Reaches, NumberHere, SidesHere, MaxvalHere, behind_sides, has_maxval}
 use Rattle.pgm.proofs.Scanning.{first-at}
-use Rattle.pgm.proofs.Fields.{Within, all_rest, bare-within, first-within}
+use Rattle.pgm.proofs.Fields.{field-from, Within, all_rest, bare-within, first-within}
 use Rattle.pgm.proofs.Numbers.{large-capped, maxval-capped}
 
--- ---- numbers that are kept up to 65,536 give the same refusal
-module _ (w h : ℕ) where
-  is_large-capped : is_large (capped w) (capped h) ≡ is_large w h
-  is_large-capped = ap₂ (λ (a b : Bool). a || b) (large-capped w) (large-capped h)
-
-  module _ (maxval left left' : ℕ) where
-    pub judged-same : (sides header : Bool) → (header ≡ true → sides ≡ true) → (header ≡ true → left' ≡ left)
-        → lowest (conditions_by sides header (capped w) (capped h) (capped maxval) left')
-        ≡ lowest (conditions_by sides header w h maxval left)
-    judged-same false true s l = absurd (let no : ◌≡◌ {A = Bool} false true = s refl in let z : ◌≡◌ {A = ℕ} 0 1 = cc in omega arith)
-    judged-same false false s l = refl
-    judged-same true header s l = rw is_large-capped (go (is_large w h) refl header l)
-      where
-        go : (large : Bool) → is_large w h ≡ large → (header : Bool) → (header ≡ true → left' ≡ left)
-            → lowest ((large, 1) ∷ (not header || ltb left' (capped w * capped h), 12) ∷ (not (eqb (capped maxval) 255), 13) ∷ [])
-            ≡ lowest ((large, 1) ∷ (not header || ltb left (w * h), 12) ∷ (not (eqb maxval 255), 13) ∷ [])
-        go true e header l = refl
-        go false e false l = refl
-        go false e true l =
-            let small = sides-small w h e in
-            let cw : capped w ≡ w = omega arith in
-            let ch : capped h ≡ h = omega arith in
-            rw (cw, ch, maxval-capped maxval, l refl)
+-- ---- numbers that are kept up to 65,536 are as large
+is_large-capped : (w h : ℕ) → is_large (capped w) (capped h) ≡ is_large w h
+is_large-capped w h = ap₂ (λ (a b : Bool). a || b) (large-capped w) (large-capped h)
 
 -- ---- an upload that is accepted
 pub record Accepted (upload : List ℕ) : Type 0 where
@@ -98,62 +80,95 @@ magic-short [] l = refl
 magic-short (a ∷ []) l = and_none (eqb a 80)
 magic-short (a ∷ b ∷ cs) l = absurd (let no : ⊥ = omega arith in no)
 
--- ---- the fields as they were read
-module _ (upload : List ℕ) (width height maxval : Scanned) (fields : FieldsRead upload width height maxval) where
-  abbrev rest : List Character
-  rest = (maxval_field upload).rest
+-- ---- the parts of the header, as they are read
+module _ (upload : List ℕ) where
+  abbrev w : ℕ
+  w = width_of upload
 
-  -- the whitespace character before the raster
-  delimiter : has_header upload ≡ true → (raster_at upload ≡ maxval.end + 1) × (maxval.end < length upload)
-  delimiter e =
-      let field = (and_parts (has_sides upload) ((maxval_field upload).there && begins is_space rest) e).1 in
-      first-at upload is_space rest maxval.end fields.maxval_read.end
-      (and_parts (maxval_field upload).there (begins is_space rest) field).1
+  abbrev h : ℕ
+  h = height_of upload
 
-  module _ (magic pair sides : Bool) (m : magic ≡ has_magic upload) (p : pair ≡ (width.there && height.there))
-      (s : sides ≡ (magic && pair)) where
-    sides-are : sides ≡ has_sides upload
-    sides-are =
-        s ∙ ap₂ (λ (a b : Bool). a && b) m (p ∙ ap₂ (λ (a b : Bool). a && b) fields.width_read.there fields.height_read.there)
+  -- the maxval, and the whitespace character before the raster
+  pub maxval-read : (from : ℕ) → Reaches upload (behind_sides upload) from → (n : Number)
+      → NumberHere upload (field_of (bare_from upload from)).there (field_of (bare_from upload from)).number
+      (field_of (bare_from upload from)).rest n
+      → begins is_space (bare_from upload n.end) ≡ true
+      → MaxvalHere upload (record { value = n.value; end = n.end + 1 })
+  maxval-read from reached n r space =
+      let field = field-from upload (behind_sides upload) from reached (Some n) r in
+      let one : begins is_space (maxval_field upload).rest ≡ true = ap (begins is_space) (sym field.end.same) ∙ space in
+      let place = first-at upload is_space (maxval_field upload).rest n.end field.end one in
+      record { there = rw (field.there_is, one); value = field.value; end = sym place.0; inside = omega (arith, place.1) }
 
-    module _ (space delimited : Bool) (b : space ≡ begins is_space (bare_from upload maxval.end))
-        (d : delimited ≡ (maxval.there && space))
-        (whole : Bool) (w : whole ≡ (sides && delimited)) where
-      whole_is : whole ≡ has_header upload
-      whole_is =
-          w ∙ ap₂ (λ (a b : Bool). a && b) sides-are
-          (d ∙ ap₂ (λ (a b : Bool). a && b) fields.maxval_read.there (b ∙ ap (begins is_space) fields.maxval_read.end.same))
+  refused-read : (n : ℕ) → refusal_of upload ≡ n → (0 < n) → PgmRead upload (Refused n)
+  refused-read zero e l = absurd (let no : ⊥ = omega arith in no)
+  refused-read (suc n) e l = record { answer = rw e; number = sym e; values = rw e }
 
-      pub judged : (left : ℕ) → left ≡ length upload - maxval.end - 1 → (n : ℕ)
-          → n ≡ lowest (conditions_by sides whole width.number height.number maxval.number left) → n ≡ refusal_of upload
+  -- the sides cannot be read
+  pub sides-none : has_sides upload ≡ false → PgmRead upload (Refused 12)
+  unfolding refusal_of conditions
+  sides-none e = refused-read 12 (rw e) (omega arith)
+
+  module _ (s : Sides) (sides : SidesHere upload s) where
+    -- a side is too large
+    pub sides-large : is_large s.w s.h ≡ true → PgmRead upload (Refused 1)
+    unfolding refusal_of conditions
+    sides-large large =
+        let e : is_large w h ≡ true = sym (is_large-capped w h) ∙ rw (← sides.width, ← sides.height) large in
+        refused-read 1 (rw (sides.there, e)) (omega arith)
+
+    module _ (small : is_large s.w s.h ≡ false) where
+      fits : is_large w h ≡ false
+      fits = sym (is_large-capped w h) ∙ rw (← sides.width, ← sides.height) small
+
+      width-is : s.w ≡ w
+      width-is = omega (arith, (sides-small w h fits).0, sides.width)
+
+      height-is : s.h ≡ h
+      height-is = omega (arith, (sides-small w h fits).1, sides.height)
+
+      pub few : s.w * s.h ≤ largest_map
+      few = mul-le-mul (sides-small s.w s.h small).0 (sides-small s.w s.h small).1
+
+      -- the maxval cannot be read
+      pub maxval-none : has_maxval upload ≡ false → PgmRead upload (Refused 12)
       unfolding refusal_of conditions
-      judged left l n e =
-          e
-          ∙ rw (sides-are, whole_is, fields.width_read.number, fields.height_read.number, fields.maxval_read.number)
-          (judged-same (width_of upload) (height_of upload) (maxval_of upload) (length (drop (raster_at upload) upload)) left
-          (has_sides upload) (has_header upload)
-          (λ h. (and_parts (has_sides upload) ((maxval_field upload).there && begins is_space rest) h).0) (λ h. same (delimiter h).0))
-        where
-          same : raster_at upload ≡ maxval.end + 1 → left ≡ length (drop (raster_at upload) upload)
-          same at = omega (arith, l, at, length-drop (raster_at upload) upload)
+      maxval-none e = refused-read 12 (rw (sides.there, fits, e)) (omega arith)
 
-  -- ---- accepted
-  module _ (none : refusal_of upload ≡ 0) where
-    pub end-inside : maxval.end < length upload
-    end-inside = (delimiter (accepted upload none).header).1
+      module _ (n : Number) (maxval : MaxvalHere upload n) where
+        left : ltb (length upload - n.end) (s.w * s.h) ≡ ltb (length (drop (raster_at upload) upload)) (w * h)
+        left = rw (length-drop (raster_at upload) upload, maxval.end, width-is, height-is)
 
-    pub pixels-read : PgmRead upload (Pixels (maxval.end + 1) width.number height.number)
-    pixels-read =
-        let a = accepted upload none in
-        let at : maxval.end + 1 ≡ raster_at upload = sym (delimiter a.header).0 in
-        let w : width.number ≡ width_of upload = omega (arith, fields.width_read.number, a.narrow) in
-        let h : height.number ≡ height_of upload = omega (arith, fields.height_read.number, a.low) in
-        record { answer = rw (none, at, w, h); number = sym none; values = rw (none, at, w, h) }
+        -- fewer bytes than pixels
+        pub pixels-short : length upload - n.end < s.w * s.h → PgmRead upload (Refused 12)
+        unfolding refusal_of conditions
+        pixels-short l =
+            let e = sym left ∙ lt-ltb (length upload - n.end) (s.w * s.h) l in
+            refused-read 12 (rw (sides.there, fits, maxval.there, e)) (omega arith)
 
--- ---- refused
-pub refused-read : (upload : List ℕ) (n : ℕ) → n ≡ refusal_of upload → (n ≡ 0 → ⊥) → PgmRead upload (Refused n)
-refused-read upload zero e h = absurd (h refl)
-refused-read upload (suc n) e h = record { answer = rw (← e); number = e; values = rw (← e) }
+        module _ (enough : s.w * s.h ≤ length upload - n.end) where
+          -- another maxval
+          pub maxval-other : (n.value ≡ 255 → ⊥) → PgmRead upload (Refused 13)
+          unfolding refusal_of conditions
+          maxval-other other =
+              let e = sym left ∙ le-ltb (length upload - n.end) (s.w * s.h) enough in
+              let o = sym (maxval-capped (maxval_of upload)) ∙ ne_eqb (capped (maxval_of upload)) 255 (λ z. other (maxval.value ∙ z)) in
+              refused-read 13 (rw (sides.there, fits, maxval.there, e, o)) (omega arith)
+
+          pub pixels-read : n.value ≡ 255 → PgmRead upload (Pixels n.end s.w s.h)
+          pixels-read full =
+              let none = accepts upload (record {
+                header = rw sides.there maxval.there;
+                narrow = (sides-small w h fits).0;
+                low = (sides-small w h fits).1;
+                enough = ltb-false _ _ (sym left ∙ le-ltb (length upload - n.end) (s.w * s.h) enough);
+                full = omega (arith, maxval.value, full);
+              }) in
+              record {
+                answer = rw (none, maxval.end, width-is, height-is);
+                number = sym none;
+                values = rw (none, maxval.end, width-is, height-is);
+              }
 
 -- ---- an answer, taken apart
 

@@ -1,18 +1,17 @@
 -- Numbers that are kept up to 65,536. Assumes nothing.
-use Prim.Native.Nat.{ℕ, ◌+◌, ◌-◌, ◌*◌, ◌<◌, ◌≤◌}
+use Prim.Native.Nat.{ℕ, ◌+◌, ◌-◌, ◌*◌, ◌≤◌}
 use native.Mathlib.Decide.{dec_lt}
 use native.Mathlib.Omega.{arith}
 use mathlib.Core.Path.{◌≡◌, refl, sym, ap, ◌∙◌}
-use mathlib.Core.Bool.{Bool, true, false}
+use mathlib.Core.Bool.{true, false}
 use mathlib.Core.List.{List, [], ◌∷◌}
 use lib.Dec.{ltb, eqb}
-use lib.ListN.{length, get_or}
+use Rattle.std.specs.Prelude.{Some}
 use borrow.Author.Tests.{lt-ltb, le-ltb, ne_eqb}
 use Rattle.lists.specs.Limits.{largest_side}
-use Rattle.pgm.specs.Header.{Character, is_digit, leading, number_from}
-use Rattle.pgm.specs.Internal.{largest_kept, capped, bare_from, Plain, CommentsSkipped, DigitsRead}
-use Rattle.pgm.proofs.Scanning.{Passing, passing-none, passing-next, passing-stops, passing-ends, leading-past, leading-stops}
-use Rattle.pgm.proofs.Scanning.{leading_end}
+use Rattle.pgm.specs.Header.{Character, is_digit, begins, leading, number_from}
+use Rattle.pgm.specs.Internal.{largest_kept, capped, bare_from, Plain, CommentsSkipped, DigitHere, NumberRead}
+use Rattle.pgm.proofs.Scanning.{Passing, passing-none, passing-next, passing-stops, leading-past, leading-none}
 
 -- one digit more
 capped-more : (n d : ℕ) → capped (10 * capped n + d) ≡ capped (10 * n + d)
@@ -50,38 +49,42 @@ module _ (upload : List ℕ) where
     pub same : capped (number_from number (leading is_digit (bare_from upload at)))
         ≡ capped (number_from 0 (leading is_digit (bare_from upload from)))
 
-  pub reading-none : (from : ℕ) → Plain upload from → Reading from 0 from
+  reading-none : (from : ℕ) → Plain upload from → Reading from 0 from
   reading-none from plain = record { passing = passing-none upload is_digit from plain; few = omega arith; same = refl }
 
   module _ (from number at : ℕ) (r : Reading from number at) where
-    read : leading is_digit (bare_from upload at) ≡ [] → number ≡ capped (number_from 0 (leading is_digit (bare_from upload from)))
-    read none =
+    pub reading-next : (digit : ℕ) → DigitHere upload at digit → (number' : ℕ) → number' ≡ capped (10 * number + digit)
+        → (next : ℕ) → CommentsSkipped upload (at + 1) next → Reading from number' next
+    reading-next digit d number' n next skipped =
+        record {
+          passing = passing-next upload is_digit from at r.passing d.here next skipped;
+          few = rw n (omega arith);
+          same =
+              rw n
+              (capped-from (10 * number + digit) (leading is_digit (bare_from upload next))
+              ∙ ap (λ (cs : List Character). capped (number_from (10 * number + digit) (leading is_digit cs))) skipped.reaches.same
+              ∙ rw d.value
+              (ap (λ (cs : List Character). capped (number_from number cs))
+              (sym (leading-past upload is_digit at r.passing.plain d.here)))
+              ∙ r.same);
+        }
+
+    pub reading-stops : begins is_digit (bare_from upload from) ≡ true → begins is_digit (bare_from upload at) ≡ false
+        → NumberRead upload (bare_from upload from) (Some (record { value = number; end = at }))
+    reading-stops there e =
         let kept : number ≡ capped number = omega (arith, r.few) in
-        kept ∙ ap (λ (cs : List Character). capped (number_from number cs)) (sym none) ∙ r.same
+        record {
+          there_is = there;
+          value =
+              kept
+              ∙ ap (λ (cs : List Character). capped (number_from number cs)) (sym (leading-none upload is_digit (bare_from upload at) e))
+              ∙ r.same;
+          end = passing-stops upload is_digit from at r.passing e;
+        }
 
-    module _ (some : at < length upload) (pass : Bool) (is : pass ≡ is_digit (get_or upload at 0)) where
-      pub reading-next : pass ≡ true → (number' : ℕ) → number' ≡ capped (10 * number + (get_or upload at 0 - 48))
-          → (next : ℕ) → CommentsSkipped upload (at + 1) next → Reading from number' next
-      reading-next e number' n next skipped =
-          record {
-            passing = passing-next upload is_digit from at r.passing some pass is e next skipped;
-            few = rw n (omega arith);
-            same =
-                rw n
-                (capped-from (10 * number + (get_or upload at 0 - 48)) (leading is_digit (bare_from upload next))
-                ∙ ap (λ (cs : List Character). capped (number_from (10 * number + (get_or upload at 0 - 48)) (leading is_digit cs)))
-                skipped.reaches.same
-                ∙ ap (λ (cs : List Character). capped (number_from number cs))
-                (sym (leading-past upload is_digit at some r.passing.plain pass is e))
-                ∙ r.same);
-          }
-
-      pub reading-stops : pass ≡ false → DigitsRead upload (bare_from upload from) (record { number = number; end = at })
-      reading-stops e =
-          record {
-            number = read (leading-stops upload is_digit at some r.passing.plain pass is e);
-            end = passing-stops upload is_digit from at r.passing some pass is e;
-          }
-
-    pub reading-ends : length upload ≤ at → DigitsRead upload (bare_from upload from) (record { number = number; end = at })
-    reading-ends l = record { number = read (leading_end upload is_digit at l); end = passing-ends upload is_digit from at r.passing l }
+  -- the first digit is read
+  pub reading-one : (from : ℕ) → Plain upload from → (digit : ℕ) → DigitHere upload from digit → (next : ℕ)
+      → CommentsSkipped upload (from + 1) next → Reading from digit next
+  reading-one from plain digit d next skipped =
+      let few : digit ≡ capped (10 * 0 + digit) = omega (arith, d.few) in
+      reading-next from 0 from (reading-none from plain) digit d digit few next skipped

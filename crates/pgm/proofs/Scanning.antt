@@ -9,8 +9,7 @@ use mathlib.Core.List.{List, [], ◌∷◌}
 use lib.Dec.{eqb}
 use lib.ListN.{length, get_or, drop, drop_of_length-le}
 use lib.Seq.{drop-cons}
-use borrow.Author.Tests.{eqb-false, ne_eqb}
-use Rattle.lists.proofs.Tests.{or-neither}
+use borrow.Author.Tests.{ne_eqb}
 use Rattle.pgm.specs.Header.{Character, in_comment, bare, begins, leading, trailing, behind_first}
 use Rattle.pgm.specs.Internal.{bare_from, Plain, Reaches, CommentsSkipped}
 
@@ -42,62 +41,68 @@ module _ (upload : List ℕ) where
   skipping-none from = record { further = omega arith; same = refl }
 
   module _ (from at : ℕ) (inside : Bool) (s : Skipping from at inside) where
-    module _ (ignored : Bool) (is : ignored ≡ (inside || eqb (code_at at) 35)) where
-      pub skipping-next : at < length upload → ignored ≡ true → (inside' : Bool) → inside' ≡ in_comment inside (code_at at)
-          → Skipping from (at + 1) inside'
-      skipping-next some e inside' goes =
-          record { further = omega (arith, s.further); same = rw goes (sym (bare-ignored at some inside (sym is ∙ e)) ∙ s.same) }
+    pub skipping-next : at < length upload → (inside || eqb (code_at at) 35) ≡ true → (inside' : Bool)
+        → inside' ≡ in_comment inside (code_at at) → Skipping from (at + 1) inside'
+    skipping-next some e inside' goes =
+        record { further = omega (arith, s.further); same = rw goes (sym (bare-ignored at some inside e) ∙ s.same) }
 
-      pub skipping-stops : ignored ≡ false → CommentsSkipped upload from at
-      skipping-stops e =
-          let neither = or-neither inside (eqb (code_at at) 35) (sym is ∙ e) in
-          record {
-            further = s.further;
-            reaches = record {
-              same = ap (λ (b : Bool). bare b at (drop at upload)) (sym neither.0) ∙ s.same;
-              plain = λ l. eqb-false (code_at at) 35 neither.1;
-            };
-          }
-
-    pub skipping-ends : length upload ≤ at → CommentsSkipped upload from at
-    skipping-ends l =
+    pub skipping-stops : inside ≡ false → (code_at at ≡ 35 → ⊥) → CommentsSkipped upload from at
+    skipping-stops outside other =
         record {
           further = s.further;
+          reaches = record { same = ap (λ (b : Bool). bare b at (drop at upload)) (sym outside) ∙ s.same; plain = λ l. other };
+        }
+
+    -- at the end, and past it
+    pub skipping-ends : length upload ≤ at → (end : ℕ) → from ≤ end → length upload ≤ end → CommentsSkipped upload from end
+    skipping-ends l end further m =
+        record {
+          further = further;
           reaches = record {
-            same = bare-end false at l ∙ sym (bare-end inside at l) ∙ s.same;
-            plain = λ m. absurd (let no : ⊥ = omega arith in no);
+            same = bare-end false end m ∙ sym (bare-end inside at l) ∙ s.same;
+            plain = λ k. absurd (let no : ⊥ = omega arith in no);
           };
         }
 
   -- ---- a test of the characters
   module _ (f : ℕ → Bool) where
+    -- where the first does not pass, there is none before it, and it stays
+    trailing-none : (cs : List Character) → begins f cs ≡ false → trailing f cs ≡ cs
+    trailing-none [] e = refl
+    trailing-none (c ∷ cs) e = rw e
+
+    pub leading-none : (cs : List Character) → begins f cs ≡ false → leading f cs ≡ []
+    leading-none [] e = refl
+    leading-none (c ∷ cs) e = rw e
+
     module _ (at : ℕ) where
       pub begins-end : length upload ≤ at → begins f (bare_from upload at) ≡ false
       begins-end l = ap (begins f) (bare-end false at l)
 
-      pub trailing-end : length upload ≤ at → trailing f (bare_from upload at) ≡ bare_from upload at
-      trailing-end l = ap (trailing f) (bare-end false at l) ∙ sym (bare-end false at l)
+      pub begins-here : at < length upload → Plain upload at → begins f (bare_from upload at) ≡ f (code_at at)
+      begins-here some plain = ap (begins f) (bare-first at some plain)
 
-      pub leading_end : length upload ≤ at → leading f (bare_from upload at) ≡ []
-      leading_end l = ap (leading f) (bare-end false at l)
+      -- a first one that passes is in the upload
+      pub begins-inside : begins f (bare_from upload at) ≡ true → at < length upload
+      begins-inside e =
+          elim (dec_lt at (length upload)) [
+            | yes l ↦ l
+            | no g ↦ let none = begins-end (omega arith) in absurd (let z : ◌≡◌ {A = ℕ} 0 1 = cc in let no : ⊥ = omega arith in no)
+          ]
 
-      module _ (some : at < length upload) (plain : Plain upload at) where
-        pub begins-here : begins f (bare_from upload at) ≡ f (code_at at)
-        begins-here = ap (begins f) (bare-first at some plain)
+      module _ (plain : Plain upload at) (e : begins f (bare_from upload at) ≡ true) where
+        first-is : bare_from upload at ≡ record { code = code_at at; place = at } ∷ bare_from upload (at + 1)
+        first-is = bare-first at (begins-inside e) plain
 
-        module _ (pass : Bool) (is : pass ≡ f (code_at at)) where
-          pub trailing-past : pass ≡ true → trailing f (bare_from upload at) ≡ trailing f (bare_from upload (at + 1))
-          trailing-past e = rw (bare-first at some plain, ← is, e)
+        passes : f (code_at at) ≡ true
+        passes = sym (begins-here (begins-inside e) plain) ∙ e
 
-          pub trailing-stops : pass ≡ false → trailing f (bare_from upload at) ≡ bare_from upload at
-          trailing-stops e = rw (bare-first at some plain, ← is, e)
+        pub trailing-past : trailing f (bare_from upload at) ≡ trailing f (bare_from upload (at + 1))
+        trailing-past = rw (first-is, passes)
 
-          pub leading-past : pass ≡ true
-              → leading f (bare_from upload at) ≡ record { code = code_at at; place = at } ∷ leading f (bare_from upload (at + 1))
-          leading-past e = rw (bare-first at some plain, ← is, e)
-
-          pub leading-stops : pass ≡ false → leading f (bare_from upload at) ≡ []
-          leading-stops e = rw (bare-first at some plain, ← is, e)
+        pub leading-past : leading f (bare_from upload at)
+            ≡ record { code = code_at at; place = at } ∷ leading f (bare_from upload (at + 1))
+        leading-past = rw (first-is, passes)
 
     -- what passes from `from` on is past
     pub record Passing (from at : ℕ) : Type 0 where
@@ -108,28 +113,19 @@ module _ (upload : List ℕ) where
     passing-none from plain = record { same = refl; plain = plain }
 
     module _ (from at : ℕ) (p : Passing from at) where
-      pub passing-next : (some : at < length upload) (pass : Bool) → pass ≡ f (code_at at) → pass ≡ true
-          → (next : ℕ) → CommentsSkipped upload (at + 1) next → Passing from next
-      passing-next some pass is e next r =
+      pub passing-next : begins f (bare_from upload at) ≡ true → (next : ℕ) → CommentsSkipped upload (at + 1) next → Passing from next
+      passing-next e next r =
           record {
-            same = ap (trailing f) r.reaches.same ∙ sym (trailing-past at some p.plain pass is e) ∙ p.same;
+            same = ap (trailing f) r.reaches.same ∙ sym (trailing-past at p.plain e) ∙ p.same;
             plain = r.reaches.plain;
           }
 
-      pub passing-stops : (some : at < length upload) (pass : Bool) → pass ≡ f (code_at at) → pass ≡ false
-          → Reaches upload (trailing f (bare_from upload from)) at
-      passing-stops some pass is e = record { same = sym (trailing-stops at some p.plain pass is e) ∙ p.same; plain = p.plain }
-
-      pub passing-ends : length upload ≤ at → Reaches upload (trailing f (bare_from upload from)) at
-      passing-ends l = record { same = sym (trailing-end at l) ∙ p.same; plain = p.plain }
+      pub passing-stops : begins f (bare_from upload at) ≡ false → Reaches upload (trailing f (bare_from upload from)) at
+      passing-stops e = record { same = sym (trailing-none (bare_from upload at) e) ∙ p.same; plain = p.plain }
 
     -- the first of some characters stands where they begin
     pub first-at : (cs : List Character) (at : ℕ) → Reaches upload cs at → begins f cs ≡ true
         → (behind_first cs ≡ at + 1) × (at < length upload)
     first-at cs at r e =
-        elim (dec_lt at (length upload)) [
-          | yes l ↦ (ap behind_first (sym r.same ∙ bare-first at l r.plain) ∙ sym (add-one at), l)
-          | no g ↦
-              let none : begins f cs ≡ false = ap (begins f) (sym r.same) ∙ begins-end at (omega arith) in
-              absurd (let z : ◌≡◌ {A = ℕ} 0 1 = cc in let no : ⊥ = omega arith in no)
-        ]
+        let here : begins f (bare_from upload at) ≡ true = ap (begins f) r.same ∙ e in
+        (ap behind_first (sym r.same ∙ first-is at r.plain here) ∙ sym (add-one at), begins-inside at here)

@@ -1,14 +1,15 @@
 // Kind 6: the search box of a seed.
 use crate::fields::{count, due_byte, due_count, due_word, float, word};
 use corner_list::Corner;
-use multiscale::{RoiAnswer, RoiContext};
+use lists::Refusal;
+use multiscale::{Roi, RoiContext};
 
 pub(crate) fn replay(body: &[u8]) -> bool {
     due_box(body, answer(body)) == body.len()
 }
 
 // The box of the seed in the body.
-fn answer(body: &[u8]) -> RoiAnswer {
+fn answer(body: &[u8]) -> Result<Option<Roi>, Refusal> {
     let seed = Corner {
         x: float(body, 7),
         y: float(body, 8),
@@ -30,25 +31,23 @@ fn context(body: &[u8]) -> RoiContext {
     }
 }
 
-fn due_box(body: &[u8], answer: RoiAnswer) -> usize {
+fn due_box(body: &[u8], answer: Result<Option<Roi>, Refusal>) -> usize {
+    let nowhere = Roi {
+        x0: 0,
+        y0: 0,
+        x1: 0,
+        y1: 0,
+    };
     match answer {
-        RoiAnswer::Bounds(x0, y0, x1, y1) => due_ends(body, 0, 1, x0, y0, x1, y1),
-        RoiAnswer::NoRoi => due_ends(body, 0, 0, 0, 0, 0, 0),
-        RoiAnswer::Refused(number) => due_ends(body, number, 0, 0, 0, 0, 0),
+        Ok(Some(roi)) => due_ends(body, 0, 1, roi),
+        Ok(None) => due_ends(body, 0, 0, nowhere),
+        Err(refusal) => due_ends(body, u8::from(refusal), 0, nowhere),
     }
 }
 
-fn due_ends(
-    body: &[u8],
-    refusal: u8,
-    found: u8,
-    x0: usize,
-    y0: usize,
-    x1: usize,
-    y1: usize,
-) -> usize {
-    let refused = due_word(body, 36, refusal as u32);
-    let start = due_count(body, due_byte(body, refused, found), x0);
-    let end = due_count(body, due_count(body, start, y0), x1);
-    due_count(body, end, y1)
+fn due_ends(body: &[u8], refusal: u8, found: u8, roi: Roi) -> usize {
+    let refused = due_word(body, 36, u32::from(refusal));
+    let start = due_count(body, due_byte(body, refused, found), roi.x0);
+    let end = due_count(body, due_count(body, start, roi.y0), roi.x1);
+    due_count(body, end, roi.y1)
 }

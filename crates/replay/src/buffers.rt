@@ -23,8 +23,8 @@ fn rule_byte(i: usize) -> u8 {
 
 // Fills a byte buffer by the rule.
 pub(crate) fn fill_bytes(d: &mut [u8]) {
-    for i in 0..d.len() {
-        d[i] = rule_byte(i);
+    for (i, byte) in d.iter_mut().enumerate() {
+        *byte = rule_byte(i);
     }
 }
 
@@ -38,15 +38,15 @@ fn word_or(field: &[u8], i: usize, other: u32) -> u32 {
 
 // Fills a float buffer with the floats of a field, and by the rule after them.
 pub(crate) fn read_floats(field: &[u8], d: &mut [f32]) {
-    for i in 0..d.len() {
-        d[i] = float32::from_bits(word_or(field, i, rule_bits(i)));
+    for (i, float) in d.iter_mut().enumerate() {
+        *float = float32::from_bits(word_or(field, i, rule_bits(i)));
     }
 }
 
 // The same for a buffer of numbers.
 pub(crate) fn read_counts(field: &[u8], d: &mut [u32]) {
-    for i in 0..d.len() {
-        d[i] = word_or(field, i, rule_count(i));
+    for (i, count) in d.iter_mut().enumerate() {
+        *count = word_or(field, i, rule_count(i));
     }
 }
 
@@ -62,9 +62,9 @@ fn due_or(field: &[u8], is_kept: bool, i: usize, before: u32) -> u32 {
 
 // Whether a float buffer that was filled with the floats of `given` holds what is expected.
 fn are_floats_due(field: &[u8], is_kept: bool, given: &[u8], after: &[f32]) -> bool {
-    for i in 0..after.len() {
+    for (i, float) in after.iter().enumerate() {
         let before = word_or(given, i, rule_bits(i));
-        if float32::to_bits(after[i]) != due_or(field, is_kept, i, before) {
+        if float32::to_bits(*float) != due_or(field, is_kept, i, before) {
             return false;
         }
     }
@@ -73,9 +73,9 @@ fn are_floats_due(field: &[u8], is_kept: bool, given: &[u8], after: &[f32]) -> b
 
 // The same for a buffer of numbers.
 fn are_counts_due(field: &[u8], is_kept: bool, given: &[u8], after: &[u32]) -> bool {
-    for i in 0..after.len() {
+    for (i, count) in after.iter().enumerate() {
         let before = word_or(given, i, rule_count(i));
-        if after[i] != due_or(field, is_kept, i, before) {
+        if *count != due_or(field, is_kept, i, before) {
             return false;
         }
     }
@@ -95,8 +95,8 @@ fn due_byte(field: &[u8], is_kept: bool, i: usize) -> u32 {
 
 // Whether a byte buffer holds what is expected, and the field has no more.
 fn are_bytes_due(field: &[u8], is_kept: bool, after: &[u8]) -> bool {
-    for i in 0..after.len() {
-        if byte_at(after, i) != due_byte(field, is_kept, i) {
+    for (i, byte) in after.iter().enumerate() {
+        if u32::from(*byte) != due_byte(field, is_kept, i) {
             return false;
         }
     }
@@ -105,15 +105,12 @@ fn are_bytes_due(field: &[u8], is_kept: bool, after: &[u8]) -> bool {
 
 // Whether two slices hold the same bytes.
 pub(crate) fn are_same(a: &[u8], b: &[u8]) -> bool {
-    if a.len() == b.len() {
-        return are_bytes_due(a, false, b);
-    }
-    false
+    a == b
 }
 
 // Whether all bytes are 0.
 pub(crate) fn are_zero(s: &[u8]) -> bool {
-    are_bytes_due(part(s, 0, 0), false, s)
+    s.iter().all(|byte| *byte == 0)
 }
 
 // ---- past what is expected in a buffer. Its first byte says what follows the field: 1 unchanged, 0 cleared.
@@ -158,18 +155,7 @@ pub(crate) fn due_front(body: &[u8], at: usize, after: &[u8]) -> usize {
     )
 }
 
-// The first n floats, or all if there are fewer.
-pub(crate) fn front(s: &[f32], n: usize) -> &[f32] {
-    if n <= s.len() {
-        return &s[0..n];
-    }
-    s
-}
-
-// The first n numbers.
-pub(crate) fn front_counts(s: &[u32], n: usize) -> &[u32] {
-    if n <= s.len() {
-        return &s[0..n];
-    }
-    s
+// The first n elements, or all if there are fewer.
+pub(crate) fn front<T>(s: &[T], n: usize) -> &[T] {
+    s.get(..n).unwrap_or(s)
 }

@@ -36,7 +36,7 @@ fn is_due(body: &[u8], outcome: Outcome) -> bool {
         Outcome::Rejected(x, y) => are_due(body, 0, 2, x, y, 0.0),
         Outcome::OutOfBounds(x, y) => are_due(body, 0, 3, x, y, 0.0),
         Outcome::IllConditioned(x, y) => are_due(body, 0, 4, x, y, 0.0),
-        Outcome::Refused(number) => are_due(body, number, 0, 0.0, 0.0, 0.0),
+        Outcome::Refused(refusal) => are_due(body, u8::from(refusal), 0, 0.0, 0.0, 0.0),
     }
 }
 

@@ -2,6 +2,8 @@
 // begins.
 ghost use Rattle.std.specs.Prelude.{◌≤◌};
 
+use lists::Refusal;
+
 // The place after a field that is missing or differs from the answer: past the end of every body, and so is everything
 // after it.
 pub(crate) const BAD: usize = 18446744073709551615;
@@ -154,7 +156,8 @@ pub(crate) fn due_float(body: &[u8], at: usize, x: f32) -> usize {
     due_word(body, at, float32::to_bits(x))
 }
 
-// The number of a refusal, 0 for none, and a count.
-pub(crate) fn due_answer(body: &[u8], at: usize, refusal: u8, n: usize) -> usize {
-    due_count(body, due_word(body, at, refusal as u32), n)
+// The number of a refusal, 0 for none, and a count, 0 if it is refused.
+pub(crate) fn due_answer(body: &[u8], at: usize, answer: Result<usize, Refusal>) -> usize {
+    let refused = due_word(body, at, u32::from(lists::number_of(answer)));
+    due_count(body, refused, answer.unwrap_or(0))
 }

@@ -4,8 +4,8 @@ use crate::fields::{
     bytes_at, count, due_answer, due_byte, due_count, due_word, length_at, part, past_bytes,
     past_length, word,
 };
-use pyramid::Pyramid;
-use pyramid_levels::LevelAnswer;
+use lists::Refusal;
+use pyramid_levels::Level;
 
 // The longest base whose levels are looked up, and the longest level buffer.
 const PIXELS: usize = 40000;
@@ -36,29 +36,23 @@ pub(crate) fn replay_building(body: &[u8]) -> bool {
 }
 
 // Whether the answer and the first n places of the level buffer are as expected.
-fn is_due(body: &[u8], n: usize, answer: Pyramid, levels: &[u8; PLACES]) -> bool {
+fn is_due(body: &[u8], n: usize, answer: Result<usize, Refusal>, levels: &[u8; PLACES]) -> bool {
     let at = past_length(body, past_bytes(body, 16), PLACES);
-    due_bytes(body, due_pyramid(body, at, answer), part(levels, 0, n)) == body.len()
-}
-
-fn due_pyramid(body: &[u8], at: usize, answer: Pyramid) -> usize {
-    match answer {
-        Pyramid::Levels(built) => due_answer(body, at, 0, built),
-        Pyramid::Refused(number) => due_answer(body, at, number, 0),
-    }
+    due_bytes(body, due_answer(body, at, answer), part(levels, 0, n)) == body.len()
 }
 
 // ---- kind 8: the base's sides, the level count, the minimum size, the level's number, and the lengths of base and
 // level buffer
 
 pub(crate) fn replay_place(body: &[u8]) -> bool {
+    let nowhere = Level {
+        from: 0,
+        width: 0,
+        height: 0,
+    };
     match place(body) {
-        LevelAnswer::Level {
-            from,
-            width,
-            height,
-        } => is_place_due(body, 0, source(body), from, width, height),
-        LevelAnswer::Refused(number) => is_place_due(body, number, 0, 0, 0, 0),
+        Ok(level) => is_place_due(body, 0, source(body), level),
+        Err(refusal) => is_place_due(body, u8::from(refusal), 0, nowhere),
     }
 }
 
@@ -70,13 +64,13 @@ fn source(body: &[u8]) -> u8 {
     1
 }
 
-fn is_place_due(body: &[u8], refusal: u8, source: u8, from: usize, w: usize, h: usize) -> bool {
-    if lies(body, from, w, h) {
-        let refused = due_word(body, due_built(body), refusal as u32);
-        let place = due_count(body, due_byte(body, refused, source), from);
-        return due_count(body, due_count(body, place, w), h) == body.len();
+fn is_place_due(body: &[u8], refusal: u8, source: u8, level: Level) -> bool {
+    if !lies(body, level) {
+        return false;
     }
-    false
+    let refused = due_word(body, due_built(body), u32::from(refusal));
+    let place = due_count(body, due_byte(body, refused, source), level.from);
+    due_count(body, due_count(body, place, level.width), level.height) == body.len()
 }
 
 // Past the two lengths, and the expected number of levels.
@@ -89,17 +83,14 @@ fn due_built(body: &[u8]) -> usize {
 fn built(body: &[u8]) -> usize {
     let width = count(body, 0);
     let height = count(body, 1);
-    if lists::LARGEST_SIDE < width {
-        return 0;
-    }
-    if lists::LARGEST_SIDE < height {
+    if lists::LARGEST_SIDE < width || lists::LARGEST_SIDE < height {
         return 0;
     }
     pyramid_levels::level_count(width, height, word(body, 2), count(body, 3))
 }
 
 // Where the level is, for a base and a level buffer of these lengths.
-fn place(body: &[u8]) -> LevelAnswer {
+fn place(body: &[u8]) -> Result<Level, Refusal> {
     pyramid_levels::level_at(
         count(body, 5),
         count(body, 6),
@@ -113,24 +104,17 @@ fn place(body: &[u8]) -> LevelAnswer {
 
 // Whether the level is the w by h bytes from a place of its source on. Here the base is 0, and the level buffer is
 // filled by the rule, which gives no 0: so a level's bytes show where they are.
-fn lies(body: &[u8], from: usize, w: usize, h: usize) -> bool {
+fn lies(body: &[u8], level: Level) -> bool {
     let pixels = length_at(body, 20, PIXELS);
     let places = length_at(body, 24, PLACES);
     let base = [0u8; PIXELS];
     let levels = filled();
-    lies_in(body, &base[0..pixels], &levels[0..places], from, w, h)
+    lies_in(body, &base[0..pixels], &levels[0..places], level)
 }
 
 // The same in this base and this level buffer.
-fn lies_in<'a>(
-    body: &[u8],
-    base: &'a [u8],
-    levels: &'a [u8],
-    from: usize,
-    w: usize,
-    h: usize,
-) -> bool {
-    let level = pyramid::level(
+fn lies_in<'a>(body: &[u8], base: &'a [u8], levels: &'a [u8], level: Level) -> bool {
+    let pixels = pyramid::level(
         base,
         levels,
         count(body, 0),
@@ -139,13 +123,9 @@ fn lies_in<'a>(
         count(body, 3),
         count(body, 4),
     );
-    if is_product(level.len(), w, h) {
-        return are_same(
-            level,
-            part(source_of(body, base, levels), from, level.len()),
-        );
-    }
-    false
+    let source = source_of(body, base, levels);
+    is_product(pixels.len(), level.width, level.height)
+        && are_same(pixels, part(source, level.from, pixels.len()))
 }
 
 // The slice that has the level.

@@ -6,7 +6,7 @@ use crate::fields::{
     word,
 };
 use crate::list_buffer::{counts, due_list, floats, list_length, past_lengths, past_list};
-use frame::FrameAnswer;
+use corner_list::CornerBuffer;
 use frame_params::FrameParams;
 
 // The longest map, and the longest level buffer.
@@ -56,16 +56,13 @@ fn with_seeds(body: &[u8], lengths: usize, map: &mut [f32], levels: &mut [u8]) -
     let mut ys = floats(body, BAD);
     let mut strengths = floats(body, BAD);
     let mut neighbours = counts(body, BAD);
-    let next = with_corners(
-        body,
-        past_lengths(body, lengths),
-        map,
-        levels,
-        &mut xs[..nx],
-        &mut ys[..ny],
-        &mut strengths[..ns],
-        &mut neighbours[..nn],
-    );
+    let mut seeds = CornerBuffer {
+        xs: &mut xs[..nx],
+        ys: &mut ys[..ny],
+        strengths: &mut strengths[..ns],
+        neighbours: &mut neighbours[..nn],
+    };
+    let next = with_corners(body, past_lengths(body, lengths), map, levels, &mut seeds);
     let due = past_maps(body, next);
     let end = due_list(body, due, lengths, &xs, &ys, &strengths, &neighbours);
     and(next, end != BAD)
@@ -77,10 +74,7 @@ fn with_corners(
     lengths: usize,
     map: &mut [f32],
     levels: &mut [u8],
-    sx: &mut [f32],
-    sy: &mut [f32],
-    ss: &mut [f32],
-    sn: &mut [u32],
+    seeds: &mut CornerBuffer<'_>,
 ) -> usize {
     let nx = list_length(body, lengths, 0);
     let ny = list_length(body, lengths, 1);
@@ -90,6 +84,12 @@ fn with_corners(
     let mut ys = floats(body, BAD);
     let mut strengths = floats(body, BAD);
     let mut neighbours = counts(body, BAD);
+    let mut corners = CornerBuffer {
+        xs: &mut xs[..nx],
+        ys: &mut ys[..ny],
+        strengths: &mut strengths[..ns],
+        neighbours: &mut neighbours[..nn],
+    };
     let answer = frame::find_corners(
         bytes_at(body, 44),
         count(body, 0),
@@ -98,16 +98,11 @@ fn with_corners(
         false,
         map,
         levels,
-        sx,
-        sy,
-        ss,
-        sn,
-        &mut xs[..nx],
-        &mut ys[..ny],
-        &mut strengths[..ns],
-        &mut neighbours[..nn],
+        seeds,
+        &mut corners,
     );
-    let next = due_frame(body, past_lengths(body, lengths), answer);
+    let found = answer.map(|found| found.corners);
+    let next = due_answer(body, past_lengths(body, lengths), found);
     let due = past_list(body, past_maps(body, next));
     let end = due_list(body, due, lengths, &xs, &ys, &strengths, &neighbours);
     and(next, end == body.len())
@@ -124,13 +119,6 @@ fn parameters(body: &[u8]) -> FrameParams {
         levels: word(body, 8),
         minimum_side: count(body, 9),
         search_radius: word(body, 10),
-    }
-}
-
-fn due_frame(body: &[u8], at: usize, answer: FrameAnswer) -> usize {
-    match answer {
-        FrameAnswer::Corners(n, _) => due_answer(body, at, 0, n),
-        FrameAnswer::Refused(number) => due_answer(body, at, number, 0),
     }
 }
 

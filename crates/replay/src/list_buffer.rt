@@ -2,7 +2,7 @@
 ghost use Rattle.std.specs.Prelude.{◌≤◌};
 
 use crate::buffers::{
-    due_counts, due_floats, front, front_counts, past_buffer, read_counts, read_floats,
+    due_counts, due_floats, front, past_buffer, read_counts, read_floats,
 };
 use crate::fields::{BAD, length_at, past, past_length, words_at};
 
@@ -29,7 +29,7 @@ pub(crate) fn due_slice(body: &[u8], at: usize, given: usize, n: usize, d: &[f32
 }
 
 pub(crate) fn due_neighbours(body: &[u8], at: usize, given: usize, n: usize, d: &[u32]) -> usize {
-    due_counts(body, at, words_at(body, given), front_counts(d, n))
+    due_counts(body, at, words_at(body, given), front(d, n))
 }
 
 // ---- four slices, filled by the rule: their lengths are at a place of the body

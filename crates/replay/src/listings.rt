@@ -2,7 +2,8 @@
 use crate::buffers::{due_front, fill_bytes};
 use crate::fields::{and, count_at, past_words};
 use crate::list_buffer::{LIST, counts, floats};
-use listing::{LONGEST, Listing};
+use listing::LONGEST;
+use lists::Refusal;
 
 pub(crate) fn replay(body: &[u8]) -> bool {
     let ys = past_words(body, 0, LIST);
@@ -31,8 +32,8 @@ fn is_due(body: &[u8], ys: usize, strengths: usize, neighbours: usize) -> bool {
 }
 
 // Whether the text of an answer is as expected.
-fn is_listing_due(body: &[u8], at: usize, text: &[u8; LONGEST], answer: Listing) -> bool {
-    let Listing::Text(length) = answer else {
+fn is_listing_due(body: &[u8], at: usize, text: &[u8; LONGEST], answer: Result<usize, Refusal>) -> bool {
+    let Ok(length) = answer else {
         return false;
     };
     is_text_due(body, at, text, length)

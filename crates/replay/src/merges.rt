@@ -1,7 +1,8 @@
 // Kind 9: a merge.
 use crate::fields::{count, due_answer, float, length_at, past_words};
 use crate::list_buffer::{LIST, counts, due_neighbours, due_slice, floats};
-use merge::Merged;
+use corner_list::CornerBuffer;
+use lists::Refusal;
 
 pub(crate) fn replay(body: &[u8]) -> bool {
     let y_at = past_words(body, 8, LIST);
@@ -15,21 +16,20 @@ pub(crate) fn replay(body: &[u8]) -> bool {
     let mut ys = floats(body, y_at);
     let mut strengths = floats(body, strength_at);
     let mut neighbours = counts(body, neighbours_at);
-    let answer = merge::merge_corners_simple(
-        &mut xs[..nx],
-        &mut ys[..ny],
-        &mut strengths[..ns],
-        &mut neighbours[..nn],
-        count(body, 1),
-        float(body, 0),
-    );
+    let mut list = CornerBuffer {
+        xs: &mut xs[..nx],
+        ys: &mut ys[..ny],
+        strengths: &mut strengths[..ns],
+        neighbours: &mut neighbours[..nn],
+    };
+    let answer = merge::merge_corners_simple(&mut list, count(body, 1), float(body, 0));
     is_due(body, answer, &xs, &ys, &strengths, &neighbours)
 }
 
 // Whether the answer and the slices are as expected.
 fn is_due(
     body: &[u8],
-    answer: Merged,
+    answer: Result<usize, Refusal>,
     xs: &[f32; LIST],
     ys: &[f32; LIST],
     strengths: &[f32; LIST],
@@ -38,7 +38,7 @@ fn is_due(
     let y_at = past_words(body, 8, LIST);
     let strength_at = past_words(body, y_at, LIST);
     let neighbours_at = past_words(body, strength_at, LIST);
-    let at = due_merge(body, past_words(body, neighbours_at, LIST), answer);
+    let at = due_answer(body, past_words(body, neighbours_at, LIST), answer);
     let y_due = due_given(body, at, 8, xs);
     let strength_due = due_given(body, y_due, y_at, ys);
     let neighbours_due = due_given(body, strength_due, strength_at, strengths);
@@ -49,11 +49,4 @@ fn is_due(
 // Past what is expected in a slice whose floats are at a place of the body.
 fn due_given(body: &[u8], at: usize, given: usize, d: &[f32]) -> usize {
     due_slice(body, at, given, length_at(body, given, LIST), d)
-}
-
-fn due_merge(body: &[u8], at: usize, answer: Merged) -> usize {
-    match answer {
-        Merged::Kept(n) => due_answer(body, at, 0, n),
-        Merged::Refused(number) => due_answer(body, at, number, 0),
-    }
 }

@@ -27,10 +27,7 @@ fn is_rounded(x: f32, n: u64) -> bool {
 
 // Whether a float is not rounded: a NaN, or above 2^24 in absolute value.
 fn is_beyond(x: f32) -> bool {
-    if float32::abs(x) <= float32::LARGEST_ROUNDED {
-        return false;
-    }
-    true
+    !(float32::abs(x) <= float32::LARGEST_ROUNDED)
 }
 
 pub(crate) fn replay_ring(body: &[u8]) -> bool {
@@ -44,8 +41,8 @@ pub(crate) fn replay_ring(body: &[u8]) -> bool {
 // A count, and that many offsets.
 fn due_offsets(body: &[u8], at: usize, offsets: [u8; 16]) -> usize {
     let mut next = due_word(body, at, 16);
-    for i in 0..16 {
-        next = due_word(body, next, offsets[i] as u32);
+    for offset in offsets.iter() {
+        next = due_word(body, next, u32::from(*offset));
     }
     next
 }

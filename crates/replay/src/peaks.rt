@@ -4,7 +4,7 @@ use crate::fields::{
     BAD, count, count_at, due_answer, float, length_at, past, past_words, word, words_at,
 };
 use crate::list_buffer::{counts, due_list, floats, list_length, past_lengths};
-use detect::Peaks;
+use corner_list::CornerBuffer;
 
 // The longest map.
 const CELLS: usize = 2048;
@@ -27,6 +27,12 @@ fn with_list(body: &[u8], lengths: usize, map: &[f32]) -> bool {
     let mut strengths = floats(body, BAD);
     let mut neighbours = counts(body, BAD);
     let held = past_lengths(body, lengths);
+    let mut list = CornerBuffer {
+        xs: &mut xs[..nx],
+        ys: &mut ys[..ny],
+        strengths: &mut strengths[..ns],
+        neighbours: &mut neighbours[..nn],
+    };
     let answer = detect::find_peaks(
         map,
         count(body, 0),
@@ -37,19 +43,10 @@ fn with_list(body: &[u8], lengths: usize, map: &[f32]) -> bool {
         word(body, 5),
         word(body, 6),
         false,
-        &mut xs[..nx],
-        &mut ys[..ny],
-        &mut strengths[..ns],
-        &mut neighbours[..nn],
+        &mut list,
         count_at(body, held),
     );
-    let next = due_peaks(body, past(body, held, 4), answer);
+    let added = answer.map(|peaks| peaks.count);
+    let next = due_answer(body, past(body, held, 4), added);
     due_list(body, next, lengths, &xs, &ys, &strengths, &neighbours) == body.len()
-}
-
-fn due_peaks(body: &[u8], at: usize, answer: Peaks) -> usize {
-    match answer {
-        Peaks::Added(n, _) => due_answer(body, at, 0, n),
-        Peaks::Refused(number) => due_answer(body, at, number, 0),
-    }
 }

@@ -3,6 +3,7 @@ use crate::buffers::{due_floats, front, read_floats};
 use crate::fields::{
     bytes_at, count, due_answer, due_count, length_at, part, past_bytes, past_length, word,
 };
+use lists::Refusal;
 use response::Patch;
 
 // The longest map.
@@ -33,15 +34,13 @@ fn filled(body: &[u8]) -> [f32; CELLS] {
 }
 
 // Whether the answer and the first n places of the map are as expected.
-fn is_due(body: &[u8], n: usize, answer: Patch, map: &[f32; CELLS]) -> bool {
+fn is_due(body: &[u8], n: usize, answer: Result<Patch, Refusal>, map: &[f32; CELLS]) -> bool {
     let at = past_length(body, past_bytes(body, 28), CELLS);
     let next = due_patch(body, at, answer);
     due_floats(body, next, part(body, 0, 0), front(map, n)) == body.len()
 }
 
-fn due_patch(body: &[u8], at: usize, answer: Patch) -> usize {
-    match answer {
-        Patch::Cells { w, h } => due_count(body, due_answer(body, at, 0, w), h),
-        Patch::Refused(number) => due_count(body, due_answer(body, at, number, 0), 0),
-    }
+fn due_patch(body: &[u8], at: usize, answer: Result<Patch, Refusal>) -> usize {
+    let width = due_answer(body, at, answer.map(|patch| patch.w));
+    due_count(body, width, answer.map(|patch| patch.h).unwrap_or(0))
 }

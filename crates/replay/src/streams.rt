@@ -1,7 +1,8 @@
 // Kind 10: the reader of a stream.
 use crate::buffers::{are_zero, due_front, fill_bytes};
 use crate::fields::{and, bytes_at, due_count, due_word, part, past, past_bytes};
-use stream::{FrameStream, Header};
+use lists::Refusal;
+use stream::Header;
 
 pub(crate) fn replay(body: &[u8]) -> bool {
     let mut pixels = [0u8; stream::MOST_PIXELS];
@@ -14,16 +15,16 @@ fn are_pixels_due(body: &[u8], at: usize, pixels: &[u8; stream::MOST_PIXELS]) ->
     due_front(body, at, pixels) == body.len()
 }
 
-fn due_frame(body: &[u8], answer: FrameStream) -> usize {
+fn due_frame(body: &[u8], answer: Result<Header, Refusal>) -> usize {
     match answer {
-        FrameStream::Frame(header) => due_header(body, header),
-        FrameStream::Refused(number) => due_refusal(body, number),
+        Ok(header) => due_header(body, header),
+        Err(refusal) => due_refusal(body, refusal),
     }
 }
 
 // A refusal's number, and 0 for each field of a header.
-fn due_refusal(body: &[u8], number: u8) -> usize {
-    let at = due_word(body, past_bytes(body, 0), number as u32);
+fn due_refusal(body: &[u8], refusal: Refusal) -> usize {
+    let at = due_word(body, past_bytes(body, 0), u32::from(u8::from(refusal)));
     and(past(body, at, 44), are_zero(part(body, at, 44)))
 }
 

@@ -1,5 +1,5 @@
 -- Items passed one after the other, and the bytes that are wanted. Assumes nothing.
-use Prim.Native.Nat.{ℕ, zero, suc, ◌+◌, ◌-◌, ◌*◌, ◌<◌, ◌≤◌}
+use Prim.Native.Nat.{ℕ, zero, suc, ◌+◌, ◌-◌, ◌*◌, ◌<◌, ◌≤◌, max}
 use native.Mathlib.Decide.{dec_lt}
 use native.Mathlib.Numerals.{add-one}
 use native.Mathlib.Omega.{arith}
@@ -28,14 +28,16 @@ module _ (s : List ℕ) where
   pub record Passing (k p : ℕ) : Type 0 where
     pub passed : passed_from s (items - k) k ≡ passed_from s (items - p) p
     pub bytes : wanted_from s (items - k) k ≡ wanted_from s (items - p) p
+    -- none of them where k is behind all
+    pub near : items ≤ k → p ≡ k
 
   pub passing-none : (k : ℕ) → Passing k k
-  passing-none k = record { passed = refl; bytes = refl }
+  passing-none k = record { passed = refl; bytes = refl; near = λ l. refl }
 
   module _ (k p : ℕ) (w : Passing k p) where
-    pub passing-all : items ≤ p → Stands s k (record { passed = p; bytes = 0 })
-    passing-all l = record {
-      passed = sym (w.passed ∙ ap (λ (n : ℕ). passed_from s n p) none ∙ nothing);
+    pub passing-all : items ≤ p → (end : ℕ) → end ≡ p → Stands s k (record { passed = end; bytes = 0 })
+    passing-all l end e = record {
+      passed = e ∙ sym (w.passed ∙ ap (λ (n : ℕ). passed_from s n p) none ∙ nothing);
       bytes = sym (w.bytes ∙ ap (λ (n : ℕ). wanted_from s n p) none ∙ nothing-wanted);
     }
       where
@@ -54,13 +56,26 @@ module _ (s : List ℕ) where
 
       pub passing-next : item_fault s p ≡ 0 → Passing k (p + 1)
       unfolding passed_from wanted_from
-      passing-next e = rw (add-one p) (record { passed = w.passed ∙ rw (one, e); bytes = w.bytes ∙ rw (one, e) })
+      passing-next e =
+          rw (add-one p) (record {
+            passed = w.passed ∙ rw (one, e);
+            bytes = w.bytes ∙ rw (one, e);
+            near = λ l. absurd (let k-is = w.near l in let no : ⊥ = omega arith in no);
+          })
 
       pub passing-stops : (item_fault s p ≡ 0 → ⊥) → (n : ℕ) → n ≡ wanted_item s p → Stands s k (record { passed = p; bytes = n })
       unfolding passed_from wanted_from
       passing-stops h n e =
           let stop = ne_eqb (item_fault s p) 0 h in
           record { passed = sym (w.passed ∙ rw (one, stop)); bytes = e ∙ sym (w.bytes ∙ rw (one, stop)) }
+
+-- where a `for` over the items from item k on ends
+pub last-is : (k p : ℕ) → items ≤ p → (k ≤ items → p ≤ items) → (items ≤ k → p ≡ k) → max k items ≡ p
+last-is k p l within near =
+    elim (dec_lt k items) [
+      | yes a ↦ let w = within (omega arith) in omega arith
+      | no b ↦ let n = near (omega arith) in omega arith
+    ]
 
 -- ---- the items before item p have no fault
 pub record Before (s : List ℕ) (p : ℕ) : Type 0 where

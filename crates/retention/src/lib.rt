@@ -32,30 +32,17 @@ pub enum Holding {
 fn is_known(kind: u8) -> bool
     ensures { result ≡ known kind }
 {
-    match kind {
-        1..=3 => true,
-        _ => false,
-    }
+    matches!(kind, 1..=3)
 }
 
-fn wide(b: u8) -> u64
-    ensures { result ≡ b }
-{
-    b as u64
-}
-
-// A number of at most eight bytes, little-endian.
+// A number of eight bytes, little-endian.
 fn number_of(bytes: &[u8]) -> u64
-    requires { length bytes.now ≤ 8 }
+    requires { length bytes.now ≡ 8 }
     ensures { result ≡ little_endian bytes.now }
 {
-    let mut n = 0;
-    let mut i = bytes.len();
-    while 0 < i {
-        i -= 1;
-        n = 256 * n + wide(bytes[i]);
-    }
-    n
+    let mut eight = [0; 8];
+    eight.copy_from_slice(bytes);
+    u64::from_le_bytes(eight)
 }
 
 // The fault of the time.

@@ -65,16 +65,14 @@ fn list_records(input: &[u8], time: u64, out: &mut [u8]) -> usize
     requires { (time ≡ time_of input.now) × (time ≤ 2 ^ 40) × (length out.old ≡ longest) }
     ensures { Wrote (lines_from input.now most_records 0) 0 out.old result out.new }
 {
-    let stop = numbers::lesser(input.len(), LAST);
-    let mut at = 8;
+    let stop = input.len().min(LAST);
     let mut end = 0;
-    while at < stop {
+    for at in (8..stop).step_by(9) {
         let fault = crate::record_fault(input, at);
         if fault != 0 {
             return put_refusal(out, end, fault);
         }
         end = put_letter(out, end, letter_at(input, at, time));
-        at += 9;
     }
     end
 }

@@ -35,7 +35,7 @@ fn wanted_record(input: &[u8], at: usize) -> usize
     if !crate::is_known(input[at]) {
         return 0;
     }
-    numbers::minus(at + 9, input.len())
+    (at + 9).saturating_sub(input.len())
 }
 
 fn wanted_item(input: &[u8], k: usize) -> usize
@@ -43,7 +43,7 @@ fn wanted_item(input: &[u8], k: usize) -> usize
     ensures { result ≡ wanted_item input.now k }
 {
     if k == 0 {
-        return numbers::minus(8, input.len());
+        return 8_usize.saturating_sub(input.len());
     }
     wanted_record(input, 9 * k - 1)
 }
@@ -54,13 +54,14 @@ fn wanted_item(input: &[u8], k: usize) -> usize
 pub fn wanted(input: &[u8], k: usize) -> Standing
     ensures { Stands input.now k result }
 {
-    let mut passed = k;
-    while passed < ITEMS {
+    for passed in k..ITEMS {
         if item_fault(input, passed) != 0 {
             let bytes = wanted_item(input, passed);
             return Standing { passed, bytes };
         }
-        passed += 1;
     }
-    Standing { passed, bytes: 0 }
+    Standing {
+        passed: k.max(ITEMS),
+        bytes: 0,
+    }
 }

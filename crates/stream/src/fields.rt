@@ -9,39 +9,32 @@ pub(crate) fn u16_at(s: &[u8], at: usize) -> u16
     requires { at + 2 ≤ length s.now }
     ensures { result ≡ u16 s.now at }
 {
-    let low = s[at];
-    let high = s[at + 1];
-    (low as u16) + 256 * (high as u16)
+    u16::from_le_bytes([s[at], s[at + 1]])
 }
 
 fn u32_at(s: &[u8], at: usize) -> u32
     requires { at + 4 ≤ length s.now }
     ensures { result ≡ u32 s.now at }
 {
-    (u16_at(s, at) as u32) + 65536 * (u16_at(s, at + 2) as u32)
+    u32::from_le_bytes([s[at], s[at + 1], s[at + 2], s[at + 3]])
 }
 
 pub(crate) fn header_of(sides: &[u8], parameters: &[u8]) -> Header
     requires { (length sides.now ≡ 4) × (length parameters.now ≡ 16) }
     ensures { result ≡ header_of sides.now parameters.now }
 {
-    let width = u16_at(sides, 0) as usize;
-    let height = u16_at(sides, 2) as usize;
-    let threshold_bits = u32_at(parameters, 1);
-    let merge_bits = u32_at(parameters, 8);
-    let minimum = u16_at(parameters, 13) as usize;
     Header {
-        width,
-        height,
-        ring: parameters[0] as u32,
-        threshold_bits,
-        window: parameters[5] as u32,
-        least_neighbours: parameters[6] as u32,
-        centroid_radius: parameters[7] as u32,
-        merge_bits,
-        levels: parameters[12] as u32,
-        minimum_side: minimum,
-        search_radius: parameters[15] as u32,
+        width: usize::from(u16_at(sides, 0)),
+        height: usize::from(u16_at(sides, 2)),
+        ring: u32::from(parameters[0]),
+        threshold_bits: u32_at(parameters, 1),
+        window: u32::from(parameters[5]),
+        least_neighbours: u32::from(parameters[6]),
+        centroid_radius: u32::from(parameters[7]),
+        merge_bits: u32_at(parameters, 8),
+        levels: u32::from(parameters[12]),
+        minimum_side: usize::from(u16_at(parameters, 13)),
+        search_radius: u32::from(parameters[15]),
     }
 }
 
@@ -49,10 +42,10 @@ pub(crate) fn sides_fault(body: &[u8]) -> u8
     requires { length body.now ≡ 4 }
     ensures { result ≡ sides_fault (u16 body.now 0) (u16 body.now 2) }
 {
-    if crate::LARGEST_STREAM_SIDE < u16_at(body, 0) as usize {
+    if crate::LARGEST_STREAM_SIDE < usize::from(u16_at(body, 0)) {
         return 1;
     }
-    if crate::LARGEST_STREAM_SIDE < u16_at(body, 2) as usize {
+    if crate::LARGEST_STREAM_SIDE < usize::from(u16_at(body, 2)) {
         return 1;
     }
     0
@@ -68,7 +61,11 @@ fn first(a: u8, b: u8) -> u8
 fn range_fault(ring: u8, window: u8, centroid_radius: u8) -> u8
     ensures { result ≡ range_fault ring window centroid_radius }
 {
-    if frame_params::is_outside(ring as u32, window as u32, centroid_radius as u32) {
+    if frame_params::is_outside(
+        u32::from(ring),
+        u32::from(window),
+        u32::from(centroid_radius),
+    ) {
         return 3;
     }
     0

@@ -31,7 +31,7 @@ fn left_after(input: &[u8], kind: u8, left: usize) -> usize
 {
     match kind {
         1 => pixels::pixel_count(input),
-        3 => if left < 32 { 0 } else { left - 32 },
+        3 => left.saturating_sub(32),
         _ => left,
     }
 }

@@ -12,21 +12,18 @@ pub(crate) fn pixel_count(input: &[u8]) -> usize
     ensures { result ≡ pixel_count input.now }
 {
     let sides = &input[1..5];
-    (fields::u16_at(sides, 0) as usize) * (fields::u16_at(sides, 2) as usize)
+    usize::from(fields::u16_at(sides, 0)) * usize::from(fields::u16_at(sides, 2))
 }
 
 // 7 if a byte after the last pixel is not 0.
 pub(crate) fn padding_fault(body: &[u8], left: usize) -> u8
     ensures { result ≡ padding_fault left body.now }
 {
-    let mut i = left;
-    while i < body.len() {
-        if body[i] != 0 {
-            return 7;
-        }
-        i += 1;
+    if body.iter().skip(left).any(|v| *v != 0) {
+        7
+    } else {
+        0
     }
-    0
 }
 
 // Stores the first n pixels: a byte with the kind comes before every 32.
@@ -34,9 +31,7 @@ pub(crate) fn store_pixels(input: &[u8], n: usize, pixels: &mut [u8])
     requires { (22 + 33 * records_for n ≤ length input.now) × (n ≤ length pixels.old) }
     ensures { pixels.new ≡ front (tab n (pixel_byte input.now)) pixels.old }
 {
-    let mut i = 0;
-    while i < n {
-        pixels[i] = input[23 + i + i / 32];
-        i += 1;
+    for (i, pixel) in pixels[..n].iter_mut().enumerate() {
+        *pixel = input[23 + i + i / 32];
     }
 }

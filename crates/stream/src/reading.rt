@@ -12,9 +12,9 @@ fn wanted_pixels(came: &[u8], left: usize) -> usize
     if pixels::padding_fault(came, left) != 0 {
         return 0;
     }
-    let rest = numbers::minus(32, came.len());
-    let pixels = numbers::minus(left, came.len());
-    if pixels < rest { pixels + 1 } else { rest }
+    let rest = 32_usize.saturating_sub(came.len());
+    let pixels = left.saturating_sub(came.len());
+    rest.min(pixels.saturating_add(1))
 }
 
 fn wanted_body(came: &[u8], due: u8, left: usize) -> usize
@@ -23,7 +23,7 @@ fn wanted_body(came: &[u8], due: u8, left: usize) -> usize
     if due == 3 {
         return wanted_pixels(came, left);
     }
-    numbers::minus(kinds::body_length(due), came.len())
+    kinds::body_length(due).saturating_sub(came.len())
 }
 
 // How many bytes of the record at a place are needed, if it is faulty or cut short.

@@ -51,10 +51,10 @@ pub returns : goal.returns
 returns c =
     let answer = c.answer_of-answer.result in
     let kept : to_z w64 (of_z w64 answer) ≡ answer = to_z-of_z w64 answer (record { sfits = c.answer_of-answer.type_inv }) in
-    let start = c.lesser-start in
+    let start = c.min-start in
     let entry = c.args in
     rw kept
-    (reads entry.input entry.more entry.buffer.now c.read-outcome.new.buf start.result c.lesser.result start.ensures
-    (c.lesser.ensures ∙ ap (λ (n : ℕ). min entry.more (length entry.buffer.now - n)) start.ensures) c.read-outcome.auto.buf answer
+    (reads entry.input entry.more entry.buffer.now c.read-outcome.new.buf start.result c.min.result start.ensures
+    (c.min.ensures ∙ ap (λ (n : ℕ). min entry.more (length entry.buffer.now - n)) start.ensures) c.read-outcome.auto.buf answer
     c.count_of.result (c.count_of.ensures ∙ ap came_by kept)
     (at_most c.read-outcome.result answer c.read-outcome.new.buf c.read-outcome.ensures.bound c.answer_of-answer.ensures))

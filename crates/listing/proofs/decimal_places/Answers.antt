@@ -1,21 +1,13 @@
--- `listing::decimal_places` meets its contract. The invariant: the digits counted, and those of the rest. Assumes nothing.
+-- `listing::decimal_places` meets its contract. Assumes nothing.
 use native.Mathlib.Omega.{arith}
-use Rattle.listing.proofs.Numbers.{places-word, counted_none, counted-below, counted_next, counted-all}
+use mathlib.Core.Path.{sym}
+use Rattle.listing.proofs.Numbers.{places-tens, places-one}
 use Rattle.listing.proofs.decimal_places.Goals as goal
 
-pub loop-rest-init : goal.loop-rest-init
-loop-rest-init c = counted_none c.args.n
+pub returns-in-Some : goal.returns-in-Some
+returns-in-Some c =
+    let known = c.in-Some.ensures in
+    sym (places-tens c.in-Some.tens c.args.n c.args.n (omega arith) known.power_le known.next_power_gt)
 
-pub overflow_add-count : goal.overflow_add-count
-overflow_add-count c =
-    omega (
-      arith,
-      counted-below c.args.n c.loop-rest.count c.loop-rest.rest c.loop-rest.invariant,
-      places-word c.args.n c.ranges.n.fits,
-    )
-
-pub loop-rest-preserved : goal.loop-rest-preserved
-loop-rest-preserved c = counted_next c.args.n c.loop-rest.count c.loop-rest.rest c.loop-rest.invariant c.loop-rest-test.true
-
-pub returns : goal.returns
-returns c = counted-all c.args.n c.loop-rest.count c.loop-rest.rest c.loop-rest.invariant c.loop-rest-test.false
+pub returns-in-None : goal.returns-in-None
+returns-in-None c = let none = c.in-None.ensures.none in sym (places-one c.args.n c.args.n (omega arith))

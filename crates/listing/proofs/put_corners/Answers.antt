@@ -19,9 +19,6 @@ loop-i-init c =
 pub put_line-at-requires : goal.put_line-at-requires
 put_line-at-requires c = omega (arith, c.loop-i.invariant.left, c.loop-i-test.true)
 
-pub loop-i-smaller : goal.loop-i-smaller
-loop-i-smaller c = omega (arith, c.loop-i-test.true)
-
 pub loop-i-preserved : goal.loop-i-preserved
 loop-i-preserved c =
     let small : c.corner_at-c.result.neighbours < 2 ^ 32 = omega (arith, c.corner_at-c.type_inv) in

@@ -1,10 +1,6 @@
-use Prim.Native.Nat.{◌-◌}
 use Rattle.corner_list.specs.CornerList.{slices, corner_at}
 use Rattle.listing.proofs.Texts.{Lines}
 use Rattle.listing.proofs.put_corners.Given as goal
 
 abbrev pub invariant-loop-i : goal.invariant-loop-i
 invariant-loop-i l = Lines (corner_at (slices l.xs l.ys l.strengths l.neighbours)) l.count l.initial.at l.initial.out l.i l.at l.out
-
-abbrev pub decreases-loop-i : goal.decreases-loop-i
-decreases-loop-i l = l.count - l.i

@@ -5,4 +5,4 @@ use Rattle.listing.proofs.write_refusal.Goals as goal
 
 pub returns : goal.returns
 unfolding refused_text
-returns c = wrote-first c.put_heading.ensures
+returns c = rw (← c.from.ensures) (wrote-first c.put_heading.ensures)

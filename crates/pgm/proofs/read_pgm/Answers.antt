@@ -1,34 +1,31 @@
 -- `pgm::read_pgm` meets its contract, refused or not. Assumes nothing.
-use native.Mathlib.Omega.{arith}
 use mathlib.Core.Path.{sym, ◌∙◌}
-use Rattle.pgm.specs.Internal.{FieldsRead}
-use Rattle.pgm.proofs.Fields.{fields_read}
-use Rattle.pgm.proofs.Judging.{refused-read, pixels-read, end-inside}
+use Rattle.pgm.proofs.Judging.{sides-none, sides-large, maxval-none, pixels-short, maxval-other, pixels-read}
 use Rattle.pgm.proofs.read_pgm.Goals as goal
-use Rattle.pgm.proofs.read_pgm.Goals.{After-read_field-maxval}
 
--- the three fields
-fields : (c : After-read_field-maxval)
-    → FieldsRead c.args.upload.now c.read_field-width.result
-    c.read_field-height.result c.read_field-maxval.result
-fields c =
-    fields_read _ _ c.skip_comments-start.ensures _ _ _ c.read_field-width.ensures
-    c.read_field-height.ensures
-    c.read_field-maxval.ensures
+pub returns-in_default : goal.returns-in_default
+returns-in_default c = sides-none _ c.in_default.ensures
 
-pub judge-number-requires : goal.judge-number-requires
-judge-number-requires c = fields c
+pub returns-then-is_large : goal.returns-then-is_large
+returns-then-is_large c = sides-large _ _ c.in-Some.ensures (sym c.is_large.ensures ∙ c.if-is_large.true)
 
-pub returns-then-number-ne0 : goal.returns-then-number-ne0
-returns-then-number-ne0 c = refused-read _ _ c.judge-number.ensures c.if-number-ne0.true
+pub returns-in_default-read_maxval : goal.returns-in_default-read_maxval
+returns-in_default-read_maxval c =
+    maxval-none _ _ c.in-Some.ensures (sym c.is_large.ensures ∙ c.if-is_large.false) c.in_default-read_maxval.ensures
 
-pub overflow_add-result : goal.overflow_add-result
-overflow_add-result c =
-    omega (
-      arith,
-      end-inside _ _ _ _ (fields (goal.at.overflow_add-result c).After-read_field-maxval)
-          (sym c.judge-number.ensures ∙ c.if-number-ne0.false),
-    )
+pub returns-then-upload-maxval : goal.returns-then-upload-maxval
+returns-then-upload-maxval c =
+    pixels-short _ _ c.in-Some.ensures (sym c.is_large.ensures ∙ c.if-is_large.false) _ c.in-Some-read_maxval.ensures
+    c.if-upload-maxval.true
+
+pub returns-then-maxval-ne255 : goal.returns-then-maxval-ne255
+returns-then-maxval-ne255 c =
+    maxval-other _ _ c.in-Some.ensures (sym c.is_large.ensures ∙ c.if-is_large.false) _ c.in-Some-read_maxval.ensures
+    c.if-upload-maxval.false
+    c.if-maxval-ne255.true
 
 pub returns : goal.returns
-returns c = pixels-read _ _ _ _ (fields (goal.at.returns c).After-read_field-maxval) (sym c.judge-number.ensures ∙ c.if-number-ne0.false)
+returns c =
+    pixels-read _ _ c.in-Some.ensures (sym c.is_large.ensures ∙ c.if-is_large.false) _ c.in-Some-read_maxval.ensures
+    c.if-upload-maxval.false
+    c.if-maxval-ne255.false

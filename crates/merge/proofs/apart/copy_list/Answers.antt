@@ -1,25 +1,9 @@
--- `merge::apart::copy_list` meets its contract: each turn copies one corner. Assumes nothing.
-use Rattle.std.proofs.Common.{rules}
-use native.Mathlib.Omega.{arith}
-use Rattle.merge.proofs.Copying.{copied_none, copied_more}
-use Rattle.merge.proofs.Copying.{copied_all}
+-- `merge::apart::copy_list` meets its contract: each slice is copied. Assumes nothing.
+use Rattle.corner_list.specs.Buffer.{contents, seen}
+use Rattle.merge.proofs.Copying.{copied}
 use Rattle.merge.proofs.apart.copy_list.Goals as goal
 
-pub loop-i-init : goal.loop-i-init
-loop-i-init c = (search rules, omega arith, copied_none _ _)
-
-pub overflow_step-i : goal.overflow_step-i
-overflow_step-i c = omega (arith, c.loop-i-test.true, c.ranges.n)
-
-pub loop-i-smaller : goal.loop-i-smaller
-loop-i-smaller c = omega (arith, c.loop-i-test.true)
-
-pub loop-i-preserved : goal.loop-i-preserved
-loop-i-preserved c = (
-  search rules,
-  omega (arith, c.loop-i-test.true),
-  copied_more _ _ _ _ c.loop-i.invariant.2 _ c.requires c.loop-i-test.true _ c.at-c.ensures _ c.put.ensures.put,
-)
-
 pub returns-clause-copied : goal.returns-clause-copied
-returns-clause-copied c = copied_all _ _ _ _ c.loop-i.invariant.2 _ c.loop-i-test.false c.loop-i.invariant.1
+returns-clause-copied c =
+    copied (seen c.args.list) (contents c.args.b.now) _ _ c.requires.from c.copy_front.ensures c.copy_front-2.ensures
+    c.copy_front-3.ensures c.copy_front-4.ensures

@@ -1,29 +1,19 @@
--- `merge::apart::merge_apart` meets its contract: refused, or merged into the separate buffer. Assumes nothing.
-use mathlib.Core.Path.{◌≡◌, sym, ◌∙◌}
-use Rattle.corner_list.specs.CornerList.{places_of}
-use Rattle.corner_list.specs.Buffer.{contents, seen}
-use Rattle.merge.specs.Apart.{refusal_apart}
-use Rattle.merge.proofs.Separate.{apart-judged, apart_fits}
+-- `merge::apart::merge_apart` meets its contract: a refusal is passed on, or the list is merged into the separate buffer. Assumes nothing.
+use Rattle.lists.proofs.Judged.{passed-on, judged-ok}
+use Rattle.merge.proofs.Separate.{apart-known, apart_both, judged-places}
 use Rattle.merge.proofs.Answer.{leaves-refused, leaves_kept}
 use Rattle.merge.proofs.apart.merge_apart.Goals as goal
-use Rattle.merge.proofs.apart.merge_apart.Goals.{After-refusal_apart-number}
 
--- the number, by the places of the separate buffer
-judged : (c : After-refusal_apart-number)
-    → c.refusal_apart-number.result ≡ refusal_apart c.args.radius
-    (places_of (contents c.args.b.now)) c.args.count
-    (seen c.args.list)
-judged c =
-    apart-judged _ _ _ _ _ c.refusal_for-own.ensures _ _ c.refusal_apart-number.ensures c.places-places.ensures
-
-pub returns-then-number-ne0-clause-merged : goal.returns-then-number-ne0-clause-merged
-returns-then-number-ne0-clause-merged c =
-    leaves-refused _ _ _ _ (judged (goal.at.returns-then-number-ne0-clause-merged c).After-refusal_apart-number) c.if-number-ne0.true
+pub returns-in_err-refusal_apart-clause-merged : goal.returns-in_err-refusal_apart-clause-merged
+returns-in_err-refusal_apart-clause-merged c =
+    rw (passed-on _ c.from_residual.ensures.1)
+    (leaves-refused _ _ _ (apart-known _ _ _ _) _ (judged-places _ _ _ _ _ _ c.places.ensures c.in_err-refusal_apart.ensures))
 
 pub merge_into-requires : goal.merge_into-requires
 merge_into-requires c =
-    apart_fits _ _ _ _ (sym (judged (goal.at.merge_into-requires c).After-refusal_apart-number) ∙ c.if-number-ne0.false)
+    let fits = apart_both _ _ _ _ (judged-ok _ _ _ (judged-places _ _ _ _ _ _ c.places.ensures c.in_ok-refusal_apart.ensures)).0 in
+    record { from = fits.0; to = fits.1 }
 
 pub returns-clause-merged : goal.returns-clause-merged
 returns-clause-merged c =
-    leaves_kept _ _ _ _ _ _ (judged (goal.at.returns-clause-merged c).After-refusal_apart-number) c.if-number-ne0.false c.merge_into.ensures.left
+    leaves_kept _ _ _ (judged-ok _ _ _ (judged-places _ _ _ _ _ _ c.places.ensures c.in_ok-refusal_apart.ensures)).0 _ _ c.merge_into.ensures.left

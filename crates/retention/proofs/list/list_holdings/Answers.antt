@@ -1,7 +1,6 @@
 -- `retention::list::list_holdings` meets its contract: the time's refusal, or the lines. Assumes nothing.
 use native.Mathlib.Omega.{arith}
 use mathlib.Core.Path.{sym, ◌∙◌}
-use lib.ListN.{length-take}
 use lib.Seq.{length-take-le}
 use Rattle.retention.proofs.Records.{timed, time-small}
 use Rattle.retention.proofs.Texts.{time-refused, lines-written}
@@ -18,7 +17,8 @@ slice_bounds-number_of-end c =
     sym (length-take-le 8 c.args.input.now (timed c.args.input.now (sym c.time_fault-fault.ensures ∙ c.if-fault-ne0.false)).long)
 
 pub number_of-requires : goal.number_of-requires
-number_of-requires c = simp length-take (omega arith)
+number_of-requires c =
+    length-take-le 8 c.args.input.now (timed c.args.input.now (sym c.time_fault-fault.ensures ∙ c.if-fault-ne0.false)).long
 
 pub list_records-requires : goal.list_records-requires
 list_records-requires c = (

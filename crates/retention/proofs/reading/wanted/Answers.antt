@@ -1,6 +1,6 @@
 -- `retention::reading::wanted` meets its contract. The invariant: the items before this one are passed. Assumes nothing.
 use mathlib.Core.Path.{sym, ◌∙◌}
-use Rattle.retention.proofs.Passing.{passing-none, passing-next, passing-stops, passing-all}
+use Rattle.retention.proofs.Passing.{last-is, passing-none, passing-next, passing-stops, passing-all}
 use Rattle.retention.proofs.reading.wanted.Goals as goal
 
 pub loop-passed-init : goal.loop-passed-init
@@ -22,4 +22,6 @@ loop-passed-preserved c =
     passing-next _ _ _ c.loop-passed.invariant c.loop-passed-test.true (sym c.item_fault.ensures ∙ c.if-item_fault-ne0.false)
 
 pub returns : goal.returns
-returns c = passing-all _ _ _ c.loop-passed.invariant c.loop-passed-test.false
+returns c =
+    passing-all _ _ _ c.loop-passed.invariant c.loop-passed-test.false _
+    (c.max.ensures ∙ last-is _ _ c.loop-passed-test.false c.loop-passed.auto.passed-end c.loop-passed.invariant.near)

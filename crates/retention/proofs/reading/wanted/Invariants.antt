@@ -1,10 +1,5 @@
-use Prim.Native.Nat.{◌-◌}
-use Rattle.retention.specs.Wanted.{items}
 use Rattle.retention.proofs.Passing.{Passing}
 use Rattle.retention.proofs.reading.wanted.Given as goal
 
 abbrev pub invariant-loop-passed : goal.invariant-loop-passed
 invariant-loop-passed l = Passing l.input l.k l.passed
-
-abbrev pub decreases-loop-passed : goal.decreases-loop-passed
-decreases-loop-passed l = items - l.passed

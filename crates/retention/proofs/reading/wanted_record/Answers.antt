@@ -24,4 +24,4 @@ returns c =
       ← c.is_known.ensures,
       not-false c.is_known.result c.if-not-is_known.false-raw,
     )
-    c.minus.ensures
+    c.saturating_sub.ensures

@@ -22,10 +22,9 @@ padding-right left came e = rw e
 pub returns-then-padding_fault-ne0 : goal.returns-then-padding_fault-ne0
 returns-then-padding_fault-ne0 c = sym (padding-wrong _ _ (λ e. c.if-padding_fault-ne0.true (c.padding_fault.ensures ∙ e)))
 
-pub returns-then-pixels-rest : goal.returns-then-pixels-rest
-returns-then-pixels-rest c =
-    omega (arith, padding-right c.args.left c.args.came.now (sym c.padding_fault.ensures ∙ c.if-padding_fault-ne0.false))
-
-pub returns-else-pixels-rest : goal.returns-else-pixels-rest
-returns-else-pixels-rest c =
-    omega (arith, padding-right c.args.left c.args.came.now (sym c.padding_fault.ensures ∙ c.if-padding_fault-ne0.false))
+pub returns : goal.returns
+returns c =
+    omega (
+      arith,
+      padding-right c.args.left c.args.came.now (sym c.padding_fault.ensures ∙ c.if-padding_fault-ne0.false),
+    )
