@@ -1,15 +1,14 @@
 -- What a call has told, by its answer. Assumes nothing.
-use Prim.Native.Nat.{ℕ, zero, suc}
-use native.Mathlib.Omega.{arith}
+use Prim.Native.Nat.{ℕ}
 use mathlib.Core.Path.{◌≡◌, sym, ap, ◌∙◌}
-use mathlib.Core.List.{[], ◌∷◌}
-use lib.ListN.{length}
-use Rattle.lists.specs.Refusals.{values_unless, unless, result_or}
+use Rattle.std.specs.Prelude.{Result, Ok, Err}
+use Rattle.lists.specs.declared.refusal.Refusal.{Refusal}
+use Rattle.lists.specs.Refusals.{number_of}
+use Rattle.lists.proofs.Judged.{judged-ok, refused-stays}
 use Rattle.corner_list.specs.declared.Corner.{Corner}
 use Rattle.corner_list.specs.CornerList.{Slices, places_of, corner_at, without_corner}
-use Rattle.corner_strike.specs.declared.showing.Shown.TheVariants as shown
+use Rattle.corner_strike.specs.declared.showing.Shown.{Shown}
 use Rattle.corner_strike.specs.declared.striking.Strike.{Strike}
-use Rattle.corner_strike.specs.declared.striking.Strike.TheVariants as strike
 use Rattle.corner_strike.specs.Editions.{Edition, raised}
 use Rattle.corner_strike.specs.Showing as showing
 use Rattle.corner_strike.specs.Striking as striking
@@ -21,39 +20,32 @@ pub record ShownAs (b : Slices) (e : Edition) (place : ℕ) (c : Corner) (change
   pub corner_is : c ≡ corner_at b place
   pub change-is : change ≡ e.change
 
-pub was-shown : (b : Slices) (e : Edition) (place : ℕ) (c : Corner) (change : ℕ) → showing.Shows b e place (shown.Found c change)
-    → ShownAs b e place c change
-was-shown b e place c change p =
-    let told = p.values ∙ ap (λ (k : ℕ). values_unless k ((corner_at b place, e.change) ∷ [])) (sym p.number) in
-    record { can = showable (places_of b) e place (sym p.number); corner_is = cc; change-is = cc }
+pub was-shown : (b : Slices) (e : Edition) (place : ℕ) (s : Shown) → showing.Shows b e place (Ok s)
+    → ShownAs b e place s.corner s.change
+was-shown b e place s p =
+    let q = judged-ok _ _ s p.answer in
+    record { can = showable (places_of b) e place q.0; corner_is = ap (λ (t : Shown). t.corner) q.1; change-is = ap (λ (t : Shown). t.change) q.1 }
 
 -- ---- a call that struck
-pub record StruckAs (b : Slices) (e : Edition) (place change : ℕ) (r : Strike) (b' : Slices) (e' : Edition) : Type 0 where
+pub record StruckAs (b : Slices) (e : Edition) (place change : ℕ) (r : Result Strike Refusal) (b' : Slices) (e' : Edition) : Type 0 where
   pub can : Strikable (places_of b) e place change
-  pub answer-is : r ≡ striking.struck_by e
+  pub answer-is : r ≡ Ok (striking.struck_by e)
   pub buffer-is : b' ≡ without_corner place e.count b
   pub edition-is : e' ≡ raised e
 
-module _ (b : Slices) (e : Edition) (place change : ℕ) (r : Strike) (b' : Slices) (e' : Edition)
-    (p : striking.Strikes b e place change r b' e') where
-  pub was-struck : striking.number_of r ≡ 0 → StruckAs b e place change r b' e'
-  was-struck z =
-      let n : striking.refusal_of (places_of b) e place change ≡ 0 = sym p.number ∙ z in
-      record {
-        can = strikable (places_of b) e place change n;
-        answer-is = p.answer ∙ ap (λ (k : ℕ). unless strike.Refused k (striking.struck_by e)) n;
-        buffer-is = p.buffer ∙ ap (λ (k : ℕ). result_or k (without_corner place e.count b) b) n;
-        edition-is = p.edition ∙ ap (λ (k : ℕ). result_or k (raised e) e) n;
-      }
+pub was-struck : (b : Slices) (e : Edition) (place change : ℕ) (r : Result Strike Refusal) (b' : Slices) (e' : Edition)
+    → striking.Strikes b e place change r b' e' → number_of r ≡ 0 → StruckAs b e place change r b' e'
+was-struck b e place change r b' e' p z =
+    let n : striking.refusal_of (places_of b) e place change ≡ 0 = sym p.number ∙ z in
+    record {
+      can = strikable (places_of b) e place change n;
+      answer-is = rw n at p.answer;
+      buffer-is = rw n at p.buffer;
+      edition-is = rw n at p.edition;
+    }
 
 -- ---- a call that was refused left the list as it was
-module _ (b : Slices) (e : Edition) (place change k : ℕ) (b' : Slices) (e' : Edition)
-    (p : striking.Strikes b e place change (strike.Refused k) b' e') where
-  pub was-refused : (b' ≡ b) × (e' ≡ e)
-  was-refused = go (striking.refusal_of (places_of b) e place change) p.values p.buffer p.edition
-    where
-      go : (n : ℕ) → striking.values_of (strike.Refused k) ≡ values_unless n (raised e ∷ [])
-          → b' ≡ result_or n (without_corner place e.count b) b
-          → e' ≡ result_or n (raised e) e → (b' ≡ b) × (e' ≡ e)
-      go zero v q q' = let none = ap length v in absurd (let no : ⊥ = omega arith in no)
-      go (suc n) v q q' = (q, q')
+pub was-refused : (b : Slices) (e : Edition) (place change : ℕ) (f : Refusal) (b' : Slices) (e' : Edition)
+    → striking.Strikes b e place change (Err f) b' e' → (b' ≡ b) × (e' ≡ e)
+was-refused b e place change f b' e' p =
+    (p.buffer ∙ refused-stays _ _ f _ _ p.answer, p.edition ∙ refused-stays _ _ f _ _ p.answer)

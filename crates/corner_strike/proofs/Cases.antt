@@ -2,11 +2,11 @@
 use Prim.Native.Nat.{ℕ}
 use mathlib.Core.Path.{◌≡◌, refl}
 use mathlib.Core.List.{List, [], ◌∷◌, map}
+use Rattle.std.specs.Prelude.{Ok, Err}
+use Rattle.lists.specs.declared.refusal.Refusal.TheVariants.{ListChanged}
 use Rattle.lists.specs.Tab.{tab}
 use Rattle.corner_list.specs.declared.Corner.{Corner}
 use Rattle.corner_list.specs.CornerList.{Slices, slices, x_of, y_of, strength_of, neighbours_of, no_corner, without_corner}
-use Rattle.corner_strike.specs.declared.showing.Shown.TheVariants as shown
-use Rattle.corner_strike.specs.declared.striking.Strike.TheVariants as strike
 use Rattle.corner_strike.specs.Editions.{edition}
 use Rattle.corner_strike.specs.Showing as showing
 use Rattle.corner_strike.specs.Striking as striking
@@ -16,17 +16,17 @@ abbrev buffer : List Corner → Slices
 buffer cs = slices (map x_of cs) (map y_of cs) (map strength_of cs) (map neighbours_of cs)
 
 module _ (a b c : Corner) where
-  pub second-shown : showing.Shows (buffer (a ∷ b ∷ c ∷ [])) (edition 3 0) 1 (shown.Found b 0)
+  pub second-shown : showing.Shows (buffer (a ∷ b ∷ c ∷ [])) (edition 3 0) 1 (Ok (record { corner = b; change = 0 }))
   unfolding showing.refusal_of
   second-shown = record { answer = refl; number = refl; values = refl }
 
-  pub second-struck : striking.Strikes (buffer (a ∷ b ∷ c ∷ [])) (edition 3 0) 1 0 (strike.Struck 2 1)
+  pub second-struck : striking.Strikes (buffer (a ∷ b ∷ c ∷ [])) (edition 3 0) 1 0 (Ok (record { count = 2; change = 1 }))
       (buffer (a ∷ c ∷ no_corner ∷ [])) (edition 2 1)
   unfolding striking.refusal_of without_corner tab
   second-struck = record { answer = refl; number = refl; values = refl; buffer = refl; edition = refl }
 
   -- the same call again, on the list that the first has left
-  pub second-stale : striking.Strikes (buffer (a ∷ c ∷ no_corner ∷ [])) (edition 2 1) 1 0 (strike.Refused 16)
+  pub second-stale : striking.Strikes (buffer (a ∷ c ∷ no_corner ∷ [])) (edition 2 1) 1 0 (Err ListChanged)
       (buffer (a ∷ c ∷ no_corner ∷ [])) (edition 2 1)
   unfolding striking.refusal_of
   second-stale = record { answer = refl; number = refl; values = refl; buffer = refl; edition = refl }

@@ -1,14 +1,18 @@
 -- What a list is of which a corner is shown or struck, and what a call answers and leaves. Assumes nothing.
-use Prim.Native.Nat.{ℕ, zero, suc, ◌<◌, ◌≤◌}
+use Prim.Native.Nat.{ℕ, ◌<◌, ◌≤◌}
 use native.Mathlib.Omega.{arith}
-use mathlib.Core.Path.{◌≡◌, refl, sym, ap, ◌∙◌}
+use mathlib.Core.Path.{◌≡◌, sym}
 use lib.Dec.{eqb}
 use borrow.Author.Tests.{ltb-false, leb-false, eqb-true, eqb-false, not-false}
+use Rattle.std.specs.Prelude.{Result, Ok, Err}
+use Rattle.lists.specs.declared.refusal.Refusal.{Refusal}
+use Rattle.lists.specs.Refusals.{judged, verdict, result_or}
+use Rattle.lists.proofs.Judged.{number-judged, values-judged, judged-ok, judged-err, refused-stays}
 use Rattle.lists.proofs.Refusals.{all-clear}
 use Rattle.corner_list.specs.declared.Corner.{Corner}
 use Rattle.corner_list.specs.CornerList.{Slices, places_of, corner_at, without_corner}
-use Rattle.corner_strike.specs.declared.showing.Shown.TheVariants as shown
-use Rattle.corner_strike.specs.declared.striking.Strike.TheVariants as strike
+use Rattle.corner_strike.specs.declared.showing.Shown.{Shown}
+use Rattle.corner_strike.specs.declared.striking.Strike.{Strike}
 use Rattle.corner_strike.specs.Editions.{largest_change, Edition, raised}
 use Rattle.corner_strike.specs.Showing as showing
 use Rattle.corner_strike.specs.Striking as striking
@@ -45,32 +49,45 @@ strikable places e place change n =
 
 -- ---- what a call answers and leaves, whose buffer has so many places
 module _ (b : Slices) (e : Edition) (place places : ℕ) (l : places ≡ places_of b) where
-  shown_by : (n : ℕ) → n ≡ showing.refusal_of places e.count place → n ≡ showing.refusal_of (places_of b) e.count place
-  shown_by n q = q ∙ ap (λ (k : ℕ). showing.refusal_of k e.count place) l
+  shows-by : (r : Result Shown Refusal) → r ≡ judged (showing.refusal_of places e.count place) (showing.shown_of b e place)
+      → showing.Shows b e place r
+  unfolding showing.refusal_of
+  shows-by r p =
+      let a = rw l at p in
+      record { answer = a; number = number-judged _ _ a (grind arith); values = values-judged _ _ _ a }
 
-  pub show-refused : (n : ℕ) → n ≡ showing.refusal_of places e.count place → (n ≡ 0 → ⊥) → showing.Shows b e place (shown.Refused n)
-  show-refused zero q z = absurd (z refl)
-  show-refused (suc n) q z = let r = shown_by (suc n) q in record { answer = rw (← r); number = r; values = rw (← r) }
+  pub show-refused : (f : Refusal) → Err f ≡ verdict (showing.refusal_of places e.count place) → showing.Shows b e place (Err f)
+  show-refused f p = shows-by _ (judged-err _ _ _ f p)
 
-  pub show-found : (n : ℕ) (c : Corner) → n ≡ showing.refusal_of places e.count place → n ≡ 0 → c ≡ corner_at b place
-      → showing.Shows b e place (shown.Found c e.change)
-  show-found n c q z is = let r = shown_by n q in record { answer = rw (← r, z, is); number = sym z ∙ r; values = rw (← r, z, is) }
+  pub show-found : (c : Corner) → Ok tt ≡ verdict (showing.refusal_of places e.count place) → c ≡ corner_at b place
+      → showing.Shows b e place (Ok (record { corner = c; change = e.change }))
+  show-found c p is = shows-by _ (rw ((judged-ok _ _ _ p).0, is))
 
   module _ (change : ℕ) where
-    struck-by : (n : ℕ) → n ≡ striking.refusal_of places e place change → n ≡ striking.refusal_of (places_of b) e place change
-    struck-by n q = q ∙ ap (λ (k : ℕ). striking.refusal_of k e place change) l
+    abbrev number : ℕ
+    number = striking.refusal_of places e place change
 
-    pub strike-granted : (n : ℕ) → n ≡ striking.refusal_of places e place change → n ≡ 0 → Strikable (places_of b) e place change
-    strike-granted n q z = strikable (places_of b) e place change (sym (struck-by n q) ∙ z)
+    strikes-by : (r : Result Strike Refusal) (b' : Slices) (e' : Edition) → r ≡ judged number (striking.struck_by e)
+        → b' ≡ result_or number (without_corner place e.count b) b → e' ≡ result_or number (raised e) e
+        → striking.Strikes b e place change r b' e'
+    unfolding striking.refusal_of
+    strikes-by r b' e' p q t =
+        let a = rw l at p in
+        record {
+          answer = a;
+          number = number-judged _ _ a (grind arith);
+          values = values-judged _ _ _ a;
+          buffer = rw l at q;
+          edition = rw l at t;
+        }
 
-    pub strike-refused : (n : ℕ) → n ≡ striking.refusal_of places e place change → (n ≡ 0 → ⊥)
-        → striking.Strikes b e place change (strike.Refused n) b e
-    strike-refused zero q z = absurd (z refl)
-    strike-refused (suc n) q z =
-        let r = struck-by (suc n) q in record { answer = rw (← r); number = r; values = rw (← r); buffer = rw (← r); edition = rw (← r) }
+    pub strike-granted : Ok tt ≡ verdict number → Strikable (places_of b) e place change
+    strike-granted p = strikable (places_of b) e place change (rw l at (judged-ok _ _ _ p).0)
 
-    pub strike-struck : (n : ℕ) (b' : Slices) → n ≡ striking.refusal_of places e place change → n ≡ 0 → b' ≡ without_corner place e.count b
-        → striking.Strikes b e place change (striking.struck_by e) b' (raised e)
-    strike-struck n b' q z is =
-        let r = struck-by n q in
-        record { answer = rw (← r, z); number = sym z ∙ r; values = rw (← r, z); buffer = rw (← r, z) is; edition = rw (← r, z) }
+    pub strike-refused : (f : Refusal) → Err f ≡ verdict number → striking.Strikes b e place change (Err f) b e
+    strike-refused f p =
+        strikes-by _ _ _ (judged-err _ _ _ f p) (sym (refused-stays _ _ f _ _ p)) (sym (refused-stays _ _ f _ _ p))
+
+    pub strike-struck : (b' : Slices) → Ok tt ≡ verdict number → b' ≡ without_corner place e.count b
+        → striking.Strikes b e place change (Ok (striking.struck_by e)) b' (raised e)
+    strike-struck b' p is = let z = (judged-ok _ _ _ p).0 in strikes-by _ _ _ (rw z) (rw z is) (rw z)

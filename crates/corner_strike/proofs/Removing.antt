@@ -12,7 +12,6 @@ use Rattle.corner_list.specs.declared.Corner.{Corner}
 use Rattle.corner_list.specs.CornerList.{Slices, places_of, corner_at, corners_of, with_corner, front_corners, without, no_corner}
 use Rattle.corner_list.specs.CornerList.{without_corner}
 use Rattle.corner_list.proofs.Corners.{corners-length, corners-at, corners-same, corners-behind, corners-next, corners-front}
-use Rattle.corner_list.proofs.Corners.{front-xs, front-ys, front-strengths, front-neighbours}
 
 -- ---- a list without the member at a place
 module _ {A : Type 0} (place : ℕ) (l : List A) (h : place < length l) where
@@ -167,20 +166,3 @@ module _ (b₀ : Slices) (n place : ℕ) (p : place < n) (h : n ≤ places_of b�
         let last : n - 1 ≡ at = omega (arith, m.upto) in
         put no_corner b' (e ∙ ap (λ (k : ℕ). with_corner k no_corner b) last)
         ∙ ap (λ (cs : List Corner). front_corners (cs ++ (no_corner ∷ [])) b₀) (take_all at (left b₀ n place) (omega (arith, left-length)))
-
-    -- each slice is as long as it was
-    pub moving-xs : length b.xs ≡ length b₀.xs
-    moving-xs = ap (λ (s : Slices). length s.xs) m.is ∙ front-xs (take at (left b₀ n place)) b₀ at taken (omega (arith, m.upto))
-
-    pub moving-ys : length b.ys ≡ length b₀.ys
-    moving-ys = ap (λ (s : Slices). length s.ys) m.is ∙ front-ys (take at (left b₀ n place)) b₀ at taken (omega (arith, m.upto))
-
-    pub moving-strengths : length b.strengths ≡ length b₀.strengths
-    moving-strengths =
-        ap (λ (s : Slices). length s.strengths) m.is
-        ∙ front-strengths (take at (left b₀ n place)) b₀ at taken (omega (arith, m.upto))
-
-    pub moving-neighbours : length b.neighbours ≡ length b₀.neighbours
-    moving-neighbours =
-        ap (λ (s : Slices). length s.neighbours) m.is
-        ∙ front-neighbours (take at (left b₀ n place)) b₀ at taken (omega (arith, m.upto))

@@ -1,9 +1,9 @@
 -- A corner is struck (RULES 29.3).
-use Rattle.std.specs.Prelude.{ℕ, ◌≡◌, Bool, List, [], ◌∷◌}
-use Rattle.lists.specs.Refusals.{lowest, unless, values_unless, result_or}
+use Rattle.std.specs.Prelude.{ℕ, ◌≡◌, Bool, List, [], ◌∷◌, Result}
+use Rattle.lists.specs.declared.refusal.Refusal.{Refusal}
+use Rattle.lists.specs.Refusals.{lowest, number_of, values_by, values_unless, judged, result_or}
 use Rattle.corner_list.specs.CornerList.{Slices, places_of, without_corner}
 use Rattle.corner_strike.specs.declared.striking.Strike.{Strike}
-use Rattle.corner_strike.specs.declared.striking.Strike.TheVariants.{Struck, Refused}
 use Rattle.corner_strike.specs.Editions.{Edition, edition, raised, lacks_places, is_other, is_beyond, is_largest}
 
 -- 10, 16, 17, 18, in this order
@@ -17,22 +17,17 @@ refusal_of places e place change = lowest (conditions places e place change)
 
 -- the answer if nothing refuses: the list's count and change number after the strike
 abbrev pub struck_by : Edition → Strike
-struck_by e = Struck (raised e).count (raised e).change
+struck_by e = record { count = (raised e).count; change = (raised e).change }
 
--- the number and the values of each case
-abbrev pub number_of : Strike → ℕ
-number_of (Struck count change) = 0
-number_of (Refused number) = number
-
-abbrev pub values_of : Strike → List Edition
-values_of (Struck count change) = edition count change ∷ []
-values_of (Refused number) = []
+-- the value of an answer
+abbrev pub values_of : Result Strike Refusal → List Edition
+values_of = values_by (λ s. edition s.count s.change ∷ [])
 
 -- the promise of `strike_corner` for the list with the buffer b and the count and change number e: the corner at the
 -- place is removed, and both numbers change in place; if refused, buffer, count and change number are unchanged
-pub record Strikes (b : Slices) (e : Edition) (place change : ℕ) (r : Strike) (b' : Slices)
-    (e' : Edition) : Type 0 where
-  pub answer : r ≡ unless Refused (refusal_of (places_of b) e place change) (struck_by e)
+pub record Strikes (b : Slices) (e : Edition) (place change : ℕ) (r : Result Strike Refusal)
+    (b' : Slices) (e' : Edition) : Type 0 where
+  pub answer : r ≡ judged (refusal_of (places_of b) e place change) (struck_by e)
   pub number : number_of r ≡ refusal_of (places_of b) e place change
   pub values : values_of r ≡ values_unless (refusal_of (places_of b) e place change) (raised e ∷ [])
   pub buffer : b' ≡ result_or (refusal_of (places_of b) e place change) (without_corner place e.count b) b

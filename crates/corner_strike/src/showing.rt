@@ -1,29 +1,31 @@
 // The corner at a place of a list, and the list's change number.
 ghost use Rattle.std.specs.Prelude.{◌≡◌};
+ghost use Rattle.lists.specs.Refusals.{verdict};
 ghost use Rattle.corner_list.specs.Buffer.{seen};
 ghost use Rattle.corner_strike.specs.Editions.{edition};
 ghost use Rattle.corner_strike.specs.Showing.{refusal_of, Shows};
 
 use corner_list::{Corner, CornerView};
+use lists::Refusal;
 
-// The corner with the list's change number, or the number of the refusal.
+// The corner with the list's change number.
 #[derive(Clone, Copy)]
-pub enum Shown {
-    Found(Corner, u32),
-    Refused(u8),
+pub struct Shown {
+    pub corner: Corner,
+    pub change: u32,
 }
 
-// The number of the refusal, 0 for none.
-fn refusal(places: usize, count: usize, place: usize) -> u8
-    ensures { result ≡ refusal_of places count place }
+// Why a corner is not shown.
+fn refusal(places: usize, count: usize, place: usize) -> Result<(), Refusal>
+    ensures { result ≡ verdict (refusal_of places count place) }
 {
     if places < count {
-        return 10;
+        return Err(Refusal::ListTooLong);
     }
     if count <= place {
-        return 17;
+        return Err(Refusal::BeyondList);
     }
-    0
+    Ok(())
 }
 
 // Shows the corner at a place of a list of `count` corners, and the list's change number `change`. With that number the
@@ -33,13 +35,10 @@ pub fn show_corner(
     count: usize,
     change: u32,
     place: usize,
-) -> Shown
+) -> Result<Shown, Refusal>
     ensures { Shows (seen v.entry) (edition count change) place result }
 {
-    let number = refusal(v.places(), count, place);
-    if number != 0 {
-        return Shown::Refused(number);
-    }
-    let c = v.at(place);
-    Shown::Found(c, change)
+    refusal(v.places(), count, place)?;
+    let corner = v.at(place);
+    Ok(Shown { corner, change })
 }

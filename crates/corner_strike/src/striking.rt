@@ -1,57 +1,59 @@
 // The corner at a place of a list removed.
 ghost use Rattle.std.specs.Prelude.{◌≡◌, ◌<◌, ◌≤◌};
+ghost use Rattle.lists.specs.Refusals.{verdict};
 ghost use Rattle.corner_list.specs.CornerList.{places_of, without_corner};
 ghost use Rattle.corner_list.specs.Buffer.{contents, SameSlices};
 ghost use Rattle.corner_strike.specs.Editions.{edition};
 ghost use Rattle.corner_strike.specs.Striking.{refusal_of, Strikes};
 
 use corner_list::{Corner, CornerBuffer};
+use lists::Refusal;
 
-// The list's count and change number after the strike, or the number of the refusal.
+// The list's count and change number after the strike.
 #[derive(Clone, Copy)]
-pub enum Strike {
-    Struck(usize, u32),
-    Refused(u8),
+pub struct Strike {
+    pub count: usize,
+    pub change: u32,
 }
 
-// The largest change number, the largest u32.
-const LARGEST_CHANGE: u32 = 4294967295;
+// The largest change number.
+const LARGEST_CHANGE: u32 = u32::MAX;
 
-// The number of the refusal, 0 for none.
-fn refusal(places: usize, count: usize, change: u32, place: usize, shown: u32) -> u8
-    ensures { result ≡ refusal_of places (edition count change) place shown }
+// Why a strike is refused.
+fn refusal(
+    places: usize,
+    count: usize,
+    change: u32,
+    place: usize,
+    shown: u32,
+) -> Result<(), Refusal>
+    ensures { result ≡ verdict (refusal_of places (edition count change) place shown) }
 {
     if places < count {
-        return 10;
+        return Err(Refusal::ListTooLong);
     }
     if shown != change {
-        return 16;
+        return Err(Refusal::ListChanged);
     }
     if count <= place {
-        return 17;
+        return Err(Refusal::BeyondList);
     }
     if change == LARGEST_CHANGE {
-        return 18;
+        return Err(Refusal::LastChange);
     }
-    0
+    Ok(())
 }
 
 // Removes one of the first `count` corners: later ones move up, and the last place becomes zero in every slice.
-fn remove_corner(
-    b: &mut CornerBuffer<'_>,
-    count: usize,
-    place: usize,
-)
+fn remove_corner(b: &mut CornerBuffer<'_>, count: usize, place: usize)
     requires { (place < count) × (count ≤ places_of (contents b.old)) }
     ensures same_slices { SameSlices b.old b.new }
     ensures removed { contents b.new ≡ without_corner place count (contents b.old) }
 {
     let last = count - 1;
-    let mut at = place;
-    while at < last {
+    for at in place..last {
         let next = b.at(at + 1);
         b.put(at, next);
-        at += 1;
     }
     let none = Corner {
         x: 0.0,
@@ -71,19 +73,19 @@ pub fn strike_corner(
     change: &mut u32,
     place: usize,
     shown: u32,
-) -> Strike
+) -> Result<Strike, Refusal>
     ensures same_slices { SameSlices b.old b.new }
     ensures struck { Strikes (contents b.old) (edition count.old change.old) place shown
         result (contents b.new) (edition count.new change.new) }
 {
-    let number = refusal(b.places(), *count, *change, place, shown);
-    if number != 0 {
-        return Strike::Refused(number);
-    }
+    refusal(b.places(), *count, *change, place, shown)?;
     remove_corner(b, *count, place);
     let left = *count - 1;
     let raised = *change + 1;
     *count = left;
     *change = raised;
-    Strike::Struck(left, raised)
+    Ok(Strike {
+        count: left,
+        change: raised,
+    })
 }

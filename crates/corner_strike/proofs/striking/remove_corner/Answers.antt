@@ -11,13 +11,12 @@ overflow_sub-last c = omega (arith, c.requires.0)
 pub loop-at-init : goal.loop-at-init
 loop-at-init c = (search rules, moving-none _ _ _ c.requires.0 c.requires.1)
 
-pub loop-at-smaller : goal.loop-at-smaller
-loop-at-smaller c = omega (arith, c.loop-at-test.true)
-
 pub loop-at-preserved : goal.loop-at-preserved
-loop-at-preserved c =
-    (search rules, moving-next _ _ _ c.requires.0 c.requires.1 _ _ c.loop-at.invariant.1 _ _ c.loop-at-test.true
-    c.at-next.ensures c.put.ensures.put)
+loop-at-preserved c = (
+  search rules,
+  moving-next _ _ _ c.requires.0 c.requires.1 _ _ c.loop-at.invariant.1 _ _ c.loop-at-test.true
+      c.at-next.ensures c.put.ensures.put,
+)
 
 pub returns-clause-removed : goal.returns-clause-removed
 unfolding of_bits

@@ -1,4 +1,3 @@
-use Prim.Native.Nat.{◌-◌}
 use Rattle.corner_list.specs.Buffer.{contents, SameSlices}
 use Rattle.corner_strike.proofs.Removing.{Moving}
 use Rattle.corner_strike.proofs.striking.remove_corner.Given as goal
@@ -6,6 +5,3 @@ use Rattle.corner_strike.proofs.striking.remove_corner.Given as goal
 abbrev pub invariant-loop-at : goal.invariant-loop-at
 invariant-loop-at l =
     SameSlices l.initial.b l.b × Moving (contents l.initial.b) l.count l.place l.at (contents l.b)
-
-abbrev pub decreases-loop-at : goal.decreases-loop-at
-decreases-loop-at l = l.last - l.at

@@ -1,35 +1,31 @@
--- `corner_strike::strike_corner` meets its contract: refused, or the corner at the place removed. Assumes nothing.
+-- `corner_strike::strike_corner` meets its contract: a refusal is passed on, or the corner at the place removed. Assumes nothing.
 use native.Mathlib.Omega.{arith}
-use Rattle.corner_list.specs.CornerList.{Slices, places_of}
+use Rattle.lists.proofs.Judged.{passed-on}
+use Rattle.corner_list.specs.CornerList.{places_of}
 use Rattle.corner_list.specs.Buffer.{contents}
 use Rattle.corner_strike.specs.Editions.{edition}
 use Rattle.corner_strike.proofs.Judging.{Strikable, strike-granted, strike-refused, strike-struck}
 use Rattle.corner_strike.proofs.striking.strike_corner.Goals as goal
-use Rattle.corner_strike.proofs.striking.strike_corner.Goals.{Else-number-ne0}
+use Rattle.corner_strike.proofs.striking.strike_corner.Goals.{In_ok-refusal}
 
-abbrev buffer : Else-number-ne0 → Slices
-buffer c = contents c.args.b.now
+pub returns-in_err-refusal-clause-struck : goal.returns-in_err-refusal-clause-struck
+returns-in_err-refusal-clause-struck c =
+    rw (passed-on _ c.from_residual.ensures.1) (strike-refused _ _ _ _ c.places.ensures _ _ c.in_err-refusal.ensures)
 
 -- nothing refuses
-granted : (c : Else-number-ne0)
-    → Strikable (places_of (buffer c)) (edition c.args.count.now c.args.change.now) c.args.place c.args.shown
-granted c =
-    strike-granted (buffer c) _ _ _ c.places.ensures _ _ c.refusal-number.ensures
-    c.if-number-ne0.false
-
-pub returns-then-number-ne0-clause-struck : goal.returns-then-number-ne0-clause-struck
-returns-then-number-ne0-clause-struck c = strike-refused _ _ _ _ c.places.ensures _ _ c.refusal-number.ensures c.if-number-ne0.true
+granted : (c : In_ok-refusal)
+    → Strikable (places_of (contents c.args.b.now)) (edition c.args.count.now c.args.change.now) c.args.place c.args.shown
+granted c = strike-granted _ _ _ _ c.places.ensures _ c.in_ok-refusal.ensures
 
 pub remove_corner-requires : goal.remove_corner-requires
-remove_corner-requires c = let g = granted (goal.at.remove_corner-requires c).Else-number-ne0 in (g.inside, g.fits)
+remove_corner-requires c = let g = granted (goal.at.remove_corner-requires c).In_ok-refusal in (g.inside, g.fits)
 
 pub overflow_sub-left : goal.overflow_sub-left
-overflow_sub-left c = omega (arith, (granted (goal.at.overflow_sub-left c).Else-number-ne0).inside)
+overflow_sub-left c = omega (arith, (granted (goal.at.overflow_sub-left c).In_ok-refusal).inside)
 
 pub overflow_add-raised : goal.overflow_add-raised
-overflow_add-raised c = omega (arith, (granted (goal.at.overflow_add-raised c).Else-number-ne0).not-largest)
+overflow_add-raised c = omega (arith, (granted (goal.at.overflow_add-raised c).In_ok-refusal).not-largest)
 
 pub returns-clause-struck : goal.returns-clause-struck
 returns-clause-struck c =
-    strike-struck _ _ _ _ c.places.ensures _ _ _ c.refusal-number.ensures c.if-number-ne0.false
-    c.remove_corner.ensures.removed
+    strike-struck _ _ _ _ c.places.ensures _ _ c.in_ok-refusal.ensures c.remove_corner.ensures.removed
