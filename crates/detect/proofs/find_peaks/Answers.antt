@@ -38,7 +38,8 @@ adds : (c : After-search_of-search) (answer : Peaks) (b' : Slices)
     (buffer-of (goal.at.After-search_of-search c).Else-number-ne0) answer b'
     → PeaksAdded (conditions-of (goal.at.After-search_of-search c).Else-number-ne0)
     (starts_in (map_of (goal.at.After-search_of-search c).Else-number-ne0) (search-of (goal.at.After-search_of-search c).Else-number-ne0))
-    (ties_in (map_of (goal.at.After-search_of-search c).Else-number-ne0) (search-of (goal.at.After-search_of-search c).Else-number-ne0)) c.args.held
+    (ties_in (map_of (goal.at.After-search_of-search c).Else-number-ne0)
+    (search-of (goal.at.After-search_of-search c).Else-number-ne0)) c.args.held
     (buffer-of (goal.at.After-search_of-search c).Else-number-ne0) answer b'
 adds c =
     found-clear (map_of (goal.at.After-search_of-search c).Else-number-ne0) c.search_of-search.result
