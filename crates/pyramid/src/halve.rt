@@ -66,11 +66,9 @@ fn halve_rows(base: &[u8], k: usize, from: usize, w: usize, levels: &mut [u8], t
     ensures { RowHalved base.now levels.old k from w to (w / 2) levels.new }
 {
     let n = w / 2;
-    let mut x = 0usize;
-    while x < n {
+    for x in (0..n).step_by(PIXELS) {
         let m = PIXELS.min(n - x);
         halve_run(base, k, from + 2 * x, w, levels, to + x, m);
-        x += m;
     }
 }
 
