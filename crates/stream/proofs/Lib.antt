@@ -1,5 +1,4 @@
 pub mod Parameters
-pub mod Padding
 pub mod Records
 pub mod PixelPlaces
 pub mod Order

@@ -43,6 +43,7 @@ pub(crate) fn judge(input: &[u8]) -> Stop
     let mut at = 0;
     let mut kind = 0;
     let mut left = 0;
+    // A `while`: the kind of a record decides whether another follows, and its length where.
     while kind != 4 {
         kind = due_after(kind, left);
         let fault = kinds::record_fault(input, at, kind, left);
@@ -69,6 +70,5 @@ pub(crate) fn judge(input: &[u8]) -> Stop
 pub(crate) fn stream_fault(input: &[u8]) -> u8
     ensures { Judged input.now result }
 {
-    let stop = judge(input);
-    stop.fault
+    judge(input).fault
 }

@@ -44,10 +44,7 @@ fn refusal(
     if frame_params::is_outside(ring, window, centroid) {
         return 3;
     }
-    if w <= x {
-        return 14;
-    }
-    if h <= y {
+    if w <= x || h <= y {
         return 14;
     }
     0
@@ -57,8 +54,8 @@ fn refusal(
 fn exceeds(low: i32, threshold: u32) -> bool
     ensures { result ≡ lt_z (pos (5 * threshold)) low }
 {
-    let wide = low as i64;
-    let least = (5 * (threshold as u64)) as i64;
+    let wide = i64::from(low);
+    let least = (5 * u64::from(threshold)) as i64;
     least < wide
 }
 
@@ -67,10 +64,7 @@ fn is_inside(side: usize, border: usize, at: usize) -> bool
     requires { (border ≤ largest_border) × (at ≤ largest_side) }
     ensures { result ≡ (leb border at && ltb (at + border) side) }
 {
-    if at < border {
-        return false;
-    }
-    at + border < side
+    border <= at && at + border < side
 }
 
 // Whether the place (x, y) of two maps that contain its window is a peak by what is sure.
@@ -124,10 +118,7 @@ pub fn sure_peak(
         return Sure::Refused(number);
     }
     let border = ring as usize + window as usize + centroid as usize;
-    if !is_inside(w, border, x) {
-        return Sure::No;
-    }
-    if !is_inside(h, border, y) {
+    if !is_inside(w, border, x) || !is_inside(h, border, y) {
         return Sure::No;
     }
     if is_sure(lows, highs, w, h, window as usize, threshold, least, x, y) {

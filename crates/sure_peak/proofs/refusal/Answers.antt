@@ -9,6 +9,7 @@ use Rattle.sure_peak.specs.Promise.{refusal_of}
 use Rattle.sure_peak.proofs.Judging.{by_length, by-parameters, by_place}
 use Rattle.sure_peak.proofs.refusal.Goals as goal
 use Rattle.sure_peak.proofs.refusal.Goals.{Else-is_outside, Else-number-ne0}
+use Rattle.sure_peak.proofs.refusal.Goals.{then-w-x-via-then-w-x, then-w-x-via-else-w-x+then-h-y}
 
 pub returns-then-number-ne0 : goal.returns-then-number-ne0
 unfolding refusal_of
@@ -36,10 +37,12 @@ place c =
     (sym c.is_outside.ensures ∙ c.if-is_outside.false)
 
 pub returns-then-w-x : goal.returns-then-w-x
-returns-then-w-x c = rw (place (goal.at.returns-then-w-x c).Else-is_outside, le-leb _ _ c.if-w-x.true)
-
-pub returns-then-h-y : goal.returns-then-h-y
-returns-then-h-y c = rw (place (goal.at.returns-then-h-y c).Else-is_outside, lt-leb _ _ c.if-w-x.false, le-leb _ _ c.if-h-y.true)
+returns-then-w-x c =
+    elim c.then-w-x.branch [
+      | then-w-x-via-then-w-x w ↦ rw (place (goal.at.returns-then-w-x c).Else-is_outside, le-leb _ _ w.if-w-x.true)
+      | then-w-x-via-else-w-x+then-h-y w ↦
+          rw (place (goal.at.returns-then-w-x c).Else-is_outside, lt-leb _ _ w.if-w-x.false, le-leb _ _ w.if-h-y.true)
+    ]
 
 pub returns : goal.returns
 returns c = rw (place (goal.at.returns c).Else-is_outside, lt-leb _ _ c.if-w-x.false, lt-leb _ _ c.if-h-y.false)

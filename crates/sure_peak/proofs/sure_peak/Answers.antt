@@ -5,13 +5,13 @@ use Prim.Native.Nat.{ℕ, ◌+◌, ◌≤◌}
 use native.Mathlib.Omega.{arith}
 use lib.Dec.{leb, ltb}
 use lib.ListN.{length}
-use borrow.Author.Tests.{not-true, not-false}
 use Rattle.lists.specs.Limits.{largest_border}
 use Rattle.lists.specs.Places.{Place}
 use Rattle.detect.specs.Internal.{Inside}
 use Rattle.sure_peak.proofs.Judging.{Given, given, inside, narrower, when-refused, outside-across, outside-down, is-sure, not-sure}
 use Rattle.sure_peak.proofs.sure_peak.Goals as goal
-use Rattle.sure_peak.proofs.sure_peak.Goals.{Else-not-is_inside-2, Else-number-ne0}
+use Rattle.sure_peak.proofs.sure_peak.Goals.{Else-not-is_inside-2, Else-number-ne0, then-not-is_inside-via-then-not-is_inside}
+use Rattle.sure_peak.proofs.sure_peak.Goals.{then-not-is_inside-via-else-not-is_inside+then-not-is_inside-2}
 
 pub returns-then-number-ne0 : goal.returns-then-number-ne0
 returns-then-number-ne0 c = when-refused _ _ _ _ _ _ _ _ _ _ _ c.refusal-number.ensures c.if-number-ne0.true
@@ -34,29 +34,30 @@ module _ (c : Else-number-ne0) where
 pub is_inside-requires : goal.is_inside-requires
 is_inside-requires c = let g = granted c in (narrow c, omega (arith, g.column, g.low-cells.narrow))
 
+pub is_inside-requires-else-not-is_inside : goal.is_inside-requires-else-not-is_inside
+is_inside-requires-else-not-is_inside c = let g = granted (goal.at.is_inside-requires-else-not-is_inside c).Else-number-ne0 in
+    (narrow (goal.at.is_inside-requires-else-not-is_inside c).Else-number-ne0, omega (arith, g.row, g.low-cells.low))
+
 pub returns-then-not-is_inside : goal.returns-then-not-is_inside
 returns-then-not-is_inside c =
-    outside-across _ _ _ _ _ _ _ _ _ _ _ c.refusal-number.ensures c.if-number-ne0.false
-    (sym c.is_inside.ensures ∙ not-true _ c.if-not-is_inside.true-raw)
-
-pub is_inside-requires-2 : goal.is_inside-requires-2
-is_inside-requires-2 c = let g = granted (goal.at.is_inside-requires-2 c).Else-number-ne0 in
-    (narrow (goal.at.is_inside-requires-2 c).Else-number-ne0, omega (arith, g.row, g.low-cells.low))
-
-pub returns-then-not-is_inside-2 : goal.returns-then-not-is_inside-2
-returns-then-not-is_inside-2 c =
-    outside-down _ _ _ _ _ _ _ _ _ _ _ c.refusal-number.ensures c.if-number-ne0.false
-    (sym c.is_inside-2.ensures ∙ not-true _ c.if-not-is_inside-2.true-raw)
+    elim c.then-not-is_inside.branch [
+      | then-not-is_inside-via-then-not-is_inside w ↦
+          outside-across _ _ _ _ _ _ _ _ _ _ _ c.refusal-number.ensures c.if-number-ne0.false
+          (sym c.is_inside.ensures ∙ w.if-not-is_inside.true)
+      | then-not-is_inside-via-else-not-is_inside+then-not-is_inside-2 w ↦
+          outside-down _ _ _ _ _ _ _ _ _ _ _ c.refusal-number.ensures c.if-number-ne0.false
+          (sym w.is_inside-else-not-is_inside.ensures ∙ w.if-not-is_inside-2.true)
+    ]
 
 -- ---- inside the border
 module _ (c : Else-not-is_inside-2) where
   across : (leb (border (goal.at.Else-not-is_inside-2 c).Else-number-ne0) c.args.x && ltb
       (c.args.x + border (goal.at.Else-not-is_inside-2 c).Else-number-ne0) c.args.w) ≡ true
-  across = sym c.is_inside.ensures ∙ not-false _ c.if-not-is_inside.false-raw
+  across = sym c.is_inside.ensures ∙ c.if-not-is_inside.false
 
   down : (leb (border (goal.at.Else-not-is_inside-2 c).Else-number-ne0) c.args.y && ltb
       (c.args.y + border (goal.at.Else-not-is_inside-2 c).Else-number-ne0) c.args.h) ≡ true
-  down = sym c.is_inside-2.ensures ∙ not-false _ c.if-not-is_inside-2.false-raw
+  down = sym c.is_inside-else-not-is_inside.ensures ∙ c.if-not-is_inside-2.false
 
   within : Inside c.args.w c.args.h c.args.window (place (goal.at.Else-not-is_inside-2 c).Else-number-ne0)
   within =
