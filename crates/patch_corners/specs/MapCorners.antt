@@ -61,7 +61,8 @@ ties_in_rows p exact m w h a b =
     sum_of (ties_at m (search_with p exact w h)) (peaks_in_rows m (search_with p exact w h) a b)
 
 -- What `add_row_corners` promises: as above, for those rows
-abbrev pub RowCornersAdded : FrameParams → Bool → List Float → ℕ → ℕ → ℕ → ℕ → ℕ → Slices → Result Peaks Refusal → Slices
+abbrev pub RowCornersAdded : FrameParams → Bool → List Float → ℕ → ℕ → ℕ → ℕ → ℕ → Slices
+    → Result Peaks Refusal → Slices
     → Type 0
 RowCornersAdded p exact m w h a b =
     PeaksAdded (conditions (length m) w h p.ring p.window p.centroid_radius)
