@@ -11,7 +11,6 @@ use Rattle.lists.specs.Limits.{last_level}
 use Rattle.lists.specs.Places.{All}
 use Rattle.lists.proofs.Members.{all_map, all-mapped, all-flat, all_of}
 use Rattle.ring.specs.Ring.{ring_of}
-use Rattle.ring.proofs.Places.{ring_is}
 use Rattle.pyramid_levels.proofs.Sides.{count-few}
 use Rattle.response.specs.Patch.{View, map_width, map_height, cells}
 use Rattle.response.proofs.Outcome.{cols-le, rows-le}
