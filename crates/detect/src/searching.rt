@@ -106,7 +106,10 @@ impl Cell<'_> {
         ensures { result ≡ false
             → peak_in self.now.map.cells.now self.now.map.search (place self.now.x self.now.y) ≡ false }
     {
-        !(self.value <= self.map.search.threshold || self.is_overtopped())
+        if self.value <= self.map.search.threshold {
+            return false;
+        }
+        !self.is_overtopped()
     }
 }
 

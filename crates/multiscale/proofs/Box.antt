@@ -20,7 +20,8 @@ use Rattle.multiscale.proofs.Axis.{Between, ends-between}
 use Rattle.multiscale.proofs.Contexts.{never-refused}
 
 -- ---- one axis
-span_between : (c : RoiContext) (side : ℕ) (x : Float) (low high : ℕ) → span_on c side x ≡ Some (low, high) → Between (border c) side low high
+span_between : (c : RoiContext) (side : ℕ) (x : Float) (low high : ℕ) → span_on c side x ≡ Some (low, high)
+    → Between (border c) side low high
 unfolding span_on
 span_between c side x low high e = go (centre_of c.level x) e
   where

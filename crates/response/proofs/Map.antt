@@ -38,13 +38,15 @@ Filled v = Made v (cells v)
 -- ---- the answer
 module _ (v : View) {cs : List Float} (radius : ℕ) (d e : List Float) (r : Result Patch Refusal) (p : MapMade v cs radius d r e) where
   -- a map was made
-  pub filled : (m : Patch) → r ≡ Ok m → Made v cs d e m.w m.h
-  filled m c =
-      let q = judged-ok _ _ m (sym c ∙ p.answer) in
+  pub filled : (pw ph : ℕ) → r ≡ Ok (record { w = pw; h = ph }) → Made v cs d e pw ph
+  filled pw ph c =
+      let q = judged-ok _ _ _ (sym c ∙ p.answer) in
+      let cols = ap (λ (m : Patch). m.w) q.1 in
+      let rows = ap (λ (m : Patch). m.h) q.1 in
       record {
-        cols-are = ap (λ (m : Patch). m.w) q.1;
-        rows_are = ap (λ (m : Patch). m.h) q.1;
-        enough = rw q.1 (taken _ _ _ _ _ _ (sym (number_of v radius (length d)) ∙ q.0)).enough;
+        cols-are = cols;
+        rows_are = rows;
+        enough = rw (cols, rows) (taken _ _ _ _ _ _ (sym (number_of v radius (length d)) ∙ q.0)).enough;
         fills = p.buffer ∙ rw q.0;
       }
 

@@ -1,6 +1,7 @@
 pub mod Parameters
 pub mod Records
 pub mod PixelPlaces
+pub mod Faults
 pub mod Order
 pub mod Answer
 pub mod RoundTrip

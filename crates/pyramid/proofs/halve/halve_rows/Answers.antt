@@ -48,7 +48,8 @@ loop-x-preserved c =
     let here = (goal.at.loop-x-preserved c).After-min-m in (
       search rules,
       rw (← ends here)
-          (row_put _ _ _ _ _ _ c.requires _ _ _ _ (rw (before here) at c.loop-x.invariant.1) (omega (arith, ends here)) c.halve_run.ensures),
+          (row_put _ _ _ _ _ _ c.requires _ _ _ _ (rw (before here) at c.loop-x.invariant.1)
+          (omega (arith, ends here)) c.halve_run.ensures),
     )
 
 pub returns : goal.returns
