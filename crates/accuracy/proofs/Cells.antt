@@ -10,7 +10,9 @@ use lib.IntN.{ℤ, pos, sub_ℕ}
 use lib.ListN.{get_or}
 use lib.Ieee.{Float, binary32, fits, le}
 use lib.Ieee.Fits.{sub-fits, cond-fits}
+use Rattle.std.specs.Prelude.{Result, Ok}
 use Rattle.lists.specs.Places.{All}
+use Rattle.lists.specs.declared.refusal.Refusal.{Refusal}
 use Rattle.lists.proofs.Tab.{get_d-tab-any}
 use Rattle.float32.specs.Float32.{zero, float_of}
 use Rattle.float32.specs.Value.{IsWhole, plus_part, minus_part}
@@ -21,7 +23,6 @@ use Rattle.response.specs.Response.{samples, sr_of, dr_of, ring_sum_of, cross_of
 use Rattle.response.specs.Patch.{View, map_width, map_height, cells, Patched}
 use Rattle.response.specs.Exact.{credit, debit, fifths_at, fifths_in}
 use Rattle.response.specs.declared.Patch.{Patch}
-use Rattle.response.specs.declared.Patch.TheVariants.{Cells}
 use Rattle.response.proofs.Map.{cells_at, cells-all, filled, cell_at}
 use Rattle.accuracy.specs.Accurate.{Accurate, Bytes}
 use Rattle.accuracy.proofs.Integers.{plus-le, minus-le, less-parts}
@@ -73,8 +74,8 @@ pub map-accurate : (v : View) → Bytes v.img → (i j : ℕ) (d : Float) → i 
 map-accurate v bytes i j d p q = rw (cells_at v i j d p q) (cell-accurate v.img v.w v.h v.ring _ _ bytes)
 
 -- in the buffer e that `chess_response_u8_patch` leaves
-pub patch-accurate : (v : View) (radius : ℕ) (d e : List Float) (r : Patch) (pw ph : ℕ) → Patched v radius d r e → r ≡ Cells pw ph
-    → Bytes v.img
+pub patch-accurate : (v : View) (radius : ℕ) (d e : List Float) (r : Result Patch Refusal) (pw ph : ℕ) → Patched v radius d r e
+    → r ≡ Ok (record { w = pw; h = ph }) → Bytes v.img
     → (i j : ℕ) (z : Float) → i < pw → j < ph → Accurate (get_or e (j * pw + i) z) (fifths_in v i j)
 patch-accurate v radius d e r pw ph p c bytes i j z a b =
     rw (cell_at v d e pw ph (filled v radius d e r p pw ph c) i j z a b) (cell-accurate v.img v.w v.h v.ring _ _ bytes)

@@ -1,30 +1,7 @@
 // The half-size levels of an image.
-ghost use Rattle.std.specs.Prelude.{◌≡◌, get_or};
+ghost use Rattle.std.specs.Prelude.{◌≡◌};
 ghost use Rattle.pyramid_levels.specs.Levels.{level_count, cells_above, capped};
-ghost use Rattle.pyramid.specs.Build.{number_of, values_of};
 ghost use Rattle.capi_maps.specs.Levels.{LevelsBuilt};
-
-use pyramid::Pyramid;
-
-// The number of an answer, 0 if levels were built.
-fn number_of(a: Pyramid) -> u8
-    ensures { result ≡ number_of a }
-{
-    match a {
-        Pyramid::Levels(_) => 0,
-        Pyramid::Refused(number) => number,
-    }
-}
-
-// How many levels there are, or `before` if refused.
-fn built_of(a: Pyramid, before: usize) -> usize
-    ensures { result ≡ get_or (values_of a) 0 before }
-{
-    match a {
-        Pyramid::Levels(n) => n,
-        Pyramid::Refused(_) => before,
-    }
-}
 
 // How many bytes the level buffer of such an image needs; the largest number if it needs more.
 #[unsafe(no_mangle)]
@@ -49,6 +26,6 @@ pub extern "C" fn zakdomp_levels(
         result levels.new built.new }
 {
     let a = pyramid::build_pyramid(img, w, h, count, minimum_side, levels);
-    *built = built_of(a, *built);
-    number_of(a)
+    *built = a.unwrap_or(*built);
+    lists::number_of(a)
 }

@@ -1,19 +1,5 @@
 // The limits of the responses.
-ghost use Rattle.std.specs.Prelude.{◌≡◌};
-ghost use Rattle.response_limits.specs.Promise.{number_of};
 ghost use Rattle.capi_maps.specs.Limits.{LimitsTold};
-
-use response_limits::Limits;
-
-// The number of an answer, 0 if both maps were written.
-fn number_of(a: Limits) -> u8
-    ensures { result ≡ number_of a }
-{
-    match a {
-        Limits::Written => 0,
-        Limits::Refused(number) => number,
-    }
-}
 
 // Writes a low and a high number of fifths for each cell to the start of `lows` and `highs`.
 #[unsafe(no_mangle)]
@@ -29,5 +15,5 @@ pub extern "C" fn zakdomp_response_limits(
     ensures { LimitsTold low.now high.now w h ring lows.old
         highs.old result lows.new highs.new }
 {
-    number_of(response_limits::response_limits(low, high, w, h, ring, lows, highs))
+    lists::number_of(response_limits::response_limits(low, high, w, h, ring, lows, highs))
 }

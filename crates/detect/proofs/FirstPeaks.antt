@@ -1,5 +1,6 @@
 -- A table of the first peaks: numbers of peaks, a peak listed, and the peaks taken from it one after the other. Assumes nothing.
-use Rattle.std.proofs.Common.{◌≡◌, ℕ, zero, suc, ◌+◌, ◌-◌, ◌*◌, ◌/◌, ◌%◌, ◌<◌, ◌≤◌, Bool, true, false, cond, ltb, leb, List, Option, Some, None, IfSome, length, get_or, set, sym, refl}
+use Rattle.std.proofs.Common.{◌≡◌, ℕ, zero, suc, ◌+◌, ◌*◌, ◌/◌, ◌%◌, ◌<◌, ◌≤◌, Bool, true, false, cond, ltb, leb, List, Option, Some, None}
+use Rattle.std.proofs.Common.{IfSome, length, get_or, set, sym, refl}
 use Rattle.std.proofs.Common.{ap, subst, ◌∙◌, add-zero, mod-eq_of_lt, add-one, arith, length-set, get_or-set_other, get_or-set_same, le-ltb}
 use Rattle.std.proofs.Common.{lt-ltb}
 use native.Mathlib.Nat.{div-eq_of_lt, mul-add-mod_self_right, mul-add-div_right}

@@ -1,5 +1,5 @@
 -- The search for the next peak: places that were passed over are no peaks. Assumes nothing.
-use Rattle.std.proofs.Common.{◌≡◌, ℕ, ◌+◌, ◌-◌, ◌<◌, ◌≤◌, List, [], ◌∷◌, Option, Some, None, subst, sym, refl, ap, ◌∙◌, arith}
+use Rattle.std.proofs.Common.{◌≡◌, ℕ, ◌+◌, ◌-◌, ◌<◌, ◌≤◌, List, [], Option, Some, None, subst, sym, refl, ap, ◌∙◌, arith}
 use lib.Ieee.{Float}
 use Rattle.lists.specs.Places.{Place, keep}
 use Rattle.detect.specs.declared.Search.{Search}

@@ -1,5 +1,5 @@
 -- The test of a place by what led to its answer, and what its answer says. Assumes nothing.
-use Rattle.std.proofs.Common.{◌≡◌, ℕ, ◌<◌, ◌≤◌, Bool, true, false, cond, not, List, Option, Some, None, sym, refl, ap, ◌∙◌, ap₂, le-leb}
+use Rattle.std.proofs.Common.{◌≡◌, ℕ, ◌<◌, ◌≤◌, Bool, true, false, cond, not, List, Option, Some, None, sym, refl, ap, ◌∙◌, le-leb}
 use mathlib.Core.Bool.{false≢true}
 use lib.Ieee.{Float, le}
 use borrow.Author.Tests.{not-true, not-false}

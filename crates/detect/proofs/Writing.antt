@@ -1,5 +1,5 @@
 -- The corners that the peaks start as, put into the buffer one after the other, and the sum of their ties. Assumes nothing.
-use Rattle.std.proofs.Common.{◌≡◌, ℕ, ◌+◌, ◌-◌, ◌<◌, ◌≤◌, List, [], ◌∷◌, Some, None, Ok, map, length, ap, ◌∙◌, arith}
+use Rattle.std.proofs.Common.{◌≡◌, ℕ, ◌+◌, ◌<◌, ◌≤◌, List, [], ◌∷◌, Some, None, Ok, map, length, ap, ◌∙◌, arith}
 use lib.Ieee.{Float}
 use Rattle.lists.specs.Places.{Place, sum_of}
 use Rattle.corner_list.specs.declared.Corner.{Corner}
@@ -30,8 +30,10 @@ writing-first m s t n held b h = record {
   tied = omega (arith, ap (sum_of (ties_at m s)) (peaks-start m s));
 }
 
-module _ (m : List Float) (s : Search) (t : List ℕ) (n held i ties : ℕ) (b₀ b : Slices) (p : Place) (a : Writing m s t n held i ties b₀ b p) where
-  pub writing-all : NextListed m s t n i p None → PeaksAdded [] (starts_in m s) (ties_in m s) held b₀ (Ok (record { count = i; ties = ties })) b
+module _ (m : List Float) (s : Search) (t : List ℕ) (n held i ties : ℕ) (b₀ b : Slices) (p : Place)
+    (a : Writing m s t n held i ties b₀ b p) where
+  pub writing-all : NextListed m s t n i p None
+      → PeaksAdded [] (starts_in m s) (ties_in m s) held b₀ (Ok (record { count = i; ties = ties })) b
   writing-all f =
       let k = growing-all _ _ _ _ _ _ a.growing (ap (map (start_at m s)) f.next) in
       found-added (starts_in m s) (ties_in m s) held b₀ a.growing.fits i ties b k.0

@@ -1,6 +1,7 @@
 -- What the private functions require and promise: no public promise depends on it.
 use Rattle.std.specs.Prelude.{◌≡◌, ℕ, zero, suc, ◌+◌, ◌-◌, ◌*◌, ◌/◌, ◌%◌, ◌<◌, ◌≤◌, Bool, true, false, cond, ◌||◌, List}
-use Rattle.std.specs.Prelude.{[], ◌∷◌, ◌++◌, length, nat_le, nat_lt, slice_index, slice_index_or, Float, Option, Some, None}
+use Rattle.std.specs.Prelude.{[], ◌∷◌, ◌++◌, length, nat_le, nat_lt, slice_index, slice_index_or, Float, Option, Some}
+use Rattle.std.specs.Prelude.{None}
 use Rattle.std.specs.Float.{nan}
 use Rattle.std.specs.Float.Ieee.{lt, le, eq}
 use Rattle.lists.specs.Limits.{largest_side, largest_radius, largest_border}

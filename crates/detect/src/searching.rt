@@ -50,6 +50,7 @@ fn blocks_below(cells: &[f32], t: f32) -> usize
     ensures { Below cells.now t result }
 {
     let mut i = 0;
+    // A scan that jumps by runs: the runs that `chunks_exact` and `take_while` leave would be counted into cells again.
     while RUN <= cells.len() - i {
         let e = i + RUN;
         if count_low(&cells[i..e], t) as usize != RUN {
@@ -105,7 +106,10 @@ impl Cell<'_> {
         ensures { result ≡ false
             → peak_in self.now.map.cells.now self.now.map.search (place self.now.x self.now.y) ≡ false }
     {
-        !(self.value <= self.map.search.threshold || self.is_overtopped())
+        if self.value <= self.map.search.threshold {
+            return false;
+        }
+        !self.is_overtopped()
     }
 }
 

@@ -1,15 +1,15 @@
 -- Laws of answers by their numbers. Assumes nothing.
-use Prim.Native.Nat.{ℕ, zero, suc}
+use Prim.Native.Nat.{ℕ, zero, suc, ◌<◌}
 use native.Mathlib.Omega.{arith}
 use mathlib.Core.Path.{◌≡◌, refl, sym, ap, ◌∙◌}
 use mathlib.Core.Bool.{Bool, true, false}
 use mathlib.Core.List.{List, [], ◌∷◌, ◌++◌}
 use Rattle.std.proofs.lemmas.Result.{err_from_is_err_and}
 use Rattle.std.specs.Prelude.{Result, IsErrAnd, Ok, Err}
-use Rattle.std.specs.Result.{result_unwrap_or}
+use Rattle.std.specs.Result.{result_unwrap_or, is_ok, is_err}
 use Rattle.lists.specs.declared.refusal.Refusal.{Refusal}
 use Rattle.lists.specs.Places.{All}
-use Rattle.lists.specs.Refusals.{lowest, refusal_number, number_of, values_by, values_unless, judged, result_or}
+use Rattle.lists.specs.Refusals.{lowest, refusal_number, refusal_with, number_of, values_by, values_unless, judged, verdict, result_or}
 
 -- a number is that of a refusal, or 0
 abbrev pub Known : ℕ → Type 0
@@ -72,6 +72,14 @@ judged-first ((false, n) ∷ cs) ds due other e p = judged-first cs ds due other
 pub passed-on : {A : Type 0} {e : Refusal} (r : Result A Refusal) → IsErrAnd r (λ y. y ≡ e) → r ≡ Err e
 passed-on r h = let p = err_from_is_err_and r h in p.1 ∙ ap Err p.2
 
+-- ---- the refusal with a number, and the number of a refusal
+pub with-number : (e : Refusal) → refusal_with (refusal_number e) ≡ e
+with-number e = grind arith
+
+pub number-with : (n : ℕ) → 0 < n → Known n → refusal_number (refusal_with n) ≡ n
+number-with zero l k = absurd (let no : ⊥ = omega (arith, l) in no)
+number-with (suc n) l k = k
+
 -- ---- an answer told by its number: the answer with that number
 pub judged-number : {A : Type 0} (e : Refusal) (due : A) → judged (refusal_number e) due ≡ Err e
 judged-number e due = grind arith
@@ -85,3 +93,21 @@ pub told-value : {A : Type 0} (r : Result A Refusal) (n : ℕ) (due before : A) 
     → result_unwrap_or r before ≡ result_or (number_of r) due before
 told-value (Ok v) n due before e = (judged-ok n due v e).1
 told-value (Err f) n due before e = grind arith
+
+-- ---- a check that is tested by `is_err`
+pub checked-err : (n : ℕ) (r : Result (Unit {0}) Refusal) → r ≡ verdict n → is_err r ≡ true → n ≡ 0 → ⊥
+checked-err zero r e t z = grind arith
+checked-err (suc n) r e t z = omega (arith, z)
+
+pub checked-ok : (n : ℕ) (r : Result (Unit {0}) Refusal) → r ≡ verdict n → is_err r ≡ false → n ≡ 0
+checked-ok zero r e t = refl
+checked-ok (suc n) r e t = absurd (let no : ⊥ = grind arith in no)
+
+-- ---- an answer that is tested by `is_ok`
+pub tested-ok : {A : Type 0} (r : Result A Refusal) → is_ok r ≡ true → number_of r ≡ 0
+tested-ok (Ok v) t = refl
+tested-ok (Err e) t = absurd (let no : ⊥ = grind arith in no)
+
+pub tested-err : {A : Type 0} (r : Result A Refusal) → is_ok r ≡ false → number_of r ≡ 0 → ⊥
+tested-err (Ok v) t z = grind arith
+tested-err (Err e) t z = refused-above e z

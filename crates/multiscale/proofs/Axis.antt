@@ -31,7 +31,8 @@ ends-between b r side c low high e =
     go (ltb c (b + 1)) (leb (side - (b + 1)) c) (leb (high_end b r side c - low_end b r c) (2 * b)) refl refl refl e
   where
     go : (p q s : Bool) → ltb c (b + 1) ≡ p → leb (side - (b + 1)) c ≡ q → leb (high_end b r side c - low_end b r c) (2 * b) ≡ s
-        → cond {A = Option (ℕ × ℕ)} (p || (q || s)) None (Some (low_end b r c, high_end b r side c)) ≡ Some (low, high) → Between b side low high
+        → cond {A = Option (ℕ × ℕ)} (p || (q || s)) None (Some (low_end b r c, high_end b r side c)) ≡ Some (low, high)
+        → Between b side low high
     go true q s x y z e = absurd (let n : ◌≡◌ {A = ℕ} 0 1 = cc in omega arith)
     go false true s x y z e = absurd (let n : ◌≡◌ {A = ℕ} 0 1 = cc in omega arith)
     go false false true x y z e = absurd (let n : ◌≡◌ {A = ℕ} 0 1 = cc in omega arith)

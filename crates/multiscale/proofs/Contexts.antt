@@ -1,6 +1,6 @@
 -- Contexts: what the tests say of the table of refusals, what holds of a context that is not refused, and that a sound one never is.
 -- Assumes nothing.
-use mathlib.Core.Path.{◌≡◌, sym, ◌∙◌}
+use mathlib.Core.Path.{◌≡◌, ◌∙◌}
 use mathlib.Core.Bool.{true, false}
 use Prim.Native.Nat.{◌*◌, ◌%◌, ◌^◌, ◌≤◌}
 use native.Mathlib.Nat.{mul-le-mul, one-mul}
@@ -9,7 +9,9 @@ use lib.Dec.{leb, lit<}
 use lib.Pow.{pow_mono, shl_exact}
 use borrow.Author.Tests.{le-ltb, le-leb, leb-true, not-false}
 use Rattle.lists.specs.Limits.{largest_side, largest_radius, largest_search, last_level, largest_border}
-use Rattle.lists.specs.Refusals.{is_large}
+use Rattle.std.specs.Prelude.{Err}
+use Rattle.lists.specs.declared.refusal.Refusal.TheVariants.{SideTooLarge, OutOfRange, PositionOutside}
+use Rattle.lists.specs.Refusals.{is_large, verdict}
 use Rattle.lists.proofs.Tests.{and_parts}
 use Rattle.lists.proofs.Refusals.{all-clear, sides-small}
 use Rattle.ring.proofs.Places.{ring-small}
@@ -51,22 +53,23 @@ module _ (c : RoiContext) (s : SoundContext c) where
 
 -- ---- the table, by the tests
 module _ (c : RoiContext) (s : Corner) where
-  pub large : is_large c.width c.height ≡ true → 1 ≡ refusal_of c s
+  pub large : is_large c.width c.height ≡ true → Err SideTooLarge ≡ verdict (refusal_of c s)
   unfolding refusal_of
   large l = rw l
 
   module _ (l : is_large c.width c.height ≡ false) where
-    pub unfit : parameters_fit c ≡ false → 3 ≡ refusal_of c s
+    pub unfit : parameters_fit c ≡ false → Err OutOfRange ≡ verdict (refusal_of c s)
     unfolding refusal_of
     unfit e = rw (l, e)
 
-    pub outside : parameters_fit c ≡ true → is_inside s ≡ false → 4 ≡ refusal_of c s
-    unfolding refusal_of
-    outside e i = rw (l, e, i)
+    module _ (e : parameters_fit c ≡ true) where
+      pub outside : is_inside s ≡ false → Err PositionOutside ≡ verdict (refusal_of c s)
+      unfolding refusal_of
+      outside i = rw (l, e, i)
 
-    pub none : parameters_fit c ≡ true → is_inside s ≡ true → 0 ≡ refusal_of c s
-    unfolding refusal_of
-    none e i = rw (l, e, i)
+      pub none : is_inside s ≡ true → refusal_of c s ≡ 0
+      unfolding refusal_of
+      none i = rw (l, e, i)
 
   -- ---- nothing is refused
   pub sound : refusal_of c s ≡ 0 → SoundContext c
@@ -90,4 +93,4 @@ module _ (c : RoiContext) (s : Corner) where
 
   -- a sound context refuses no seed that is inside
   pub never-refused : SoundContext c → is_inside s ≡ true → refusal_of c s ≡ 0
-  never-refused k i = sym (none (rw (le-ltb _ _ k.width, le-ltb _ _ k.height)) (sound-fits c k) i)
+  never-refused k i = none (rw (le-ltb _ _ k.width, le-ltb _ _ k.height)) (sound-fits c k) i

@@ -1,11 +1,12 @@
 -- The box of the base image in which a seed of a coarser level is looked for again (`RoiContext::compute_roi` and
 -- `make_roi_context`).
 use Rattle.std.specs.Prelude.{ℕ, ◌+◌, ◌-◌, ◌*◌, ◌^◌, min, max, Bool, cond, not, ◌&&◌, ◌||◌, List, [], ◌∷◌, leb, ltb}
-use Rattle.std.specs.Prelude.{Float, Option, None, Some}
+use Rattle.std.specs.Prelude.{Float, Option, None, Some, Result}
 use Rattle.std.specs.Float.{binary32}
 use Rattle.std.specs.Float.Ieee.{mul}
 use Rattle.lists.specs.Limits.{largest_radius, largest_search, last_level}
-use Rattle.lists.specs.Refusals.{unless, lowest, is_large}
+use Rattle.lists.specs.declared.refusal.Refusal.{Refusal}
+use Rattle.lists.specs.Refusals.{judged, lowest, is_large, values_by}
 use Rattle.float32.specs.Float32.{round_half_away, float_of}
 use Rattle.float32.specs.declared.Rounded.{Rounded}
 use Rattle.float32.specs.declared.Rounded.TheVariants.{Natural, Negative, Beyond}
@@ -13,8 +14,7 @@ use Rattle.ring.specs.Ring.{is_ring}
 use Rattle.corner_list.specs.CornerList.{is_inside}
 use Rattle.corner_list.specs.declared.Corner.{Corner}
 use Rattle.multiscale.specs.declared.RoiContext.{RoiContext}
-use Rattle.multiscale.specs.declared.RoiAnswer.{RoiAnswer}
-use Rattle.multiscale.specs.declared.RoiAnswer.TheVariants.{Bounds, NoRoi, Refused}
+use Rattle.multiscale.specs.declared.Roi.{Roi}
 
 -- ---- refusals
 -- window, centroid and search radius at most the largest, a level up to the last, and a ring of 5 or 10
@@ -74,23 +74,19 @@ unfolding roi_radius centre_of span_about
 span_on c side x = span_at (border c) (roi_radius c) side (centre_of c.level x)
 
 -- ---- the answer
-abbrev pub bounds : Option (ℕ × ℕ) → Option (ℕ × ℕ) → RoiAnswer
-bounds (Some x) (Some y) = Bounds x.0 y.0 x.1 y.1
-bounds (Some x) None = NoRoi
-bounds None y = NoRoi
+abbrev pub bounds : Option (ℕ × ℕ) → Option (ℕ × ℕ) → Option Roi
+bounds (Some x) (Some y) = Some (record { x0 = x.0; y0 = y.0; x1 = x.1; y1 = y.1 })
+bounds (Some x) None = None
+bounds None y = None
 
-unfoldable pub roi_of : RoiContext → Corner → RoiAnswer
+unfoldable pub roi_of : RoiContext → Corner → Result (Option Roi) Refusal
 unfolding refusal_of span_on
-roi_of c s = unless Refused (refusal_of c s) (bounds (span_on c c.width s.x) (span_on c c.height s.y))
+roi_of c s = judged (refusal_of c s) (bounds (span_on c c.width s.x) (span_on c c.height s.y))
 
--- ---- the number and the values of each case (RULES 7.3): 0 for no refusal, and the box's ends, none if there is no
--- box
-abbrev pub number_of : RoiAnswer → ℕ
-number_of (Bounds x0 y0 x1 y1) = 0
-number_of NoRoi = 0
-number_of (Refused number) = number
+-- ---- the values of an answer (RULES 7.3): the box's ends, none if there is no box
+abbrev pub ends_of : Option Roi → List ℕ
+ends_of (Some b) = b.x0 ∷ b.y0 ∷ b.x1 ∷ b.y1 ∷ []
+ends_of None = []
 
-abbrev pub values_of : RoiAnswer → List ℕ
-values_of (Bounds x0 y0 x1 y1) = x0 ∷ y0 ∷ x1 ∷ y1 ∷ []
-values_of NoRoi = []
-values_of (Refused number) = []
+abbrev pub values_of : Result (Option Roi) Refusal → List ℕ
+values_of = values_by ends_of

@@ -4,12 +4,14 @@
 
 ghost use Rattle.std.specs.Prelude.{◌≡◌, ◌*◌, ◌≤◌};
 ghost use Rattle.lists.specs.Limits.{largest_search, largest_side, largest_border};
+ghost use Rattle.lists.specs.Refusals.{verdict};
 ghost use Rattle.multiscale.specs.Multiscale.{parameters_fit, refusal_of, border as border_of, roi_radius, span_about};
-ghost use Rattle.multiscale.specs.Multiscale.{span_on};
+ghost use Rattle.multiscale.specs.Multiscale.{span_on, bounds};
 ghost use Rattle.multiscale.specs.Promise.{Boxed};
 ghost use Rattle.multiscale.specs.Internal.{SoundContext};
 
 use corner_list::Corner;
+use lists::Refusal;
 
 // The base's sides, the radii of ring, window, centroid and search, and the number of the seed's level.
 #[derive(Clone, Copy)]
@@ -23,12 +25,13 @@ pub struct RoiContext {
     pub level: u32,
 }
 
-// The box from column x0 and row y0 up to, not including, column x1 and row y1; no box; or the number of the refusal.
+// A box of the base: from column x0 and row y0 up to, not including, column x1 and row y1.
 #[derive(Clone, Copy)]
-pub enum RoiAnswer {
-    Bounds(usize, usize, usize, usize),
-    NoRoi,
-    Refused(u8),
+pub struct Roi {
+    pub x0: usize,
+    pub y0: usize,
+    pub x1: usize,
+    pub y1: usize,
 }
 
 // A context with which no seed with coordinates from 0 to the largest is refused.
@@ -80,6 +83,16 @@ impl SoundRoi {
         };
         span_about(c, self.roi_radius(), self.border(), side)
     }
+
+    // The box of a seed, if it has one.
+    fn box_of(self, c: Corner) -> Option<Roi>
+        ensures { result ≡ bounds (span_on self.context self.context.width c.x)
+            (span_on self.context self.context.height c.y) }
+    {
+        let (x0, x1) = self.span_on(self.context.width, c.x)?;
+        let (y0, y1) = self.span_on(self.context.height, c.y)?;
+        Some(Roi { x0, y0, x1, y1 })
+    }
 }
 
 impl RoiContext {
@@ -93,37 +106,28 @@ impl RoiContext {
             && ring::is_ring(self.ring)
     }
 
-    // The number of the refusal, 0 for none.
-    fn refusal(self, c: Corner) -> u8
-        ensures { result ≡ refusal_of self c }
+    // Why a seed is refused.
+    fn refusal(self, c: Corner) -> Result<(), Refusal>
+        ensures { result ≡ verdict (refusal_of self c) }
     {
         if image_size::is_large(self.width, self.height) {
-            return 1;
+            return Err(Refusal::SideTooLarge);
         }
-        if self.parameters_fit() {
-            if corner_list::is_inside(c) {
-                return 0;
-            }
-            return 4;
+        if !self.parameters_fit() {
+            return Err(Refusal::OutOfRange);
         }
-        3
+        if !corner_list::is_inside(c) {
+            return Err(Refusal::PositionOutside);
+        }
+        Ok(())
     }
 
-    // The box of a seed.
-    pub fn compute_roi(self, c: Corner) -> RoiAnswer
+    // The box of a seed, if it has one.
+    pub fn compute_roi(self, c: Corner) -> Result<Option<Roi>, Refusal>
         ensures { Boxed self c result }
     {
-        let number = self.refusal(c);
-        if number != 0 {
-            return RoiAnswer::Refused(number);
-        }
-        let roi = SoundRoi { context: self };
-        let Some((x0, x1)) = roi.span_on(self.width, c.x) else {
-            return RoiAnswer::NoRoi;
-        };
-        let Some((y0, y1)) = roi.span_on(self.height, c.y) else {
-            return RoiAnswer::NoRoi;
-        };
-        RoiAnswer::Bounds(x0, y0, x1, y1)
+        self.refusal(c)?;
+        let sound = SoundRoi { context: self };
+        Ok(sound.box_of(c))
     }
 }

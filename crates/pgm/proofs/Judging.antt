@@ -1,5 +1,5 @@
 -- The refusals by the fields as they were read, and what is true of an upload that is accepted. Assumes nothing.
-use Prim.Native.Nat.{ℕ, zero, suc, ◌+◌, ◌-◌, ◌*◌, ◌<◌, ◌≤◌}
+use Prim.Native.Nat.{ℕ, ◌+◌, ◌-◌, ◌*◌, ◌<◌, ◌≤◌}
 use native.Mathlib.Decide.{dec_lt}
 use native.Mathlib.Nat.{mul-le-mul}
 use native.Mathlib.Omega.{arith}
@@ -11,17 +11,20 @@ use lib.ListN.{length, take, drop, length-drop}
 use lib.Seq.{length-take-le}
 use borrow.Author.Tests.{ltb-false, lt-ltb, le-ltb, eqb-true, eq-eqb, ne_eqb, not-false}
 use Rattle.lists.specs.Limits.{largest_side, largest_map}
-use Rattle.lists.specs.Refusals.{unless, is_large}
+use Rattle.lists.specs.Refusals.{judged, is_large}
 use Rattle.lists.proofs.Tests.{and_parts, and_none, or-neither}
 use Rattle.lists.proofs.Refusals.{lowest-none, sides-small}
+use Rattle.std.specs.Prelude.{Result, Ok, Err}
+use Rattle.lists.specs.declared.refusal.Refusal.{Refusal}
+use Rattle.lists.specs.declared.refusal.Refusal.TheVariants.{SideTooLarge, HeaderUnread, WrongMaxval}
+use Rattle.lists.proofs.Judged.{number-judged, values-judged, judged-ok, refused-some}
 use Rattle.pgm.specs.declared.PgmImage.{PgmImage}
-use Rattle.pgm.specs.declared.PgmImage.TheVariants.{Pixels, Refused}
 use Rattle.pgm.specs.declared.header.Number.{Number}
 use Rattle.pgm.specs.declared.header.Sides.{Sides}
 use Rattle.std.specs.Prelude.{Some}
 use Rattle.pgm.specs.Header.{is_space, bare, begins, field_of, width_field, height_field, maxval_field}
 use Rattle.pgm.specs.Header.{has_magic, has_sides, has_header, width_of, height_of, maxval_of, raster_at}
-use Rattle.pgm.specs.Pgm.{conditions, refusal_of, pixels_in, PgmRead}
+use Rattle.pgm.specs.Pgm.{conditions, refusal_of, pixels_in, image_of, PgmRead}
 use Rattle.pgm.specs.Internal.{capped, bare_from, Reaches, NumberHere, SidesHere, MaxvalHere, behind_sides, has_maxval}
 use Rattle.pgm.proofs.Scanning.{first-at}
 use Rattle.pgm.proofs.Fields.{field-from, Within, all_rest, bare-within, first-within}
@@ -100,22 +103,22 @@ module _ (upload : List ℕ) where
       let place = first-at upload is_space (maxval_field upload).rest n.end field.end one in
       record { there = rw (field.there_is, one); value = field.value; end = sym place.0; inside = omega (arith, place.1) }
 
-  refused-read : (n : ℕ) → refusal_of upload ≡ n → (0 < n) → PgmRead upload (Refused n)
-  refused-read zero e l = absurd (let no : ⊥ = omega arith in no)
-  refused-read (suc n) e l = record { answer = rw e; number = sym e; values = rw e }
+  read-as : (r : Result PgmImage Refusal) → r ≡ judged (refusal_of upload) (image_of upload) → PgmRead upload r
+  unfolding refusal_of conditions
+  read-as r e = record { answer = e; number = number-judged _ _ e (grind arith); values = values-judged _ _ _ e }
 
   -- the sides cannot be read
-  pub sides-none : has_sides upload ≡ false → PgmRead upload (Refused 12)
+  pub sides-none : has_sides upload ≡ false → PgmRead upload (Err HeaderUnread)
   unfolding refusal_of conditions
-  sides-none e = refused-read 12 (rw e) (omega arith)
+  sides-none e = read-as _ (rw e)
 
   module _ (s : Sides) (sides : SidesHere upload s) where
     -- a side is too large
-    pub sides-large : is_large s.w s.h ≡ true → PgmRead upload (Refused 1)
+    pub sides-large : is_large s.w s.h ≡ true → PgmRead upload (Err SideTooLarge)
     unfolding refusal_of conditions
     sides-large large =
         let e : is_large w h ≡ true = sym (is_large-capped w h) ∙ rw (← sides.width, ← sides.height) large in
-        refused-read 1 (rw (sides.there, e)) (omega arith)
+        read-as _ (rw (sides.there, e))
 
     module _ (small : is_large s.w s.h ≡ false) where
       fits : is_large w h ≡ false
@@ -131,31 +134,31 @@ module _ (upload : List ℕ) where
       few = mul-le-mul (sides-small s.w s.h small).0 (sides-small s.w s.h small).1
 
       -- the maxval cannot be read
-      pub maxval-none : has_maxval upload ≡ false → PgmRead upload (Refused 12)
+      pub maxval-none : has_maxval upload ≡ false → PgmRead upload (Err HeaderUnread)
       unfolding refusal_of conditions
-      maxval-none e = refused-read 12 (rw (sides.there, fits, e)) (omega arith)
+      maxval-none e = read-as _ (rw (sides.there, fits, e))
 
       module _ (n : Number) (maxval : MaxvalHere upload n) where
         left : ltb (length upload - n.end) (s.w * s.h) ≡ ltb (length (drop (raster_at upload) upload)) (w * h)
         left = rw (length-drop (raster_at upload) upload, maxval.end, width-is, height-is)
 
         -- fewer bytes than pixels
-        pub pixels-short : length upload - n.end < s.w * s.h → PgmRead upload (Refused 12)
+        pub pixels-short : length upload - n.end < s.w * s.h → PgmRead upload (Err HeaderUnread)
         unfolding refusal_of conditions
         pixels-short l =
             let e = sym left ∙ lt-ltb (length upload - n.end) (s.w * s.h) l in
-            refused-read 12 (rw (sides.there, fits, maxval.there, e)) (omega arith)
+            read-as _ (rw (sides.there, fits, maxval.there, e))
 
         module _ (enough : s.w * s.h ≤ length upload - n.end) where
           -- another maxval
-          pub maxval-other : (n.value ≡ 255 → ⊥) → PgmRead upload (Refused 13)
+          pub maxval-other : (n.value ≡ 255 → ⊥) → PgmRead upload (Err WrongMaxval)
           unfolding refusal_of conditions
           maxval-other other =
               let e = sym left ∙ le-ltb (length upload - n.end) (s.w * s.h) enough in
               let o = sym (maxval-capped (maxval_of upload)) ∙ ne_eqb (capped (maxval_of upload)) 255 (λ z. other (maxval.value ∙ z)) in
-              refused-read 13 (rw (sides.there, fits, maxval.there, e, o)) (omega arith)
+              read-as _ (rw (sides.there, fits, maxval.there, e, o))
 
-          pub pixels-read : n.value ≡ 255 → PgmRead upload (Pixels n.end s.w s.h)
+          pub pixels-read : n.value ≡ 255 → PgmRead upload (Ok (record { at = n.end; w = s.w; h = s.h }))
           pixels-read full =
               let none = accepts upload (record {
                 header = rw sides.there maxval.there;
@@ -164,11 +167,7 @@ module _ (upload : List ℕ) where
                 enough = ltb-false _ _ (sym left ∙ le-ltb (length upload - n.end) (s.w * s.h) enough);
                 full = omega (arith, maxval.value, full);
               }) in
-              record {
-                answer = rw (none, maxval.end, width-is, height-is);
-                number = sym none;
-                values = rw (none, maxval.end, width-is, height-is);
-              }
+              read-as _ (rw (none, maxval.end, width-is, height-is))
 
 -- ---- an answer, taken apart
 
@@ -201,26 +200,19 @@ module _ (upload : List ℕ) where
             )
       ]
 
-  pub located : (a : PgmImage) → PgmRead upload a → (at w h : ℕ) → a ≡ Pixels at w h → Located upload at w h
-  located a r at w h is = go (refusal_of upload) refl (sym is ∙ r.answer)
-    where
-      go : (n : ℕ) → refusal_of upload ≡ n
-          → Pixels at w h ≡ unless Refused n (Pixels (raster_at upload) (width_of upload) (height_of upload))
-          → Located upload at w h
-      go zero e same =
-          let a = accepted upload e in
-          let p : at ≡ raster_at upload = cc in
-          let q : w ≡ width_of upload = cc in
-          let s : h ≡ height_of upload = cc in
-          record {
-            none = e;
-            place = p;
-            width = q;
-            height = s;
-            small = rw (q, s) (mul-le-mul a.narrow a.low);
-            inside = rw (p, q, s) (omega (arith, a.enough, length-drop (raster_at upload) upload, raster-inside a.header));
-          }
-      go (suc n) e same = absurd (let z : ◌≡◌ {A = ℕ} 0 1 = cc in let no : ⊥ = omega arith in no)
+  pub located : (i : PgmImage) → PgmRead upload (Ok i) → Located upload i.at i.w i.h
+  located i r =
+      let q = judged-ok (refusal_of upload) (image_of upload) i r.answer in
+      let a = accepted upload q.0 in
+      rw q.1
+      (record {
+        none = q.0;
+        place = refl;
+        width = refl;
+        height = refl;
+        small = mul-le-mul a.narrow a.low;
+        inside = omega (arith, a.enough, length-drop (raster_at upload) upload, raster-inside a.header);
+      })
 
   pub located-pixels : (at w h : ℕ) → Located upload at w h → take (at + w * h - at) (drop at upload) ≡ pixels_in upload
   unfolding pixels_in
@@ -228,14 +220,9 @@ module _ (upload : List ℕ) where
       let k : at + w * h - at ≡ w * h = omega arith in
       rw (k, l.none, l.place, l.width, l.height)
 
-  pub refused-pixels : (a : PgmImage) → PgmRead upload a → (n : ℕ) → a ≡ Refused n → [] ≡ pixels_in upload
+  pub refused-pixels : (e : Refusal) → PgmRead upload (Err e) → [] ≡ pixels_in upload
   unfolding pixels_in
-  refused-pixels a r n is = go (refusal_of upload) refl (sym is ∙ r.answer)
-    where
-      go : (k : ℕ) → refusal_of upload ≡ k
-          → Refused n ≡ unless Refused k (Pixels (raster_at upload) (width_of upload) (height_of upload)) → [] ≡ pixels_in upload
-      go zero e same = absurd (let z : ◌≡◌ {A = ℕ} 0 1 = cc in let no : ⊥ = omega arith in no)
-      go (suc k) e same = rw (e, ne_eqb (suc k) 0 (λ z. let no : ⊥ = omega arith in no))
+  refused-pixels e r = rw (ne_eqb (refusal_of upload) 0 (refused-some _ _ e r.answer))
 
   -- how many pixels there are
   pub pixels-length : refusal_of upload ≡ 0 → length (pixels_in upload) ≡ width_of upload * height_of upload

@@ -3,15 +3,13 @@ use Prim.Native.Nat.{ℕ, ◌+◌, ◌-◌, ◌*◌, ◌≤◌}
 use native.Mathlib.Decide.{dec_lt}
 use native.Mathlib.Omega.{arith}
 use mathlib.Core.Path.{◌≡◌, refl, sym, ap, ◌∙◌}
-use mathlib.Core.Bool.{true, false}
 use mathlib.Core.List.{List, [], ◌∷◌}
 use lib.Dec.{ltb, eqb}
-use Rattle.std.specs.Prelude.{Some}
 use borrow.Author.Tests.{lt-ltb, le-ltb, ne_eqb}
 use Rattle.lists.specs.Limits.{largest_side}
-use Rattle.pgm.specs.Header.{Character, is_digit, begins, leading, number_from}
-use Rattle.pgm.specs.Internal.{largest_kept, capped, bare_from, Plain, CommentsSkipped, DigitHere, NumberRead}
-use Rattle.pgm.proofs.Scanning.{Passing, passing-none, passing-next, passing-stops, leading-past, leading-none}
+use Rattle.pgm.specs.Header.{Character, is_digit, leading, number_from}
+use Rattle.pgm.specs.Internal.{largest_kept, capped, bare_from, Plain, CommentsSkipped, DigitHere}
+use Rattle.pgm.proofs.Scanning.{Passing, passing-none, passing-next, leading-past}
 
 -- one digit more
 capped-more : (n d : ℕ) → capped (10 * capped n + d) ≡ capped (10 * n + d)
@@ -67,19 +65,6 @@ module _ (upload : List ℕ) where
               (ap (λ (cs : List Character). capped (number_from number cs))
               (sym (leading-past upload is_digit at r.passing.plain d.here)))
               ∙ r.same);
-        }
-
-    pub reading-stops : begins is_digit (bare_from upload from) ≡ true → begins is_digit (bare_from upload at) ≡ false
-        → NumberRead upload (bare_from upload from) (Some (record { value = number; end = at }))
-    reading-stops there e =
-        let kept : number ≡ capped number = omega (arith, r.few) in
-        record {
-          there_is = there;
-          value =
-              kept
-              ∙ ap (λ (cs : List Character). capped (number_from number cs)) (sym (leading-none upload is_digit (bare_from upload at) e))
-              ∙ r.same;
-          end = passing-stops upload is_digit from at r.passing e;
         }
 
   -- the first digit is read

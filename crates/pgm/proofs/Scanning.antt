@@ -37,21 +37,11 @@ module _ (upload : List ℕ) where
     pub further : from ≤ at
     pub same : bare inside at (drop at upload) ≡ bare_from upload from
 
-  pub skipping-none : (from : ℕ) → Skipping from from false
-  skipping-none from = record { further = omega arith; same = refl }
-
   module _ (from at : ℕ) (inside : Bool) (s : Skipping from at inside) where
     pub skipping-next : at < length upload → (inside || eqb (code_at at) 35) ≡ true → (inside' : Bool)
         → inside' ≡ in_comment inside (code_at at) → Skipping from (at + 1) inside'
     skipping-next some e inside' goes =
         record { further = omega (arith, s.further); same = rw goes (sym (bare-ignored at some inside e) ∙ s.same) }
-
-    pub skipping-stops : inside ≡ false → (code_at at ≡ 35 → ⊥) → CommentsSkipped upload from at
-    skipping-stops outside other =
-        record {
-          further = s.further;
-          reaches = record { same = ap (λ (b : Bool). bare b at (drop at upload)) (sym outside) ∙ s.same; plain = λ l. other };
-        }
 
     -- at the end, and past it
     pub skipping-ends : length upload ≤ at → (end : ℕ) → from ≤ end → length upload ≤ end → CommentsSkipped upload from end
@@ -66,15 +56,6 @@ module _ (upload : List ℕ) where
 
   -- ---- a test of the characters
   module _ (f : ℕ → Bool) where
-    -- where the first does not pass, there is none before it, and it stays
-    trailing-none : (cs : List Character) → begins f cs ≡ false → trailing f cs ≡ cs
-    trailing-none [] e = refl
-    trailing-none (c ∷ cs) e = rw e
-
-    pub leading-none : (cs : List Character) → begins f cs ≡ false → leading f cs ≡ []
-    leading-none [] e = refl
-    leading-none (c ∷ cs) e = rw e
-
     module _ (at : ℕ) where
       pub begins-end : length upload ≤ at → begins f (bare_from upload at) ≡ false
       begins-end l = ap (begins f) (bare-end false at l)
@@ -119,9 +100,6 @@ module _ (upload : List ℕ) where
             same = ap (trailing f) r.reaches.same ∙ sym (trailing-past at p.plain e) ∙ p.same;
             plain = r.reaches.plain;
           }
-
-      pub passing-stops : begins f (bare_from upload at) ≡ false → Reaches upload (trailing f (bare_from upload from)) at
-      passing-stops e = record { same = sym (trailing-none (bare_from upload at) e) ∙ p.same; plain = p.plain }
 
     -- the first of some characters stands where they begin
     pub first-at : (cs : List Character) (at : ℕ) → Reaches upload cs at → begins f cs ≡ true

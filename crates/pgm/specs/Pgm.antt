@@ -1,9 +1,9 @@
 -- What is read from an uploaded photograph (RULES 20): the refusals, the answer, and the pixels as a part of the
 -- upload.
-use Rattle.std.specs.Prelude.{ℕ, ◌*◌, ◌≡◌, Bool, cond, not, ◌&&◌, ◌||◌, List, [], ◌∷◌, eqb, ltb, length, take, drop}
-use Rattle.lists.specs.Refusals.{lowest, unless, values_unless, is_large}
+use Rattle.std.specs.Prelude.{ℕ, ◌*◌, ◌≡◌, Bool, cond, not, ◌&&◌, ◌||◌, List, [], ◌∷◌, eqb, ltb, length, take, drop, Result}
+use Rattle.lists.specs.declared.refusal.Refusal.{Refusal}
+use Rattle.lists.specs.Refusals.{lowest, number_of, values_by, judged, values_unless, is_large}
 use Rattle.pgm.specs.declared.PgmImage.{PgmImage}
-use Rattle.pgm.specs.declared.PgmImage.TheVariants.{Pixels, Refused}
 use Rattle.pgm.specs.Header.{has_sides, has_header, width_of, height_of, maxval_of, raster_at}
 
 -- 1: "where both sides can be read behind a right P5 and its whitespace" and one is above the largest; 12: "header not
@@ -31,17 +31,16 @@ pixels_in upload =
 
 -- ---- the promise of `read_pgm`
 
--- an answer's number, and its values: where the pixels are, and both sides
-abbrev pub number_of : PgmImage → ℕ
-number_of (Pixels at w h) = 0
-number_of (Refused number) = number
+-- an answer's values: where the pixels are, and both sides
+abbrev pub values_of : Result PgmImage Refusal → List ℕ
+values_of = values_by (λ i. i.at ∷ i.w ∷ i.h ∷ [])
 
-abbrev pub values_of : PgmImage → List ℕ
-values_of (Pixels at w h) = at ∷ w ∷ h ∷ []
-values_of (Refused number) = []
+-- where the pixels of an upload are, if it is not refused
+abbrev pub image_of : List ℕ → PgmImage
+image_of upload = record { at = raster_at upload; w = width_of upload; h = height_of upload }
 
-pub record PgmRead (upload : List ℕ) (r : PgmImage) : Type 0 where
-  pub answer : r ≡ unless Refused (refusal_of upload) (Pixels (raster_at upload) (width_of upload) (height_of upload))
+pub record PgmRead (upload : List ℕ) (r : Result PgmImage Refusal) : Type 0 where
+  pub answer : r ≡ judged (refusal_of upload) (image_of upload)
   pub number : number_of r ≡ refusal_of upload
   pub values : values_of r ≡ values_unless (refusal_of upload)
       (raster_at upload ∷ width_of upload ∷ height_of upload ∷ [])

@@ -16,10 +16,6 @@ use Rattle.lists.proofs.Buffer.{placed-none, placed-more, placed-before, put-pla
 use Rattle.pyramid.specs.Pyramid.{box_of, half_pixel, halved}
 use Rattle.pyramid.specs.Internal.{pixels_at_once, holder_of, box_at, Halving, MeansMade, Run, RunHalved, RowHalved, LevelHalved}
 
-pub holder-buffer : (base levels : List ℕ) (k : ℕ) → (k ≡ 0 → ⊥) → levels ≡ holder_of base levels k
-holder-buffer base levels zero z = absurd (z refl)
-holder-buffer base levels (suc k) z = refl
-
 -- the slice that is read keeps its length, and its length is a usize
 holder-length : (base d s : List ℕ) (k : ℕ) → length s ≡ length d → length (holder_of base s k) ≡ length (holder_of base d k)
 holder-length base d s zero e = refl
@@ -69,13 +65,13 @@ half-alike s t w x y y' e l =
 -- ---- a run of n pairs of columns
 
 -- its half-size pixels, made apart and put at their place
-pub run-put : (base d : List ℕ) (k top w to n size : ℕ) (made ys : List ℕ) → to + n ≤ length d
-    → MeansMade (holder_of base d k) top (top + w) n made → ys ≡ tab size (λ i. get_or made i 0) → size ≡ n
-    → RunHalved base d k top w to n (put_mid to (to + n - to) d ys)
-run-put base d k top w to n size made ys fits m e z =
-    let y : ys ≡ tab n (box_at (holder_of base d k) top (top + w)) = e ∙ rw z (tab-ext n _ _ m.each) in
-    let l : to + n - to ≡ length ys = omega (arith, ap length y, length-tab n (box_at (holder_of base d k) top (top + w))) in
-    record { is = put-placed to (to + n - to) ys d l ∙ ap (λ (v : List ℕ). placed to v d) y }
+pub run-put : (base d : List ℕ) (k top w to n : ℕ) (made : List ℕ) → n ≤ pixels_at_once
+    → MeansMade (holder_of base d k) top (top + w) n made
+    → RunHalved base d k top w to n (put_mid to (to + n - to) d (take n made))
+run-put base d k top w to n made few p =
+    let row = box_at (holder_of base d k) top (top + w) in
+    let l : to + n - to ≡ length (tab n row) = omega (arith, length-tab n row) in
+    record { is = rw p.front (put-placed to (to + n - to) (tab n row) d l) }
 
 -- ---- a run of m pairs from column x on, of the two rows that begin at `from`
 

@@ -1,6 +1,6 @@
 -- What the private functions that halve a level require and promise: source and result may both lie in the level
 -- buffer.
-use Rattle.std.specs.Prelude.{ℕ, zero, suc, ◌+◌, ◌*◌, ◌/◌, ◌<◌, ◌≤◌, ◌≡◌, List, length, get_or, drop}
+use Rattle.std.specs.Prelude.{ℕ, zero, suc, ◌+◌, ◌*◌, ◌/◌, ◌≤◌, ◌≡◌, List, length, get_or, take, drop}
 use Rattle.lists.specs.Tab.{tab, grid}
 use Rattle.lists.specs.Buffer.{front, placed}
 use Rattle.pyramid_levels.specs.Levels.{level_count}
@@ -33,7 +33,7 @@ box_at pixels top low i =
 -- those of n pairs, at the start of the list for them
 pub record MeansMade (pixels : List ℕ) (top low n : ℕ) (out : List ℕ) : Type 0 where
   pub long : length out ≡ pixels_at_once
-  pub each : (i : ℕ) → i < n → get_or out i 0 ≡ box_at pixels top low i
+  pub front : take n out ≡ tab n (box_at pixels top low)
 
 -- a run of n pairs of columns of level k, in the row that begins at `top` and the row w places further on, and a place
 -- for its half-size pixels from `to` on

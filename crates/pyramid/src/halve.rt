@@ -14,10 +14,7 @@ const PIXELS: usize = 16;
 fn holder<'a>(base: &'a [u8], levels: &'a [u8], k: usize) -> &'a [u8]
     ensures { result.now ≡ holder_of base.now levels.now k }
 {
-    if k == 0 {
-        return base;
-    }
-    levels
+    if k == 0 { base } else { levels }
 }
 
 // The mean of four pixels.
@@ -33,25 +30,10 @@ fn means(pixels: &[u8], top: usize, low: usize, n: usize, out: &mut [u8; PIXELS]
         × (length out.old ≡ pixels_at_once) }
     ensures { MeansMade pixels.now top low n out.new }
 {
-    let mut i = 0usize;
-    while i < n {
+    for i in 0..n {
         let a = top + 2 * i;
         let b = low + 2 * i;
         out[i] = mean(pixels[a], pixels[a + 1], pixels[b], pixels[b + 1]);
-        i += 1;
-    }
-}
-
-// Copies the first of the pixels, as many as `out` has places.
-fn copy(pixels: &[u8; PIXELS], out: &mut [u8])
-    requires { length out.old ≤ pixels_at_once }
-    ensures { out.new ≡ tab (length out.old) (λ i. get_or pixels.now i 0) }
-{
-    let n = out.len();
-    let mut i = 0usize;
-    while i < n {
-        out[i] = pixels[i];
-        i += 1;
     }
 }
 
@@ -63,8 +45,7 @@ fn run(base: &[u8], k: usize, top: usize, w: usize, levels: &mut [u8], at: usize
 {
     let mut made = [0u8; PIXELS];
     means(holder(base, levels, k), top, top + w, n, &mut made);
-    let e = at + n;
-    copy(&made, &mut levels[at..e]);
+    levels[at..at + n].copy_from_slice(&made[..n]);
 }
 
 // The same. A whole run has its number written out: so the compiler makes code for it without a loop, with vectors.
@@ -74,9 +55,9 @@ fn halve_run(base: &[u8], k: usize, top: usize, w: usize, levels: &mut [u8], at:
 {
     if n == PIXELS {
         run(base, k, top, w, levels, at, PIXELS);
-        return;
+    } else {
+        run(base, k, top, w, levels, at, n);
     }
-    run(base, k, top, w, levels, at, n);
 }
 
 // Two rows of level k, which begin at `from`, at half size from `to` on, run by run.
@@ -85,11 +66,9 @@ fn halve_rows(base: &[u8], k: usize, from: usize, w: usize, levels: &mut [u8], t
     ensures { RowHalved base.now levels.old k from w to (w / 2) levels.new }
 {
     let n = w / 2;
-    let mut x = 0usize;
-    while x < n {
-        let m = numbers::lesser(PIXELS, n - x);
+    for x in (0..n).step_by(PIXELS) {
+        let m = PIXELS.min(n - x);
         halve_run(base, k, from + 2 * x, w, levels, to + x, m);
-        x += m;
     }
 }
 
@@ -100,12 +79,10 @@ fn halve(base: &[u8], k: usize, from: usize, w: usize, h: usize, levels: &mut [u
 {
     let mut a = from;
     let mut at = to;
-    let mut y = 0usize;
-    while y < h / 2 {
+    for _y in 0..h / 2 {
         halve_rows(base, k, a, w, levels, at);
-        a = a + 2 * w;
-        at = at + w / 2;
-        y += 1;
+        a += 2 * w;
+        at += w / 2;
     }
 }
 
@@ -118,13 +95,11 @@ pub(crate) fn fill_levels(base: &[u8], width: usize, height: usize, n: usize, le
     let mut h = height;
     let mut from = 0usize;
     let mut to = 0usize;
-    let mut k = 0usize;
-    while k + 1 < n {
-        halve(base, k, from, w, h, levels, to);
-        w = w / 2;
-        h = h / 2;
+    for k in 1..n {
+        halve(base, k - 1, from, w, h, levels, to);
+        w /= 2;
+        h /= 2;
         from = to;
-        to = to + w * h;
-        k += 1;
+        to += w * h;
     }
 }

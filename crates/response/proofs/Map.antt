@@ -1,7 +1,7 @@
 -- What a caller of the patch function can use: the answer taken apart, and the buffer by column and row. Assumes nothing.
-use mathlib.Core.Path.{◌≡◌, refl, sym, ◌∙◌}
+use mathlib.Core.Path.{◌≡◌, sym, ap, ◌∙◌}
 use mathlib.Core.List.{List}
-use Prim.Native.Nat.{ℕ, zero, suc, ◌+◌, ◌*◌, ◌<◌, ◌≤◌, ◌-◌}
+use Prim.Native.Nat.{ℕ, ◌+◌, ◌*◌, ◌<◌, ◌≤◌, ◌-◌}
 use native.Mathlib.Omega.{arith}
 use native.Mathlib.Nat.{mul_comm}
 use borrow.Author.Tests.{ne_eqb}
@@ -17,11 +17,12 @@ use Rattle.ring.specs.Ring.{Ring}
 use Rattle.response.specs.Patch.{View, whole, side_of, map_width, map_height, left, top, response_in, cells, inner_in, inner_cells}
 use Rattle.response.specs.Patch.{refusal_of, MapMade}
 use Rattle.response.specs.declared.Patch.{Patch}
-use Rattle.response.specs.declared.Patch.TheVariants.{Cells, Refused}
 use Rattle.response.proofs.Inside.{far-off}
 use Rattle.response.proofs.Outcome.{number_of, taken}
-use Rattle.lists.specs.Refusals.{unless}
-use Rattle.lists.proofs.Answers.{refused-keeps}
+use Rattle.std.specs.Prelude.{Result, Ok, Err}
+use Rattle.lists.specs.declared.refusal.Refusal.{Refusal}
+use Rattle.lists.specs.Refusals.{refusal_number}
+use Rattle.lists.proofs.Judged.{judged-ok, refused-some, refused-stays}
 
 -- the buffer d after a map of pw by ph with the cells cs was made
 pub record Made (v : View) (cs d e : List Float) (pw ph : ℕ) : Type 0 where
@@ -35,40 +36,34 @@ abbrev pub Filled : View → List Float → List Float → ℕ → ℕ → Type 
 Filled v = Made v (cells v)
 
 -- ---- the answer
-cells_is : (v : View) (n pw ph : ℕ) → unless Refused n (Cells (map_width v) (map_height v)) ≡ Cells pw ph
-    → (n ≡ 0) × (pw ≡ map_width v) × (ph ≡ map_height v)
-cells_is v zero pw ph e = (refl, (cc), (cc))
-cells_is v (suc n) pw ph e = let z : ◌≡◌ {A = ℕ} 0 1 = cc in absurd (omega arith)
-
-refused-is : (v : View) (n m : ℕ) → unless Refused n (Cells (map_width v) (map_height v)) ≡ Refused m → (n ≡ m) × (0 < m)
-refused-is v zero m e = let z : ◌≡◌ {A = ℕ} 0 1 = cc in absurd (omega arith)
-refused-is v (suc n) m e = let q : suc n ≡ m = cc in (q, omega arith)
-
-module _ (v : View) {cs : List Float} (radius : ℕ) (d e : List Float) (r : Patch) (p : MapMade v cs radius d r e) where
+module _ (v : View) {cs : List Float} (radius : ℕ) (d e : List Float) (r : Result Patch Refusal) (p : MapMade v cs radius d r e) where
   -- a map was made
-  pub filled : (pw ph : ℕ) → r ≡ Cells pw ph → Made v cs d e pw ph
+  pub filled : (pw ph : ℕ) → r ≡ Ok (record { w = pw; h = ph }) → Made v cs d e pw ph
   filled pw ph c =
-      let q = cells_is v (refusal_of v radius (length d)) pw ph (sym p.answer ∙ c) in
+      let q = judged-ok _ _ _ (sym c ∙ p.answer) in
+      let cols = ap (λ (m : Patch). m.w) q.1 in
+      let rows = ap (λ (m : Patch). m.h) q.1 in
       record {
-        cols-are = q.1;
-        rows_are = q.2;
-        enough = rw (q.1, q.2) (taken _ _ _ _ _ _ (sym (number_of v radius (length d)) ∙ q.0)).enough;
+        cols-are = cols;
+        rows_are = rows;
+        enough = rw (cols, rows) (taken _ _ _ _ _ _ (sym (number_of v radius (length d)) ∙ q.0)).enough;
         fills = p.buffer ∙ rw q.0;
       }
 
   -- or refused, and the buffer is as it was
-  pub refused : (n : ℕ) → r ≡ Refused n → (refusal_of v radius (length d) ≡ n) × (e ≡ d)
-  refused n c =
-      let q = refused-is v (refusal_of v radius (length d)) n (sym p.answer ∙ c) in
-      (q.0, p.buffer ∙ refused-keeps (refusal_of v radius (length d)) (front cs d) d (rw q.0 q.1))
+  pub refused : (x : Refusal) → r ≡ Err x → (refusal_of v radius (length d) ≡ refusal_number x) × (e ≡ d)
+  refused x c = (
+    sym p.number ∙ rw c,
+    p.buffer ∙ refused-stays _ _ x _ d (sym c ∙ p.answer),
+  )
 
   -- where nothing refuses, a map is made
   module _ (none : refusal_of v radius (length d) ≡ 0) where
-    pub accepted : r ≡ Cells (map_width v) (map_height v)
+    pub accepted : r ≡ Ok (record { w = map_width v; h = map_height v })
     accepted = p.answer ∙ rw none
 
-    pub never-refused : (n : ℕ) → r ≡ Refused n → ⊥
-    never-refused n c = let z : ◌≡◌ {A = ℕ} 0 1 = cc accepted in omega arith
+    pub never-refused : (x : Refusal) → r ≡ Err x → ⊥
+    never-refused x c = refused-some _ _ x (sym c ∙ p.answer) none
 
 -- ---- the map
 pub cells-length : (v : View) → length (cells v) ≡ map_height v * map_width v

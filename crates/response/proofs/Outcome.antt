@@ -3,18 +3,23 @@ use mathlib.Core.Path.{◌≡◌, refl, sym, subst, ◌∙◌}
 use mathlib.Core.Logic.{◌⊎◌}
 use mathlib.Core.Bool.{Bool, true, false, cond, not}
 use mathlib.Core.List.{List, [], ◌∷◌, ◌++◌}
-use Prim.Native.Nat.{ℕ, zero, suc, ◌+◌, ◌*◌, ◌≤◌}
+use Prim.Native.Nat.{ℕ, ◌+◌, ◌*◌, ◌≤◌}
 use native.Mathlib.Nat.{mul-le-mul, mul_comm, le_trans, le_of_eq}
 use native.Mathlib.Omega.{arith}
 use borrow.Author.Tests.{ltb-false, not-false, eq-eqb, le-ltb}
+use Rattle.std.specs.Prelude.{Result, Ok, Err}
 use lib.Dec.{eqb, ltb}
 use lib.Ieee.{Float}
 use lib.ListN.{length, drop}
 use Rattle.lists.specs.Limits.{largest_side}
 use Rattle.float32.specs.Float32.{zero as zero32}
 use Rattle.lists.specs.Tab.{grid}
+use Rattle.lists.specs.Buffer.{front}
+use Rattle.lists.specs.declared.refusal.Refusal.{Refusal}
+use Rattle.lists.specs.Refusals.{judged, verdict, result_or}
 use Rattle.lists.specs.Internal.{Sized}
 use Rattle.lists.proofs.Refusals.{lowest-none, sized-none}
+use Rattle.lists.proofs.Judged.{number-judged, values-judged, judged-ok, judged-err, refused-stays}
 use Rattle.lists.proofs.Tab.{length-grid, grid-ext}
 use Rattle.ring.specs.Ring.{ring_of, is_ring}
 use Rattle.ring.proofs.Places.{radius-is, ring_is, ring-fits}
@@ -23,7 +28,6 @@ use Rattle.response.specs.Patch.{View, side_of, besides, map_width, map_height, 
 use Rattle.response.specs.Patch.{refusal_of, MapMade, Patched, InnerPatched}
 use Rattle.response.specs.Internal.{refusal_for}
 use Rattle.response.specs.declared.Patch.{Patch}
-use Rattle.response.specs.declared.Patch.TheVariants.{Cells, Refused}
 use Rattle.response.proofs.Inside.{far-off}
 
 -- ---- no refusal: an image, one of the two rings, and places enough
@@ -91,30 +95,37 @@ module _ (v : View) where
   area_in = le_trans (mul-le-mul rows-le cols-le) (le_of_eq (mul_comm v.h v.w))
 
 -- ---- what a call answers and leaves
-pub number_is : (v : View) (radius places n pw ph : ℕ) → n ≡ refusal_for (length v.img) v.w v.h radius (ph * pw) places
-    → pw ≡ map_width v → ph ≡ map_height v → n ≡ refusal_of v radius places
-number_is v radius places n pw ph e c r = rw (e, c, r, number_of v radius places)
-
 module _ (v : View) (radius : ℕ) (d : List Float) where
-  pub when-refused : (cs : List Float) (n : ℕ) → n ≡ refusal_of v radius (length d) → (n ≡ 0 → ⊥) → MapMade v cs radius d (Refused n) d
-  when-refused cs zero e z = absurd (z refl)
-  when-refused cs (suc n) e z = record { answer = rw (← e); number = e; values = rw (← e); buffer = rw (← e) }
+  -- by its answer
+  pub made : (cs : List Float) (r : Result Patch Refusal) (e : List Float)
+      → r ≡ judged (refusal_of v radius (length d)) (record { w = map_width v; h = map_height v })
+      → e ≡ result_or (refusal_of v radius (length d)) (front cs d) d → MapMade v cs radius d r e
+  unfolding refusal_of
+  made cs r e p b = record { answer = p; number = number-judged _ _ p (grind arith); values = values-judged _ _ _ p; buffer = b }
 
-  -- what the rows fill is what the map holds
-  pub when-filled : (margin n pw ph x y : ℕ) (e : List Float) → n ≡ refusal_of v radius (length d) → n ≡ 0
-      → pw ≡ map_width v → ph ≡ map_height v → x ≡ left v → y ≡ top v
-      → e
-      ≡ grid pw ph (λ i j. cond (is_within margin pw ph i j) (response_at v.img v.w v.h v.ring (x + i) (y + j)) zero32)
-      ++ drop (ph * pw) d
-      → InnerPatched v margin radius d (Cells pw ph) e
-  unfolding inner_cells
-  when-filled margin n pw ph x y e q z c r l t f =
-      record {
-        answer = rw (← q, z, c, r);
-        number = sym z ∙ q;
-        values = rw (← q, z, c, r);
-        buffer = f ∙ rw (← q, z, c, r, l, t, length-grid (map_width v) (map_height v));
-      }
+  -- that of the box's sides
+  module _ (pw ph : ℕ) (across : pw ≡ map_width v) (down : ph ≡ map_height v) where
+    same : refusal_for (length v.img) v.w v.h radius (ph * pw) (length d) ≡ refusal_of v radius (length d)
+    same = rw (across, down, number_of v radius (length d))
+
+    pub when-refused : (cs : List Float) (e : Refusal) → Err e ≡ verdict (refusal_for (length v.img) v.w v.h radius (ph * pw) (length d))
+        → MapMade v cs radius d (Err e) d
+    when-refused cs e p =
+        let q = rw same at p in
+        made cs (Err e) d (judged-err _ _ _ e q) (sym (refused-stays _ _ e _ d q))
+
+    -- what the rows fill is what the map holds
+    pub when-filled : (ok : Unit {0}) → Ok ok ≡ verdict (refusal_for (length v.img) v.w v.h radius (ph * pw) (length d))
+        → (margin x y : ℕ) (e : List Float) → x ≡ left v → y ≡ top v
+        → e
+        ≡ grid pw ph (λ i j. cond (is_within margin pw ph i j) (response_at v.img v.w v.h v.ring (x + i) (y + j)) zero32)
+        ++ drop (ph * pw) d
+        → InnerPatched v margin radius d (Ok (record { w = pw; h = ph })) e
+    unfolding inner_cells
+    when-filled ok p margin x y e l t f =
+        let z = sym same ∙ (judged-ok _ _ ok p).0 in
+        made (inner_cells v margin) _ e (rw (z, across, down))
+        (f ∙ rw (z, across, down, l, t, length-grid (map_width v) (map_height v)))
 
 -- ---- without a margin all cells are computed
 pub inner-all : (v : View) → inner_cells v 0 ≡ cells v
@@ -123,6 +134,7 @@ inner-all v =
     grid-ext (map_width v) (map_height v) (inner_in v 0) (response_in v)
     (λ i j p q. rw (far-off 0 (map_width v) (map_height v) i j (omega arith) (omega arith) (omega arith) (omega arith)))
 
-pub all-patched : (v : View) (radius : ℕ) (d : List Float) (r : Patch) (e : List Float) → InnerPatched v 0 radius d r e
+pub all-patched : (v : View) (radius : ℕ) (d : List Float) (r : Result Patch Refusal) (e : List Float)
+    → InnerPatched v 0 radius d r e
     → Patched v radius d r e
 all-patched v radius d r e p = subst (λ (cs : List Float). MapMade v cs radius d r e) (inner-all v) p

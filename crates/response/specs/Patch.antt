@@ -1,13 +1,13 @@
 -- The response map of a box of an image: the clipped box, the refusals, the answer and the buffer.
-use Rattle.std.specs.Prelude.{ℕ, ◌+◌, ◌*◌, min, ◌-◌, ◌≡◌, cond, not, List, [], ◌∷◌, ltb, eqb, length, Float}
+use Rattle.std.specs.Prelude.{ℕ, ◌+◌, ◌*◌, min, ◌-◌, ◌≡◌, cond, not, List, [], ◌∷◌, ltb, eqb, length, Float, Result}
 use Rattle.float32.specs.Float32.{zero}
 use Rattle.lists.specs.Tab.{grid}
 use Rattle.lists.specs.Buffer.{front}
-use Rattle.lists.specs.Refusals.{lowest, values_unless, is_large, is_misfit, unless, result_or}
+use Rattle.lists.specs.declared.refusal.Refusal.{Refusal}
+use Rattle.lists.specs.Refusals.{lowest, number_of, values_by, values_unless, is_large, is_misfit, judged, result_or}
 use Rattle.ring.specs.Ring.{Ring, is_ring}
 use Rattle.response.specs.Response.{is_within, response_at}
 use Rattle.response.specs.declared.Patch.{Patch}
-use Rattle.response.specs.declared.Patch.TheVariants.{Cells, Refused}
 
 -- what a map shows: columns x0 up to, not including, x1 of rows y0 up to y1 of an image of w by h, with a ring
 pub record View : Type 0 where
@@ -73,28 +73,23 @@ refusal_of v radius places =
     ∷ (ltb places (map_height v * map_width v), 8)
     ∷ [])
 
--- the number and the values of each case (RULES 3.8): 0 for no refusal, and the map's sides
-abbrev pub number_of : Patch → ℕ
-number_of (Cells pw ph) = 0
-number_of (Refused number) = number
-
-abbrev pub values_of : Patch → List ℕ
-values_of (Cells pw ph) = pw ∷ ph ∷ []
-values_of (Refused number) = []
+-- the values of an answer (RULES 3.8): the map's sides
+abbrev pub values_of : Result Patch Refusal → List ℕ
+values_of = values_by (λ m. m.w ∷ m.h ∷ [])
 
 -- what is promised about a map of v with the cells cs: r is the answer, and the buffer d becomes e: the cells at its
 -- start and the rest unchanged; if the call is refused, all of it unchanged
-pub record MapMade (v : View) (cs : List Float) (radius : ℕ) (d : List Float) (r : Patch)
+pub record MapMade (v : View) (cs : List Float) (radius : ℕ) (d : List Float) (r : Result Patch Refusal)
     (e : List Float) : Type 0 where
-  pub answer : r ≡ unless Refused (refusal_of v radius (length d)) (Cells (map_width v) (map_height v))
+  pub answer : r ≡ judged (refusal_of v radius (length d)) (record { w = map_width v; h = map_height v })
   pub number : number_of r ≡ refusal_of v radius (length d)
   pub values : values_of r ≡ values_unless (refusal_of v radius (length d)) (map_width v ∷ map_height v ∷ [])
   pub buffer : e ≡ result_or (refusal_of v radius (length d)) (front cs d) d
 
 -- the promise of `chess_response_u8_patch`: all cells
-abbrev pub Patched : View → ℕ → List Float → Patch → List Float → Type 0
+abbrev pub Patched : View → ℕ → List Float → Result Patch Refusal → List Float → Type 0
 Patched v = MapMade v (cells v)
 
 -- and of `inner_patch`: those inside a margin (RULES 3.9)
-abbrev pub InnerPatched : View → ℕ → ℕ → List Float → Patch → List Float → Type 0
+abbrev pub InnerPatched : View → ℕ → ℕ → List Float → Result Patch Refusal → List Float → Type 0
 InnerPatched v margin = MapMade v (inner_cells v margin)

@@ -8,9 +8,12 @@ mod runs; // runs.rt: runs of cells
 mod tile; // tile.rt: the pixels of a block
 
 ghost use Rattle.std.specs.Prelude.{◌≡◌, ◌*◌, ◌≤◌};
+ghost use Rattle.lists.specs.Refusals.{verdict};
 ghost use Rattle.ring.specs.Ring.{ring_of};
 ghost use Rattle.response.specs.Patch.{side_of, besides, InnerPatched, Patched};
 ghost use Rattle.response.specs.Internal.{refusal_for};
+
+use lists::Refusal;
 
 // What is kept from the pairs of opposite samples read so far: SR, DR and the sum, and the sums of the first four
 // pairs. Public because a promise mentions it.
@@ -36,34 +39,39 @@ fn beside(own: usize, other: usize) -> usize
     if other == 0 { 0 } else { own }
 }
 
-// The number of the refusal of a map of pw by ph cells, 0 for none.
-fn refusal(pixels: usize, w: usize, h: usize, ring: u32, pw: usize, ph: usize, places: usize) -> u8
+// Why no map of pw by ph cells of an image with so many pixels is made in a buffer with so many places.
+fn refusal(
+    pixels: usize,
+    w: usize,
+    h: usize,
+    ring: u32,
+    pw: usize,
+    ph: usize,
+    places: usize,
+) -> Result<(), Refusal>
     requires { (pw ≤ w) × (ph ≤ h) }
-    ensures { result ≡ refusal_for pixels w h ring (ph * pw) places }
+    ensures { result ≡ verdict (refusal_for pixels w h ring (ph * pw) places) }
 {
-    let number = image_size::refusal(pixels, w, h);
-    if number != 0 {
-        return number;
-    }
+    image_size::refusal(pixels, w, h)?;
     if !ring::is_ring(ring) {
-        return 3;
+        return Err(Refusal::OutOfRange);
     }
     if places < ph * pw {
-        return 8;
+        return Err(Refusal::MapTooShort);
     }
-    0
+    Ok(())
 }
 
-// A map of w by h cells at the start of the buffer, or the number of a refusal, which leaves the buffer as it was.
+// The sides of a map, whose cells are at the start of the buffer.
 #[derive(Clone, Copy)]
-pub enum Patch {
-    Cells { w: usize, h: usize },
-    Refused(u8),
+pub struct Patch {
+    pub w: usize,
+    pub h: usize,
 }
 
 // The responses of the cells in the columns x0 up to x1 and the rows y0 up to y1 of an image of w by h pixels, in row
 // order at the start of `map`. Cells nearer than `margin` to an edge of the box are 0. The box is clipped to the image.
-// The ring's radius is 5 or 10.
+// The ring's radius is 5 or 10. A refusal leaves the buffer as it was.
 pub fn inner_patch(
     img: &[u8],
     w: usize,
@@ -75,7 +83,7 @@ pub fn inner_patch(
     y1: usize,
     margin: usize,
     map: &mut [f32],
-) -> Patch
+) -> Result<Patch, Refusal>
     ensures { InnerPatched (record
         { img = img.now; w = w; h = h; ring = ring_of ring; x0 = x0; y0 = y0; x1 = x1; y1 = y1 })
         margin ring map.old result map.new }
@@ -84,12 +92,9 @@ pub fn inner_patch(
     let down = side(h, y0, y1);
     let pw = beside(across, down);
     let ph = beside(down, across);
-    let number = refusal(img.len(), w, h, ring, pw, ph, map.len());
-    if number != 0 {
-        return Patch::Refused(number);
-    }
+    refusal(img.len(), w, h, ring, pw, ph, map.len())?;
     rows::fill(img, w, h, ring, x0.min(w), y0.min(h), pw, ph, margin, map);
-    Patch::Cells { w: pw, h: ph }
+    Ok(Patch { w: pw, h: ph })
 }
 
 // The same for all cells.
@@ -103,7 +108,7 @@ pub fn chess_response_u8_patch(
     x1: usize,
     y1: usize,
     map: &mut [f32],
-) -> Patch
+) -> Result<Patch, Refusal>
     ensures { Patched (record
         { img = img.now; w = w; h = h; ring = ring_of ring; x0 = x0; y0 = y0; x1 = x1; y1 = y1 }) ring
         map.old result map.new }

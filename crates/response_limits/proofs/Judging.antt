@@ -2,14 +2,18 @@
 use mathlib.Core.Path.{◌≡◌, refl, sym, ◌∙◌}
 use mathlib.Core.Bool.{false, not}
 use mathlib.Core.List.{List, [], ◌∷◌, ◌++◌}
-use Prim.Native.Nat.{ℕ, zero, suc, ◌*◌, ◌≤◌}
+use Prim.Native.Nat.{ℕ, ◌*◌, ◌≤◌}
 use native.Mathlib.Nat.{mul_comm}
 use native.Mathlib.Omega.{arith}
 use lib.Dec.{ltb}
 use lib.ListN.{length, drop}
 use lib.IntN.{ℤ}
 use borrow.Author.Tests.{ltb-false, not-false, eq-eqb, ne_eqb}
-use Rattle.lists.specs.Refusals.{lowest}
+use Rattle.std.specs.Prelude.{Result, Ok, Err}
+use Rattle.lists.specs.Buffer.{front}
+use Rattle.lists.specs.declared.refusal.Refusal.{Refusal}
+use Rattle.lists.specs.Refusals.{lowest, verdict, result_or}
+use Rattle.lists.proofs.Judged.{number-judged, judged-ok, refused-stays}
 use Rattle.lists.specs.Internal.{Sized}
 use Rattle.lists.proofs.Refusals.{all-clear, sized_of}
 use Rattle.lists.proofs.Tab.{length-grid}
@@ -17,14 +21,13 @@ use Rattle.image_size.proofs.Judged.{passed}
 use Rattle.ring.specs.Ring.{ring_of, is_ring}
 use Rattle.ring.proofs.Places.{ring_is, radius-is}
 use Rattle.response_limits.specs.Limits.{low_at, high_at, low_map, high_map}
-use Rattle.response_limits.specs.Promise.{is_crossed, conditions, refusal_of, LimitsWritten}
-use Rattle.response_limits.specs.declared.Limits.TheVariants.{Written, Refused}
+use Rattle.response_limits.specs.Promise.{is_crossed, conditions, refusal_of, values_of, LimitsWritten}
 
 -- ---- the ladder
 module _ (low high : List ℕ) (w h ring lows highs : ℕ) (s : Sized (length low) w h) where
-  pub by_length : (length high ≡ length low → ⊥) → 2 ≡ refusal_of low high w h ring lows highs
+  pub by_length : (length high ≡ length low → ⊥) → refusal_of low high w h ring lows highs ≡ 2
   unfolding refusal_of
-  by_length n = sym (passed (length low) w h _ s ∙ rw (ne_eqb (length high) (w * h) (λ e. n (e ∙ sym s.sized))))
+  by_length n = passed (length low) w h _ s ∙ rw (ne_eqb (length high) (w * h) (λ e. n (e ∙ sym s.sized)))
 
   pub by-rest : length high ≡ length low
       → refusal_of low high w h ring lows highs
@@ -59,19 +62,35 @@ given low high w h ring lows highs e =
 
 -- ---- what a call answers and leaves
 module _ (low high : List ℕ) (w h ring : ℕ) (d e : List ℤ) where
-  pub when-refused : (n : ℕ) → n ≡ refusal_of low high w h ring (length d) (length e) → (n ≡ 0 → ⊥)
-      → LimitsWritten low high w h ring d e (Refused n) d e
-  when-refused zero q z = absurd (z refl)
-  when-refused (suc n) q z = record { answer = rw (← q); number = q; values = refl; lows_are = rw (← q); highs_are = rw (← q) }
+  abbrev number : ℕ
+  number = refusal_of low high w h ring (length d) (length e)
 
-  pub when-written : (n : ℕ) (lows highs : List ℤ) → n ≡ refusal_of low high w h ring (length d) (length e) → n ≡ 0
+  limits-written : (r : Result (Unit {0}) Refusal) (lows highs : List ℤ) → r ≡ verdict number
+      → lows ≡ result_or number (front (low_map low high w h (ring_of ring)) d) d
+      → highs ≡ result_or number (front (high_map low high w h (ring_of ring)) e) e
+      → LimitsWritten low high w h ring d e r lows highs
+  unfolding refusal_of
+  limits-written r lows highs q a b = record {
+    answer = q;
+    number = number-judged _ _ q (grind arith);
+    values = none r;
+    lows_are = a;
+    highs_are = b;
+  }
+    where
+      none : (r : Result (Unit {0}) Refusal) → values_of r ≡ []
+      none (Ok done) = refl
+      none (Err x) = refl
+
+  pub when-refused : (x : Refusal) → Err x ≡ verdict number → LimitsWritten low high w h ring d e (Err x) d e
+  when-refused x q =
+      limits-written (Err x) d e q (sym (refused-stays _ _ x _ d q)) (sym (refused-stays _ _ x _ e q))
+
+  pub when-written : (ok : Unit {0}) → Ok ok ≡ verdict number → (lows highs : List ℤ)
       → lows ≡ low_map low high w h (ring_of ring) ++ drop (h * w) d → highs ≡ high_map low high w h (ring_of ring) ++ drop (h * w) e
-      → LimitsWritten low high w h ring d e Written lows highs
-  when-written n lows highs q z a b =
-      record {
-        answer = rw (← q, z);
-        number = sym z ∙ q;
-        values = refl;
-        lows_are = a ∙ rw (← q, z, length-grid w h (low_at low high w h (ring_of ring)));
-        highs_are = b ∙ rw (← q, z, length-grid w h (high_at low high w h (ring_of ring)));
-      }
+      → LimitsWritten low high w h ring d e (Ok tt) lows highs
+  when-written ok q lows highs a b =
+      let z = (judged-ok _ _ ok q).0 in
+      limits-written (Ok tt) lows highs (rw z)
+      (a ∙ rw (z, length-grid w h (low_at low high w h (ring_of ring))))
+      (b ∙ rw (z, length-grid w h (high_at low high w h (ring_of ring))))

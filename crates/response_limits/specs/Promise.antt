@@ -1,13 +1,12 @@
 -- RULES 28.5: what a call of `response_limits` refuses, answers and leaves.
-use Rattle.std.specs.Prelude.{ℕ, ◌*◌, ◌≡◌, Bool, not, List, [], ◌∷◌, ltb, length, ℤ}
+use Rattle.std.specs.Prelude.{ℕ, ◌*◌, ◌≡◌, Bool, not, List, [], ◌∷◌, ltb, length, ℤ, Result}
 use Rattle.lists.specs.Buffer.{front}
 use Rattle.lists.specs.Places.{any}
 use Rattle.lists.specs.Tab.{tab}
-use Rattle.lists.specs.Refusals.{lowest, unless, result_or, is_large, is_misfit}
+use Rattle.lists.specs.declared.refusal.Refusal.{Refusal}
+use Rattle.lists.specs.Refusals.{lowest, number_of, values_by, verdict, result_or, is_large, is_misfit}
 use Rattle.ring.specs.Ring.{ring_of, is_ring}
 use Rattle.response_limits.specs.Limits.{range_at, low_map, high_map}
-use Rattle.response_limits.specs.declared.Limits.{Limits}
-use Rattle.response_limits.specs.declared.Limits.TheVariants.{Written, Refused}
 
 -- 15: a pixel's low value is above its high one
 abbrev pub is_crossed : List ℕ → List ℕ → Bool
@@ -30,20 +29,15 @@ conditions low high w h ring lows highs =
 unfoldable pub refusal_of : List ℕ → List ℕ → ℕ → ℕ → ℕ → ℕ → ℕ → ℕ
 refusal_of low high w h ring lows highs = lowest (conditions low high w h ring lows highs)
 
--- number and values of each case: the results are in the buffers, so the answer itself has no values
-abbrev pub number_of : Limits → ℕ
-number_of Written = 0
-number_of (Refused number) = number
-
-abbrev pub values_of : Limits → List ℕ
-values_of Written = []
-values_of (Refused number) = []
+-- the values of an answer: the results are in the buffers, so it has none itself
+abbrev pub values_of : Result (Unit {0}) Refusal → List ℕ
+values_of = values_by (λ done. [])
 
 -- the promise of `response_limits`, for the images `low` and `high` of w by h: the buffers d and e become `lows` and
 -- `highs`
-pub record LimitsWritten (low high : List ℕ) (w h ring : ℕ) (d e : List ℤ) (r : Limits)
+pub record LimitsWritten (low high : List ℕ) (w h ring : ℕ) (d e : List ℤ) (r : Result (Unit {0}) Refusal)
     (lows highs : List ℤ) : Type 0 where
-  pub answer : r ≡ unless Refused (refusal_of low high w h ring (length d) (length e)) Written
+  pub answer : r ≡ verdict (refusal_of low high w h ring (length d) (length e))
   pub number : number_of r ≡ refusal_of low high w h ring (length d) (length e)
   pub values : values_of r ≡ []
   pub lows_are : lows ≡ result_or (refusal_of low high w h ring (length d) (length e))

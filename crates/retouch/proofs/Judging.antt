@@ -1,16 +1,19 @@
 -- What each return of the ladder gives, what no refusal tells, and what a call answers and leaves. Assumes nothing.
-use mathlib.Core.Path.{◌≡◌, refl, sym, ◌∙◌}
+use mathlib.Core.Path.{◌≡◌, sym, ◌∙◌}
 use mathlib.Core.Bool.{Bool, true, false, cond, not, ◌||◌}
 use mathlib.Core.List.{List, [], ◌∷◌}
-use Prim.Native.Nat.{ℕ, zero, suc, ◌+◌, ◌*◌}
+use Prim.Native.Nat.{ℕ, ◌+◌, ◌*◌}
 use native.Mathlib.Omega.{arith}
 use lib.Dec.{leb}
 use lib.ListN.{length, length-set}
 use lib.Ieee.{Float}
-use borrow.Author.Tests.{le-ltb, eq-eqb, leb-false, not-false}
-use Rattle.lists.specs.Limits.{largest_side}
+use borrow.Author.Tests.{eq-eqb, leb-false, not-false}
 use Rattle.lists.specs.Places.{Place}
-use Rattle.lists.specs.Refusals.{lowest, is_large, is_misfit}
+use Rattle.std.specs.Prelude.{Result, Ok, Err}
+use Rattle.lists.specs.declared.refusal.Refusal.{Refusal}
+use Rattle.lists.specs.Refusals.{lowest, is_large, is_misfit, judged, verdict, result_or}
+use Rattle.lists.proofs.Judged.{number-judged, values-judged, judged-ok, judged-err, refused-stays}
+use Rattle.image_size.proofs.Judged.{refused, passed}
 use Rattle.lists.specs.Internal.{Sized}
 use Rattle.lists.proofs.Tests.{or-neither}
 use Rattle.lists.proofs.Refusals.{all-clear, sized_of}
@@ -20,42 +23,29 @@ use Rattle.ring.proofs.Places.{ring_is}
 use Rattle.retouch.specs.Retouch.{touched_count, changed, redone}
 use Rattle.retouch.specs.Promise.{place_outside, conditions, refusal_of, Retouches}
 use Rattle.retouch.specs.Internal.{PixelChecked}
-use Rattle.retouch.specs.declared.Retouched.TheVariants.{Redone, Refused}
 
 -- ---- the ladder
-module _ (pixels cells w h ring : ℕ) (q : Place) where
+module _ (pixels cells w h ring : ℕ) (q : Place) (x : Refusal) where
   -- the test of the image refuses
-  pub by-image : (n : ℕ) → n ≡ image_size.refusal_of pixels w h → (n ≡ 0 → ⊥) → n ≡ refusal_of pixels cells w h ring q
+  pub by-image : Err x ≡ verdict (image_size.refusal_of pixels w h) → Err x ≡ verdict (refusal_of pixels cells w h ring q)
   unfolding refusal_of image_size.refusal_of
-  by-image n e z = go (is_large w h) (is_misfit pixels w h) (is_misfit cells w h) _ e
+  by-image e = go (is_large w h) (is_misfit pixels w h) (is_misfit cells w h) _ e
     where
-      go : (a b c : Bool) (rest : ℕ) → n ≡ cond a 1 (cond b 2 0) → n ≡ cond a 1 (cond (b || c) 2 rest)
+      go : (a b c : Bool) (rest : ℕ) → Err x ≡ verdict (cond a 1 (cond b 2 0)) → Err x ≡ verdict (cond a 1 (cond (b || c) 2 rest))
       go true b c rest e = e
       go false true c rest e = e
-      go false false c rest e = absurd (z e)
+      go false false c rest e = absurd (let no : ⊥ = grind arith in no)
 
-  module _ (s : Sized pixels w h) where
-    -- else that of the map
-    pub by_map : (n : ℕ) → n ≡ image_size.refusal_of cells w h → (n ≡ 0 → ⊥) → n ≡ refusal_of pixels cells w h ring q
-    unfolding refusal_of image_size.refusal_of
-    by_map n e z =
-        simp (le-ltb largest_side w s.narrow, le-ltb largest_side h s.low, eq-eqb pixels (w * h) s.sized)
-        (go (is_misfit cells w h) _ (simp (le-ltb largest_side w s.narrow, le-ltb largest_side h s.low) at e))
-      where
-        go : (c : Bool) (rest : ℕ) → n ≡ cond c 2 0 → n ≡ cond c 2 rest
-        go true rest e = e
-        go false rest e = absurd (z e)
+  -- else that of the map
+  pub by_map : Sized pixels w h → Err x ≡ verdict (image_size.refusal_of cells w h) → Err x ≡ verdict (refusal_of pixels cells w h ring q)
+  unfolding refusal_of
+  by_map s e = rw (eq-eqb pixels (w * h) s.sized) (refused cells w h tt x _ e)
 
-    -- else the rest of the table
-    pub by-rest : Sized cells w h → refusal_of pixels cells w h ring q ≡ lowest ((not (is_ring ring), 3) ∷ (place_outside w h q, 14) ∷ [])
-    unfolding refusal_of
-    by-rest u =
-        simp (
-          le-ltb largest_side w s.narrow,
-          le-ltb largest_side h s.low,
-          eq-eqb pixels (w * h) s.sized,
-          eq-eqb cells (w * h) u.sized,
-        )
+-- else the rest of the table
+module _ (pixels cells w h ring : ℕ) (q : Place) (s : Sized pixels w h) where
+  pub by-rest : Sized cells w h → refusal_of pixels cells w h ring q ≡ lowest ((not (is_ring ring), 3) ∷ (place_outside w h q, 14) ∷ [])
+  unfolding refusal_of
+  by-rest u = rw (eq-eqb pixels (w * h) s.sized) (passed cells w h _ u)
 
 -- ---- no refusal
 pub ready : (img : List ℕ) (w h ring : ℕ) (q : Place) (m : List Float) → refusal_of (length img) (length m) w h ring q ≡ 0
@@ -87,15 +77,24 @@ ready-changed img w h ring q m value r =
 
 -- ---- what a call answers and leaves
 module _ (w h ring : ℕ) (q : Place) (value : ℕ) (img : List ℕ) (m : List Float) where
-  pub when-refused : (n : ℕ) → n ≡ refusal_of (length img) (length m) w h ring q → (n ≡ 0 → ⊥)
-      → Retouches w h ring q value img m (Refused n) img m
-  when-refused zero e z = absurd (z refl)
-  when-refused (suc n) e z =
-      record { answer = rw (← e); number = e; values = rw (← e); image = rw (← e); map = rw (← e) }
+  abbrev number : ℕ
+  number = refusal_of (length img) (length m) w h ring q
 
-  pub when-redone : (n cells : ℕ) (img' : List ℕ) (m' : List Float) → n ≡ refusal_of (length img) (length m) w h ring q → n ≡ 0
-      → img' ≡ changed img w q value
+  retouches : (r : Result ℕ Refusal) (img' : List ℕ) (m' : List Float) → r ≡ judged number (touched_count w h (ring_of ring) q)
+      → img' ≡ result_or number (changed img w q value) img
+      → m' ≡ result_or number (redone (changed img w q value) w h (ring_of ring) q m) m
+      → Retouches w h ring q value img m r img' m'
+  unfolding refusal_of
+  retouches r img' m' a i b =
+      record { answer = a; number = number-judged _ _ a (grind arith); values = values-judged _ _ _ a; image = i; map = b }
+
+  pub when-refused : (e : Refusal) → Err e ≡ verdict number → Retouches w h ring q value img m (Err e) img m
+  when-refused e p =
+      retouches (Err e) img m (judged-err _ _ _ e p) (sym (refused-stays _ _ e _ img p)) (sym (refused-stays _ _ e _ m p))
+
+  pub when-redone : (ok : Unit {0}) → Ok ok ≡ verdict number → (cells : ℕ) (img' : List ℕ) (m' : List Float) → img' ≡ changed img w q value
       → cells ≡ touched_count w h (ring_of ring) q → m' ≡ redone img' w h (ring_of ring) q m
-      → Retouches w h ring q value img m (Redone cells) img' m'
-  when-redone n cells img' m' e z i c d =
-      record { answer = rw (← e, z, c); number = sym z ∙ e; values = rw (← e, z, c); image = rw (← e, z) i; map = rw (← e, z) (d ∙ rw i) }
+      → Retouches w h ring q value img m (Ok cells) img' m'
+  when-redone ok p cells img' m' i c d =
+      let z = (judged-ok _ _ ok p).0 in
+      retouches (Ok cells) img' m' (rw (z, c)) (rw z i) (rw z (d ∙ rw i))

@@ -12,7 +12,9 @@ use lib.Seq.{set_split}
 use lib.Ieee.{Float}
 use borrow.Rule.Slice.PartMut.{put_mid}
 use Rattle.float32.specs.Float32.{zero}
+use Rattle.std.specs.Prelude.{Result}
 use Rattle.lists.specs.Places.{Place}
+use Rattle.lists.specs.declared.refusal.Refusal.{Refusal}
 use Rattle.lists.specs.Internal.{Sized}
 use Rattle.lists.proofs.Places.{in_map}
 use Rattle.lists.proofs.Buffer.{put-placed}
@@ -63,7 +65,7 @@ module _ (img : List ℕ) (w h ring : ℕ) (image : Sized (length img) w h) (kno
   first_cell : (d e : List Float) (pw ph : ℕ) → Filled box d e pw ph → 0 < pw → 0 < ph → get_or e 0 zero ≡ response_in box 0 0
   first_cell d e pw ph f p q = ap (λ (n : ℕ). get_or e n zero) (omega arith) ∙ cell_at box d e pw ph f 0 0 zero p q
 
-  one_cell : (d e : List Float) (r : Patch) → length d ≡ 1 → Patched box ring d r e → e ≡ response_at img w h (ring_of ring) i j ∷ []
+  one_cell : (d e : List Float) (r : Result Patch Refusal) → length d ≡ 1 → Patched box ring d r e → e ≡ response_at img w h (ring_of ring) i j ∷ []
   one_cell d e r l p =
       let f = filled box ring d e r p _ _ (accepted box ring d e r p (taken (length d) l)) in
       let wide = box-cols box (omega arith) (omega arith) (omega arith) (omega arith) in
@@ -126,7 +128,7 @@ module _ (img : List ℕ) (w h ring : ℕ) (q : Place) (m : List Float) (g : Pix
         own
         (redone-one img w h (ring_of ring) q m long p fit)
 
-    pub cell-redone : (d e : List Float) (r : Patch) → length d ≡ 1
+    pub cell-redone : (d e : List Float) (r : Result Patch Refusal) → length d ≡ 1
         → Patched (record { img = img; w = w; h = h; ring = ring_of ring; x0 = i; y0 = j; x1 = i + 1; y1 = j + 1 }) ring d r e
         → Leaves img w h ring q m p (put_mid (j * w + i) (j * w + i + 1 - (j * w + i)) m e) 1
     cell-redone d e r l f =

@@ -1,11 +1,10 @@
 -- RULES 27.4: what a call of `retouch` refuses, answers and leaves.
-use Rattle.std.specs.Prelude.{ℕ, ◌≡◌, Bool, not, ◌||◌, List, [], ◌∷◌, leb, length, Float}
+use Rattle.std.specs.Prelude.{ℕ, ◌≡◌, Bool, not, ◌||◌, List, [], ◌∷◌, leb, length, Float, Result}
 use Rattle.lists.specs.Places.{Place}
-use Rattle.lists.specs.Refusals.{lowest, unless, values_unless, result_or, is_large, is_misfit}
+use Rattle.lists.specs.declared.refusal.Refusal.{Refusal}
+use Rattle.lists.specs.Refusals.{lowest, number_of, values_by, values_unless, judged, result_or, is_large, is_misfit}
 use Rattle.ring.specs.Ring.{ring_of, is_ring}
 use Rattle.retouch.specs.Retouch.{touched_count, changed, redone}
-use Rattle.retouch.specs.declared.Retouched.{Retouched}
-use Rattle.retouch.specs.declared.Retouched.TheVariants.{Redone, Refused}
 
 -- 14: the place is not in an image of w by h
 abbrev pub place_outside : ℕ → ℕ → Place → Bool
@@ -21,21 +20,16 @@ conditions pixels cells w h ring q =
 unfoldable pub refusal_of : ℕ → ℕ → ℕ → ℕ → ℕ → Place → ℕ
 refusal_of pixels cells w h ring q = lowest (conditions pixels cells w h ring q)
 
--- the number and the values of each case: 0 for no refusal, and how many cells were recomputed
-abbrev pub number_of : Retouched → ℕ
-number_of (Redone cells) = 0
-number_of (Refused number) = number
-
-abbrev pub values_of : Retouched → List ℕ
-values_of (Redone cells) = cells ∷ []
-values_of (Refused number) = []
+-- the values of an answer: how many cells were recomputed
+abbrev pub values_of : Result ℕ Refusal → List ℕ
+values_of = values_by (λ cells. cells ∷ [])
 
 -- the promise of `retouch`, for the pixel q of an image of w by h and its new value: the image becomes `image`, and the
 -- map `map`; both are unchanged if the call is refused
-pub record Retouches (w h ring : ℕ) (q : Place) (value : ℕ) (img : List ℕ) (m : List Float) (r : Retouched)
+pub record Retouches (w h ring : ℕ) (q : Place) (value : ℕ) (img : List ℕ) (m : List Float) (r : Result ℕ Refusal)
     (img' : List ℕ) (m' : List Float) : Type 0 where
-  pub answer : r ≡ unless Refused (refusal_of (length img) (length m) w h ring q)
-      (Redone (touched_count w h (ring_of ring) q))
+  pub answer : r ≡ judged (refusal_of (length img) (length m) w h ring q)
+      (touched_count w h (ring_of ring) q)
   pub number : number_of r ≡ refusal_of (length img) (length m) w h ring q
   pub values : values_of r ≡ values_unless (refusal_of (length img) (length m) w h ring q)
       (touched_count w h (ring_of ring) q ∷ [])

@@ -7,9 +7,12 @@ use mathlib.Core.List.{List}
 use Rattle.lists.specs.Tab.{tab}
 use Rattle.lists.specs.Buffer.{front}
 use Rattle.stream.specs.declared.Header.{Header}
-use Rattle.stream.specs.declared.FrameStream.TheVariants.{Frame, Refused}
+use Rattle.std.specs.Prelude.{Ok, Err}
+use Rattle.lists.specs.declared.refusal.Refusal.{Refusal}
+use Rattle.lists.specs.Refusals.{refusal_number, refusal_with, number_of}
+use Rattle.lists.proofs.Judged.{with-number}
 use Rattle.stream.specs.Stream.{most_pixels, Reading, accepted, refused, read_frame}
-use Rattle.stream.specs.Answer.{answer_of, number_of, values_of, buffer_after, FrameRead}
+use Rattle.stream.specs.Answer.{answer_of, values_of, buffer_after, FrameRead}
 use Rattle.stream.specs.Internal.{header_at, pixel_count, pixel_byte, SidesInRange, Judged}
 use Rattle.stream.proofs.Order.{unless-faulty}
 
@@ -34,11 +37,13 @@ module _ (s d : List ℕ) where
       }
 
   module _ (n : ℕ) (j : Judged s n) where
-    pub refused-read : (n ≡ 0 → ⊥) → FrameRead s d (Refused n) d
-    refused-read h = told (refused n) d (j.reading ∙ unless-faulty n _ h) refl
+    pub refused-read : (e : Refusal) → refusal_number e ≡ n → (n ≡ 0 → ⊥) → FrameRead s d (Err e) d
+    refused-read e same h =
+        let answer : Err e ≡ answer_of (refused n) = ap Err (sym (with-number e)) ∙ ap (λ (k : ℕ). Err (refusal_with k)) same in
+        rw answer (told (refused n) d (j.reading ∙ unless-faulty n _ h) refl)
 
     pub frame-read : n ≡ 0 → (header : Header) (k : ℕ) (after : List ℕ) → header ≡ header_at s → k ≡ pixel_count s
-        → after ≡ front (tab k (pixel_byte s)) d → FrameRead s d (Frame header) after
+        → after ≡ front (tab k (pixel_byte s)) d → FrameRead s d (Ok header) after
     frame-read z header k after e q r =
         told (accepted header (tab (pixel_count s) (pixel_byte s))) after (j.reading ∙ rw (z, e))
         (r ∙ ap (λ (k : ℕ). front (tab k (pixel_byte s)) d) q)

@@ -1,7 +1,7 @@
 pub mod Parameters
-pub mod Padding
 pub mod Records
 pub mod PixelPlaces
+pub mod Faults
 pub mod Order
 pub mod Answer
 pub mod RoundTrip

@@ -12,7 +12,9 @@ use lib.Seq.{drop-drop}
 use lib.Dec.{eqb, ltb}
 use borrow.Author.Tests.{ne_eqb, ltb-false}
 use Rattle.lists.specs.Tab.{tab}
-use Rattle.lists.specs.Refusals.{unless}
+use Rattle.std.specs.Prelude.{Result, Ok}
+use Rattle.lists.specs.declared.refusal.Refusal.{Refusal}
+use Rattle.lists.specs.Refusals.{number_of, unless}
 use Rattle.lists.proofs.Tests.{or-neither}
 use Rattle.lists.proofs.Refusals.{lowest-none}
 use Rattle.stream.specs.declared.Header.{Header}
@@ -365,7 +367,7 @@ pub at-stage-start : (s : List ℕ) → AtStage s 0 0 0
 at-stage-start s = record { stage = start; kind-is = refl; at_is = refl; left_is = refl }
 
 module _ {s : List ℕ} {kind at left : ℕ} (st : AtStage s kind at left) where
-  pub at-stage-end : kind ≡ 4 → Stopped s (record { at = at; due = kind; left = left; fault = 0 })
+  pub at-stage-end : kind ≡ 4 → Stopped s (record { at = at; due = kind; left = left; fault = Ok tt })
   at-stage-end e =
       let p = stage-end st.stage (sym st.kind-is ∙ e) in
       record { judged = p.0; wants = p.1 }
@@ -380,12 +382,14 @@ module _ {s : List ℕ} {kind at left : ℕ} (st : AtStage s kind at left) where
     going : kind_at st.stage ≡ 4 → ⊥
     going e = more (st.kind-is ∙ e)
 
-    pub at-stage-faulty : (n ≡ 0 → ⊥) → Stopped s (record { at = at; due = k; left = left; fault = n })
-    at-stage-faulty h =
+    pub at-stage-faulty : (r : Result (Unit {0}) Refusal) → number_of r ≡ n → (n ≡ 0 → ⊥)
+        → Stopped s (record { at = at; due = k; left = left; fault = r })
+    at-stage-faulty r told h =
         let f = stage-faulty st.stage going (λ e. h (fault-is ∙ e)) in
         record {
-          judged = record { reading = f.reading ∙ ap refused (sym fault-is) ∙ sym (unless-faulty n _ h); whole = λ e. absurd (h e) };
-          wants = rw (ne_eqb n 0 h, due-is, st.at_is, st.left_is) f.wanting;
+          judged =
+              rw told (record { reading = f.reading ∙ ap refused (sym fault-is) ∙ sym (unless-faulty n _ h); whole = λ e. absurd (h e) });
+          wants = rw (told, ne_eqb n 0 h, due-is, st.at_is, st.left_is) f.wanting;
         }
 
     module _ (e : n ≡ 0) where

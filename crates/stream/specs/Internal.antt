@@ -3,7 +3,7 @@ use Rattle.std.specs.Prelude.{ℕ, ◌+◌, ◌-◌, ◌*◌, ◌/◌, ◌≤◌
 use Rattle.std.specs.Float.{binary32}
 use Rattle.std.specs.Float.Ieee.{of_bits}
 use Rattle.lists.specs.Tab.{tab}
-use Rattle.lists.specs.Refusals.{lowest, unless}
+use Rattle.lists.specs.Refusals.{lowest, number_of, unless}
 use Rattle.merge_radius.specs.MergeRadius.{radius_outside}
 use Rattle.stream.specs.declared.Header.{Header}
 use Rattle.stream.specs.declared.judging.Stop.{Stop}
@@ -20,10 +20,7 @@ due kind left = cond (eqb kind 0) 1 (cond (eqb kind 1) 2 (cond (eqb left 0) 4 3)
 unfoldable pub kind_fault : ℕ → ℕ → ℕ
 kind_fault kind due = lowest ((not (known kind), 6) ∷ (not (eqb kind due), 11) ∷ [])
 
--- the first of two faults; the faults of the parameters apart
-unfoldable pub first_fault : ℕ → ℕ → ℕ
-first_fault a b = cond (eqb a 0) b a
-
+-- the faults of the parameters apart
 unfoldable pub range_fault : ℕ → ℕ → ℕ → ℕ
 range_fault ring window centroid = lowest ((range_outside ring window centroid, 3) ∷ [])
 
@@ -62,5 +59,5 @@ pub record Judged (s : List ℕ) (fault : ℕ) : Type 0 where
 
 -- where checking ends: the fault, and the bytes that are needed there
 pub record Stopped (s : List ℕ) (r : Stop) : Type 0 where
-  pub judged : Judged s r.fault
-  pub wants : wanted s ≡ cond (eqb r.fault 0) 0 (wanted_here r.due r.left (drop r.at s))
+  pub judged : Judged s (number_of r.fault)
+  pub wants : wanted s ≡ cond (eqb (number_of r.fault) 0) 0 (wanted_here r.due r.left (drop r.at s))

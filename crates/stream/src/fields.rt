@@ -1,9 +1,11 @@
 // The fields of the records of kinds 1 and 2: the header that they state, and their faults.
 ghost use Rattle.std.specs.Prelude.{◌≡◌, ◌+◌, ◌≤◌, length};
+ghost use Rattle.lists.specs.Refusals.{verdict};
 ghost use Rattle.stream.specs.Stream.{u8, u16, u32, header_of, sides_fault, parameters_fault};
-ghost use Rattle.stream.specs.Internal.{first_fault, range_fault, radius_fault};
+ghost use Rattle.stream.specs.Internal.{range_fault, radius_fault};
 
 use crate::Header;
+use lists::Refusal;
 
 pub(crate) fn u16_at(s: &[u8], at: usize) -> u16
     requires { at + 2 ≤ length s.now }
@@ -38,56 +40,48 @@ pub(crate) fn header_of(sides: &[u8], parameters: &[u8]) -> Header
     }
 }
 
-pub(crate) fn sides_fault(body: &[u8]) -> u8
+pub(crate) fn sides_fault(body: &[u8]) -> Result<(), Refusal>
     requires { length body.now ≡ 4 }
-    ensures { result ≡ sides_fault (u16 body.now 0) (u16 body.now 2) }
+    ensures { result ≡ verdict (sides_fault (u16 body.now 0) (u16 body.now 2)) }
 {
     if crate::LARGEST_STREAM_SIDE < usize::from(u16_at(body, 0)) {
-        return 1;
+        return Err(Refusal::SideTooLarge);
     }
     if crate::LARGEST_STREAM_SIDE < usize::from(u16_at(body, 2)) {
-        return 1;
+        return Err(Refusal::SideTooLarge);
     }
-    0
+    Ok(())
 }
 
-// The first of two faults.
-fn first(a: u8, b: u8) -> u8
-    ensures { result ≡ first_fault a b }
-{
-    if a == 0 { b } else { a }
-}
-
-fn range_fault(ring: u8, window: u8, centroid_radius: u8) -> u8
-    ensures { result ≡ range_fault ring window centroid_radius }
+fn range_fault(ring: u8, window: u8, centroid_radius: u8) -> Result<(), Refusal>
+    ensures { result ≡ verdict (range_fault ring window centroid_radius) }
 {
     if frame_params::is_outside(
         u32::from(ring),
         u32::from(window),
         u32::from(centroid_radius),
     ) {
-        return 3;
+        return Err(Refusal::OutOfRange);
     }
-    0
+    Ok(())
 }
 
-fn radius_fault(bits: u32) -> u8
-    ensures { result ≡ radius_fault bits }
+fn radius_fault(bits: u32) -> Result<(), Refusal>
+    ensures { result ≡ verdict (radius_fault bits) }
 {
     let radius = float32::from_bits(bits);
     if merge_radius::is_outside(radius) {
-        5
-    } else {
-        0
+        return Err(Refusal::RadiusOutside);
     }
+    Ok(())
 }
 
-pub(crate) fn parameters_fault(body: &[u8]) -> u8
+pub(crate) fn parameters_fault(body: &[u8]) -> Result<(), Refusal>
     requires { length body.now ≡ 16 }
-    ensures { result ≡ parameters_fault (u8 body.now 0) (u8 body.now 5)
-        (u8 body.now 7) (u32 body.now 8) }
+    ensures { result ≡ verdict (parameters_fault (u8 body.now 0) (u8 body.now 5) (u8 body.now 7)
+        (u32 body.now 8)) }
 {
     let range = range_fault(body[0], body[5], body[7]);
     let radius = radius_fault(u32_at(body, 8));
-    first(range, radius)
+    range.and(radius)
 }

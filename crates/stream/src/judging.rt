@@ -1,8 +1,10 @@
 // The records in their order, up to the earliest fault.
 ghost use Rattle.std.specs.Prelude.{◌≡◌, ◌≤◌, length};
+ghost use Rattle.lists.specs.Refusals.{number_of};
 ghost use Rattle.stream.specs.Internal.{due, left_after, Stopped, Judged};
 
 use crate::{kinds, pixels};
+use lists::Refusal;
 
 // Where checking ends: the place of a record, the kind expected there, the pixels that have not come yet, and the
 // record's fault. Without a fault it is the end of the stream.
@@ -11,7 +13,7 @@ pub(crate) struct Stop {
     pub at: usize,
     pub due: u8,
     pub left: usize,
-    pub fault: u8,
+    pub fault: Result<(), Refusal>,
 }
 
 // The kind expected after one of kind `kind` (0 at the start) if `left` pixels have not come yet.
@@ -43,10 +45,11 @@ pub(crate) fn judge(input: &[u8]) -> Stop
     let mut at = 0;
     let mut kind = 0;
     let mut left = 0;
+    // A `while`: the kind of a record decides whether another follows, and its length where.
     while kind != 4 {
         kind = due_after(kind, left);
         let fault = kinds::record_fault(input, at, kind, left);
-        if fault != 0 {
+        if fault.is_err() {
             return Stop {
                 at,
                 due: kind,
@@ -61,14 +64,13 @@ pub(crate) fn judge(input: &[u8]) -> Stop
         at,
         due: kind,
         left,
-        fault: 0,
+        fault: Ok(()),
     }
 }
 
-// The number of the earliest fault.
-pub(crate) fn stream_fault(input: &[u8]) -> u8
-    ensures { Judged input.now result }
+// The earliest fault.
+pub(crate) fn stream_fault(input: &[u8]) -> Result<(), Refusal>
+    ensures { Judged input.now (number_of result) }
 {
-    let stop = judge(input);
-    stop.fault
+    judge(input).fault
 }

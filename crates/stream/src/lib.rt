@@ -10,6 +10,7 @@ mod reading; // wanted: how much of a stream must be read
 
 ghost use Rattle.stream.specs.Answer.{FrameRead};
 
+use lists::Refusal;
 pub use reading::wanted;
 
 // Sides and parameters. Threshold and merge radius are the 32 bits as read: a NaN may have any pattern.
@@ -28,31 +29,22 @@ pub struct Header {
     pub search_radius: u32,
 }
 
-// The header of a frame whose pixels are at the start of the buffer, or the number of the earliest fault.
-#[derive(Clone, Copy)]
-pub enum FrameStream {
-    Frame(Header),
-    Refused(u8),
-}
-
 // The largest side of a frame in a stream.
 pub const LARGEST_STREAM_SIDE: usize = 96;
 
 // The pixels of the largest.
 pub const MOST_PIXELS: usize = LARGEST_STREAM_SIDE * LARGEST_STREAM_SIDE;
 
-// Reads a frame: the image's pixels are stored at the start of the buffer, whose rest stays.
-// A refused stream changes nothing, so everything is checked before a pixel is stored.
-pub fn read_frame(input: &[u8], pixels: &mut [u8; MOST_PIXELS]) -> FrameStream
+// Reads a frame: returns its header and stores the image's pixels at the start of the buffer, whose rest stays. The
+// earliest fault refuses the stream. A refused stream changes nothing, so everything is checked before a pixel is
+// stored.
+pub fn read_frame(input: &[u8], pixels: &mut [u8; MOST_PIXELS]) -> Result<Header, Refusal>
     ensures { FrameRead input.now pixels.old result pixels.new }
 {
-    let fault = judging::stream_fault(input);
-    if fault != 0 {
-        return FrameStream::Refused(fault);
-    }
+    judging::stream_fault(input)?;
     let sides = &input[1..5];
     let parameters = &input[6..22];
     let header = fields::header_of(sides, parameters);
     pixels::store_pixels(input, header.width * header.height, pixels);
-    FrameStream::Frame(header)
+    Ok(header)
 }

@@ -2,10 +2,12 @@
 ghost use Rattle.std.specs.Prelude.{◌≡◌, ◌+◌, ◌*◌, ◌≤◌, length};
 ghost use Rattle.lists.specs.Tab.{tab};
 ghost use Rattle.lists.specs.Buffer.{front};
+ghost use Rattle.lists.specs.Refusals.{verdict};
 ghost use Rattle.stream.specs.Stream.{padding_fault, records_for};
 ghost use Rattle.stream.specs.Internal.{pixel_count, pixel_byte};
 
 use crate::fields;
+use lists::Refusal;
 
 pub(crate) fn pixel_count(input: &[u8]) -> usize
     requires { 5 ≤ length input.now }
@@ -15,15 +17,14 @@ pub(crate) fn pixel_count(input: &[u8]) -> usize
     usize::from(fields::u16_at(sides, 0)) * usize::from(fields::u16_at(sides, 2))
 }
 
-// 7 if a byte after the last pixel is not 0.
-pub(crate) fn padding_fault(body: &[u8], left: usize) -> u8
-    ensures { result ≡ padding_fault left body.now }
+// The fault of a byte after the last pixel that is not 0.
+pub(crate) fn padding_fault(body: &[u8], left: usize) -> Result<(), Refusal>
+    ensures { result ≡ verdict (padding_fault left body.now) }
 {
     if body.iter().skip(left).any(|v| *v != 0) {
-        7
-    } else {
-        0
+        return Err(Refusal::CutShort);
     }
+    Ok(())
 }
 
 // Stores the first n pixels: a byte with the kind comes before every 32.

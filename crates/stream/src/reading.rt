@@ -9,7 +9,7 @@ use crate::{judging, kinds, pixels};
 fn wanted_pixels(came: &[u8], left: usize) -> usize
     ensures { result ≡ wanted_pixel_body left came.now }
 {
-    if pixels::padding_fault(came, left) != 0 {
+    if pixels::padding_fault(came, left).is_err() {
         return 0;
     }
     let rest = 32_usize.saturating_sub(came.len());
@@ -46,7 +46,7 @@ pub fn wanted(input: &[u8]) -> usize
     ensures { result ≡ stream_wanted input.now }
 {
     let stop = judging::judge(input);
-    if stop.fault == 0 {
+    if stop.fault.is_ok() {
         return 0;
     }
     wanted_here(input, stop.at, stop.due, stop.left)

@@ -1,15 +1,19 @@
 -- What each return of the ladder gives, what no refusal tells, and what a call answers. Assumes nothing.
-use mathlib.Core.Path.{◌≡◌, refl, sym, ap, ◌∙◌}
+use mathlib.Core.Path.{◌≡◌, sym, ap, ◌∙◌}
 use mathlib.Core.Bool.{Bool, true, false, cond, ◌&&◌}
 use mathlib.Core.List.{List}
-use Prim.Native.Nat.{ℕ, zero, suc, ◌+◌, ◌*◌, ◌<◌, ◌≤◌}
+use Prim.Native.Nat.{ℕ, ◌+◌, ◌*◌, ◌<◌, ◌≤◌}
 use native.Mathlib.Omega.{arith}
 use lib.Dec.{leb, ltb}
 use lib.ListN.{length}
 use lib.IntN.{ℤ}
 use borrow.Author.Tests.{leb-true, ltb-true, leb-false, eq-eqb, ne_eqb}
 use Rattle.lists.specs.Limits.{largest_ring, largest_radius}
+use Rattle.std.specs.Prelude.{Result, Ok, Err}
 use Rattle.lists.specs.Places.{Place}
+use Rattle.lists.specs.declared.refusal.Refusal.{Refusal}
+use Rattle.lists.specs.Refusals.{judged, verdict}
+use Rattle.lists.proofs.Judged.{number-judged, values-judged, judged-ok, judged-err}
 use Rattle.lists.specs.Internal.{Sized}
 use Rattle.lists.proofs.Tests.{and_parts, and_none, or-neither}
 use Rattle.lists.proofs.Refusals.{all-clear, sized_of}
@@ -23,13 +27,12 @@ use Rattle.retouch.specs.Promise.{place_outside}
 use Rattle.sure_peak.specs.SurePeak.{is_sure}
 use Rattle.sure_peak.specs.Internal.{sure}
 use Rattle.sure_peak.specs.Promise.{conditions, refusal_of, SurePeakTold}
-use Rattle.sure_peak.specs.declared.Sure.TheVariants.{Yes, No, Refused}
 
 -- ---- the ladder
 module _ (lows highs w h ring window centroid : ℕ) (p : Place) (s : Sized lows w h) where
-  pub by_length : (highs ≡ lows → ⊥) → 2 ≡ refusal_of lows highs w h ring window centroid p
+  pub by_length : (highs ≡ lows → ⊥) → refusal_of lows highs w h ring window centroid p ≡ 2
   unfolding refusal_of
-  by_length n = sym (passed lows w h _ s ∙ rw (ne_eqb highs (w * h) (λ e. n (e ∙ sym s.sized))))
+  by_length n = passed lows w h _ s ∙ rw (ne_eqb highs (w * h) (λ e. n (e ∙ sym s.sized)))
 
   module _ (same : highs ≡ lows) where
     rest : refusal_of lows highs w h ring window centroid p
@@ -37,8 +40,8 @@ module _ (lows highs w h ring window centroid : ℕ) (p : Place) (s : Sized lows
     unfolding refusal_of
     rest = passed lows w h _ s ∙ rw (eq-eqb highs (w * h) (same ∙ s.sized))
 
-    pub by-parameters : range_outside ring window centroid ≡ true → 3 ≡ refusal_of lows highs w h ring window centroid p
-    by-parameters b = sym (rest ∙ ap (λ (t : Bool). cond t 3 (cond (place_outside w h p) 14 0)) b)
+    pub by-parameters : range_outside ring window centroid ≡ true → refusal_of lows highs w h ring window centroid p ≡ 3
+    by-parameters b = rest ∙ ap (λ (t : Bool). cond t 3 (cond (place_outside w h p) 14 0)) b
 
     pub by_place : range_outside ring window centroid ≡ false
         → refusal_of lows highs w h ring window centroid p ≡ cond (place_outside w h p) 14 0
@@ -101,39 +104,33 @@ narrower w h border r p l i =
     }
 
 -- ---- what a call answers
-module _ (lows highs : List ℤ) (w h ring threshold window least centroid : ℕ) (p : Place) (n : ℕ)
-    (e : n ≡ refusal_of (length lows) (length highs) w h ring window centroid p) where
-  pub when-refused : (n ≡ 0 → ⊥) → SurePeakTold lows highs w h ring threshold window least centroid p (Refused n)
-  when-refused z = go n e z
-    where
-      go : (n : ℕ) → n ≡ refusal_of (length lows) (length highs) w h ring window centroid p → (n ≡ 0 → ⊥)
-          → SurePeakTold lows highs w h ring threshold window least centroid p (Refused n)
-      go zero e z = absurd (z refl)
-      go (suc n) e z = record { answer = rw (← e); number = e; values = rw (← e) }
+module _ (lows highs : List ℤ) (w h ring threshold window least centroid : ℕ) (p : Place) where
+  abbrev number : ℕ
+  number = refusal_of (length lows) (length highs) w h ring window centroid p
 
-  module _ (z : n ≡ 0) where
-    told : (b : Bool) → is_sure lows highs w h ring threshold window least centroid p ≡ b
-        → SurePeakTold lows highs w h ring threshold window least centroid p (cond b Yes No)
-    told true s = record { answer = rw (← e, z, s); number = sym z ∙ e; values = rw (← e, z, s) }
-    told false s = record { answer = rw (← e, z, s); number = sym z ∙ e; values = rw (← e, z, s) }
+  told : (r : Result Bool Refusal) → r ≡ judged number (is_sure lows highs w h ring threshold window least centroid p)
+      → SurePeakTold lows highs w h ring threshold window least centroid p r
+  unfolding refusal_of
+  told r a = record { answer = a; number = number-judged _ _ a (grind arith); values = values-judged _ _ _ a }
+
+  pub when-refused : (x : Refusal) → Err x ≡ verdict number → SurePeakTold lows highs w h ring threshold window least centroid p (Err x)
+  when-refused x e = told (Err x) (judged-err _ _ _ x e)
+
+  module _ (ok : Unit {0}) (e : Ok ok ≡ verdict number) where
+    answered : (b : Bool) → is_sure lows highs w h ring threshold window least centroid p ≡ b
+        → SurePeakTold lows highs w h ring threshold window least centroid p (Ok b)
+    answered b s = told (Ok b) (rw ((judged-ok _ _ ok e).0, s))
 
     abbrev border : ℕ
     border = ring + window + centroid
 
-    pub outside-across : across w h border p ≡ false → SurePeakTold lows highs w h ring threshold window least centroid p No
-    outside-across a = told false (unfold is_sure in (rw a))
+    pub outside-across : across w h border p ≡ false → SurePeakTold lows highs w h ring threshold window least centroid p (Ok false)
+    outside-across a = answered false (unfold is_sure in (rw a))
 
-    pub outside-down : down w h border p ≡ false → SurePeakTold lows highs w h ring threshold window least centroid p No
-    outside-down d = told false (unfold is_sure in (rw (d, and_none (across w h border p))))
+    pub outside-down : down w h border p ≡ false → SurePeakTold lows highs w h ring threshold window least centroid p (Ok false)
+    outside-down d = answered false (unfold is_sure in (rw (d, and_none (across w h border p))))
 
-    module _ (a : across w h border p ≡ true) (d : down w h border p ≡ true) (b : Bool)
-        (s : b ≡ is_peak (sure lows highs w threshold) w h window least p) where
-      judged : is_sure lows highs w h ring threshold window least centroid p ≡ b
-      unfolding is_sure
-      judged = rw (a, d) (sym s)
-
-      pub is-sure : b ≡ true → SurePeakTold lows highs w h ring threshold window least centroid p Yes
-      is-sure t = told true (judged ∙ t)
-
-      pub not-sure : b ≡ false → SurePeakTold lows highs w h ring threshold window least centroid p No
-      not-sure t = told false (judged ∙ t)
+    pub inside-border : across w h border p ≡ true → down w h border p ≡ true → (b : Bool)
+        → b ≡ is_peak (sure lows highs w threshold) w h window least p
+        → SurePeakTold lows highs w h ring threshold window least centroid p (Ok b)
+    inside-border a d b s = answered b (unfold is_sure in (rw (a, d) (sym s)))

@@ -6,21 +6,15 @@ mod window; // window.rt: the cells around a place
 ghost use Rattle.std.specs.Prelude.{◌≡◌, ◌&&◌, ◌*◌, ◌+◌, ◌≤◌, leb, ltb, pos};
 ghost use Rattle.std.specs.Int.Signed.{lt_z};
 ghost use Rattle.lists.specs.Limits.{largest_side, largest_border};
+ghost use Rattle.lists.specs.Refusals.{verdict};
 ghost use Rattle.detect.specs.Peaks.{is_peak};
 ghost use Rattle.sure_peak.specs.Promise.{refusal_of, SurePeakTold};
 ghost use Rattle.sure_peak.specs.Internal.{sure, Windowed};
 
 use crate::window::count_window;
+use lists::Refusal;
 
-// Whether the place is a sure peak, or the number of the refusal.
-#[derive(Clone, Copy)]
-pub enum Sure {
-    Yes,
-    No,
-    Refused(u8),
-}
-
-// Why a call is refused, or 0: for maps of `lows` and `highs` cells.
+// Why a call is refused, for maps of `lows` and `highs` cells.
 fn refusal(
     lows: usize,
     highs: usize,
@@ -31,34 +25,29 @@ fn refusal(
     centroid: u32,
     x: usize,
     y: usize,
-) -> u8
-    ensures { result ≡ refusal_of lows highs w h ring window centroid (record { x = x; y = y }) }
+) -> Result<(), Refusal>
+    ensures { result
+        ≡ verdict (refusal_of lows highs w h ring window centroid (record { x = x; y = y })) }
 {
-    let number = image_size::refusal(lows, w, h);
-    if number != 0 {
-        return number;
-    }
+    image_size::refusal(lows, w, h)?;
     if highs != lows {
-        return 2;
+        return Err(Refusal::WrongLength);
     }
     if frame_params::is_outside(ring, window, centroid) {
-        return 3;
+        return Err(Refusal::OutOfRange);
     }
-    if w <= x {
-        return 14;
+    if w <= x || h <= y {
+        return Err(Refusal::PlaceOutside);
     }
-    if h <= y {
-        return 14;
-    }
-    0
+    Ok(())
 }
 
 // Whether a number of fifths exceeds five times the threshold. The product has 64 bits, so it does not wrap.
 fn exceeds(low: i32, threshold: u32) -> bool
     ensures { result ≡ lt_z (pos (5 * threshold)) low }
 {
-    let wide = low as i64;
-    let least = (5 * (threshold as u64)) as i64;
+    let wide = i64::from(low);
+    let least = (5 * u64::from(threshold)) as i64;
     least < wide
 }
 
@@ -67,10 +56,7 @@ fn is_inside(side: usize, border: usize, at: usize) -> bool
     requires { (border ≤ largest_border) × (at ≤ largest_side) }
     ensures { result ≡ (leb border at && ltb (at + border) side) }
 {
-    if at < border {
-        return false;
-    }
-    at + border < side
+    border <= at && at + border < side
 }
 
 // Whether the place (x, y) of two maps that contain its window is a peak by what is sure.
@@ -115,23 +101,14 @@ pub fn sure_peak(
     centroid: u32,
     x: usize,
     y: usize,
-) -> Sure
+) -> Result<bool, Refusal>
     ensures { SurePeakTold lows.now
         highs.now w h ring threshold window least centroid (record { x = x; y = y }) result }
 {
-    let number = refusal(lows.len(), highs.len(), w, h, ring, window, centroid, x, y);
-    if number != 0 {
-        return Sure::Refused(number);
-    }
+    refusal(lows.len(), highs.len(), w, h, ring, window, centroid, x, y)?;
     let border = ring as usize + window as usize + centroid as usize;
-    if !is_inside(w, border, x) {
-        return Sure::No;
+    if !is_inside(w, border, x) || !is_inside(h, border, y) {
+        return Ok(false);
     }
-    if !is_inside(h, border, y) {
-        return Sure::No;
-    }
-    if is_sure(lows, highs, w, h, window as usize, threshold, least, x, y) {
-        return Sure::Yes;
-    }
-    Sure::No
+    Ok(is_sure(lows, highs, w, h, window as usize, threshold, least, x, y))
 }

@@ -11,15 +11,7 @@ fn count_above(cells: &[i32], v: i32) -> u32
     requires { length cells.now ≤ 33 }
     ensures { result ≡ count (lt_z v) cells.now }
 {
-    let mut n: u32 = 0;
-    let mut i = 0;
-    while i < cells.len() {
-        if v < cells[i] {
-            n += 1;
-        }
-        i += 1;
-    }
-    n
+    cells.iter().filter(|cell| v < **cell).count() as u32
 }
 
 // How many cells of the window around (x, y) are above v. The centre is counted with them and subtracted.

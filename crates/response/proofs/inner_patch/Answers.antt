@@ -1,14 +1,13 @@
 -- `response::inner_patch` meets its contract: the sides are those of the clipped box, and the rows fill it. Assumes nothing.
-use mathlib.Core.Path.{◌≡◌, sym, ap₂, ◌∙◌}
-use Prim.Native.Nat.{◌*◌}
+use mathlib.Core.Path.{◌≡◌, ap₂, ◌∙◌}
 use Prim.Native.Nat.{ℕ}
 use mathlib.Core.List.{List}
-use lib.ListN.{length}
+use Rattle.lists.proofs.Judged.{judged-ok, passed-on}
 use Rattle.ring.specs.Ring.{ring_of}
-use Rattle.response.specs.Patch.{View, besides, map_width, map_height, refusal_of}
-use Rattle.response.proofs.Outcome.{Taken, taken, image, cols-in, rows_in, cols-le, rows-le, number_is, when-refused, when-filled}
+use Rattle.response.specs.Patch.{View, besides, map_width, map_height}
+use Rattle.response.proofs.Outcome.{taken, image, cols-in, rows_in, cols-le, rows-le, when-refused, when-filled}
 use Rattle.response.proofs.inner_patch.Goals as goal
-use Rattle.response.proofs.inner_patch.Goals.{After-beside-ph, After-refusal-number, Else-number-ne0}
+use Rattle.response.proofs.inner_patch.Goals.{After-beside-ph, In_ok-refusal}
 
 -- ---- where the sides are known
 
@@ -23,35 +22,21 @@ height : (c : After-beside-ph) → c.beside-ph.result
     ≡ map_height (view c.args.img.now c.args.w c.args.h c.args.ring c.args.x0 c.args.y0 c.args.x1 c.args.y1)
 height c = c.beside-ph.ensures ∙ ap₂ besides c.side-down.ensures c.side-across.ensures
 
-number : (c : After-refusal-number)
-    → c.refusal-number.result ≡ refusal_of
-    (view c.args.img.now c.args.w c.args.h c.args.ring c.args.x0 c.args.y0 c.args.x1 c.args.y1) c.args.ring (length c.args.map.now)
-number c =
-    number_is (view c.args.img.now c.args.w c.args.h c.args.ring c.args.x0 c.args.y0 c.args.x1 c.args.y1) _ _ _ _ _
-    c.refusal-number.ensures (c.beside-pw.ensures ∙ ap₂ besides c.side-across.ensures c.side-down.ensures)
-    (c.beside-ph.ensures ∙ ap₂ besides c.side-down.ensures c.side-across.ensures)
-
--- ---- nothing refuses
-allowed : (c : Else-number-ne0)
-    → Taken (length (view c.args.img.now c.args.w c.args.h c.args.ring c.args.x0 c.args.y0 c.args.x1 c.args.y1).img)
-    (view c.args.img.now c.args.w c.args.h c.args.ring c.args.x0 c.args.y0 c.args.x1 c.args.y1).w
-    (view c.args.img.now c.args.w c.args.h c.args.ring c.args.x0 c.args.y0 c.args.x1 c.args.y1).h
-    c.args.ring (c.beside-ph.result * c.beside-pw.result)
-    (length c.args.map.now)
-allowed c = taken _ _ _ _ _ _ (sym c.refusal-number.ensures ∙ c.if-number-ne0.false)
-
-pub refusal-number-requires : goal.refusal-number-requires
-refusal-number-requires c = (
+pub refusal-requires : goal.refusal-requires
+refusal-requires c = (
   rw (width c) (cols-le (view c.args.img.now c.args.w c.args.h c.args.ring c.args.x0 c.args.y0 c.args.x1 c.args.y1)),
   rw (height c) (rows-le (view c.args.img.now c.args.w c.args.h c.args.ring c.args.x0 c.args.y0 c.args.x1 c.args.y1)),
 )
 
-pub returns-then-number-ne0 : goal.returns-then-number-ne0
-returns-then-number-ne0 c = when-refused _ _ _ _ _ (number (goal.at.returns-then-number-ne0 c).After-refusal-number) c.if-number-ne0.true
+pub returns-in_err-refusal : goal.returns-in_err-refusal
+returns-in_err-refusal c =
+    let sides = (goal.at.returns-in_err-refusal c).After-beside-ph in
+    rw (passed-on _ c.from_residual.ensures.1) (when-refused _ _ _ _ _ (width sides) (height sides) _ _ c.in_err-refusal.ensures)
 
+-- ---- nothing refuses
 pub fill-requires : goal.fill-requires
 fill-requires c =
-    let t = allowed (goal.at.fill-requires c).Else-number-ne0 in record {
+    let t = taken _ _ _ _ _ _ (judged-ok _ _ _ c.in_ok-refusal.ensures).0 in record {
       sized = image _ _ _ _ _ _ t;
       pw_bound = ((
         rw (c.min.ensures, width (goal.at.fill-requires c).After-beside-ph)
@@ -64,7 +49,5 @@ fill-requires c =
 
 pub returns : goal.returns
 returns c =
-    when-filled _ _ _ _ _ _ _ _ _ _ (number (goal.at.returns c).After-refusal-number) c.if-number-ne0.false
-    (width (goal.at.returns c).After-beside-ph) (height (goal.at.returns c).After-beside-ph)
-    c.min.ensures
-    c.min-2.ensures c.fill.ensures
+    let sides = (goal.at.returns c).After-beside-ph in
+    when-filled _ _ _ _ _ (width sides) (height sides) _ c.in_ok-refusal.ensures _ _ _ _ c.min.ensures c.min-2.ensures c.fill.ensures

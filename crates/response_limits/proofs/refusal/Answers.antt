@@ -1,5 +1,5 @@
 -- `response_limits::refusal` meets its contract: each return is the first condition of the table that holds. Assumes nothing.
-use mathlib.Core.Path.{◌≡◌}
+use mathlib.Core.Path.{◌≡◌, ◌∙◌}
 use mathlib.Core.Bool.{not}
 use mathlib.Core.List.{[], ◌∷◌}
 use Prim.Native.Nat.{◌*◌}
@@ -9,31 +9,32 @@ use lib.ListN.{length}
 use borrow.Author.Tests.{lt-ltb, le-ltb}
 use Rattle.lists.specs.Refusals.{lowest}
 use Rattle.lists.specs.Internal.{Sized}
+use Rattle.lists.proofs.Judged.{passed-on}
 use Rattle.image_size.proofs.Judged.{refused, sized}
 use Rattle.ring.specs.Ring.{is_ring}
 use Rattle.response.proofs.Indices.{area-le}
 use Rattle.response_limits.specs.Promise.{is_crossed, refusal_of}
 use Rattle.response_limits.proofs.Judging.{by_length, by-rest}
 use Rattle.response_limits.proofs.refusal.Goals as goal
-use Rattle.response_limits.proofs.refusal.Goals.{Else-high-low, Else-not-is_ring, Else-number-ne0}
+use Rattle.response_limits.proofs.refusal.Goals.{Else-high-low, Else-not-is_ring, In_ok-refusal}
 
-pub returns-then-number-ne0 : goal.returns-then-number-ne0
+pub returns-in_err-refusal : goal.returns-in_err-refusal
 unfolding refusal_of
-returns-then-number-ne0 c = refused _ _ _ _ _ c.refusal-number.ensures c.if-number-ne0.true
+returns-in_err-refusal c = passed-on _ c.from_residual.ensures.1 ∙ refused _ _ _ _ _ _ c.in_err-refusal.ensures
 
 -- past the test of the low image
-image : (c : Else-number-ne0) → Sized (length c.args.low.now) c.args.w c.args.h
-image c = sized _ _ _ _ c.refusal-number.ensures c.if-number-ne0.false
+image : (c : In_ok-refusal) → Sized (length c.args.low.now) c.args.w c.args.h
+image c = sized _ _ _ _ c.in_ok-refusal.ensures
 
 pub returns-then-high-low : goal.returns-then-high-low
-returns-then-high-low c = by_length _ _ _ _ _ _ _ (image (goal.at.returns-then-high-low c).Else-number-ne0) c.if-high-low.true
+returns-then-high-low c = rw (by_length _ _ _ _ _ _ _ (image (goal.at.returns-then-high-low c).In_ok-refusal) c.if-high-low.true)
 
 -- past that of the high one, what is left of the table
 rest : (c : Else-high-low)
     → refusal_of c.args.low.now c.args.high.now c.args.w c.args.h c.args.ring c.args.lows c.args.highs
     ≡ lowest ((is_crossed c.args.low.now c.args.high.now, 15) ∷ (not (is_ring c.args.ring), 3) ∷ (ltb c.args.lows (c.args.w * c.args.h), 8)
     ∷ (ltb c.args.highs (c.args.w * c.args.h), 8) ∷ [])
-rest c = by-rest _ _ _ _ _ _ _ (sized _ _ _ _ c.refusal-number.ensures c.if-number-ne0.false) c.if-high-low.false
+rest c = by-rest _ _ _ _ _ _ _ (sized _ _ _ _ c.in_ok-refusal.ensures) c.if-high-low.false
 
 pub returns-then-are_crossed : goal.returns-then-are_crossed
 returns-then-are_crossed c = rw (rest (goal.at.returns-then-are_crossed c).Else-high-low, ← c.are_crossed.ensures, c.if-are_crossed.true)
@@ -54,7 +55,7 @@ places : (c : Else-not-is_ring)
     ≡ lowest ((ltb c.args.lows (c.args.w * c.args.h), 8) ∷ (ltb c.args.highs (c.args.w * c.args.h), 8) ∷ [])
 places c =
     rw (
-      by-rest _ _ _ _ _ _ _ (sized _ _ _ _ c.refusal-number.ensures c.if-number-ne0.false) c.if-high-low.false,
+      by-rest _ _ _ _ _ _ _ (sized _ _ _ _ c.in_ok-refusal.ensures) c.if-high-low.false,
       ← c.are_crossed.ensures,
       c.if-are_crossed.false,
       ← c.is_ring.ensures,
@@ -62,13 +63,13 @@ places c =
     )
 
 pub overflow_mul-w : goal.overflow_mul-w
-overflow_mul-w c = let s = image (goal.at.overflow_mul-w c).Else-number-ne0 in omega (arith, area-le _ _ s.narrow s.low)
+overflow_mul-w c = let s = image (goal.at.overflow_mul-w c).In_ok-refusal in omega (arith, area-le _ _ s.narrow s.low)
 
 pub returns-then-lows-w : goal.returns-then-lows-w
 returns-then-lows-w c = rw (places (goal.at.returns-then-lows-w c).Else-not-is_ring, lt-ltb _ _ c.if-lows-w.true)
 
 pub overflow_mul-w-2 : goal.overflow_mul-w-2
-overflow_mul-w-2 c = let s = image (goal.at.overflow_mul-w-2 c).Else-number-ne0 in omega (arith, area-le _ _ s.narrow s.low)
+overflow_mul-w-2 c = let s = image (goal.at.overflow_mul-w-2 c).In_ok-refusal in omega (arith, area-le _ _ s.narrow s.low)
 
 pub returns-then-highs-w : goal.returns-then-highs-w
 returns-then-highs-w c =

@@ -3,7 +3,4 @@ use Rattle.pyramid.proofs.Building.{Reached}
 use Rattle.pyramid.proofs.halve.fill_levels.Given as goal
 
 abbrev pub invariant-loop-k : goal.invariant-loop-k
-invariant-loop-k l = Reached l.base l.initial.levels l.width l.height l.n l.k l.w l.h l.from l.to l.levels
-
-abbrev pub decreases-loop-k : goal.decreases-loop-k
-decreases-loop-k l = l.n - l.k
+invariant-loop-k l = Reached l.base l.initial.levels l.width l.height l.n (l.k - 1) l.w l.h l.from l.to l.levels

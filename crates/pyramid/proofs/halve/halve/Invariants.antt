@@ -1,4 +1,4 @@
-use Prim.Native.Nat.{◌+◌, ◌-◌, ◌*◌, ◌/◌, ◌≤◌}
+use Prim.Native.Nat.{◌+◌, ◌*◌, ◌/◌}
 use mathlib.Core.Path.{◌≡◌}
 use lib.ListN.{length}
 use Rattle.pyramid.specs.Internal.{LevelHalved}
@@ -6,8 +6,5 @@ use Rattle.pyramid.proofs.halve.halve.Given as goal
 
 abbrev pub invariant-loop-y : goal.invariant-loop-y
 invariant-loop-y l =
-    (length l.levels ≡ length l.initial.levels) × (l.y ≤ l.h / 2) × (l.a ≡ l.from + 2 * l.y * l.w) × (l.at ≡ l.to + l.y * (l.w / 2))
-    × LevelHalved l.base l.initial.levels l.k l.from l.w l.to l.y l.levels
-
-abbrev pub decreases-loop-y : goal.decreases-loop-y
-decreases-loop-y l = l.h / 2 - l.y
+    (length l.levels ≡ length l.initial.levels) × (l.a ≡ l.from + 2 * l._y * l.w) × (l.at ≡ l.to + l._y * (l.w / 2))
+    × LevelHalved l.base l.initial.levels l.k l.from l.w l.to l._y l.levels

@@ -1,8 +1,9 @@
 -- `pyramid::halve::run` meets its contract: the pixels made apart are put at their place. Assumes nothing.
-use Prim.Native.Nat.{◌+◌, ◌-◌, ◌^◌, ◌<◌}
+use Prim.Native.Nat.{◌^◌, ◌<◌}
 use native.Mathlib.Omega.{arith}
-use mathlib.Core.Path.{◌≡◌, refl}
-use lib.ListN.{length, take, drop}
+use mathlib.Core.Path.{refl}
+use lib.ListN.{length}
+use Rattle.std.proofs.Common.{length-take-le}
 use Rattle.lists.proofs.Tab.{part_length}
 use Rattle.pyramid.specs.Internal.{holder_of}
 use Rattle.pyramid.proofs.Halving.{holder-short, run-put}
@@ -19,16 +20,13 @@ pub means-requires : goal.means-requires
 means-requires c =
     rw c.holder.ensures (c.requires.few, omega (arith, c.requires.inside), c.requires.inside, refl)
 
--- the part of the buffer that the pixels go to
-part : (c : Start)
-    → length (take (c.args.at + c.args.n - c.args.at) (drop c.args.at c.args.levels.now)) ≡ c.args.n
-part c = part_length c.args.at c.args.n c.args.levels.now c.requires.fits
-
-pub copy-requires : goal.copy-requires
-copy-requires c =
-    rw (part (goal.at.copy-requires c).Start) c.requires.few
+pub copy_from_slice-requires : goal.copy_from_slice-requires
+copy_from_slice-requires c =
+    let part = part_length c.args.at c.args.n c.args.levels.now c.requires.fits in
+    let made = length-take-le c.args.n c.means.new.out (omega (arith, c.requires.few, c.means.array_long)) in
+    omega arith
 
 pub returns : goal.returns
 returns c =
-    run-put _ _ _ _ _ _ _ _ _ _ c.requires.fits (rw c.holder.ensures at c.means.ensures)
-    c.copy.ensures (part (goal.at.returns c).Start)
+    rw c.copy_from_slice.ensures.after
+    (run-put _ _ _ _ _ _ _ _ c.requires.few (rw c.holder.ensures at c.means.ensures))

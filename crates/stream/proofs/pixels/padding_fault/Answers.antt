@@ -24,6 +24,6 @@ pub returns-then-any : goal.returns-then-any
 unfolding padding_fault
 returns-then-any c = rw (← padded (goal.at.returns-then-any c).After-any, c.if-any.true)
 
-pub returns-else-any : goal.returns-else-any
+pub returns : goal.returns
 unfolding padding_fault
-returns-else-any c = rw (← padded (goal.at.returns-else-any c).After-any, c.if-any.false)
+returns c = rw (← padded (goal.at.returns c).After-any, c.if-any.false)

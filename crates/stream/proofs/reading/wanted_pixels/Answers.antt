@@ -5,6 +5,7 @@ use mathlib.Core.Path.{◌≡◌, sym, ◌∙◌}
 use mathlib.Core.List.{List}
 use lib.ListN.{length}
 use borrow.Author.Tests.{ne_eqb}
+use Rattle.lists.proofs.Judged.{checked-err, checked-ok}
 use Rattle.stream.specs.Stream.{padding_fault}
 use Rattle.stream.specs.Wanted.{wanted_pixel_body}
 use Rattle.stream.proofs.reading.wanted_pixels.Goals as goal
@@ -19,12 +20,14 @@ padding-right : (left : ℕ) (came : List ℕ) → padding_fault left came ≡ 0
 unfolding wanted_pixel_body
 padding-right left came e = rw e
 
-pub returns-then-padding_fault-ne0 : goal.returns-then-padding_fault-ne0
-returns-then-padding_fault-ne0 c = sym (padding-wrong _ _ (λ e. c.if-padding_fault-ne0.true (c.padding_fault.ensures ∙ e)))
+pub returns-then-is_err : goal.returns-then-is_err
+returns-then-is_err c =
+    sym (padding-wrong _ _ (checked-err _ _ c.padding_fault.ensures (sym c.is_err.ensures.value ∙ c.if-is_err.true)))
 
 pub returns : goal.returns
 returns c =
     omega (
       arith,
-      padding-right c.args.left c.args.came.now (sym c.padding_fault.ensures ∙ c.if-padding_fault-ne0.false),
+      padding-right c.args.left c.args.came.now
+          (checked-ok _ _ c.padding_fault.ensures (sym c.is_err.ensures.value ∙ c.if-is_err.false)),
     )

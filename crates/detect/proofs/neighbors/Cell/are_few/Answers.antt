@@ -1,5 +1,4 @@
 -- `detect::neighbors::Cell::are_few` meets its contract: the centre, which is positive, is counted with the others. Assumes nothing.
-use Rattle.std.proofs.Common.{refl, ◌∙◌}
 use Rattle.detect.proofs.WindowRows.{positives-are, others-few, with-centre}
 use Rattle.detect.proofs.neighbors.Cell.are_few.Goals as goal
 

@@ -1,6 +1,6 @@
 -- `detect::neighbors::Cell::count_square` meets its contract: what is counted and the rows ahead make the count of the square.
 -- Assumes nothing.
-use Rattle.std.proofs.Common.{◌≡◌, ◌+◌, ◌<◌, ◌≤◌, ap, ◌∙◌, arith}
+use Rattle.std.proofs.Common.{◌≡◌, ◌+◌, ◌<◌, ap, ◌∙◌, arith}
 use Rattle.lists.specs.Places.{count}
 use Rattle.lists.proofs.Rows.{rows_start}
 use Rattle.detect.specs.Internal.{is_counted}

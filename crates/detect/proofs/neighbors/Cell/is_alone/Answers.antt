@@ -1,5 +1,5 @@
 -- `detect::neighbors::Cell::is_alone` meets its contract: the centre, which is no NaN, is counted alone. Assumes nothing.
-use Rattle.std.proofs.Common.{refl, ◌∙◌}
+use Rattle.std.proofs.Common.{refl}
 use Rattle.detect.specs.Internal.{place}
 use Rattle.detect.proofs.WindowRows.{others-none, with-centre}
 use Rattle.detect.proofs.Ties.{test-alone}

@@ -1,5 +1,5 @@
 -- `detect::neighbors::Cell::is_local_max` meets its contract: what beats v in the rows ahead is what beats it in all. Assumes nothing.
-use Rattle.std.proofs.Common.{◌≡◌, Bool, ◌&&◌, ap, ◌∙◌, arith}
+use Rattle.std.proofs.Common.{◌≡◌, ◌&&◌, ap, ◌∙◌, arith}
 use lib.Ieee.{Float, lt}
 use Rattle.lists.specs.Places.{any}
 use Rattle.lists.proofs.Rows.{any-start}

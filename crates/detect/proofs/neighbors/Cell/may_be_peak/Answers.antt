@@ -5,14 +5,14 @@ use borrow.Author.Tests.{not-false}
 use lib.Ieee.{Float, le}
 use Rattle.detect.proofs.Passing.{low-peak, beaten-peak}
 use Rattle.detect.proofs.neighbors.Cell.may_be_peak.Goals as goal
-use Rattle.detect.proofs.neighbors.Cell.may_be_peak.Goals.{then-self, else-self}
+
+pub returns-then-self : goal.returns-then-self
+returns-then-self c =
+    let cell = c.args.self.now in
+    λ e. low-peak _ _ cell.map.searchable _ _ cell.inside
+    (ap (λ (v : Float). le v cell.map.search.threshold) (sym cell.read) ∙ c.if-self.true)
 
 pub returns : goal.returns
 returns c =
     let cell = c.args.self.now in
-    elim c.if-self.branch [
-      | then-self w ↦ λ e. low-peak _ _ cell.map.searchable _ _ cell.inside
-          (ap (λ (v : Float). le v cell.map.search.threshold) (sym cell.read) ∙ w.if-self.true)
-      | else-self w ↦ λ e. beaten-peak _ _ cell.map.searchable _ _ cell.inside
-          (w.is_overtopped.ensures (sym w.result-is ∙ not-false _ e))
-    ]
+    λ e. beaten-peak _ _ cell.map.searchable _ _ cell.inside (c.is_overtopped.ensures (not-false _ e))

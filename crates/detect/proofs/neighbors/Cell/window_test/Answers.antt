@@ -13,9 +13,11 @@ returns-then-is_alone c = c.is_alone.ensures c.if-is_alone.true
 
 pub returns-then-is_local_max : goal.returns-then-is_local_max
 returns-then-is_local_max c =
-    test-top c.args.self.now.map.cells.now c.args.self.now.map.search (place c.args.self.now.x c.args.self.now.y) _ c.is_local_max.ensures c.if-is_local_max.true
+    test-top c.args.self.now.map.cells.now c.args.self.now.map.search
+    (place c.args.self.now.x c.args.self.now.y) _ c.is_local_max.ensures c.if-is_local_max.true
     _ (c.count_neighbors.ensures ∙ equals-are _ _ _ _ _ c.args.self.now.map.searchable c.args.self.now.inside c.args.self.now.read)
 
 pub returns : goal.returns
 returns c =
-    test-beaten c.args.self.now.map.cells.now c.args.self.now.map.search (place c.args.self.now.x c.args.self.now.y) _ c.is_local_max.ensures c.if-is_local_max.false
+    test-beaten c.args.self.now.map.cells.now c.args.self.now.map.search
+    (place c.args.self.now.x c.args.self.now.y) _ c.is_local_max.ensures c.if-is_local_max.false

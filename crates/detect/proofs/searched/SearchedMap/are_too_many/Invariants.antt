@@ -1,5 +1,5 @@
-use Rattle.std.proofs.Common.{◌+◌, ◌-◌, ◌≤◌, length}
-use Rattle.detect.specs.Internal.{place, peaks_from}
+use Rattle.std.proofs.Common.{◌+◌, ◌-◌, ◌≤◌}
+use Rattle.detect.specs.Internal.{place}
 use Rattle.detect.proofs.FirstPeaks.{Counting}
 use Rattle.detect.proofs.searched.SearchedMap.are_too_many.Given as goal
 

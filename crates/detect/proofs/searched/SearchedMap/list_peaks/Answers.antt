@@ -1,6 +1,5 @@
 -- `detect::searched::SearchedMap::list_peaks` meets its contract: what the search finds is the next in the table. Assumes nothing.
-use Rattle.std.proofs.Common.{arith}
-use Rattle.detect.proofs.FirstPeaks.{found-small, listing-first, listing-put, listing-next}
+use Rattle.detect.proofs.FirstPeaks.{found-small, listing-first}
 use Rattle.detect.proofs.searched.SearchedMap.list_peaks.Goals as goal
 
 pub loop-n-init : goal.loop-n-init

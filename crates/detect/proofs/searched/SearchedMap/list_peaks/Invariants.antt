@@ -1,4 +1,3 @@
-use Rattle.std.proofs.Common.{◌≡◌, length}
 use Rattle.detect.specs.Internal.{place}
 use Rattle.detect.proofs.FirstPeaks.{Listing}
 use Rattle.detect.proofs.searched.SearchedMap.list_peaks.Given as goal

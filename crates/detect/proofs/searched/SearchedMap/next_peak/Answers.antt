@@ -1,6 +1,5 @@
 -- `detect::searched::SearchedMap::next_peak` meets its contract: the places passed over are no peaks. Assumes nothing.
 use Rattle.std.proofs.Common.{◌≡◌, ◌+◌, arith}
-use borrow.Author.Tests.{not-false}
 use Rattle.detect.specs.Internal.{place, peak_test}
 use Rattle.detect.proofs.Scanning.{Passed, passed_none, passed-skip, passed-inside, passed-cell, passed-peak}
 use Rattle.detect.proofs.Scanning.{passed-row, passed-all}

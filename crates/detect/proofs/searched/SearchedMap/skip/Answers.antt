@@ -1,5 +1,5 @@
--- `detect::searched::SearchedMap::skip` meets its contract: cells are passed over run by run, and at the end of the row cell by cell. Assumes
--- nothing.
+-- `detect::searched::SearchedMap::skip` meets its contract: cells are passed over run by run, and at the end of the row cell by cell.
+-- Assumes nothing.
 use Rattle.std.proofs.Common.{arith}
 use Rattle.detect.proofs.Rows.{skipped-none, skipped-on, skipped-low}
 use Rattle.detect.proofs.searched.SearchedMap.skip.Goals as goal

@@ -1,6 +1,6 @@
--- `detect::searched::SearchedMap::skip_runs` meets its contract: runs at or below the threshold are skipped, and of the next run the cells that are
--- passed over. Assumes nothing.
-use Rattle.std.proofs.Common.{◌≡◌, ℕ, ◌+◌, ◌-◌, ◌*◌, ◌<◌, ◌≤◌, subst, arith}
+-- `detect::searched::SearchedMap::skip_runs` meets its contract: runs at or below the threshold are skipped, and of the next run the cells
+-- that are passed over. Assumes nothing.
+use Rattle.std.proofs.Common.{◌≡◌, ℕ, ◌+◌, ◌-◌, ◌≤◌, subst, arith}
 use Rattle.lists.proofs.Rows.{row_part}
 use Rattle.detect.specs.Internal.{place, run_cells, Below, PlacesSkipped}
 use Rattle.detect.proofs.Passing.{run_in, run-skipped}
@@ -18,7 +18,8 @@ module _ (c : After-blocks_below-x) where
   few = below-few c.args.self.now.cells.now c.args.self.now.search c.loop-x.x c.args.y _ _ c.args.self.now.search.threshold low
 
   after :
-      PlacesSkipped c.args.self.now.cells.now c.args.self.now.search (place c.args.x c.args.y) (place (c.loop-x.x + c.blocks_below-x.result) c.args.y)
+      PlacesSkipped c.args.self.now.cells.now c.args.self.now.search (place c.args.x c.args.y)
+      (place (c.loop-x.x + c.blocks_below-x.result) c.args.y)
   after =
       skipped-on c.args.self.now.cells.now c.args.self.now.search c.args.x c.args.y _ c.loop-x.invariant.0 _
       (skipped-below c.args.self.now.cells.now c.args.self.now.search c.loop-x.x c.args.y _ _ c.right-x1.ensures
@@ -57,8 +58,10 @@ passed : (c : After-run_passed-n)
     → PlacesSkipped c.args.self.now.cells.now c.args.self.now.search (place c.args.x c.args.y)
     (place (c.loop-x.x + c.blocks_below-x.result + c.run_passed-n.result) c.args.y)
 passed c =
-    skipped-on c.args.self.now.cells.now c.args.self.now.search c.args.x c.args.y _ (after (goal.at.After-run_passed-n c).After-blocks_below-x) _
-    (run-skipped c.args.self.now.cells.now c.args.self.now.search c.args.self.now.searchable _ c.args.y (left (goal.at.After-run_passed-n c).Else-x1-x-lt-RUN)
+    skipped-on c.args.self.now.cells.now c.args.self.now.search c.args.x c.args.y _
+    (after (goal.at.After-run_passed-n c).After-blocks_below-x) _
+    (run-skipped c.args.self.now.cells.now c.args.self.now.search c.args.self.now.searchable _ c.args.y
+    (left (goal.at.After-run_passed-n c).Else-x1-x-lt-RUN)
     (room (goal.at.After-run_passed-n c).Else-x1-x-lt-RUN) c.requires.in_rows.0 c.requires.in_rows.1 _
     c.run_passed-n.ensures)
 
