@@ -7,13 +7,12 @@ use native.Mathlib.Omega.{arith}
 use lib.ListN.{length, get_or}
 use lib.Ieee.{Float, nan, binary32, add, mul}
 use Rattle.lists.specs.Places.{Place, All}
-use Rattle.lists.specs.Refusals.{unless}
 use Rattle.lists.proofs.Members.{all-block}
 use Rattle.float32.specs.Float32.{lift, float_of}
 use Rattle.center_of_mass.specs.declared.Sums.{Sums}
 use Rattle.center_of_mass.specs.declared.Outcome.{Outcome}
-use Rattle.center_of_mass.specs.declared.Outcome.TheVariants.{Refused}
 use Rattle.center_of_mass.specs.CenterOfMass.{no_sums, with_cell, with_cells, cells_about, mean_of, outcome_of, refusal_of, refined}
+use Rattle.center_of_mass.specs.CenterOfMass.{unless_refused}
 use Rattle.center_of_mass.proofs.Peak.{centre-itself}
 
 module _ (m m' : List Float) (w : ℕ) where
@@ -48,4 +47,4 @@ module _ (r : ℕ) (m m' : List Float) (w h px py : ℕ) (narrow : px ≤ 4096) 
 
   pub refined-alike : refined r (float_of px) (float_of py) true m w h ≡ refined r (float_of px) (float_of py) true m' w h
   unfolding refined
-  refined-alike = ap₂ (λ (n : ℕ) (o : Outcome). unless Refused (refusal_of r (float_of px) (float_of py) true n w h) o) long outcome-alike
+  refined-alike = ap₂ (λ (n : ℕ) (o : Outcome). unless_refused (refusal_of r (float_of px) (float_of py) true n w h) o) long outcome-alike

@@ -8,7 +8,10 @@ use lib.Ieee.{Float}
 use borrow.Author.Tests.{lt-ltb, le-ltb, ltb-false}
 use Rattle.lists.specs.Limits.{largest_radius}
 use Rattle.lists.specs.Places.{All}
-use Rattle.lists.specs.Refusals.{is_large, is_misfit}
+use Rattle.std.specs.Prelude.{Err}
+use Rattle.lists.specs.declared.refusal.Refusal.{Refusal}
+use Rattle.lists.specs.declared.refusal.Refusal.TheVariants.{OutOfRange, PositionOutside}
+use Rattle.lists.specs.Refusals.{is_large, is_misfit, verdict}
 use Rattle.lists.specs.Internal.{Sized}
 use Rattle.lists.proofs.Refusals.{all-clear, sized_of}
 use Rattle.image_size.specs.ImageSize.{refusal_of as image_refusal}
@@ -17,10 +20,9 @@ use Rattle.center_of_mass.specs.CenterOfMass.{seed_fits, conditions, refusal_of}
 
 module _ (r : ℕ) (x y : Float) (cells w h : ℕ) where
   -- ---- a map that is refused
-  pub by_map : (has_map : Bool) → has_map ≡ true → (n : ℕ) → n ≡ image_refusal cells w h → (n ≡ 0 → ⊥)
-      → n ≡ refusal_of r x y has_map cells w h
+  pub by_map : (e : Refusal) → Err e ≡ verdict (image_refusal cells w h) → Err e ≡ verdict (refusal_of r x y true cells w h)
   unfolding refusal_of
-  by_map has_map e n q z = rw e (refused cells w h n _ q z)
+  by_map e q = refused cells w h tt e _ q
 
   -- the map is one that can be judged, or there is none
   abbrev pub MapFits : Bool → Type 0
@@ -37,12 +39,12 @@ module _ (r : ℕ) (x y : Float) (cells w h : ℕ) where
         go (inl g) = rw g.0 (passed cells w h _ g.1)
         go (inr g) = rw g
 
-    pub large : largest_radius < r → 3 ≡ refusal_of r x y has_map cells w h
+    pub large : largest_radius < r → Err OutOfRange ≡ verdict (refusal_of r x y has_map cells w h)
     large k = rw (seed-only, lt-ltb largest_radius r k)
 
-    pub seed-far : (a b : Bool) → r ≤ largest_radius → a ≡ seed_fits x → b ≡ seed_fits y → (a && b) ≡ false
-        → 4 ≡ refusal_of r x y has_map cells w h
-    seed-far a b k p q e = rw (seed-only, le-ltb largest_radius r k, ← p, ← q, e)
+    pub seed-far : r ≤ largest_radius → (seed_fits x && seed_fits y) ≡ false
+        → Err PositionOutside ≡ verdict (refusal_of r x y has_map cells w h)
+    seed-far k e = rw (seed-only, le-ltb largest_radius r k, e)
 
     pub none : r ≤ largest_radius → true ≡ seed_fits x → true ≡ seed_fits y → 0 ≡ refusal_of r x y has_map cells w h
     none k p q = rw (seed-only, le-ltb largest_radius r k, ← p, ← q)

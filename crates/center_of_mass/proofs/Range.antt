@@ -11,7 +11,6 @@ use lib.ListN.{length}
 use lib.IntN.{pos}
 use lib.Ieee.{Float, nan, binary32, lt, add, div, of_int}
 use Rattle.lists.specs.Limits.{largest_side, largest_radius}
-use Rattle.lists.specs.Refusals.{unless}
 use Rattle.lists.specs.Places.{All}
 use Rattle.lists.proofs.Places.{length-block}
 use Rattle.lists.proofs.Members.{all-at, all-block}
@@ -19,10 +18,10 @@ use Rattle.float32.specs.Float32.{zero as zero32, round_half_away}
 use Rattle.float32.specs.declared.Rounded.TheVariants.{Natural}
 use Rattle.float32.proofs.Bounds.{UpTo, upto-more, whole-upto, add-upto}
 use Rattle.center_of_mass.specs.declared.Sums.{Sums}
-use Rattle.center_of_mass.specs.declared.Outcome.TheVariants.{Accepted, Rejected, IllConditioned, Refused}
+use Rattle.center_of_mass.specs.declared.Outcome.TheVariants.{Accepted, Rejected, IllConditioned}
 use Rattle.std.specs.Prelude.{Option, None, Some}
 use Rattle.center_of_mass.specs.CenterOfMass.{no_sums, weight_at, cells_about, window_sums, refusal_of, centre_on, mean_of, weighed}
-use Rattle.center_of_mass.specs.CenterOfMass.{outcome_of, refined}
+use Rattle.center_of_mass.specs.CenterOfMass.{outcome_of, refined, unless_refused}
 use Rattle.center_of_mass.proofs.Axis.{centre-rounded, window-in}
 use Rattle.center_of_mass.proofs.Judgement.{radius-small, map-fits}
 use Rattle.center_of_mass.proofs.Weights.{Usual, Weighs, weighs, sx-is, sy-is, mean-upto}
@@ -120,7 +119,7 @@ module _ (r : ℕ) (x y : Float) (m : List Float) (w h : ℕ) (cx cy mass : Floa
   weighing has_map e = judged (refusal_of r x y has_map (length m) w h) refl has_map refl e
     where
       judged : (k : ℕ) → refusal_of r x y has_map (length m) w h ≡ k → (b : Bool) → has_map ≡ b
-          → unless Refused k (cond b (outcome_of r x y m w h) (Rejected x y)) ≡ Accepted cx cy mass → Weighing r x y m w h cx cy mass
+          → unless_refused k (cond b (outcome_of r x y m w h) (Rejected x y)) ≡ Accepted cx cy mass → Weighing r x y m w h cx cy mass
       judged zero n true t e =
           let f = map-fits r x y (length m) w h has_map n t in
           weighing-at (radius-small r x y (length m) w h has_map n) (f.narrow, f.low) f.sized (centre_on r w x)

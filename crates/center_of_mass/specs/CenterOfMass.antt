@@ -1,12 +1,13 @@
 -- The centre of mass of a map's positive cells around a seed: its window, its sums and its outcome, as the Rust
 -- computes them in binary32.
-use Rattle.std.specs.Prelude.{ℕ, ◌+◌, ◌-◌, ◌*◌, Bool, not, ◌&&◌, ◌||◌, cond, List, [], ◌∷◌, ltb, leb, length, get_or}
+use Rattle.std.specs.Prelude.{ℕ, zero, suc, ◌+◌, ◌-◌, ◌*◌, Bool, not, ◌&&◌, ◌||◌, cond, List, [], ◌∷◌, ltb, leb, length}
+use Rattle.std.specs.Prelude.{get_or}
 use Rattle.std.specs.Prelude.{Float}
 use Rattle.std.specs.Float.{nan, binary32}
 use Rattle.std.specs.Float.Ieee.{add, mul, div, of_int, lt, le}
 use Rattle.lists.specs.Limits.{largest_radius}
 use Rattle.lists.specs.Places.{Place, block}
-use Rattle.lists.specs.Refusals.{unless, lowest, is_large, is_misfit}
+use Rattle.lists.specs.Refusals.{refusal_number, refusal_with, lowest, is_large, is_misfit}
 use Rattle.float32.specs.Float32.{zero as zero32, abs, lift, round_half_away, float_of}
 use Rattle.float32.specs.declared.Rounded.{Rounded}
 use Rattle.float32.specs.declared.Rounded.TheVariants.{Natural, Negative, Beyond}
@@ -97,11 +98,16 @@ unfoldable pub outcome_of : ℕ → Float → Float → List Float → ℕ → �
 unfolding with_cells centre_on lt
 outcome_of r x y m w h = weighed r x y m w (centre_on r w x) (centre_on r h y)
 
+-- the outcome with a number: what is due if it is 0, otherwise the refusal
+abbrev pub unless_refused : ℕ → Outcome → Outcome
+unless_refused zero due = due
+unless_refused (suc number) due = Refused (refusal_with (suc number))
+
 -- refusals come before outcomes
 unfoldable pub refined : ℕ → Float → Float → Bool → List Float → ℕ → ℕ → Outcome
 unfolding refusal_of outcome_of
 refined r x y has_map m w h =
-    unless Refused (refusal_of r x y has_map (length m) w h) (cond has_map (outcome_of r x y m w h) (Rejected x y))
+    unless_refused (refusal_of r x y has_map (length m) w h) (cond has_map (outcome_of r x y m w h) (Rejected x y))
 
 -- ---- the number and the values of each case (RULES 5.3): 0 for no refusal; x, y and the mass, which is 0 if the seed
 -- did not move
@@ -110,11 +116,11 @@ number_of (Accepted x y m) = 0
 number_of (Rejected x y) = 0
 number_of (OutOfBounds x y) = 0
 number_of (IllConditioned x y) = 0
-number_of (Refused number) = number
+number_of (Refused e) = refusal_number e
 
 abbrev pub values_of : Outcome → List Float
 values_of (Accepted x y m) = x ∷ y ∷ m ∷ []
 values_of (Rejected x y) = x ∷ y ∷ zero32 ∷ []
 values_of (OutOfBounds x y) = x ∷ y ∷ zero32 ∷ []
 values_of (IllConditioned x y) = x ∷ y ∷ zero32 ∷ []
-values_of (Refused number) = []
+values_of (Refused e) = []

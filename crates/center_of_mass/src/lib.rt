@@ -1,25 +1,29 @@
 // The centre of mass of a response map around a seed.
 #![tactic(auto)]
 
-ghost use Rattle.std.specs.Prelude.{◌≡◌, ◌+◌, ◌*◌, ◌≤◌, ◌<◌, length};
+ghost use Rattle.std.specs.Prelude.{◌≡◌, ◌+◌, ◌*◌, ◌≤◌, ◌<◌, length, is_some, option_copied};
 ghost use Rattle.lists.specs.Limits.{largest_side, largest_radius};
 ghost use Rattle.lists.specs.Places.{row, block};
 ghost use Rattle.center_of_mass.specs.CenterOfMass.{no_sums, with_cells, seed_fits, refusal_of, centre_on, outcome_of};
-ghost use Rattle.center_of_mass.specs.Promise.{Refined};
+ghost use Rattle.lists.specs.Refusals.{verdict};
+ghost use Rattle.center_of_mass.specs.Promise.{Refined, cells_of};
+
+use lists::Refusal;
 
 #[derive(Clone, Copy)]
 pub struct CenterOfMassRefiner {
     pub radius: u32,
 }
 
-// The floats are the centre of mass and the mass, or the seed unchanged. `Refused` holds the number of the refusal.
+// The floats are the centre of mass and the mass, or the seed unchanged. `Refused` says why the call is refused.
+// This is no Result: the five cases are those of the rules.
 #[derive(Clone, Copy)]
 pub enum Outcome {
     Accepted(f32, f32, f32),
     Rejected(f32, f32),
     OutOfBounds(f32, f32),
     IllConditioned(f32, f32),
-    Refused(u8),
+    Refused(Refusal),
 }
 
 // The sums over some cells: column times weight, row times weight, weight.
@@ -69,25 +73,28 @@ fn seed_fits(x: f32) -> bool
     float32::abs(x) <= FURTHEST_SEED
 }
 
-// The number of the refusal, 0 for none; `cells` is the map's length.
-fn refusal(radius: u32, x: f32, y: f32, has_map: bool, cells: usize, w: usize, h: usize) -> u8
-    ensures { result ≡ refusal_of radius x y has_map cells w h }
+// Why a call is refused.
+fn refusal(
+    radius: u32,
+    x: f32,
+    y: f32,
+    map: Option<&[f32]>,
+    w: usize,
+    h: usize,
+) -> Result<(), Refusal>
+    ensures { result ≡ verdict (refusal_of radius x y (is_some map.entry)
+        (length (cells_of (option_copied map.entry))) w h) }
 {
-    if has_map {
-        let number = image_size::refusal(cells, w, h);
-        if number != 0 {
-            return number;
-        }
+    if let Some(cells) = map {
+        image_size::refusal(cells.len(), w, h)?;
     }
     if lists::LARGEST_RADIUS < radius {
-        return 3;
+        return Err(Refusal::OutOfRange);
     }
-    if seed_fits(x) {
-        if seed_fits(y) {
-            return 0;
-        }
+    if seed_fits(x) && seed_fits(y) {
+        return Ok(());
     }
-    4
+    Err(Refusal::PositionOutside)
 }
 
 // The window's centre on one axis, if the whole window lies within the side.
@@ -123,18 +130,16 @@ fn centre_of_mass(r: usize, x: f32, y: f32, map: &[f32], w: usize, h: usize) -> 
 }
 
 impl CenterOfMassRefiner {
-    // `has_map` says whether a response map is given. The map is w wide and h high, in row order.
-    pub fn refine(self, x: f32, y: f32, has_map: bool, map: &[f32], w: usize, h: usize) -> Outcome
-        ensures { Refined self.radius x y has_map map.now w h result }
+    // The outcome around a seed, in a response map w wide and h high, in row order, if there is one.
+    pub fn refine(self, x: f32, y: f32, map: Option<&[f32]>, w: usize, h: usize) -> Outcome
+        ensures { Refined self.radius x y (is_some map.entry) (cells_of (option_copied map.entry)) w h result }
     {
-        let radius = self.radius;
-        let number = refusal(radius, x, y, has_map, map.len(), w, h);
-        if number != 0 {
-            return Outcome::Refused(number);
+        if let Err(reason) = refusal(self.radius, x, y, map, w, h) {
+            return Outcome::Refused(reason);
         }
-        if has_map {
-            return centre_of_mass(radius as usize, x, y, map, w, h);
-        }
-        Outcome::Rejected(x, y)
+        let Some(cells) = map else {
+            return Outcome::Rejected(x, y);
+        };
+        centre_of_mass(self.radius as usize, x, y, cells, w, h)
     }
 }

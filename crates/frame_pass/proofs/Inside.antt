@@ -23,8 +23,9 @@ use Rattle.center_of_mass.specs.declared.Outcome.{Outcome}
 use Rattle.center_of_mass.specs.declared.Outcome.TheVariants.{Accepted, Rejected, OutOfBounds, IllConditioned, Refused}
 use Rattle.center_of_mass.specs.CenterOfMass.{refined}
 use Rattle.center_of_mass.proofs.Range.{within-map, within-image}
-use Rattle.multiscale.specs.declared.RoiAnswer.{RoiAnswer}
-use Rattle.multiscale.specs.declared.RoiAnswer.TheVariants as roi
+use Rattle.std.specs.Prelude.{Option, None, Some, Result, Ok, Err}
+use Rattle.lists.specs.declared.refusal.Refusal.{Refusal}
+use Rattle.multiscale.specs.declared.Roi.{Roi}
 use Rattle.multiscale.specs.Multiscale.{roi_of}
 use Rattle.multiscale.specs.Internal as multiscale
 use Rattle.multiscale.proofs.Box.{box-inside, not-refused}
@@ -102,16 +103,17 @@ module _ (p : FrameParams) (img : List ℕ) (w h : ℕ) where
     about-inside : (k : ℕ) (c : Corner) → All (λ c. is_inside c ≡ true) (corners_about p img w h choose k c)
     about-inside k c = all-flat Taken (corners_on p img w h choose) (seed_patch p img w h k c) (go (roi_of (context_at p img w h k) c) refl)
       where
-        go : (a : RoiAnswer) → roi_of (context_at p img w h k) c ≡ a
+        go : (a : Result (Option Roi) Refusal) → roi_of (context_at p img w h k) c ≡ a
             → All (λ v. All (λ c. is_inside c ≡ true) (corners_on p img w h choose v)) (patch_of p img w h a)
-        go (roi.Bounds x0 y0 x1 y1) e =
-            let v : View = record { img = img; w = w; h = h; ring = ring_of p.ring; x0 = x0; y0 = y0; x1 = x1; y1 = y1 } in
-            let b = box-inside (context_at p img w h k) c x0 y0 x1 y1 e in
-            let i : x0 + map_width v ≤ w = rw (box-cols v b.0 b.2 b.1 b.3) (omega (arith, b.0, b.1)) in
-            let j : y0 + map_height v ≤ h = rw (box-rows v b.0 b.2 b.1 b.3) (omega (arith, b.2, b.3)) in
-            (moved_inside p v choose (fine-box p img w h s x0 y0 x1 y1) i j, tt)
-        go roi.NoRoi e = tt
-        go (roi.Refused n) e = tt
+        go (Ok (Some roi)) e =
+            let v : View =
+            record { img = img; w = w; h = h; ring = ring_of p.ring; x0 = roi.x0; y0 = roi.y0; x1 = roi.x1; y1 = roi.y1 } in
+            let b = box-inside (context_at p img w h k) c roi e in
+            let i : roi.x0 + map_width v ≤ w = rw (box-cols v b.0 b.2 b.1 b.3) (omega (arith, b.0, b.1)) in
+            let j : roi.y0 + map_height v ≤ h = rw (box-rows v b.0 b.2 b.1 b.3) (omega (arith, b.2, b.3)) in
+            (moved_inside p v choose (fine-box p img w h s roi.x0 roi.y0 roi.x1 roi.y1) i j, tt)
+        go (Ok None) e = tt
+        go (Err r) e = tt
 
     seeds-inside : (n : ℕ) → All (λ c. is_inside c ≡ true) (seeds_of p img w h choose n)
     unfolding seeds_of
@@ -136,6 +138,6 @@ corners-inside p img w h choose s =
 pub boxes-answered : (p : FrameParams) (img : List ℕ) (w h : ℕ) (choose : Choice) → BoxesAnswered p img w h choose
 boxes-answered p img w h choose s =
     let k : levels_in p img w h - 1 ≤ last_level = omega (arith, count-few w h p.levels p.minimum_side s.narrow) in
-    all_map Taken (λ (c : Corner). (n : ℕ) → roi_of (context_at p img w h (levels_in p img w h - 1)) c ≡ roi.Refused n → ⊥)
+    all_map Taken (λ (c : Corner). (e : Refusal) → roi_of (context_at p img w h (levels_in p img w h - 1)) c ≡ Err e → ⊥)
     (λ c i. not-refused (context_at p img w h (levels_in p img w h - 1)) c (roi-sound p img w h s (levels_in p img w h - 1) k) i)
     (frame_pass p img w h choose).seeds (corners-inside p img w h choose s).0

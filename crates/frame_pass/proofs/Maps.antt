@@ -19,8 +19,9 @@ use Rattle.response.proofs.Map.{cells-length}
 use Rattle.corner_list.specs.declared.Corner.{Corner}
 use Rattle.detect.specs.Detect.{conditions}
 use Rattle.detect.proofs.Answers.{Clear, sound-clear}
-use Rattle.multiscale.specs.declared.RoiAnswer.{RoiAnswer}
-use Rattle.multiscale.specs.declared.RoiAnswer.TheVariants as roi
+use Rattle.std.specs.Prelude.{Option, None, Some, Result, Ok, Err}
+use Rattle.lists.specs.declared.refusal.Refusal.{Refusal}
+use Rattle.multiscale.specs.declared.Roi.{Roi}
 use Rattle.multiscale.specs.Multiscale.{roi_of}
 use Rattle.frame_params.specs.declared.FrameParams.{FrameParams}
 use Rattle.frame_params.proofs.Ranges.{ranges}
@@ -79,10 +80,10 @@ fine-level p img w h s k =
 
 -- ---- each map that a frame looks at, by any choice
 module _ (p : FrameParams) (img : List ℕ) (w h : ℕ) (s : SoundFrame p img w h) where
-  patch-fine : (a : RoiAnswer) → All (Fine p) (patch_of p img w h a)
-  patch-fine (roi.Bounds x0 y0 x1 y1) = (fine-box p img w h s x0 y0 x1 y1, tt)
-  patch-fine roi.NoRoi = tt
-  patch-fine (roi.Refused n) = tt
+  patch-fine : (a : Result (Option Roi) Refusal) → All (Fine p) (patch_of p img w h a)
+  patch-fine (Ok (Some b)) = (fine-box p img w h s b.x0 b.y0 b.x1 b.y1, tt)
+  patch-fine (Ok None) = tt
+  patch-fine (Err e) = tt
 
   pub seed-fine : (k : ℕ) (c : Corner) → All (Fine p) (seed_patch p img w h k c)
   seed-fine k c = patch-fine (roi_of (context_at p img w h k) c)

@@ -9,8 +9,9 @@ use Rattle.lists.specs.Limits.{largest_map, most_ties}
 use Rattle.lists.specs.Places.{sum_of}
 use Rattle.response.specs.Patch.{View, map_width, map_height, cells}
 use Rattle.corner_list.specs.declared.Corner.{Corner}
-use Rattle.multiscale.specs.declared.RoiAnswer.{RoiAnswer}
-use Rattle.multiscale.specs.declared.RoiAnswer.TheVariants as roi
+use Rattle.std.specs.Prelude.{Option, None, Some, Result, Ok, Err}
+use Rattle.lists.specs.declared.refusal.Refusal.{Refusal}
+use Rattle.multiscale.specs.declared.Roi.{Roi}
 use Rattle.multiscale.specs.Multiscale.{roi_of}
 use Rattle.detect.specs.declared.Search.{Search}
 use Rattle.detect.specs.Detect.{read_in}
@@ -66,10 +67,10 @@ module _ (p : FrameParams) (exact : Bool) (img : List ℕ) (w h : ℕ) (s : Soun
   pub about-tied : (k : ℕ) (c : Corner) → ties_about p img w h (choice_of p exact) k c ≤ most_ties
   about-tied k c = of (roi_of (context_at p img w h k) c)
     where
-      of : (a : RoiAnswer) → sum_of (ties_on p (choice_of p exact)) (patch_of p img w h a) ≤ most_ties
-      of (roi.Bounds x0 y0 x1 y1) = omega (arith, map-tied p exact _ (fine-box p img w h s x0 y0 x1 y1))
-      of roi.NoRoi = omega arith
-      of (roi.Refused n) = omega arith
+      of : (a : Result (Option Roi) Refusal) → sum_of (ties_on p (choice_of p exact)) (patch_of p img w h a) ≤ most_ties
+      of (Ok (Some b)) = omega (arith, map-tied p exact _ (fine-box p img w h s b.x0 b.y0 b.x1 b.y1))
+      of (Ok None) = omega arith
+      of (Err e) = omega arith
 
   -- and about a list of them
   pub seeds-tied : (k : ℕ) (l : List Corner) → sum_of (ties_about p img w h (choice_of p exact) k) l ≤ most_ties * length l

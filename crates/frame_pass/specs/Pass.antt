@@ -2,15 +2,16 @@
 -- one definition, with two choices.
 use Prim.Native.Nat.{ℕ, zero, suc}
 use mathlib.Core.List.{List, [], ◌∷◌, map}
+use Rattle.std.specs.Prelude.{Option, None, Some, Result, Ok, Err}
 use Rattle.lists.specs.Places.{flat_map, sum_of}
+use Rattle.lists.specs.declared.refusal.Refusal.{Refusal}
 use Rattle.ring.specs.Ring.{ring_of}
 use Rattle.response.specs.Patch.{View, whole}
 use Rattle.pyramid_levels.specs.Levels.{level_side, level_count}
 use Rattle.pyramid.specs.Pyramid.{level_pixels}
 use Rattle.corner_list.specs.declared.Corner.{Corner}
 use Rattle.multiscale.specs.declared.RoiContext.{RoiContext}
-use Rattle.multiscale.specs.declared.RoiAnswer.{RoiAnswer}
-use Rattle.multiscale.specs.declared.RoiAnswer.TheVariants as roi
+use Rattle.multiscale.specs.declared.Roi.{Roi}
 use Rattle.multiscale.specs.Multiscale.{roi_of}
 use Rattle.merge.specs.Merge.{result_of}
 use Rattle.frame_params.specs.declared.FrameParams.{FrameParams}
@@ -48,11 +49,11 @@ module _ (p : FrameParams) (img : List ℕ) (w h : ℕ) where
       }
 
   -- one patch, or none if there is no box
-  abbrev pub patch_of : RoiAnswer → List View
-  patch_of (roi.Bounds x0 y0 x1 y1) =
-      record { img = img; w = w; h = h; ring = ring_of p.ring; x0 = x0; y0 = y0; x1 = x1; y1 = y1 } ∷ []
-  patch_of roi.NoRoi = []
-  patch_of (roi.Refused number) = []
+  abbrev pub patch_of : Result (Option Roi) Refusal → List View
+  patch_of (Ok (Some b)) =
+      record { img = img; w = w; h = h; ring = ring_of p.ring; x0 = b.x0; y0 = b.y0; x1 = b.x1; y1 = b.y1 } ∷ []
+  patch_of (Ok None) = []
+  patch_of (Err e) = []
 
   abbrev pub seed_patch : ℕ → Corner → List View
   seed_patch k s = patch_of (roi_of (context_at k) s)

@@ -1,13 +1,13 @@
 -- What is true of every frame that is not refused before its pass. These are statements; `proofs/` has the proof of
 -- each under its name in lower case.
-use Rattle.std.specs.Prelude.{ℕ, ◌-◌, ◌*◌, ◌≤◌, ◌≡◌, true, List, length}
+use Rattle.std.specs.Prelude.{ℕ, ◌-◌, ◌*◌, ◌≤◌, ◌≡◌, true, List, length, Err}
 use Rattle.lists.specs.Limits.{largest_side}
 use Rattle.lists.specs.Places.{All}
+use Rattle.lists.specs.declared.refusal.Refusal.{Refusal}
 use Rattle.accuracy.specs.Accurate.{Bytes}
 use Rattle.response.specs.Patch.{View}
 use Rattle.corner_list.specs.CornerList.{is_inside}
 use Rattle.corner_list.specs.declared.Corner.{Corner}
-use Rattle.multiscale.specs.declared.RoiAnswer.TheVariants.{Refused}
 use Rattle.multiscale.specs.Multiscale.{roi_of}
 use Rattle.frame_params.specs.declared.FrameParams.{FrameParams}
 use Rattle.patch_corners.specs.OneMap.{Choice, IsChoice, corners_in}
@@ -40,6 +40,6 @@ module _ (p : FrameParams) (img : List ℕ) (w h : ℕ) (choose : Choice) where
   abbrev pub BoxesAnswered : Type 0
   BoxesAnswered =
       SoundFrame p img w h
-      → All (λ (s : Corner). (number : ℕ)
-      → roi_of (context_at p img w h (levels_in p img w h - 1)) s ≡ Refused number → ⊥)
+      → All (λ (s : Corner). (e : Refusal)
+      → roi_of (context_at p img w h (levels_in p img w h - 1)) s ≡ Err e → ⊥)
       (frame_pass p img w h choose).seeds

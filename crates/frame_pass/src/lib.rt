@@ -3,30 +3,35 @@
 #![tactic(auto)]
 
 ghost use Rattle.std.specs.Prelude.{◌≡◌};
-ghost use Rattle.lists.specs.Refusals.{lowest};
+ghost use Rattle.lists.specs.Refusals.{lowest, verdict};
 ghost use Rattle.frame_pass.specs.Refusals.{conditions};
 
 use frame_params::FrameParams;
+use lists::Refusal;
 
-// The number of the refusal before the pass, 0 for none.
-pub fn refusal(pixels: usize, w: usize, h: usize, p: FrameParams, cells: usize, places: usize) -> u8
-    ensures { result ≡ lowest (conditions p pixels w h cells places) }
+// Why a frame is refused before the pass.
+pub fn refusal(
+    pixels: usize,
+    w: usize,
+    h: usize,
+    p: FrameParams,
+    cells: usize,
+    places: usize,
+) -> Result<(), Refusal>
+    ensures { result ≡ verdict (lowest (conditions p pixels w h cells places)) }
 {
-    let number = image_size::refusal(pixels, w, h);
-    if number != 0 {
-        return number;
-    }
+    image_size::refusal(pixels, w, h)?;
     if !frame_params::parameters_fit(p) {
-        return 3;
+        return Err(Refusal::OutOfRange);
     }
     if merge_radius::is_outside(p.merge_radius) {
-        return 5;
+        return Err(Refusal::RadiusOutside);
     }
     if cells < w * h {
-        return 8;
+        return Err(Refusal::MapTooShort);
     }
     if places < pyramid_levels::cells_above(w, h, p.levels, p.minimum_side) {
-        return 9;
+        return Err(Refusal::LevelsTooShort);
     }
-    0
+    Ok(())
 }

@@ -9,6 +9,8 @@ use mathlib.Core.List.{List, map}
 use lib.ListN.{length}
 use lib.Ieee.{Float}
 use Rattle.lists.specs.Places.{Place, block, keep, sum_of}
+use Rattle.std.specs.Prelude.{Result}
+use Rattle.lists.specs.declared.refusal.Refusal.{Refusal}
 use Rattle.lists.specs.Refusals.{lowest}
 use Rattle.lists.proofs.Places.{block-end}
 use Rattle.lists.proofs.Tab.{part-length-to}
@@ -29,10 +31,10 @@ use Rattle.patch_corners.proofs.PartOfRows.{down, part, part-size, peaks-there, 
 
 -- ---- what was added, under other conditions of which none holds either
 found-also : (conds conds' : List (Bool × ℕ)) → Clear conds → Clear conds'
-    → (cs : List Corner) (ties held : ℕ) (b : Slices) (answer : Peaks) (b' : Slices)
+    → (cs : List Corner) (ties held : ℕ) (b : Slices) (answer : Result Peaks Refusal) (b' : Slices)
     → PeaksAdded conds cs ties held b answer b' → PeaksAdded conds' cs ties held b answer b'
 found-also conds conds' none none' cs ties held b answer b' f =
-    found-by conds' cs ties held b (refusal_of conds (places_of b) held (length cs)) past answer b' f.answer f.buffer
+    found-by conds' cs ties held b (refusal_of conds (places_of b) held (length cs)) past answer b' f.answer f.number f.buffer
   where
     past : refusal_of conds' (places_of b) held (length cs) ≡ refusal_of conds (places_of b) held (length cs)
     past = unfold refusal_of in
@@ -145,7 +147,7 @@ module _ (p : FrameParams) (exact : Bool) (m : List Float) (w h a b end top : �
   pub ties_are : ties_in Part Here ≡ ties_in_rows p exact m w h a b
   ties_are = sum-there p exact w h top end m order within fine.high ∙ ap (sum_of (ties_at m There)) peaks
 
-  pub rows-added : (held : ℕ) (s : Slices) (answer : Peaks) (s' : Slices)
+  pub rows-added : (held : ℕ) (s : Slices) (answer : Result Peaks Refusal) (s' : Slices)
       → PeaksAdded (conditions (length Part) w (end - top) p.ring p.window p.centroid_radius)
       (map (λ c. Centre (lowered top c)) (starts_in Part Here))
       (ties_in Part Here) held s answer s'
@@ -160,7 +162,7 @@ module _ (p : FrameParams) (exact : Bool) (m : List Float) (w h a b end top : �
       conds = conditions (length m) w h p.ring p.window p.centroid_radius
 
 -- ---- all rows
-pub all-rows : (p : FrameParams) (exact : Bool) (m : List Float) (w h held : ℕ) (s : Slices) (answer : Peaks) (s' : Slices)
+pub all-rows : (p : FrameParams) (exact : Bool) (m : List Float) (w h held : ℕ) (s : Slices) (answer : Result Peaks Refusal) (s' : Slices)
     → RowCornersAdded p exact m w h 0 h held s answer s' → CornersAdded p exact m w h held s answer s'
 all-rows p exact m w h held s answer s' f =
     subst (λ (l : List Place). PeaksAdded (conditions (length m) w h p.ring p.window p.centroid_radius)

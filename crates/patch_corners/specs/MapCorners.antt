@@ -1,8 +1,9 @@
 -- The corners of a given map, added to a buffer (RULES 9.7): its peaks, each at its centre of mass, and what is
 -- promised about the answer and the buffer. The map may hold any floats. If the response made the map, every centre is
 -- accepted, and these are the corners of OneMap (`made-corners` of proofs/).
-use Rattle.std.specs.Prelude.{ℕ, ◌-◌, max, min, Bool, true, List, map, length, Float}
+use Rattle.std.specs.Prelude.{ℕ, ◌-◌, max, min, Bool, true, List, map, length, Float, Result}
 use Rattle.lists.specs.Places.{Place, block, keep, sum_of}
+use Rattle.lists.specs.declared.refusal.Refusal.{Refusal}
 use Rattle.corner_list.specs.CornerList.{Slices}
 use Rattle.corner_list.specs.declared.Corner.{Corner}
 use Rattle.detect.specs.declared.Search.{Search}
@@ -22,7 +23,7 @@ centre_or_seed (Accepted x y mass) c = at_place x y c
 centre_or_seed (Rejected x y) c = c
 centre_or_seed (OutOfBounds x y) c = c
 centre_or_seed (IllConditioned x y) c = c
-centre_or_seed (Refused number) c = c
+centre_or_seed (Refused e) c = c
 
 -- in a map of w by h
 unfoldable pub centred : ℕ → List Float → ℕ → ℕ → Corner → Corner
@@ -40,7 +41,7 @@ ties_with p exact m w h = ties_in m (search_with p exact w h)
 -- What `add_map_corners` promises for a map m and a buffer that holds `held`: what peak finding promises, with the
 -- corners so moved. Answer, number, values and buffer are given by equations; 1, 2, 3 and 10 are the refusals, and a
 -- refused call leaves the buffer unchanged
-abbrev pub CornersAdded : FrameParams → Bool → List Float → ℕ → ℕ → ℕ → Slices → Peaks → Slices → Type 0
+abbrev pub CornersAdded : FrameParams → Bool → List Float → ℕ → ℕ → ℕ → Slices → Result Peaks Refusal → Slices → Type 0
 CornersAdded p exact m w h =
     PeaksAdded (conditions (length m) w h p.ring p.window p.centroid_radius)
     (centres_in p exact m w h) (ties_with p exact m w h)
@@ -60,7 +61,9 @@ ties_in_rows p exact m w h a b =
     sum_of (ties_at m (search_with p exact w h)) (peaks_in_rows m (search_with p exact w h) a b)
 
 -- What `add_row_corners` promises: as above, for those rows
-abbrev pub RowCornersAdded : FrameParams → Bool → List Float → ℕ → ℕ → ℕ → ℕ → ℕ → Slices → Peaks → Slices → Type 0
+abbrev pub RowCornersAdded : FrameParams → Bool → List Float → ℕ → ℕ → ℕ → ℕ → ℕ → Slices
+    → Result Peaks Refusal → Slices
+    → Type 0
 RowCornersAdded p exact m w h a b =
     PeaksAdded (conditions (length m) w h p.ring p.window p.centroid_radius)
     (centres_in_rows p exact m w h a b) (ties_in_rows p exact m w h a b)

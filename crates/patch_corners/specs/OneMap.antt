@@ -31,7 +31,7 @@ centre_or_none (Accepted x y mass) c = at_place x y c ∷ []
 centre_or_none (Rejected x y) c = []
 centre_or_none (OutOfBounds x y) c = []
 centre_or_none (IllConditioned x y) c = []
-centre_or_none (Refused number) c = []
+centre_or_none (Refused e) c = []
 
 -- a corner moved by a box's corner (RULES 9.3)
 abbrev pub moved : ℕ → ℕ → Corner → Corner

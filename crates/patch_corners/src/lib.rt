@@ -4,11 +4,13 @@
 
 mod localizing; // corners put at their centres of mass
 
-ghost use Rattle.corner_list.specs.CornerList.{slices};
+ghost use Rattle.corner_list.specs.Buffer.{contents, SameSlices};
 ghost use Rattle.patch_corners.specs.MapCorners.{CornersAdded, RowCornersAdded};
 
+use corner_list::CornerBuffer;
 use detect::Peaks;
 use frame_params::FrameParams;
+use lists::Refusal;
 
 // Adds the peaks in the rows a up to, not including, b of a map of w by h, by computed or by exact values, after the
 // first `held` of a buffer: each at its centre of mass if that is accepted, otherwise at the peak itself. The search
@@ -21,24 +23,17 @@ pub fn add_row_corners(
     b: usize,
     p: FrameParams,
     exact: bool,
-    xs: &mut [f32],
-    ys: &mut [f32],
-    strengths: &mut [f32],
-    neighbours: &mut [u32],
+    list: &mut CornerBuffer<'_>,
     held: usize,
-) -> Peaks
-    ensures { RowCornersAdded p exact map.now w h a b held
-        (slices xs.old ys.old strengths.old neighbours.old)
-        result (slices xs.new ys.new strengths.new neighbours.new) }
+) -> Result<Peaks, Refusal>
+    ensures same_slices { SameSlices list.old list.new }
+    ensures added { RowCornersAdded p exact map.now w h a b held (contents list.old) result (contents list.new) }
 {
-    let number = detect::refusal(map.len(), w, h, p.ring, p.window, p.centroid_radius);
-    if number != 0 {
-        return Peaks::Refused(number);
-    }
+    detect::refusal(map.len(), w, h, p.ring, p.window, p.centroid_radius)?;
     let border = p.ring as usize + p.window as usize + p.centroid_radius as usize;
     let end = (b.min(h) + border).min(h);
     let top = a.saturating_sub(border).min(end);
-    let f = detect::find_peaks(
+    let peaks = detect::find_peaks(
         &map[top * w..end * w],
         w,
         end - top,
@@ -48,29 +43,11 @@ pub fn add_row_corners(
         p.least_neighbours,
         p.centroid_radius,
         exact,
-        xs,
-        ys,
-        strengths,
-        neighbours,
+        list,
         held,
-    );
-    let Peaks::Added(n, sum) = f else {
-        return f;
-    };
-    localizing::centre_all(
-        map,
-        w,
-        h,
-        p.centroid_radius,
-        top,
-        xs,
-        ys,
-        strengths,
-        neighbours,
-        held,
-        n,
-    );
-    Peaks::Added(n, sum)
+    )?;
+    localizing::centre_all(map, w, h, p.centroid_radius, top, list, held, peaks.count);
+    Ok(peaks)
 }
 
 // The same for all rows.
@@ -80,17 +57,11 @@ pub fn add_map_corners(
     h: usize,
     p: FrameParams,
     exact: bool,
-    xs: &mut [f32],
-    ys: &mut [f32],
-    strengths: &mut [f32],
-    neighbours: &mut [u32],
+    list: &mut CornerBuffer<'_>,
     held: usize,
-) -> Peaks
-    ensures { CornersAdded p exact map.now w h held
-        (slices xs.old ys.old strengths.old neighbours.old)
-        result (slices xs.new ys.new strengths.new neighbours.new) }
+) -> Result<Peaks, Refusal>
+    ensures same_slices { SameSlices list.old list.new }
+    ensures added { CornersAdded p exact map.now w h held (contents list.old) result (contents list.new) }
 {
-    add_row_corners(
-        map, w, h, 0, h, p, exact, xs, ys, strengths, neighbours, held,
-    )
+    add_row_corners(map, w, h, 0, h, p, exact, list, held)
 }

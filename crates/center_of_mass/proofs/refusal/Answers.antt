@@ -1,41 +1,47 @@
 -- `center_of_mass::refusal` meets its contract, test by test. Assumes nothing.
-use mathlib.Core.Path.{refl, sym, ◌∙◌}
+use mathlib.Core.Path.{refl, sym, ap, ◌∙◌}
 use mathlib.Core.Logic.{inl, inr}
-use mathlib.Core.Bool.{false}
+use lib.ListN.{length}
+use Rattle.std.specs.Prelude.{is_some, option_copied}
 use Rattle.lists.proofs.Tests.{and_none}
+use Rattle.lists.specs.Refusals.{verdict}
+use Rattle.lists.proofs.Judged.{passed-on}
 use Rattle.image_size.proofs.Judged.{sized}
+use Rattle.center_of_mass.specs.CenterOfMass.{seed_fits}
+use Rattle.center_of_mass.specs.Promise.{cells_of}
 use Rattle.center_of_mass.proofs.Judgement.{MapFits, by_map, large, seed-far, none}
 use Rattle.center_of_mass.proofs.refusal.Goals as goal
-use Rattle.center_of_mass.proofs.refusal.Goals.{Joined-has_map, then-has_map+else-number-ne0, else-has_map}
+use Rattle.center_of_mass.proofs.refusal.Goals.{Joined-map, in-Some+in_ok-refusal, in_default}
+use Rattle.center_of_mass.proofs.refusal.Goals.{Joined-else-seed_fits, else-seed_fits-via-then-seed_fits+else-seed_fits-2}
+use Rattle.center_of_mass.proofs.refusal.Goals.{else-seed_fits-via-else-seed_fits}
 
-pub returns-then-number-ne0 : goal.returns-then-number-ne0
-returns-then-number-ne0 c = by_map _ _ _ _ _ _ _ c.if-has_map.true _ c.refusal-number.ensures c.if-number-ne0.true
+pub returns-in_err-refusal : goal.returns-in_err-refusal
+returns-in_err-refusal c = rw (passed-on _ c.from_residual.ensures.1, c.in-Some.is) (by_map _ _ _ _ _ _ _ c.in_err-refusal.ensures)
 
 -- past the test of the map
-map-passed : (c : Joined-has_map)
-    → MapFits c.args.radius c.args.x c.args.y c.args.cells c.args.w c.args.h c.args.has_map
+map-passed : (c : Joined-map)
+    → MapFits c.args.radius c.args.x c.args.y (length (cells_of (option_copied c.args.map))) c.args.w c.args.h (is_some c.args.map)
 map-passed c =
-    elim c.if-has_map.branch [
-      | then-has_map+else-number-ne0 w ↦ inl (w.if-has_map.true, sized _ _ _ _ w.refusal-number.ensures w.if-number-ne0.false)
-      | else-has_map w ↦ inr w.if-has_map.false
+    elim c.match-map.branch [
+      | in-Some+in_ok-refusal w ↦ rw w.in-Some.is (inl (refl, sized _ _ _ _ w.in_ok-refusal.ensures))
+      | in_default w ↦ rw w.in_default.is (inr refl)
     ]
 
 pub returns-then-radius-gt-LARGEST_RADIUS : goal.returns-then-radius-gt-LARGEST_RADIUS
 returns-then-radius-gt-LARGEST_RADIUS c =
-    large _ _ _ _ _ _ _ (map-passed (goal.at.returns-then-radius-gt-LARGEST_RADIUS c).Joined-has_map) c.if-radius-gt-LARGEST_RADIUS.true
+    large _ _ _ _ _ _ _ (map-passed (goal.at.returns-then-radius-gt-LARGEST_RADIUS c).Joined-map) c.if-radius-gt-LARGEST_RADIUS.true
 
 pub returns-then-seed_fits-2 : goal.returns-then-seed_fits-2
 returns-then-seed_fits-2 c =
-    none _ _ _ _ _ _ _ (map-passed (goal.at.returns-then-seed_fits-2 c).Joined-has_map) c.if-radius-gt-LARGEST_RADIUS.false
-    (sym c.if-seed_fits.true ∙ c.seed_fits.ensures) (sym c.if-seed_fits-2.true ∙ c.seed_fits-then-seed_fits.ensures)
+    ap verdict
+    (none _ _ _ _ _ _ _ (map-passed (goal.at.returns-then-seed_fits-2 c).Joined-map) c.if-radius-gt-LARGEST_RADIUS.false
+    c.if-seed_fits.ensures c.if-seed_fits-2.ensures)
 
-pub returns-else-seed_fits-2 : goal.returns-else-seed_fits-2
-returns-else-seed_fits-2 c =
-    seed-far _ _ _ _ _ _ _ (map-passed (goal.at.returns-else-seed_fits-2 c).Joined-has_map) _ false c.if-radius-gt-LARGEST_RADIUS.false
-    c.seed_fits.ensures (sym c.if-seed_fits-2.false ∙ c.seed_fits-then-seed_fits.ensures)
-    (and_none c.seed_fits.result)
-
-pub returns-else-seed_fits : goal.returns-else-seed_fits
-returns-else-seed_fits c =
-    seed-far _ _ _ _ _ _ _ (map-passed (goal.at.returns-else-seed_fits c).Joined-has_map) false _ c.if-radius-gt-LARGEST_RADIUS.false
-    (sym c.if-seed_fits.false ∙ c.seed_fits.ensures) refl refl
+pub returns : goal.returns
+returns c =
+    seed-far _ _ _ _ _ _ _ (map-passed (goal.at.returns c).Joined-map) c.if-radius-gt-LARGEST_RADIUS.false
+    (elim c.else-seed_fits.branch [
+      | else-seed_fits-via-then-seed_fits+else-seed_fits-2 w ↦
+          rw (sym w.seed_fits-then-seed_fits.ensures ∙ w.if-seed_fits-2.false) (and_none (seed_fits c.args.x))
+      | else-seed_fits-via-else-seed_fits w ↦ rw (sym c.seed_fits.ensures ∙ w.if-seed_fits.false)
+    ])

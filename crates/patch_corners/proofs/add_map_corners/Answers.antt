@@ -2,6 +2,5 @@
 use Rattle.patch_corners.proofs.OfRows.{all-rows}
 use Rattle.patch_corners.proofs.add_map_corners.Goals as goal
 
-pub returns : goal.returns
-returns c =
-    all-rows c.args.p c.args.exact c.args.map.now _ _ _ _ _ _ c.add_row_corners.ensures
+pub returns-clause-added : goal.returns-clause-added
+returns-clause-added c = all-rows c.args.p c.args.exact c.args.map.now _ _ _ _ _ _ c.add_row_corners.ensures.added
