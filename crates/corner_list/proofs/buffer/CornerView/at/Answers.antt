@@ -1,6 +1,6 @@
--- `corner_list::corner_at` meets its contract, field by field. Assumes nothing.
+-- `CornerView::at` meets its contract, field by field. Assumes nothing.
 use lib.Ieee.{of_bits, div}
-use Rattle.corner_list.proofs.corner_at.Goals as goal
+use Rattle.corner_list.proofs.buffer.CornerView.at.Goals as goal
 
 pub returns : goal.returns
 unfolding of_bits div
