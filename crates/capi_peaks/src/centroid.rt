@@ -23,7 +23,7 @@ fn number_of(o: Outcome) -> u8
         Outcome::Rejected(_, _) => 0,
         Outcome::OutOfBounds(_, _) => 0,
         Outcome::IllConditioned(_, _) => 0,
-        Outcome::Refused(number) => number,
+        Outcome::Refused(refusal) => u8::from(refusal),
     }
 }
 
@@ -60,7 +60,7 @@ pub extern "C" fn zakdomp_centroid(
         mass: *mass,
     };
     let refiner = CenterOfMassRefiner { radius };
-    let o = refiner.refine(before.x, before.y, true, map, w, h);
+    let o = refiner.refine(before.x, before.y, Some(map), w, h);
     let c = values_of(o, before);
     *x = c.x;
     *y = c.y;

@@ -1,43 +1,9 @@
 // Whether a response map has enough peaks.
-ghost use Rattle.std.specs.Prelude.{◌≡◌, length, get_or};
+ghost use Rattle.std.specs.Prelude.{length};
 ghost use Rattle.detect.specs.Detect.{search_of, conditions};
-ghost use Rattle.detect.specs.Enough.{number_of, values_of};
 ghost use Rattle.capi_peaks.specs.Enough.{PeaksCounted};
 
 use detect::Enough;
-
-// The number of an answer, 0 for yes and for no.
-fn number_of(a: Enough) -> u8
-    ensures { result ≡ number_of a }
-{
-    match a {
-        Enough::Yes(_) => 0,
-        Enough::No(_) => 0,
-        Enough::Refused(number) => number,
-    }
-}
-
-// 1 for yes and 0 for no, or `before` if refused.
-fn yes_of(a: Enough, before: u8) -> u8
-    ensures { result ≡ get_or (values_of a) 0 before }
-{
-    match a {
-        Enough::Yes(_) => 1,
-        Enough::No(_) => 0,
-        Enough::Refused(_) => before,
-    }
-}
-
-// The rows looked at, or `before` if refused.
-fn rows_of(a: Enough, before: usize) -> usize
-    ensures { result ≡ get_or (values_of a) 1 before }
-{
-    match a {
-        Enough::Yes(n) => n,
-        Enough::No(n) => n,
-        Enough::Refused(_) => before,
-    }
-}
 
 // Sets `enough` to 1 if a map has at least `wanted` peaks and to 0 if not, and `rows` to the number of rows looked at.
 #[unsafe(no_mangle)]
@@ -60,7 +26,7 @@ pub extern "C" fn zakdomp_has_peaks(
         rows.old
         result enough.new rows.new }
 {
-    let a = detect::has_peaks(
+    match detect::has_peaks(
         map,
         w,
         h,
@@ -70,8 +36,17 @@ pub extern "C" fn zakdomp_has_peaks(
         least_neighbours,
         centroid_radius,
         wanted,
-    );
-    *enough = yes_of(a, *enough);
-    *rows = rows_of(a, *rows);
-    number_of(a)
+    ) {
+        Ok(Enough::Yes(first)) => {
+            *enough = 1;
+            *rows = first;
+            0
+        }
+        Ok(Enough::No(all)) => {
+            *enough = 0;
+            *rows = all;
+            0
+        }
+        Err(refusal) => u8::from(refusal),
+    }
 }

@@ -1,40 +1,10 @@
 // The peaks of a response map.
-ghost use Rattle.std.specs.Prelude.{◌≡◌, length, get_or};
+ghost use Rattle.std.specs.Prelude.{length};
 ghost use Rattle.corner_list.specs.CornerList.{slices};
-ghost use Rattle.detect.specs.Detect.{search_of, starts_in, ties_in, conditions, number_of, values_of};
+ghost use Rattle.detect.specs.Detect.{search_of, starts_in, ties_in, conditions};
 ghost use Rattle.capi_peaks.specs.Peaks.{PeaksFound};
 
-use detect::Peaks;
-
-// The number of an answer, 0 if peaks were added.
-fn number_of(a: Peaks) -> u8
-    ensures { result ≡ number_of a }
-{
-    match a {
-        Peaks::Added(_, _) => 0,
-        Peaks::Refused(number) => number,
-    }
-}
-
-// How many peaks were added, or `before` if refused.
-fn added_of(a: Peaks, before: usize) -> usize
-    ensures { result ≡ get_or (values_of a) 0 before }
-{
-    match a {
-        Peaks::Added(n, _) => n,
-        Peaks::Refused(_) => before,
-    }
-}
-
-// How many ties they have, or `before` if refused.
-fn ties_of(a: Peaks, before: u64) -> u64
-    ensures { result ≡ get_or (values_of a) 1 before }
-{
-    match a {
-        Peaks::Added(_, ties) => ties,
-        Peaks::Refused(_) => before,
-    }
-}
+use corner_list::CornerBuffer;
 
 // Writes the peaks of a map, by computed values, after the first `held` corners of a buffer. `added` gets their number,
 // and `ties` the number of their ties.
@@ -64,7 +34,13 @@ pub extern "C" fn zakdomp_peaks(
         result (slices xs.new ys.new strengths.new neighbours.new)
         added.new ties.new }
 {
-    let a = detect::find_peaks(
+    let mut list = CornerBuffer {
+        xs,
+        ys,
+        strengths,
+        neighbours,
+    };
+    match detect::find_peaks(
         map,
         w,
         h,
@@ -74,13 +50,14 @@ pub extern "C" fn zakdomp_peaks(
         least_neighbours,
         centroid_radius,
         false,
-        xs,
-        ys,
-        strengths,
-        neighbours,
+        &mut list,
         held,
-    );
-    *added = added_of(a, *added);
-    *ties = ties_of(a, *ties);
-    number_of(a)
+    ) {
+        Ok(peaks) => {
+            *added = peaks.count;
+            *ties = peaks.ties;
+            0
+        }
+        Err(refusal) => u8::from(refusal),
+    }
 }

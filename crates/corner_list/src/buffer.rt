@@ -28,19 +28,20 @@ impl CornerView<'_> {
     pub fn places(self) -> usize
         ensures { result ≡ places_of (seen self.entry) }
     {
-        crate::places(
-            self.xs.len(),
-            self.ys.len(),
-            self.strengths.len(),
-            self.neighbours.len(),
-        )
+        let counted = self.strengths.len().min(self.neighbours.len());
+        self.xs.len().min(self.ys.len().min(counted))
     }
 
     // The corner at a place. A field whose slice is too short is NaN, and 0 for the neighbours.
     pub fn at(self, at: usize) -> Corner
         ensures { result ≡ corner_at (seen self.entry) at }
     {
-        crate::corner_at(self.xs, self.ys, self.strengths, self.neighbours, at)
+        Corner {
+            x: lists::element_or(self.xs, at, f32::NAN),
+            y: lists::element_or(self.ys, at, f32::NAN),
+            strength: lists::element_or(self.strengths, at, f32::NAN),
+            neighbours: lists::element_or(self.neighbours, at, 0),
+        }
     }
 }
 

@@ -24,7 +24,11 @@ pub was-shown : (b : Slices) (e : Edition) (place : ℕ) (s : Shown) → showing
     → ShownAs b e place s.corner s.change
 was-shown b e place s p =
     let q = judged-ok _ _ s p.answer in
-    record { can = showable (places_of b) e place q.0; corner_is = ap (λ (t : Shown). t.corner) q.1; change-is = ap (λ (t : Shown). t.change) q.1 }
+    record {
+      can = showable (places_of b) e place q.0;
+      corner_is = ap (λ (t : Shown). t.corner) q.1;
+      change-is = ap (λ (t : Shown). t.change) q.1;
+    }
 
 -- ---- a call that struck
 pub record StruckAs (b : Slices) (e : Edition) (place change : ℕ) (r : Result Strike Refusal) (b' : Slices) (e' : Edition) : Type 0 where

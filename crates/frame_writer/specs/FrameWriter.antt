@@ -1,17 +1,16 @@
 -- Writing the frame stream (RULES 30): what is refused, and the promise of `write_frame`. The stream itself is
 -- `frame_bytes` of stream.
-use Rattle.std.specs.Prelude.{ℕ, ◌≡◌, Bool, ◌||◌, List, [], ◌∷◌, length, ltb}
+use Rattle.std.specs.Prelude.{ℕ, ◌≡◌, Bool, ◌||◌, List, [], ◌∷◌, length, ltb, Result}
 use Rattle.std.specs.Float.{binary32}
 use Rattle.std.specs.Float.Ieee.{of_bits}
 use Rattle.lists.specs.Buffer.{front}
-use Rattle.lists.specs.Refusals.{lowest, unless, values_unless, result_or, is_misfit}
+use Rattle.lists.specs.declared.refusal.Refusal.{Refusal}
+use Rattle.lists.specs.Refusals.{lowest, number_of, values_by, judged, values_unless, result_or, is_misfit}
 use Rattle.merge_radius.specs.MergeRadius.{radius_outside}
 use Rattle.stream.specs.declared.Header.{Header}
 use Rattle.frame_params.specs.Ranges.{range_outside}
 use Rattle.stream.specs.Stream.{sides_outside}
 use Rattle.stream.specs.RoundTrip.{frame_bytes}
-use Rattle.frame_writer.specs.declared.FrameWriting.{FrameWriting}
-use Rattle.frame_writer.specs.declared.FrameWriting.TheVariants.{Written, Refused}
 
 -- a value too wide for its field: least, levels and search have a byte, the minimum two (RULES 30.2); the others'
 -- ranges are narrower
@@ -34,19 +33,14 @@ unfoldable pub refusal_of : Header → List ℕ → ℕ → ℕ
 unfolding conditions
 refusal_of h pixels places = lowest (conditions h pixels places)
 
--- the number and the values of each case: 0 for no refusal, and how long the stream is
-abbrev pub number_of : FrameWriting → ℕ
-number_of (Written n) = 0
-number_of (Refused number) = number
-
-abbrev pub values_of : FrameWriting → List ℕ
-values_of (Written n) = n ∷ []
-values_of (Refused number) = []
+-- the values of an answer: how long the stream is
+abbrev pub values_of : Result ℕ Refusal → List ℕ
+values_of = values_by (λ n. n ∷ [])
 
 -- the promise of `write_frame`: the stream is at the start of the buffer, whose rest is unchanged; if refused, all of
 -- it is unchanged (RULES 30.3)
-pub record FrameWritten (h : Header) (pixels before : List ℕ) (r : FrameWriting) (after : List ℕ) : Type 0 where
-  pub answer : r ≡ unless Refused (refusal_of h pixels (length before)) (Written (length (frame_bytes h pixels)))
+pub record FrameWritten (h : Header) (pixels before : List ℕ) (r : Result ℕ Refusal) (after : List ℕ) : Type 0 where
+  pub answer : r ≡ judged (refusal_of h pixels (length before)) (length (frame_bytes h pixels))
   pub number : number_of r ≡ refusal_of h pixels (length before)
   pub values : values_of r ≡ values_unless (refusal_of h pixels (length before)) (length (frame_bytes h pixels) ∷ [])
   pub out : after ≡ result_or (refusal_of h pixels (length before)) (front (frame_bytes h pixels) before) before

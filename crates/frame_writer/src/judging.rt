@@ -1,9 +1,11 @@
 // What is refused: what the reader would not accept, and a buffer that is too short.
 ghost use Rattle.std.specs.Prelude.{◌≡◌};
+ghost use Rattle.lists.specs.Refusals.{verdict};
 ghost use Rattle.stream.specs.Stream.{sides_outside};
 ghost use Rattle.frame_writer.specs.FrameWriter.{is_too_wide, refusal_of};
 
 use crate::records;
+use lists::Refusal;
 use stream::Header;
 
 // Whether a side is above the largest.
@@ -23,27 +25,27 @@ fn is_too_wide(header: Header) -> bool
         || 255 < header.search_radius
 }
 
-// The number of the refusal for a buffer of `places` places, 0 for none.
-pub(crate) fn refusal(header: Header, pixels: &[u8], places: usize) -> u8
-    ensures { result ≡ refusal_of header pixels.now places }
+// Why no stream is written to a buffer of `places` places.
+pub(crate) fn refusal(header: Header, pixels: &[u8], places: usize) -> Result<(), Refusal>
+    ensures { result ≡ verdict (refusal_of header pixels.now places) }
 {
     if is_large(header.width, header.height) {
-        return 1;
+        return Err(Refusal::SideTooLarge);
     }
     if pixels.len() != header.width * header.height {
-        return 2;
+        return Err(Refusal::WrongLength);
     }
     if frame_params::is_outside(header.ring, header.window, header.centroid_radius) {
-        return 3;
+        return Err(Refusal::OutOfRange);
     }
     if is_too_wide(header) {
-        return 3;
+        return Err(Refusal::OutOfRange);
     }
     if merge_radius::is_outside(float32::from_bits(header.merge_bits)) {
-        return 5;
+        return Err(Refusal::RadiusOutside);
     }
     if places < records::length_of(pixels.len()) {
-        return 19;
+        return Err(Refusal::StreamTooLong);
     }
-    0
+    Ok(())
 }

@@ -6,25 +6,16 @@ mod records; // the bytes of the records
 
 ghost use Rattle.frame_writer.specs.FrameWriter.{FrameWritten};
 
+use lists::Refusal;
 use stream::Header;
 
-// The length of the stream at the start of the buffer, or the number of the refusal.
-#[derive(Clone, Copy)]
-pub enum FrameWriting {
-    Written(usize),
-    Refused(u8),
-}
-
-// Writes the stream of a frame to the start of a buffer; the rest of the buffer stays. A refused call changes
-// nothing.
-pub fn write_frame(header: Header, pixels: &[u8], out: &mut [u8]) -> FrameWriting
+// Writes the stream of a frame to the start of a buffer, and returns how long it is; the rest of the buffer stays. A
+// refused call changes nothing.
+pub fn write_frame(header: Header, pixels: &[u8], out: &mut [u8]) -> Result<usize, Refusal>
     ensures { FrameWritten header pixels.now out.old result out.new }
 {
-    let number = judging::refusal(header, pixels, out.len());
-    if number != 0 {
-        return FrameWriting::Refused(number);
-    }
+    judging::refusal(header, pixels, out.len())?;
     let end = records::length_of(pixels.len());
     records::put_frame(header, pixels, &mut out[..end]);
-    FrameWriting::Written(end)
+    Ok(end)
 }

@@ -1,6 +1,5 @@
 -- The text of a corner list as it grows by lines, and the promises from the bytes written. Assumes nothing.
 use Prim.Native.Nat.{ℕ, ◌+◌, ◌*◌, ◌^◌, ◌<◌, ◌≤◌}
-use native.Mathlib.Decide.{dec_lt}
 use native.Mathlib.Omega.{arith}
 use mathlib.Core.Path.{◌≡◌, sym, ap, ap₂, ◌∙◌}
 use mathlib.Core.List.{List, [], ◌∷◌, ◌++◌}
@@ -12,10 +11,12 @@ use Rattle.lists.proofs.Tab.{length-tab}
 use Rattle.lists.proofs.Buffer.{placed_first}
 use Rattle.corner_list.specs.declared.Corner.{Corner}
 use Rattle.corner_list.specs.CornerList.{Slices, corners_of}
-use Rattle.listing.specs.declared.Listing.TheVariants.{Text, Refused}
+use Rattle.std.specs.Prelude.{Ok, Err}
+use Rattle.lists.specs.declared.refusal.Refusal.TheVariants.{ListTooLong}
+use Rattle.lists.proofs.Judged.{judged-ok}
 use Rattle.listing.specs.Text.{fields, line, corners_word, heading, corners_text}
 use Rattle.listing.specs.Internal.{longest, Wrote}
-use Rattle.listing.specs.Answer.{most_corners, CornersWritten}
+use Rattle.listing.specs.Answer.{most_corners, refusal_of, CornersWritten}
 use Rattle.listing.proofs.Appending.{wrote-length, wrote-more, wrote_as, wrote_none, wrote-leaves}
 use Rattle.listing.proofs.Lines.{line-long, heading-long, lines, lines_more}
 
@@ -57,18 +58,18 @@ pub wrote-first : {text : List ℕ} {end : ℕ} {before after : List ℕ} → Wr
 wrote-first {text} {end} {before} w = record { ends = omega (arith, w.ends); holds = w.holds ∙ placed_first text before }
 
 module _ (b : Slices) (count : ℕ) (before : List ℕ) where
-  pub too_many : most_corners < count → CornersWritten b count before (Refused 10) before
+  pub too_many : most_corners < count → CornersWritten b count before (Err ListTooLong) before
   too_many h =
       let t = lt-ltb most_corners count h in
       record { answer = rw t; number = rw t; values = rw t; text = rw t }
 
   pub all-written : count ≤ most_corners → (end : ℕ) (after : List ℕ) → Wrote (corners_text (corners_of b count)) 0 before end after
-      → CornersWritten b count before (Text end) after
+      → CornersWritten b count before (Ok end) after
   all-written h end after w =
       let t = le-ltb most_corners count h in
       let is = wrote-first w in
       record {
-        answer = rw t (ap Text is.ends);
+        answer = rw t (ap Ok is.ends);
         number = rw t;
         values = rw t (ap (λ (n : ℕ). n ∷ []) is.ends);
         text = rw t is.holds;
@@ -79,15 +80,8 @@ pub record Listed (b : Slices) (count : ℕ) (before : List ℕ) (end : ℕ) (af
   pub ends : end ≡ length (corners_text (corners_of b count))
   pub text : after ≡ front (corners_text (corners_of b count)) before
 
-pub listed : (b : Slices) (count : ℕ) (before : List ℕ) (end : ℕ) (after : List ℕ) → CornersWritten b count before (Text end) after
+pub listed : (b : Slices) (count : ℕ) (before : List ℕ) (end : ℕ) (after : List ℕ) → CornersWritten b count before (Ok end) after
     → Listed b count before end after
 listed b count before end after w =
-    elim (dec_lt most_corners count) [
-      | yes l ↦ absurd (let t = lt-ltb most_corners count l in let r = rw t at
-          w.answer in let z : ◌≡◌ {A = ℕ} 0 1 = cc in let no : ⊥ = omega arith in no)
-      | no g ↦
-          let t = le-ltb most_corners count (omega arith) in
-          let r = rw t at w.answer in
-          let ends : end ≡ length (corners_text (corners_of b count)) = cc in
-          record { ends = ends; text = rw t at w.text }
-    ]
+    let q = judged-ok (refusal_of count) _ end w.answer in
+    record { ends = q.1; text = rw q.0 at w.text }

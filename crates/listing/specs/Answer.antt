@@ -1,10 +1,9 @@
 -- The promise of `write_corners` (RULES 12.3).
-use Rattle.std.specs.Prelude.{ℕ, ◌≡◌, List, [], ◌∷◌, length, ltb}
+use Rattle.std.specs.Prelude.{ℕ, ◌≡◌, List, [], ◌∷◌, length, ltb, Result}
 use Rattle.lists.specs.Buffer.{front}
-use Rattle.lists.specs.Refusals.{lowest, unless, values_unless, result_or}
+use Rattle.lists.specs.declared.refusal.Refusal.{Refusal}
+use Rattle.lists.specs.Refusals.{lowest, number_of, values_by, judged, values_unless, result_or}
 use Rattle.corner_list.specs.CornerList.{Slices, corners_of}
-use Rattle.listing.specs.declared.Listing.{Listing}
-use Rattle.listing.specs.declared.Listing.TheVariants.{Text, Refused}
 use Rattle.listing.specs.Text.{corners_text}
 
 -- the most corners of a listing (RULES 12.3)
@@ -15,19 +14,14 @@ most_corners = 512
 abbrev pub refusal_of : ℕ → ℕ
 refusal_of count = lowest ((ltb most_corners count, 10) ∷ [])
 
--- the number (RULES 2.2) and the values of each case
-abbrev pub number_of : Listing → ℕ
-number_of (Text n) = 0
-number_of (Refused number) = number
-
-abbrev pub values_of : Listing → List ℕ
-values_of (Text n) = n ∷ []
-values_of (Refused number) = []
+-- the values of an answer: the text's length
+abbrev pub values_of : Result ℕ Refusal → List ℕ
+values_of = values_by (λ n. n ∷ [])
 
 -- the text of the first `count` corners of a buffer is at the start, and the answer is its length; if refused, nothing
 -- changes
-pub record CornersWritten (b : Slices) (count : ℕ) (buffer : List ℕ) (r : Listing) (after : List ℕ) : Type 0 where
-  pub answer : r ≡ unless Refused (refusal_of count) (Text (length (corners_text (corners_of b count))))
+pub record CornersWritten (b : Slices) (count : ℕ) (buffer : List ℕ) (r : Result ℕ Refusal) (after : List ℕ) : Type 0 where
+  pub answer : r ≡ judged (refusal_of count) (length (corners_text (corners_of b count)))
   pub number : number_of r ≡ refusal_of count
   pub values : values_of r ≡ values_unless (refusal_of count) (length (corners_text (corners_of b count)) ∷ [])
   pub text : after ≡ result_or (refusal_of count) (front (corners_text (corners_of b count)) buffer) buffer

@@ -5,24 +5,21 @@ ghost use Rattle.std.specs.Prelude.{◌≡◌, [], ◌∷◌, ◌+◌, ◌*◌, 
 ghost use Rattle.std.specs.Float.{binary32};
 ghost use Rattle.std.specs.Float.Ieee.{to_bits};
 ghost use Rattle.lists.specs.Buffer.{Written};
-ghost use Rattle.corner_list.specs.CornerList.{slices, corners_of};
+ghost use Rattle.corner_list.specs.CornerList.{corners_of};
+ghost use Rattle.corner_list.specs.Buffer.{seen};
 ghost use Rattle.listing.specs.Text.{digit_of, digits, places, decimal, hexadecimal, units_of, fields, line};
 ghost use Rattle.listing.specs.Text.{heading, corners_text, refused_text};
 ghost use Rattle.listing.specs.Internal.{longest, Wrote, ended};
 ghost use Rattle.listing.specs.Answer.{most_corners, CornersWritten};
+
+use corner_list::{Corner, CornerView};
+use lists::Refusal;
 
 // The most corners of a listing.
 pub const MOST_CORNERS: usize = 512;
 
 // The longest text: a heading of 12 bytes, and a line of 80 for each corner.
 pub const LONGEST: usize = 12 + MOST_CORNERS * 80;
-
-// The number of bytes written, or the number of the refusal.
-#[derive(Clone, Copy)]
-pub enum Listing {
-    Text(usize),
-    Refused(u8),
-}
 
 // ---- bytes one after the other
 
@@ -57,7 +54,8 @@ fn digit(d: usize) -> u8
     }
 }
 
-// The last `count` digits of n in a base, from the lowest on.
+// The last `count` digits of n in a base, from the lowest on. No method of std that has a contract writes digits to a
+// buffer that is lent: the loop writes both bases in place.
 fn put_digits(out: &mut [u8], at: usize, base: usize, count: usize, n: usize) -> usize
     requires { (0 < base) × (base ≤ 16) × (at + count ≤ length out.old) }
     ensures { Wrote (digits base count n) at out.old result out.new }
@@ -115,7 +113,7 @@ fn units(x: f32) -> usize
     }
 }
 
-fn put_line(out: &mut [u8], at: usize, c: corner_list::Corner) -> usize
+fn put_line(out: &mut [u8], at: usize, c: Corner) -> usize
     requires { at + 80 ≤ length out.old }
     ensures { Wrote (line (fields c)) at out.old result out.new }
 {
@@ -138,24 +136,13 @@ fn put_heading(out: &mut [u8], word: &[u8], n: usize) -> usize
 
 // ---- texts
 
-fn put_corners(
-    xs: &[f32],
-    ys: &[f32],
-    strengths: &[f32],
-    neighbours: &[u32],
-    count: usize,
-    out: &mut [u8],
-) -> usize
+fn put_corners(list: CornerView<'_>, count: usize, out: &mut [u8]) -> usize
     requires { (count ≤ most_corners) × (length out.old ≡ longest) }
-    ensures { Wrote (corners_text
-        (corners_of (slices xs.now ys.now strengths.now
-        neighbours.now) count))
-        0 out.old result out.new }
+    ensures { Wrote (corners_text (corners_of (seen list.entry) count)) 0 out.old result out.new }
 {
     let mut at = put_heading(out, b"corners ", count);
     for i in 0..count {
-        let c = corner_list::corner_at(xs, ys, strengths, neighbours, i);
-        at = put_line(out, at, c);
+        at = put_line(out, at, list.at(i));
     }
     at
 }
@@ -163,21 +150,16 @@ fn put_corners(
 // Writes the text of the first `count` corners of a buffer; the buffer `out` has a place for the
 // longest text.
 pub fn write_corners(
-    xs: &[f32; MOST_CORNERS],
-    ys: &[f32; MOST_CORNERS],
-    strengths: &[f32; MOST_CORNERS],
-    neighbours: &[u32; MOST_CORNERS],
+    list: CornerView<'_>,
     count: usize,
     out: &mut [u8; LONGEST],
-) -> Listing
-    ensures { CornersWritten
-        (slices xs.now ys.now strengths.now neighbours.now) count
-        out.old result out.new }
+) -> Result<usize, Refusal>
+    ensures { CornersWritten (seen list.entry) count out.old result out.new }
 {
     if MOST_CORNERS < count {
-        return Listing::Refused(10);
+        return Err(Refusal::ListTooLong);
     }
-    Listing::Text(put_corners(xs, ys, strengths, neighbours, count, out))
+    Ok(put_corners(list, count, out))
 }
 
 // Writes the text of a refusal.

@@ -8,12 +8,13 @@ use lib.ListN.{length}
 use lib.Dec.{ltb}
 use lib.Ieee.{Float}
 use Rattle.lists.specs.Buffer.{wiped_from}
-use Rattle.std.specs.Prelude.{Result, Ok, Err}
+use Rattle.std.specs.Prelude.{Option, Result, Ok, Err}
 use Rattle.lists.specs.declared.refusal.Refusal.{Refusal}
 use Rattle.lists.specs.Refusals.{lowest, verdict}
 use Rattle.lists.proofs.Judged.{Known, lowest-known, number-judged, values-judged, judged-err, refused-stays}
 use Rattle.float32.specs.Float32 as float32
 use Rattle.corner_list.specs.declared.Corner.{Corner}
+use Rattle.corner_list.specs.declared.buffer.CornerView.{CornerView}
 use Rattle.corner_list.specs.CornerList.{Slices, slices, places_of, corners_of, front_corners}
 use Rattle.corner_list.proofs.Corners.{corners-length, corners-same}
 use Rattle.merge_grid.specs.declared.Grid.{Grid}
@@ -44,12 +45,11 @@ module _ (radius : Float) (b : Slices) (n : ℕ) (d : Slices) (k : ℕ) (d' : Sl
       same = unfold result_of in (rw (e, is viewed.strengths viewed.neighbours, all))
 
 -- a list that the buffer has places for is settled whole
-pub left-settled : (g : Grid) (apart : Bool) (own : Slices) (n : ℕ) (b : Slices) (k : ℕ) (b' : Slices) → n ≤ places_of b
-    → Settles g apart own n b k b'
-    → Left (merged (joins g) [] (corners_of (given apart own b) n)) b k b'
-left-settled g apart own n b k b' h l =
+pub left-settled : (g : Grid) (list : Option CornerView) (n : ℕ) (b : Slices) (k : ℕ) (b' : Slices) → n ≤ places_of b
+    → Settles g list n b k b' → Left (merged (joins g) [] (corners_of (given list b) n)) b k b'
+left-settled g list n b k b' h l =
     let all : min n (places_of b) ≡ n = omega arith in
-    subst (λ (m : ℕ). Left (merged (joins g) [] (corners_of (given apart own b) m)) b k b') all l
+    subst (λ (m : ℕ). Left (merged (joins g) [] (corners_of (given list b) m)) b k b') all l
 
 -- all of it, where it stands, and in another buffer
 pub left-all : (b : Slices) (n : ℕ) → n ≤ places_of b → Left (corners_of b n) b n b

@@ -46,7 +46,7 @@ fn merge_into(list: CornerView<'_>, n: usize, radius: f32, b: &mut CornerBuffer<
         return n;
     }
     let g = merge_grid::grid_of(list.xs, list.ys, n, radius);
-    merge_settle::settle_list(list, true, b, &mut [], g, n)
+    merge_settle::settle_list(Some(list), b, &mut [], g, n)
 }
 
 // Why merging `count` corners into a separate buffer with a given number of places is refused: as merging them in place

@@ -17,7 +17,7 @@ ghost use Rattle.corner_list.specs.Buffer.{contents, SameSlices};
 ghost use Rattle.merge_settle.specs.Settle.{Left};
 ghost use Rattle.merge.specs.Merge.{result_of, Merges};
 
-use corner_list::{CornerBuffer, CornerView};
+use corner_list::CornerBuffer;
 use lists::Refusal;
 
 // Merges the first n corners of a buffer in place, with a borrowed table, and returns how many are left. It refuses
@@ -39,13 +39,7 @@ pub(crate) fn merge_list(
     }
     let v = b.view();
     let g = merge_grid::grid_of(v.xs, v.ys, n, radius);
-    let list = CornerView {
-        xs: &[],
-        ys: &[],
-        strengths: &[],
-        neighbours: &[],
-    };
-    merge_settle::settle_list(list, false, b, table, g, n)
+    merge_settle::settle_list(None, b, table, g, n)
 }
 
 // Merges the first `count` corners of a buffer of at most `places` places.

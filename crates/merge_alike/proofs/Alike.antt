@@ -7,28 +7,28 @@ use mathlib.Core.Bool.{Bool, true, false}
 use mathlib.Core.List.{List}
 use lib.ListN.{length}
 use lib.Ieee.{Float}
+use Rattle.std.specs.Prelude.{Result}
+use Rattle.lists.specs.declared.refusal.Refusal.{Refusal}
+use Rattle.lists.specs.Refusals.{number_of, judged, result_or}
 use Rattle.lists.specs.Places.{All}
 use Rattle.lists.proofs.Members.{all_map, all_both}
 use Rattle.corner_list.specs.declared.Corner.{Corner}
 use Rattle.corner_list.specs.CornerList.{Slices, places_of, corners_of, front_corners}
 use Rattle.merge_radius.specs.MergeRadius.{is_off}
-use Rattle.merge.specs.declared.Merged.{Merged}
-use Rattle.merge.specs.declared.Merged.TheVariants.{Kept, Refused}
 use Rattle.merge_refusal.specs.Refusals.{refusal_of}
-use Rattle.merge.specs.Merge.{result_of, number_of, Leaves, Merges}
+use Rattle.merge.specs.Merge.{result_of, Leaves, Merges}
 use Rattle.merge_refusal.proofs.Judged.{judged-fits, judged-allowed}
 use Rattle.merge_naive.specs.MergeNaive.{naive_of, MergesNaive}
 use Rattle.merge_alike.specs.Alike.{IsPower, OnMultiples}
 use Rattle.merge_alike.proofs.Multiples.{placed}
 use Rattle.merge_alike.proofs.Lists.{merged-alike}
-use Rattle.lists.specs.Refusals.{unless, result_or}
 
 -- ---- two calls with one number, that leave the same where it is 0
-module _ (k : ℕ) (left left' : List Corner) (b : Slices) (r s : Merged) (b₁ b₂ : Slices) (p : Leaves k left b r b₁)
+module _ (k : ℕ) (left left' : List Corner) (b : Slices) (r s : Result ℕ Refusal) (b₁ b₂ : Slices) (p : Leaves k left b r b₁)
     (q : Leaves k left' b s b₂) where
   leaves_alike : (k ≡ 0 → left ≡ left') → (r ≡ s) × (b₁ ≡ b₂)
   leaves_alike h = (
-    p.answer ∙ by_number k (λ m l. unless Refused m (Kept (length l))) (λ m l l'. refl) h ∙ sym q.answer,
+    p.answer ∙ by_number k (λ m l. judged m (length l)) (λ m l l'. refl) h ∙ sym q.answer,
     p.buffer ∙ by_number k (λ m l. result_or m (front_corners l b) b) (λ m l l'. refl) h ∙ sym q.buffer,
   )
     where
@@ -61,7 +61,8 @@ module _ (radius : Float) (count : ℕ) (b : Slices) where
           let inside = (judged-allowed radius (places_of b) count b e off).1 in
           rw off (merged-alike radius power cs (all_map _ _ (λ c t. placed c t.0 t.1) cs (all_both _ _ cs given inside)))
 
-  module _ (r s : Merged) (b₁ b₂ : Slices) (p : MergesNaive radius count b r b₁) (q : Merges radius (places_of b) count b s b₂) where
+  module _ (r s : Result ℕ Refusal) (b₁ b₂ : Slices) (p : MergesNaive radius count b r b₁)
+      (q : Merges radius (places_of b) count b s b₂) where
     pub numbers-alike : number_of r ≡ number_of s
     numbers-alike = p.number ∙ sym q.number
 

@@ -52,4 +52,11 @@ pub grid-is : (b : Slices) (n : ℕ) (radius left top : Float) → left ≡ leas
     ≡ grid_of radius (corners_of b n)
 unfolding grid_of
 grid-is b n radius left top p q =
-    rw (p, q, least-numbers b.xs (inf false) n, least-numbers b.ys (inf false) n, map-tab x_of (corner_at b) n, map-tab y_of (corner_at b) n)
+    rw (
+      p,
+      q,
+      least-numbers b.xs (inf false) n,
+      least-numbers b.ys (inf false) n,
+      map-tab x_of (corner_at b) n,
+      map-tab y_of (corner_at b) n,
+    )

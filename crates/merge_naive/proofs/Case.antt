@@ -1,6 +1,6 @@
 -- The case by both merges: of a buffer that has its three corners first, two are left by distance alone, and three by cells. Assumes
 -- nothing.
-use Prim.Native.Nat.{◌≤◌}
+use Prim.Native.Nat.{ℕ, ◌≤◌}
 use mathlib.Core.Path.{◌≡◌, refl, sym, ap, ◌∙◌}
 use mathlib.Core.Bool.{true, false}
 use mathlib.Core.List.{List}
@@ -11,8 +11,8 @@ use Rattle.corner_list.specs.declared.Corner.{Corner}
 use Rattle.corner_list.specs.CornerList.{Slices, is_inside, places_of, corners_of}
 use Rattle.corner_list.proofs.Corners.{corners-front}
 use Rattle.merge_radius.specs.MergeRadius.{is_off, is_sized}
-use Rattle.merge.specs.declared.Merged.{Merged}
-use Rattle.merge.specs.declared.Merged.TheVariants.{Kept}
+use Rattle.std.specs.Prelude.{Result, Ok}
+use Rattle.lists.specs.declared.refusal.Refusal.{Refusal}
 use Rattle.merge_refusal.specs.Refusals.{refusal_of}
 use Rattle.merge.specs.Merge.{result_of, Leaves, Merges}
 use Rattle.merge_refusal.proofs.Judged.{judged-none-on}
@@ -50,18 +50,19 @@ module _ (b : Slices) (fits : 3 ≤ places_of b) (is : corners_of b 3 ≡ three)
   none : refusal_of one (places_of b) 3 b ≡ 0
   none = judged-none-on one (places_of b) 3 b fits on in-range (rw is inside)
 
-  left_is : (left due : List Corner) (answer : Merged) (b' : Slices) → left ≡ due
+  left_is : (left due : List Corner) (answer : Result ℕ Refusal) (b' : Slices) → left ≡ due
       → Leaves (refusal_of one (places_of b) 3 b) left b answer b'
-      → (answer ≡ Kept (length due)) × (corners_of b' (length due) ≡ due)
+      → (answer ≡ Ok (length due)) × (corners_of b' (length due) ≡ due)
   left_is left due answer b' e m =
       let done = leaves-done _ left b answer b' none m in (
-        done.0 ∙ ap (λ (l : List Corner). Kept (length l)) e,
+        done.0 ∙ ap (λ (l : List Corner). Ok (length l)) e,
         ap (λ (d : Slices). corners_of d (length due)) done.1
             ∙ corners-front left b (length due) (sym (ap length e)) ∙ e,
       )
 
-  pub by-distance : (answer : Merged) (b' : Slices) → MergesNaive one 3 b answer b' → (answer ≡ Kept 2) × (corners_of b' 2 ≡ two)
+  pub by-distance : (answer : Result ℕ Refusal) (b' : Slices) → MergesNaive one 3 b answer b' → (answer ≡ Ok 2) × (corners_of b' 2 ≡ two)
   by-distance answer b' m = left_is (naive_of one (corners_of b 3)) two answer b' (ap (naive_of one) is ∙ two-stay) m
 
-  pub by-cells : (answer : Merged) (b' : Slices) → Merges one (places_of b) 3 b answer b' → (answer ≡ Kept 3) × (corners_of b' 3 ≡ three)
+  pub by-cells : (answer : Result ℕ Refusal) (b' : Slices) → Merges one (places_of b) 3 b answer b'
+      → (answer ≡ Ok 3) × (corners_of b' 3 ≡ three)
   by-cells answer b' m = left_is (result_of one (corners_of b 3)) three answer b' (ap (result_of one) is ∙ three-stay) m

@@ -7,12 +7,14 @@ use mathlib.Core.List.{List, []}
 use lib.ListN.{length}
 use lib.Ieee.{Float}
 use Rattle.corner_list.specs.declared.Corner.{Corner}
-use Rattle.corner_list.specs.CornerList.{Slices, places_of, corners_of, front_corners}
+use Rattle.corner_list.specs.CornerList.{Slices, places_of, corner_at, corners_of, front_corners}
 use Rattle.corner_list.proofs.Corners.{corners-length, corners-same}
 use Rattle.merge_radius.specs.MergeRadius.{is_off}
-use Rattle.merge.specs.declared.Merged.{Merged}
-use Rattle.merge.specs.declared.Merged.TheVariants.{Kept}
-use Rattle.merge_grid.specs.Grid.{squared}
+use Rattle.std.specs.Prelude.{Option, Result, Ok}
+use Rattle.lists.specs.declared.refusal.Refusal.{Refusal}
+use Rattle.merge_grid.specs.declared.Position.{Position}
+use Rattle.merge_grid.specs.Grid.{position_of, position_at, squared, near}
+use Rattle.merge_settle.specs.Internal.{FirstPasses}
 use Rattle.merge_settle.specs.Settle.{merged}
 use Rattle.merge_settle.specs.Settle.{Left}
 use Rattle.merge_refusal.proofs.Judged.{judged-none-off}
@@ -38,12 +40,18 @@ module _ (radius : Float) where
   left-on b n k b' e l = subst (λ (cs : List Corner). Left cs b k b') (naive-on (corners_of b n) e) l
 
   -- ---- the call with a radius that is off, where the buffer has the list
-  pub off-returns : (b : Slices) (n : ℕ) → is_off radius ≡ true → n ≤ places_of b → (answer : Merged) (b' : Slices)
+  pub off-returns : (b : Slices) (n : ℕ) → is_off radius ≡ true → n ≤ places_of b → (answer : Result ℕ Refusal) (b' : Slices)
       → MergesNaive radius n b answer b'
-      → (answer ≡ Kept n) × (b' ≡ b)
+      → (answer ≡ Ok n) × (b' ≡ b)
   off-returns b n e h answer b' m =
       let same = sym (naive_off (corners_of b n) e) in
       let done = leaves-done _ (naive_of radius (corners_of b n)) b answer b' (judged-none-off radius (places_of b) n b h e) m in (
-        done.0 ∙ ap (λ (l : List Corner). Kept (length l)) same ∙ ap Kept (corners-length b n),
+        done.0 ∙ ap (λ (l : List Corner). Ok (length l)) same ∙ ap Ok (corners-length b n),
         done.1 ∙ ap (λ (l : List Corner). front_corners l b) same ∙ sym (corners-same b n h),
       )
+
+-- ---- the first corner that is near another, seen in a view
+pub found-viewed : (square : Float) (k : ℕ) (joined : Option ℕ) (p : Position) (c : Corner) (s s' : Slices) → s ≡ s'
+    → p ≡ position_of c → FirstPasses (λ i. near square p (position_at s.xs s.ys i)) k joined
+    → FirstPasses (λ m. near_by square c (corner_at s' m)) k joined
+found-viewed square k joined p c s s' e q f = rw (e, q) at f

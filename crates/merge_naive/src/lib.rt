@@ -7,84 +7,40 @@
 
 ghost use Rattle.std.specs.Prelude.{◌≡◌, ◌<◌, ◌≤◌};
 ghost use Rattle.corner_list.specs.CornerList.{places_of, corners_of};
-ghost use Rattle.corner_list.specs.Buffer.{contents, seen, SameSlices};
+ghost use Rattle.corner_list.specs.Buffer.{contents, SameSlices};
 ghost use Rattle.merge_grid.specs.Grid.{position_at, near};
 ghost use Rattle.merge_settle.specs.Settle.{Left};
-ghost use Rattle.merge_settle.specs.Internal.{IsFirst, SettlesAt, Settled};
+ghost use Rattle.merge_settle.specs.Internal.{FirstPasses, Settled};
 ghost use Rattle.merge_naive.specs.MergeNaive.{near_by, naive_of, MergesNaive};
 
-use corner_list::{Corner, CornerBuffer, CornerView};
-use merge::Merged;
+use corner_list::{Corner, CornerBuffer};
+use lists::Refusal;
 use merge_grid::Position;
 
-// Means "no place": no buffer is this long.
-const NOWHERE: usize = 18446744073709551615;
-
-// The lowest of the first k places of a buffer whose corner is near a position, or k.
-fn first_near(v: CornerView<'_>, square: f32, k: usize, p: Position) -> usize
-    ensures { IsFirst (λ i. near square p (position_at v.entry.xs.now v.entry.ys.now i)) k result }
+// The lowest of the first k places of a buffer whose corner is near a position.
+fn first_near(xs: &[f32], ys: &[f32], square: f32, k: usize, p: Position) -> Option<usize>
+    ensures { FirstPasses (λ i. near square p (position_at xs.now ys.now i)) k result }
 {
-    for i in 0..k {
-        if merge_grid::is_near(square, p, merge_grid::position_at(v.xs, v.ys, i)) {
-            return i;
-        }
-    }
-    k
-}
-
-// The place for c among the first k of a buffer: that of the first corner that it is near, if c is stronger; k, if it
-// is near none; NOWHERE, if it is dropped.
-fn place_for(
-    v: CornerView<'_>,
-    square: f32,
-    k: usize,
-    c: Corner,
-) -> usize
-    requires { k < places_of (seen v) }
-    ensures { SettlesAt (near_by square) k c
-        (seen v.entry) result }
-{
-    let i = first_near(v, square, k, merge_grid::position_of(c));
-    if k <= i {
-        return k;
-    }
-    let o = v.at(i);
-    if o.strength < c.strength {
-        return i;
-    }
-    NOWHERE
+    (0..k).find(|i| merge_grid::is_near(square, p, merge_grid::position_at(xs, ys, *i)))
 }
 
 // Settles c among the first k corners of a buffer, and returns how many are kept then.
-fn settle_corner(
-    b: &mut CornerBuffer<'_>,
-    square: f32,
-    k: usize,
-    c: Corner,
-) -> usize
+fn settle_near(b: &mut CornerBuffer<'_>, square: f32, k: usize, c: Corner) -> usize
     requires { k < places_of (contents b.old) }
     ensures same_slices { SameSlices b.old b.new }
-    ensures settled { Settled (near_by square) k c
-        (contents b.old)
-        result (contents b.new) }
+    ensures settled { Settled (near_by square) k c (contents b.old) result (contents b.new) }
 {
-    let at = place_for(b.view(), square, k, c);
-    b.put(at, c);
-    if at == k { k + 1 } else { k }
+    let v = b.view();
+    let joined = first_near(v.xs, v.ys, square, k, Position::from(c));
+    let at = merge_settle::settle_corner(b, k, c, joined);
+    merge_settle::count_with(k, at)
 }
 
 // Merges the first n corners of a buffer in place, and returns how many are left. It checks nothing.
-fn merge_list(
-    b: &mut CornerBuffer<'_>,
-    n: usize,
-    radius: f32,
-) -> usize
+fn merge_list(b: &mut CornerBuffer<'_>, n: usize, radius: f32) -> usize
     requires { n ≤ places_of (contents b.old) }
     ensures same_slices { SameSlices b.old b.new }
-    ensures left { Left (naive_of radius
-        (corners_of (contents b.old) n))
-        (contents b.old) result
-        (contents b.new) }
+    ensures left { Left (naive_of radius (corners_of (contents b.old) n)) (contents b.old) result (contents b.new) }
 {
     if merge_radius::is_off(radius) {
         return n;
@@ -93,7 +49,7 @@ fn merge_list(
     let mut k = 0;
     for i in 0..n {
         let c = b.at(i);
-        k = settle_corner(b, square, k, c);
+        k = settle_near(b, square, k, c);
     }
     k
 }
@@ -104,15 +60,10 @@ pub fn merge_corners_naive(
     b: &mut CornerBuffer<'_>,
     count: usize,
     radius: f32,
-) -> Merged
+) -> Result<usize, Refusal>
     ensures same_slices { SameSlices b.old b.new }
-    ensures merged { MergesNaive radius count
-        (contents b.old) result
-        (contents b.new) }
+    ensures merged { MergesNaive radius count (contents b.old) result (contents b.new) }
 {
-    let number = merge_refusal::refusal_for(b.view(), b.xs.len(), count, radius);
-    if number != 0 {
-        return Merged::Refused(number);
-    }
-    Merged::Kept(merge_list(b, count, radius))
+    merge_refusal::refusal(b.view(), b.xs.len(), count, radius)?;
+    Ok(merge_list(b, count, radius))
 }

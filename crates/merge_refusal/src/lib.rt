@@ -15,12 +15,7 @@ use lists::Refusal;
 fn has_outside(list: CornerView<'_>, n: usize) -> bool
     ensures { result ≡ any corner_outside (corners_of (seen list.entry) n) }
 {
-    for i in 0..n {
-        if !corner_list::is_inside(list.at(i)) {
-            return true;
-        }
-    }
-    false
+    (0..n).any(|i| !corner_list::is_inside(list.at(i)))
 }
 
 // Refuses more corners than there are places.

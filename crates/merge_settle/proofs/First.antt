@@ -11,22 +11,19 @@ use mathlib.Core.List.{List}
 use lib.ListN.{length, get_or}
 use lib.Dec.{ltb}
 use borrow.Author.Count.{below_more}
-use borrow.Author.Tests.{ltb-true, ltb-false, lt-ltb, le-ltb}
-use Rattle.lists.proofs.Tests.{and_none}
-use Rattle.merge_settle.specs.Internal.{IsFirst, IsFirstAmong, empty, PlaceListed}
-
--- ---- the lower of two places, by the tests
-module _ (i low : ℕ) (t : Bool) where
-  pub lower-here : i < low → t ≡ true → i ≡ cond (ltb i low && t) i low
-  lower-here h e = rw (lt-ltb i low h, e)
-
-  pub lower-not : t ≡ false → low ≡ cond (ltb i low && t) i low
-  lower-not e = sym (ap (λ (b : Bool). cond b i low) (ap (λ (b : Bool). ltb i low && b) e ∙ and_none (ltb i low)))
-
-  pub lower-past : low ≤ i → low ≡ cond (ltb i low && t) i low
-  lower-past h = rw (le-ltb i low h)
+use borrow.Author.Tests.{ltb-true, ltb-false}
+use Rattle.std.specs.Prelude.{Option, None, Some, MatchOption, unwrap_or}
+use Rattle.merge_settle.specs.Internal.{FirstPasses, IsFirstAmong, empty, PlaceListed}
 
 module _ (f : ℕ → Bool) where
+  -- ---- what a search of the numbers below n finds
+  pub first-found : (n : ℕ) (r : Option ℕ)
+      → MatchOption r ((i : ℕ) → 0 ≤ i → i < n → f i ≡ true → ⊥)
+      (λ i. (0 ≤ i) × (i < n) × (f i ≡ true) × ((m : ℕ) → 0 ≤ m → m < i → f m ≡ true → ⊥))
+      → FirstPasses f n r
+  first-found n None none = λ i. none i (omega arith)
+  first-found n (Some i) found = record { below = found.1; passes = found.2; before = λ m. found.3 m (omega arith) }
+
   -- ---- one search after another
   pub among_then : (L M : ℕ → Type 0) (n r s : ℕ) → IsFirstAmong f L n r → IsFirstAmong f M r s → IsFirstAmong f (λ i. L i ⊎ M i) n s
   among_then L M n r s p q = record {
@@ -44,12 +41,16 @@ module _ (f : ℕ → Bool) where
       (subst (λ (m : ℕ). IsFirstAmong f (PlaceListed table m) r s) e q)
 
   -- all that pass are looked at
-  pub among_first : (L : ℕ → Type 0) (n r : ℕ) → IsFirstAmong f L n r → ((i : ℕ) → i < n → f i ≡ true → L i) → IsFirst f n r
-  among_first L n r p all = record {
-    at_most = p.at_most;
-    passes = λ l. ⊎_elim (λ (e : r ≡ n). absurd (let no : ⊥ = omega arith in no)) (λ t. t) p.passes;
-    before = λ i l t. p.before i l (all i (omega (arith, p.at_most)) t) t;
-  }
+  module _ (L : ℕ → Type 0) (n r : ℕ) (p : IsFirstAmong f L n r) (all : (i : ℕ) → i < n → f i ≡ true → L i) where
+    pub among_some : r < n → FirstPasses f n (Some r)
+    among_some h = record {
+      below = h;
+      passes = ⊎_elim (λ (e : r ≡ n). absurd (let no : ⊥ = omega arith in no)) (λ t. t) p.passes;
+      before = λ i l t. p.before i l (all i (omega (arith, p.at_most)) t) t;
+    }
+
+    pub among_none : n ≤ r → FirstPasses f n None
+    among_none h i l t = p.before i (omega arith) (all i l t) t
 
   -- ---- the slots from `home` on: `low` is the lowest of those before slot p
   module _ (table : List ℕ) (home most : ℕ) where
@@ -116,10 +117,10 @@ module _ (f : ℕ → Bool) where
               ]
 
       -- the table's end: every place is looked at
-      pub looking-end : (r : ℕ) → IsFirst f low r → IsFirstAmong f (PlaceListed table home) most r
-      looking-end r first = record {
-        at_most = omega (arith, at.at_most, first.at_most);
-        passes = ⊎_elim (λ (e : r ≡ low). subst (λ (m : ℕ). (m ≡ most) ⊎ (f m ≡ true)) (sym e) at.passes) (λ l. inr (first.passes l))
-            (eq-or-lt_of_le first.at_most);
+      pub looking-end : (r : Option ℕ) → FirstPasses f low r → IsFirstAmong f (PlaceListed table home) most (unwrap_or r low)
+      looking-end None none = record { at_most = at.at_most; passes = at.passes; before = λ i l d t. none i l t }
+      looking-end (Some r) first = record {
+        at_most = omega (arith, at.at_most, first.below);
+        passes = inr first.passes;
         before = λ i l d t. first.before i l t;
       }

@@ -13,12 +13,13 @@ use lib.Ieee.{Float}
 use borrow.Author.Count.{below_more}
 use borrow.Author.Tests.{eq-eqb, ne_eqb}
 use Rattle.corner_list.specs.declared.Corner.{Corner}
-use Rattle.corner_list.specs.CornerList.{Slices, places_of, with_corner}
+use Rattle.corner_list.specs.CornerList.{Slices, places_of, corner_at, with_corner}
 use Rattle.corner_list.proofs.Corners.{with-here, with-there}
 use Rattle.merge_grid.specs.declared.Grid.{Grid}
 use Rattle.merge_grid.specs.declared.Position.{Position}
-use Rattle.merge_grid.specs.Grid.{position_of, position_at, row_of}
-use Rattle.merge_settle.specs.Internal.{count_with, empty, home_at, PlaceListed, ListsAt, InIndex, Indexed}
+use Rattle.merge_grid.specs.Grid.{position_of, position_at, row_of, joins}
+use Rattle.std.specs.Prelude.{Option, None, Some, IfSome}
+use Rattle.merge_settle.specs.Internal.{FirstPasses, joins_at, count_with, put_at, empty, home_at, PlaceListed, ListsAt, InIndex, Indexed}
 
 pub indexed-none : (g : Grid) (floor : ℕ) (table : List ℕ) (xs ys : List Float) → 0 < length table → Indexed g floor table xs ys 0
 indexed-none g floor table xs ys h = record { some = h; each = λ i l. absurd (let no : ⊥ = omega arith in no) }
@@ -35,11 +36,11 @@ module _ (g : Grid) (floor : ℕ) where
     listed q e small = inr (subst (λ (h : ℕ). PlaceListed table' h at) (ap₂ (home_at g) (sym lists.long) e) (lists.listed small))
 
   -- a corner put in the place that it takes, and listed
-  pub indexed-put : (table : List ℕ) (b : Slices) (k : ℕ) → Indexed g floor table b.xs b.ys k → (at : ℕ) (c : Corner)
-      → (at < places_of b) ⊎ (empty ≤ at)
+  indexed-put : (table : List ℕ) (b : Slices) (k : ℕ) → Indexed g floor table b.xs b.ys k → (at : ℕ) (c : Corner)
+      → at < places_of b
       → (table' : List ℕ) (b' : Slices) → b' ≡ with_corner at c b → (p : Position) → p ≡ position_of c → ListsAt g p at table table'
-      → (n : ℕ) → n ≡ count_with k at → Indexed g floor table' b'.xs b'.ys n
-  indexed-put table b k index at c known table' b' put p is lists n e =
+      → (n : ℕ) → n ≡ count_with k (Some at) → Indexed g floor table' b'.xs b'.ys n
+  indexed-put table b k index at c fit table' b' put p is lists n e =
       record { some = omega (arith, lists.long, index.some); each = each }
     where
       old : (i : ℕ) → i < n → (i ≡ at → ⊥) → i < k
@@ -57,7 +58,6 @@ module _ (g : Grid) (floor : ℕ) where
 
       here : at < empty → InIndex g floor table' (position_at b'.xs b'.ys at) at
       here small =
-          let fit : at < places_of b = ⊎_elim (λ l. l) (λ (far : empty ≤ at). absurd (let no : ⊥ = omega arith in no)) known in
           listed table p at table' lists _ (is ∙ sym (now-at at ∙ ap position_of (with-here b at c fit))) small
 
       each : (i : ℕ) → i < n → i < empty → InIndex g floor table' (position_at b'.xs b'.ys i) i
@@ -68,6 +68,18 @@ module _ (g : Grid) (floor : ℕ) where
                 subst (λ (q : Position). InIndex g floor table' q i) (sym (now-at i ∙ ap position_of (with-there b at c i e)))
                 (again table p at table' lists _ i small (index.each i (old i l e) small))
           ]
+
+  -- by the place that it takes, if it takes one
+  module _ (table : List ℕ) (b : Slices) (k : ℕ) (index : Indexed g floor table b.xs b.ys k) (c : Corner) (place : Option ℕ) (b' : Slices)
+      (put : b' ≡ put_at place c b) where
+    pub indexed-dropped : place ≡ None → Indexed g floor table b'.xs b'.ys k
+    indexed-dropped is = let same : b' ≡ b = put ∙ ap (λ (r : Option ℕ). put_at r c b) is in rw same index
+
+    pub indexed-placed : (at : ℕ) → place ≡ Some at → IfSome place (λ r. r < places_of b) → (p : Position) → p ≡ position_of c
+        → (table' : List ℕ) → ListsAt g p at table table' → (n : ℕ) → n ≡ count_with k (Some at) → Indexed g floor table' b'.xs b'.ys n
+    indexed-placed at is fit p e table' lists n m =
+        let inside : at < places_of b = rw is at fit in
+        indexed-put table b k index at c inside table' b' (put ∙ ap (λ (r : Option ℕ). put_at r c b) is) p e lists n m
 
   -- ---- the index made anew, corner by corner
   module _ (table : List ℕ) (xs ys : List Float) (k : ℕ) (index : Indexed g floor table xs ys k) (p : Position)
@@ -100,3 +112,8 @@ module _ (g : Grid) (floor : ℕ) where
 pub indexed-viewed : {g : Grid} {floor : ℕ} {slots : List ℕ} {k : ℕ} (s s' : Slices) → s ≡ s' → Indexed g floor slots s.xs s.ys k
     → Indexed g floor slots s'.xs s'.ys k
 indexed-viewed {g} {floor} {slots} {k} s s' e i = subst (λ (d : Slices). Indexed g floor slots d.xs d.ys k) e i
+
+-- the first that a corner joins, seen in a view
+pub found-viewed : (g : Grid) (k : ℕ) (joined : Option ℕ) (p : Position) (c : Corner) (s s' : Slices) → s ≡ s' → p ≡ position_of c
+    → FirstPasses (joins_at g p s.xs s.ys) k joined → FirstPasses (λ m. joins g c (corner_at s' m)) k joined
+found-viewed g k joined p c s s' e q f = rw (e, q) at f

@@ -3,19 +3,19 @@ use Prim.Native.Nat.{ℕ, zero, suc, ◌+◌, ◌<◌, ◌≤◌}
 use native.Mathlib.Nat.{not-suc-le-zero}
 use native.Mathlib.Omega.{arith}
 use mathlib.Core.Path.{◌≡◌, refl, sym, ap, ◌∙◌}
-use mathlib.Core.Logic.{inl, inr}
 use mathlib.Core.Bool.{Bool, true, false, cond}
 use mathlib.Core.List.{List, [], ◌∷◌, ◌++◌}
 use lib.ListN.{length, get_or, set, length-set, length-append}
 use lib.Seq.{set-get_or}
 use borrow.Author.Tests.{eq-eqb, ne_eqb}
 use lib.Ieee.{lt}
+use Rattle.std.specs.Prelude.{Option, None, Some, IfSome}
 use Rattle.lists.proofs.Tests.{is_false}
 use Rattle.corner_list.specs.declared.Corner.{Corner}
 use Rattle.corner_list.specs.CornerList.{Slices, places_of, corner_at, corners_of, with_corner, front_corners}
-use Rattle.corner_list.proofs.Corners.{with-corner-outside, corners-length, corners-at, corners-same, corners-set, corners-next}
+use Rattle.corner_list.proofs.Corners.{corners-length, corners-at, corners-same, corners-set, corners-next}
 use Rattle.merge_settle.specs.Settle.{stronger, settle}
-use Rattle.merge_settle.specs.Internal.{IsFirst, count_with, Settled, SettlesAt, empty}
+use Rattle.merge_settle.specs.Internal.{FirstAt, FirstPasses, place_of, count_with, put_at, Settled}
 
 -- ---- lists
 
@@ -62,12 +62,14 @@ module _ (j : Corner → Corner → Bool) (c : Corner) where
       pick true h = omega arith
       pick false h = omega arith
 
--- ---- the buffer b, whose first k corners are the kept ones; i is the first place that c joins
+-- ---- the buffer b, whose first k corners are the kept ones
 
-module _ (j : Corner → Corner → Bool) (k : ℕ) (c : Corner) (b : Slices) (fit : k < places_of b) (i : ℕ)
-    (first : IsFirst (λ m. j c (corner_at b m)) k i) where
+module _ (j : Corner → Corner → Bool) (k : ℕ) (c : Corner) (b : Slices) (fit : k < places_of b) where
   abbrev Kept : List Corner
   Kept = corners_of b k
+
+  abbrev joins_at : ℕ → Bool
+  joins_at m = j c (corner_at b m)
 
   many : length Kept ≡ k
   many = corners-length b k
@@ -76,62 +78,64 @@ module _ (j : Corner → Corner → Bool) (k : ℕ) (c : Corner) (b : Slices) (f
   starts = corners-same b k (omega arith)
 
   -- c joins none of those before i
-  none : (m : ℕ) → m < i → j c (get_or Kept m c) ≡ true → ⊥
-  none m l t = first.before m l (ap (j c) (sym (corners-at b k m c (omega (arith, first.at_most)))) ∙ t)
+  none : (i : ℕ) → i ≤ k → ((m : ℕ) → m < i → joins_at m ≡ true → ⊥) → (m : ℕ) → m < i → j c (get_or Kept m c) ≡ true → ⊥
+  none i h before m l t = before m l (ap (j c) (sym (corners-at b k m c (omega arith))) ∙ t)
 
-  pub settles-new : k ≤ i → SettlesAt j k c b k
-  settles-new h =
-      let e : settle j Kept c ≡ Kept ++ (c ∷ []) = settle-none j c c Kept (λ m l. none m (omega (arith, many))) in
+  settles-new : FirstPasses joins_at k None → Settled j k c b (count_with k (Some k)) (put_at (Some k) c b)
+  settles-new first =
+      let e : settle j Kept c ≡ Kept ++ (c ∷ []) = settle-none j c c Kept (λ m l. none k (omega arith) first m (omega (arith, many))) in
       record {
-        settled = record {
-          count = ap (λ (t : Bool). cond t (k + 1) k) (eq-eqb k k refl)
-              ∙ sym (ap length e ∙ length-append Kept (c ∷ []) ∙ ap (λ (n : ℕ). n + 1) many);
-          buffer = ap (with_corner k c) starts ∙ corners-next Kept b k c (sym many) fit
-              ∙ ap (λ (l : List Corner). front_corners l b) (sym e);
-        };
-        known = inl fit;
+        count = ap (λ (t : Bool). cond t (k + 1) k) (eq-eqb k k refl)
+            ∙ sym (ap length e ∙ length-append Kept (c ∷ []) ∙ ap (λ (n : ℕ). n + 1) many);
+        buffer = ap (with_corner k c) starts ∙ corners-next Kept b k c (sym many) fit
+            ∙ ap (λ (l : List Corner). front_corners l b) (sym e);
       }
 
-  module _ (h : i < k) (o : Corner) (is : o ≡ corner_at b i) where
-    here : get_or Kept i c ≡ o
-    here = corners-at b k i c h ∙ sym is
+  -- i is the first place that c joins
+  module _ (i : ℕ) (first : FirstAt joins_at k i) where
+    here : get_or Kept i c ≡ corner_at b i
+    here = corners-at b k i c first.below
 
-    there : (t : Bool) → lt o.strength c.strength ≡ t → settle j Kept c ≡ set Kept i (cond t c o)
+    there : (t : Bool) → lt (corner_at b i).strength c.strength ≡ t → settle j Kept c ≡ set Kept i (cond t c (corner_at b i))
     there t e =
-        settle-some j c c Kept i (omega (arith, many)) none (ap (j c) (corners-at b k i c h) ∙ first.passes h)
+        settle-some j c c Kept i (omega (arith, many, first.below)) (none i (omega (arith, first.below)) first.before)
+        (ap (j c) here ∙ first.passes)
         ∙ ap (λ (p : Corner). set Kept i (stronger c p)) here
-        ∙ ap (λ (u : Bool). set Kept i (cond u c o)) e
+        ∙ ap (λ (u : Bool). set Kept i (cond u c (corner_at b i))) e
 
-    -- a place that is not k: as many corners as before
-    as_many : (r : ℕ) → (r ≡ k → ⊥) → count_with k r ≡ length Kept
-    as_many r n = ap (λ (t : Bool). cond t (k + 1) k) (ne_eqb r k n) ∙ sym many
-
-    pub settles-stronger : lt o.strength c.strength ≡ true → SettlesAt j k c b i
-    settles-stronger t =
+    settles-first : (t : Bool) → lt (corner_at b i).strength c.strength ≡ t
+        → Settled j k c b (count_with k (cond t (Some i) None)) (put_at (cond t (Some i) None) c b)
+    settles-first true t =
         let e : settle j Kept c ≡ set Kept i c = there true t in
         record {
-          settled = record {
-            count = as_many i (λ (q : i ≡ k). let no : ⊥ = omega arith in no) ∙ sym (ap length e ∙ length-set Kept i c);
-            buffer = ap (with_corner i c) starts ∙ corners-set Kept b i c (omega (arith, many))
-                ∙ ap (λ (l : List Corner). front_corners l b) (sym e);
-          };
-          known = inl (omega arith);
+          count = ap (λ (u : Bool). cond u (k + 1) k) (ne_eqb i k (λ (q : i ≡ k). let no : ⊥ = omega (arith, first.below) in no))
+              ∙ sym (ap length e ∙ length-set Kept i c ∙ many);
+          buffer = ap (with_corner i c) starts ∙ corners-set Kept b i c (omega (arith, many, first.below))
+              ∙ ap (λ (l : List Corner). front_corners l b) (sym e);
         }
-
-    -- it is dropped: r is no place of the buffer
-    pub settles-none : (r : ℕ) → places_of b ≤ r → empty ≤ r → lt o.strength c.strength ≡ false → SettlesAt j k c b r
-    settles-none r out far t =
+    settles-first false t =
         let e : settle j Kept c ≡ Kept = there false t ∙ ap (set Kept i) (sym here) ∙ set-get_or Kept i c in
-        record {
-          settled = record {
-            count = as_many r (λ (q : r ≡ k). let no : ⊥ = omega arith in no) ∙ sym (ap length e);
-            buffer = with-corner-outside r c b out ∙ starts ∙ ap (λ (l : List Corner). front_corners l b) (sym e);
-          };
-          known = inr far;
-        }
+        record { count = sym (ap length e ∙ many); buffer = starts ∙ ap (λ (l : List Corner). front_corners l b) (sym e) }
 
--- ---- the corner put in the place that it takes
-pub settled-put : (j : Corner → Corner → Bool) (k : ℕ) (c : Corner) (b : Slices) (r n : ℕ) (b' : Slices) → SettlesAt j k c b r
-    → n ≡ count_with k r
-    → b' ≡ with_corner r c b → Settled j k c b n b'
-settled-put j k c b r n b' t e put = record { count = e ∙ t.settled.count; buffer = put ∙ t.settled.buffer }
+  -- c in the place that it takes is settled, and that place is one of the buffer
+  settles : (joined : Option ℕ) → FirstPasses joins_at k joined
+      → Settled j k c b (count_with k (place_of b k c joined)) (put_at (place_of b k c joined) c b)
+  settles None first = settles-new first
+  settles (Some i) first = settles-first i first (lt (corner_at b i).strength c.strength) refl
+
+  place-in : (joined : Option ℕ) → FirstPasses joins_at k joined → IfSome (place_of b k c joined) (λ r. r < places_of b)
+  place-in None first = fit
+  place-in (Some i) first = pick (lt (corner_at b i).strength c.strength)
+    where
+      pick : (t : Bool) → IfSome (cond t (Some i) None) (λ r. r < places_of b)
+      pick true = omega (arith, first.below)
+      pick false = tt
+
+  -- by the answers of the code
+  pub place-by : (joined : Option ℕ) → FirstPasses joins_at k joined → (place : Option ℕ) → place ≡ place_of b k c joined
+      → IfSome place (λ r. r < places_of b)
+  place-by joined first place is = rw is (place-in joined first)
+
+  pub settles-by : (joined : Option ℕ) → FirstPasses joins_at k joined → (place : Option ℕ) → place ≡ place_of b k c joined
+      → (n : ℕ) → n ≡ count_with k place → (b' : Slices) → b' ≡ put_at place c b → Settled j k c b n b'
+  settles-by joined first place is n e b' put = rw (e, put, is) (settles joined first)

@@ -1,18 +1,18 @@
 -- The slots of the index: what a table of floats holds, homes are among the slots, and a place is listed with no other lost. Assumes
 -- nothing.
-use Prim.Native.Nat.{ℕ, zero, suc, ◌-◌, ◌*◌, ◌/◌, ◌%◌, ◌<◌, ◌≤◌}
+use Prim.Native.Nat.{ℕ, zero, suc, ◌+◌, ◌-◌, ◌*◌, ◌/◌, ◌%◌, ◌<◌, ◌≤◌}
 use native.Mathlib.Nat.{mod-lt, le_of_suc-le-suc}
 use native.Mathlib.Omega.{arith}
 use mathlib.Core.Path.{◌≡◌, refl, sym, ap, ◌∙◌, subst}
-use mathlib.Core.Logic.{inl, inr, ⊎_elim}
+use mathlib.Core.Logic.{◌⊎◌, inl, inr, ⊎_elim}
 use mathlib.Core.Bool.{Bool, not}
 use mathlib.Core.List.{List, [], ◌∷◌}
 use lib.Dec.{T}
-use lib.ListN.{length, get_or, set, replicate, length-set, length-map}
-use lib.Seq.{get_or-set_same, get_or-set_other, set-get_or}
+use lib.ListN.{length, take, drop, get_or, set, length-set, length-map, length-take, length-drop}
+use lib.Seq.{get_or-take, get_or-drop, get_or-set_same, get_or-set_other, set-get_or}
 use lib.Ieee.{Float, nan, binary32, of_bits, to_bits}
 use lib.Ieee.Bits.{nan_bits_is, to_bits-of_bits}
-use Rattle.lists.specs.Buffer.{wiped_from}
+use Rattle.std.specs.Prelude.{Option, None, Some, MatchOption, IfSome, unwrap_or}
 use Rattle.float32.proofs.Classes.{no-nan-pattern}
 use Rattle.merge_grid.specs.declared.Grid.{Grid}
 use Rattle.merge_grid.specs.declared.Position.{Position}
@@ -33,6 +33,14 @@ slot_is [] p i h e = absurd (let no : ⊥ = omega arith in no)
 slot_is (x ∷ t) zero i h e = sym e
 slot_is (x ∷ t) (suc p) i h e = slot_is t p i (le_of_suc-le-suc h) e
 
+-- the number that is read at a place from `home` on
+pub slot-read : (t : List Float) (home i v : ℕ) → i < length (take (length t - home) (drop home t))
+    → v ≡ to_bits binary32 (get_or (take (length t - home) (drop home t)) i nan) → get_or (slots_of t) (home + i) 0 ≡ v
+slot-read t home i v h e =
+    let l : i < length t - home = omega (arith, length-take (length t - home) (drop home t), length-drop home t) in
+    slot_is t (home + i) v (omega arith)
+    (e ∙ ap (to_bits binary32) (get_or-take (length t - home) (drop home t) i nan l ∙ get_or-drop home t i nan))
+
 slots_set : (t : List Float) (p : ℕ) (v : Float) → slots_of (set t p v) ≡ set (slots_of t) p (to_bits binary32 v)
 slots_set [] p v = refl
 slots_set (x ∷ t) zero v = refl
@@ -43,10 +51,6 @@ place-back : (place : ℕ) → place < empty → to_bits binary32 (of_bits binar
 place-back place h =
     to_bits-of_bits binary32 place (omega arith)
     (subst (λ (b : Bool). T (not b)) (nan_bits_is binary32 place) (no-nan-pattern place (omega arith)))
-
--- a table that is cleared: what it held does not count
-pub wiped-same : (z : Float) (t t' : List Float) → length t' ≡ length t → wiped_from 0 z t' ≡ wiped_from 0 z t
-wiped-same z t t' e = ap (λ (n : ℕ). replicate (n - 0) z) e
 
 -- ---- homes
 
@@ -113,6 +117,30 @@ module _ (table : List ℕ) (home place : ℕ) where
           w)
           s.here;
     }
+
+-- what a search of a table of floats from `home` on finds
+pub slot-found : (t : List Float) (home place : ℕ) (r : Option ℕ) → home ≤ length t
+    → MatchOption r ((p : ℕ) → home ≤ p → p < length t → to_bits binary32 (get_or t p nan) ≡ empty → ⊥)
+    (λ p. (home ≤ p) × (p < length t)
+    × ((to_bits binary32 (get_or t p nan) ≡ empty) ⊎ (to_bits binary32 (get_or t p nan) ≡ place))
+    × ((q : ℕ) → home ≤ q → q < p → to_bits binary32 (get_or t q nan) ≡ empty → ⊥))
+    → SlotFor (slots_of t) home place (unwrap_or r (length t)) × IfSome r (λ p. p < length t)
+slot-found t home place None h none = (
+  record {
+    from = h;
+    full = λ q l m e. none q l m (sym (slot_is t q _ m refl) ∙ e);
+    here = inl (omega (arith, slots-long t));
+  },
+  tt,
+)
+slot-found t home place (Some p) h found = (
+  record {
+    from = found.0;
+    full = λ q l m e. found.3 q l m (sym (slot_is t q _ (omega (arith, found.1)) refl) ∙ e);
+    here = inr (⊎_elim (λ e. inl (slot_is t p _ found.1 refl ∙ e)) (λ e. inr (slot_is t p _ found.1 refl ∙ e)) found.2);
+  },
+  found.1,
+)
 
 -- in a table of floats, for a corner at p whose home is found
 module _ (g : Grid) (p : Position) (t : List Float) (home place : ℕ) (is : home ≡ home_at g (length t) p) where

@@ -10,7 +10,9 @@ use lib.ListN.{length, drop, drop_of_length-le}
 use lib.Seq.{drop-cons, drop_at}
 use Rattle.lists.specs.Tab.{tab}
 use Rattle.lists.proofs.Tab.{length-tab, tab-ext, tab-add}
+use Rattle.std.specs.Prelude.{Option, None, Some}
 use Rattle.corner_list.specs.declared.Corner.{Corner}
+use Rattle.corner_list.specs.declared.buffer.CornerView.{CornerView}
 use Rattle.corner_list.specs.CornerList.{Slices, places_of, corner_at, corners_of, front_corners}
 use Rattle.corner_list.proofs.Corners.{corners-length, corners-at, corners-front, corners-same, corners-again, corners-behind, front-xs}
 use Rattle.corner_list.proofs.Corners.{front-ys, front-strengths, front-neighbours, same-places}
@@ -20,12 +22,9 @@ use Rattle.merge_settle.specs.Internal.{Settled, step, start, IsStep, unsettled,
 use Rattle.merge_settle.proofs.Settle.{settle-longer, settle-one}
 
 -- ---- a corner of the list, where that is
-module _ (apart : Bool) (own b : Slices) (at : ℕ) (c : Corner) where
-  pub given-apart : apart ≡ true → c ≡ corner_at own at → c ≡ corner_at (given apart own b) at
-  given-apart e is = is ∙ ap (λ (a : Bool). corner_at (given a own b) at) (sym e)
-
-  pub given-here : apart ≡ false → c ≡ corner_at b at → c ≡ corner_at (given apart own b) at
-  given-here e is = is ∙ ap (λ (a : Bool). corner_at (given a own b) at) (sym e)
+pub given-by : (list : Option CornerView) (v b : Slices) (at : ℕ) (c : Corner) → v ≡ b → c ≡ corner_at (given list v) at
+    → c ≡ corner_at (given list b) at
+given-by list v b at c e is = rw e at is
 
 -- ---- the corners of the list that are not settled
 module _ (n : ℕ) where
@@ -48,19 +47,16 @@ module _ (n : ℕ) where
 
   -- and the others, once it is settled: those of a list in a buffer of its own stand as they did, and those of one that is merged in place
   -- too
-  unsettled-next : (apart : Bool) (own b b' : Slices) (l : List Corner) (i : ℕ) (c : Corner) → b' ≡ front_corners l b
+  unsettled-next : (list : Option CornerView) (b b' : Slices) (l : List Corner) (i : ℕ) (c : Corner) → b' ≡ front_corners l b
       → length l ≤ i + 1 → i < n
-      → c ≡ corner_at (given apart own b) i → unsettled (given apart own b) n i ≡ c ∷ unsettled (given apart own b') n (i + 1)
-  unsettled-next apart own b b' l i c put short h is =
-      unsettled-first list i h ∙ ap (λ (o : Corner). o ∷ unsettled list n (i + 1)) (sym is)
-      ∙ ap (λ (r : List Corner). c ∷ r) (sym (same apart))
+      → c ≡ corner_at (given list b) i → unsettled (given list b) n i ≡ c ∷ unsettled (given list b') n (i + 1)
+  unsettled-next list b b' l i c put short h is =
+      unsettled-first (given list b) i h ∙ ap (λ (o : Corner). o ∷ unsettled (given list b) n (i + 1)) (sym is)
+      ∙ ap (λ (r : List Corner). c ∷ r) (sym (same list))
     where
-      list : Slices
-      list = given apart own b
-
-      same : (a : Bool) → unsettled (given a own b') n (i + 1) ≡ unsettled (given a own b) n (i + 1)
-      same true = refl
-      same false = ap (λ (d : Slices). unsettled d n (i + 1)) put ∙ unsettled-same b l (i + 1) (omega arith) short
+      same : (from : Option CornerView) → unsettled (given from b') n (i + 1) ≡ unsettled (given from b) n (i + 1)
+      same (Some own) = refl
+      same None = ap (λ (d : Slices). unsettled d n (i + 1)) put ∙ unsettled-same b l (i + 1) (omega arith) short
 
 module _ (j : Corner → Corner → Bool) where
   -- ---- one thing after another, and a corner settled
@@ -86,15 +82,15 @@ module _ (j : Corner → Corner → Bool) where
       buffer = s.buffer ∙ ap (λ (l : List Corner). front_corners l b) (sym kept_is);
     }
 
-  -- ---- steps of merging a list of n, which is in the buffer `own` or in the one where the kept corners are
-  module _ (apart : Bool) (own : Slices) (n : ℕ) (b₀ : Slices) (s₀ : Step) where
-    pub stepped-none : n ≤ places_of b₀ → IsStep n s₀ → StepAfter j apart own n b₀ s₀ b₀ s₀
+  -- ---- steps of merging a list of n, which is in a buffer of its own or in the one where the kept corners are
+  module _ (list : Option CornerView) (n : ℕ) (b₀ : Slices) (s₀ : Step) where
+    pub stepped-none : n ≤ places_of b₀ → IsStep n s₀ → StepAfter j list n b₀ s₀ b₀ s₀
     stepped-none h i = record {
       is_step = i;
       leaves_same = record { more = omega arith; leaves = refl; buffer = corners-same b₀ s₀.kept (omega (arith, i.few, i.upto)) };
     }
 
-    module _ (b : Slices) (s : Step) (at : StepAfter j apart own n b₀ s₀ b s) where
+    module _ (b : Slices) (s : Step) (at : StepAfter j list n b₀ s₀ b s) where
       abbrev Kept : List Corner
       Kept = corners_of b s.kept
 
@@ -128,44 +124,44 @@ module _ (j : Corner → Corner → Bool) where
         stepped-fits h = omega (arith, at.is_step.few, stepped-places)
 
       -- the next corner of the list is settled
-      pub stepped-turn : s.done < n → (c : Corner) → c ≡ corner_at (given apart own b) s.done → (k : ℕ) (b' : Slices)
+      pub stepped-turn : s.done < n → (c : Corner) → c ≡ corner_at (given list b) s.done → (k : ℕ) (b' : Slices)
           → Settled j s.kept c b k b'
-          → StepAfter j apart own n b₀ s₀ b' (step (s.done + 1) k)
+          → StepAfter j list n b₀ s₀ b' (step (s.done + 1) k)
       stepped-turn h c is k b' t =
           let i : ℕ = s.done + 1 in
           let few : k ≤ i = omega (arith, at.is_step.few, t.count, settle-one j c Kept, many) in
           let short : length (settle j Kept c) ≤ i = omega (arith, t.count) in
-          let rest : List Corner = unsettled (given apart own b') n i in
-          let first : unsettled (given apart own b) n s.done ≡ c ∷ rest
-          = unsettled-next n apart own b b' (settle j Kept c) s.done c t.buffer short h is in
+          let rest : List Corner = unsettled (given list b') n i in
+          let first : unsettled (given list b) n s.done ≡ c ∷ rest
+          = unsettled-next n list b b' (settle j Kept c) s.done c t.buffer short h is in
           record {
             is_step = record { few = few; upto = omega arith };
             leaves_same =
-                leaves-same-then _ _ _ b s.kept (unsettled (given apart own b) n s.done) _ _ _ at.leaves_same
+                leaves-same-then _ _ _ b s.kept (unsettled (given list b) n s.done) _ _ _ at.leaves_same
                 (subst (λ (r : List Corner). LeavesSame j b s.kept r b' k rest) (sym first)
                 (leaves-same-settled b s.kept c b' k t rest));
           }
 
     -- ---- parts of the list: at its end, for fewer kept corners, and one after another
-    pub stops_end : (b : Slices) (i k most : ℕ) → StepAfter j apart own n b₀ s₀ b (step i k) → n ≤ i
-        → StopAfter j apart own most n b₀ s₀ b (step n k)
+    pub stops_end : (b : Slices) (i k most : ℕ) → StepAfter j list n b₀ s₀ b (step i k) → n ≤ i
+        → StopAfter j list most n b₀ s₀ b (step n k)
     stops_end b i k most at h =
         let end : i ≡ n = omega (arith, at.is_step.upto) in
-        record { stepped = subst (λ (m : ℕ). StepAfter j apart own n b₀ s₀ b (step m k)) end at; far = inl refl }
+        record { stepped = subst (λ (m : ℕ). StepAfter j list n b₀ s₀ b (step m k)) end at; far = inl refl }
 
-    module _ (b : Slices) (s : Step) (m : ℕ) (p : StopAfter j apart own m n b₀ s₀ b s) where
+    module _ (b : Slices) (s : Step) (m : ℕ) (p : StopAfter j list m n b₀ s₀ b s) where
       -- another can follow
       pub stops-ready : n ≤ places_of b₀ → (n ≤ places_of b) × IsStep n s
       stops-ready h = (stepped-places b s p.stepped h, p.stepped.is_step)
 
-      pub stops-done : (most : ℕ) → n ≤ s.done → StopAfter j apart own most n b₀ s₀ b s
+      pub stops-done : (most : ℕ) → n ≤ s.done → StopAfter j list most n b₀ s₀ b s
       stops-done most h = record { stepped = p.stepped; far = inl (omega (arith, p.stepped.is_step.upto)) }
 
-      pub stops-less : (most : ℕ) → most ≤ m → StopAfter j apart own most n b₀ s₀ b s
+      pub stops-less : (most : ℕ) → most ≤ m → StopAfter j list most n b₀ s₀ b s
       stops-less most h = record { stepped = p.stepped; far = ⊎_elim inl (λ f. inr (omega arith)) p.far }
 
-      pub stops-on : (most m' : ℕ) (b' : Slices) (s' : Step) → StopAfter j apart own m' n b s b' s' → most ≤ m'
-          → StopAfter j apart own most n b₀ s₀ b' s'
+      pub stops-on : (most m' : ℕ) (b' : Slices) (s' : Step) → StopAfter j list m' n b s b' s' → most ≤ m'
+          → StopAfter j list most n b₀ s₀ b' s'
       stops-on most m' b' s' q h = record {
         stepped = record {
           is_step = q.stepped.is_step;
@@ -175,15 +171,15 @@ module _ (j : Corner → Corner → Bool) where
       }
 
   -- the whole list
-  pub stops-all : (apart : Bool) (own : Slices) (n : ℕ) (b b' : Slices) (s : Step) → StopAfter j apart own n n b start b' s
-      → Left (merged j [] (corners_of (given apart own b) n)) b s.kept b'
+  pub stops-all : (list : Option CornerView) (n : ℕ) (b b' : Slices) (s : Step) → StopAfter j list n n b start b' s
+      → Left (merged j [] (corners_of (given list b) n)) b s.kept b'
   unfolding tab
-  stops-all apart own n b b' s p =
+  stops-all list n b b' s p =
       let done : n ≤ s.done = ⊎_elim (λ (e : s.done ≡ n). omega arith) (λ f. omega (arith, p.stepped.is_step.few)) p.far in
-      let last : Slices = given apart own b' in
+      let last : Slices = given list b' in
       let none : unsettled last n s.done ≡ [] = drop_of_length-le (corners_of last n) {i = s.done}
       (omega (arith, corners-length last n)) in
-      let all : corners_of b' s.kept ≡ merged j [] (corners_of (given apart own b) n)
+      let all : corners_of b' s.kept ≡ merged j [] (corners_of (given list b) n)
       = ap (merged j (corners_of b' s.kept)) (sym none) ∙ p.stepped.leaves_same.leaves in
       record {
         count = sym (corners-length b' s.kept) ∙ ap length all;
@@ -191,7 +187,7 @@ module _ (j : Corner → Corner → Bool) where
       }
 
   -- as many as there are places for, by another name
-  pub stops-held : (apart : Bool) (own : Slices) (n m : ℕ) (b b' : Slices) (s : Step) → n ≡ m → StopAfter j apart own n n b start b' s
-      → Left (merged j [] (corners_of (given apart own b) m)) b s.kept b'
-  stops-held apart own n m b b' s e p =
-      subst (λ (i : ℕ). Left (merged j [] (corners_of (given apart own b) i)) b s.kept b') e (stops-all apart own n b b' s p)
+  pub stops-held : (list : Option CornerView) (n m : ℕ) (b b' : Slices) (s : Step) → n ≡ m → StopAfter j list n n b start b' s
+      → Left (merged j [] (corners_of (given list b) m)) b s.kept b'
+  stops-held list n m b b' s e p =
+      subst (λ (i : ℕ). Left (merged j [] (corners_of (given list b) i)) b s.kept b') e (stops-all list n b b' s p)

@@ -1,10 +1,12 @@
 -- The contracts of private functions: no public promise depends on them.
 use Rattle.std.specs.Prelude.{ℕ, ◌+◌, ◌*◌, ◌/◌, ◌%◌, ◌<◌, ◌≤◌, ◌≡◌, ◌⊎◌, List, map, Bool, true, cond, length, get_or}
+use Rattle.std.specs.Prelude.{Option, None, Some}
 use Rattle.std.specs.Prelude.{drop, Float, eqb}
 use Rattle.std.specs.Float.{binary32}
-use Rattle.std.specs.Float.Ieee.{to_bits}
+use Rattle.std.specs.Float.Ieee.{to_bits, lt}
 use Rattle.corner_list.specs.declared.Corner.{Corner}
-use Rattle.corner_list.specs.CornerList.{Slices, places_of, corners_of, with_corner, front_corners}
+use Rattle.corner_list.specs.declared.buffer.CornerView.{CornerView}
+use Rattle.corner_list.specs.CornerList.{Slices, corner_at, corners_of, with_corner, front_corners}
 use Rattle.merge_grid.specs.declared.Grid.{Grid}
 use Rattle.merge_grid.specs.declared.Position.{Position}
 use Rattle.merge_grid.specs.Grid.{position_at, column_of, row_of, meets}
@@ -81,11 +83,16 @@ pub record Indexed (g : Grid) (floor : ℕ) (table : List ℕ) (xs ys : List Flo
 abbrev pub joins_at : Grid → Position → List Float → List Float → ℕ → Bool
 joins_at g p xs ys i = meets g p (position_at xs ys i)
 
--- r is the first of the numbers below n that passes a test, or n if none does
-pub record IsFirst (f : ℕ → Bool) (n r : ℕ) : Type 0 where
-  pub at_most : r ≤ n
-  pub passes : r < n → f r ≡ true
-  pub before : (i : ℕ) → i < r → f i ≡ true → ⊥
+-- i is the first of the numbers below n that pass a test
+pub record FirstAt (f : ℕ → Bool) (n i : ℕ) : Type 0 where
+  pub below : i < n
+  pub passes : f i ≡ true
+  pub before : (m : ℕ) → m < i → f m ≡ true → ⊥
+
+-- what a search for it finds, nothing if none passes
+abbrev pub FirstPasses : (ℕ → Bool) → ℕ → Option ℕ → Type 0
+FirstPasses f n None = (i : ℕ) → i < n → f i ≡ true → ⊥
+FirstPasses f n (Some i) = FirstAt f n i
 
 -- r is at most n, is n or passes the test, and no smaller number among those looked at passes it
 pub record IsFirstAmong (f : ℕ → Bool) (Looked : ℕ → Type 0) (n r : ℕ) : Type 0 where
@@ -98,15 +105,21 @@ pub record Settled (j : Corner → Corner → Bool) (k : ℕ) (c : Corner) (b : 
   pub count : n ≡ length (settle j (corners_of b k) c)
   pub buffer : b' ≡ front_corners (settle j (corners_of b k) c) b
 
--- how many corners are kept when one is put at place r: one more than the k before if that is the next place
-abbrev pub count_with : ℕ → ℕ → ℕ
-count_with k r = cond (eqb r k) (k + 1) k
+-- how many corners are kept when one is put at a place, or at none: one more than the k before if that is the next
+-- place
+abbrev pub count_with : ℕ → Option ℕ → ℕ
+count_with k None = k
+count_with k (Some r) = cond (eqb r k) (k + 1) k
 
--- Place r is where c goes among the first k corners of a buffer: put there, it is settled among them. If c is dropped,
--- r is no place of the buffer, nor a listed one.
-pub record SettlesAt (j : Corner → Corner → Bool) (k : ℕ) (c : Corner) (b : Slices) (r : ℕ) : Type 0 where
-  pub settled : Settled j k c b (count_with k r) (with_corner r c b)
-  pub known : (r < places_of b) ⊎ (empty ≤ r)
+-- the place that c takes among the first k corners of a buffer, of which `joined` is the first that it joins
+abbrev pub place_of : Slices → ℕ → Corner → Option ℕ → Option ℕ
+place_of b k c None = Some k
+place_of b k c (Some i) = cond (lt (corner_at b i).strength c.strength) (Some i) None
+
+-- a corner put at a place of a buffer, or at none
+abbrev pub put_at : Option ℕ → Corner → Slices → Slices
+put_at None c b = b
+put_at (Some r) c b = with_corner r c b
 
 -- ---- Merging in place, one part of the list after the other, as the private functions promise it.
 
@@ -139,14 +152,14 @@ pub record LeavesSame (j : Corner → Corner → Bool) (b : Slices) (k : ℕ) (r
   pub buffer : b' ≡ front_corners (corners_of b' k') b
 
 -- merging a list of n corners has gone from one step to another
-pub record StepAfter (j : Corner → Corner → Bool) (apart : Bool) (own : Slices) (n : ℕ) (b : Slices) (s : Step)
+pub record StepAfter (j : Corner → Corner → Bool) (list : Option CornerView) (n : ℕ) (b : Slices) (s : Step)
     (b' : Slices) (s' : Step) : Type 0 where
   pub is_step : IsStep n s'
-  pub leaves_same : LeavesSame j b s.kept (unsettled (given apart own b) n s.done) b' s'.kept
-      (unsettled (given apart own b') n s'.done)
+  pub leaves_same : LeavesSame j b s.kept (unsettled (given list b) n s.done) b' s'.kept
+      (unsettled (given list b') n s'.done)
 
 -- and is at the list's end, or keeps at least `most`
-pub record StopAfter (j : Corner → Corner → Bool) (apart : Bool) (own : Slices) (most n : ℕ) (b : Slices)
+pub record StopAfter (j : Corner → Corner → Bool) (list : Option CornerView) (most n : ℕ) (b : Slices)
     (s : Step) (b' : Slices) (s' : Step) : Type 0 where
-  pub stepped : StepAfter j apart own n b s b' s'
+  pub stepped : StepAfter j list n b s b' s'
   pub far : (s'.done ≡ n) ⊎ (most ≤ s'.kept)

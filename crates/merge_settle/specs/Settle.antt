@@ -1,9 +1,11 @@
 -- Corners settled one after the other (RULES 8.4; merge.rs): each joins the first kept corner that passes a test, and
 -- replaces it if it is strictly stronger; if there is none, it is kept.
-use Rattle.std.specs.Prelude.{ℕ, min, ◌≡◌, Bool, cond, List, [], ◌∷◌, length}
+use Rattle.std.specs.Prelude.{ℕ, min, ◌≡◌, Bool, cond, List, [], ◌∷◌, length, Option, None, Some}
 use Rattle.std.specs.Float.Ieee.{lt}
 use Rattle.corner_list.specs.declared.Corner.{Corner}
+use Rattle.corner_list.specs.declared.buffer.CornerView.{CornerView}
 use Rattle.corner_list.specs.CornerList.{Slices, places_of, corners_of, front_corners}
+use Rattle.corner_list.specs.Buffer.{seen}
 use Rattle.merge_grid.specs.declared.Grid.{Grid}
 use Rattle.merge_grid.specs.Grid.{joins}
 
@@ -24,9 +26,10 @@ merged j kept (c ∷ cs) = merged j (settle j kept c) cs
 
 -- ---- the promise
 
--- where the list to merge is: in a buffer of its own, or in the one that has the kept corners
-abbrev pub given : Bool → Slices → Slices → Slices
-given apart own b = cond apart own b
+-- the buffer where the list to merge is: one of its own, or the one that has the kept corners
+abbrev pub given : Option CornerView → Slices → Slices
+given None b = b
+given (Some own) b = seen own
 
 -- n corners are now at the start of a buffer: what is left of a list
 pub record Left (left : List Corner) (b : Slices) (n : ℕ) (b' : Slices) : Type 0 where
@@ -34,7 +37,7 @@ pub record Left (left : List Corner) (b : Slices) (n : ℕ) (b' : Slices) : Type
   pub buffer : b' ≡ front_corners left b
 
 -- What settling the first n corners of a list by the grid g promises, for as many of them as the buffer b has places:
--- how many are kept, k, and the buffer after: these at the start, the rest unchanged. The list is in `own`, or else in
--- b
-abbrev pub Settles : Grid → Bool → Slices → ℕ → Slices → ℕ → Slices → Type 0
-Settles g apart own n b k b' = Left (merged (joins g) [] (corners_of (given apart own b) (min n (places_of b)))) b k b'
+-- how many are kept, k, and the buffer after: these at the start, the rest unchanged. The list is in a buffer of its
+-- own, or else in b
+abbrev pub Settles : Grid → Option CornerView → ℕ → Slices → ℕ → Slices → Type 0
+Settles g list n b k b' = Left (merged (joins g) [] (corners_of (given list b) (min n (places_of b)))) b k b'

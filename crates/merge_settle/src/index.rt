@@ -5,7 +5,7 @@
 // corner. Slots are floats, so that a buffer of floats can be the table: a slot holds a number as its 32 bits. Lists
 // usually come row by row, so in a long one only the last rows are near the corners to come: from time to time the
 // index is rebuilt from the corners that are not above row `floor`.
-ghost use Rattle.std.specs.Prelude.{◌≡◌, ◌⊎◌, ◌+◌, ◌<◌, ◌≤◌, length, leb};
+ghost use Rattle.std.specs.Prelude.{◌≡◌, ◌⊎◌, ◌+◌, ◌<◌, ◌≤◌, length, leb, IfSome, unwrap_or};
 ghost use Rattle.merge_grid.specs.Grid.{row_of};
 ghost use Rattle.merge_settle.specs.Internal.{pair_of, home_of, home_at, slots_of, SlotFor, ListsAt, Indexed};
 
@@ -13,6 +13,8 @@ use merge_grid::{Grid, Position};
 
 // What an empty slot holds: the bits of 1.0.
 pub(crate) const EMPTY: u32 = 0x3f80_0000;
+
+pub(crate) const EMPTY_SLOT: f32 = 1.0;
 
 // The home slot, in a table of `slots` slots, of the cells in pair x across and pair y down.
 pub(crate) fn home_of(slots: usize, x: usize, y: usize) -> usize
@@ -41,20 +43,15 @@ fn home_at(g: Grid, slots: usize, p: Position) -> usize
 }
 
 // The slot in which to list a place.
-fn slot_for(table: &[f32], home: usize, place: usize) -> usize
+fn slot_for(table: &[f32], home: usize, place: usize) -> Option<usize>
     requires { home ≤ length table.now }
-    ensures { SlotFor (slots_of table.now) home place result }
+    ensures slot { SlotFor (slots_of table.now) home place (unwrap_or result (length table.now)) }
+    ensures inside { IfSome result (λ p. p < length table.now) }
 {
-    for p in home..table.len() {
-        let i = float32::to_bits(table[p]);
-        if i == EMPTY {
-            return p;
-        }
-        if i as usize == place {
-            return p;
-        }
-    }
-    table.len()
+    (home..table.len()).find(|p| {
+        let i = float32::to_bits(table[*p]);
+        i == EMPTY || i as usize == place
+    })
 }
 
 // Lists the place of a corner that is at p, if it is one that a slot can hold.
@@ -63,8 +60,8 @@ pub(crate) fn list_place(table: &mut [f32], g: Grid, place: usize, p: Position)
     ensures { ListsAt g p place (slots_of table.old) (slots_of table.new) }
 {
     if place < EMPTY as usize {
-        let slot = slot_for(table, home_at(g, table.len(), p), place);
-        if slot < table.len() {
+        let home = home_at(g, table.len(), p);
+        if let Some(slot) = slot_for(table, home, place) {
             table[slot] = float32::from_bits(place as u32);
         }
     }
@@ -75,13 +72,6 @@ fn reaches(floor: usize, row: usize) -> bool
     ensures { result ≡ leb floor (row + 1) }
 {
     floor.saturating_sub(row) <= 1
-}
-
-// Empties every slot.
-pub(crate) fn clear(table: &mut [f32]) {
-    for p in 0..table.len() {
-        table[p] = 1.0;
-    }
 }
 
 // Lists the place of a corner that is at p, if it reaches `floor`.
@@ -107,14 +97,8 @@ pub(crate) fn list_kept(xs: &[f32], ys: &[f32], table: &mut [f32], g: Grid, floo
 
 // The lowest row of the corners from place `from` up to n.
 fn lowest_row(xs: &[f32], ys: &[f32], g: Grid, from: usize, n: usize) -> usize {
-    let mut low = 18446744073709551615;
-    for i in from..n {
-        let row = merge_grid::row_of(g, merge_grid::position_at(xs, ys, i));
-        if row < low {
-            low = row;
-        }
-    }
-    low
+    let rows = (from..n).map(|i| merge_grid::row_of(g, merge_grid::position_at(xs, ys, i)));
+    rows.min().unwrap_or(usize::MAX)
 }
 
 // The row `low`; but at every 65,536th corner of a list of n, the lowest row of the corners from there on. A table with
@@ -128,13 +112,11 @@ pub(crate) fn floor_at(
     i: usize,
     n: usize,
 ) -> usize {
-    if i < slots / 2 {
-        return low;
+    if slots / 2 <= i && i % 65536 == 0 {
+        lowest_row(xs, ys, g, i, n)
+    } else {
+        low
     }
-    if i % 65536 == 0 {
-        return lowest_row(xs, ys, g, i, n);
-    }
-    low
 }
 
 // Rebuilds the index of the first k corners if it is time, so that it does not fill with outdated places: once for
@@ -157,7 +139,7 @@ pub(crate) fn refresh(
     if i % (half + 1) != half {
         return floor;
     }
-    clear(table);
+    table.fill(EMPTY_SLOT);
     list_kept(xs, ys, table, g, low, k);
     low
 }

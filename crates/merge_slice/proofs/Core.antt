@@ -8,18 +8,19 @@ use lib.ListN.{length, take, get_or, length-map, get_or-map}
 use lib.Seq.{length-take-le, ext_get_or, get_or-take}
 use lib.Ieee.{Float}
 use Rattle.lists.specs.Buffer.{front}
-use Rattle.lists.specs.Refusals.{values_unless, unless, result_or}
+use Rattle.std.specs.Prelude.{Result, Ok}
+use Rattle.lists.specs.declared.refusal.Refusal.{Refusal}
+use Rattle.lists.specs.Refusals.{values_unless, judged, result_or}
 use Rattle.lists.proofs.Buffer.{map-front}
 use Rattle.corner_list.specs.declared.Corner.{Corner}
 use Rattle.corner_list.specs.CornerList.{Slices, slices, x_of, y_of, strength_of, neighbours_of, places_of, corner_at, corners_of}
 use Rattle.corner_list.specs.CornerList.{front_corners}
 use Rattle.corner_list.proofs.Corners.{slices-alike, corners-length, corners-at}
-use Rattle.merge.specs.declared.Merged.{Merged}
 use Rattle.merge.specs.Merge.{result_of, refusal_of, Merges}
 use Rattle.merge_refusal.proofs.Judged.{judged-fits}
 use Rattle.merge_slice.specs.MergeSlice.{refusal_for, MergesSlice}
-use Rattle.merge_slice.proofs.Turns.{nowhere, take_counted}
-use Rattle.merge.specs.declared.Merged.TheVariants.{Kept, Refused}
+use Rattle.std.proofs.lemmas.List.{take_min}
+use Rattle.merge_slice.proofs.Turns.{nowhere}
 
 -- ---- the corners of a slice as four slices hold them: the first n, those that stand first, and how many there are
 abbrev pub columns : List Corner → Slices
@@ -67,7 +68,7 @@ module _ (radius : Float) (count : ℕ) (cs : List Corner) where
   same-judged =
       columns-corners cs (min count (places_of (columns cs))) (omega (arith, columns-places cs))
       ∙ ap (λ (k : ℕ). take (min count k) cs) (columns-places cs)
-      ∙ take_counted count cs
+      ∙ take_min count cs
 
   same_number : (scratch : Slices) → length cs ≤ places_of scratch → refusal_for radius count cs scratch ≡ number
   unfolding refusal_for refusal_of
@@ -80,8 +81,8 @@ module _ (radius : Float) (count : ℕ) (cs : List Corner) where
       ap (result_of radius) (sym (columns-corners cs count
       (omega (arith, columns-places cs, judged-fits radius (places_of (columns cs)) count (columns cs) e))))
 
-  same_answer : (k : ℕ) → number ≡ k → unless Refused k (Kept (length left)) ≡ unless Refused k (Kept (length left-four))
-  same_answer zero e = ap (λ (l : List Corner). unless Refused 0 (Kept (length l))) (same-result e)
+  same_answer : (k : ℕ) → number ≡ k → judged k (length left) ≡ judged k (length left-four)
+  same_answer zero e = ap (λ (l : List Corner). Ok (length l)) (same-result e)
   same_answer (suc k) e = refl
 
   same-values : (k : ℕ) → number ≡ k → values_unless k (length left ∷ []) ≡ values_unless k (length left-four ∷ [])
@@ -93,12 +94,12 @@ module _ (radius : Float) (count : ℕ) (cs : List Corner) where
   same-buffer zero e = sym (columns-front left cs) ∙ ap (λ (l : List Corner). front_corners l (columns cs)) (same-result e)
   same-buffer (suc k) e = refl
 
-  pub as_core : (scratch scratch' : Slices) (answer : Merged) (cs' : List Corner) → length cs ≤ places_of scratch
+  pub as_core : (scratch scratch' : Slices) (answer : Result ℕ Refusal) (cs' : List Corner) → length cs ≤ places_of scratch
       → MergesSlice radius count cs scratch answer cs' scratch'
       → Merges radius (places_of (columns cs)) count (columns cs) answer (columns cs')
   as_core scratch scratch' answer cs' h m =
       let same = same_number scratch h in record {
-        answer = m.answer ∙ ap (λ (k : ℕ). unless Refused k (Kept (length left))) same ∙ same_answer number refl;
+        answer = m.answer ∙ ap (λ (k : ℕ). judged k (length left)) same ∙ same_answer number refl;
         number = m.number ∙ same;
         values = m.values ∙ ap (λ (k : ℕ). values_unless k (length left ∷ [])) same ∙ same-values number refl;
         buffer = ap columns (m.corners ∙ ap (λ (k : ℕ). result_or k (front left cs) cs) same) ∙ same-buffer number refl;

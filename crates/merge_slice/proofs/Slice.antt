@@ -4,7 +4,7 @@ use Prim.Native.Nat.{ℕ, zero, suc, ◌≤◌, min}
 use native.Mathlib.Decide.{dec_lt}
 use native.Mathlib.Omega.{arith}
 use mathlib.Core.Path.{◌≡◌, refl, sym, ap, ap₂, ◌∙◌, subst}
-use mathlib.Core.Bool.{Bool, true, false, not, cond, ◌&&◌, ◌||◌, true≢false}
+use mathlib.Core.Bool.{Bool, true, false, not, cond, ◌&&◌, ◌||◌}
 use mathlib.Core.List.{List, [], ◌∷◌, map}
 use lib.Dec.{ltb}
 use borrow.Author.Tests.{lt-ltb, le-ltb, ltb-false}
@@ -24,13 +24,15 @@ use Rattle.corner_list.proofs.Corners.{front-xs, front-ys, front-strengths, fron
 use Rattle.merge_radius.specs.MergeRadius.{is_off, radius_outside}
 use Rattle.merge_refusal.specs.Refusals.{corner_outside}
 use Rattle.merge_refusal.proofs.Judged.{judged-fits}
-use Rattle.merge.specs.declared.Merged.{Merged}
-use Rattle.merge.specs.declared.Merged.TheVariants.{Refused, Kept}
-use Rattle.merge.specs.Merge.{result_of, refusal_of, number_of, values_of, Merges}
-use Rattle.merge.proofs.Answer.{values-are}
+use Rattle.merge.specs.Merge.{result_of, refusal_of, Merges}
+use Rattle.merge.proofs.Answer.{conditions-known}
 use Rattle.merge.proofs.Result.{result-length}
 use Rattle.merge_slice.specs.MergeSlice.{shared_places, refusal_for, MergesSlice}
-use Rattle.lists.specs.Refusals.{unless, result_or}
+use Rattle.std.specs.Prelude.{Result, Ok, Err}
+use Rattle.lists.specs.declared.refusal.Refusal.{Refusal}
+use Rattle.lists.specs.declared.refusal.Refusal.TheVariants.{PositionOutside}
+use Rattle.lists.specs.Refusals.{judged, result_or}
+use Rattle.lists.proofs.Judged.{Known, number-judged, values-judged}
 
 -- ---- corners over more of them that stand first
 corners-over : (us cs : List Corner) (b : Slices) → length us ≤ length cs
@@ -70,14 +72,13 @@ and-fewer : (a b b' : Bool) → (b ≡ false → b' ≡ false) → (a && b) ≡ 
 and-fewer true b b' h e = h e
 and-fewer false b b' h e = refl
 
--- ---- answers and buffers by their number
-numbered : (k n : ℕ) → number_of (unless Refused k (Kept n)) ≡ k
-numbered zero n = refl
-numbered (suc k) n = refl
-
-untouched : (k : ℕ) (left : List Corner) (b : Slices) → (k ≡ 0 → ⊥) → result_or k (front_corners left b) b ≡ b
-untouched zero left b h = absurd (h refl)
-untouched (suc k) left b h = refl
+-- ---- 4 comes first: refused, and all is as it was
+pub slice-refused : (radius : Float) (count : ℕ) (cs : List Corner) (scratch : Slices)
+    → (not (is_off radius) && any corner_outside (take count cs)) ≡ true
+    → MergesSlice radius count cs scratch (Err PositionOutside) cs scratch
+slice-refused radius count cs scratch e =
+    let four : refusal_for radius count cs scratch ≡ 4 = unfold refusal_for in rw e in
+    record { answer = rw four; number = sym four; values = rw four; corners = rw four; given_back = refl }
 
 -- ---- the core on the corners in the scratch
 module _ (radius : Float) (count : ℕ) (cs : List Corner) (scratch : Slices) (n : ℕ) (is : n ≡ min count (shared_places cs scratch)) where
@@ -127,25 +128,6 @@ module _ (radius : Float) (count : ℕ) (cs : List Corner) (scratch : Slices) (n
   seen : corners_of inside (min count n) ≡ take n cs
   seen = ap (corners_of inside) (omega arith) ∙ inside-corners
 
-  -- 4 comes first; where it does not, the core's number is that of the entry
-  same_number : (t : Bool) → outside ≡ t → cond t 4 core ≡ number
-  unfolding refusal_of refusal_for
-  same_number true e = rw e
-  same_number false e =
-      let fewer = any-first corner_outside n count cs (omega arith) in
-      let none : refused (take n cs) ≡ false = and-fewer (not (is_off radius)) (any corner_outside (take count cs))
-      (any corner_outside (take n cs)) fewer e in
-      rw (seen, none, few-test count (shared_places cs scratch) n is, e)
-
-  -- the core lets through only what it has seen whole
-  core-seen : core ≡ 0 → outside ≡ false
-  unfolding refusal_of
-  core-seen e =
-      let seen-inside = (lowest-none (refused (corners_of inside (min count n))) 4
-      ((radius_outside radius, 5) ∷ (ltb n count, 10) ∷ []) (omega arith) e).0 in
-      let fits = judged-fits radius n count inside e in
-      subst (λ (k : ℕ). refused (take k cs) ≡ false) (few-fit count n n (omega arith) fits) (ap refused (sym seen) ∙ seen-inside)
-
   -- where nothing is refused the count is n, and the corners that are merged are the first of the slice
   module _ (none : number ≡ 0) where
     fits : count ≤ shared_places cs scratch
@@ -178,8 +160,8 @@ module _ (radius : Float) (count : ℕ) (cs : List Corner) (scratch : Slices) (n
   after_front (suc k) e = sym (front_same n cs in-corners)
 
   -- the core's answer and what it leaves in the scratch, by the definitions over the slice
-  same_answer : (k : ℕ) → number ≡ k → unless Refused k (Kept (length core-left)) ≡ unless Refused k (Kept (length left))
-  same_answer zero e = ap (λ (l : List Corner). unless Refused 0 (Kept (length (result_of radius l)))) (same-corners e)
+  same_answer : (k : ℕ) → number ≡ k → judged k (length core-left) ≡ judged k (length left)
+  same_answer zero e = ap (λ (l : List Corner). Ok (length (result_of radius l))) (same-corners e)
   same_answer (suc k) e = refl
 
   same-buffer : (k : ℕ) → number ≡ k → result_or k (front_corners core-left inside) inside ≡ front_corners (after k) scratch
@@ -188,61 +170,71 @@ module _ (radius : Float) (count : ℕ) (cs : List Corner) (scratch : Slices) (n
       ∙ corners-over left (take n cs) scratch (left-fits e)
   same-buffer (suc k) e = refl
 
-  -- and by whether 4 comes first
-  answer-judged : (t : Bool) → outside ≡ t
-      → cond t (Refused 4) (unless Refused core (Kept (length core-left))) ≡ unless Refused number (Kept (length left))
-  answer-judged true e = ap (λ (k : ℕ). unless Refused k (Kept (length left))) (same_number true e)
-  answer-judged false e = ap (λ (k : ℕ). unless Refused k (Kept (length core-left))) (same_number false e) ∙ same_answer number refl
+  number-known : Known number
+  unfolding refusal_for
+  number-known = conditions-known radius (take count cs) (ltb (shared_places cs scratch) count)
 
-  buffer-judged : (t : Bool) → outside ≡ t → result_or core (front_corners core-left inside) inside ≡ front_corners (after number) scratch
-  buffer-judged true e =
-      untouched core core-left inside (λ z. true≢false (sym e ∙ core-seen z))
-      ∙ ap (λ (k : ℕ). front_corners (after k) scratch) (same_number true e)
-  buffer-judged false e =
-      ap (λ (k : ℕ). result_or k (front_corners core-left inside) inside) (same_number false e) ∙ same-buffer number refl
+  -- where 4 does not refuse, the core's number is that of the entry
+  module _ (free : outside ≡ false) where
+    same_number : core ≡ number
+    unfolding refusal_of refusal_for
+    same_number =
+        let fewer = any-first corner_outside n count cs (omega arith) in
+        let none : refused (take n cs) ≡ false = and-fewer (not (is_off radius)) (any corner_outside (take count cs))
+        (any corner_outside (take n cs)) fewer free in
+        rw (seen, none, few-test count (shared_places cs scratch) n is, free)
 
-  -- judged, exchanged, merged, and exchanged again
-  pub slice-merged : (o : Bool) (cs₁ : List Corner) (b₁ b₂ : Slices) (core-answer : Merged) (cs₂ : List Corner) (b₃ : Slices) (r : Merged)
-      → o ≡ any corner_outside (take count cs)
-      → (cs₁ ≡ front (corners_of scratch n) cs) × (b₁ ≡ inside)
-      → Merges radius (min n (places_of b₁)) count b₁ core-answer b₂
-      → (cs₂ ≡ front (corners_of b₂ n) cs₁) × (b₃ ≡ front_corners (take n cs₁) b₂)
-      → r ≡ cond (not (is_off radius) && o) (Refused 4) core-answer
-      → MergesSlice radius count cs scratch r cs₂ b₃
-  slice-merged o cs₁ b₁ b₂ core-answer cs₂ b₃ r d e m f g = record {
-    answer = answered;
-    number = ap number_of answered ∙ numbered number (length left);
-    values = ap values_of answered ∙ values-are number (length left);
-    corners = corners;
-    given_back = given_back;
-  }
-    where
-      own : Merges radius n count inside core-answer b₂
+    -- the corners exchanged, and merged
+    module _ (b₁ b₂ : Slices) (answer : Result ℕ Refusal) (e : b₁ ≡ inside)
+        (m : Merges radius (min n (places_of b₁)) count b₁ answer b₂) where
+      own : Merges radius n count inside answer b₂
       own =
-          subst (λ (k : ℕ). Merges radius k count inside core-answer b₂)
+          subst (λ (k : ℕ). Merges radius k count inside answer b₂)
           (few count (length cs) (places_of scratch) (places_of inside) n is inside-places)
-          (subst (λ (b : Slices). Merges radius (min n (places_of b)) count b core-answer b₂) e.1 m)
+          (subst (λ (b : Slices). Merges radius (min n (places_of b)) count b answer b₂) e m)
 
-      answered : r ≡ unless Refused number (Kept (length left))
-      answered =
-          g ∙ ap₂ (λ (t : Bool) (a : Merged). cond (not (is_off radius) && t) (Refused 4) a) d own.answer ∙ answer-judged outside refl
+      answered : answer ≡ judged number (length left)
+      answered = own.answer ∙ ap (λ (k : ℕ). judged k (length core-left)) same_number ∙ same_answer number refl
 
       buffer : b₂ ≡ front_corners (after number) scratch
-      buffer = own.buffer ∙ buffer-judged outside refl
+      buffer =
+          own.buffer ∙ ap (λ (k : ℕ). result_or k (front_corners core-left inside) inside) same_number ∙ same-buffer number refl
 
-      read : corners_of b₂ n ≡ after number
-      read = ap (λ (b : Slices). corners_of b n) buffer ∙ corners-front (after number) scratch n (sym (after-length number refl))
+      long : n ≡ length (after number)
+      long = sym (after-length number refl)
 
-      corners : cs₂ ≡ result_or number (front left cs) cs
-      corners =
-          f.0 ∙ ap (front (corners_of b₂ n)) e.0
-          ∙ front-again (corners_of scratch n) (corners_of b₂ n) cs (omega (arith, corners-length scratch n, corners-length b₂ n))
-          ∙ ap (λ (l : List Corner). front l cs) read
-          ∙ after_front number refl
+      pub places-stay : n ≤ places_of b₂
+      places-stay =
+          let same = same-places (front_corners (after number) scratch) scratch (front-xs (after number) scratch n long in-scratch)
+          (front-ys (after number) scratch n long in-scratch) (front-strengths (after number) scratch n long in-scratch)
+          (front-neighbours (after number) scratch n long in-scratch) in
+          omega (arith, ap places_of buffer, same)
 
-      given_back : b₃ ≡ scratch
-      given_back =
-          f.1 ∙ ap (λ (l : List Corner). front_corners (take n l) b₂) e.0
-          ∙ ap₂ front_corners (front-take (corners_of scratch n) cs n (sym (corners-length scratch n))) buffer
-          ∙ corners-again (after number) scratch (corners_of scratch n) (omega (arith, corners-length scratch n, after-length number refl))
-          ∙ sym (corners-same scratch n in-scratch)
+      -- and exchanged again
+      pub slice-merged : (cs₁ cs₂ : List Corner) (b₃ : Slices) → cs₁ ≡ front (corners_of scratch n) cs
+          → (cs₂ ≡ front (corners_of b₂ n) cs₁) × (b₃ ≡ front_corners (take n cs₁) b₂)
+          → MergesSlice radius count cs scratch answer cs₂ b₃
+      slice-merged cs₁ cs₂ b₃ d f = record {
+        answer = answered;
+        number = number-judged number (length left) answered number-known;
+        values = values-judged (λ k. k ∷ []) number (length left) answered;
+        corners = corners;
+        given_back = given_back;
+      }
+        where
+          read : corners_of b₂ n ≡ after number
+          read = ap (λ (b : Slices). corners_of b n) buffer ∙ corners-front (after number) scratch n long
+
+          corners : cs₂ ≡ result_or number (front left cs) cs
+          corners =
+              f.0 ∙ ap (front (corners_of b₂ n)) d
+              ∙ front-again (corners_of scratch n) (corners_of b₂ n) cs (omega (arith, corners-length scratch n, corners-length b₂ n))
+              ∙ ap (λ (l : List Corner). front l cs) read
+              ∙ after_front number refl
+
+          given_back : b₃ ≡ scratch
+          given_back =
+              f.1 ∙ ap (λ (l : List Corner). front_corners (take n l) b₂) d
+              ∙ ap₂ front_corners (front-take (corners_of scratch n) cs n (sym (corners-length scratch n))) buffer
+              ∙ corners-again (after number) scratch (corners_of scratch n) (omega (arith, corners-length scratch n, long))
+              ∙ sym (corners-same scratch n in-scratch)

@@ -1,22 +1,18 @@
--- Laws of the two loops over a slice of corners. The exchange: after the first i places each list is as long as it was, its place i is as
--- it was, and one turn is one place more. The judging: one turn is one corner more. Assumes nothing.
-use Prim.Native.Nat.{ℕ, ◌+◌, ◌<◌, ◌≤◌, min}
+-- Laws of the exchange: after the first i places each list is as long as it was, its place i is as it was, and one turn is one place more.
+-- Assumes nothing.
+use Prim.Native.Nat.{ℕ, ◌+◌, ◌<◌, ◌≤◌}
 use native.Mathlib.Numerals.{add-one}
 use native.Mathlib.Omega.{arith}
 use mathlib.Core.Path.{◌≡◌, sym, ap, ◌∙◌}
-use mathlib.Core.Bool.{Bool, ◌||◌, or-false}
-use mathlib.Core.List.{List, [], ◌∷◌, ◌++◌, map, map-append}
-use lib.ListN.{length, take, get_or, set, length-map, length-take}
-use lib.Seq.{length-take-le, take-suc, take-take, take-length}
+use mathlib.Core.List.{List, [], ◌∷◌, ◌++◌}
+use lib.ListN.{length, take, get_or, set}
+use lib.Seq.{length-take-le, take-suc}
 use lib.Ieee.{nan}
 use Rattle.lists.specs.Buffer.{front}
-use Rattle.lists.specs.Places.{any}
-use Rattle.lists.proofs.Buffer.{front_length, front-behind, front-next, front-tab}
-use Rattle.lists.proofs.Places.{any_append}
+use Rattle.lists.proofs.Buffer.{front_length, front-behind, front-tab}
 use Rattle.corner_list.specs.declared.Corner.{Corner}
 use Rattle.corner_list.specs.CornerList.{Slices, places_of, with_corner, corner_at, corners_of, front_corners}
 use Rattle.corner_list.proofs.Corners.{corners-length, corners-behind, corners-next}
-use Rattle.merge_refusal.specs.Refusals.{corner_outside}
 
 -- what a place past the end of a slice of corners is taken for
 abbrev pub nowhere : Corner
@@ -49,21 +45,3 @@ module _ (cs : List Corner) (b : Slices) (i : ℕ) where
     where
       more : take (i + 1) cs ≡ take i cs ++ (get_or cs i nowhere ∷ [])
       more = rw (add-one i) (take-suc cs i nowhere l)
-
--- ---- the corners that are counted, of those that there are
-pub take_counted : {A : Type 0} (count : ℕ) (l : List A) → take (min count (length l)) l ≡ take count l
-take_counted count l =
-    ap (λ (k : ℕ). take k l) (sym (length-take count l))
-    ∙ sym (take-take (length (take count l)) count l (omega (arith, length-take count l)))
-    ∙ take-length (take count l)
-
--- ---- whether one of the first i corners is outside
-abbrev pub outside_upto : List Corner → ℕ → Bool
-outside_upto cs i = any corner_outside (take i cs)
-
-pub outside-turn : (cs : List Corner) (i : ℕ) → i < length cs
-    → (outside_upto cs i || corner_outside (get_or cs i nowhere)) ≡ outside_upto cs (i + 1)
-outside-turn cs i l =
-    ap (λ (t : Bool). outside_upto cs i || t) (sym (or-false (corner_outside (get_or cs i nowhere))))
-    ∙ sym (any_append corner_outside (take i cs) (get_or cs i nowhere ∷ []))
-    ∙ ap (any corner_outside) (sym (take-suc cs i nowhere l) ∙ ap (λ (k : ℕ). take k cs) (sym (add-one i)))

@@ -1,12 +1,11 @@
 -- Merging corners that lie in one slice (RULES 8.6), by the definitions of merging in four.
-use Rattle.std.specs.Prelude.{ℕ, min, ◌≡◌, List, [], ◌∷◌, length, take, ltb, Float}
+use Rattle.std.specs.Prelude.{ℕ, min, ◌≡◌, List, [], ◌∷◌, length, take, ltb, Float, Result}
 use Rattle.lists.specs.Buffer.{front}
-use Rattle.lists.specs.Refusals.{lowest, values_unless, unless, result_or}
+use Rattle.lists.specs.declared.refusal.Refusal.{Refusal}
+use Rattle.lists.specs.Refusals.{lowest, number_of, values_unless, judged, result_or}
 use Rattle.corner_list.specs.declared.Corner.{Corner}
 use Rattle.corner_list.specs.CornerList.{Slices, places_of}
-use Rattle.merge.specs.declared.Merged.{Merged}
-use Rattle.merge.specs.Merge.{result_of, number_of, values_of}
-use Rattle.merge.specs.declared.Merged.TheVariants.{Kept, Refused}
+use Rattle.merge.specs.Merge.{result_of, values_of}
 use Rattle.merge_refusal.specs.Refusals.{conditions}
 
 -- for how many corners there is a place in the slice of corners and in each scratch slice
@@ -20,10 +19,9 @@ refusal_for radius count cs scratch = lowest (conditions radius (take count cs) 
 
 -- What merging the first `count` corners of a slice promises about the answer, its number and values; about the corners
 -- after, what is left at the start and the rest unchanged, or all unchanged if refused; and about the scratch after
-pub record MergesSlice (radius : Float) (count : ℕ) (cs : List Corner) (scratch : Slices) (r : Merged)
+pub record MergesSlice (radius : Float) (count : ℕ) (cs : List Corner) (scratch : Slices) (r : Result ℕ Refusal)
     (cs' : List Corner) (scratch' : Slices) : Type 0 where
-  pub answer : r ≡ unless Refused (refusal_for radius count cs scratch)
-      (Kept (length (result_of radius (take count cs))))
+  pub answer : r ≡ judged (refusal_for radius count cs scratch) (length (result_of radius (take count cs)))
   pub number : number_of r ≡ refusal_for radius count cs scratch
   pub values : values_of r ≡ values_unless (refusal_for radius count cs scratch)
       (length (result_of radius (take count cs)) ∷ [])

@@ -102,6 +102,7 @@ fn read_number(upload: &[u8], from: usize) -> Option<Number>
 {
     let mut value = digit_at(upload, from)?;
     let mut end = skip_comments(upload, from + 1);
+    // A `while`: the step also passes the comments behind a digit.
     while let Some(digit) = digit_at(upload, end) {
         value = LARGEST_KEPT.min(10 * value + digit);
         end = skip_comments(upload, end + 1);

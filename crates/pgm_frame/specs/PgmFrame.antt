@@ -1,13 +1,13 @@
 -- The frame of an uploaded photograph (RULES 20.7): "The frame is the image's pixels as a part of the uploaded bytes,
 -- with the parameters given beside it."
-use Rattle.std.specs.Prelude.{ℕ, zero, suc, ◌≡◌, List, [], ◌∷◌, length}
-use Rattle.lists.specs.Refusals.{values_unless, unless, result_or}
+use Rattle.std.specs.Prelude.{ℕ, zero, suc, ◌≡◌, List, [], ◌∷◌, length, Result}
+use Rattle.lists.specs.declared.refusal.Refusal.{Refusal}
+use Rattle.lists.specs.Refusals.{number_of, values_unless, judged, result_or}
 use Rattle.frame_params.specs.declared.FrameParams.{FrameParams}
 use Rattle.patch_corners.specs.OneMap.{Choice}
 use Rattle.frame_pass.specs.Pass.{Pass, frame_pass}
-use Rattle.frame.specs.declared.FrameAnswer.{FrameAnswer}
-use Rattle.frame.specs.declared.FrameAnswer.TheVariants.{Corners, Refused}
-use Rattle.frame.specs.Frame.{Buffers, buffers_after, number_of, values_of}
+use Rattle.frame.specs.declared.Found.{Found}
+use Rattle.frame.specs.Frame.{Buffers, buffers_after, found_in, values_of}
 use Rattle.frame.specs.Frame as frames
 use Rattle.pgm.specs.Header.{width_of, height_of}
 use Rattle.pgm.specs.Pgm.{pixels_in}
@@ -31,8 +31,8 @@ module _ (choose : Choice) (p : FrameParams) (upload : List ℕ) where
 
   -- What is promised about the frame of an upload, for a choice of peaks: the answer, its number and values, and the
   -- buffers after, as the frame of the upload's pixels leaves them; a refusal of the upload changes none
-  pub record PhotographFound (b : Buffers) (r : FrameAnswer) (b' : Buffers) : Type 0 where
-    pub answer : r ≡ unless Refused (refusal_of b) (Corners (length pass_on.corners) pass_on.ties)
+  pub record PhotographFound (b : Buffers) (r : Result Found Refusal) (b' : Buffers) : Type 0 where
+    pub answer : r ≡ judged (refusal_of b) (found_in pass_on)
     pub number : number_of r ≡ refusal_of b
     pub values : values_of r ≡ values_unless (refusal_of b) (length pass_on.corners ∷ pass_on.ties ∷ [])
     pub left : b' ≡ result_or (pgm.refusal_of upload)

@@ -2,6 +2,7 @@
 use crate::buffers::{due_front, fill_bytes};
 use crate::fields::{and, count_at, past_words};
 use crate::list_buffer::{LIST, counts, floats};
+use corner_list::CornerView;
 use listing::LONGEST;
 use lists::Refusal;
 
@@ -20,14 +21,13 @@ fn is_due(body: &[u8], ys: usize, strengths: usize, neighbours: usize) -> bool {
     let neighbour = counts(body, neighbours);
     let mut text = [0u8; LONGEST];
     fill_bytes(&mut text);
-    let answer = listing::write_corners(
-        &x,
-        &y,
-        &strength,
-        &neighbour,
-        count_at(body, 0),
-        &mut text,
-    );
+    let list = CornerView {
+        xs: &x,
+        ys: &y,
+        strengths: &strength,
+        neighbours: &neighbour,
+    };
+    let answer = listing::write_corners(list, count_at(body, 0), &mut text);
     is_listing_due(body, past_words(body, neighbours, LIST), &text, answer)
 }
 

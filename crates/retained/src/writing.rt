@@ -27,7 +27,8 @@ pub(crate) fn write_letters(rt: &HostRuntime, text: &[u8], stream: &[u8], input:
     report_output(rt, outcome)
 }
 
-// Reports why a text was not written.
+// Reports why a text was not written. Its caller tests and does not `match`, as the edit written_is_reported turns the
+// test around.
 fn report_output(rt: &HostRuntime, outcome: io::Result<()>) -> Output
     requires { IsErr outcome }
 {

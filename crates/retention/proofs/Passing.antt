@@ -16,9 +16,9 @@ module _ (s : List ℕ) where
   place : (k : ℕ) → 9 * suc k - 1 ≡ place_of k
   place k = omega arith
 
-  pub fault-is : (k n : ℕ) → (k ≡ 0 → ⊥) → n ≡ record_fault s (9 * k - 1) → n ≡ item_fault s k
-  fault-is zero n h e = absurd (h refl)
-  fault-is (suc k) n h e = e ∙ ap (record_fault s) (place k)
+  pub fault-is : (k : ℕ) → (k ≡ 0 → ⊥) → record_fault s (9 * k - 1) ≡ item_fault s k
+  fault-is zero h = absurd (h refl)
+  fault-is (suc k) h = ap (record_fault s) (place k)
 
   pub wanted-is : (k n : ℕ) → (k ≡ 0 → ⊥) → n ≡ wanted_record s (9 * k - 1) → n ≡ wanted_item s k
   wanted-is zero n h e = absurd (h refl)

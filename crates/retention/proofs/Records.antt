@@ -1,18 +1,16 @@
 -- Laws of the faults of a time and of a record, and what each is without fault. Assumes nothing.
 use Prim.Native.Nat.{ℕ, ◌+◌, ◌^◌, ◌<◌, ◌≤◌}
 use native.Mathlib.Omega.{arith}
-use mathlib.Core.Path.{◌≡◌, ◌∙◌}
+use mathlib.Core.Path.{◌≡◌}
 use mathlib.Core.Bool.{Bool, true, false, not}
 use mathlib.Core.List.{List, [], ◌∷◌}
 use lib.ListN.{length}
 use lib.Dec.{ltb, leb}
 use borrow.Author.Tests.{lt-ltb, le-ltb, le-leb, lt-leb, ltb-false, not-false}
-use Rattle.lists.proofs.Refusals.{lowest-none, lowest-le}
-use Rattle.retention.specs.declared.Holding.{Holding}
+use Rattle.lists.proofs.Refusals.{lowest-none}
+use Rattle.lists.proofs.Judged.{Known}
 use Rattle.retention.specs.Retention.{known, is_late}
-use Rattle.retention.specs.Stream.{time_of, time_fault, kind_at, second_at, record_fault, state_at}
-use Rattle.retention.specs.Answer.{StateTold}
-use Rattle.retention.proofs.Items.{not-refused}
+use Rattle.retention.specs.Stream.{time_of, time_fault, kind_at, second_at, record_fault}
 
 -- a time, and a record, that is whole and has no fault
 pub record Timed (s : List ℕ) : Type 0 where
@@ -45,9 +43,9 @@ module _ (s : List ℕ) where
       let second = lowest-none (is_late (time_of s)) 20 [] (omega arith) first.1 in
       record { long = ltb-false (length s) 8 first.0; early = ltb-false (2 ^ 40) (time_of s) second.0 }
 
-  pub time-small : time_fault s ≤ 20
+  pub time-known : Known (time_fault s)
   unfolding time_fault
-  time-small = lowest-le ((ltb (length s) 8, 7) ∷ (is_late (time_of s), 20) ∷ []) 20 (omega arith)
+  time-known = grind arith
 
   -- ---- a record
   module _ (at : ℕ) where
@@ -94,17 +92,6 @@ module _ (s : List ℕ) where
           early = ltb-false (2 ^ 40) (second_at s at) fourth.0;
         }
 
-    pub fault-small : record_fault s at ≤ 20
+    pub fault-known : Known (record_fault s at)
     unfolding record_fault
-    fault-small =
-        lowest-le
-        ((leb (length s) at, 7) ∷ (not (known (kind_at s at)), 6) ∷ (ltb (length s) (at + 9), 7) ∷ (is_late (second_at s at), 20) ∷ [])
-        20 (omega arith)
-
-    -- what `holding` tells of it is what is printed of it
-    pub record-told : (start time : ℕ) (r : Holding) → record_fault s at ≡ 0 → start ≡ second_at s at → time ≡ time_of s → time ≤ 2 ^ 40
-        → StateTold (kind_at s at) start time r → r ≡ state_at s at
-    record-told start time r e p q l t =
-        let w = whole e in
-        let sound = not-refused (kind_at s at) start time (record { kind-is = w.kind-is; early = rw p w.early; now-early = l }) in
-        t.answer ∙ rw (sound, p, q)
+    fault-known = grind arith

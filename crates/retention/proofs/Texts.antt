@@ -10,7 +10,8 @@ use borrow.Author.Tests.{le-leb, lt-leb}
 use borrow.Rule.Slice.PartMut.{mid_of, put_mid}
 use Rattle.lists.proofs.Buffer.{front-take, put-placed}
 use Rattle.lists.specs.Buffer.{Written}
-use Rattle.lists.specs.Refusals.{unless}
+use Rattle.lists.specs.declared.refusal.Refusal.{Refusal}
+use Rattle.lists.specs.Refusals.{refusal_number, unless}
 use Rattle.listing.specs.Text.{newline, decimal, refused_text}
 use Rattle.listing.specs.Internal.{Wrote}
 use Rattle.listing.proofs.Numbers.{decimal-long}
@@ -24,18 +25,21 @@ use Rattle.retention.specs.Internal.{longest}
 -- ---- a refusal
 
 -- a number of at most two digits
-pub refusal-long : (n : ℕ) → n ≤ 20 → length (refused_text n) ≤ 11
+small : (e : Refusal) → refusal_number e < 100
+small e = grind arith
+
+refusal-long : (e : Refusal) → length (refused_text (refusal_number e)) ≤ 11
 unfolding refused_text
-refusal-long n h = omega (arith, ended-long (decimal n) newline, decimal-long 1 n (omega arith))
+refusal-long e = omega (arith, ended-long (decimal (refusal_number e)) newline, decimal-long 1 (refusal_number e) (small e))
 
 -- it was written into a text of its own, and is copied from there
-module _ (number : ℕ) (small : number ≤ 20) (before : List ℕ) (n : ℕ) (after : List ℕ)
+module _ (e : Refusal) (number : ℕ) (is : number ≡ refusal_number e) (before : List ℕ) (n : ℕ) (after : List ℕ)
     (w : Written (refused_text number) before n after) where
   pub text-fits : n ≤ length after
   text-fits = omega (arith, w.ends, ap length w.holds ∙ length-append (refused_text number) (drop (length (refused_text number)) before))
 
   pub text-short : n ≤ 11
-  text-short = omega (arith, w.ends, refusal-long number small)
+  text-short = omega (arith, w.ends, ap (λ (k : ℕ). length (refused_text k)) is, refusal-long e)
 
   text-is : take n after ≡ refused_text number
   text-is = ap (take n) w.holds ∙ front-take (refused_text number) before n w.ends
@@ -48,15 +52,16 @@ module _ (number : ℕ) (small : number ≤ 20) (before : List ℕ) (n : ℕ) (a
     pub part-holds : length (mid_of at (at + n - at) out) ≡ length (take n after)
     part-holds = omega (arith, part-long, length-take-le n after text-fits)
 
-    pub copied : (ys : List ℕ) → ys ≡ take n after → Wrote (refused_text number) at out (at + n) (put_mid at (at + n - at) out ys)
+    pub copied : (ys : List ℕ) → ys ≡ take n after
+        → Wrote (refused_text (refusal_number e)) at out (at + n) (put_mid at (at + n - at) out ys)
     copied ys copy =
-        let is : ys ≡ refused_text number = copy ∙ text-is in
+        let whole : ys ≡ refused_text number = copy ∙ text-is in
         let k : at + n - at ≡ length (refused_text number) = omega (arith, w.ends) in
-        record {
+        rw (← is) (record {
           fits = omega (arith, w.ends, text-short);
           ends = ap (λ (j : ℕ). at + j) w.ends;
-          holds = rw is (put-placed at (at + n - at) (refused_text number) out k);
-        }
+          holds = rw whole (put-placed at (at + n - at) (refused_text number) out k);
+        })
 
 -- ---- a letter and its newline
 pub letter-written : (at : ℕ) (out : List ℕ) (letter : ℕ) → at + 2 ≤ length out

@@ -1,8 +1,9 @@
 -- What may be deleted (RULES 32): whether an item is held at a time. Times are seconds.
-use Rattle.std.specs.Prelude.{ℕ, ◌+◌, ◌/◌, ◌^◌, Bool, true, cond, not, ◌&&◌, ◌||◌, List, [], ◌∷◌, eqb, ltb, leb}
-use Rattle.lists.specs.Refusals.{lowest}
+use Rattle.std.specs.Prelude.{ℕ, ◌+◌, ◌/◌, ◌^◌, Bool, true, cond, not, ◌&&◌, ◌||◌, List, [], ◌∷◌, eqb, ltb, leb, Result}
+use Rattle.lists.specs.declared.refusal.Refusal.{Refusal}
+use Rattle.lists.specs.Refusals.{lowest, values_by}
 use Rattle.retention.specs.declared.Holding.{Holding}
-use Rattle.retention.specs.declared.Holding.TheVariants.{NotYet, Held, Gone, Refused}
+use Rattle.retention.specs.declared.Holding.TheVariants.{NotYet, Held, Gone}
 
 -- 1 file, 2 photograph, 3 token (RULES 32.1)
 abbrev pub known : ℕ → Bool
@@ -32,24 +33,14 @@ is_late second = ltb (2 ^ 40) second
 unfoldable pub refusal_of : ℕ → ℕ → ℕ → ℕ
 refusal_of kind start time = lowest ((not (known kind), 6) ∷ (is_late start || is_late time, 20) ∷ [])
 
--- ---- an answer's number and values
+-- ---- an answer's values
 
--- its number (RULES 2.2)
-abbrev pub number_of : Holding → ℕ
-number_of NotYet = 0
-number_of Held = 0
-number_of Gone = 0
-number_of (Refused number) = number
-
--- N, H or G for not yet, held, gone (RULES 32.5); a refusal has none
+-- N, H or G for not yet, held, gone (RULES 32.5)
 abbrev pub letter_of : Holding → ℕ
 letter_of NotYet = 78
 letter_of Held = 72
 letter_of Gone = 71
-letter_of (Refused number) = 0
 
-abbrev pub values_of : Holding → List ℕ
-values_of NotYet = letter_of NotYet ∷ []
-values_of Held = letter_of Held ∷ []
-values_of Gone = letter_of Gone ∷ []
-values_of (Refused number) = []
+-- the letter alone; a refusal has none
+abbrev pub values_of : Result Holding Refusal → List ℕ
+values_of = values_by (λ h. letter_of h ∷ [])

@@ -1,10 +1,12 @@
 // Whether an item is held at a time.
 ghost use Rattle.std.specs.Prelude.{◌≡◌, ◌≤◌, ◌^◌};
+ghost use Rattle.lists.specs.Refusals.{verdict};
 ghost use Rattle.retention.specs.Retention.{state_of, refusal_of};
 ghost use Rattle.retention.specs.Retention.{stays as stays_of};
 ghost use Rattle.retention.specs.Answer.{StateTold};
 
 use crate::{Holding, LATEST};
+use lists::Refusal;
 
 // Whether an item that was received or issued is still held.
 fn stays(kind: u8, start: u64, time: u64) -> bool
@@ -18,7 +20,7 @@ fn stays(kind: u8, start: u64, time: u64) -> bool
     }
 }
 
-fn state(kind: u8, start: u64, time: u64) -> Holding
+pub(crate) fn state(kind: u8, start: u64, time: u64) -> Holding
     requires { start ≤ 2 ^ 40 }
     ensures { result ≡ state_of kind start time }
 {
@@ -32,29 +34,26 @@ fn state(kind: u8, start: u64, time: u64) -> Holding
     }
 }
 
-// The number of the refusal; 0 for none, here and below.
-fn refusal(kind: u8, start: u64, time: u64) -> u8
-    ensures { result ≡ refusal_of kind start time }
+// Why an item at a time is refused.
+fn refusal(kind: u8, start: u64, time: u64) -> Result<(), Refusal>
+    ensures { result ≡ verdict (refusal_of kind start time) }
 {
     if !crate::is_known(kind) {
-        return 6;
+        return Err(Refusal::UnknownKind);
     }
     if LATEST < start {
-        return 20;
+        return Err(Refusal::TooLate);
     }
     if LATEST < time {
-        return 20;
+        return Err(Refusal::TooLate);
     }
-    0
+    Ok(())
 }
 
 // Whether an item of a kind, received or issued at the second `start`, is held at the second `time`.
-pub fn holding(kind: u8, start: u64, time: u64) -> Holding
+pub fn holding(kind: u8, start: u64, time: u64) -> Result<Holding, Refusal>
     ensures { StateTold kind start time result }
 {
-    let number = refusal(kind, start, time);
-    if number != 0 {
-        return Holding::Refused(number);
-    }
-    state(kind, start, time)
+    refusal(kind, start, time)?;
+    Ok(state(kind, start, time))
 }

@@ -7,10 +7,12 @@ mod list; // list_holdings: what is printed for a stream
 mod reading; // wanted: how much of a stream must be read
 
 ghost use Rattle.std.specs.Prelude.{◌≡◌, ◌+◌, ◌≤◌, length};
-ghost use Rattle.retention.specs.Retention.{known};
+ghost use Rattle.lists.specs.Refusals.{verdict};
+ghost use Rattle.retention.specs.Retention.{known, letter_of};
 ghost use Rattle.retention.specs.Stream.{little_endian, time_fault, second_at, record_fault};
 
 pub use list::{LONGEST, list_holdings};
+use lists::Refusal;
 pub use reading::{Standing, wanted};
 
 // The most records of a stream that are read.
@@ -19,13 +21,25 @@ pub const MOST_RECORDS: usize = 65536;
 // The latest second: 2^40.
 const LATEST: u64 = 1099511627776;
 
-// An item at a time, or the number of the refusal.
+// An item at a time.
 #[derive(Clone, Copy)]
 pub enum Holding {
     NotYet,
     Held,
     Gone,
-    Refused(u8),
+}
+
+impl Holding {
+    // Its letter: N not yet, H held, G gone.
+    pub fn letter(self) -> u8
+        ensures { result ≡ letter_of self }
+    {
+        match self {
+            Holding::NotYet => b'N',
+            Holding::Held => b'H',
+            Holding::Gone => b'G',
+        }
+    }
 }
 
 // Whether there is such a kind: 1 is a file, 2 a photograph, 3 a token.
@@ -46,16 +60,16 @@ fn number_of(bytes: &[u8]) -> u64
 }
 
 // The fault of the time.
-fn time_fault(input: &[u8]) -> u8
-    ensures { result ≡ time_fault input.now }
+fn time_fault(input: &[u8]) -> Result<(), Refusal>
+    ensures { result ≡ verdict (time_fault input.now) }
 {
     if input.len() < 8 {
-        return 7;
+        return Err(Refusal::CutShort);
     }
     if LATEST < number_of(&input[..8]) {
-        return 20;
+        return Err(Refusal::TooLate);
     }
-    0
+    Ok(())
 }
 
 // The second in the record at a place, which is complete.
@@ -69,20 +83,20 @@ fn start_at(input: &[u8], at: usize) -> u64
 }
 
 // The fault of the record at a place.
-fn record_fault(input: &[u8], at: usize) -> u8
-    ensures { result ≡ record_fault input.now at }
+fn record_fault(input: &[u8], at: usize) -> Result<(), Refusal>
+    ensures { result ≡ verdict (record_fault input.now at) }
 {
     if input.len() <= at {
-        return 7;
+        return Err(Refusal::CutShort);
     }
     if !is_known(input[at]) {
-        return 6;
+        return Err(Refusal::UnknownKind);
     }
     if input.len() - at < 9 {
-        return 7;
+        return Err(Refusal::CutShort);
     }
     if LATEST < start_at(input, at) {
-        return 20;
+        return Err(Refusal::TooLate);
     }
-    0
+    Ok(())
 }

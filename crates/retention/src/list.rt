@@ -1,13 +1,14 @@
 // What is printed for a stream of items.
 ghost use Rattle.std.specs.Prelude.{◌≡◌, [], ◌∷◌, ◌+◌, ◌≤◌, ◌^◌, length};
 ghost use Rattle.lists.specs.Buffer.{Written};
+ghost use Rattle.lists.specs.Refusals.{refusal_number, judged};
 ghost use Rattle.listing.specs.Text.{newline, refused_text};
 ghost use Rattle.listing.specs.Internal.{Wrote};
 ghost use Rattle.retention.specs.Retention.{letter_of};
 ghost use Rattle.retention.specs.Stream.{most_records, time_of, record_fault, state_at, lines_from, output_of};
 ghost use Rattle.retention.specs.Internal.{longest};
 
-use crate::Holding;
+use lists::Refusal;
 
 // The longest text: a letter for each record but the last, with a newline, and `refused 20` with its newline.
 pub const LONGEST: usize = 2 * (crate::MOST_RECORDS - 1) + 11;
@@ -16,18 +17,6 @@ pub const LONGEST: usize = 2 * (crate::MOST_RECORDS - 1) + 11;
 const LAST: usize = 8 + 9 * crate::MOST_RECORDS;
 
 // ---- lines
-
-// The letter of an item that is not refused.
-fn letter_of(h: Holding) -> u8
-    ensures { result ≡ letter_of h }
-{
-    match h {
-        Holding::NotYet => b'N',
-        Holding::Held => b'H',
-        Holding::Gone => b'G',
-        Holding::Refused(_) => 0,
-    }
-}
 
 fn put_letter(out: &mut [u8], at: usize, letter: u8) -> usize
     requires { at + 2 ≤ length out.old }
@@ -38,12 +27,12 @@ fn put_letter(out: &mut [u8], at: usize, letter: u8) -> usize
     at + 2
 }
 
-fn put_refusal(out: &mut [u8], at: usize, number: u8) -> usize
-    requires { (number ≤ 20) × (at + 11 ≤ length out.old) }
-    ensures { Wrote (refused_text number) at out.old result out.new }
+fn put_refusal(out: &mut [u8], at: usize, refusal: Refusal) -> usize
+    requires { at + 11 ≤ length out.old }
+    ensures { Wrote (refused_text (refusal_number refusal)) at out.old result out.new }
 {
     let mut text = [0u8; listing::LONGEST];
-    let n = listing::write_refusal(number, &mut text);
+    let n = listing::write_refusal(u8::from(refusal), &mut text);
     let end = at + n;
     out[at..end].copy_from_slice(&text[..n]);
     end
@@ -51,28 +40,28 @@ fn put_refusal(out: &mut [u8], at: usize, number: u8) -> usize
 
 // ---- a stream
 
-// The letter of the record at a place, which has no fault.
-fn letter_at(input: &[u8], at: usize, time: u64) -> u8
-    requires { (record_fault input.now at ≡ 0) × (time ≡ time_of input.now) × (time ≤ 2 ^ 40) }
-    ensures { result ≡ letter_of (state_at input.now at) }
+// The letter of the record at a place.
+fn letter_at(input: &[u8], at: usize, time: u64) -> Result<u8, Refusal>
+    requires { time ≡ time_of input.now }
+    ensures { result ≡ judged (record_fault input.now at) (letter_of (state_at input.now at)) }
 {
+    crate::record_fault(input, at)?;
     let start = crate::start_at(input, at);
-    letter_of(crate::item::holding(input[at], start, time))
+    Ok(crate::item::state(input[at], start, time).letter())
 }
 
 // Writes the lines of a stream whose time has no fault.
 fn list_records(input: &[u8], time: u64, out: &mut [u8]) -> usize
-    requires { (time ≡ time_of input.now) × (time ≤ 2 ^ 40) × (length out.old ≡ longest) }
+    requires { (time ≡ time_of input.now) × (length out.old ≡ longest) }
     ensures { Wrote (lines_from input.now most_records 0) 0 out.old result out.new }
 {
     let stop = input.len().min(LAST);
     let mut end = 0;
     for at in (8..stop).step_by(9) {
-        let fault = crate::record_fault(input, at);
-        if fault != 0 {
-            return put_refusal(out, end, fault);
+        match letter_at(input, at, time) {
+            Ok(letter) => end = put_letter(out, end, letter),
+            Err(refusal) => return put_refusal(out, end, refusal),
         }
-        end = put_letter(out, end, letter_at(input, at, time));
     }
     end
 }
@@ -81,9 +70,8 @@ fn list_records(input: &[u8], time: u64, out: &mut [u8]) -> usize
 pub fn list_holdings(input: &[u8], out: &mut [u8; LONGEST]) -> usize
     ensures { Written (output_of input.now) out.old result out.new }
 {
-    let fault = crate::time_fault(input);
-    if fault != 0 {
-        return put_refusal(out, 0, fault);
+    match crate::time_fault(input) {
+        Ok(()) => list_records(input, crate::number_of(&input[..8]), out),
+        Err(refusal) => put_refusal(out, 0, refusal),
     }
-    list_records(input, crate::number_of(&input[..8]), out)
 }

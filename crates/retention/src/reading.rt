@@ -1,7 +1,10 @@
 // How much of a stream of items must be read.
 ghost use Rattle.std.specs.Prelude.{◌≡◌, ◌<◌};
+ghost use Rattle.lists.specs.Refusals.{verdict};
 ghost use Rattle.retention.specs.Stream.{longest_input};
 ghost use Rattle.retention.specs.Wanted.{items, item_fault, wanted_record, wanted_item, Stands};
+
+use lists::Refusal;
 
 // The time and the records.
 const ITEMS: usize = crate::MOST_RECORDS + 1;
@@ -14,9 +17,9 @@ pub struct Standing {
 }
 
 // The fault of an item: item 0 is the time.
-fn item_fault(input: &[u8], k: usize) -> u8
+fn item_fault(input: &[u8], k: usize) -> Result<(), Refusal>
     requires { k < items }
-    ensures { result ≡ item_fault input.now k }
+    ensures { result ≡ verdict (item_fault input.now k) }
 {
     if k == 0 {
         return crate::time_fault(input);
@@ -55,7 +58,7 @@ pub fn wanted(input: &[u8], k: usize) -> Standing
     ensures { Stands input.now k result }
 {
     for passed in k..ITEMS {
-        if item_fault(input, passed) != 0 {
+        if item_fault(input, passed).is_err() {
             let bytes = wanted_item(input, passed);
             return Standing { passed, bytes };
         }

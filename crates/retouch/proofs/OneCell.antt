@@ -65,7 +65,8 @@ module _ (img : List ℕ) (w h ring : ℕ) (image : Sized (length img) w h) (kno
   first_cell : (d e : List Float) (pw ph : ℕ) → Filled box d e pw ph → 0 < pw → 0 < ph → get_or e 0 zero ≡ response_in box 0 0
   first_cell d e pw ph f p q = ap (λ (n : ℕ). get_or e n zero) (omega arith) ∙ cell_at box d e pw ph f 0 0 zero p q
 
-  one_cell : (d e : List Float) (r : Result Patch Refusal) → length d ≡ 1 → Patched box ring d r e → e ≡ response_at img w h (ring_of ring) i j ∷ []
+  one_cell : (d e : List Float) (r : Result Patch Refusal) → length d ≡ 1 → Patched box ring d r e
+      → e ≡ response_at img w h (ring_of ring) i j ∷ []
   one_cell d e r l p =
       let f = filled box ring d e r p _ _ (accepted box ring d e r p (taken (length d) l)) in
       let wide = box-cols box (omega arith) (omega arith) (omega arith) (omega arith) in

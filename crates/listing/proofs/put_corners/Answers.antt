@@ -2,7 +2,8 @@
 use Prim.Native.Nat.{◌^◌, ◌<◌}
 use native.Mathlib.Omega.{arith}
 use mathlib.Core.Path.{◌∙◌}
-use Rattle.corner_list.specs.CornerList.{slices, corner_at}
+use Rattle.corner_list.specs.CornerList.{corner_at}
+use Rattle.corner_list.specs.Buffer.{seen}
 use Rattle.listing.proofs.Appending.{wrote-length}
 use Rattle.listing.proofs.Texts.{lines_none, lines_next, lines-all}
 use Rattle.listing.proofs.put_corners.Goals as goal
@@ -12,7 +13,7 @@ put_heading-at-requires c = omega (arith, c.requires.1)
 
 pub loop-i-init : goal.loop-i-init
 loop-i-init c =
-    lines_none (corner_at (slices c.args.xs.now c.args.ys.now c.args.strengths.now c.args.neighbours.now)) c.args.count
+    lines_none (corner_at (seen c.args.list)) c.args.count
     c.put_heading-at.result c.args.out.now
     c.put_heading-at.new.out c.requires.0 c.requires.1 c.put_heading-at.ensures
 
@@ -21,19 +22,19 @@ put_line-at-requires c = omega (arith, c.loop-i.invariant.left, c.loop-i-test.tr
 
 pub loop-i-preserved : goal.loop-i-preserved
 loop-i-preserved c =
-    let small : c.corner_at-c.result.neighbours < 2 ^ 32 = omega (arith, c.corner_at-c.type_inv) in
-    lines_next (corner_at (slices c.args.xs.now c.args.ys.now c.args.strengths.now c.args.neighbours.now)) c.args.count
+    let small : c.at.result.neighbours < 2 ^ 32 = omega (arith, c.at.type_inv) in
+    lines_next (corner_at (seen c.args.list)) c.args.count
     c.put_heading-at.result
     c.put_heading-at.new.out c.loop-i.i c.loop-i.at c.loop-i.out c.loop-i.invariant
-    c.put_line-at.result c.put_line-at.new.out c.corner_at-c.result small c.loop-i-test.true
-    c.corner_at-c.ensures c.put_line-at.ensures
+    c.put_line-at.result c.put_line-at.new.out c.at.result small c.loop-i-test.true
+    c.at.ensures c.put_line-at.ensures
 
 pub shape_of-out : goal.shape_of-out
 shape_of-out c = wrote-length c.loop-i.invariant.wrote ∙ wrote-length c.put_heading-at.ensures
 
 pub returns : goal.returns
 returns c =
-    lines-all (corner_at (slices c.args.xs.now c.args.ys.now c.args.strengths.now c.args.neighbours.now)) c.args.count
+    lines-all (corner_at (seen c.args.list)) c.args.count
     c.put_heading-at.result
     c.put_heading-at.new.out c.loop-i.i c.loop-i.at c.loop-i.out c.loop-i.invariant
     c.loop-i-test.false c.args.out.now c.put_heading-at.ensures

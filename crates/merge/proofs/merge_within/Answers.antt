@@ -7,10 +7,12 @@ use Rattle.merge.proofs.merge_within.Goals as goal
 
 pub returns-in_err-refusal-clause-merged : goal.returns-in_err-refusal-clause-merged
 returns-in_err-refusal-clause-merged c =
-    rw (passed-on _ c.from_residual.ensures.1) (leaves-refused _ _ _ (known _ _ _ _) _ (judged-viewed _ _ _ _ _ _ c.view.ensures c.in_err-refusal.ensures))
+    rw (passed-on _ c.from_residual.ensures.1)
+    (leaves-refused _ _ _ (known _ _ _ _) _ (judged-viewed _ _ _ _ _ _ c.view.ensures c.in_err-refusal.ensures))
 
 pub merge_list-requires : goal.merge_list-requires
-merge_list-requires c = omega (arith, judged-fits _ _ _ _ (judged-ok _ _ _ (judged-viewed _ _ _ _ _ _ c.view.ensures c.in_ok-refusal.ensures)).0)
+merge_list-requires c =
+    omega (arith, judged-fits _ _ _ _ (judged-ok _ _ _ (judged-viewed _ _ _ _ _ _ c.view.ensures c.in_ok-refusal.ensures)).0)
 
 pub returns-clause-merged : goal.returns-clause-merged
 returns-clause-merged c =

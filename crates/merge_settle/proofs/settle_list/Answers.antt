@@ -7,8 +7,8 @@ use Rattle.merge_settle.proofs.settle_list.Goals as goal
 
 pub returns-then-slots-gt0-clause-settles : goal.returns-then-slots-gt0-clause-settles
 returns-then-slots-gt0-clause-settles c =
-    stops-held _ _ _ _ _ _ _ _ (c.min-held.ensures ∙ ap (min _) c.places.ensures) c.merge_with-t.ensures.stopped
+    stops-held _ _ _ _ _ _ _ (c.min-held.ensures ∙ ap (min _) c.places.ensures) c.merge_with-t.ensures.stopped
 
 pub returns-clause-settles : goal.returns-clause-settles
 returns-clause-settles c =
-    stops-held _ _ _ _ _ _ _ _ (c.min-held.ensures ∙ ap (min _) c.places.ensures) c.merge_up_to-s.ensures.stopped
+    stops-held _ _ _ _ _ _ _ (c.min-held.ensures ∙ ap (min _) c.places.ensures) c.merge_up_to-s.ensures.stopped

@@ -10,10 +10,10 @@ use Rattle.retention.proofs.record_fault.Goals as goal
 use Rattle.retention.proofs.record_fault.Goals.{Else-not-is_known}
 
 pub returns-then-input-at : goal.returns-then-input-at
-returns-then-input-at c = sym (fault-end _ _ c.if-input-at.true)
+returns-then-input-at c = rw (fault-end _ _ c.if-input-at.true)
 
 pub returns-then-not-is_known : goal.returns-then-not-is_known
-returns-then-not-is_known c = sym (fault-kind _ _ c.if-input-at.false (sym c.is_known.ensures ∙ not-true _ c.if-not-is_known.true-raw))
+returns-then-not-is_known c = rw (fault-kind _ _ c.if-input-at.false (sym c.is_known.ensures ∙ not-true _ c.if-not-is_known.true-raw))
 
 -- the kind is known
 kind-is : (c : Else-not-is_known) → known (kind_at c.args.input.now c.args.at) ≡ true
@@ -21,16 +21,16 @@ kind-is c = sym c.is_known.ensures ∙ not-false _ c.if-not-is_known.false-raw
 
 pub returns-then-input-at-lt9 : goal.returns-then-input-at-lt9
 returns-then-input-at-lt9 c =
-    sym (fault-cut _ _ c.if-input-at.false (kind-is (goal.at.returns-then-input-at-lt9 c).Else-not-is_known) (omega arith))
+    rw (fault-cut _ _ c.if-input-at.false (kind-is (goal.at.returns-then-input-at-lt9 c).Else-not-is_known) (omega arith))
 
 pub returns-then-start_at-gt-LATEST : goal.returns-then-start_at-gt-LATEST
 returns-then-start_at-gt-LATEST c =
-    sym (fault-late _ _ c.if-input-at.false (kind-is (goal.at.returns-then-start_at-gt-LATEST c).Else-not-is_known) (omega arith)
+    rw (fault-late _ _ c.if-input-at.false (kind-is (goal.at.returns-then-start_at-gt-LATEST c).Else-not-is_known) (omega arith)
     (rw c.start_at.ensures at c.if-start_at-gt-LATEST.true))
 
 pub returns : goal.returns
 returns c =
-    sym (fault-none _ _ (record {
+    rw (fault-none c.args.input.now c.args.at (record {
       long = omega arith;
       kind-is = kind-is (goal.at.returns c).Else-not-is_known;
       early = rw c.start_at.ensures at c.if-start_at-gt-LATEST.false;

@@ -34,7 +34,8 @@ returns-then-not-is_ring c =
 pub returns-then-is_outside : goal.returns-then-is_outside
 returns-then-is_outside c =
     rw (
-      by-rest _ _ _ _ _ _ (image (goal.at.returns-then-is_outside c).In_ok-refusal) (map (goal.at.returns-then-is_outside c).In_ok-refusal-2),
+      by-rest _ _ _ _ _ _ (image (goal.at.returns-then-is_outside c).In_ok-refusal)
+          (map (goal.at.returns-then-is_outside c).In_ok-refusal-2),
       ← c.is_ring.ensures,
       c.if-not-is_ring.false-raw,
       ← c.is_outside.ensures,

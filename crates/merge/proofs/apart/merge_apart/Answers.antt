@@ -16,4 +16,5 @@ merge_into-requires c =
 
 pub returns-clause-merged : goal.returns-clause-merged
 returns-clause-merged c =
-    leaves_kept _ _ _ (judged-ok _ _ _ (judged-places _ _ _ _ _ _ c.places.ensures c.in_ok-refusal_apart.ensures)).0 _ _ c.merge_into.ensures.left
+    leaves_kept _ _ _ (judged-ok _ _ _ (judged-places _ _ _ _ _ _ c.places.ensures c.in_ok-refusal_apart.ensures)).0 _ _
+    c.merge_into.ensures.left

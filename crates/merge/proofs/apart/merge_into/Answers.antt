@@ -1,6 +1,6 @@
 -- `merge::apart::merge_into` meets its contract: copied where the radius is off, else merged by the grid. Assumes nothing.
 use mathlib.Core.Path.{refl, sym, ◌∙◌}
-use mathlib.Core.Bool.{true}
+use Rattle.std.specs.Prelude.{Some}
 use Rattle.corner_list.specs.CornerList.{Slices}
 use Rattle.corner_list.specs.Buffer.{seen}
 use Rattle.merge.proofs.Answer.{left-off, left-on, left-copied, left-settled}
@@ -19,4 +19,4 @@ returns-then-is_off-clause-left c =
 pub returns-clause-left : goal.returns-clause-left
 returns-clause-left c =
     left-on _ (list (goal.at.returns-clause-left c).Start) _ _ _ _ _ (sym c.is_off.ensures ∙ c.if-is_off.false) _ refl c.grid_of-g.ensures
-    (left-settled c.grid_of-g.result true (list (goal.at.returns-clause-left c).Start) _ _ _ _ c.requires.to c.settle_list.ensures.settles)
+    (left-settled c.grid_of-g.result (Some c.args.list) _ _ _ _ c.requires.to c.settle_list.ensures.settles)

@@ -2,18 +2,16 @@
 -- nothing.
 use native.Mathlib.Omega.{arith}
 use Rattle.std.proofs.Common.{rules}
-use mathlib.Core.Path.{refl, sym}
+use mathlib.Core.Path.{refl, sym, ◌∙◌}
 use mathlib.Core.Logic.{inr}
-use Rattle.merge_settle.proofs.Stepping.{stepped-none, stepped-fits}
-use Rattle.merge_settle.proofs.Stepping.{stepped-turn}
-use Rattle.merge_settle.proofs.Stepping.{stops_end}
+use Rattle.merge_settle.proofs.Stepping.{given-by, stepped-none, stepped-fits, stepped-turn, stops_end}
 use Rattle.merge_settle.proofs.Indexing.{indexed-viewed}
 use Rattle.merge_settle.proofs.settling.merge_with.Goals as goal
 
 pub loop-i-init : goal.loop-i-init
 loop-i-init c =
     let listed = indexed-viewed _ _ c.view-v.ensures c.list_kept.ensures in
-    (search rules, stepped-none _ _ _ _ _ _ c.requires.n_bound c.requires.step, listed, refl)
+    (search rules, stepped-none _ _ _ _ _ c.requires.n_bound c.requires.step, listed, refl)
 
 pub shape_of-table-then-most-k : goal.shape_of-table-then-most-k
 shape_of-table-then-most-k c = omega (arith, c.loop-i.invariant.3, c.list_kept.auto)
@@ -24,10 +22,10 @@ returns-then-most-k-clause-stopped c = record { stepped = c.loop-i.invariant.1; 
 pub refresh-floor-requires : goal.refresh-floor-requires
 refresh-floor-requires c = indexed-viewed _ _ (sym c.view-v-in-loop-i.ensures) c.loop-i.invariant.2
 
-pub settle_corner-k-requires : goal.settle_corner-k-requires
-settle_corner-k-requires c =
+pub settle_listed-k-requires : goal.settle_listed-k-requires
+settle_listed-k-requires c =
     record {
-      k_bound = stepped-fits _ _ _ _ _ _ _ _ c.loop-i.invariant.1 c.requires.n_bound c.loop-i-test.true;
+      k_bound = stepped-fits _ _ _ _ _ _ _ c.loop-i.invariant.1 c.requires.n_bound c.loop-i-test.true;
       indexed = indexed-viewed _ _ c.view-v-in-loop-i.ensures c.refresh-floor.ensures;
     }
 
@@ -39,12 +37,16 @@ loop-i-smaller c = omega (arith, c.loop-i-test.true)
 
 pub loop-i-preserved : goal.loop-i-preserved
 loop-i-preserved c =
-    let step = stepped-turn _ _ _ _ _ _ _ _ c.loop-i.invariant.1 c.loop-i-test.true _ (rw c.view-v-in-loop-i.ensures at c.given_at-c.ensures) _ _
-    c.settle_corner-k.ensures.settled in
-    (search rules, step, c.settle_corner-k.ensures.indexed_2, omega (arith, c.settle_corner-k.auto, c.refresh-floor.auto, c.loop-i.invariant.3))
+    let next = given-by c.args.list _ _ _ _ c.view-v-in-loop-i.ensures c.given_at-c.ensures in
+    let step = stepped-turn _ _ _ _ _ _ _ c.loop-i.invariant.1 c.loop-i-test.true _ next _ _ c.settle_listed-k.ensures.settled in (
+      search rules,
+      step,
+      c.settle_listed-k.ensures.indexed_2,
+      omega (arith, c.settle_listed-k.auto, c.refresh-floor.auto, c.loop-i.invariant.3),
+    )
 
 pub shape_of-table : goal.shape_of-table
 shape_of-table c = omega (arith, c.loop-i.invariant.3, c.list_kept.auto)
 
 pub returns-clause-stopped : goal.returns-clause-stopped
-returns-clause-stopped c = stops_end _ _ _ _ _ _ _ _ _ _ c.loop-i.invariant.1 c.loop-i-test.false
+returns-clause-stopped c = stops_end _ _ _ _ _ _ _ _ _ c.loop-i.invariant.1 c.loop-i-test.false
