@@ -3,7 +3,6 @@ ghost use Rattle.corner_list.specs.CornerList.{slices};
 ghost use Rattle.capi_lists.specs.Apart.{CornersMergedApart};
 
 use corner_list::{CornerBuffer, CornerView};
-use merge::answers::{kept_of, number_of};
 
 // Writes to a separate buffer, `mx` to `mn`, what merging the first `count` corners of a buffer in place would leave
 // there. `kept` gets the number of those corners.
@@ -39,6 +38,6 @@ pub extern "C" fn zakdomp_merge_apart(
         neighbours: mn,
     };
     let a = merge::apart::merge_apart(list, count, radius, &mut b);
-    *kept = kept_of(a, *kept);
-    number_of(a)
+    *kept = a.unwrap_or(*kept);
+    lists::number_of(a)
 }

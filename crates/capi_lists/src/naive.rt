@@ -3,7 +3,6 @@ ghost use Rattle.corner_list.specs.CornerList.{slices};
 ghost use Rattle.capi_lists.specs.Naive.{CornersMergedNaively};
 
 use corner_list::CornerBuffer;
-use merge::answers::{kept_of, number_of};
 
 // Merges the first `count` corners of a buffer in place by distance alone. `kept` gets the number of corners left.
 #[unsafe(no_mangle)]
@@ -16,10 +15,8 @@ pub extern "C" fn zakdomp_merge_naive(
     radius: f32,
     kept: &mut usize,
 ) -> u8
-    ensures { CornersMergedNaively radius count
-        (slices xs.old ys.old strengths.old neighbours.old)
-        kept.old result (slices xs.new ys.new strengths.new
-        neighbours.new) kept.new }
+    ensures { CornersMergedNaively radius count (slices xs.old ys.old strengths.old neighbours.old) kept.old result
+        (slices xs.new ys.new strengths.new neighbours.new) kept.new }
 {
     let mut b = CornerBuffer {
         xs,
@@ -28,6 +25,6 @@ pub extern "C" fn zakdomp_merge_naive(
         neighbours,
     };
     let a = merge_naive::merge_corners_naive(&mut b, count, radius);
-    *kept = kept_of(a, *kept);
-    number_of(a)
+    *kept = a.unwrap_or(*kept);
+    lists::number_of(a)
 }

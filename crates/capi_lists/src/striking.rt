@@ -1,22 +1,9 @@
 // The corner at a place of a list removed.
-ghost use Rattle.std.specs.Prelude.{◌≡◌};
 ghost use Rattle.corner_list.specs.CornerList.{slices};
 ghost use Rattle.corner_strike.specs.Editions.{edition};
-ghost use Rattle.corner_strike.specs.Striking.{number_of};
 ghost use Rattle.capi_lists.specs.Striking.{CornerStruck};
 
 use corner_list::CornerBuffer;
-use corner_strike::Strike;
-
-// The number of an answer, 0 if a corner was struck.
-fn number_of(a: Strike) -> u8
-    ensures { result ≡ number_of a }
-{
-    match a {
-        Strike::Struck(_, _) => 0,
-        Strike::Refused(number) => number,
-    }
-}
 
 // Removes the corner at a place of a list of `count` corners, if the list's change number `change` is the one that was
 // shown. The count goes down by one, and the change number up by one.
@@ -31,11 +18,8 @@ pub extern "C" fn zakdomp_strike_corner(
     place: usize,
     shown: u32,
 ) -> u8
-    ensures { CornerStruck (slices xs.old ys.old strengths.old
-        neighbours.old)
-        (edition count.old change.old) place shown
-        result (slices xs.new ys.new strengths.new neighbours.new)
-        (edition count.new change.new) }
+    ensures { CornerStruck (slices xs.old ys.old strengths.old neighbours.old) (edition count.old change.old) place shown
+        result (slices xs.new ys.new strengths.new neighbours.new) (edition count.new change.new) }
 {
     let mut b = CornerBuffer {
         xs,
@@ -44,5 +28,5 @@ pub extern "C" fn zakdomp_strike_corner(
         neighbours,
     };
     let a = corner_strike::strike_corner(&mut b, count, change, place, shown);
-    number_of(a)
+    lists::number_of(a)
 }

@@ -3,7 +3,6 @@ ghost use Rattle.corner_list.specs.CornerList.{slices};
 ghost use Rattle.capi_lists.specs.Table.{CornersMergedByTable};
 
 use corner_list::CornerBuffer;
-use merge::answers::{kept_of, number_of};
 
 // Merges the first `count` corners of a buffer in place with a table, which is cleared, and puts the number of those
 // that are left into `kept`.
@@ -31,6 +30,6 @@ pub extern "C" fn zakdomp_merge_by_table(
         neighbours,
     };
     let a = merge::table::merge_by_table(&mut b, table, count, radius);
-    *kept = kept_of(a, *kept);
-    number_of(a)
+    *kept = a.unwrap_or(*kept);
+    lists::number_of(a)
 }

@@ -15,6 +15,7 @@ use lib.Ieee.Fits.{down_pos}
 use lib.Ieee.Back.{round_whole}
 use lib.Ieee.Exact.{HasValue}
 use borrow.Author.Tests.{lt-ltb, le-ltb, leb-false, not-false}
+use Rattle.std.specs.Prelude.{Option, None, Some, Ok}
 use Rattle.lists.proofs.Tests.{from-T, or_right}
 use Rattle.lists.proofs.Refusals.{all-clear}
 use Rattle.float32.specs.Float32.{zero as zero32, abs, nearest_whole, signed, largest_rounded, judged, round_half_away}
@@ -25,8 +26,7 @@ use Rattle.corner_list.specs.declared.Corner.{Corner}
 use Rattle.corner_list.specs.CornerList.{is_inside}
 use Rattle.corner_list.proofs.Inside.{inside-parts}
 use Rattle.multiscale.specs.declared.RoiContext.{RoiContext}
-use Rattle.multiscale.specs.declared.RoiAnswer.{RoiAnswer}
-use Rattle.multiscale.specs.declared.RoiAnswer.TheVariants.{Bounds, NoRoi}
+use Rattle.multiscale.specs.declared.Roi.{Roi}
 use Rattle.multiscale.specs.Multiscale.{conditions, refusal_of, border, roi_radius, centre_of, low_end, high_end}
 use Rattle.multiscale.specs.Internal.{SoundContext}
 use Rattle.multiscale.proofs.Contexts.{sound}
@@ -161,23 +161,23 @@ module _ (c : RoiContext) (p q : ℕ) where
   abbrev high : ℕ → ℕ → ℕ
   high side n = high_end (border c) (roi_radius c) side n
 
-  abbrev box : RoiAnswer
-  box = Bounds (low p) (low q) (high c.width p) (high c.height q)
+  abbrev box : Option Roi
+  box = Some (record { x0 = low p; y0 = low q; x1 = high c.width p; y1 = high c.height q })
 
   abbrev narrow : ℕ → ℕ → Bool
   narrow side n = leb (high side n - low n) (2 * border c)
 
-  abbrev sized : RoiAnswer
+  abbrev sized : Option Roi
   sized =
       let x0 = low_rs (context c) (pos p) in
       let y0 = low_rs (context c) (pos q) in
       let x1 = high_rs (context c) (pos c.width) (pos p) in
       let y1 = high_rs (context c) (pos c.height) (pos q) in
-      cond (le_z (x1 -ℤ x0) (pos (2 * border c)) || le_z (y1 -ℤ y0) (pos (2 * border c))) NoRoi
-      (Bounds (as_usize x0) (as_usize y0) (as_usize x1) (as_usize y1))
+      cond (le_z (x1 -ℤ x0) (pos (2 * border c)) || le_z (y1 -ℤ y0) (pos (2 * border c))) None
+      (Some (record { x0 = as_usize x0; y0 = as_usize y0; x1 = as_usize x1; y1 = as_usize y1 }))
 
   sized-is : p + (border c + 1) < c.width → q + (border c + 1) < c.height
-      → sized ≡ cond (narrow c.width p || narrow c.height q) NoRoi box
+      → sized ≡ cond (narrow c.width p || narrow c.height q) None box
   sized-is k l =
       rw (low-is c c.width p, low-is c c.height q, high_is c c.width p k, high_is c c.height q l)
       (rw (difference (high c.width p) (low p) (2 * border c), difference (high c.height q) (low q) (2 * border c)))
@@ -186,15 +186,15 @@ module _ (c : RoiContext) (p q : ℕ) where
   margin = border c + 1
 
   tests-are : cond (ltb p margin || ltb q margin || le_z (pos c.width -ℤ pos margin) (pos p) || le_z
-      (pos c.height -ℤ pos margin) (pos q)) NoRoi sized
-      ≡ cond (is_off (border c) (roi_radius c) c.width p || is_off (border c) (roi_radius c) c.height q) NoRoi box
+      (pos c.height -ℤ pos margin) (pos q)) None sized
+      ≡ cond (is_off (border c) (roi_radius c) c.width p || is_off (border c) (roi_radius c) c.height q) None box
   tests-are =
       rw (difference c.width margin p, difference c.height margin q)
       (go (ltb p margin) (ltb q margin) (leb (c.width - margin) p) (leb (c.height - margin) q) refl refl)
     where
       go : (a a' d d' : Bool) → leb (c.width - margin) p ≡ d → leb (c.height - margin) q ≡ d'
-          → cond (a || a' || d || d') NoRoi sized
-          ≡ cond ((a || (d || narrow c.width p)) || (a' || (d' || narrow c.height q))) NoRoi box
+          → cond (a || a' || d || d') None sized
+          ≡ cond ((a || (d || narrow c.width p)) || (a' || (d' || narrow c.height q))) None box
       go true a' d d' s t = refl
       go false true d d' s t = rw (or_right (d || narrow c.width p))
       go false false true d' s t = refl
@@ -214,4 +214,4 @@ roi-as-published c s fx fy e =
     let column = centre-is s.x c.level (from-T _ fx) inside.0 k.level in
     let row = centre-is s.y c.level (from-T _ fy) inside.1 k.level in
     rw (context-is c k, centre-told c s.x _ column, centre-told c s.y _ row)
-    (tests-are c _ _ ∙ sym (roi-told c s _ _ e column row))
+    (roi-told c s _ _ e column row ∙ ap Ok (sym (tests-are c _ _)))

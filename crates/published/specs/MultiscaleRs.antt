@@ -1,12 +1,11 @@
 -- multiscale.rs: `make_roi_context` and `RoiContext::compute_roi`, with `roi_border` of dense.rs.
-use Rattle.std.specs.Prelude.{ℕ, ◌≡◌, cond, ◌||◌, T, ℤ, pos, ◌+ℤ◌, ◌-ℤ◌, ◌*ℤ◌, Float}
+use Rattle.std.specs.Prelude.{ℕ, ◌≡◌, cond, ◌||◌, T, ℤ, pos, ◌+ℤ◌, ◌-ℤ◌, ◌*ℤ◌, Float, Option, None, Some, Ok}
 use Rattle.std.specs.Int.Signed.{lt_z, le_z}
 use Rattle.std.specs.Float.{binary32}
 use Rattle.std.specs.Float.Ieee.{of_int, mul, div, fits}
 use Rattle.corner_list.specs.declared.Corner.{Corner}
 use Rattle.multiscale.specs.declared.RoiContext.{RoiContext}
-use Rattle.multiscale.specs.declared.RoiAnswer.{RoiAnswer}
-use Rattle.multiscale.specs.declared.RoiAnswer.TheVariants.{Bounds, NoRoi}
+use Rattle.multiscale.specs.declared.Roi.{Roi}
 use Rattle.multiscale.specs.Multiscale.{refusal_of, roi_of}
 use Rattle.published.specs.Rust.{as_usize, max_z, round_f, ceil_f, cut_i32}
 use Rattle.published.specs.PyramidRs.{one32, scale_of}
@@ -52,7 +51,7 @@ high_rs c side p =
     let max-x = side -ℤ c.border in
     cond (lt_z max-x x1) max-x x1
 
-unfoldable pub roi_rs : ContextRs → Corner → RoiAnswer
+unfoldable pub roi_rs : ContextRs → Corner → Option Roi
 roi_rs c s =
     let cx = centre_rs c s.x in
     let cy = centre_rs c s.y in
@@ -62,14 +61,15 @@ roi_rs c s =
     let x1 = high_rs c c.base_w cx in
     let y1 = high_rs c c.base_h cy in
     let two-borders = pos 2 *ℤ c.border in
-    cond (lt_z cx margin || lt_z cy margin || le_z (c.base_w -ℤ margin) cx || le_z (c.base_h -ℤ margin) cy) NoRoi
-    (cond (le_z (x1 -ℤ x0) two-borders || le_z (y1 -ℤ y0) two-borders) NoRoi
-    (Bounds (as_usize x0) (as_usize y0) (as_usize x1) (as_usize y1)))
+    cond (lt_z cx margin || lt_z cy margin || le_z (c.base_w -ℤ margin) cx || le_z (c.base_h -ℤ margin) cy) None
+    (cond (le_z (x1 -ℤ x0) two-borders || le_z (y1 -ℤ y0) two-borders) None
+    (Some (record { x0 = as_usize x0; y0 = as_usize y0; x1 = as_usize x1; y1 = as_usize y1 })))
 
 -- a seed that is not refused, at the scale of its level; its coordinates are of type f32
 abbrev pub RoiAsPublished : Type 0
 RoiAsPublished =
     (c : RoiContext) (s : Corner) → T (fits binary32 s.x) → T (fits binary32 s.y) → refusal_of c s ≡ 0
-    → roi_rs (context_rs c.width c.height (scale_of c.level) (border_rs c.ring c.window)
+    → roi_of c s
+    ≡ Ok (roi_rs (context_rs c.width c.height (scale_of c.level) (border_rs c.ring c.window)
     (pos c.centroid_radius)
-    c.search_radius) s ≡ roi_of c s
+    c.search_radius) s)
