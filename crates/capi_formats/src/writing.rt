@@ -1,31 +1,8 @@
 // The frame stream of sides, parameters and pixels.
-ghost use Rattle.std.specs.Prelude.{◌≡◌, get_or};
 ghost use Rattle.stream.specs.Stream.{header};
-ghost use Rattle.frame_writer.specs.FrameWriter.{number_of, values_of};
 ghost use Rattle.capi_formats.specs.Writing.{StreamTold};
 
-use frame_writer::FrameWriting;
 use stream::Header;
-
-// The number of an answer, 0 if a stream was written.
-fn number_of(a: FrameWriting) -> u8
-    ensures { result ≡ number_of a }
-{
-    match a {
-        FrameWriting::Written(_) => 0,
-        FrameWriting::Refused(number) => number,
-    }
-}
-
-// How long the stream is, or `before` if refused.
-fn length_of(a: FrameWriting, before: usize) -> usize
-    ensures { result ≡ get_or (values_of a) 0 before }
-{
-    match a {
-        FrameWriting::Written(n) => n,
-        FrameWriting::Refused(_) => before,
-    }
-}
 
 // Writes the stream of a frame to the start of `stream`. `written` gets its length. The floats are given as their bits.
 #[unsafe(no_mangle)]
@@ -62,7 +39,11 @@ pub extern "C" fn zakdomp_write_stream(
         minimum_side,
         search_radius,
     };
-    let a = frame_writer::write_frame(header, pixels, stream);
-    *written = length_of(a, *written);
-    number_of(a)
+    match frame_writer::write_frame(header, pixels, stream) {
+        Ok(length) => {
+            *written = length;
+            0
+        }
+        Err(refusal) => u8::from(refusal),
+    }
 }

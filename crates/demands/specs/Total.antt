@@ -27,7 +27,8 @@
 -- frame_pass      refusal (of the input, before the pass)
 -- stream          wanted
 -- listing         write_refusal (one for its answer, one for its buffer)
--- retention       list_holdings (likewise), wanted (one for each number of its answer)
+-- retention       Holding::letter, list_holdings (one for its answer, one for its buffer), wanted (one for each number
+--                 of its answer)
 -- finder          find (likewise)
 -- The functions of `capi_frame`, `capi_photo`, `capi_maps`, `capi_peaks`, `capi_lists` and `capi_formats`, for C, pass
 -- on these promises and return the number.

@@ -4,24 +4,12 @@ use native.Mathlib.Decide.{dec_lt}
 use native.Mathlib.Numerals.{add-one}
 use native.Mathlib.Omega.{arith}
 use mathlib.Core.Path.{◌≡◌, refl, sym, ap, ◌∙◌}
-use mathlib.Core.Bool.{true, false, true≢false, false≢true}
 use mathlib.Core.List.{List, ◌++◌}
 use borrow.Author.Tests.{ne_eqb}
-use Rattle.std.specs.Result.{is_err}
-use Rattle.lists.specs.Refusals.{verdict}
 use Rattle.retention.specs.declared.reading.Standing.{Standing}
 use Rattle.retention.specs.Stream.{record_fault, place_of}
 use Rattle.retention.specs.Wanted.{item_fault, wanted_record, wanted_item, passed_from, wanted_from, items, wanted, Stands}
 use Rattle.retention.proofs.Append.{item-same}
-
--- whether a check is refused tells whether it has a number
-pub failed : (n : ℕ) → true ≡ is_err (verdict n) → n ≡ 0 → ⊥
-failed zero e z = true≢false e
-failed (suc n) e z = omega arith
-
-pub passes : (n : ℕ) → false ≡ is_err (verdict n) → n ≡ 0
-passes zero e = refl
-passes (suc n) e = absurd (false≢true e)
 
 module _ (s : List ℕ) where
   -- an item that is not the time

@@ -8,7 +8,7 @@ mod reading; // wanted: how much of a stream must be read
 
 ghost use Rattle.std.specs.Prelude.{◌≡◌, ◌+◌, ◌≤◌, length};
 ghost use Rattle.lists.specs.Refusals.{verdict};
-ghost use Rattle.retention.specs.Retention.{known};
+ghost use Rattle.retention.specs.Retention.{known, letter_of};
 ghost use Rattle.retention.specs.Stream.{little_endian, time_fault, second_at, record_fault};
 
 pub use list::{LONGEST, list_holdings};
@@ -27,6 +27,19 @@ pub enum Holding {
     NotYet,
     Held,
     Gone,
+}
+
+impl Holding {
+    // Its letter: N not yet, H held, G gone.
+    pub fn letter(self) -> u8
+        ensures { result ≡ letter_of self }
+    {
+        match self {
+            Holding::NotYet => b'N',
+            Holding::Held => b'H',
+            Holding::Gone => b'G',
+        }
+    }
 }
 
 // Whether there is such a kind: 1 is a file, 2 a photograph, 3 a token.

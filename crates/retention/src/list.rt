@@ -8,7 +8,6 @@ ghost use Rattle.retention.specs.Retention.{letter_of};
 ghost use Rattle.retention.specs.Stream.{most_records, time_of, record_fault, state_at, lines_from, output_of};
 ghost use Rattle.retention.specs.Internal.{longest};
 
-use crate::Holding;
 use lists::Refusal;
 
 // The longest text: a letter for each record but the last, with a newline, and `refused 20` with its newline.
@@ -18,17 +17,6 @@ pub const LONGEST: usize = 2 * (crate::MOST_RECORDS - 1) + 11;
 const LAST: usize = 8 + 9 * crate::MOST_RECORDS;
 
 // ---- lines
-
-// The letter of an item.
-fn letter_of(h: Holding) -> u8
-    ensures { result ≡ letter_of h }
-{
-    match h {
-        Holding::NotYet => b'N',
-        Holding::Held => b'H',
-        Holding::Gone => b'G',
-    }
-}
 
 fn put_letter(out: &mut [u8], at: usize, letter: u8) -> usize
     requires { at + 2 ≤ length out.old }
@@ -59,7 +47,7 @@ fn letter_at(input: &[u8], at: usize, time: u64) -> Result<u8, Refusal>
 {
     crate::record_fault(input, at)?;
     let start = crate::start_at(input, at);
-    Ok(letter_of(crate::item::state(input[at], start, time)))
+    Ok(crate::item::state(input[at], start, time).letter())
 }
 
 // Writes the lines of a stream whose time has no fault.

@@ -26,7 +26,7 @@ pub returns : goal.returns
 returns c =
     rw (
       (judged-ok _ _ _ c.in_ok-record_fault.ensures).0,
-      c.letter_of.ensures,
+      c.letter.ensures,
       c.state.ensures,
       c.start_at-start.ensures,
       c.requires,
