@@ -11,7 +11,8 @@ ghost use Rattle.merge_settle.specs.Internal.{pair_of, home_of, home_at, slots_o
 
 use merge_grid::{Grid, Position};
 
-// What an empty slot holds: the bits of 1.0.
+// What an empty slot holds: the bits of 1.0. What a slot holds becomes a place by `as`: std has no `From` of a u32 for a
+// usize.
 pub(crate) const EMPTY: u32 = 0x3f80_0000;
 
 pub(crate) const EMPTY_SLOT: f32 = 1.0;
@@ -90,6 +91,7 @@ pub(crate) fn list_kept(xs: &[f32], ys: &[f32], table: &mut [f32], g: Grid, floo
     requires { 0 < length table.old }
     ensures { Indexed g floor (slots_of table.new) xs.now ys.now k }
 {
+    // By the place, which is what the index lists.
     for i in 0..k {
         list_near(table, g, floor, i, merge_grid::position_at(xs, ys, i));
     }
