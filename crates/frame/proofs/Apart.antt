@@ -1,27 +1,31 @@
--- An answer that was taken apart into its number and its values keeps its promise. Assumes nothing.
+-- An answer that is told by its number and its values keeps its promise. Assumes nothing.
 use Prim.Native.Nat.{ℕ}
-use mathlib.Core.Path.{◌≡◌, subst}
-use mathlib.Core.List.{[], ◌∷◌}
-use lib.ListN.{length, get_or}
-use Rattle.lists.specs.Refusals.{unless, values_unless}
-use Rattle.lists.proofs.Answers.{answer, value}
+use native.Mathlib.Omega.{arith}
+use mathlib.Core.Path.{◌≡◌, refl, sym, ap, subst}
+use Rattle.std.specs.Prelude.{Result, Ok, Err}
+use Rattle.lists.specs.declared.refusal.Refusal.{Refusal}
+use Rattle.lists.specs.Refusals.{refusal_number, judged}
+use Rattle.lists.proofs.Judged.{judged-ok, judged-number}
 use Rattle.frame_pass.specs.Pass.{Pass}
-use Rattle.frame.specs.declared.FrameAnswer.{FrameAnswer}
-use Rattle.frame.specs.declared.FrameAnswer.TheVariants.{Corners, Refused}
-use Rattle.frame.specs.Frame.{number_of, values_of, TakenApart}
+use Rattle.frame.specs.declared.Found.{Found}
+use Rattle.frame.specs.Frame.{found_in, TakenApart}
 
--- an answer a whose number is k, with what is promised about it
-module _ (Promised : FrameAnswer → Type 0) (q : Pass) (k : ℕ) (a : FrameAnswer) (promised : Promised a) (number : number_of a ≡ k)
-    (is : a ≡ unless Refused k (Corners (length q.corners) q.ties))
-    (values : values_of a ≡ values_unless k (length q.corners ∷ q.ties ∷ [])) where
-  pub taken-apart : {count ties r count' ties' : ℕ} → r ≡ number_of a → count' ≡ get_or (values_of a) 0 count
-      → ties' ≡ get_or (values_of a) 1 ties
-      → TakenApart Promised q count ties r count' ties'
-  taken-apart {count} {ties} {r} {count'} {ties'} n x y =
-      let counts = length q.corners ∷ q.ties ∷ [] in
-      let told = answer number_of a k number r n (λ m. unless Refused m (Corners (length q.corners) q.ties)) is in
+module _ (Promised : Result Found Refusal → Type 0) (q : Pass) (count ties : ℕ) where
+  -- found
+  pub told-found : (k : ℕ) (f : Found) → Ok f ≡ judged k (found_in q) → Promised (Ok f)
+      → TakenApart Promised q count ties 0 f.corners f.ties
+  told-found k f e promised =
+      let same = (judged-ok k (found_in q) f e).1 in
       record {
-        answer = subst Promised told promised;
-        count_is = value number_of a k number r n values_of counts values 0 count count' x;
-        ties_are = value number_of a k number r n values_of counts values 1 ties ties' y;
+        answer = subst (λ (f : Found). Promised (Ok f)) same promised;
+        count_is = ap (λ (f : Found). f.corners) same;
+        ties_are = ap (λ (f : Found). f.ties) same;
       }
+
+  -- or refused
+  pub told-refused : (e : Refusal) → Promised (Err e) → TakenApart Promised q count ties (refusal_number e) count ties
+  told-refused e promised = record {
+    answer = subst Promised (sym (judged-number e (found_in q))) promised;
+    count_is = grind arith;
+    ties_are = grind arith;
+  }

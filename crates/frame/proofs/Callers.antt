@@ -23,9 +23,12 @@ use Rattle.frame_params.specs.declared.FrameParams.{FrameParams}
 use Rattle.patch_corners.specs.OneMap.{Choice}
 use Rattle.frame_pass.specs.Pass.{frame_pass, levels_in, found_of}
 use Rattle.frame_pass.specs.Refusals.{conditions}
-use Rattle.frame.specs.declared.FrameAnswer.TheVariants.{Corners, Refused}
-use Rattle.frame.specs.Frame.{Buffers, too_many, refusal_of, padded_corners, finished, FrameFound, wiped, left_by_number}
-use Rattle.lists.specs.Refusals.{unless}
+use Rattle.std.specs.Prelude.{Ok, Err}
+use Rattle.lists.specs.declared.refusal.Refusal.{Refusal}
+use Rattle.lists.specs.Refusals.{refusal_number}
+use Rattle.lists.proofs.Judged.{judged-ok}
+use Rattle.frame.specs.declared.Found.{Found}
+use Rattle.frame.specs.Frame.{Buffers, too_many, refusal_of, padded_corners, finished, found_in, FrameFound, wiped, left_by_number}
 use Rattle.frame.proofs.Numbers.{number-before, number-in-pass}
 
 -- corners that stand first in a buffer are read back
@@ -66,33 +69,23 @@ module _ (choose : Choice) (p : FrameParams) (img : List ℕ) (w h : ℕ) (b : B
       (or-neither (ltb (places_of b.seeds) (length q.seeds)) _ (not-many e)).1 in
       omega (arith, l, result-length p.merge_radius (found_of p img w h choose (levels_in p img w h)))
 
-  pub finished-tells : (n t : ℕ) (b' : Buffers) → FrameFound choose p img w h b (Corners n t) b' → Finished choose p img w h b n t b'
-  finished-tells n t b' f =
+  pub finished-tells : (f : Found) (b' : Buffers) → FrameFound choose p img w h b (Ok f) b'
+      → Finished choose p img w h b f.corners f.ties b'
+  finished-tells f b' t =
       let q = frame_pass p img w h choose in
-      let none : refusal_of choose p img w h b ≡ 0 = sym f.number in
-      let left = f.left ∙ ap (λ (k : ℕ). left_by_number k (finished (above img w h (levels_in p img w h)) q b) (wiped b) b) none in
-      let answer : Corners n t ≡ Corners (length q.corners) q.ties =
-      f.answer ∙ ap (λ (k : ℕ). unless Refused k (Corners (length q.corners) q.ties)) none in
-      let count : n ≡ length q.corners = cc in
-      let tied : t ≡ q.ties = cc in
+      let k = judged-ok (refusal_of choose p img w h b) (found_in q) f t.answer in
+      let left = t.left ∙ ap (λ (k : ℕ). left_by_number k (finished (above img w h (levels_in p img w h)) q b) (wiped b) b) k.0 in
+      let count : f.corners ≡ length q.corners = ap (λ (f : Found). f.corners) k.1 in
       record {
-        number = none;
+        number = k.0;
         count = count;
-        tied = tied;
-        fits = omega (arith, count, few none);
-        corners = ap (λ (z : Buffers). corners_of z.corners n) left ∙ corners-padded q.corners b.corners n count;
+        tied = ap (λ (f : Found). f.ties) k.1;
+        fits = omega (arith, count, few k.0);
+        corners = ap (λ (z : Buffers). corners_of z.corners f.corners) left ∙ corners-padded q.corners b.corners f.corners count;
         left = left;
       }
 
   -- a refused one: its number
-  pub refused-tells : (k : ℕ) (b' : Buffers) → FrameFound choose p img w h b (Refused k) b' → refusal_of choose p img w h b ≡ k
-  refused-tells k b' f = sym f.number
-
-  -- which is none of a finished one
-  pub refusal-positive : (k : ℕ) (b' : Buffers) → FrameFound choose p img w h b (Refused k) b' → k ≡ 0 → ⊥
-  refusal-positive k b' f z =
-      let q = frame_pass p img w h choose in
-      let none : refusal_of choose p img w h b ≡ 0 = sym f.number ∙ z in
-      let answer : Refused k ≡ Corners (length q.corners) q.ties =
-      f.answer ∙ ap (λ (k : ℕ). unless Refused k (Corners (length q.corners) q.ties)) none in
-      let no : ◌≡◌ {A = ℕ} 0 1 = cc in omega arith
+  pub refused-tells : (e : Refusal) (b' : Buffers) → FrameFound choose p img w h b (Err e) b'
+      → refusal_of choose p img w h b ≡ refusal_number e
+  refused-tells e b' t = sym t.number

@@ -1,29 +1,25 @@
 -- The answers of a frame, each with its buffers, from what led to it. Assumes nothing.
-use Prim.Native.Nat.{ℕ, zero, suc, ◌≤◌}
+use Prim.Native.Nat.{ℕ, zero, suc, ◌-◌, ◌<◌, ◌≤◌}
 use native.Mathlib.Omega.{arith}
-use mathlib.Core.Path.{◌≡◌, refl, sym, ap, ap₂, ◌∙◌}
+use mathlib.Core.Path.{◌≡◌, refl, sym, ap, ◌∙◌}
 use mathlib.Core.Logic.{⊎_elim}
-use mathlib.Core.Bool.{Bool, true, false, cond}
-use mathlib.Core.List.{List, [], ◌∷◌}
-use lib.ListN.{length, replicate}
+use mathlib.Core.Bool.{Bool, true, false}
+use mathlib.Core.List.{List}
+use lib.ListN.{length}
 use lib.Ieee.{Float}
 use borrow.Author.Tests.{le-ltb, ne_eqb}
+use Rattle.std.specs.Prelude.{Result, Ok, Err}
 use Rattle.lists.specs.Places.{All}
-use Rattle.lists.specs.Tab.{tab}
 use Rattle.lists.specs.Buffer.{front, wiped_from}
-use Rattle.lists.specs.Refusals.{lowest, values_unless, unless, result_or}
+use Rattle.lists.specs.declared.refusal.Refusal.{Refusal}
+use Rattle.lists.specs.declared.refusal.Refusal.TheVariants.{ListTooLong}
+use Rattle.lists.specs.Refusals.{lowest, judged, verdict, result_or}
+use Rattle.lists.proofs.Judged.{Known, number-judged, values-judged, judged-ok, judged-err, refused-some}
 use Rattle.float32.specs.Float32 as float32
 use Rattle.pyramid.specs.Pyramid.{above}
-use Rattle.pyramid.specs.Build.{Built}
-use Rattle.pyramid.specs.declared.Pyramid.{Pyramid}
-use Rattle.pyramid.specs.declared.Pyramid.TheVariants as pyramid
-use Rattle.pyramid_levels.specs.Refusals.{ask}
-use Rattle.pyramid_levels.specs.Internal.{LevelsAccepted}
-use Rattle.pyramid.proofs.Levels.{builds}
 use Rattle.corner_list.specs.CornerList.{Slices, places_of, is_inside, corners_of, front_corners}
 use Rattle.corner_list.specs.declared.Corner.{Corner}
 use Rattle.corner_list.proofs.Corners.{corners-front, same-places}
-use Rattle.merge.specs.declared.Merged.{Merged}
 use Rattle.merge.specs.Merge as merge
 use Rattle.merge.specs.Table.{MergesByTable}
 use Rattle.merge_refusal.proofs.Judged.{judged-none-off, judged-none-on}
@@ -34,102 +30,64 @@ use Rattle.clearing.specs.Clearing.{cleared_from}
 use Rattle.frame_pass.specs.Pass.{Pass, frame_pass, levels_in, seeds_of, found_of, ties_found}
 use Rattle.frame_pass.specs.Refusals.{conditions}
 use Rattle.frame_pass.proofs.Refusals.{Admitted, not-ten}
-use Rattle.frame.specs.declared.FrameAnswer.{FrameAnswer}
-use Rattle.frame.specs.declared.FrameAnswer.TheVariants.{Corners, Refused}
+use Rattle.frame.specs.declared.Found.{Found}
 use Rattle.frame.specs.declared.search.Lists.{Lists}
-use Rattle.frame.specs.Frame.{Buffers, buffers, too_many, refusal_of, padded_corners, finished, wiped, left_by_number}
-use Rattle.frame.specs.Frame.{number_of, values_of, FrameFound, wiped}
+use Rattle.frame.specs.Frame.{Buffers, buffers, too_many, refusal_of, padded_corners, finished, wiped, left_by_number, buffers_after}
+use Rattle.frame.specs.Frame.{found_in, FrameFound}
 use Rattle.frame.specs.Internal.{Searched}
+use Rattle.frame.proofs.Adding.{same-lengths}
 use Rattle.frame.proofs.Numbers.{number-before, number-ten, number-none}
-use Rattle.frame.proofs.Padded.{SameLengths, padded-none, cleared-front, cleared-none}
+use Rattle.frame.proofs.Padded.{padded-none, cleared-front, cleared-none}
 
-number_is : (k n t : ℕ) → number_of (unless Refused k (Corners n t)) ≡ k
-number_is zero n t = refl
-number_is (suc k) n t = refl
-
-values-are : (k n t : ℕ) → values_of (unless Refused k (Corners n t)) ≡ values_unless k (n ∷ t ∷ [])
-values-are zero n t = refl
-values-are (suc k) n t = refl
+-- a refusal before the pass leaves a buffer as it was
+left-before : {A : Type 0} (k : ℕ) → (k ≡ 0 → ⊥) → k < 10 → (done cleared before : A) → before ≡ left_by_number k done cleared before
+left-before zero z l done cleared before = absurd (z refl)
+left-before (suc k) z l done cleared before = sym (rw (ne_eqb (suc k) 10 (λ (z : suc k ≡ 10). let no : ⊥ = omega arith in no)))
 
 module _ (choose : Choice) (p : FrameParams) (img : List ℕ) (w h : ℕ) (b : Buffers) where
   abbrev pub pass : Pass
   pass = frame_pass p img w h choose
 
-  -- an answer and buffers by the number
-  found-by : (k : ℕ) → refusal_of choose p img w h b ≡ k → (answer : FrameAnswer) (b' : Buffers)
-      → answer ≡ unless Refused k (Corners (length pass.corners) pass.ties)
-      → b' ≡ left_by_number k (finished (above img w h (levels_in p img w h)) pass b) (wiped b) b → FrameFound choose p img w h b answer b'
-  found-by k e answer b' a l = record {
-    answer = a ∙ ap (λ (n : ℕ). unless Refused n (Corners (length pass.corners) pass.ties)) (sym e);
-    number = ap number_of a ∙ number_is k (length pass.corners) pass.ties ∙ sym e;
-    values = ap values_of a ∙ values-are k (length pass.corners) pass.ties
-        ∙ ap (λ (n : ℕ). values_unless n (length pass.corners ∷ pass.ties ∷ [])) (sym e);
-    left = l ∙ ap (λ (n : ℕ). left_by_number n (finished (above img w h (levels_in p img w h)) pass b) (wiped b) b) (sym e);
-  }
+  promised : (answer : Result Found Refusal) (b' : Buffers) → answer ≡ judged (refusal_of choose p img w h b) (found_in pass)
+      → b' ≡ buffers_after choose p img w h b → FrameFound choose p img w h b answer b'
+  unfolding refusal_of conditions
+  promised answer b' e left =
+      record { answer = e; number = number-judged _ _ e (grind arith); values = values-judged _ _ _ e; left = left }
 
   -- refused before the pass
-  pub found-refused : (k : ℕ) → k ≡ lowest (conditions p (length img) w h (length b.map) (length b.levels)) → (k ≡ 0 → ⊥)
-      → FrameFound choose p img w h b (Refused k) b
-  found-refused zero e n = absurd (n refl)
-  found-refused (suc k) e n =
-      let ten = not-ten p (length img) w h (length b.map) (length b.levels) in
-      found-by (suc k) (number-before choose p img w h b (λ z. n (e ∙ z)) ∙ sym e) (Refused (suc k)) b refl
-      (sym (rw (ne_eqb (suc k) 10 (λ (z : suc k ≡ 10). let no : ⊥ = omega arith in no))))
+  pub found-refused : (e : Refusal) → Err e ≡ verdict (lowest (conditions p (length img) w h (length b.map) (length b.levels)))
+      → FrameFound choose p img w h b (Err e) b
+  found-refused e r =
+      let k = lowest (conditions p (length img) w h (length b.map) (length b.levels)) in
+      let done = finished (above img w h (levels_in p img w h)) pass b in
+      let number = number-before choose p img w h b (refused-some k tt e r) in
+      promised (Err e) b (judged-err k tt (found_in pass) e r ∙ ap (λ (n : ℕ). judged n (found_in pass)) (sym number))
+      (left-before k (refused-some k tt e r) (not-ten p (length img) w h (length b.map) (length b.levels)) done (wiped b) b
+      ∙ ap (λ (n : ℕ). left_by_number n done (wiped b) b) (sym number))
 
   module _ (none : lowest (conditions p (length img) w h (length b.map) (length b.levels)) ≡ 0) where
     -- a list does not fit
-    pub found-short : too_many pass b ≡ true → (b' : Buffers) → b' ≡ wiped b → FrameFound choose p img w h b (Refused 10) b'
-    found-short t b' e = found-by 10 (number-ten choose p img w h b none t) (Refused 10) b' refl e
+    pub found-short : too_many pass b ≡ true → (e : Refusal) → e ≡ ListTooLong → (b' : Buffers) → b' ≡ wiped b
+        → FrameFound choose p img w h b (Err e) b'
+    found-short t e long b' left =
+        let number = number-ten choose p img w h b none t in
+        promised (Err e) b' (ap Err long ∙ ap (λ (n : ℕ). judged n (found_in pass)) (sym number))
+        (left ∙ ap (λ (n : ℕ). left_by_number n (finished (above img w h (levels_in p img w h)) pass b) (wiped b) b) (sym number))
 
     -- finished
-    pub found-done : too_many pass b ≡ false → (k u : ℕ) (b' : Buffers) → k ≡ length pass.corners → u ≡ pass.ties
-        → b' ≡ finished (above img w h (levels_in p img w h)) pass b → FrameFound choose p img w h b (Corners k u) b'
-    found-done t k u b' c d e = found-by 0 (number-none choose p img w h b none t) (Corners k u) b' (ap₂ Corners c d) e
-
--- ---- the pyramid is built
-pub build-free : (img : List ℕ) (w h count least : ℕ) (d : List ℕ) (r : Pyramid) (e : List ℕ) → Built img w h count least d r e
-    → LevelsAccepted (ask (length img) (length d) w h count least)
-    → (x : ℕ) → r ≡ pyramid.Refused x → ⊥
-build-free img w h count least d r e b a x q =
-    let z = sym (builds img w h count least d r e b a) ∙ q in
-    let no : ◌≡◌ {A = ℕ} 0 1 = cc in omega arith
-
--- ---- merging nothing leaves nothing
-none_left : (radius : Float) → merge.result_of radius [] ≡ []
-none_left radius = nil (merge.result_of radius []) (result-length radius [])
-  where
-    nil : (l : List Corner) → length l ≤ 0 → l ≡ []
-    nil [] h = refl
-    nil (x ∷ l) h = absurd (let no : ⊥ = omega arith in no)
-
-none_read : (c : Slices) → corners_of c 0 ≡ []
-unfolding tab
-none_read c = refl
-
--- ---- merging with the map as its table, where it is not refused
-
--- the first n corners of a buffer merged, k of them left, and zero after those
-record Merging (radius : Float) (n : ℕ) (c : Slices) (k : ℕ) (c' : Slices) : Type 0 where
-  count : k ≡ length (merge.result_of radius (corners_of c n))
-  is : c' ≡ cleared_from k (front_corners (merge.result_of radius (corners_of c n)) c)
-
-module _ (radius : Float) (n : ℕ) (c : Slices) (m : List Float) (free : merge.refusal_of radius (places_of c) n c ≡ 0)
-    (kept : Merged) (c' : Slices)
-    (m' : List Float) (done : MergesByTable radius n c m kept c' m') where
-  map-cleared : m' ≡ wiped_from 0 float32.zero m
-  map-cleared = done.cleared ∙ ap (λ (k : ℕ). result_or k (wiped_from 0 float32.zero m) m) free
-
-  merge-done : (k : ℕ) → k ≡ merge.kept_of kept 0 → (c'' : Slices) → c'' ≡ cleared_from k c' → Merging radius n c k c''
-  merge-done k e c'' is =
-      let done = merges-done radius (places_of c) n c c' kept (corners_of c n) refl free done.merges in
-      record { count = e ∙ ap (λ (a : Merged). merge.kept_of a 0) done.0; is = is ∙ ap (cleared_from k) done.1 }
+    pub found-done : too_many pass b ≡ false → (q : Found) (b' : Buffers) → q ≡ found_in pass
+        → b' ≡ finished (above img w h (levels_in p img w h)) pass b → FrameFound choose p img w h b (Ok q) b'
+    found-done t q b' e left =
+        let number = number-none choose p img w h b none t in
+        promised (Ok q) b' (ap Ok e ∙ ap (λ (n : ℕ). judged n (found_in pass)) (sym number))
+        (left ∙ ap (λ (n : ℕ). left_by_number n (finished (above img w h (levels_in p img w h)) pass b) (wiped b) b) (sym number))
 
 -- ---- after the search of n levels, which answered `answer` and left s' and c'
 module _ (choose : Choice) (p : FrameParams) (img : List ℕ) (w h : ℕ) (m : List Float) (levels : List ℕ) (s c : Slices) (n : ℕ)
-    (counted : n ≡ levels_in p img w h)
-    (answer : Lists) (s' c' : Slices)
+    (counted : n ≡ levels_in p img w h) (answer : Result Lists Refusal) (s' c' : Slices)
     (found : Searched (seeds_of p img w h choose n) (found_of p img w h choose n) (ties_found p img w h choose n) s c
-    answer s' c') where
+    answer s' c') (none : lowest (conditions p (length img) w h (length m) (length levels)) ≡ 0) (m₁ : List Float)
+    (same-map : length m₁ ≡ length m) where
   seeds-are : (frame_pass p img w h choose).seeds ≡ seeds_of p img w h choose n
   unfolding frame_pass
   seeds-are = ap (seeds_of p img w h choose) (sym counted)
@@ -146,102 +104,69 @@ module _ (choose : Choice) (p : FrameParams) (img : List ℕ) (w h : ℕ) (m : L
   unfolding frame_pass
   ties_are = ap (ties_found p img w h choose) (sym counted)
 
-  -- the corners that are merged: those found, or none
-  found-read : answer.fit ≡ true → corners_of c' answer.corners ≡ found_of p img w h choose n
-  found-read e = let q = found.both e in rw q.5 (corners-front (found_of p img w h choose n) c answer.corners q.3)
+  -- a list does not fit: every buffer is cleared
+  pub entry-short : (e : Refusal) → answer ≡ Err e → (levels₁ : List ℕ) → length levels₁ ≡ length levels
+      → FrameFound choose p img w h (buffers m levels s c) (Err e)
+      (buffers (wiped_from 0 float32.zero m₁) (wiped_from 0 0 levels₁) (cleared_from 0 s') (cleared_from 0 c'))
+  entry-short e z levels₁ same-levels =
+      let q = found.short e z in
+      let all : length levels - 0 ≡ length levels = omega arith in
+      found-short choose p img w h (buffers m levels s c) none (rw (seeds-are, found-are) q.1) e q.0 _
+      (rw (
+        padded-none float32.zero m m₁ same-map,
+        padded-none 0 levels levels₁ same-levels,
+        cleared-none s s' found.seeds_lengths,
+        cleared-none c c' found.corners_lengths,
+        all,
+      ))
 
-  short-read : answer.fit ≡ false → corners_of c' answer.corners ≡ []
-  short-read e = ap (corners_of c') (found.short e).1 ∙ none_read c'
-
-  module _ (same : SameLengths s s') (same' : SameLengths c c') where
-    places-kept : places_of c' ≡ places_of c
-    places-kept = same-places c' c same'.xs same'.ys same'.strengths same'.neighbours
+  -- both fit
+  module _ (l : Lists) (z : answer ≡ Ok l) where
+    read : corners_of c' l.corners ≡ found_of p img w h choose n
+    read = let q = found.both l z in rw q.5 (corners-front (found_of p img w h choose n) c l.corners q.3)
 
     -- merging is not refused
-    merge_free : Admitted p (length img) w h (length m) (length levels)
+    pub merge-free : Admitted p (length img) w h (length m) (length levels)
         → All (λ z. is_inside z ≡ true) (frame_pass p img w h choose).found
-        → merge.refusal_of p.merge_radius (places_of c') answer.corners c' ≡ 0
-    merge_free ad inside = of answer.fit refl
-      where
-        free : answer.corners ≤ places_of c' → All (λ z. is_inside z ≡ true) (corners_of c' answer.corners)
-            → merge.refusal_of p.merge_radius (places_of c') answer.corners c' ≡ 0
-        free fits all =
-            ⊎_elim (λ off. judged-none-off p.merge_radius (places_of c') answer.corners c' fits off)
-            (λ on. judged-none-on p.merge_radius (places_of c') answer.corners c' fits on.0 on.1 all) ad.radius
+        → merge.refusal_of p.merge_radius (places_of c') l.corners c' ≡ 0
+    merge-free admitted inside =
+        let same = found.corners_lengths in
+        let fits : l.corners ≤ places_of c' =
+        omega (arith, (found.both l z).4, same-places c' c same.xs same.ys same.strengths same.neighbours) in
+        ⊎_elim (λ off. judged-none-off p.merge_radius (places_of c') l.corners c' fits off)
+        (λ on. judged-none-on p.merge_radius (places_of c') l.corners c' fits on.0 on.1 (rw (read, ← found-are) inside)) admitted.radius
 
-        of : (fit : Bool) → answer.fit ≡ fit → merge.refusal_of p.merge_radius (places_of c') answer.corners c' ≡ 0
-        of true e = free (omega (arith, (found.both e).4, places-kept)) (rw (found-read e, ← found-are) inside)
-        of false e = free (omega (arith, (found.short e).1)) (rw (short-read e) tt)
+    module _ (free : merge.refusal_of p.merge_radius (places_of c') l.corners c' ≡ 0) (kept : Result ℕ Refusal) (c₁ : Slices)
+        (m' : List Float) (done : MergesByTable p.merge_radius l.corners c' m₁ kept c₁ m') where
+      pub merge-never : (e : Refusal) → kept ≡ Err e → ⊥
+      merge-never e q = refused-some _ _ e (sym q ∙ done.merges.answer) free
 
-    -- the buffers are cleared behind what they hold, and the corners merged
-    entry_closed : lowest (conditions p (length img) w h (length m) (length levels)) ≡ 0
-        → (m₁ : List Float) → length m₁ ≡ length m → (levels₁ : List ℕ) → levels₁ ≡ front (above img w h n) levels
-        → length levels₁ ≡ length levels
-        → (m' : List Float) → m' ≡ wiped_from 0 float32.zero m₁ → (levels' : List ℕ)
-        → levels' ≡ cond answer.fit levels₁ (replicate (length levels₁) 0)
-        → (s'' : Slices) → s'' ≡ cleared_from answer.seeds s' → (k : ℕ) (c'' : Slices)
-        → Merging p.merge_radius answer.corners c' k c''
-        → (r : FrameAnswer) → r ≡ cond answer.fit (Corners k answer.ties) (Refused 10)
-        → FrameFound choose p img w h (buffers m levels s c) r (buffers m' levels' s'' c'')
-    entry_closed none m₁ em levels₁ el ll m' wm levels' wl s'' ws k c'' merged r is = of answer.fit refl
-      where
-        cleared : (cs : List Corner) → corners_of c' answer.corners ≡ cs → length (merge.result_of p.merge_radius cs) ≤ places_of c
-            → (k ≡ length (merge.result_of p.merge_radius cs)) × (c'' ≡ padded_corners (merge.result_of p.merge_radius cs) c)
-        cleared cs e fits =
-            let left = merge.result_of p.merge_radius cs in
-            let count : k ≡ length left = merged.count ∙ ap (λ (l : List Corner). length (merge.result_of p.merge_radius l)) e in (
-              count,
-              merged.is ∙ ap (λ (l : List Corner). cleared_from k (front_corners (merge.result_of p.merge_radius l) c')) e
-                  ∙ cleared-front c c' same' left k count (omega (arith, count, fits)),
-            )
-
-        wiped-map : m' ≡ wiped_from 0 float32.zero m
-        wiped-map = wm ∙ padded-none float32.zero m m₁ em
-
-        of : (fit : Bool) → answer.fit ≡ fit → FrameFound choose p img w h (buffers m levels s c) r (buffers m' levels' s'' c'')
-        of true e =
-            let q = found.both e in
-            let seeds = seeds_of p img w h choose n in
-            let all = found_of p img w h choose n in
-            let done = cleared all (found-read e) (omega (arith, result-length p.merge_radius all, q.3, q.4)) in
-            let es : s'' ≡ padded_corners seeds s = ws ∙ ap (cleared_from answer.seeds) q.2
-            ∙ cleared-front s s (record { xs = refl; ys = refl; strengths = refl; neighbours = refl }) seeds answer.seeds
-            q.0 q.1 in
-            let levels-left : levels' ≡ front (above img w h n) levels = wl ∙ rw e el in
-            let answered : r ≡ Corners k answer.ties = is ∙ rw e in
-            rw answered
-            (found-done choose p img w h (buffers m levels s c) none
-            (rw (
-              seeds-are,
-              found-are,
-              le-ltb (places_of s) (length seeds) (omega (arith, q.0, q.1)),
-              le-ltb (places_of c) (length all) (omega (arith, q.3, q.4)),
-            ))
-            k answer.ties (buffers m' levels' s'' c'') (rw corners-are done.0) (rw ties_are q.6)
-            (rw (wiped-map, levels-left, es, done.1, seeds-are, corners-are, ← counted)))
-        of false e =
-            let q = found.short e in
-            let left : merge.result_of p.merge_radius [] ≡ [] = none_left p.merge_radius in
-            let done = cleared [] (short-read e) (omega (arith, ap length left)) in
-            let es : s'' ≡ cleared_from 0 s = ws ∙ ap (λ (j : ℕ). cleared_from j s') q.0 ∙ cleared-none s s' same in
-            let ec : c'' ≡ cleared_from 0 c = done.1 ∙ ap (λ (l : List Corner). padded_corners l c) left in
-            let levels-left : levels' ≡ replicate (length levels) 0 = wl ∙ rw e (ap (λ (j : ℕ). replicate j 0) ll) in
-            let answered : r ≡ Refused 10 = is ∙ rw e in
-            rw answered
-            (found-short choose p img w h (buffers m levels s c) none (rw (seeds-are, found-are) q.2) (buffers m' levels' s'' c'')
-            (rw (wiped-map, levels-left, es, ec)))
-
-    pub entry-merged : lowest (conditions p (length img) w h (length m) (length levels)) ≡ 0
-        → Admitted p (length img) w h (length m) (length levels) → All (λ z. is_inside z ≡ true) (frame_pass p img w h choose).found
-        → (m₁ : List Float) → length m₁ ≡ length m → (levels₁ : List ℕ) → levels₁ ≡ front (above img w h n) levels
-        → length levels₁ ≡ length levels
-        → (m' : List Float) (kept : Merged) (c₁ : Slices) → MergesByTable p.merge_radius answer.corners c' m₁ kept c₁ m'
-        → (levels' : List ℕ) → levels' ≡ cond answer.fit levels₁ (replicate (length levels₁) 0)
-        → (s'' : Slices) → s'' ≡ cleared_from answer.seeds s' → (k : ℕ) → k ≡ merge.kept_of kept 0 → (c'' : Slices)
-        → c'' ≡ cleared_from k c₁
-        → (r : FrameAnswer) → r ≡ cond answer.fit (Corners k answer.ties) (Refused 10)
-        → FrameFound choose p img w h (buffers m levels s c) r (buffers m' levels' s'' c'')
-    entry-merged none ad inside m₁ em levels₁ el ll m' kept c₁ merges levels' wl s'' ws k ek c'' wc r is =
-        let free = merge_free ad inside in
-        entry_closed none m₁ em levels₁ el ll m' (map-cleared p.merge_radius answer.corners c' m₁ free kept c₁ m' merges) levels' wl
-        s'' ws k c'' (merge-done p.merge_radius answer.corners c' m₁ free kept c₁ m' merges k ek c'' wc) r is
+      -- the buffers are cleared behind what they hold, and the corners merged
+      pub entry-merged : (left : ℕ) → kept ≡ Ok left → (levels' : List ℕ) → levels' ≡ front (above img w h n) levels
+          → FrameFound choose p img w h (buffers m levels s c) (Ok (record { corners = left; ties = l.ties }))
+          (buffers m' levels' (cleared_from l.seeds s') (cleared_from left c₁))
+      entry-merged left k levels' built =
+          let q = found.both l z in
+          let seeds = seeds_of p img w h choose n in
+          let all = found_of p img w h choose n in
+          let merged = merge.result_of p.merge_radius all in
+          let r = merges-done p.merge_radius (places_of c') l.corners c' c₁ kept all read free done.merges in
+          let count : left ≡ length merged = grind arith in
+          let wiped-map : m' ≡ wiped_from 0 float32.zero m =
+          done.cleared ∙ ap (λ (k : ℕ). result_or k (wiped_from 0 float32.zero m₁) m₁) free ∙ padded-none float32.zero m m₁ same-map in
+          let es : cleared_from l.seeds s' ≡ padded_corners seeds s =
+          ap (cleared_from l.seeds) q.2 ∙ cleared-front s s (same-lengths s) seeds l.seeds q.0 q.1 in
+          let ec : cleared_from left c₁ ≡ padded_corners merged c =
+          ap (cleared_from left) r.1
+          ∙ cleared-front c c' found.corners_lengths merged left count (omega (arith, count, result-length p.merge_radius all, q.3, q.4)) in
+          found-done choose p img w h (buffers m levels s c)
+          none
+          (rw (
+            seeds-are,
+            found-are,
+            le-ltb (places_of s) (length seeds) (omega (arith, q.0, q.1)),
+            le-ltb (places_of c) (length all) (omega (arith, q.3, q.4)),
+          ))
+          _ _
+          (rw (count, q.6, corners-are, ties_are))
+          (rw (wiped-map, built, es, ec, seeds-are, corners-are, ← counted))

@@ -12,6 +12,8 @@ use lib.ListN.{length, take, drop, length-append}
 use lib.Seq.{take_at, take-append-add, drop-length, length-take-le}
 use lib.Ieee.{Float}
 use borrow.Rule.Slice.PartMut.{put_mid}
+use Rattle.std.specs.Prelude.{Result, Ok, Err}
+use Rattle.lists.specs.declared.refusal.Refusal.{Refusal}
 use Rattle.lists.specs.Tab.{tab, grid}
 use Rattle.lists.specs.Places.{Place, block, keep, sum_of}
 use Rattle.lists.proofs.Tab.{length-grid, grid-ext, part-length-to}
@@ -20,14 +22,13 @@ use Rattle.lists.proofs.Places.{block-end}
 use Rattle.ring.specs.Ring.{ring_of}
 use Rattle.ring.proofs.Places.{ring_is, ring-small}
 use Rattle.response.specs.Response.{response_at}
-use Rattle.response.specs.Patch.{View, whole, map_width, map_height, cells, response_in, Patched}
+use Rattle.response.specs.Patch.{View, whole, map_width, map_height, cells, response_in, refusal_of, Patched}
 use Rattle.response.specs.declared.Patch.{Patch}
 use Rattle.response.proofs.Outcome.{allowed}
-use Rattle.response.proofs.Map.{cells-length, accepted, filled, Made, box-cols, box-rows, whole-cols, whole-rows}
+use Rattle.response.proofs.Map.{cells-length, accepted, never-refused, filled, Made, box-cols, box-rows, whole-cols, whole-rows}
 use Rattle.corner_list.specs.declared.Corner.{Corner}
 use Rattle.corner_list.specs.CornerList.{Slices}
 use Rattle.detect.specs.declared.Peaks.{Peaks}
-use Rattle.detect.specs.declared.Peaks.TheVariants.{Added, Refused}
 use Rattle.detect.specs.Peaks.{peak_places}
 use Rattle.detect.specs.Detect.{peak_in, peaks_in, start_at, ties_at, conditions}
 use Rattle.detect.proofs.Answers.{Clear, sound-clear, added-tells, refused-tells}
@@ -43,7 +44,7 @@ use Rattle.frame_params.proofs.Ranges.{Ranges, ranges}
 use Rattle.frame_pass.proofs.Maps.{fine-box}
 use Rattle.frame_pass.proofs.Ties.{map-tied}
 use Rattle.frame.specs.Internal.{FrameChecked, AddsCorners, border_of, RowsHeld, Band}
-use Rattle.frame.proofs.Adding.{adds_none, adds-to, adds-more, adds-full}
+use Rattle.frame.proofs.Adding.{adds_none, adds-to, adds-more, adds-full, found-lengths}
 
 -- ---- rows of cells in two parts
 grid-add : {A : Type 0} (w j n : ℕ) (f : ℕ → ℕ → A) → grid w (j + n) f ≡ grid w j f ++ grid w n (λ x y. f x (j + y))
@@ -117,12 +118,10 @@ module _ (p : FrameParams) (img : List ℕ) (w h : ℕ) where
       part-long : length part ≡ (e - j) * w
       part-long = part-length-to (j * w) (e * w) d band-end ∙ band-size
 
-      module _ (m : Patch) (ys : List Float) (patched : Patched rows p.ring part m ys) (held : RowsHeld All w j d) where
-        made : Made rows (cells rows) part ys (map_width rows) (map_height rows)
-        made =
-            filled rows p.ring part ys m patched (map_width rows) (map_height rows)
-            (accepted rows p.ring part ys m patched
-            (allowed rows p.ring (length part)
+      module _ (m : Result Patch Refusal) (ys : List Float) (patched : Patched rows p.ring part m ys) (held : RowsHeld All w j d) where
+        free : refusal_of rows p.ring (length part) ≡ 0
+        free =
+            allowed rows p.ring (length part)
             (record {
               narrow = ready.sound.narrow;
               low = ready.sound.low;
@@ -130,7 +129,15 @@ module _ (p : FrameParams) (img : List ℕ) (w h : ℕ) where
               known = ring_is p.ring (ranges p ready.sound.fit).ring;
               enough = let k : map_height rows * map_width rows ≡ (e - j) * w = ap₂ (λ (a b : ℕ). a * b) rows_are cols-are in
                   omega (arith, k, part-long);
-            })))
+            })
+
+        -- it is not refused
+        pub band-free : (x : Refusal) → m ≡ Err x → ⊥
+        band-free = never-refused rows p.ring part ys m patched free
+
+        made : Made rows (cells rows) part ys (map_width rows) (map_height rows)
+        made =
+            filled rows p.ring part ys m patched (map_width rows) (map_height rows) (accepted rows p.ring part ys m patched free)
 
         as_long : length (cells rows) ≡ length part
         as_long = cells-length rows ∙ ap₂ (λ (a b : ℕ). a * b) rows_are cols-are ∙ sym part-long
@@ -228,7 +235,8 @@ module _ (p : FrameParams) (img : List ℕ) (w h : ℕ) where
                 | no g ↦ omega (arith, band.within)
               ]
 
-      pub band-adds : (x y : ℕ) → x ≡ j - border_of p → y ≡ e - border_of p → (n : ℕ) (s : Slices) (answer : Peaks) (s' : Slices)
+      pub band-adds : (x y : ℕ) → x ≡ j - border_of p → y ≡ e - border_of p
+          → (n : ℕ) (s : Slices) (answer : Result Peaks Refusal) (s' : Slices)
           → RowCornersAdded p exact (take (h * w) d) w h x y n s answer s'
           → AddsCorners (centres_in_rows p exact (cells All) w h (j - border_of p) (e - border_of p))
           (ties_in_rows p exact (cells All) w h (j - border_of p) (e - border_of p)) n s answer s'
@@ -238,8 +246,9 @@ module _ (p : FrameParams) (img : List ℕ) (w h : ℕ) where
           (subst (λ (i : ℕ). RowCornersAdded p exact (take (h * w) d) w h x i n s answer s') y-is found) in
           adds-to _ _ n s _ _ answer s' centres ties
           (record {
-            added = λ k u z. let t = added-tells _ clear-here _ _ n s answer s' added k u z in (t.count, t.fits, t.buffer, t.tied);
-            refused = λ k z. (refused-tells _ clear-here _ _ n s answer s' added k z).short;
+            added = λ k z. let t = added-tells _ clear-here _ _ n s answer s' added k z in (t.count, t.fits, t.buffer, t.tied);
+            refused = λ k z. let t = refused-tells _ clear-here _ _ n s answer s' added k z in (t.refusal, t.short);
+            lengths = found-lengths _ clear-here _ _ n s answer s' added;
           })
         where
           clear-here : Clear (conditions (length (take (h * w) d)) w h p.ring p.window p.centroid_radius)
@@ -278,7 +287,7 @@ module _ (p : FrameParams) (img : List ℕ) (w h : ℕ) where
     abbrev pub ties_to : ℕ → ℕ
     ties_to j = ties_in_rows p exact (cells All) w h 0 (j - border_of p)
 
-    pub bands-none : (b : Slices) → AddsCorners (corners_to 0) (ties_to 0) 0 b (Added 0 0) b
+    pub bands-none : (b : Slices) → AddsCorners (corners_to 0) (ties_to 0) 0 b (Ok (record { count = 0; ties = 0 })) b
     bands-none b =
         adds_none (corners_to 0) (ties_to 0) 0 b
         (ap (λ (l : List Place). map (centred p.centroid_radius (cells All) w h)
@@ -291,21 +300,23 @@ module _ (p : FrameParams) (img : List ℕ) (w h : ℕ) where
         none : peaks_in_rows (cells All) (search_with p exact w h) 0 (0 - border_of p) ≡ []
         none = ap (keep (peak_in (cells All) (search_with p exact w h))) (empty (border_of p))
 
-    module _ (j e held t : ℕ) (later : j ≤ e) (b₀ b : Slices) (a : AddsCorners (corners_to j) (ties_to j) 0 b₀ (Added held t) b)
-        (answer : Peaks) (b' : Slices)
+    module _ (j e held t : ℕ) (later : j ≤ e) (b₀ b : Slices)
+        (a : AddsCorners (corners_to j) (ties_to j) 0 b₀ (Ok (record { count = held; ties = t })) b)
+        (answer : Result Peaks Refusal) (b' : Slices)
         (d : AddsCorners (centres_in_rows p exact (cells All) w h (j - border_of p) (e - border_of p))
         (ties_in_rows p exact (cells All) w h (j - border_of p) (e - border_of p)) held b answer b') where
-      pub bands-more : (n u : ℕ) → answer ≡ Added n u → AddsCorners (corners_to e) (ties_to e) 0 b₀ (Added (held + n) (t + u)) b'
-      bands-more n u z =
-          adds-to _ _ 0 b₀ (corners_to e) (ties_to e) (Added (held + n) (t + u)) b'
+      pub bands-more : (q : Peaks) → answer ≡ Ok q
+          → AddsCorners (corners_to e) (ties_to e) 0 b₀ (Ok (record { count = held + q.count; ties = t + q.ties })) b'
+      bands-more q z =
+          adds-to _ _ 0 b₀ (corners_to e) (ties_to e) (Ok (record { count = held + q.count; ties = t + q.ties })) b'
           (sym (centres-split p exact (cells All) w h 0 (j - border_of p) (e - border_of p) (omega arith) (earlier (border_of p))))
           (sym (ties-split p exact (cells All) w h 0 (j - border_of p) (e - border_of p) (omega arith) (earlier (border_of p))))
-          (adds-more (corners_to j) (ties_to j) held t b₀ b a _ _ answer b' d n u z)
+          (adds-more (corners_to j) (ties_to j) held t b₀ b a _ _ answer b' d q z)
         where
           earlier : (border : ℕ) → j - border ≤ e - border
           earlier border = omega arith
 
-      pub bands-full : (k : ℕ) → answer ≡ Refused k → e ≤ h → AddsCorners (corners_to h) (ties_to h) 0 b₀ answer b'
+      pub bands-full : (k : Refusal) → answer ≡ Err k → e ≤ h → AddsCorners (corners_to h) (ties_to h) 0 b₀ answer b'
       bands-full k z l =
           adds-full (corners_to j) (ties_to j) held t b₀ b a _ _ answer b' d k z (corners_to h) (ties_to h)
           (omega (
@@ -342,7 +353,7 @@ module _ (p : FrameParams) (img : List ℕ) (w h : ℕ) where
           ap (sum_of (ties_at (cells All) (search_with p exact w h))) peaks-all ∙ sides (ties_with p exact (cells All))
           ∙ made-ties p All fine exact
 
-      pub bands-all : (j : ℕ) → j ≤ h → h ≤ j → (b₀ : Slices) (answer : Peaks) (b : Slices)
+      pub bands-all : (j : ℕ) → j ≤ h → h ≤ j → (b₀ : Slices) (answer : Result Peaks Refusal) (b : Slices)
           → AddsCorners (corners_to j) (ties_to j) 0 b₀ answer b
           → AddsCorners (corners_in p (choice_of p exact) All) (ties_on p (choice_of p exact) All) 0 b₀ answer b
       bands-all j k l b₀ answer b a =

@@ -2,12 +2,15 @@
 use Prim.Native.Nat.{ℕ, zero, suc, ◌-◌, ◌*◌, ◌<◌, ◌≤◌}
 use native.Mathlib.Nat.{mul-le-mul, div-one}
 use native.Mathlib.Omega.{arith}
-use mathlib.Core.Path.{◌≡◌, refl, sym, ap, ◌∙◌}
-use mathlib.Core.Bool.{Bool, true, ◌||◌, false≢true}
+use mathlib.Core.Path.{◌≡◌, refl, sym, ap, subst, ◌∙◌}
+use mathlib.Core.Bool.{Bool, true, ◌||◌}
 use mathlib.Core.List.{List, [], map}
 use lib.ListN.{length}
 use lib.Dec.{ltb}
 use borrow.Author.Tests.{lt-ltb}
+use Rattle.std.specs.Prelude.{Result, Ok, Err}
+use Rattle.lists.specs.declared.refusal.Refusal.{Refusal}
+use Rattle.lists.specs.declared.refusal.Refusal.TheVariants.{ListTooLong}
 use Rattle.lists.specs.Limits.{largest_map}
 use Rattle.lists.specs.Places.{flat_map, sum_of}
 use Rattle.lists.proofs.Buffer.{placed_first}
@@ -22,16 +25,15 @@ use Rattle.corner_list.specs.CornerList.{Slices, x_of, y_of, strength_of, neighb
 use Rattle.corner_list.specs.CornerList.{placed_corners}
 use Rattle.corner_list.proofs.Corners.{slices-alike, corners-front}
 use Rattle.detect.specs.declared.Peaks.{Peaks}
-use Rattle.detect.specs.declared.Peaks.TheVariants.{Added, Refused}
 use Rattle.frame_params.specs.declared.FrameParams.{FrameParams}
 use Rattle.patch_corners.specs.OneMap.{Choice, choice_of, corners_in, ties_on}
 use Rattle.frame_pass.specs.Pass.{corners_about, ties_about, level_view, seeds_of, found_of, ties_found}
 use Rattle.frame_pass.proofs.Maps.{sound-level}
 use Rattle.frame_pass.proofs.Ties.{level-few}
 use Rattle.frame.specs.declared.search.Lists.{Lists}
-use Rattle.frame.specs.Internal.{FrameChecked, BuiltLevels, AddsCorners, SeedsAdded, found_by, ties_by, added_of, no_lists, lists_of}
-use Rattle.frame.specs.Internal.{Searched}
-use Rattle.frame.proofs.Adding.{adds-to, adds_none}
+use Rattle.frame.specs.Internal.{FrameChecked, BuiltLevels, AddsCorners, SeedsAdded, found_by, ties_by}
+use Rattle.frame.specs.Internal.{SameLengths, Searched}
+use Rattle.frame.proofs.Adding.{adds-to, adds_none, same-lengths}
 use Rattle.frame.proofs.Patches.{box_in}
 
 -- corners added from a buffer's first place on stand first in it
@@ -70,7 +72,7 @@ module _ (p : FrameParams) (img : List ℕ) (w h n : ℕ) (levels : List ℕ) (b
         rw (pixels, wide, high) (record { sound = sound-level p img w h ready.sound k; enough = omega (arith, area, ready.enough) })
 
     -- and its corners, as of one box, are the seeds
-    pub last-seeds : (choose : Choice) (b : Slices) (answer : Peaks) (b' : Slices)
+    pub last-seeds : (choose : Choice) (b : Slices) (answer : Result Peaks Refusal) (b' : Slices)
         → AddsCorners (corners_in p choose (box_in p last lw lh 0 0 lw lh)) (ties_on p choose (box_in p last lw lh 0 0 lw lh)) 0 b answer b'
         → SeedsAdded p img w h choose n b answer b'
     last-seeds choose b answer b' a =
@@ -82,7 +84,7 @@ module _ (p : FrameParams) (img : List ℕ) (w h n : ℕ) (levels : List ℕ) (b
 
 -- fewer levels have none
 pub no-seeds : (p : FrameParams) (img : List ℕ) (w h : ℕ) (choose : Choice) (n : ℕ) → n < 2 → (b : Slices)
-    → SeedsAdded p img w h choose n b (Added 0 0) b
+    → SeedsAdded p img w h choose n b (Ok (record { count = 0; ties = 0 })) b
 unfolding seeds_of
 no-seeds p img w h choose n l b = record { ties = 0; adds = adds_none (seeds_of p img w h choose n) 0 0 b (of n l) refl (omega arith) }
   where
@@ -93,21 +95,20 @@ no-seeds p img w h choose n l b = record { ties = 0; adds = adds_none (seeds_of 
 
 -- so few seeds were added as one level of a sound image has
 pub seeds-few : (p : FrameParams) (exact : Bool) (img : List ℕ) (w h places : ℕ) → FrameChecked p img w h places
-    → (n : ℕ) (b : Slices) (answer : Peaks) (b' : Slices) → SeedsAdded p img w h (choice_of p exact) n b answer b'
-    → added_of answer ≤ largest_map
+    → (n : ℕ) (b : Slices) (answer : Result Peaks Refusal) (b' : Slices) → SeedsAdded p img w h (choice_of p exact) n b answer b'
+    → (q : Peaks) → answer ≡ Ok q → q.count ≤ largest_map
 unfolding seeds_of
-seeds-few p exact img w h places ready n b (Added m t) b' a = omega (arith, (a.adds.added m t refl).0, few n)
+seeds-few p exact img w h places ready n b answer b' a q z = omega (arith, (a.adds.added q z).0, few n)
   where
     few : (n : ℕ) → length (seeds_of p img w h (choice_of p exact) n) ≤ largest_map
     few zero = omega arith
     few (suc zero) = omega arith
     few (suc (suc k)) = level-few p exact img w h ready.sound (suc k)
-seeds-few p exact img w h places ready n b (Refused x) b' a = omega arith
 
 -- ---- what is found, by the number of levels
 module _ (choose : Choice) (p : FrameParams) (img : List ℕ) (w h : ℕ) where
   -- one level: the corners of its map
-  pub found-whole : (n : ℕ) → n ≡ 1 → (seeds : List Corner) (c : Slices) (answer : Peaks) (c' : Slices)
+  pub found-whole : (n : ℕ) → n ≡ 1 → (seeds : List Corner) (c : Slices) (answer : Result Peaks Refusal) (c' : Slices)
       → AddsCorners (corners_in p choose (box_in p img w h 0 0 w h)) (ties_on p choose (box_in p img w h 0 0 w h)) 0 c answer c'
       → AddsCorners (found_by p img w h choose n seeds) (ties_by p img w h choose n seeds) 0 c answer c'
   found-whole n e seeds c answer c' a = rw e (adds-to _ _ 0 c _ _ answer c' base tied a)
@@ -119,7 +120,8 @@ module _ (choose : Choice) (p : FrameParams) (img : List ℕ) (w h : ℕ) where
       base = unfold level_pixels in (rw (div-one w, div-one h))
 
   -- any other number: those of the boxes of the seeds, which are of level k
-  pub found-boxes : (n : ℕ) → (n ≡ 1 → ⊥) → (k : ℕ) → k ≡ n - 1 → (seeds : List Corner) (c : Slices) (answer : Peaks) (c' : Slices)
+  pub found-boxes : (n : ℕ) → (n ≡ 1 → ⊥) → (k : ℕ) → k ≡ n - 1
+      → (seeds : List Corner) (c : Slices) (answer : Result Peaks Refusal) (c' : Slices)
       → AddsCorners (flat_map (corners_about p img w h choose k) seeds) (sum_of (ties_about p img w h choose k) seeds) 0 c answer c'
       → AddsCorners (found_by p img w h choose n seeds) (ties_by p img w h choose n seeds) 0 c answer c'
   found-boxes zero z k e seeds c answer c' a = let same : k ≡ 0 = omega arith in rw same at a
@@ -139,45 +141,70 @@ module _ (choose : Choice) (p : FrameParams) (img : List ℕ) (w h : ℕ) where
   ties_are (suc zero) = refl
   ties_are (suc (suc k)) = refl
 
--- ---- the two lists
-module _ (seeds found : List Corner) (ties : ℕ) (s c s' c' : Slices) where
-  lists-short : (ltb (places_of s) (length seeds) || ltb (places_of c) (length found)) ≡ true
-      → Searched seeds found ties s c no_lists s' c'
-  lists-short e = record { both = λ z. absurd (false≢true z); short = λ z. (refl, refl, e) }
+-- ---- the two lists, from the answers of adding the seeds and what was found with those that stand in their buffer
+module _ (choose : Choice) (p : FrameParams) (img : List ℕ) (w h n : ℕ) (s s' : Slices) (answer : Result Peaks Refusal)
+    (a : SeedsAdded p img w h choose n s answer s') where
+  abbrev seeds : List Corner
+  seeds = seeds_of p img w h choose n
 
-  -- from the answers of adding them
-  listed : (m u : ℕ) → m ≡ length seeds → m ≤ places_of s → s' ≡ front_corners seeds s → (answer : Peaks)
-      → AddsCorners found ties 0 c answer c'
-      → Searched seeds found ties s c (lists_of (Added m u) answer) s' c'
-  listed m u p q r (Added n v) a =
-      let t = a.added n v refl in
-      record {
-        both = λ z. (p, q, r, t.0, omega (arith, t.1), t.2 ∙ first-corners found c, t.3);
-        short = λ z. absurd (false≢true (sym z));
+  abbrev found : List Corner
+  found = found_of p img w h choose n
+
+  abbrev ties : ℕ
+  ties = ties_found p img w h choose n
+
+  -- the seeds do not fit
+  pub seeds-short : (e : Refusal) → answer ≡ Err e → (c : Slices) → Searched seeds found ties s c (Err e) s' c
+  seeds-short e z c =
+      let t = a.adds.refused e z in record {
+        both = λ l q. absurd (let no : ⊥ = grind arith in no);
+        short = λ r q. let same : e ≡ r = grind arith in (sym same ∙ t.0, rw (lt-ltb (places_of s) (length seeds) (omega (arith, t.1))));
+        seeds_lengths = a.adds.lengths;
+        corners_lengths = same-lengths c;
       }
-  listed m u p q r (Refused k) a =
-      lists-short (rw (lt-ltb (places_of c) (length found) (omega (arith, a.refused k refl))) (or_right (ltb (places_of s) (length seeds))))
 
--- from the answers of adding the seeds and what was found with those that stand in their buffer
-module _ (choose : Choice) (p : FrameParams) (img : List ℕ) (w h n : ℕ) (s c s' c' : Slices) (answer' : Peaks) where
-  abbrev Result : Lists → Type 0
-  Result r = Searched (seeds_of p img w h choose n) (found_of p img w h choose n) (ties_found p img w h choose n) s c r s' c'
+  -- they do, and are read to find the corners
+  module _ (q : Peaks) (z : answer ≡ Ok q) (c c' : Slices) (answer' : Result Peaks Refusal)
+      (b : AddsCorners (found_by p img w h choose n (corners_of s' q.count)) (ties_by p img w h choose n (corners_of s' q.count)) 0 c
+      answer' c') where
+    first : s' ≡ front_corners seeds s
+    first = (a.adds.added q z).2 ∙ first-corners seeds s
 
-  abbrev Found : ℕ → Type 0
-  Found m = AddsCorners (found_by p img w h choose n (corners_of s' m)) (ties_by p img w h choose n (corners_of s' m)) 0 c answer' c'
+    read : corners_of s' q.count ≡ seeds
+    read = ap (λ (t : Slices). corners_of t q.count) first ∙ corners-front seeds s q.count (a.adds.added q z).0
 
-  of-both : (answer : Peaks) → SeedsAdded p img w h choose n s answer s' → Found (added_of answer) → Result (lists_of answer answer')
-  of-both (Added m v) a b =
-      let t = a.adds.added m v refl in
-      let seeds = seeds_of p img w h choose n in
-      let first = t.2 ∙ first-corners seeds s in
-      let read : corners_of s' m ≡ seeds = ap (λ (z : Slices). corners_of z m) first ∙ corners-front seeds s m t.0 in
-      listed seeds _ _ s c s' c' m v t.0 (omega (arith, t.1)) first answer'
-      (adds-to _ _ 0 c _ _ answer' c' (ap (found_by p img w h choose n) read ∙ found-is choose p img w h n)
-      (ap (ties_by p img w h choose n) read ∙ ties_are choose p img w h n) b)
-  of-both (Refused x) a b =
-      lists-short _ _ _ s c s' c' (rw (lt-ltb (places_of s) (length (seeds_of p img w h choose n)) (omega (arith, a.adds.refused x refl))))
+    adds : AddsCorners found ties 0 c answer' c'
+    adds =
+        adds-to _ _ 0 c _ _ answer' c' (ap (found_by p img w h choose n) read ∙ found-is choose p img w h n)
+        (ap (ties_by p img w h choose n) read ∙ ties_are choose p img w h n) b
 
-  pub searched : (answer : Peaks) → SeedsAdded p img w h choose n s answer s' → (m : ℕ) → m ≡ added_of answer → Found m
-      → (r : Lists) → r ≡ lists_of answer answer' → Result r
-  searched answer a m q b r e = rw e (of-both answer a (rw q at b))
+    pub corners-short : (e : Refusal) → answer' ≡ Err e → Searched seeds found ties s c (Err e) s' c'
+    corners-short e y =
+        let t = adds.refused e y in record {
+          both = λ l x. absurd (let no : ⊥ = grind arith in no);
+          short = λ r x. let same : e ≡ r = grind arith in (
+            sym same ∙ t.0,
+            rw (lt-ltb (places_of c) (length found) (omega (arith, t.1))) (or_right (ltb (places_of s) (length seeds))),
+          );
+          seeds_lengths = a.adds.lengths;
+          corners_lengths = adds.lengths;
+        }
+
+    pub both-listed : (r : Peaks) → answer' ≡ Ok r
+        → Searched seeds found ties s c (Ok (record { seeds = q.count; corners = r.count; ties = r.ties })) s' c'
+    both-listed r y =
+        let t = a.adds.added q z in
+        let u = adds.added r y in
+        let due : Lists = record { seeds = q.count; corners = r.count; ties = r.ties } in
+        let done : (due.seeds ≡ length seeds) × (due.seeds ≤ places_of s) × (s' ≡ front_corners seeds s) × (due.corners ≡ length found)
+        × (due.corners ≤ places_of c) × (c' ≡ front_corners found c) × (due.ties ≡ ties) =
+        (t.0, omega (arith, t.1), first, u.0, omega (arith, u.1), u.2 ∙ first-corners found c, u.3) in
+        record {
+          both = λ l x. let same : due ≡ l = grind arith in
+              subst (λ (l : Lists). (l.seeds ≡ length seeds) × (l.seeds ≤ places_of s) × (s' ≡ front_corners seeds s)
+              × (l.corners ≡ length found)
+              × (l.corners ≤ places_of c) × (c' ≡ front_corners found c) × (l.ties ≡ ties)) same done;
+          short = λ e x. absurd (let no : ⊥ = grind arith in no);
+          seeds_lengths = a.adds.lengths;
+          corners_lengths = adds.lengths;
+        }

@@ -8,6 +8,8 @@ use mathlib.Core.List.{List, [], ◌∷◌, map}
 use lib.ListN.{length, get_or, set, length-set, length-map}
 use lib.Seq.{ext_get_or}
 use lib.Ieee.{Float, binary32, nan, add}
+use Rattle.std.specs.Prelude.{Result, Ok, Err}
+use Rattle.lists.specs.declared.refusal.Refusal.{Refusal}
 use Rattle.lists.specs.Tab.{tab}
 use Rattle.lists.specs.Buffer.{placed}
 use Rattle.lists.proofs.Tab.{length-tab, get_d-tab, map-tab}
@@ -17,11 +19,10 @@ use Rattle.corner_list.specs.declared.Corner.{Corner}
 use Rattle.corner_list.specs.CornerList.{Slices, slices, x_of, y_of, strength_of, neighbours_of, places_of}
 use Rattle.corner_list.proofs.Corners.{slices-alike}
 use Rattle.detect.specs.declared.Peaks.{Peaks}
-use Rattle.detect.specs.declared.Peaks.TheVariants.{Added, Refused}
 use Rattle.patch_corners.specs.OneMap.{moved}
 use Rattle.patch_corners.proofs.Changing.{placed-behind, placed-again}
-use Rattle.frame.specs.Internal.{AddsCorners, added_of}
-use Rattle.frame.proofs.Adding.{adds, adds-not}
+use Rattle.frame.specs.Internal.{SameLengths, AddsCorners}
+use Rattle.frame.proofs.Adding.{adds, adds-not, lengths-on}
 
 -- ---- floats that were placed, and then replaced
 
@@ -47,31 +48,31 @@ kept x f e [] = refl
 kept {A} x f e (c ∷ cs) = ap₂ (λ (a : A) (l : List A). a ∷ l) (e c) (kept x f e cs)
 
 module _ (cs : List Corner) (ties held : ℕ) (b : Slices) where
-  pub moved-fits : (answer : Peaks) (b' : Slices) → AddsCorners cs ties held b answer b' → held ≤ places_of b → (m : ℕ)
-      → m ≡ added_of answer → held + m ≤ places_of b
-  moved-fits (Added n t) b' a l m e = omega (arith, (a.added n t refl).1)
-  moved-fits (Refused x) b' a l m e = omega arith
+  -- refused: none is moved
+  pub moved-refused : (x0 y0 : ℕ) (answer : Result Peaks Refusal) (b' : Slices) → AddsCorners cs ties held b answer b'
+      → (e : Refusal) → answer ≡ Err e → AddsCorners (map (moved x0 y0) cs) ties held b answer b'
+  moved-refused x0 y0 answer b' a e z =
+      let k = a.refused e z in
+      adds-not (map (moved x0 y0) cs) ties held b answer e b' z k.0 (omega (arith, k.1, length-map cs (moved x0 y0))) a.lengths
 
-  pub moved-added : (x0 y0 : ℕ) (answer : Peaks) (b' : Slices) → AddsCorners cs ties held b answer b' → (m : ℕ) → m ≡ added_of answer
+  -- added, and each moved
+  pub moved-added : (x0 y0 : ℕ) (answer : Result Peaks Refusal) (b' : Slices) → AddsCorners cs ties held b answer b'
+      → (q : Peaks) → answer ≡ Ok q
       → (xs ys : List Float)
-      → xs ≡ placed held (tab m (λ i. add binary32 (get_or b'.xs (held + i) nan) (float_of x0))) b'.xs
-      → ys ≡ placed held (tab m (λ i. add binary32 (get_or b'.ys (held + i) nan) (float_of y0))) b'.ys
-      → AddsCorners (map (moved x0 y0) cs) ties held b answer (slices xs ys b'.strengths b'.neighbours)
-  moved-added x0 y0 (Added n t) b' a m e xs ys ex ey =
-      let k = a.added n t refl in
+      → xs ≡ placed held (tab q.count (λ i. add binary32 (get_or b'.xs (held + i) nan) (float_of x0))) b'.xs
+      → ys ≡ placed held (tab q.count (λ i. add binary32 (get_or b'.ys (held + i) nan) (float_of y0))) b'.ys
+      → AddsCorners (map (moved x0 y0) cs) ties held b (Ok q) (slices xs ys b'.strengths b'.neighbours)
+  moved-added x0 y0 answer b' a q z xs ys ex ey =
+      let k = a.added q z in
       let f = moved x0 y0 in
-      let count : m ≡ length cs = e ∙ k.0 in
-      adds (map f cs) ties held b n t (slices xs ys b'.strengths b'.neighbours) (k.0 ∙ sym (length-map cs f)) k.1
+      adds (map f cs) ties held b q (slices xs ys b'.strengths b'.neighbours) (k.0 ∙ sym (length-map cs f)) k.1
       (slices-alike
-      (ex ∙ ap (λ (s : Slices). placed held (tab m (λ i. add binary32 (get_or s.xs (held + i) nan) (float_of x0))) s.xs) k.2
-      ∙ raised (λ z. add binary32 z (float_of x0)) held (map x_of cs) b.xs (omega (arith, k.1)) m (count ∙ sym (length-map cs x_of))
+      (ex ∙ ap (λ (s : Slices). placed held (tab q.count (λ i. add binary32 (get_or s.xs (held + i) nan) (float_of x0))) s.xs) k.2
+      ∙ raised (λ z. add binary32 z (float_of x0)) held (map x_of cs) b.xs (omega (arith, k.1)) q.count (k.0 ∙ sym (length-map cs x_of))
       ∙ ap (λ (l : List Float). placed held l b.xs) (fields x_of (λ z. add binary32 z (float_of x0)) f (λ c. refl) cs))
-      (ey ∙ ap (λ (s : Slices). placed held (tab m (λ i. add binary32 (get_or s.ys (held + i) nan) (float_of y0))) s.ys) k.2
-      ∙ raised (λ z. add binary32 z (float_of y0)) held (map y_of cs) b.ys (omega (arith, k.1)) m (count ∙ sym (length-map cs y_of))
+      (ey ∙ ap (λ (s : Slices). placed held (tab q.count (λ i. add binary32 (get_or s.ys (held + i) nan) (float_of y0))) s.ys) k.2
+      ∙ raised (λ z. add binary32 z (float_of y0)) held (map y_of cs) b.ys (omega (arith, k.1)) q.count (k.0 ∙ sym (length-map cs y_of))
       ∙ ap (λ (l : List Float). placed held l b.ys) (fields y_of (λ z. add binary32 z (float_of y0)) f (λ c. refl) cs))
       (ap (λ (s : Slices). s.strengths) k.2 ∙ ap (λ (l : List Float). placed held l b.strengths) (kept strength_of f (λ c. refl) cs))
       (ap (λ (s : Slices). s.neighbours) k.2 ∙ ap (λ (l : List ℕ). placed held l b.neighbours) (kept neighbours_of f (λ c. refl) cs)))
       k.3
-  moved-added x0 y0 (Refused x) b' a m e xs ys ex ey =
-      adds-not (map (moved x0 y0) cs) ties held b (Refused x) x (slices xs ys b'.strengths b'.neighbours) refl
-      (omega (arith, a.refused x refl, length-map cs (moved x0 y0)))

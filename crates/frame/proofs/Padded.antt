@@ -11,14 +11,8 @@ use Rattle.corner_list.specs.declared.Corner.{Corner}
 use Rattle.corner_list.specs.CornerList.{Slices, x_of, y_of, strength_of, neighbours_of, places_of, front_corners}
 use Rattle.corner_list.proofs.Corners.{slices-alike}
 use Rattle.frame.specs.Frame.{padded, padded_corners}
+use Rattle.frame.specs.Internal.{SameLengths}
 use Rattle.clearing.specs.Clearing.{cleared_from}
-
--- two buffers with slices of the same lengths
-pub record SameLengths (b b' : Slices) : Type 0 where
-  pub xs : length b'.xs ≡ length b.xs
-  pub ys : length b'.ys ≡ length b.ys
-  pub strengths : length b'.strengths ≡ length b.strengths
-  pub neighbours : length b'.neighbours ≡ length b.neighbours
 
 -- ---- one slice
 module _ {A : Type 0} (z : A) where

@@ -8,13 +8,14 @@ use mathlib.Core.List.{List}
 use lib.ListN.{length, take}
 use lib.Seq.{length-take-le}
 use lib.Ieee.{Float, nan}
+use Rattle.std.specs.Prelude.{Result, Ok, Err}
+use Rattle.lists.specs.declared.refusal.Refusal.{Refusal}
 use Rattle.lists.specs.Limits.{largest_side}
 use Rattle.lists.specs.Places.{Place}
 use Rattle.ring.specs.Ring.{ring_of}
 use Rattle.ring.proofs.Places.{ring_is}
 use Rattle.response.specs.Patch.{View, map_width, map_height, cells, inner_cells, InnerPatched}
 use Rattle.response.specs.declared.Patch.{Patch}
-use Rattle.response.specs.declared.Patch.TheVariants as patch
 use Rattle.response.proofs.Outcome.{cols-le, rows-le, area_in, allowed}
 use Rattle.response.proofs.Map.{Made, filled, never-refused, cells-length, inner-length, inner-at, made-length, made-front}
 use Rattle.corner_list.specs.CornerList.{Slices}
@@ -33,17 +34,17 @@ use Rattle.patch_corners.proofs.Margin.{same-centres, same-ties-with}
 use Rattle.frame_params.proofs.Ranges.{ranges}
 use Rattle.frame_pass.proofs.Maps.{map-clear, fine-box}
 use Rattle.frame.specs.Internal.{FrameChecked, AddsCorners}
-use Rattle.frame.proofs.Adding.{adds-to}
+use Rattle.frame.proofs.Adding.{adds-to, found-lengths}
 
 abbrev pub box_in : FrameParams → List ℕ → ℕ → ℕ → ℕ → ℕ → ℕ → ℕ → View
 box_in p img w h x0 y0 x1 y1 = record { img = img; w = w; h = h; ring = ring_of p.ring; x0 = x0; y0 = y0; x1 = x1; y1 = y1 }
 
 module _ (p : FrameParams) (img : List ℕ) (w h x0 y0 x1 y1 : ℕ) (d : List Float) (ready : FrameChecked p img w h (length d)) (margin : ℕ)
-    (e : List Float) (m : Patch) (patched : InnerPatched (box_in p img w h x0 y0 x1 y1) margin p.ring d m e) where
+    (e : List Float) (m : Result Patch Refusal) (patched : InnerPatched (box_in p img w h x0 y0 x1 y1) margin p.ring d m e) where
   abbrev box : View
   box = box_in p img w h x0 y0 x1 y1
 
-  pub never-short : (k : ℕ) → m ≡ patch.Refused k → ⊥
+  pub never-short : (x : Refusal) → m ≡ Err x → ⊥
   never-short =
       never-refused box p.ring d e m patched
       (allowed box p.ring (length d)
@@ -56,7 +57,7 @@ module _ (p : FrameParams) (img : List ℕ) (w h x0 y0 x1 y1 : ℕ) (d : List Fl
       }))
 
   -- the map is pw by ph
-  module _ (pw ph : ℕ) (q : m ≡ patch.Cells pw ph) where
+  module _ (pw ph : ℕ) (q : m ≡ Ok (record { w = pw; h = ph })) where
     made : Made box (inner_cells box margin) d e pw ph
     made = filled box p.ring d e m patched pw ph q
 
@@ -72,7 +73,7 @@ module _ (p : FrameParams) (img : List ℕ) (w h x0 y0 x1 y1 : ℕ) (d : List Fl
     pub map-length : ph * pw ≡ length (take (ph * pw) e)
     map-length = sym (length-take-le (ph * pw) e map-within)
 
-    module _ (unread : margin ≡ margin_of p) (exact : Bool) (held : ℕ) (b : Slices) (answer : Peaks) (b' : Slices)
+    module _ (unread : margin ≡ margin_of p) (exact : Bool) (held : ℕ) (b : Slices) (answer : Result Peaks Refusal) (b' : Slices)
         (added : CornersAdded p exact (take (ph * pw) e) pw ph held b answer b') where
       front : take (ph * pw) e ≡ inner_cells box margin
       front = made-front box (inner-length box margin) d e pw ph made
@@ -115,6 +116,7 @@ module _ (p : FrameParams) (img : List ℕ) (w h x0 y0 x1 y1 : ℕ) (d : List Fl
       box-adds =
           adds-to _ _ held b _ _ answer b' centres ties
           (record {
-            added = λ n u z. let t = added-tells _ searched _ _ held b answer b' added n u z in (t.count, t.fits, t.buffer, t.tied);
-            refused = λ k z. (refused-tells _ searched _ _ held b answer b' added k z).short;
+            added = λ n z. let t = added-tells _ searched _ _ held b answer b' added n z in (t.count, t.fits, t.buffer, t.tied);
+            refused = λ k z. let t = refused-tells _ searched _ _ held b answer b' added k z in (t.refusal, t.short);
+            lengths = found-lengths _ searched _ _ held b answer b' added;
           })

@@ -1,8 +1,9 @@
 -- A frame: the refusals, the answer, and every buffer after it, as equations with the pass.
 use Rattle.std.specs.Prelude.{ℕ, zero, suc, ◌-◌, ◌≡◌, Bool, ◌||◌, cond, List, [], ◌∷◌, ◌++◌, map, length, replicate}
-use Rattle.std.specs.Prelude.{ltb, eqb, Float}
+use Rattle.std.specs.Prelude.{ltb, eqb, Float, Result}
 use Rattle.lists.specs.Buffer.{front, wiped_from}
-use Rattle.lists.specs.Refusals.{lowest, values_unless, unless, result_or}
+use Rattle.lists.specs.declared.refusal.Refusal.{Refusal}
+use Rattle.lists.specs.Refusals.{lowest, number_of, values_by, values_unless, judged, result_or}
 use Rattle.float32.specs.Float32 as float32
 use Rattle.pyramid.specs.Pyramid.{above}
 use Rattle.corner_list.specs.CornerList.{Slices, slices, x_of, y_of, strength_of, neighbours_of, places_of}
@@ -12,8 +13,7 @@ use Rattle.patch_corners.specs.OneMap.{Choice, computed_choice}
 use Rattle.clearing.specs.Clearing.{cleared_from}
 use Rattle.frame_pass.specs.Refusals.{conditions}
 use Rattle.frame_pass.specs.Pass.{Pass, frame_pass, levels_in}
-use Rattle.frame.specs.declared.FrameAnswer.{FrameAnswer}
-use Rattle.frame.specs.declared.FrameAnswer.TheVariants.{Corners, Refused}
+use Rattle.frame.specs.declared.Found.{Found}
 
 -- the buffers that a frame borrows
 pub record Buffers : Type 0 where
@@ -81,23 +81,20 @@ buffers_after choose p img w h b =
 
 -- ---- the promise
 
--- the number (RULES 2.2) and the values of each case
-abbrev pub number_of : FrameAnswer → ℕ
-number_of (Corners n ties) = 0
-number_of (Refused number) = number
+-- the values of an answer (RULES 15.1)
+abbrev pub values_of : Result Found Refusal → List ℕ
+values_of = values_by (λ f. f.corners ∷ f.ties ∷ [])
 
-abbrev pub values_of : FrameAnswer → List ℕ
-values_of (Corners n ties) = n ∷ ties ∷ []
-values_of (Refused number) = []
+-- what a pass finds: how many corners, and how many ties
+abbrev pub found_in : Pass → Found
+found_in q = record { corners = length q.corners; ties = q.ties }
 
 -- What is promised about a frame with a choice of peaks: the answer (how many corners and how many ties there are,
 -- RULES 23.3), its number and values, and the buffers after. `find_corners` promises it for the choice of its flag:
 -- by computed or by exact values (RULES 34.1)
 pub record FrameFound (choose : Choice) (p : FrameParams) (img : List ℕ) (w h : ℕ) (b : Buffers)
-    (r : FrameAnswer) (b' : Buffers) : Type 0 where
-  pub answer : r
-      ≡ unless Refused (refusal_of choose p img w h b)
-      (Corners (length (frame_pass p img w h choose).corners) (frame_pass p img w h choose).ties)
+    (r : Result Found Refusal) (b' : Buffers) : Type 0 where
+  pub answer : r ≡ judged (refusal_of choose p img w h b) (found_in (frame_pass p img w h choose))
   pub number : number_of r ≡ refusal_of choose p img w h b
   pub values : values_of r
       ≡ values_unless (refusal_of choose p img w h b)
@@ -106,7 +103,8 @@ pub record FrameFound (choose : Choice) (p : FrameParams) (img : List ℕ) (w h 
 
 -- What a function for C promises that takes an answer apart: what is promised about the answer holds for that of the
 -- number r; corners and ties are counted as the pass has them, or as before if r is a refusal
-pub record TakenApart (Promised : FrameAnswer → Type 0) (q : Pass) (count ties r count' ties' : ℕ) : Type 0 where
-  pub answer : Promised (unless Refused r (Corners (length q.corners) q.ties))
+pub record TakenApart (Promised : Result Found Refusal → Type 0) (q : Pass) (count ties r count' ties' : ℕ)
+    : Type 0 where
+  pub answer : Promised (judged r (found_in q))
   pub count_is : count' ≡ result_or r (length q.corners) count
   pub ties_are : ties' ≡ result_or r q.ties ties

@@ -1,10 +1,12 @@
 -- The contracts of private functions: no public promise depends on them.
-use Rattle.std.specs.Prelude.{ℕ, zero, suc, ◌+◌, ◌*◌, ◌<◌, ◌≤◌, ◌≡◌, true, false, ◌||◌, List, ◌++◌, ltb, length, Float}
+use Rattle.std.specs.Prelude.{ℕ, zero, suc, ◌+◌, ◌*◌, ◌<◌, ◌≤◌, ◌≡◌, true, ◌||◌, List, ◌++◌, ltb, length, Float}
+use Rattle.std.specs.Prelude.{Result, Ok, Err}
+use Rattle.lists.specs.declared.refusal.Refusal.{Refusal}
+use Rattle.lists.specs.declared.refusal.Refusal.TheVariants.{ListTooLong}
 use Rattle.pyramid.specs.Internal.{LevelsComplete}
 use Rattle.corner_list.specs.CornerList.{Slices, places_of, front_corners, placed_corners}
 use Rattle.corner_list.specs.declared.Corner.{Corner}
 use Rattle.detect.specs.declared.Peaks.{Peaks}
-use Rattle.detect.specs.declared.Peaks.TheVariants.{Added, Refused}
 use Rattle.frame_params.specs.declared.FrameParams.{FrameParams}
 use Rattle.patch_corners.specs.OneMap.{Choice, corners_in, ties_on}
 use Rattle.lists.specs.Limits.{largest_border}
@@ -45,16 +47,25 @@ pub record Band (w h j e : ℕ) : Type 0 where
 
 -- ---- lists added
 
+-- two buffers with slices of the same lengths
+pub record SameLengths (b b' : Slices) : Type 0 where
+  pub xs : length b'.xs ≡ length b.xs
+  pub ys : length b'.ys ≡ length b.ys
+  pub strengths : length b'.strengths ≡ length b.strengths
+  pub neighbours : length b'.neighbours ≡ length b.neighbours
+
 -- the corners cs after the first `held` of a buffer, their number and the ties of their peaks; or a refusal if they do
 -- not fit, and then only the lengths of the buffer are known
-pub record AddsCorners (cs : List Corner) (ties held : ℕ) (b : Slices) (answer : Peaks) (b' : Slices) : Type 0 where
-  pub added : (n t : ℕ) → answer ≡ Added n t
-      → (n ≡ length cs) × (held + n ≤ places_of b) × (b' ≡ placed_corners held cs b) × (t ≡ ties)
-  pub refused : (number : ℕ) → answer ≡ Refused number → places_of b < held + length cs
+pub record AddsCorners (cs : List Corner) (ties held : ℕ) (b : Slices) (answer : Result Peaks Refusal) (b' : Slices)
+    : Type 0 where
+  pub added : (q : Peaks) → answer ≡ Ok q
+      → (q.count ≡ length cs) × (held + q.count ≤ places_of b) × (b' ≡ placed_corners held cs b) × (q.ties ≡ ties)
+  pub refused : (e : Refusal) → answer ≡ Err e → (e ≡ ListTooLong) × (places_of b < held + length cs)
+  pub lengths : SameLengths b b'
 
 -- the seeds of n levels at the start of a buffer; their ties are not used
 pub record SeedsAdded (p : FrameParams) (img : List ℕ) (w h : ℕ) (choose : Choice) (n : ℕ) (b : Slices)
-    (answer : Peaks) (b' : Slices) : Type 0 where
+    (answer : Result Peaks Refusal) (b' : Slices) : Type 0 where
   pub ties : ℕ
   pub adds : AddsCorners (seeds_of p img w h choose n) ties 0 b answer b'
 
@@ -71,28 +82,14 @@ module _ (p : FrameParams) (img : List ℕ) (w h : ℕ) (choose : Choice) where
   ties_by (suc zero) seeds = ties_on p choose (level_view p img w h 0)
   ties_by (suc (suc k)) seeds = sum_of (ties_about p img w h choose (suc k)) seeds
 
--- how many corners were added
-abbrev pub added_of : Peaks → ℕ
-added_of (Added n t) = n
-added_of (Refused number) = 0
-
--- the two lists, by the answers of adding the seeds and the corners: the ties are the corners'
-abbrev pub no_lists : Lists
-no_lists = record { fit = false; seeds = 0; corners = 0; ties = 0 }
-
-abbrev pub lists_of : Peaks → Peaks → Lists
-lists_of (Added m t) (Added n u) = record { fit = true; seeds = m; corners = n; ties = u }
-lists_of (Added m t) (Refused number) = no_lists
-lists_of (Refused number) g = no_lists
-
 -- both lists are at the start of their buffers, and the ties are those of the peaks that `found` comes from; or a list
 -- does not fit, and then only the lengths of both buffers are known
-pub record Searched (seeds found : List Corner) (ties : ℕ) (s c : Slices) (answer : Lists)
+pub record Searched (seeds found : List Corner) (ties : ℕ) (s c : Slices) (answer : Result Lists Refusal)
     (s' c' : Slices) : Type 0 where
-  pub both : answer.fit ≡ true
-      → (answer.seeds ≡ length seeds) × (answer.seeds ≤ places_of s) × (s' ≡ front_corners seeds s)
-      × (answer.corners ≡ length found) × (answer.corners ≤ places_of c) × (c' ≡ front_corners found c)
-      × (answer.ties ≡ ties)
-  pub short : answer.fit ≡ false
-      → (answer.seeds ≡ 0) × (answer.corners ≡ 0)
-      × ((ltb (places_of s) (length seeds) || ltb (places_of c) (length found)) ≡ true)
+  pub both : (l : Lists) → answer ≡ Ok l
+      → (l.seeds ≡ length seeds) × (l.seeds ≤ places_of s) × (s' ≡ front_corners seeds s)
+      × (l.corners ≡ length found) × (l.corners ≤ places_of c) × (c' ≡ front_corners found c) × (l.ties ≡ ties)
+  pub short : (e : Refusal) → answer ≡ Err e
+      → (e ≡ ListTooLong) × ((ltb (places_of s) (length seeds) || ltb (places_of c) (length found)) ≡ true)
+  pub seeds_lengths : SameLengths s s'
+  pub corners_lengths : SameLengths c c'

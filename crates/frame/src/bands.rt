@@ -3,14 +3,17 @@
 ghost use Rattle.std.specs.Prelude.{◌≡◌, ◌+◌, ◌-◌, ◌*◌, ◌<◌, ◌≤◌, length};
 ghost use Rattle.ring.specs.Ring.{ring_of};
 ghost use Rattle.response.specs.Patch.{whole, cells, response_in};
-ghost use Rattle.corner_list.specs.CornerList.{slices, places_of};
+ghost use Rattle.corner_list.specs.Buffer.{contents, SameSlices};
 ghost use Rattle.patch_corners.specs.OneMap.{choice_of, corners_in, ties_on};
 ghost use Rattle.patch_corners.specs.MapCorners.{centres_in_rows, ties_in_rows};
 ghost use Rattle.frame.specs.Internal.{FrameChecked, AddsCorners, border_of, RowsHeld, Band};
 
 use crate::box_corners;
+use corner_list::CornerBuffer;
 use detect::Peaks;
 use frame_params::FrameParams;
+use lists::Refusal;
+use multiscale::Roi;
 
 // The rows of a band: it takes a megabyte at most, so it stays in the cache.
 const ROWS: usize = 64;
@@ -36,33 +39,20 @@ fn add_band(
     j: usize,
     e: usize,
     map: &mut [f32],
-    xs: &mut [f32],
-    ys: &mut [f32],
-    strengths: &mut [f32],
-    neighbours: &mut [u32],
+    list: &mut CornerBuffer<'_>,
     held: usize,
-) -> Peaks
+) -> Result<Peaks, Refusal>
     requires { FrameChecked p img.now w h (length map.old) × Band w h j e
         × RowsHeld (whole img.now w h (ring_of p.ring)) w j map.old }
-    ensures { AddsCorners (centres_in_rows p exact (cells (whole img.now w h (ring_of p.ring))) w h
+    ensures same_slices { SameSlices list.old list.new }
+    ensures added { AddsCorners (centres_in_rows p exact (cells (whole img.now w h (ring_of p.ring))) w h
         (j - border_of p) (e - border_of p))
         (ties_in_rows p exact (cells (whole img.now w h (ring_of p.ring))) w h (j - border_of p)
         (e - border_of p))
-        held (slices xs.old ys.old strengths.old neighbours.old)
-        result (slices xs.new ys.new strengths.new neighbours.new)
-        × RowsHeld (whole img.now w h (ring_of p.ring)) w e map.new }
+        held (contents list.old) result (contents list.new) }
+    ensures rows_held { RowsHeld (whole img.now w h (ring_of p.ring)) w e map.new }
 {
-    let m = response::chess_response_u8_patch(
-        img,
-        w,
-        h,
-        p.ring,
-        0,
-        j,
-        w,
-        e,
-        &mut map[j * w..e * w],
-    );
+    response::chess_response_u8_patch(img, w, h, p.ring, 0, j, w, e, &mut map[j * w..e * w])?;
     let b = border(p);
     patch_corners::add_row_corners(
         &map[..h * w],
@@ -72,10 +62,7 @@ fn add_band(
         e.saturating_sub(b),
         p,
         exact,
-        xs,
-        ys,
-        strengths,
-        neighbours,
+        list,
         held,
     )
 }
@@ -88,34 +75,32 @@ pub(crate) fn add_image_corners(
     p: FrameParams,
     exact: bool,
     map: &mut [f32],
-    cx: &mut [f32],
-    cy: &mut [f32],
-    cs: &mut [f32],
-    cn: &mut [u32],
-) -> Peaks
+    list: &mut CornerBuffer<'_>,
+) -> Result<Peaks, Refusal>
     requires { FrameChecked p img.now w h (length map.old) }
-    ensures { AddsCorners (corners_in p (choice_of p exact) (whole img.now w h (ring_of p.ring)))
+    ensures same_slices { SameSlices list.old list.new }
+    ensures added { AddsCorners (corners_in p (choice_of p exact) (whole img.now w h (ring_of p.ring)))
         (ties_on p (choice_of p exact) (whole img.now w h (ring_of p.ring)))
-        0 (slices cx.old cy.old cs.old cn.old)
-        result (slices cx.new cy.new cs.new cn.new) }
+        0 (contents list.old) result (contents list.new) }
 {
     if img.len() <= ONE_MAP {
-        return box_corners::add_patch_corners(
-            img, w, h, p, exact, 0, 0, w, h, map, cx, cy, cs, cn, 0,
-        );
+        let area = Roi {
+            x0: 0,
+            y0: 0,
+            x1: w,
+            y1: h,
+        };
+        return box_corners::add_patch_corners(img, w, h, p, exact, area, map, list, 0);
     }
     let mut j = 0usize;
     let mut held = 0usize;
     let mut ties = 0u64;
     while j < h {
         let e = h.min(j + ROWS);
-        let f = add_band(img, w, h, p, exact, j, e, map, cx, cy, cs, cn, held);
-        let Peaks::Added(more, t) = f else {
-            return f;
-        };
-        held += more;
-        ties += t;
+        let more = add_band(img, w, h, p, exact, j, e, map, list, held)?;
+        held += more.count;
+        ties += more.ties;
         j = e;
     }
-    Peaks::Added(held, ties)
+    Ok(Peaks { count: held, ties })
 }

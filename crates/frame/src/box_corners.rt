@@ -1,14 +1,16 @@
 // The corners of one box of an image, added to a buffer: the box's response map, as far as it is read, and its corners.
 ghost use Rattle.std.specs.Prelude.{length, ◌≡◌};
 ghost use Rattle.ring.specs.Ring.{ring_of};
-ghost use Rattle.corner_list.specs.CornerList.{slices};
+ghost use Rattle.corner_list.specs.Buffer.{contents, SameSlices};
 ghost use Rattle.patch_corners.specs.OneMap.{choice_of, corners_in, ties_on};
 ghost use Rattle.patch_corners.specs.Internal.{margin_of};
 ghost use Rattle.frame.specs.Internal.{FrameChecked, AddsCorners};
 
+use corner_list::CornerBuffer;
 use detect::Peaks;
 use frame_params::FrameParams;
-use response::Patch;
+use lists::Refusal;
+use multiscale::Roi;
 
 // How many cells at each edge of a map are never read.
 fn margin(p: FrameParams) -> usize
@@ -17,48 +19,55 @@ fn margin(p: FrameParams) -> usize
     p.ring as usize + p.window.min(p.centroid_radius) as usize
 }
 
-// Adds the corners of a box of an image of w by h, the columns x0 up to, not including, x1 of the rows y0 up to y1,
-// behind the first `held` of a buffer, by the box's columns and rows. The box's map stands first in the map buffer.
+// Adds the corners of a box of an image of w by h behind the first `held` of a buffer, by the box's columns and rows.
+// The box's map stands first in the map buffer.
 pub(crate) fn add_patch_corners(
     img: &[u8],
     w: usize,
     h: usize,
     p: FrameParams,
     exact: bool,
-    x0: usize,
-    y0: usize,
-    x1: usize,
-    y1: usize,
+    area: Roi,
     map: &mut [f32],
-    xs: &mut [f32],
-    ys: &mut [f32],
-    strengths: &mut [f32],
-    neighbours: &mut [u32],
+    list: &mut CornerBuffer<'_>,
     held: usize,
-) -> Peaks
+) -> Result<Peaks, Refusal>
     requires { FrameChecked p img.now w h (length map.old) }
-    ensures { AddsCorners (corners_in p (choice_of p exact)
-        (record { img = img.now; w = w; h = h; ring = ring_of p.ring; x0 = x0; y0 = y0; x1 = x1; y1 = y1 }))
-        (ties_on p (choice_of p exact) (record
-        { img = img.now; w = w; h = h; ring = ring_of p.ring; x0 = x0; y0 = y0; x1 = x1; y1 = y1 }))
-        held (slices xs.old ys.old strengths.old neighbours.old)
-        result (slices xs.new ys.new strengths.new neighbours.new) }
+    ensures same_slices { SameSlices list.old list.new }
+    ensures added { AddsCorners (corners_in p (choice_of p exact) (record {
+      img = img.now;
+      w = w;
+      h = h;
+      ring = ring_of p.ring;
+      x0 = area.x0;
+      y0 = area.y0;
+      x1 = area.x1;
+      y1 = area.y1;
+    }))
+        (ties_on p (choice_of p exact) (record {
+          img = img.now;
+          w = w;
+          h = h;
+          ring = ring_of p.ring;
+          x0 = area.x0;
+          y0 = area.y0;
+          x1 = area.x1;
+          y1 = area.y1;
+        }))
+        held (contents list.old) result (contents list.new) }
 {
-    let m = response::inner_patch(img, w, h, p.ring, x0, y0, x1, y1, margin(p), map);
-    let Patch::Cells { w: pw, h: ph } = m else {
-        return Peaks::Refused(8);
-    };
-    let cells = ph * pw;
-    patch_corners::add_map_corners(
-        &map[..cells],
-        pw,
-        ph,
-        p,
-        exact,
-        xs,
-        ys,
-        strengths,
-        neighbours,
-        held,
-    )
+    let patch = response::inner_patch(
+        img,
+        w,
+        h,
+        p.ring,
+        area.x0,
+        area.y0,
+        area.x1,
+        area.y1,
+        margin(p),
+        map,
+    )?;
+    let cells = patch.h * patch.w;
+    patch_corners::add_map_corners(&map[..cells], patch.w, patch.h, p, exact, list, held)
 }

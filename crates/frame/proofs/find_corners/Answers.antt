@@ -1,140 +1,97 @@
 -- `frame::find_corners` meets its contract, by the laws of `Entry`. Assumes nothing.
 use native.Mathlib.Omega.{arith}
-use mathlib.Core.Path.{sym, ◌∙◌}
+use mathlib.Core.Path.{◌≡◌, sym, ◌∙◌}
 use lib.ListN.{length}
+use Rattle.lists.specs.Refusals.{lowest}
+use Rattle.lists.proofs.Judged.{judged-ok, passed-on}
+use Rattle.pyramid.specs.Internal.{LevelsComplete}
+use Rattle.pyramid.proofs.Levels.{built, builds}
+use Rattle.corner_list.specs.CornerList.{places_of}
+use Rattle.corner_list.specs.Buffer.{contents}
+use Rattle.merge.specs.Merge.{refusal_of}
 use Rattle.patch_corners.specs.OneMap.{choice_of}
+use Rattle.frame_pass.specs.Refusals.{conditions}
+use Rattle.frame_pass.specs.Theorems.{SoundFrame}
 use Rattle.frame_pass.proofs.Inside.{corners-inside}
-use Rattle.frame_pass.proofs.Refusals.{admitted, admitted-sound}
-use Rattle.frame.specs.Internal.{FrameChecked}
-use Rattle.frame.proofs.Levels.{ready-kept, levels-most, seeds-few, searched}
-use Rattle.frame.proofs.Entry.{found-refused, entry-merged}
+use Rattle.frame_pass.proofs.Refusals.{Admitted, admitted, admitted-sound}
+use Rattle.frame.proofs.Entry.{found-refused, entry-short, merge-free, merge-never, entry-merged}
 use Rattle.frame.proofs.find_corners.Goals as goal
+use Rattle.frame.proofs.find_corners.Goals.{In_ok-refusal, In_ok-n, In-Ok}
 
-pub returns-then-number-ne0 : goal.returns-then-number-ne0
-returns-then-number-ne0 c = found-refused _ _ _ _ _ _ _ c.refusal-number.ensures c.if-number-ne0.true
+pub returns-in_err-refusal-clause-found : goal.returns-in_err-refusal-clause-found
+returns-in_err-refusal-clause-found c =
+    rw (passed-on _ c.from_residual.ensures.1) (found-refused _ _ _ _ _ _ _ c.in_err-refusal.ensures)
 
-pub build-n-requires : goal.build-n-requires
-build-n-requires c =
-    let none = sym c.refusal-number.ensures ∙ c.if-number-ne0.false in
-    (admitted c.args.p (length c.args.img.now) c.args.w c.args.h (length c.args.map.now) (length c.args.levels.now) none).accepted
+-- nothing refuses the frame
+none : (c : In_ok-refusal)
+    → lowest (conditions c.args.p (length c.args.img.now) c.args.w c.args.h (length c.args.map.now) (length c.args.levels.now)) ≡ 0
+none c = (judged-ok _ _ _ c.in_ok-refusal.ensures).0
 
-pub add_seeds-f-requires : goal.add_seeds-f-requires
-add_seeds-f-requires c =
-    let none = sym c.refusal-number.ensures ∙ c.if-number-ne0.false in
-    let taken = admitted c.args.p (length c.args.img.now) c.args.w c.args.h (length c.args.map.now) (length c.args.levels.now) none in
-    let sound = admitted-sound c.args.p c.args.img.now c.args.w c.args.h _ _ taken
-    (λ i. (c.shared_slice_known-1.given i).fits) in
-    record {
-      frame_checked = record { sound = sound; enough = taken.enough };
-      built_levels = record { before = _; complete = c.build-n.ensures };
-    }
+taken : (c : In_ok-refusal)
+    → Admitted c.args.p (length c.args.img.now) c.args.w c.args.h (length c.args.map.now) (length c.args.levels.now)
+taken c = admitted c.args.p (length c.args.img.now) c.args.w c.args.h (length c.args.map.now) (length c.args.levels.now) (none c)
 
-pub add_found-g-requires : goal.add_found-g-requires
-add_found-g-requires c =
-    let none = sym c.refusal-number.ensures ∙ c.if-number-ne0.false in
-    let taken = admitted c.args.p (length c.args.img.now) c.args.w c.args.h (length c.args.map.now) (length c.args.levels.now) none in
-    let sound = admitted-sound c.args.p c.args.img.now c.args.w c.args.h _ _ taken
-    (λ i. (c.shared_slice_known-1.given i).fits) in
-    let ready : FrameChecked c.args.p c.args.img.now c.args.w c.args.h (length c.args.map.now) =
-    record { sound = sound; enough = taken.enough } in
-    record {
-      frame_checked = ready-kept _ _ _ _ _ _ ready (omega (arith, c.add_seeds-f.auto));
-      n_le_most_levels = (
-        levels-most c.args.p c.args.img.now c.args.w c.args.h _ _
-            (record { before = _; complete = c.build-n.ensures }),
-        omega (
-          arith,
-          seeds-few c.args.p c.args.exact c.args.img.now c.args.w c.args.h _ ready _ _ _ _ c.add_seeds-f.ensures,
-          c.added-m.ensures,
-        ),
-      );
-    }
+sound : (c : In_ok-refusal) → SoundFrame c.args.p c.args.img.now c.args.w c.args.h
+sound c =
+    admitted-sound c.args.p c.args.img.now c.args.w c.args.h _ _ (taken c)
+    (λ i. (c.shared_slice_known-1.given i).fits)
 
-pub shape_of-map : goal.shape_of-map
-shape_of-map c =
-    omega (
-      arith,
-      c.merge_by_table-merged.auto,
-      c.add_found-g.auto,
-      c.add_seeds-f.auto,
-    )
+-- its levels are built
+pub returns-in_err-n-clause-found : goal.returns-in_err-n-clause-found
+returns-in_err-n-clause-found c =
+    absurd (let z =
+    sym (builds _ _ _ _ _ _ _ _ c.build_pyramid.ensures (taken (goal.at.returns-in_err-n-clause-found c).In_ok-refusal).accepted)
+    ∙ c.in_err-n.was in
+    let no : ⊥ = grind arith in no)
 
-pub shape_of-levels : goal.shape_of-levels
-shape_of-levels c = omega (arith, c.clear_levels.auto, c.build-n.auto)
+pub find_lists-requires-clause-frame_checked : goal.find_lists-requires-clause-frame_checked
+find_lists-requires-clause-frame_checked c =
+    let k = (goal.at.find_lists-requires-clause-frame_checked c).In_ok-refusal in
+    record { sound = sound k; enough = (taken k).enough }
 
-pub shape_of-sx : goal.shape_of-sx
-shape_of-sx c = omega (arith, c.clear_list.auto, c.add_seeds-f.auto)
+levels : (c : In_ok-n)
+    → LevelsComplete c.args.img.now c.args.w c.args.h c.args.p.levels c.args.p.minimum_side c.args.levels.now c.build_pyramid.new.levels
+    c.in_ok-n.n
+levels c = built _ _ _ _ _ _ _ _ c.build_pyramid.ensures _ c.in_ok-n.was
 
-pub shape_of-sy : goal.shape_of-sy
-shape_of-sy c = omega (arith, c.clear_list.auto, c.add_seeds-f.auto)
+pub find_lists-requires-clause-built_levels : goal.find_lists-requires-clause-built_levels
+find_lists-requires-clause-built_levels c =
+    record { before = _; complete = levels (goal.at.find_lists-requires-clause-built_levels c).In_ok-n }
 
-pub shape_of-ss : goal.shape_of-ss
-shape_of-ss c = omega (arith, c.clear_list.auto, c.add_seeds-f.auto)
+-- both lists fit: merging is not refused
+free : (c : In-Ok)
+    → refusal_of c.args.p.merge_radius (places_of (contents c.find_lists.new.corners)) c.in-Ok.lists.corners
+    (contents c.find_lists.new.corners) ≡ 0
+free c =
+    let k = (goal.at.In-Ok c).In_ok-refusal in
+    merge-free (choice_of c.args.p c.args.exact) _ _ _ _ _ _ _ _ _ (levels (goal.at.In-Ok c).In_ok-n).counted _ _ _
+    c.find_lists.ensures.searched (none k) c.find_lists.new.map (omega (arith, c.find_lists.auto)) _ c.in-Ok.is (taken k)
+    (corners-inside c.args.p c.args.img.now c.args.w c.args.h (choice_of c.args.p c.args.exact) (sound k)).1
 
-pub shape_of-sn : goal.shape_of-sn
-shape_of-sn c = omega (arith, c.clear_list.auto, c.add_seeds-f.auto)
+pub returns-in_err-left-in-Ok-clause-found : goal.returns-in_err-left-in-Ok-clause-found
+returns-in_err-left-in-Ok-clause-found c =
+    let k = (goal.at.returns-in_err-left-in-Ok-clause-found c).In_ok-refusal in
+    let n = (goal.at.returns-in_err-left-in-Ok-clause-found c).In_ok-n in
+    absurd (merge-never (choice_of c.args.p c.args.exact) _ _ _ _ _ _ _ _ _ (levels n).counted _ _ _ c.find_lists.ensures.searched
+    (none k) c.find_lists.new.map (omega (arith, c.find_lists.auto)) _ c.in-Ok.is
+    (free (goal.at.returns-in_err-left-in-Ok-clause-found c).In-Ok) _ _ _
+    c.merge_by_table.ensures.merged _ c.in_err-left-in-Ok.was)
 
-pub shape_of-cx : goal.shape_of-cx
-shape_of-cx c =
-    omega (
-      arith,
-      c.clear_list-2.auto,
-      c.merge_by_table-merged.auto,
-      c.add_found-g.auto,
-    )
+pub returns-in_ok-left-in-Ok-clause-found : goal.returns-in_ok-left-in-Ok-clause-found
+returns-in_ok-left-in-Ok-clause-found c =
+    let k = (goal.at.returns-in_ok-left-in-Ok-clause-found c).In_ok-refusal in
+    let n = (goal.at.returns-in_ok-left-in-Ok-clause-found c).In_ok-n in
+    rw (c.clear_list.ensures.cleared, c.clear_list-in-Ok.ensures.cleared)
+    (entry-merged (choice_of c.args.p c.args.exact) _ _ _ _ _ _ _ _ _ (levels n).counted _ _ _ c.find_lists.ensures.searched
+    (none k) c.find_lists.new.map (omega (arith, c.find_lists.auto)) _ c.in-Ok.is
+    (free (goal.at.returns-in_ok-left-in-Ok-clause-found c).In-Ok) _ _ _
+    c.merge_by_table.ensures.merged _ c.in_ok-left-in-Ok.was _ (levels n).fills)
 
-pub shape_of-cy : goal.shape_of-cy
-shape_of-cy c =
-    omega (
-      arith,
-      c.clear_list-2.auto,
-      c.merge_by_table-merged.auto,
-      c.add_found-g.auto,
-    )
-
-pub shape_of-cs : goal.shape_of-cs
-shape_of-cs c =
-    omega (
-      arith,
-      c.clear_list-2.auto,
-      c.merge_by_table-merged.auto,
-      c.add_found-g.auto,
-    )
-
-pub shape_of-cn : goal.shape_of-cn
-shape_of-cn c =
-    omega (
-      arith,
-      c.clear_list-2.auto,
-      c.merge_by_table-merged.auto,
-      c.add_found-g.auto,
-    )
-
-pub returns : goal.returns
-returns c =
-    let none = sym c.refusal-number.ensures ∙ c.if-number-ne0.false in
-    let found = searched (choice_of c.args.p c.args.exact) c.args.p c.args.img.now c.args.w c.args.h _ _ _ _ _ _ _ c.add_seeds-f.ensures _
-    c.added-m.ensures
-    c.add_found-g.ensures _ c.lists_of-found.ensures in
-    let taken = admitted c.args.p (length c.args.img.now) c.args.w c.args.h (length c.args.map.now) (length c.args.levels.now) none in
-    let sound = admitted-sound c.args.p c.args.img.now c.args.w c.args.h _ _ taken
-    (λ i. (c.shared_slice_known-1.given i).fits) in
-    entry-merged (choice_of c.args.p c.args.exact) c.args.p c.args.img.now c.args.w c.args.h c.args.map.now c.args.levels.now _ _ _
-    c.build-n.ensures.counted _ _ _ found
-    (record {
-      xs = omega (arith, c.add_seeds-f.auto);
-      ys = omega (arith, c.add_seeds-f.auto);
-      strengths = omega (arith, c.add_seeds-f.auto);
-      neighbours = omega (arith, c.add_seeds-f.auto);
-    })
-    (record {
-      xs = omega (arith, c.add_found-g.auto);
-      ys = omega (arith, c.add_found-g.auto);
-      strengths = omega (arith, c.add_found-g.auto);
-      neighbours = omega (arith, c.add_found-g.auto);
-    })
-    none taken (corners-inside c.args.p c.args.img.now c.args.w c.args.h (choice_of c.args.p c.args.exact) sound).1
-    c.add_found-g.new.map (omega (arith, c.add_found-g.auto, c.add_seeds-f.auto)) _ c.build-n.ensures.fills c.build-n.ensures.long _ _ _
-    c.merge_by_table-merged.ensures _ c.clear_levels.ensures
-    _ c.clear_list.ensures _ c.kept_of-k.ensures
-    _ c.clear_list-2.ensures _ c.answer_of.ensures
+-- one does not
+pub returns-in-Err-clause-found : goal.returns-in-Err-clause-found
+returns-in-Err-clause-found c =
+    let k = (goal.at.returns-in-Err-clause-found c).In_ok-refusal in
+    let n = (goal.at.returns-in-Err-clause-found c).In_ok-n in
+    rw (c.clear.ensures, c.clear-in-Err.ensures, c.clear_list-in-Err.ensures.cleared, c.clear_list-in-Err-2.ensures.cleared)
+    (entry-short (choice_of c.args.p c.args.exact) _ _ _ _ _ _ _ _ _ (levels n).counted _ _ _ c.find_lists.ensures.searched
+    (none k) c.find_lists.new.map (omega (arith, c.find_lists.auto)) _ c.in-Err.is _ (levels n).long)

@@ -1,8 +1,10 @@
 -- `frame::bands::add_image_corners` meets its contract: a small map is one box; of a large one the corners of the rows that are complete
 -- stand first in the buffer, and their peaks' ties are summed. Assumes nothing.
+use borrow.Author.Rules.{rules}
 use Prim.Native.Nat.{◌<◌}
 use native.Mathlib.Omega.{arith}
 use mathlib.Core.Path.{refl}
+use Rattle.lists.proofs.Judged.{passed-on}
 use Rattle.frame.specs.Internal.{Band}
 use Rattle.frame.proofs.InBands.{some-sides, rows_none, band-next, bands-none, bands-more, bands-full, bands-all}
 use Rattle.frame.proofs.InBands.{bands-tied}
@@ -20,43 +22,44 @@ band c = band-next _ _ _ _ (sides (goal.at.After-min-e c).At-loop-j).0 c.loop-j-
 
 pub loop-j-init : goal.loop-j-init
 loop-j-init c =
-    (omega arith, refl, refl, refl, refl, refl, rows_none _ _ _, bands-none c.args.p c.args.img.now _ _ c.args.exact _)
+    (search rules, omega arith, refl, rows_none _ _ _, bands-none c.args.p c.args.img.now _ _ c.args.exact _)
 
 pub overflow_add-j : goal.overflow_add-j
-overflow_add-j c = omega (arith, c.loop-j.invariant.0, c.requires.sound.low)
+overflow_add-j c = omega (arith, c.loop-j.invariant.1, c.requires.sound.low)
 
-pub add_band-f-requires : goal.add_band-f-requires
-add_band-f-requires c = (
-  record { sound = c.requires.sound; enough = omega (arith, c.requires.enough, c.loop-j.invariant.1) },
-  band (goal.at.add_band-f-requires c).After-min-e,
-  c.loop-j.invariant.6,
+pub add_band-requires : goal.add_band-requires
+add_band-requires c = (
+  record { sound = c.requires.sound; enough = omega (arith, c.requires.enough, c.loop-j.invariant.2) },
+  band (goal.at.add_band-requires c).After-min-e,
+  c.loop-j.invariant.3,
 )
 
-pub returns-in_default : goal.returns-in_default
-returns-in_default c =
-    let some = sides (goal.at.returns-in_default c).At-loop-j in
-    let rows = (band (goal.at.returns-in_default c).After-min-e).some in
-    bands-all c.args.p c.args.img.now c.args.w c.args.h c.args.exact some.0 some.1 _ c.requires _ (omega arith)
+pub returns-in_err-more-clause-added : goal.returns-in_err-more-clause-added
+returns-in_err-more-clause-added c =
+    let some = sides (goal.at.returns-in_err-more-clause-added c).At-loop-j in
+    let rows = (band (goal.at.returns-in_err-more-clause-added c).After-min-e).some in
+    rw (passed-on _ c.from_residual.ensures.1, ← c.in_err-more.was)
+    (bands-all c.args.p c.args.img.now c.args.w c.args.h c.args.exact some.0 some.1 _ c.requires _ (omega arith)
     (omega arith) _ _ _
-    (bands-full c.args.p c.args.img.now c.args.w c.args.h c.args.exact _ _ _ _ (omega arith) _ _ c.loop-j.invariant.7 _ _
-    c.add_band-f.ensures.0 _ c.in_default.is (band (goal.at.returns-in_default c).After-min-e).within)
+    (bands-full c.args.p c.args.img.now c.args.w c.args.h c.args.exact _ _ _ _ (omega arith) _ _ c.loop-j.invariant.4 _ _
+    c.add_band.ensures.added _ c.in_err-more.was (band (goal.at.returns-in_err-more-clause-added c).After-min-e).within))
 
 pub overflow_add-held : goal.overflow_add-held
 overflow_add-held c =
     let some = (band (goal.at.overflow_add-held c).After-min-e).some in
-    let more = bands-more c.args.p c.args.img.now c.args.w c.args.h c.args.exact _ _ _ _ (omega arith) _ _ c.loop-j.invariant.7 _ _
-    c.add_band-f.ensures.0 _ _ c.in-Added.is in
-    omega (arith, (more.added _ _ refl).1, c.well_formed)
+    let more = bands-more c.args.p c.args.img.now c.args.w c.args.h c.args.exact _ _ _ _ (omega arith) _ _ c.loop-j.invariant.4 _ _
+    c.add_band.ensures.added _ c.in_ok-more.was in
+    omega (arith, (more.added _ refl).1, c.well_formed)
 
 pub overflow_add-ties : goal.overflow_add-ties
 overflow_add-ties c =
     let some = sides (goal.at.overflow_add-ties c).At-loop-j in
     let rows = (band (goal.at.overflow_add-ties c).After-min-e).some in
-    let more = bands-more c.args.p c.args.img.now c.args.w c.args.h c.args.exact _ _ _ _ (omega arith) _ _ c.loop-j.invariant.7 _ _
-    c.add_band-f.ensures.0 _ _ c.in-Added.is in
+    let more = bands-more c.args.p c.args.img.now c.args.w c.args.h c.args.exact _ _ _ _ (omega arith) _ _ c.loop-j.invariant.4 _ _
+    c.add_band.ensures.added _ c.in_ok-more.was in
     omega (
       arith,
-      (more.added _ _ refl).3,
+      (more.added _ refl).3,
       bands-tied c.args.p c.args.img.now c.args.w c.args.h c.args.exact some.0 some.1 _ c.requires
           c.min-e.result (band (goal.at.overflow_add-ties c).After-min-e).within,
     )
@@ -67,20 +70,17 @@ loop-j-smaller c = let b = band (goal.at.loop-j-smaller c).After-min-e in omega 
 pub loop-j-preserved : goal.loop-j-preserved
 loop-j-preserved c =
     let some = (band (goal.at.loop-j-preserved c).After-min-e).some in
-    let more = bands-more c.args.p c.args.img.now c.args.w c.args.h c.args.exact _ _ _ _ (omega arith) _ _ c.loop-j.invariant.7 _ _
-    c.add_band-f.ensures.0 _ _ c.in-Added.is in (
+    let more = bands-more c.args.p c.args.img.now c.args.w c.args.h c.args.exact _ _ _ _ (omega arith) _ _ c.loop-j.invariant.4 _ _
+    c.add_band.ensures.added _ c.in_ok-more.was in (
+      search rules,
       (band (goal.at.loop-j-preserved c).After-min-e).within,
-      omega (arith, c.add_band-f.auto, c.loop-j.invariant.1),
-      omega (arith, c.add_band-f.auto, c.loop-j.invariant.2),
-      omega (arith, c.add_band-f.auto, c.loop-j.invariant.3),
-      omega (arith, c.add_band-f.auto, c.loop-j.invariant.4),
-      omega (arith, c.add_band-f.auto, c.loop-j.invariant.5),
-      c.add_band-f.ensures.1,
+      omega (arith, c.add_band.auto, c.loop-j.invariant.2),
+      c.add_band.ensures.rows_held,
       more,
     )
 
-pub returns : goal.returns
-returns c =
-    let some = sides (goal.at.returns c).At-loop-j in
-    bands-all c.args.p c.args.img.now c.args.w c.args.h c.args.exact some.0 some.1 _ c.requires _ c.loop-j.invariant.0
-    (omega arith) _ _ _ c.loop-j.invariant.7
+pub returns-clause-added : goal.returns-clause-added
+returns-clause-added c =
+    let some = sides (goal.at.returns-clause-added c).At-loop-j in
+    bands-all c.args.p c.args.img.now c.args.w c.args.h c.args.exact some.0 some.1 _ c.requires _ c.loop-j.invariant.1
+    (omega arith) _ _ _ c.loop-j.invariant.4

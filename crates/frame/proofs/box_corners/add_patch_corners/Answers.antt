@@ -3,26 +3,21 @@ use native.Mathlib.Omega.{arith}
 use Rattle.frame.proofs.Patches.{never-short, map-small, map-within, map-length, box-adds}
 use Rattle.frame.proofs.box_corners.add_patch_corners.Goals as goal
 
-pub returns-in_default : goal.returns-in_default
-returns-in_default c =
-    absurd (never-short _ _ _ _ _ _ _ _ _ c.requires _ _ _ c.inner_patch-m.ensures _ c.in_default.is)
+pub returns-in_err-patch-clause-added : goal.returns-in_err-patch-clause-added
+returns-in_err-patch-clause-added c =
+    absurd (never-short _ _ _ _ _ _ _ _ _ c.requires _ _ _ c.inner_patch.ensures _ c.in_err-patch.was)
 
 pub overflow_mul-cells : goal.overflow_mul-cells
 overflow_mul-cells c =
-    omega
-    (arith, map-small _ _ _ _ _ _ _ _ _ c.requires _ _ _ c.inner_patch-m.ensures _ _ c.in-Cells.is)
+    omega (arith, map-small _ _ _ _ _ _ _ _ _ c.requires _ _ _ c.inner_patch.ensures _ _ c.in_ok-patch.was)
 
 pub slice_bounds-add_map_corners-end : goal.slice_bounds-add_map_corners-end
-slice_bounds-add_map_corners-end c =
-    map-within _ _ _ _ _ _ _ _ _ c.requires _ _ _ c.inner_patch-m.ensures _ _
-    c.in-Cells.is
+slice_bounds-add_map_corners-end c = map-within _ _ _ _ _ _ _ _ _ c.requires _ _ _ c.inner_patch.ensures _ _ c.in_ok-patch.was
 
 pub slice_bounds-add_map_corners-end-2 : goal.slice_bounds-add_map_corners-end-2
-slice_bounds-add_map_corners-end-2 c =
-    map-length _ _ _ _ _ _ _ _ _ c.requires _ _ _ c.inner_patch-m.ensures _ _
-    c.in-Cells.is
+slice_bounds-add_map_corners-end-2 c = map-length _ _ _ _ _ _ _ _ _ c.requires _ _ _ c.inner_patch.ensures _ _ c.in_ok-patch.was
 
-pub returns : goal.returns
-returns c =
-    box-adds _ _ _ _ _ _ _ _ _ c.requires _ _ _ c.inner_patch-m.ensures _ _ c.in-Cells.is
-    c.margin.ensures c.args.exact _ _ _ _ c.add_map_corners.ensures
+pub returns-clause-added : goal.returns-clause-added
+returns-clause-added c =
+    box-adds _ _ _ _ _ _ _ _ _ c.requires _ _ _ c.inner_patch.ensures _ _ c.in_ok-patch.was c.margin.ensures c.args.exact _ _ _ _
+    c.add_map_corners.ensures.added

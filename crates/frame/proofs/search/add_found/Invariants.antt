@@ -1,8 +1,9 @@
 use mathlib.Core.Path.{◌≡◌}
 use lib.ListN.{length}
+use Rattle.std.specs.Prelude.{Ok}
 use Rattle.lists.specs.Places.{flat_map, sum_of}
-use Rattle.corner_list.specs.CornerList.{slices, corners_of}
-use Rattle.detect.specs.declared.Peaks.TheVariants.{Added}
+use Rattle.corner_list.specs.CornerList.{corners_of}
+use Rattle.corner_list.specs.Buffer.{contents, seen, SameSlices}
 use Rattle.patch_corners.specs.OneMap.{choice_of}
 use Rattle.frame_pass.specs.Pass.{corners_about, ties_about}
 use Rattle.frame.specs.Internal.{AddsCorners}
@@ -10,10 +11,7 @@ use Rattle.frame.proofs.search.add_found.Given as goal
 
 abbrev pub invariant-loop-i : goal.invariant-loop-i
 invariant-loop-i l =
-    (length l.map ≡ length l.initial.map) × (length l.cx ≡ length l.initial.cx)
-    × (length l.cy ≡ length l.initial.cy) × (length l.cs ≡ length l.initial.cs)
-    × (length l.cn ≡ length l.initial.cn)
-    × AddsCorners (flat_map (corners_about l.p l.img l.w l.h (choice_of l.p l.exact) l.k) (corners_of (slices l.sx l.sy l.ss l.sn) l.i))
-    (sum_of (ties_about l.p l.img l.w l.h (choice_of l.p l.exact) l.k) (corners_of (slices l.sx l.sy l.ss l.sn) l.i)) 0
-    (slices l.initial.cx l.initial.cy l.initial.cs l.initial.cn)
-    (Added l.held l.ties) (slices l.cx l.cy l.cs l.cn)
+    SameSlices l.initial.list l.list × (length l.map ≡ length l.initial.map)
+    × AddsCorners (flat_map (corners_about l.p l.img l.w l.h (choice_of l.p l.exact) l.k) (corners_of (seen l.seeds) l.i))
+    (sum_of (ties_about l.p l.img l.w l.h (choice_of l.p l.exact) l.k) (corners_of (seen l.seeds) l.i)) 0 (contents l.initial.list)
+    (Ok (record { count = l.held; ties = l.ties })) (contents l.list)

@@ -1,57 +1,51 @@
 -- `frame::search::add_patch` meets its contract, by the laws of `Boxes`. Assumes nothing.
-use borrow.Author.Rules.{rules}
 use native.Mathlib.Omega.{arith}
+use mathlib.Core.Path.{◌≡◌, sym, ◌∙◌}
+use mathlib.Core.List.{[]}
 use lib.Dec.{le→leb}
 use lib.Ieee.{in_float}
+use Rattle.std.specs.Prelude.{None, Some}
+use Rattle.std.specs.Result.{result_unwrap_or}
+use Rattle.lists.proofs.Judged.{passed-on}
+use Rattle.multiscale.specs.Multiscale.{roi_of}
 use Rattle.patch_corners.specs.OneMap.{choice_of}
-use Rattle.frame.proofs.Moving.{moved-fits, moved-added}
+use Rattle.frame_pass.specs.Pass.{context_at}
+use Rattle.frame.proofs.Moving.{moved-added, moved-refused}
 use Rattle.frame.proofs.Boxes.{about-none, about-corner, about-added}
 use Rattle.frame.proofs.search.add_patch.Goals as goal
+use Rattle.frame.proofs.search.add_patch.Goals.{In-Some}
 
-pub returns-in_default : goal.returns-in_default
-returns-in_default c =
-    about-none (choice_of c.args.p c.args.exact) _ _ _ _ _ _ _ c.box_of-b.ensures
-    (search rules) _ _ c.requires.1
+pub returns-in_default-clause-added : goal.returns-in_default-clause-added
+returns-in_default-clause-added c =
+    about-none (choice_of c.args.p c.args.exact) c.args.p c.args.img.now _ _ _ _ (sym c.in_default.is ∙ c.box_of.ensures) _ _ c.requires.1
 
-pub int_to_float-x0 : goal.int_to_float-x0
+-- the seed has a box
+boxed : (c : In-Some) → Some c.in-Some.area ≡ result_unwrap_or (roi_of (context_at c.args.p [] c.args.w c.args.h c.args.k) c.args.seed) None
+boxed c = sym c.in-Some.is ∙ c.box_of.ensures
+
+pub returns-in_err-added-clause-added : goal.returns-in_err-added-clause-added
+returns-in_err-added-clause-added c =
+    rw (passed-on _ c.from_residual.ensures.1, ← c.in_err-added.was)
+    (about-added (choice_of c.args.p c.args.exact) c.args.p c.args.img.now _ _ _ _ _
+    (boxed (goal.at.returns-in_err-added-clause-added c).In-Some) _ _ _ _
+    (moved-refused _ _ _ _ _ _ _ _ c.add_patch_corners.ensures.added _ c.in_err-added.was))
+
+pub int_to_float-area : goal.int_to_float-area
 unfolding in_float
-int_to_float-x0 c =
-    let corner = about-corner (choice_of c.args.p c.args.exact) c.args.p c.args.img.now c.args.w c.args.h _ _ _
-    c.box_of-b.ensures _ _ _ _
-    c.in-Bounds.is c.requires.0.sound in
+int_to_float-area c =
+    let corner = about-corner (choice_of c.args.p c.args.exact) c.args.p c.args.img.now _ _ _ _ _
+    (boxed (goal.at.int_to_float-area c).In-Some) c.requires.0.sound in
     omega (arith, le→leb, corner.0)
 
-pub shift-requires : goal.shift-requires
-shift-requires c =
-    let fit = moved-fits _ _ _ _ _ _ c.add_patch_corners-f.ensures c.requires.1 _
-    c.added-m.ensures in
-    omega (arith, fit, c.add_patch_corners-f.auto)
-
-pub int_to_float-y0 : goal.int_to_float-y0
+pub int_to_float-area-2 : goal.int_to_float-area-2
 unfolding in_float
-int_to_float-y0 c =
-    let corner = about-corner (choice_of c.args.p c.args.exact) c.args.p c.args.img.now c.args.w c.args.h _ _ _
-    c.box_of-b.ensures _ _ _ _
-    c.in-Bounds.is c.requires.0.sound in
+int_to_float-area-2 c =
+    let corner = about-corner (choice_of c.args.p c.args.exact) c.args.p c.args.img.now _ _ _ _ _
+    (boxed (goal.at.int_to_float-area-2 c).In-Some) c.requires.0.sound in
     omega (arith, le→leb, corner.1)
 
-pub shift-requires-2 : goal.shift-requires-2
-shift-requires-2 c =
-    let fit = moved-fits _ _ _ _ _ _ c.add_patch_corners-f.ensures c.requires.1 _
-    c.added-m.ensures in
-    omega (arith, fit, c.add_patch_corners-f.auto)
-
-pub shape_of-xs : goal.shape_of-xs
-shape_of-xs c = omega (arith, c.shift.auto, c.add_patch_corners-f.auto)
-
-pub shape_of-ys : goal.shape_of-ys
-shape_of-ys c = omega (arith, c.shift-2.auto, c.add_patch_corners-f.auto)
-
-pub returns : goal.returns
-returns c =
-    about-added (choice_of c.args.p c.args.exact) _ _ _ _ _ _ _ c.box_of-b.ensures _ _ _ _
-    c.in-Bounds.is
+pub returns-clause-added : goal.returns-clause-added
+returns-clause-added c =
+    about-added (choice_of c.args.p c.args.exact) c.args.p c.args.img.now _ _ _ _ _ (boxed (goal.at.returns-clause-added c).In-Some)
     _ _ _ _
-    (moved-added _ _ _ _ _ _ _ _ c.add_patch_corners-f.ensures _
-    c.added-m.ensures _ _
-    c.shift.ensures c.shift-2.ensures)
+    (moved-added _ _ _ _ _ _ _ _ c.add_patch_corners.ensures.added _ c.in_ok-added.was _ _ c.shift.ensures c.shift-2.ensures)
