@@ -1,16 +1,14 @@
 -- The text of a frame and of a stream, from the answers of the frame pass, of the reader and of the listing. Assumes nothing.
 use Prim.Native.Nat.{ℕ, zero, suc, ◌*◌, ◌≤◌}
 use native.Mathlib.Omega.{arith}
-use mathlib.Core.Path.{◌≡◌, refl, sym, ap, ◌∙◌}
+use mathlib.Core.Path.{◌≡◌, refl, sym, ◌∙◌}
 use mathlib.Core.List.{List}
-use lib.ListN.{length, take, drop, length-take, length-append}
+use lib.ListN.{take}
 use borrow.Author.Tests.{le-ltb}
 use Rattle.std.specs.Prelude.{Result, Ok, Err}
 use Rattle.lists.specs.declared.refusal.Refusal.{Refusal}
-use Rattle.lists.proofs.Buffer.{front_length}
-use Rattle.lists.specs.Buffer.{Written}
 use Rattle.lists.specs.Refusals.{refusal_number, unless}
-use Rattle.lists.proofs.Judged.{judged-ok, refused-some, refused-above}
+use Rattle.lists.proofs.Judged.{refused-some, refused-above}
 use Rattle.corner_list.specs.CornerList.{Slices}
 use Rattle.frame_params.specs.declared.FrameParams.{FrameParams}
 use Rattle.patch_corners.specs.OneMap.{computed_choice}
@@ -20,7 +18,6 @@ use Rattle.frame.proofs.Callers.{Finished, finished-tells, refused-tells}
 use Rattle.stream.specs.declared.Header.{Header}
 use Rattle.stream.specs.Answer.{FrameRead}
 use Rattle.stream.proofs.Callers.{FrameStands, frame_found, refusal-found}
-use Rattle.stream.specs.Stream.{most_pixels}
 use Rattle.listing.specs.Text.{refused_text}
 use Rattle.listing.specs.Answer.{most_corners, CornersWritten}
 use Rattle.listing.specs.Answer as listing
