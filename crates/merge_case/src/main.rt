@@ -4,13 +4,13 @@
 #![tactic(auto)]
 
 ghost use Rattle.std.specs.Prelude.{◌≡◌, cond, IsErr, ◌≤◌};
-ghost use Rattle.corner_list.specs.CornerList.{slices, places_of, corners_of};
+ghost use Rattle.corner_list.specs.CornerList.{places_of, corners_of};
+ghost use Rattle.corner_list.specs.Buffer.{contents, seen, SameSlices};
 ghost use Rattle.listing.specs.Text.{corners_text};
 ghost use Rattle.merge_naive.specs.Case.{corner, three, two};
 
-use corner_list::Corner;
-use listing::{LONGEST, Listing, MOST_CORNERS};
-use merge::answers::kept_of;
+use corner_list::{Corner, CornerBuffer, CornerView};
+use listing::{LONGEST, MOST_CORNERS};
 use std::io;
 
 // A corner of strength 1 without neighbours.
@@ -26,47 +26,29 @@ fn unit_corner(x: f32, y: f32) -> Corner
 }
 
 // Puts the three corners at the start of a buffer.
-fn put_case(xs: &mut [f32], ys: &mut [f32], strengths: &mut [f32], neighbours: &mut [u32])
-    requires { 3 ≤ places_of (slices xs.old ys.old strengths.old neighbours.old) }
-    ensures { corners_of (slices xs.new ys.new strengths.new
-        neighbours.new) 3 ≡ three }
+fn put_case(b: &mut CornerBuffer<'_>)
+    requires { 3 ≤ places_of (contents b.old) }
+    ensures same_slices { SameSlices b.old b.new }
+    ensures put { corners_of (contents b.new) 3 ≡ three }
+    ensures bound { 3 ≤ places_of (contents b.new) }
 {
     let below_one = 0.99999994; // 1 - 2^-24
-    corner_list::put_corner(
-        xs,
-        ys,
-        strengths,
-        neighbours,
-        0,
-        unit_corner(below_one, 0.0),
-    );
-    corner_list::put_corner(xs, ys, strengths, neighbours, 1, unit_corner(2.0, 0.0));
-    corner_list::put_corner(xs, ys, strengths, neighbours, 2, unit_corner(0.0, 100.0));
+    b.put(0, unit_corner(below_one, 0.0));
+    b.put(1, unit_corner(2.0, 0.0));
+    b.put(2, unit_corner(0.0, 100.0));
 }
 
 // Merges the three corners of a buffer, by cells or by distance alone, and returns how many are left.
-fn merge_case(
-    xs: &mut [f32],
-    ys: &mut [f32],
-    strengths: &mut [f32],
-    neighbours: &mut [u32],
-    cells: bool,
-) -> usize
-    requires bound { 3 ≤ places_of (slices xs.old ys.old strengths.old neighbours.old) }
-    requires neighbours_value { corners_of (slices xs.old ys.old strengths.old neighbours.old) 3 ≡ three }
-    ensures { corners_of (slices xs.new ys.new strengths.new
-        neighbours.new) result ≡ cond cells three two }
+fn merge_case(b: &mut CornerBuffer<'_>, cells: bool) -> usize
+    requires bound { 3 ≤ places_of (contents b.old) }
+    requires neighbours_value { corners_of (contents b.old) 3 ≡ three }
+    ensures same_slices { SameSlices b.old b.new }
+    ensures left { corners_of (contents b.new) result ≡ cond cells three two }
 {
     if cells {
-        return kept_of(
-            merge::merge_corners_simple(xs, ys, strengths, neighbours, 3, 1.0),
-            0,
-        );
+        return merge::merge_corners_simple(b, 3, 1.0).unwrap_or(0);
     }
-    kept_of(
-        merge_naive::merge_corners_naive(xs, ys, strengths, neighbours, 3, 1.0),
-        0,
-    )
+    merge_naive::merge_corners_naive(b, 3, 1.0).unwrap_or(0)
 }
 
 // Writes a text that is the listing of what is left.
@@ -81,7 +63,8 @@ fn write_listing(rt: &HostRuntime, text: &[u8], cells: bool)
     report(rt, outcome);
 }
 
-// Reports why a text was not written.
+// Reports why a text was not written. Its caller tests and does not `match`, as the edit written_is_reported turns the
+// test around.
 fn report(rt: &HostRuntime, outcome: io::Result<()>)
     requires { IsErr outcome }
 {
@@ -90,20 +73,12 @@ fn report(rt: &HostRuntime, outcome: io::Result<()>)
 }
 
 // Prints the first `count` corners of a buffer, which are what is left.
-fn print_corners(
-    rt: &HostRuntime,
-    xs: &[f32; MOST_CORNERS],
-    ys: &[f32; MOST_CORNERS],
-    strengths: &[f32; MOST_CORNERS],
-    neighbours: &[u32; MOST_CORNERS],
-    count: usize,
-    cells: bool,
-)
-    requires { corners_of (slices xs.now ys.now strengths.now neighbours.now) count ≡ cond cells three two }
+fn print_corners(rt: &HostRuntime, list: CornerView<'_>, count: usize, cells: bool)
+    requires { corners_of (seen list) count ≡ cond cells three two }
 {
     let mut text = [0u8; LONGEST];
-    let listed = listing::write_corners(xs, ys, strengths, neighbours, count, &mut text);
-    let Listing::Text(end) = listed else {
+    let listed = listing::write_corners(list, count, &mut text);
+    let Ok(end) = listed else {
         return;
     };
     write_listing(rt, &text[..end], cells);
@@ -115,9 +90,15 @@ fn print_case(rt: &HostRuntime, cells: bool) {
     let mut ys = [0.0f32; MOST_CORNERS];
     let mut strengths = [0.0f32; MOST_CORNERS];
     let mut neighbours = [0u32; MOST_CORNERS];
-    put_case(&mut xs, &mut ys, &mut strengths, &mut neighbours);
-    let count = merge_case(&mut xs, &mut ys, &mut strengths, &mut neighbours, cells);
-    print_corners(rt, &xs, &ys, &strengths, &neighbours, count, cells);
+    let mut b = CornerBuffer {
+        xs: &mut xs,
+        ys: &mut ys,
+        strengths: &mut strengths,
+        neighbours: &mut neighbours,
+    };
+    put_case(&mut b);
+    let count = merge_case(&mut b, cells);
+    print_corners(rt, b.view(), count, cells);
 }
 
 fn main(rt: HostRuntime) {

@@ -19,7 +19,8 @@ use Rattle.merge_grid.specs.declared.Grid.{Grid}
 use Rattle.merge_grid.specs.declared.Position.{Position}
 use Rattle.merge_grid.specs.Grid.{position_of, position_at, row_of, joins}
 use Rattle.std.specs.Prelude.{Option, None, Some, IfSome}
-use Rattle.merge_settle.specs.Internal.{FirstPasses, joins_at, count_with, put_at, empty, home_at, PlaceListed, ListsAt, InIndex, Indexed}
+use Rattle.merge_settle.specs.Settle.{count_with, put_at}
+use Rattle.merge_settle.specs.Internal.{FirstPasses, joins_at, empty, home_at, PlaceListed, ListsAt, InIndex, Indexed}
 
 pub indexed-none : (g : Grid) (floor : ℕ) (table : List ℕ) (xs ys : List Float) → 0 < length table → Indexed g floor table xs ys 0
 indexed-none g floor table xs ys h = record { some = h; each = λ i l. absurd (let no : ⊥ = omega arith in no) }

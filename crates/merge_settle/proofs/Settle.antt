@@ -14,8 +14,8 @@ use Rattle.lists.proofs.Tests.{is_false}
 use Rattle.corner_list.specs.declared.Corner.{Corner}
 use Rattle.corner_list.specs.CornerList.{Slices, places_of, corner_at, corners_of, with_corner, front_corners}
 use Rattle.corner_list.proofs.Corners.{corners-length, corners-at, corners-same, corners-set, corners-next}
-use Rattle.merge_settle.specs.Settle.{stronger, settle}
-use Rattle.merge_settle.specs.Internal.{FirstAt, FirstPasses, place_of, count_with, put_at, Settled}
+use Rattle.merge_settle.specs.Settle.{stronger, settle, place_of, count_with, put_at}
+use Rattle.merge_settle.specs.Internal.{FirstAt, FirstPasses, Settled}
 
 -- ---- lists
 

@@ -1,12 +1,12 @@
 -- The contracts of private functions: no public promise depends on them.
-use Rattle.std.specs.Prelude.{ℕ, ◌+◌, ◌*◌, ◌/◌, ◌%◌, ◌<◌, ◌≤◌, ◌≡◌, ◌⊎◌, List, map, Bool, true, cond, length, get_or}
+use Rattle.std.specs.Prelude.{ℕ, ◌+◌, ◌*◌, ◌/◌, ◌%◌, ◌<◌, ◌≤◌, ◌≡◌, ◌⊎◌, List, map, Bool, true, length, get_or}
 use Rattle.std.specs.Prelude.{Option, None, Some}
-use Rattle.std.specs.Prelude.{drop, Float, eqb}
+use Rattle.std.specs.Prelude.{drop, Float}
 use Rattle.std.specs.Float.{binary32}
-use Rattle.std.specs.Float.Ieee.{to_bits, lt}
+use Rattle.std.specs.Float.Ieee.{to_bits}
 use Rattle.corner_list.specs.declared.Corner.{Corner}
 use Rattle.corner_list.specs.declared.buffer.CornerView.{CornerView}
-use Rattle.corner_list.specs.CornerList.{Slices, corner_at, corners_of, with_corner, front_corners}
+use Rattle.corner_list.specs.CornerList.{Slices, corners_of, front_corners}
 use Rattle.merge_grid.specs.declared.Grid.{Grid}
 use Rattle.merge_grid.specs.declared.Position.{Position}
 use Rattle.merge_grid.specs.Grid.{position_at, column_of, row_of, meets}
@@ -104,22 +104,6 @@ pub record IsFirstAmong (f : ℕ → Bool) (Looked : ℕ → Type 0) (n r : ℕ)
 pub record Settled (j : Corner → Corner → Bool) (k : ℕ) (c : Corner) (b : Slices) (n : ℕ) (b' : Slices) : Type 0 where
   pub count : n ≡ length (settle j (corners_of b k) c)
   pub buffer : b' ≡ front_corners (settle j (corners_of b k) c) b
-
--- how many corners are kept when one is put at a place, or at none: one more than the k before if that is the next
--- place
-abbrev pub count_with : ℕ → Option ℕ → ℕ
-count_with k None = k
-count_with k (Some r) = cond (eqb r k) (k + 1) k
-
--- the place that c takes among the first k corners of a buffer, of which `joined` is the first that it joins
-abbrev pub place_of : Slices → ℕ → Corner → Option ℕ → Option ℕ
-place_of b k c None = Some k
-place_of b k c (Some i) = cond (lt (corner_at b i).strength c.strength) (Some i) None
-
--- a corner put at a place of a buffer, or at none
-abbrev pub put_at : Option ℕ → Corner → Slices → Slices
-put_at None c b = b
-put_at (Some r) c b = with_corner r c b
 
 -- ---- Merging in place, one part of the list after the other, as the private functions promise it.
 

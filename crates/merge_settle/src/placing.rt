@@ -1,7 +1,7 @@
 // The place that a corner takes among the kept ones: all that settling does, whichever corners join.
 ghost use Rattle.std.specs.Prelude.{◌≡◌, ◌<◌, ◌+◌, ◌^◌};
 ghost use Rattle.corner_list.specs.Buffer.{contents, seen, SameSlices};
-ghost use Rattle.merge_settle.specs.Internal.{place_of, count_with, put_at};
+ghost use Rattle.merge_settle.specs.Settle.{place_of, count_with, put_at};
 
 use corner_list::{Corner, CornerBuffer, CornerView};
 
@@ -41,8 +41,11 @@ pub fn settle_corner(
 
 // How many corners are kept after one takes a place among the first k, or the place right after them, or none.
 pub fn count_with(k: usize, at: Option<usize>) -> usize
-    requires { k + 1 < 2 ^ 64 }
-    ensures { result ≡ count_with k at }
+    ensures { k + 1 < 2 ^ 64 → result ≡ count_with k at }
 {
-    if at == Some(k) { k + 1 } else { k }
+    if at == Some(k) {
+        k.saturating_add(1)
+    } else {
+        k
+    }
 }

@@ -14,10 +14,7 @@ found : (c : After-first_near-joined)
     c.first_near-joined.result
 found c = found-viewed _ _ _ _ c.args.c _ _ c.view-v.ensures c.from.ensures c.first_near-joined.ensures
 
-pub count_with-requires : goal.count_with-requires
-count_with-requires c = omega (arith, c.requires, c.well_formed)
-
 pub returns-clause-settled : goal.returns-clause-settled
 returns-clause-settled c =
     settles-by _ _ _ _ c.requires _ (found (goal.at.returns-clause-settled c).After-first_near-joined) _
-    c.settle_corner-at.ensures.place _ c.count_with.ensures _ c.settle_corner-at.ensures.put
+    c.settle_corner-at.ensures.place _ (c.count_with.ensures (omega (arith, c.requires, c.well_formed))) _ c.settle_corner-at.ensures.put

@@ -2,7 +2,7 @@
 -- nothing.
 use native.Mathlib.Omega.{arith}
 use Rattle.std.proofs.Common.{rules}
-use mathlib.Core.Path.{refl, sym, ◌∙◌}
+use mathlib.Core.Path.{refl, sym}
 use mathlib.Core.Logic.{inr}
 use Rattle.merge_settle.proofs.Stepping.{given-by, stepped-none, stepped-fits, stepped-turn, stops_end}
 use Rattle.merge_settle.proofs.Indexing.{indexed-viewed}

@@ -1,10 +1,10 @@
 -- `merge_settle::settling::settle_listed` meets its contract: put in the place that it takes, and listed. Assumes nothing.
-use Rattle.std.proofs.Common.{sym, ap, ◌∙◌, subst, arith}
+use Rattle.std.proofs.Common.{sym, ap, ◌∙◌, arith}
 use Rattle.corner_list.specs.CornerList.{Slices, corner_at}
 use Rattle.corner_list.specs.Buffer.{contents}
-use Rattle.merge_grid.specs.declared.Position.{Position}
 use Rattle.merge_grid.specs.Grid.{joins}
-use Rattle.merge_settle.specs.Internal.{joins_at, count_with, FirstPasses}
+use Rattle.merge_settle.specs.Internal.{FirstPasses}
+use Rattle.merge_settle.specs.Settle.{count_with}
 use Rattle.merge_settle.proofs.Settle.{settles-by, place-by}
 use Rattle.merge_settle.proofs.Slots.{some-floats}
 use Rattle.merge_settle.proofs.Indexing.{found-viewed, indexed-viewed, indexed-dropped, indexed-placed}
@@ -16,9 +16,6 @@ find_joined-joined-requires c = indexed-viewed _ _ (sym c.view-v.ensures) c.requ
 
 pub list_place-requires : goal.list_place-requires
 list_place-requires c = some-floats c.args.table.now c.requires.indexed.some
-
-pub count_with-requires : goal.count_with-requires
-count_with-requires c = omega (arith, c.requires.k_bound, c.well_formed)
 
 -- the buffer before
 abbrev buffer : After-find_joined-joined → Slices
@@ -44,13 +41,14 @@ pub returns : goal.returns
 returns c =
     let first = found (goal.at.returns c).After-find_joined-joined in
     let place = c.settle_corner-at.ensures.place in
+    let counted = c.count_with.ensures (omega (arith, c.requires.k_bound, c.well_formed)) in
     record {
       same_slices = c.settle_corner-at.ensures.same_slices;
       settled =
-          settles-by _ _ _ _ c.requires.k_bound _ first _ place _ (c.count_with.ensures ∙ ap (count_with c.args.k) (sym c.in-Some.is))
+          settles-by _ _ _ _ c.requires.k_bound _ first _ place _ (counted ∙ ap (count_with c.args.k) (sym c.in-Some.is))
           _ c.settle_corner-at.ensures.put;
       indexed_2 =
           indexed-placed _ _ _ (buffer (goal.at.returns c).After-find_joined-joined) _ c.requires.indexed _ _ _
           c.settle_corner-at.ensures.put _ c.in-Some.is (place-by (joins c.args.g) _ c.args.c _ c.requires.k_bound _ first _ place)
-          _ c.from-p.ensures _ c.list_place.ensures _ c.count_with.ensures;
+          _ c.from-p.ensures _ c.list_place.ensures _ counted;
     }
