@@ -1,6 +1,5 @@
 -- Each from the promise where its number is 0. Assumes nothing.
-use Prim.Native.Nat.{ℕ, zero, suc}
-use native.Mathlib.Omega.{arith}
+use Prim.Native.Nat.{ℕ}
 use mathlib.Core.Path.{◌≡◌, refl, sym, ap, ◌∙◌}
 use mathlib.Core.Bool.{Bool, cond}
 use mathlib.Core.List.{List}
@@ -32,7 +31,7 @@ use Rattle.finder.specs.Finder.{output_of}
 use Rattle.demands.specs.ResponseCall.{ResponseCall, view_in, map_of}
 use Rattle.demands.specs.BitForBit.{BitForBit}
 use Rattle.demands.proofs.Added.{added-are}
-use Rattle.lists.specs.Refusals.{unless, result_or}
+use Rattle.lists.specs.Refusals.{result_or}
 use Rattle.lists.specs.Buffer.{front}
 
 map_is : (c : ResponseCall) → map_of c ≡ cells (view_in c)
@@ -79,7 +78,7 @@ bit_for_bit = record {
   merge_by_table = λ radius count b b' table table' n f. left_is _ _ b b' n f.merges;
   merge_corners_naive = λ radius count b b' n f. left_is _ _ b b' n f;
   merge_corner_slice = slice_is;
-  find_corners = λ c. (finished-tells _ c.parameters c.img c.w c.h c.before c.count c.ties c.after
-      c.promise).corners;
+  find_corners = λ c. (finished-tells _ c.parameters c.img c.w c.h c.before (record { corners = c.count; ties = c.ties })
+      c.after c.promise).corners;
   find = λ input text text' end f. rw f.holds (front-take (output_of input) text end f.ends);
 }

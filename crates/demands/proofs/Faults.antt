@@ -16,7 +16,7 @@ use Rattle.stream.specs.Stream.{largest_stream_side, u8, u16, u32, known as is_k
 use Rattle.stream.specs.Stream.{Reading, accepted}
 use Rattle.stream.specs.Stream.{refused, sides_fault, parameters_fault, padding_fault, body_fault, record_fault, read_record, records_for}
 use Rattle.stream.specs.Stream.{read_pixels, read_parameters, read_frame}
-use Rattle.demands.specs.Numbers.{OneOf, Refuses}
+use Rattle.demands.specs.Numbers.{OneOf}
 use Rattle.demands.proofs.Tables.{listed, cond-one, above_zero}
 
 abbrev numbers : List ℕ
@@ -69,7 +69,7 @@ record-known due left (kind ∷ rest) =
 
 -- ---- a reading
 abbrev Few : Reading → Type 0
-Few = Refuses refused numbers
+Few r = (n : ℕ) → r ≡ refused n → OneOf n numbers
 
 record-few : (due left : ℕ) (s : List ℕ) (next : List ℕ → List ℕ → Reading) → ((body rest : List ℕ) → Few (next body rest))
     → Few (read_record due left s next)
@@ -91,7 +91,7 @@ pixels-few (suc n) header left pixels s =
     record-few 3 left s (λ body rest. read_pixels n header (left - 32) (pixels ++ take left body) rest)
     (λ body rest. pixels-few n header (left - 32) (pixels ++ take left body) rest)
 
-pub frame-few : (s : List ℕ) → Refuses refused (1 ∷ 3 ∷ 5 ∷ 6 ∷ 7 ∷ 11 ∷ []) (read_frame s)
+pub frame-few : (s : List ℕ) → Few (read_frame s)
 unfolding read_frame read_parameters
 frame-few s =
     record-few 1 0 s read_parameters (λ sides rest.

@@ -40,7 +40,7 @@ use Rattle.demands.proofs.Added.{named}
 
 pub frame_exact : FrameExact
 frame_exact c alike =
-    let f = finished-tells _ c.parameters c.img c.w c.h c.before c.count c.ties c.after c.promise in
+    let f = finished-tells _ c.parameters c.img c.w c.h c.before (record { corners = c.count; ties = c.ties }) c.after c.promise in
     let same = ap (λ (q : Pass). q.corners) (pass_same c.parameters c.img c.w c.h alike) in
     record { corners = f.corners ∙ same; count = f.count ∙ ap length same }
 

@@ -126,7 +126,7 @@ neighbours_kept c =
     let p = c.parameters in
     let n = levels_in p c.img c.w c.h in
     let maps = own_maps c in
-    let f = finished-tells _ p c.img c.w c.h c.before c.count c.ties c.after c.promise in
+    let f = finished-tells _ p c.img c.w c.h c.before (record { corners = c.count; ties = c.ties }) c.after c.promise in
     rw f.corners
     (result-all (OfPeak p maps) p.merge_radius (found_of p c.img c.w c.h (computed_choice p) n)
     (found-of p maps c.img c.w c.h n (all_in maps)))

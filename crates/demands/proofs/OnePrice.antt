@@ -12,7 +12,7 @@ use Rattle.demands.proofs.Ties.{frame_ties}
 
 pub exact_frame : ExactFrame
 exact_frame d =
-    let f = finished-tells _ d.parameters d.img d.w d.h d.before d.count d.ties d.after d.promise in
+    let f = finished-tells _ d.parameters d.img d.w d.h d.before (record { corners = d.count; ties = d.ties }) d.after d.promise in
     record { corners = f.corners; count = f.count; ties = f.tied }
 
 module _ (c : FrameCall) (d : ExactCall) (one : OnOneFrame c d) where

@@ -11,7 +11,6 @@ use lib.Seq.{take_all, length-take-le}
 use lib.Dec.{ltb, leb, eqb}
 use borrow.Author.Tests.{lt-ltb, le-ltb, le-leb, lt-leb, ltb-true, ltb-false, leb-true, leb-false, ne_eqb}
 use Rattle.lists.specs.Places.{counted, flat_map}
-use Rattle.lists.specs.Refusals.{unless}
 use Rattle.listing.specs.Text.{refused_text}
 use Rattle.retention.specs.declared.Holding.{Holding}
 use Rattle.lists.proofs.Judged.{judged-ok}

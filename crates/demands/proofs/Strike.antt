@@ -120,7 +120,7 @@ later_move_up s c z = record {
 pub shown_is_struck : ShownIsStruck
 shown_is_struck s s' showing shown number answer calls c place change z =
     let p = subst (λ (r : Result Shown Refusal). Shows s.buffer s.edition showing.place r) answer showing.promise in
-    let seen = was-shown s.buffer s.edition showing.place shown number p in
+    let seen = was-shown s.buffer s.edition showing.place (record { corner = shown; change = number }) p in
     let quiet : struck_in s s' calls ≡ 0 = omega (arith, counted s s' calls, (told s' c z).can.same, change, seen.change-is) in
     let same : s' ≡ s = same_list s s' calls quiet in
     let corner : corner_at s'.buffer c.place ≡ shown =

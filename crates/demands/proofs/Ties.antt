@@ -48,7 +48,7 @@ peak_ties m w h p = ties_are m w h p
 
 pub frame_ties : FrameTies
 frame_ties c =
-    let f = finished-tells _ c.parameters c.img c.w c.h c.before c.count c.ties c.after c.promise in
+    let f = finished-tells _ c.parameters c.img c.w c.h c.before (record { corners = c.count; ties = c.ties }) c.after c.promise in
     record {
       computed = f.tied;
       exact = λ alike. f.tied ∙ ap (λ (q : Pass). q.ties) (pass_same c.parameters c.img c.w c.h alike);

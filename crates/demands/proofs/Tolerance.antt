@@ -108,7 +108,7 @@ unfolding frame_pass
 frame_tolerance choose c R =
     let p = c.parameters in
     let n = levels_in p c.img c.w c.h in
-    let f = finished-tells _ p c.img c.w c.h c.before c.count c.ties c.after c.promise in
+    let f = finished-tells _ p c.img c.w c.h c.before (record { corners = c.count; ties = c.ties }) c.after c.promise in
     let seeds = seeds_of p c.img c.w c.h (choose p) n in
     let found = found_in p c.img c.w c.h (choose p) n in
     record {

@@ -79,7 +79,7 @@ units_nearest = record {
   coordinate = near;
   frame = λ choose c.
       let p = c.parameters in
-      rw (finished-tells (choose p) p c.img c.w c.h c.before c.count c.ties c.after c.promise).corners
+      rw (finished-tells (choose p) p c.img c.w c.h c.before (record { corners = c.count; ties = c.ties }) c.after c.promise).corners
       (pass-near (choose p) p c.img c.w c.h (sound c));
   printed = λ input l bytes.
       let h = l.header in

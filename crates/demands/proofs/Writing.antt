@@ -8,7 +8,7 @@ use lib.Seq.{get_or-take}
 use lib.Dec.{ltb}
 use borrow.Author.Tests.{lt-ltb, le-ltb}
 use Rattle.lists.specs.Places.{All}
-use Rattle.lists.specs.Refusals.{lowest, unless}
+use Rattle.lists.specs.Refusals.{lowest}
 use Rattle.lists.proofs.Buffer.{front-take}
 use Rattle.stream.specs.declared.Header.{Header}
 use Rattle.std.specs.Prelude.{Result, Ok, Err}

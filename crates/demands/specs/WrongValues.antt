@@ -1,7 +1,7 @@
 -- Wrong roads that lead to a wrong value (RULES 15.3), for the finder; those of the tools beside it are in
 -- ToolRoads.antt.
 use Rattle.std.specs.Prelude.{ℕ, ◌+◌, ◌-◌, ◌*◌, ◌/◌, min, Bool, true, false, cond, not, ◌&&◌, List, [], ◌∷◌, ◌++◌, map}
-use Rattle.std.specs.Prelude.{eqb, ltb, length, get_or, set, replicate, ℤ, pos, negsuc, nat_abs, Float}
+use Rattle.std.specs.Prelude.{eqb, ltb, length, get_or, set, replicate, Ok, ℤ, pos, negsuc, nat_abs, Float}
 use Rattle.std.specs.Float.{nan, fin, binary32}
 use Rattle.std.specs.Float.Ieee.{add, sub, mul, div, lt, le, to_bits, to_unsigned}
 use Rattle.lists.specs.Places.{Place, block, any, keep, count, sum_of}
@@ -298,7 +298,7 @@ peaks = place 5 5 ∷ place 5 6 ∷ place 5 7 ∷ []
 abbrev enough : List Road
 enough =
     -- "at least N": more than N (RULES 26.1)
-    road (get_or (answers (enough_of tall 3 peaks)) 0 0) 1 (told (ltb 3 (length peaks))) 0
+    road (get_or (answers (Ok (enough_of tall 3 peaks))) 0 0) 1 (told (ltb 3 (length peaks))) 0
     -- "counted from the first row inside the border": from the map's first (RULES 26.2)
     ∷ road (rows_for tall 1 peaks) 1 ((place 5 5).y + 1) 6
     -- "all rows inside it when there are fewer": all of the map

@@ -1,17 +1,16 @@
 // From the bytes of a frame stream to the bytes of its listing: reader, frame pass and listing, one after the other.
 #![tactic(auto)]
 
-ghost use Rattle.std.specs.Prelude.{◌≡◌, ◌≤◌};
+ghost use Rattle.std.specs.Prelude.{◌≡◌};
 ghost use Rattle.lists.specs.Buffer.{Written};
-ghost use Rattle.corner_list.specs.CornerList.{slices, corners_of};
-ghost use Rattle.listing.specs.Text.{corners_text};
-ghost use Rattle.listing.specs.Answer.{most_corners};
 ghost use Rattle.finder.specs.Finder.{params_of, frame_text, output_of};
+ghost use Rattle.finder.specs.Internal.{Lists};
 
-use frame::FrameAnswer;
+use corner_list::CornerBuffer;
 use frame_params::FrameParams;
-use listing::{LONGEST, Listing, MOST_CORNERS};
-use stream::{FrameStream, Header, MOST_PIXELS};
+use listing::{LONGEST, MOST_CORNERS};
+use lists::Refusal;
+use stream::{Header, MOST_PIXELS};
 
 // The parameters that a header states.
 fn params_of(header: Header) -> FrameParams
@@ -30,30 +29,9 @@ fn params_of(header: Header) -> FrameParams
     }
 }
 
-// Writes the text of the first `count` corners of a buffer.
-fn list_corners(
-    xs: &[f32; MOST_CORNERS],
-    ys: &[f32; MOST_CORNERS],
-    strengths: &[f32; MOST_CORNERS],
-    neighbours: &[u32; MOST_CORNERS],
-    count: usize,
-    out: &mut [u8; LONGEST],
-) -> usize
-    requires { count ≤ most_corners }
-    ensures { Written (corners_text
-        (corners_of (slices xs.now ys.now strengths.now
-        neighbours.now) count)) out.old result out.new }
-{
-    let listed = listing::write_corners(xs, ys, strengths, neighbours, count, out);
-    let Listing::Text(end) = listed else {
-        return 0;
-    };
-    end
-}
-
-// Writes the text of a frame whose pixels are given: its corners, or the refusal.
-fn list_frame(pixels: &[u8], header: Header, out: &mut [u8; LONGEST]) -> usize
-    ensures { Written (frame_text header pixels.now) out.old result out.new }
+// Writes the listing of a frame whose pixels are given.
+fn list_frame(pixels: &[u8], header: Header, out: &mut [u8; LONGEST]) -> Result<usize, Refusal>
+    ensures { Lists (frame_text header pixels.now) out.old result out.new }
 {
     let mut map = [0.0f32; MOST_PIXELS];
     let mut levels = [0u8; MOST_PIXELS / 3];
@@ -65,7 +43,19 @@ fn list_frame(pixels: &[u8], header: Header, out: &mut [u8; LONGEST]) -> usize
     let mut cy = [0.0f32; MOST_CORNERS];
     let mut cs = [0.0f32; MOST_CORNERS];
     let mut cn = [0u32; MOST_CORNERS];
-    let answer = frame::find_corners(
+    let mut seeds = CornerBuffer {
+        xs: &mut sx,
+        ys: &mut sy,
+        strengths: &mut ss,
+        neighbours: &mut sn,
+    };
+    let mut corners = CornerBuffer {
+        xs: &mut cx,
+        ys: &mut cy,
+        strengths: &mut cs,
+        neighbours: &mut cn,
+    };
+    let found = frame::find_corners(
         pixels,
         header.width,
         header.height,
@@ -73,33 +63,27 @@ fn list_frame(pixels: &[u8], header: Header, out: &mut [u8; LONGEST]) -> usize
         false,
         &mut map,
         &mut levels,
-        &mut sx,
-        &mut sy,
-        &mut ss,
-        &mut sn,
-        &mut cx,
-        &mut cy,
-        &mut cs,
-        &mut cn,
-    );
-    match answer {
-        FrameAnswer::Corners(count, _) => list_corners(&cx, &cy, &cs, &cn, count, out),
-        FrameAnswer::Refused(number) => listing::write_refusal(number, out),
-    }
+        &mut seeds,
+        &mut corners,
+    )?;
+    listing::write_corners(corners.view(), found.corners, out)
 }
 
-// Writes the listing of a frame stream to the start of a buffer, and returns how long it is.
+// Writes the listing of a frame stream.
+fn list_stream(input: &[u8], out: &mut [u8; LONGEST]) -> Result<usize, Refusal>
+    ensures { Lists (output_of input.now) out.old result out.new }
+{
+    let mut pixels = [0u8; MOST_PIXELS];
+    let header = stream::read_frame(input, &mut pixels)?;
+    list_frame(&pixels[..header.width * header.height], header, out)
+}
+
+// Writes the listing of a frame stream, or the refusal, to the start of a buffer, and returns how long it is.
 pub fn find(input: &[u8], out: &mut [u8; LONGEST]) -> usize
     ensures { Written (output_of input.now) out.old result out.new }
 {
-    let mut pixels = [0u8; MOST_PIXELS];
-    let read = stream::read_frame(input, &mut pixels);
-    match read {
-        FrameStream::Frame(header) => list_frame(
-            &pixels[..header.width * header.height],
-            header,
-            out,
-        ),
-        FrameStream::Refused(number) => listing::write_refusal(number, out),
+    match list_stream(input, out) {
+        Ok(end) => end,
+        Err(refusal) => listing::write_refusal(u8::from(refusal), out),
     }
 }

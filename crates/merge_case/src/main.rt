@@ -64,7 +64,8 @@ fn write_listing(rt: &HostRuntime, text: &[u8], cells: bool)
     report(rt, outcome);
 }
 
-// Reports why a text was not written.
+// Reports why a text was not written. Its caller tests and does not `match`, as the edit written_is_reported turns the
+// test around.
 fn report(rt: &HostRuntime, outcome: io::Result<()>)
     requires { IsErr outcome }
 {

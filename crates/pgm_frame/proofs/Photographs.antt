@@ -4,11 +4,13 @@ use mathlib.Core.Path.{◌≡◌, refl, sym, ◌∙◌}
 use mathlib.Core.List.{List}
 use Rattle.std.specs.Prelude.{Result, Ok, Err}
 use Rattle.lists.specs.declared.refusal.Refusal.{Refusal}
-use Rattle.lists.proofs.Judged.{judged-err, number-judged, values-refused, refused-some, refused-stays}
+use Rattle.lists.proofs.Judged.{judged-err, values-refused, refused-some, refused-stays}
 use Rattle.frame_params.specs.declared.FrameParams.{FrameParams}
 use Rattle.patch_corners.specs.OneMap.{Choice}
 use Rattle.frame.specs.declared.Found.{Found}
 use Rattle.frame.specs.Frame.{Buffers, FrameFound, found_in}
+use Rattle.frame.specs.Frame as frames
+use Rattle.pgm.specs.Header.{width_of, height_of}
 use Rattle.pgm.specs.declared.PgmImage.{PgmImage}
 use Rattle.pgm.specs.Pgm.{pixels_in, PgmRead}
 use Rattle.pgm.specs.Pgm as upload
@@ -23,7 +25,8 @@ module _ (choose : Choice) (p : FrameParams) (bytes : List ℕ) (b : Buffers) wh
   pub photograph-refused : (e : Refusal) → PgmRead bytes (Err e) → PhotographFound choose p bytes b (Err e) b
   unfolding refusal_of
   photograph-refused e read =
-      let first = first-is (upload.refusal_of bytes) _ (refused-some _ _ e read.answer) in
+      let of_pixels = frames.refusal_of choose p (pixels_in bytes) (width_of bytes) (height_of bytes) b in
+      let first = first-is (upload.refusal_of bytes) of_pixels (refused-some _ _ e read.answer) in
       record {
         answer = rw first (judged-err _ _ (found_in (pass_on choose p bytes)) e read.answer);
         number = rw first read.number;

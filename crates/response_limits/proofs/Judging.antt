@@ -1,6 +1,6 @@
 -- What each return of the ladder gives, what no refusal tells, and what a call answers and leaves. Assumes nothing.
 use mathlib.Core.Path.{◌≡◌, refl, sym, ◌∙◌}
-use mathlib.Core.Bool.{false, not}
+use mathlib.Core.Bool.{Bool, true, false, not, ◌||◌}
 use mathlib.Core.List.{List, [], ◌∷◌, ◌++◌}
 use Prim.Native.Nat.{ℕ, ◌*◌, ◌≤◌}
 use native.Mathlib.Nat.{mul_comm}
@@ -31,9 +31,18 @@ module _ (low high : List ℕ) (w h ring lows highs : ℕ) (s : Sized (length lo
 
   pub by-rest : length high ≡ length low
       → refusal_of low high w h ring lows highs
-      ≡ lowest ((is_crossed low high, 15) ∷ (not (is_ring ring), 3) ∷ (ltb lows (w * h), 8) ∷ (ltb highs (w * h), 8) ∷ [])
+      ≡ lowest ((is_crossed low high, 15) ∷ (not (is_ring ring), 3) ∷ (ltb lows (w * h) || ltb highs (w * h), 8) ∷ [])
   unfolding refusal_of
-  by-rest e = passed (length low) w h _ s ∙ rw (eq-eqb (length high) (w * h) (e ∙ s.sized))
+  by-rest e =
+      passed (length low) w h _ s
+      ∙ rw (eq-eqb (length high) (w * h) (e ∙ s.sized))
+      (go (is_crossed low high) (not (is_ring ring)) (ltb lows (w * h)) (ltb highs (w * h)))
+    where
+      go : (c r a b : Bool) → lowest ((c, 15) ∷ (r, 3) ∷ (a, 8) ∷ (b, 8) ∷ []) ≡ lowest ((c, 15) ∷ (r, 3) ∷ (a || b, 8) ∷ [])
+      go true r a b = refl
+      go false true a b = refl
+      go false false true b = refl
+      go false false false b = refl
 
 -- ---- no refusal: two images, one of the two rings, and places enough
 pub record Given (low high : List ℕ) (w h ring lows highs : ℕ) : Type 0 where

@@ -5,7 +5,7 @@
 mod cell; // cell.rt: the limits of one cell
 mod rows; // rows.rt: runs and rows of cells
 
-ghost use Rattle.std.specs.Prelude.{◌≡◌, length};
+ghost use Rattle.std.specs.Prelude.{◌≡◌, ◌||◌, ltb, length};
 ghost use Rattle.lists.specs.Refusals.{verdict};
 ghost use Rattle.response_limits.specs.Promise.{is_crossed, refusal_of, LimitsWritten};
 
@@ -22,6 +22,13 @@ fn are_crossed(low: &[u8], high: &[u8]) -> bool
         most = most.max(pixel.saturating_sub(high[i]));
     }
     most != 0
+}
+
+// Whether one of two buffers has fewer places than a map has cells.
+fn is_short(lows: usize, highs: usize, cells: usize) -> bool
+    ensures { result ≡ (ltb lows cells || ltb highs cells) }
+{
+    lows < cells || highs < cells
 }
 
 // Why a call is refused, for two images, and buffers of `lows` and `highs` places.
@@ -46,10 +53,7 @@ fn refusal(
     if !ring::is_ring(ring) {
         return Err(Refusal::OutOfRange);
     }
-    if lows < w * h {
-        return Err(Refusal::MapTooShort);
-    }
-    if highs < w * h {
+    if is_short(lows, highs, w * h) {
         return Err(Refusal::MapTooShort);
     }
     Ok(())

@@ -1,33 +1,10 @@
--- `finder::find` meets its contract, by the laws of `Texts`. Assumes nothing.
-use Prim.Native.Nat.{ℕ}
-use native.Mathlib.Omega.{arith}
-use mathlib.Core.Path.{sym}
-use lib.ListN.{length-replicate}
-use lib.Seq.{length-take-le}
-use Rattle.stream.specs.Stream.{most_pixels}
-use Rattle.finder.proofs.Texts.{found-frame, pixels-long, frame-listed, refusal-listed}
+-- `finder::find` meets its contract: the text of the stream, or of its refusal. Assumes nothing.
 use Rattle.finder.proofs.find.Goals as goal
 
-pub overflow_mul-pixels : goal.overflow_mul-pixels
-overflow_mul-pixels c = omega (arith, (found-frame _ _ _ _ c.read_frame-read.ensures _ c.in-Frame.is).fits)
+pub returns-in-Ok : goal.returns-in-Ok
+returns-in-Ok c = c.list_stream.ensures.written _ c.in-Ok.is
 
-pub slice_bounds-pixels-end : goal.slice_bounds-pixels-end
-slice_bounds-pixels-end c =
-    omega (
-      arith,
-      (found-frame _ _ _ _ c.read_frame-read.ensures _ c.in-Frame.is).fits,
-      pixels-long _ _ _ _ c.read_frame-read.ensures _ c.in-Frame.is (length-replicate {A = ℕ} most_pixels 0),
-    )
-
-pub slice_bounds-list_frame-end : goal.slice_bounds-list_frame-end
-slice_bounds-list_frame-end c =
-    let long = pixels-long _ _ _ _ c.read_frame-read.ensures _ c.in-Frame.is (length-replicate {A = ℕ} most_pixels 0) in
-    sym (length-take-le _ _ (omega (arith, (found-frame _ _ _ _ c.read_frame-read.ensures _ c.in-Frame.is).fits, long)))
-
-pub returns-in-Frame : goal.returns-in-Frame
-returns-in-Frame c =
-    frame-listed _ _ _ _ c.read_frame-read.ensures _ c.in-Frame.is _ _ _ c.list_frame.ensures
-
-pub returns-in-Refused : goal.returns-in-Refused
-returns-in-Refused c =
-    refusal-listed _ _ _ _ c.read_frame-read.ensures _ c.in-Refused.is _ _ _ c.write_refusal.ensures
+pub returns-in-Err : goal.returns-in-Err
+returns-in-Err c =
+    let told = c.list_stream.ensures.refused _ c.in-Err.is in
+    rw (told.0, ← told.1, ← c.from.ensures) c.write_refusal.ensures

@@ -1,20 +1,16 @@
 -- `finder::list_frame` meets its contract, by the laws of `Texts`. Assumes nothing.
-use native.Mathlib.Omega.{arith}
 use lib.Ieee.{of_bits}
-use Rattle.finder.proofs.Texts.{corners-few, corners-written, refusal-written}
+use Rattle.lists.proofs.Judged.{passed-on}
+use Rattle.finder.proofs.Texts.{frame-lists, frame-refused}
 use Rattle.finder.proofs.list_frame.Goals as goal
 
-pub list_corners-requires : goal.list_corners-requires
+pub returns-in_err-found : goal.returns-in_err-found
 unfolding of_bits
-list_corners-requires c =
-    omega (arith, corners-few c.args.header _ _ c.params_of.ensures _ _ c.find_corners-answer.ensures _ _ c.in-Corners.is)
+returns-in_err-found c =
+    rw (passed-on _ c.from_residual.ensures.1)
+    (frame-refused _ _ _ c.params_of.ensures _ _ _ c.in_err-found.ensures.found)
 
-pub returns-in-Corners : goal.returns-in-Corners
+pub returns : goal.returns
 unfolding of_bits
-returns-in-Corners c =
-    corners-written _ _ _ c.params_of.ensures _ _ c.find_corners-answer.ensures _ _ c.in-Corners.is _ _ _ c.list_corners.ensures
-
-pub returns-in-Refused : goal.returns-in-Refused
-unfolding of_bits
-returns-in-Refused c =
-    refusal-written _ _ _ c.params_of.ensures _ _ c.find_corners-answer.ensures _ c.in-Refused.is _ _ _ c.write_refusal.ensures
+returns c =
+    frame-lists _ _ _ c.params_of.ensures _ _ _ c.in_ok-found.ensures.found _ c.view.ensures _ _ c.write_corners.ensures

@@ -1,12 +1,11 @@
 -- `response_limits::refusal` meets its contract: each return is the first condition of the table that holds. Assumes nothing.
 use mathlib.Core.Path.{◌≡◌, ◌∙◌}
-use mathlib.Core.Bool.{not}
+use mathlib.Core.Bool.{not, ◌||◌}
 use mathlib.Core.List.{[], ◌∷◌}
 use Prim.Native.Nat.{◌*◌}
 use native.Mathlib.Omega.{arith}
 use lib.Dec.{ltb}
 use lib.ListN.{length}
-use borrow.Author.Tests.{lt-ltb, le-ltb}
 use Rattle.lists.specs.Refusals.{lowest}
 use Rattle.lists.specs.Internal.{Sized}
 use Rattle.lists.proofs.Judged.{passed-on}
@@ -16,7 +15,7 @@ use Rattle.response.proofs.Indices.{area-le}
 use Rattle.response_limits.specs.Promise.{is_crossed, refusal_of}
 use Rattle.response_limits.proofs.Judging.{by_length, by-rest}
 use Rattle.response_limits.proofs.refusal.Goals as goal
-use Rattle.response_limits.proofs.refusal.Goals.{Else-high-low, Else-not-is_ring, In_ok-refusal}
+use Rattle.response_limits.proofs.refusal.Goals.{Else-high-low, In_ok-refusal}
 
 pub returns-in_err-refusal : goal.returns-in_err-refusal
 unfolding refusal_of
@@ -32,8 +31,9 @@ returns-then-high-low c = rw (by_length _ _ _ _ _ _ _ (image (goal.at.returns-th
 -- past that of the high one, what is left of the table
 rest : (c : Else-high-low)
     → refusal_of c.args.low.now c.args.high.now c.args.w c.args.h c.args.ring c.args.lows c.args.highs
-    ≡ lowest ((is_crossed c.args.low.now c.args.high.now, 15) ∷ (not (is_ring c.args.ring), 3) ∷ (ltb c.args.lows (c.args.w * c.args.h), 8)
-    ∷ (ltb c.args.highs (c.args.w * c.args.h), 8) ∷ [])
+    ≡ lowest ((is_crossed c.args.low.now c.args.high.now, 15) ∷ (not (is_ring c.args.ring), 3)
+    ∷ (ltb c.args.lows (c.args.w * c.args.h) || ltb c.args.highs (c.args.w * c.args.h), 8)
+    ∷ [])
 rest c = by-rest _ _ _ _ _ _ _ (sized _ _ _ _ c.in_ok-refusal.ensures) c.if-high-low.false
 
 pub returns-then-are_crossed : goal.returns-then-are_crossed
@@ -49,31 +49,29 @@ returns-then-not-is_ring c =
       c.if-not-is_ring.true-raw,
     )
 
--- past the ring, what is left of that
-places : (c : Else-not-is_ring)
-    → refusal_of c.args.low.now c.args.high.now c.args.w c.args.h c.args.ring c.args.lows c.args.highs
-    ≡ lowest ((ltb c.args.lows (c.args.w * c.args.h), 8) ∷ (ltb c.args.highs (c.args.w * c.args.h), 8) ∷ [])
-places c =
+pub overflow_mul-w : goal.overflow_mul-w
+overflow_mul-w c = let s = image (goal.at.overflow_mul-w c).In_ok-refusal in omega (arith, area-le _ _ s.narrow s.low)
+
+pub returns-then-is_short : goal.returns-then-is_short
+returns-then-is_short c =
     rw (
-      by-rest _ _ _ _ _ _ _ (sized _ _ _ _ c.in_ok-refusal.ensures) c.if-high-low.false,
+      rest (goal.at.returns-then-is_short c).Else-high-low,
       ← c.are_crossed.ensures,
       c.if-are_crossed.false,
       ← c.is_ring.ensures,
       c.if-not-is_ring.false-raw,
+      ← c.is_short.ensures,
+      c.if-is_short.true,
     )
 
-pub overflow_mul-w : goal.overflow_mul-w
-overflow_mul-w c = let s = image (goal.at.overflow_mul-w c).In_ok-refusal in omega (arith, area-le _ _ s.narrow s.low)
-
-pub returns-then-lows-w : goal.returns-then-lows-w
-returns-then-lows-w c = rw (places (goal.at.returns-then-lows-w c).Else-not-is_ring, lt-ltb _ _ c.if-lows-w.true)
-
-pub overflow_mul-w-2 : goal.overflow_mul-w-2
-overflow_mul-w-2 c = let s = image (goal.at.overflow_mul-w-2 c).In_ok-refusal in omega (arith, area-le _ _ s.narrow s.low)
-
-pub returns-then-highs-w : goal.returns-then-highs-w
-returns-then-highs-w c =
-    rw (places (goal.at.returns-then-highs-w c).Else-not-is_ring, le-ltb _ _ c.if-lows-w.false, lt-ltb _ _ c.if-highs-w.true)
-
 pub returns : goal.returns
-returns c = rw (places (goal.at.returns c).Else-not-is_ring, le-ltb _ _ c.if-lows-w.false, le-ltb _ _ c.if-highs-w.false)
+returns c =
+    rw (
+      rest (goal.at.returns c).Else-high-low,
+      ← c.are_crossed.ensures,
+      c.if-are_crossed.false,
+      ← c.is_ring.ensures,
+      c.if-not-is_ring.false-raw,
+      ← c.is_short.ensures,
+      c.if-is_short.false,
+    )
