@@ -1,5 +1,5 @@
-"""Writes the functions for C that find the corners of a frame, and their proofs, or checks whether they are what would
-be written: see tools/entries. Behind what is searched, each takes the nine numbers of a frame's parameters, the buffers,
+"""Writes the functions for C that find the corners of a frame, or checks whether they are what would be written: see
+tools/entries. Behind what is searched, each takes the nine numbers of a frame's parameters, the buffers,
 and the places of its results.
 """
 import pathlib
@@ -14,7 +14,9 @@ BUFFERS = {'map': '&mut [f32]', 'levels': '&mut [u8]',
            'sx': '&mut [f32]', 'sy': '&mut [f32]', 'ss': '&mut [f32]', 'sn': '&mut [u32]',
            'cx': '&mut [f32]', 'cy': '&mut [f32]', 'cs': '&mut [f32]', 'cn': '&mut [u32]'}
 RESULTS = {'count': '&mut usize', 'ties': '&mut u64'}
-USES = ['frame::answers::{count_of, number_of, ties_of}', 'frame_params::params_of']
+LISTS = {'seeds': ['sx', 'sy', 'ss', 'sn'], 'corners': ['cx', 'cy', 'cs', 'cn']}
+FIELDS = ['xs', 'ys', 'strengths', 'neighbours']
+USES = ['corner_list::CornerBuffer', 'frame_params::params_of']
 
 CODE = string.Template("""\
 // Written by tools/entries; not edited by hand.
@@ -45,34 +47,26 @@ $parameters) -> u8
         count.new ties.new }
 {
     let p = $params;
-    let a = $find;
-    *count = count_of(a, *count);
-    *ties = ties_of(a, *ties);
-    number_of(a)
+$lists    let answer = $find;
+    match answer {
+        Ok(found) => {
+            *count = found.corners;
+            *ties = found.ties;
+            0
+        }
+        Err(refusal) => u8::from(refusal),
+    }
 }
 """)
 
-PROOF = string.Template("""\
--- Written by tools/entries; not edited by hand. `$crate::$name` meets its contract: the answer
--- of the function that it calls, taken apart. Assumes nothing.
-use mathlib.Core.Bool.{$exact}
-use Rattle.$crate.proofs.Entries.{$law}
-use Rattle.$crate.proofs.$choice.$name.Goals as goal
-
-pub returns : goal.returns
-returns c =
-    $law $exact c.params_of-p.ensures c.$function-a.ensures
-    c.number_of.ensures c.count_of.ensures c.ties_of.ensures
-""")
-
-# what is searched: the crate, how it is given, the function that searches it, and the promise with its record and law
+# what is searched: the crate, how it is given, the function that searches it, and the promise with its record
 SEARCHED = [
     {'crate': 'capi_frame', 'what': 'an image of w by h pixels', 'ending': '',
      'slices': {'img': '&[u8]'}, 'sides': {'w': 'usize', 'h': 'usize'}, 'home': 'frame', 'function': 'find_corners',
-     'promise': 'Finding', 'record': 'CornersFound', 'law': 'corners-found'},
+     'promise': 'Finding', 'record': 'CornersFound'},
     {'crate': 'capi_photo', 'what': 'an uploaded photograph', 'ending': '_pgm',
      'slices': {'upload': '&[u8]'}, 'sides': {}, 'home': 'pgm_frame', 'function': 'find_pgm_corners',
-     'promise': 'Photographs', 'record': 'PhotographCorners', 'law': 'photograph-corners'},
+     'promise': 'Photographs', 'record': 'PhotographCorners'},
 ]
 
 
@@ -90,8 +84,14 @@ def call(function, arguments):
     return f'{function}(\n{listed(rows, " " * 8)}    )'
 
 
-def files(entry, exact):
-    """The two files of a function: paths and texts."""
+def buffer(name):
+    """The slices of a list as one buffer."""
+    fields = [f'{field}: {given}' for field, given in zip(FIELDS, LISTS[name])]
+    return f'    let mut {name} = CornerBuffer {{\n{listed(fields, " " * 8)}    }};\n'
+
+
+def file(entry, exact):
+    """The file of a function: path and text."""
     given = {**entry['slices'], **entry['sides']}
     choice, start = ('exact', 'zakdomp_find_exact_corners') if exact else ('computed', 'zakdomp_find_corners')
     name, flag = start + entry['ending'], str(exact).lower()
@@ -101,18 +101,16 @@ def files(entry, exact):
         'parameters': listed(map(': '.join, {**given, **NUMBERS, **BUFFERS, **RESULTS}.items()), ' ' * 4),
         'given': ' '.join([f'{part}.now' for part in entry['slices']] + list(entry['sides'])),
         'params': call('params_of', NUMBERS),
-        'find': call(entry['function'], [*given, 'p', flag, *BUFFERS]),
+        'lists': ''.join(buffer(name) for name in LISTS),
+        'find': call(entry['function'], [*given, 'p', flag, 'map', 'levels', *(f'&mut {name}' for name in LISTS)]),
     }
-    crate = pathlib.Path('crates') / entry['crate']
-    yield crate / 'src' / f'{choice}.rt', CODE.substitute(parts)
-    yield crate / 'proofs' / choice / name / 'Answers.antt', PROOF.substitute(parts)
+    return pathlib.Path('crates') / entry['crate'] / 'src' / f'{choice}.rt', CODE.substitute(parts)
 
 
 def main():
     differing = 0
-    for path, text in (file for entry in SEARCHED for exact in (False, True) for file in files(entry, exact)):
+    for path, text in (file(entry, exact) for entry in SEARCHED for exact in (False, True)):
         if sys.argv[1:] != ['--compare']:
-            path.parent.mkdir(parents=True, exist_ok=True)
             path.write_text(text, encoding='utf-8')
         elif not path.exists() or path.read_text(encoding='utf-8') != text:
             print(f'entries: {path} is not what tools/entries writes')

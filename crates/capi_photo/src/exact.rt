@@ -5,7 +5,7 @@ ghost use Rattle.frame_params.specs.Params.{params};
 ghost use Rattle.frame.specs.Frame.{buffers};
 ghost use Rattle.capi_photo.specs.Photographs.{PhotographCorners};
 
-use frame::answers::{count_of, number_of, ties_of};
+use corner_list::CornerBuffer;
 use frame_params::params_of;
 use pgm_frame::find_pgm_corners;
 
@@ -60,8 +60,25 @@ pub extern "C" fn zakdomp_find_exact_corners_pgm(
         minimum_side,
         search_radius,
     );
-    let a = find_pgm_corners(upload, p, true, map, levels, sx, sy, ss, sn, cx, cy, cs, cn);
-    *count = count_of(a, *count);
-    *ties = ties_of(a, *ties);
-    number_of(a)
+    let mut seeds = CornerBuffer {
+        xs: sx,
+        ys: sy,
+        strengths: ss,
+        neighbours: sn,
+    };
+    let mut corners = CornerBuffer {
+        xs: cx,
+        ys: cy,
+        strengths: cs,
+        neighbours: cn,
+    };
+    let answer = find_pgm_corners(upload, p, true, map, levels, &mut seeds, &mut corners);
+    match answer {
+        Ok(found) => {
+            *count = found.corners;
+            *ties = found.ties;
+            0
+        }
+        Err(refusal) => u8::from(refusal),
+    }
 }

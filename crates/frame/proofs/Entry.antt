@@ -3,7 +3,7 @@ use Prim.Native.Nat.{ℕ, zero, suc, ◌-◌, ◌<◌, ◌≤◌}
 use native.Mathlib.Omega.{arith}
 use mathlib.Core.Path.{◌≡◌, refl, sym, ap, ◌∙◌}
 use mathlib.Core.Logic.{⊎_elim}
-use mathlib.Core.Bool.{Bool, true, false}
+use mathlib.Core.Bool.{true, false}
 use mathlib.Core.List.{List}
 use lib.ListN.{length}
 use lib.Ieee.{Float}
@@ -14,11 +14,10 @@ use Rattle.lists.specs.Buffer.{front, wiped_from}
 use Rattle.lists.specs.declared.refusal.Refusal.{Refusal}
 use Rattle.lists.specs.declared.refusal.Refusal.TheVariants.{ListTooLong}
 use Rattle.lists.specs.Refusals.{lowest, judged, verdict, result_or}
-use Rattle.lists.proofs.Judged.{Known, number-judged, values-judged, judged-ok, judged-err, refused-some}
+use Rattle.lists.proofs.Judged.{number-judged, values-judged, judged-err, refused-some}
 use Rattle.float32.specs.Float32 as float32
 use Rattle.pyramid.specs.Pyramid.{above}
-use Rattle.corner_list.specs.CornerList.{Slices, places_of, is_inside, corners_of, front_corners}
-use Rattle.corner_list.specs.declared.Corner.{Corner}
+use Rattle.corner_list.specs.CornerList.{Slices, places_of, is_inside, corners_of}
 use Rattle.corner_list.proofs.Corners.{corners-front, same-places}
 use Rattle.merge.specs.Merge as merge
 use Rattle.merge.specs.Table.{MergesByTable}

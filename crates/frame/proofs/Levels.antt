@@ -3,14 +3,13 @@ use Prim.Native.Nat.{ℕ, zero, suc, ◌-◌, ◌*◌, ◌<◌, ◌≤◌}
 use native.Mathlib.Nat.{mul-le-mul, div-one}
 use native.Mathlib.Omega.{arith}
 use mathlib.Core.Path.{◌≡◌, refl, sym, ap, subst, ◌∙◌}
-use mathlib.Core.Bool.{Bool, true, ◌||◌}
+use mathlib.Core.Bool.{Bool}
 use mathlib.Core.List.{List, [], map}
 use lib.ListN.{length}
 use lib.Dec.{ltb}
 use borrow.Author.Tests.{lt-ltb}
 use Rattle.std.specs.Prelude.{Result, Ok, Err}
 use Rattle.lists.specs.declared.refusal.Refusal.{Refusal}
-use Rattle.lists.specs.declared.refusal.Refusal.TheVariants.{ListTooLong}
 use Rattle.lists.specs.Limits.{largest_map}
 use Rattle.lists.specs.Places.{flat_map, sum_of}
 use Rattle.lists.proofs.Buffer.{placed_first}
@@ -32,7 +31,7 @@ use Rattle.frame_pass.proofs.Maps.{sound-level}
 use Rattle.frame_pass.proofs.Ties.{level-few}
 use Rattle.frame.specs.declared.search.Lists.{Lists}
 use Rattle.frame.specs.Internal.{FrameChecked, BuiltLevels, AddsCorners, SeedsAdded, found_by, ties_by}
-use Rattle.frame.specs.Internal.{SameLengths, Searched}
+use Rattle.frame.specs.Internal.{Searched}
 use Rattle.frame.proofs.Adding.{adds-to, adds_none, same-lengths}
 use Rattle.frame.proofs.Patches.{box_in}
 

@@ -8,4 +8,3 @@ pub mod Levels
 pub mod Entry
 pub mod Callers
 pub mod InBands
-pub mod Apart

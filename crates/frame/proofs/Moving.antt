@@ -2,10 +2,9 @@
 -- corner so, their columns and then their rows. Assumes nothing.
 use Prim.Native.Nat.{ℕ, ◌+◌, ◌<◌, ◌≤◌}
 use native.Mathlib.Omega.{arith}
-use native.Mathlib.Numerals.{add-one}
 use mathlib.Core.Path.{◌≡◌, refl, sym, ap, ap₂, ◌∙◌}
 use mathlib.Core.List.{List, [], ◌∷◌, map}
-use lib.ListN.{length, get_or, set, length-set, length-map}
+use lib.ListN.{length, get_or, length-map}
 use lib.Seq.{ext_get_or}
 use lib.Ieee.{Float, binary32, nan, add}
 use Rattle.std.specs.Prelude.{Result, Ok, Err}
@@ -13,16 +12,16 @@ use Rattle.lists.specs.declared.refusal.Refusal.{Refusal}
 use Rattle.lists.specs.Tab.{tab}
 use Rattle.lists.specs.Buffer.{placed}
 use Rattle.lists.proofs.Tab.{length-tab, get_d-tab, map-tab}
-use Rattle.lists.proofs.Buffer.{placed-none, placed-set, placed_at}
+use Rattle.lists.proofs.Buffer.{placed_at}
 use Rattle.float32.specs.Float32.{float_of}
 use Rattle.corner_list.specs.declared.Corner.{Corner}
-use Rattle.corner_list.specs.CornerList.{Slices, slices, x_of, y_of, strength_of, neighbours_of, places_of}
+use Rattle.corner_list.specs.CornerList.{Slices, slices, x_of, y_of, strength_of, neighbours_of}
 use Rattle.corner_list.proofs.Corners.{slices-alike}
 use Rattle.detect.specs.declared.Peaks.{Peaks}
 use Rattle.patch_corners.specs.OneMap.{moved}
-use Rattle.patch_corners.proofs.Changing.{placed-behind, placed-again}
-use Rattle.frame.specs.Internal.{SameLengths, AddsCorners}
-use Rattle.frame.proofs.Adding.{adds, adds-not, lengths-on}
+use Rattle.patch_corners.proofs.Changing.{placed-again}
+use Rattle.frame.specs.Internal.{AddsCorners}
+use Rattle.frame.proofs.Adding.{adds, adds-not}
 
 -- ---- floats that were placed, and then replaced
 

@@ -29,5 +29,7 @@ pub fn find_pgm_corners(
 {
     let image = pgm::read_pgm(upload)?;
     let pixels = pgm::pgm_pixels(upload);
-    find_corners(pixels, image.w, image.h, p, exact, map, levels, seeds, corners)
+    find_corners(
+        pixels, image.w, image.h, p, exact, map, levels, seeds, corners,
+    )
 }

@@ -1,8 +1,7 @@
 -- `frame::search::find_lists` meets its contract, by the laws of `Levels`. Assumes nothing.
-use native.Mathlib.Omega.{arith}
 use Rattle.lists.proofs.Judged.{passed-on}
 use Rattle.patch_corners.specs.OneMap.{choice_of}
-use Rattle.frame.proofs.Levels.{ready-kept, levels-most, seeds-few, seeds-short, corners-short, both-listed}
+use Rattle.frame.proofs.Levels.{levels-most, seeds-few, seeds-short, corners-short, both-listed}
 use Rattle.frame.proofs.search.find_lists.Goals as goal
 
 pub returns-in_err-first-clause-searched : goal.returns-in_err-first-clause-searched

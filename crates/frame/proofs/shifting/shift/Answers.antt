@@ -3,7 +3,7 @@ use Prim.Native.Nat.{ℕ, ◌+◌, ◌-◌, ◌<◌}
 use native.Mathlib.Omega.{arith}
 use mathlib.Core.Path.{◌≡◌, refl, ap, ◌∙◌}
 use mathlib.Core.List.{List}
-use lib.ListN.{length, get_or, take, drop}
+use lib.ListN.{get_or, take, drop}
 use lib.Ieee.{Float, nan, binary32, add}
 use lib.Seq.{get_or-drop, get_or-take}
 use Rattle.std.proofs.Common.{get_or-set_other, ◌≢◌}

@@ -6,12 +6,14 @@ use Rattle.retention.proofs.reading.wanted.Goals as goal
 
 pub returns-then-is_err : goal.returns-then-is_err
 returns-then-is_err c =
-    passing-stops _ _ _ c.loop-passed.invariant c.loop-passed-test.true (checked-err _ _ c.item_fault.ensures (sym c.is_err.ensures.value ∙ c.if-is_err.true)) _
+    passing-stops _ _ _ c.loop-passed.invariant c.loop-passed-test.true
+    (checked-err _ _ c.item_fault.ensures (sym c.is_err.ensures.value ∙ c.if-is_err.true)) _
     c.wanted_item-bytes.ensures
 
 pub loop-passed-preserved : goal.loop-passed-preserved
 loop-passed-preserved c =
-    passing-next _ _ _ c.loop-passed.invariant c.loop-passed-test.true (checked-ok _ _ c.item_fault.ensures (sym c.is_err.ensures.value ∙ c.if-is_err.false))
+    passing-next _ _ _ c.loop-passed.invariant c.loop-passed-test.true
+    (checked-ok _ _ c.item_fault.ensures (sym c.is_err.ensures.value ∙ c.if-is_err.false))
 
 pub returns : goal.returns
 returns c =
