@@ -1,17 +1,8 @@
 -- `retention::reading::wanted` meets its contract. The invariant: the items before this one are passed. Assumes nothing.
 use mathlib.Core.Path.{sym, ◌∙◌}
 use Rattle.lists.proofs.Judged.{checked-err, checked-ok}
-use Rattle.retention.proofs.Passing.{last-is, passing-none, passing-next, passing-stops, passing-all}
+use Rattle.retention.proofs.Passing.{last-is, passing-next, passing-stops, passing-all}
 use Rattle.retention.proofs.reading.wanted.Goals as goal
-
-pub loop-passed-init : goal.loop-passed-init
-loop-passed-init c = passing-none _ _
-
-pub item_fault-requires : goal.item_fault-requires
-item_fault-requires c = c.loop-passed-test.true
-
-pub wanted_item-bytes-requires : goal.wanted_item-bytes-requires
-wanted_item-bytes-requires c = c.loop-passed-test.true
 
 pub returns-then-is_err : goal.returns-then-is_err
 returns-then-is_err c =
