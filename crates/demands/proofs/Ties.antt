@@ -7,13 +7,12 @@ use mathlib.Core.Logic.{◌↔◌}
 use mathlib.Core.List.{List, [], ◌∷◌}
 use lib.IntN.{ℤ}
 use lib.Ieee.{Float, nan, lt, eq}
+use Rattle.std.specs.Prelude.{Option, None, Some}
 use Rattle.lists.specs.Places.{Place, any, count, All}
 use Rattle.lists.proofs.Members.{all_map}
 use Rattle.response.specs.Patch.{View, map_width, map_height, cells}
 use Rattle.response.specs.Exact.{fifths_in}
 use Rattle.agreement.specs.Agreement.{Tied}
-use Rattle.detect.specs.declared.WindowTest.{WindowTest}
-use Rattle.detect.specs.declared.WindowTest.TheVariants.{Beaten, Top}
 use Rattle.detect.specs.Peaks.{window, beaten, equals, window_test, value_at, larger_in, equal_in}
 use Rattle.frame_params.specs.declared.FrameParams.{FrameParams}
 use Rattle.patch_corners.specs.OneMap.{exact_choice}
@@ -32,10 +31,10 @@ module _ (m : List Float) (w h r : ℕ) (p : Place) where
   none [] = (refl, refl)
   none (q ∷ l) = none l
 
-  abbrev tested : Float → WindowTest
-  tested u = cond (any (λ q. lt u (value_at m w q)) (window w h r p)) Beaten (Top (count (λ q. eq u (value_at m w q)) (window w h r p)))
+  abbrev tested : Float → Option ℕ
+  tested u = cond (any (λ q. lt u (value_at m w q)) (window w h r p)) None (Some (count (λ q. eq u (value_at m w q)) (window w h r p)))
 
-  nan-tested : value_at m w p ≡ nan → window_test (larger_in m w) (equal_in m w) w h r p ≡ Top 0
+  nan-tested : value_at m w p ≡ nan → window_test (larger_in m w) (equal_in m w) w h r p ≡ Some 0
   unfolding window_test beaten equals
   nan-tested e = let n = none (window w h r p) in ap tested e ∙ rw (n.0, n.1)
 

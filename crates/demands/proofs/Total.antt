@@ -165,6 +165,11 @@ sure-refuses lows highs w h ring window centroid q r f e t =
     widen (refusal_number e) (1 ∷ 2 ∷ 2 ∷ 3 ∷ 14 ∷ []) (1 ∷ 2 ∷ 3 ∷ 14 ∷ []) refl
     (refused-one (sure.conditions lows highs w h ring window centroid q) r f e t)
 
+holding-refuses : (kind start time : ℕ) (r : Result Holding Refusal) → StateTold kind start time r → Refuses (6 ∷ 20 ∷ []) r
+unfolding retention.refusal_of
+holding-refuses kind start time r f =
+    refused-one ((not (retention.known kind), 6) ∷ (retention.is_late start || retention.is_late time, 20) ∷ []) r f.number
+
 pub total : Total
 unfolding build_refusal_of level_refusal_of detect.conditions multiscale.refusal_of showing.refusal_of striking.refusal_of pgm.refusal_of
     pgm.conditions writer.refusal_of retouch.refusal_of retention.refusal_of
@@ -203,6 +208,5 @@ total = record {
       limits-refuse low high w h ring (length lows) (length highs) r f.number;
   sure_peak = λ lows highs w h ring threshold window least centroid q r f.
       sure-refuses (length lows) (length highs) w h ring window centroid q r f.number;
-  holding = λ kind start time r f. refused-one
-      ((not (retention.known kind), 6) ∷ (retention.is_late start || retention.is_late time, 20) ∷ []) r f.number;
+  holding = holding-refuses;
 }

@@ -1,7 +1,7 @@
 -- Request 4, how many ties (RULES 23): "Peak finding returns its sum over the peaks it adds, and a finished frame pass
 -- returns the total, a u64, over all peaks found before merging, seeds not counted. The total is defined from the
 -- computed maps."
-use Rattle.std.specs.Prelude.{ℕ, ◌≡◌, List, Float}
+use Rattle.std.specs.Prelude.{ℕ, ◌≡◌, List, Float, Option, Some}
 use Rattle.std.specs.Float.{nan}
 use Rattle.lists.specs.Places.{Place, All}
 use Rattle.float32.specs.Float32.{lift}
@@ -9,8 +9,6 @@ use Rattle.float32.specs.Value.{IsWhole}
 use Rattle.response.specs.Patch.{View, map_width, map_height}
 use Rattle.response.specs.Exact.{fifths_in}
 use Rattle.detect.specs.declared.Search.{Search}
-use Rattle.detect.specs.declared.WindowTest.{WindowTest}
-use Rattle.detect.specs.declared.WindowTest.TheVariants.{Top}
 use Rattle.detect.specs.Peaks.{window, value_at}
 use Rattle.detect.specs.Detect.{ties_in, WindowTested}
 use Rattle.frame_params.specs.declared.FrameParams.{FrameParams}
@@ -24,8 +22,8 @@ use Rattle.frame.specs.Frame.{pass_of}
 -- promise
 abbrev pub NanTop : Type 0
 NanTop =
-    (m : List Float) (s : Search) (p : Place) (t : WindowTest) → WindowTested m s p t
-    → value_at m s.w p ≡ nan → t ≡ Top 0
+    (m : List Float) (s : Search) (p : Place) (t : Option ℕ) → WindowTested m s p t
+    → value_at m s.w p ≡ nan → t ≡ Some 0
 
 -- the sum over the peaks of the map
 abbrev pub PeakTies : Type 0

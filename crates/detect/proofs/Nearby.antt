@@ -1,13 +1,12 @@
 -- Which cells of a map a search reads: for one cell its window, and for a whole map the cells no nearer to an edge than
 -- the border minus the window's radius. Assumes nothing.
 use Rattle.std.proofs.Common.{◌≡◌, ℕ, ◌+◌, ◌-◌, ◌<◌, ◌≤◌, Bool, true, false, cond, not, ◌&&◌, ◌||◌, leb, List, [], ◌∷◌, map, length, refl}
-use Rattle.std.proofs.Common.{ap, ◌∙◌, ap₂, arith}
+use Rattle.std.proofs.Common.{ap, ◌∙◌, ap₂, arith, None, Some}
 use lib.Ieee.{Float, lt, eq}
 use Rattle.lists.specs.Places.{Place, block, any, count, sum_of, All}
 use Rattle.lists.proofs.Members.{all_map, all-block, keep-alike}
 use Rattle.float32.specs.Float32 as float32
 use Rattle.detect.specs.declared.Search.{Search}
-use Rattle.detect.specs.declared.WindowTest.TheVariants.{Beaten, Top}
 use Rattle.detect.specs.Peaks.{window, beaten, equals, window_test, ties_of, positives, is_peak, peak_places}
 use Rattle.detect.specs.Peaks.{value_at, equal_in, beats, larger_by, positive_in, is_low}
 use Rattle.detect.specs.Internal.{Inside, place}
@@ -68,7 +67,7 @@ module _ (m m' : List Float) (s : Search) (p : Place)
 
   ties-alike : ties_at m s p ≡ ties_at m' s p
   unfolding window_test
-  ties-alike = ap₂ (λ (b : Bool) (n : ℕ). ties_of (cond b Beaten (Top n))) (beaten-alike false) equals-alike
+  ties-alike = ap₂ (λ (b : Bool) (n : ℕ). ties_of (cond b None (Some n))) (beaten-alike false) equals-alike
 
   start-alike : start_at m s p ≡ start_at m' s p
   start-alike =

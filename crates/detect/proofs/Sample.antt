@@ -1,10 +1,9 @@
 -- The definitions on a small map: equal cells do not beat each other and are ties, the window is clipped, neighbours count from `least` on,
 -- a NaN cell is above every threshold, and nothing is above +infinity. By computation. Assumes nothing.
-use Rattle.std.proofs.Common.{◌≡◌, ℕ, ◌+◌, ◌*◌, false, List, [], ◌∷◌, get_or, ℤ, pos, refl}
+use Rattle.std.proofs.Common.{◌≡◌, ℕ, ◌+◌, ◌*◌, false, List, [], ◌∷◌, get_or, ℤ, pos, refl, None, Some}
 use lib.Ieee.{Float, nan, inf, fin, lt, le, eq}
 use Rattle.lists.specs.Places.{Place, counted, range, row, rows_from, block, count}
 use Rattle.float32.specs.Float32.{zero}
-use Rattle.detect.specs.declared.WindowTest.TheVariants.{Beaten, Top}
 use Rattle.detect.specs.Peaks.{square, window, beaten, equals, window_test, positives, is_peak, peak_places, larger_in, equal_in, computed}
 use Rattle.detect.specs.Exact.{fifths_above, exact}
 
@@ -49,9 +48,9 @@ unfolding floats peak_places is_peak beaten positives window square counted rang
 nans = (refl, refl)
 
 -- the window test: each five is top with the other as its tie, the NaN cell among its neighbours is top with none, and a two is beaten
-tests : (window_test (larger_in floats 3) (equal_in floats 3) 3 3 1 (at 1 1) ≡ Top 1)
-    × (window_test (larger_in floats 3) (equal_in floats 3) 3 3 1 (at 2 2) ≡ Top 0)
-    × (window_test (larger_in floats 3) (equal_in floats 3) 3 3 1 (at 0 1) ≡ Beaten)
+tests : (window_test (larger_in floats 3) (equal_in floats 3) 3 3 1 (at 1 1) ≡ Some 1)
+    × (window_test (larger_in floats 3) (equal_in floats 3) 3 3 1 (at 2 2) ≡ Some 0)
+    × (window_test (larger_in floats 3) (equal_in floats 3) 3 3 1 (at 0 1) ≡ None)
 unfolding floats window_test beaten equals window square counted range row rows_from block count lt eq
 tests = (refl, refl, refl)
 

@@ -1,12 +1,11 @@
 -- The square of five by five cells about a cell: the greatest of them is one of them, and a cell that one of them beats is beaten in its
 -- window. Assumes nothing.
 use Rattle.std.proofs.Common.{◌≡◌, ℕ, ◌+◌, ◌-◌, ◌*◌, ◌<◌, ◌≤◌, Bool, true, false, cond, not, List, length, get_or, sym, refl, ap, ◌∙◌}
-use Rattle.std.proofs.Common.{subst, add-mul, arith}
+use Rattle.std.proofs.Common.{subst, add-mul, arith, None}
 use lib.Ieee.{Float, nan, lt}
 use Rattle.lists.specs.Places.{Place, any}
 use Rattle.lists.proofs.Members.{at_block, any_none}
 use Rattle.detect.specs.declared.Search.{Search}
-use Rattle.detect.specs.declared.WindowTest.TheVariants.{Beaten}
 use Rattle.detect.specs.Peaks.{beaten, value_at, beats, larger_by}
 use Rattle.detect.specs.Detect.{WindowTested}
 use Rattle.detect.specs.Internal.{Inside, place, Searchable, OfFive, OfSquare}
@@ -66,7 +65,7 @@ module _ (m : List Float) (s : Search) (x y : ℕ) (k : Searchable m s) (i : Ins
             (y + s.window + 1) (any_none (λ q. beats false v (value_at m s.w q)) cells f) x' y' (omega arith)
             (omega (arith, i.left, k.inside)) (omega arith) (omega (arith, i.top, k.inside)) h)
 
-    pub topped : (u : Float) → OfSquare m s.w ((y - 2) * s.w + (x - 2)) u → lt v u ≡ true → WindowTested m s (place x y) Beaten
+    pub topped : (u : Float) → OfSquare m s.w ((y - 2) * s.w + (x - 2)) u → lt v u ≡ true → WindowTested m s (place x y) None
     topped u one larger =
         let five = one.five in
         let at : (y - 2) * s.w + (x - 2) + one.row * s.w + five.column ≡ (y - 2 + one.row) * s.w + (x - 2 + five.column)

@@ -1,5 +1,5 @@
 -- The test of a place by what led to its answer, and what its answer says. Assumes nothing.
-use Rattle.std.proofs.Common.{◌≡◌, ℕ, ◌<◌, ◌≤◌, Bool, true, false, cond, not, List, Option, Some, None, sym, refl, ap, ◌∙◌, le-leb}
+use Rattle.std.proofs.Common.{◌≡◌, ℕ, ◌<◌, ◌≤◌, Bool, true, false, cond, not, List, Option, Some, None, is_some, sym, refl, ap, ◌∙◌, le-leb}
 use mathlib.Core.Bool.{false≢true}
 use lib.Ieee.{Float, le}
 use borrow.Author.Tests.{not-true, not-false}
@@ -7,28 +7,22 @@ use Rattle.lists.specs.Places.{Place}
 use Rattle.lists.proofs.Tests.{is_false, and_parts}
 use Rattle.lists.proofs.Members.{Implies, any-more, all_of}
 use Rattle.detect.specs.declared.Search.{Search}
-use Rattle.detect.specs.declared.WindowTest.{WindowTest}
-use Rattle.detect.specs.declared.WindowTest.TheVariants.{Beaten, Top}
 use Rattle.detect.specs.declared.searching.Spot.{Spot}
 use Rattle.detect.specs.Peaks.{value_at, window, larger_in, larger_by, beaten, equals, equal_in, window_test}
 use Rattle.detect.specs.Detect.{peak_in, neighbours_at, test_at, ties_at}
 use Rattle.detect.specs.Internal.{peak_test}
 use Rattle.detect.proofs.Choice.{cell_below, cell-few, cell-beaten, cell-counted}
 
-abbrev is_top : WindowTest → Bool
-is_top Beaten = false
-is_top (Top n) = true
-
 module _ (m : List Float) (s : Search) (p : Place) where
   -- ---- what led to the answer
   abbrev lost : Bool → Bool
   lost b = beaten (larger_by b m s.w) s.w s.h s.window p
 
-  top-told : (t : WindowTest) → t ≡ test_at m s p → is_top t ≡ not (lost false)
+  top-told : (t : Option ℕ) → t ≡ test_at m s p → is_some t ≡ not (lost false)
   unfolding window_test
-  top-told t e = ap is_top e ∙ pick (beaten (larger_in m s.w) s.w s.h s.window p)
+  top-told t e = ap is_some e ∙ pick (beaten (larger_in m s.w) s.w s.h s.window p)
     where
-      pick : (b : Bool) → is_top (cond b Beaten (Top (equals (equal_in m s.w) s.w s.h s.window p))) ≡ not b
+      pick : (b : Bool) → is_some (cond b None (Some (equals (equal_in m s.w) s.w s.h s.window p))) ≡ not b
       pick true = refl
       pick false = refl
 
@@ -44,8 +38,8 @@ module _ (m : List Float) (s : Search) (p : Place) where
       (window s.w s.h s.window p)) t))
 
   -- beaten, by the window test and where that is asked by exact values
-  pub lost-not : (t : WindowTest) → t ≡ test_at m s p → (n : ℕ) → t ≡ Top n → false ≡ lost s.exact
-  lost-not t told n is = sym (fewer-beat s.exact (not-true (lost false) (sym (top-told t told) ∙ ap is_top is)))
+  pub lost-not : (t : Option ℕ) → t ≡ test_at m s p → is_some t ≡ true → false ≡ lost s.exact
+  lost-not t told is = sym (fewer-beat s.exact (not-true (lost false) (sym (top-told t told) ∙ is)))
 
   pub lost-exactly : s.exact ≡ true → (b : Bool) → b ≡ not (lost true) → not b ≡ lost s.exact
   lost-exactly x b e = rw (x, e) (not-not (lost true))
@@ -54,8 +48,8 @@ module _ (m : List Float) (s : Search) (p : Place) where
       not-not true = refl
       not-not false = refl
 
-  pub lost-plainly : s.exact ≡ false → (t : WindowTest) → t ≡ test_at m s p → t ≡ Beaten → true ≡ lost s.exact
-  lost-plainly x t told is = rw x (sym (not-false (lost false) (sym (top-told t told) ∙ ap is_top is)))
+  pub lost-plainly : s.exact ≡ false → (t : Option ℕ) → t ≡ test_at m s p → is_some t ≡ false → true ≡ lost s.exact
+  lost-plainly x t told is = rw x (sym (not-false (lost false) (sym (top-told t told) ∙ is)))
 
   -- the peak there, if it is one
   abbrev here : Spot

@@ -1,12 +1,12 @@
 -- The window test by what led to its answer, and how many ties there can be: at most 1,089 of a peak. Assumes nothing.
 use Rattle.std.proofs.Common.{◌≡◌, ℕ, ◌*◌, ◌≤◌, Bool, true, false, cond, not, ◌||◌, List, [], ◌∷◌, length, sym, refl, ap, ◌∙◌, arith}
+use Rattle.std.proofs.Common.{None, Some}
 use lib.Ieee.{Float, lt, le, eq}
 use borrow.Author.Tests.{not-true, not-false}
 use Rattle.lists.specs.Places.{Place, any, keep, count, sum_of}
 use Rattle.lists.proofs.Tests.{or_right}
 use Rattle.lists.proofs.Members.{Implies, keep-fewer, all_of}
 use Rattle.detect.specs.declared.Search.{Search}
-use Rattle.detect.specs.declared.WindowTest.TheVariants.{Beaten, Top}
 use Rattle.detect.specs.declared.neighbors.Asked.TheVariants.{AtLeast}
 use Rattle.detect.specs.Peaks.{window, value_at, larger_in, equal_in, beaten, equals, window_test, ties_of, positive_in, positives}
 use Rattle.detect.specs.Detect.{read_in, peaks_in, neighbours_at, test_at, ties_at, ties_in}
@@ -21,11 +21,11 @@ module _ (m : List Float) (s : Search) (p : Place) (t : Bool)
   abbrev lost : Bool
   lost = beaten (larger_in m s.w) s.w s.h s.window p
 
-  pub test-top : t ≡ true → (n : ℕ) → n ≡ equals (equal_in m s.w) s.w s.h s.window p → Top n ≡ test_at m s p
+  pub test-top : t ≡ true → (n : ℕ) → n ≡ equals (equal_in m s.w) s.w s.h s.window p → Some n ≡ test_at m s p
   unfolding window_test
-  test-top q n e = rw (not-true lost (sym top ∙ q)) (ap Top e)
+  test-top q n e = rw (not-true lost (sym top ∙ q)) (ap Some e)
 
-  pub test-beaten : t ≡ false → Beaten ≡ test_at m s p
+  pub test-beaten : t ≡ false → None ≡ test_at m s p
   unfolding window_test
   test-beaten q = rw (not-false lost (sym top ∙ q))
 
@@ -69,12 +69,12 @@ module _ (m : List Float) (s : Search) (p : Place) (alone : counted_at m s p AtL
   unfolding equals
   none_equal = none_pass eq (eq-le (value_at m s.w p))
 
-  test-sole : Top 0 ≡ test_at m s p
+  test-sole : Some 0 ≡ test_at m s p
   unfolding window_test
   test-sole = rw (none-larger, none_equal)
 
 pub test-alone : (m : List Float) (s : Search) (p : Place) (v : Float) → v ≡ value_at m s.w p
-    → (n : ℕ) → n ≡ counted_at m s p AtLeast v → n ≡ 0 → Top 0 ≡ test_at m s p
+    → (n : ℕ) → n ≡ counted_at m s p AtLeast v → n ≡ 0 → Some 0 ≡ test_at m s p
 test-alone m s p v e n told none = test-sole m s p (ap (counted_at m s p AtLeast) (sym e) ∙ sym told ∙ none)
 
 -- ---- how many there can be
@@ -84,7 +84,7 @@ module _ (m : List Float) (s : Search) (k : Searchable m s) where
   unfolding window_test equals
   few-at p = pick (beaten (larger_in m s.w) s.w s.h s.window p)
     where
-      pick : (b : Bool) → ties_of (cond b Beaten (Top (equals (equal_in m s.w) s.w s.h s.window p))) ≤ 1089
+      pick : (b : Bool) → ties_of (cond b None (Some (equals (equal_in m s.w) s.w s.h s.window p))) ≤ 1089
       pick true = omega arith
       pick false = window-few s.w s.h s.window p (λ q. equal_in m s.w q p) k.radius
 

@@ -1,6 +1,6 @@
 -- Peak finding (RULES 4): the corners that a map's peaks start as, the refusals, and what is promised about the answer
 -- and the buffer.
-use Rattle.std.specs.Prelude.{◌≡◌, ℕ, ◌+◌, Bool, false, cond, List, [], ◌∷◌, ◌++◌, map, length, nat_lt, Float, Result}
+use Rattle.std.specs.Prelude.{◌≡◌, ℕ, ◌+◌, Bool, false, cond, List, [], ◌∷◌, ◌++◌, map, length, nat_lt, Float, Option, Result}
 use Rattle.lists.specs.Places.{Place, sum_of}
 use Rattle.lists.specs.declared.refusal.Refusal.{Refusal}
 use Rattle.lists.specs.Refusals.{lowest, number_of, values_by, values_unless, is_large, is_misfit, judged, result_or}
@@ -10,7 +10,6 @@ use Rattle.corner_list.specs.CornerList.{Slices, places_of, placed_corners}
 use Rattle.corner_list.specs.declared.Corner.{Corner}
 use Rattle.detect.specs.declared.Search.{Search}
 use Rattle.detect.specs.declared.Peaks.{Peaks}
-use Rattle.detect.specs.declared.WindowTest.{WindowTest}
 use Rattle.detect.specs.Fifths.{between_fifths}
 use Rattle.detect.specs.Peaks.{CellTests, is_peak, peak_places, value_at, larger_in, equal_in, positive_in, reading}
 use Rattle.detect.specs.Peaks.{window_test, ties_of, positives}
@@ -60,11 +59,11 @@ abbrev pub starts_in : List Float → Search → List Corner
 starts_in m s = map (start_at m s) (peaks_in m s)
 
 -- ---- RULES 23.2, the ties of a peak, by the window test of its cell, and those of a list of peaks
-abbrev pub test_at : List Float → Search → Place → WindowTest
+abbrev pub test_at : List Float → Search → Place → Option ℕ
 test_at m s = window_test (larger_in m s.w) (equal_in m s.w) s.w s.h s.window
 
 -- the promise of `window_test` for the cell at p
-abbrev pub WindowTested : List Float → Search → Place → WindowTest → Type 0
+abbrev pub WindowTested : List Float → Search → Place → Option ℕ → Type 0
 WindowTested m s p t = t ≡ test_at m s p
 
 abbrev pub ties_at : List Float → Search → Place → ℕ

@@ -1,13 +1,12 @@
 -- Peak choice over a map of w by h, by a few questions about the values at its places (RULES 4.2 to 4.4; neighbors.rs,
 -- detect.rs).
-use Rattle.std.specs.Prelude.{ℕ, ◌+◌, ◌-◌, ◌*◌, min, Bool, true, false, cond, not, ◌&&◌, List, [], ◌∷◌, negsuc, ◌==◌}
+use Rattle.std.specs.Prelude.{ℕ, ◌+◌, ◌-◌, ◌*◌, min, Bool, true, false, cond, not, ◌&&◌, List, [], ◌∷◌, negsuc, ◌==◌, Option, None, Some}
 use Rattle.std.specs.Prelude.{nat_le, slice_index, slice_index_or, Float}
 use Rattle.std.specs.Float.{nan, fin, binary32}
 use Rattle.std.specs.Float.Ieee.{add, lt, le, eq}
+use Rattle.std.specs.Option.{unwrap_or}
 use Rattle.lists.specs.Places.{Place, block, any, keep, count}
 use Rattle.float32.specs.Float32.{zero}
-use Rattle.detect.specs.declared.WindowTest.{WindowTest}
-use Rattle.detect.specs.declared.WindowTest.TheVariants.{Beaten, Top}
 
 -- What peak choice asks about a map's values; we call it a reading of the map.
 pub record CellTests : Type 0 where
@@ -37,23 +36,13 @@ beaten larger w h r p = any (λ q. larger q p) (window w h r p)
 unfoldable pub equals : (Place → Place → Bool) → ℕ → ℕ → ℕ → Place → ℕ
 equals equal w h r p = count (λ q. equal q p) (window w h r p)
 
--- and the window test: a centre is beaten, or top, with the number of its ties
-unfoldable pub window_test : (Place → Place → Bool) → (Place → Place → Bool) → ℕ → ℕ → ℕ → Place → WindowTest
-window_test larger equal w h r p = cond (beaten larger w h r p) Beaten (Top (equals equal w h r p))
+-- and the window test: a centre is beaten, which is None, or top, with the number of its ties
+unfoldable pub window_test : (Place → Place → Bool) → (Place → Place → Bool) → ℕ → ℕ → ℕ → Place → Option ℕ
+window_test larger equal w h r p = cond (beaten larger w h r p) None (Some (equals equal w h r p))
 
--- number and values of each case: the test refuses nothing, and its value is the number of ties, none if the centre is
--- beaten
-abbrev pub number_of : WindowTest → ℕ
-number_of Beaten = 0
-number_of (Top n) = 0
-
-abbrev pub values_of : WindowTest → List ℕ
-values_of Beaten = []
-values_of (Top n) = n ∷ []
-
--- RULES 23.2: the ties that count, 0 if the test has no value
-abbrev pub ties_of : WindowTest → ℕ
-ties_of t = slice_index (values_of t) 0
+-- RULES 23.2: the ties that count, 0 if the centre is beaten
+abbrev pub ties_of : Option ℕ → ℕ
+ties_of t = unwrap_or t 0
 
 -- its positive neighbours: the cells of the window that are above 0
 unfoldable pub positives : (Place → Bool) → ℕ → ℕ → ℕ → Place → ℕ

@@ -23,8 +23,8 @@ use lists::Refusal;
 use searched::SearchedMap;
 
 // What a map is searched with: its sides, the border that no peak lies in, the window's radius, the lifted threshold,
-// the least number of positive neighbours, and whether peaks are chosen by exact values. Public because the promise
-// mentions it.
+// the least number of positive neighbours, and whether peaks are chosen by exact values: the flag of RULES 34.
+// Public because the promise mentions it.
 #[derive(Clone, Copy)]
 pub struct Search {
     pub w: usize,
@@ -34,14 +34,6 @@ pub struct Search {
     pub threshold: f32,
     pub least_neighbours: u32,
     pub exact: bool,
-}
-
-// What the window around a cell says about the cell: one of the window's cells is larger, or none is and this many
-// equal it. Public because promises mention it.
-#[derive(Clone, Copy)]
-pub enum WindowTest {
-    Beaten,
-    Top(u32),
 }
 
 // How many peaks were added to a buffer, and how many ties they have.

@@ -1,21 +1,20 @@
 // The tests of a cell by its window, as in neighbors.rs: whether a cell of the window is larger, how many are above 0,
 // and how many equal it.
-ghost use Rattle.std.specs.Prelude.{◌≡◌, ◌+◌, ◌*◌, ◌<◌, ◌≤◌, true, false, not, ◌&&◌, length, if◌then◌else◌};
+ghost use Rattle.std.specs.Prelude.{◌≡◌, ◌+◌, ◌*◌, ◌<◌, ◌≤◌, true, false, not, ◌&&◌, length, if◌then◌else◌, None, Some};
 ghost use Rattle.std.specs.Float.{binary32};
 ghost use Rattle.std.specs.Float.Ieee.{add, lt};
 ghost use Rattle.lists.specs.Places.{any, count};
 ghost use Rattle.float32.specs.Float32.{zero};
-ghost use Rattle.detect.specs.Peaks.{value_at, slack, ties_of};
+ghost use Rattle.detect.specs.Peaks.{value_at, slack};
 ghost use Rattle.detect.specs.Detect.{neighbours_at, test_at, WindowTested};
-ghost use Rattle.detect.specs.declared.WindowTest.TheVariants.{Beaten, Top};
 ghost use Rattle.detect.specs.Internal.{Inside, place, largest_row, is_counted, counted_at, beaten_at, peak_test};
 ghost use Rattle.detect.specs.Internal.{Beside, OfFive, OfSquare};
 
-use crate::WindowTest;
 use crate::searched::SearchedMap;
 use crate::searching::Spot;
 
-// What is counted in a window: the cells above 0, those with at least the centre's value, or those that equal it.
+// What is counted in a window: the cells above 0, those with at least the centre's value, or those that equal it. An
+// enum and no closure: a promise names what was counted, and a closure would bring its own promise into each of them.
 #[derive(Clone, Copy)]
 pub(crate) enum Asked {
     Positive,
@@ -238,7 +237,7 @@ impl Cell<'_> {
     // none equals it.
     fn is_alone(&self) -> bool
         ensures { result ≡ true → WindowTested self.now.map.cells.now self.now.map.search
-            (place self.now.x self.now.y) (Top 0) }
+            (place self.now.x self.now.y) (Some 0) }
     {
         if self.map.search.window != 2 || !(self.value <= self.value) {
             return false;
@@ -250,7 +249,7 @@ impl Cell<'_> {
     // its cells is found without a branch, in a quarter of the time of a count.
     fn is_topped(&self) -> bool
         ensures { result ≡ true → WindowTested self.now.map.cells.now self.now.map.search
-            (place self.now.x self.now.y) Beaten }
+            (place self.now.x self.now.y) None }
     {
         if self.map.search.window != 2 {
             return false;
@@ -259,32 +258,32 @@ impl Cell<'_> {
         self.value < most_of_square(self.map.cells, w, (self.y - 2) * w + (self.x - 2))
     }
 
-    // The window test, by computed values.
-    fn window_test(&self) -> WindowTest
+    // The window test, by computed values: None if the cell is beaten, and otherwise the number of its ties.
+    fn window_test(&self) -> Option<u32>
         ensures { WindowTested self.now.map.cells.now self.now.map.search (place self.now.x self.now.y) result }
     {
         if self.is_topped() {
-            return WindowTest::Beaten;
+            return None;
         }
         if self.is_alone() {
-            return WindowTest::Top(0);
+            return Some(0);
         }
         if self.is_local_max(false) {
-            return WindowTest::Top(self.count_neighbors(Asked::Equal));
+            return Some(self.count_neighbors(Asked::Equal));
         }
-        WindowTest::Beaten
+        None
     }
 
     // Whether the cell, whose window test is t, is beaten. By exact values some cells are not beaten that the test,
     // which goes by computed values, calls beaten.
-    fn is_beaten(&self, t: WindowTest) -> bool
+    fn is_beaten(&self, t: Option<u32>) -> bool
         requires { t ≡ test_at self.now.map.cells.now self.now.map.search (place self.now.x self.now.y) }
         ensures { result ≡ beaten_at self.now.map.search.exact self.now.map.cells.now self.now.map.search
             (place self.now.x self.now.y) }
     {
-        let WindowTest::Beaten = t else {
+        if t.is_some() {
             return false;
-        };
+        }
         if self.map.search.exact {
             return !self.is_local_max(true);
         }
@@ -304,7 +303,6 @@ impl Cell<'_> {
         if self.is_beaten(t) {
             return None;
         }
-        let ties = ties_of(t);
         let neighbours = self.count_neighbors(Asked::Positive);
         if neighbours < self.map.search.least_neighbours {
             return None;
@@ -313,17 +311,7 @@ impl Cell<'_> {
             x: self.x,
             y: self.y,
             neighbours,
-            ties,
+            ties: t.unwrap_or(0),
         })
-    }
-}
-
-// The number of ties in a window test: none if the cell is beaten by computed values.
-pub(crate) fn ties_of(t: WindowTest) -> u32
-    ensures { result ≡ ties_of t }
-{
-    match t {
-        WindowTest::Beaten => 0,
-        WindowTest::Top(n) => n,
     }
 }

@@ -12,6 +12,7 @@ use lib.Seq.{get_or-take, get_or-drop}
 use lib.Dec.{eqb, leb}
 use lib.Ieee.{Float, nan, lt, eq, binary32, add}
 use borrow.Author.Tests.{eq-eqb, eqb-true}
+use Rattle.std.specs.Prelude.{None, Some}
 use Rattle.lists.specs.Places.{Place, counted, range, row, rows_from, block, any, keep, count, sum_of, All}
 use Rattle.lists.proofs.Places.{block-end}
 use Rattle.lists.proofs.Scan.{any-map, keep-map, count_map}
@@ -22,7 +23,6 @@ use Rattle.float32.proofs.Values.{of_int-value}
 use Rattle.float32.proofs.Approx.{add-whole}
 use Rattle.corner_list.specs.declared.Corner.{Corner}
 use Rattle.detect.specs.declared.Search.{Search}
-use Rattle.detect.specs.declared.WindowTest.TheVariants.{Beaten, Top}
 use Rattle.detect.specs.Peaks.{same, square, window, beaten, equals, window_test, ties_of, positives, is_peak, peak_places, value_at}
 use Rattle.detect.specs.Peaks.{equal_in}
 use Rattle.detect.specs.Peaks.{beats, larger_by, positive_in, is_low}
@@ -175,7 +175,7 @@ module _ (p : FrameParams) (exact : Bool) (w h t e : ℕ) (m : List Float) (orde
 
     ties-there : ties_at m There (down t q) ≡ ties_at Part Here q
     unfolding window_test
-    ties-there = ap₂ (λ (b : Bool) (n : ℕ). ties_of (cond b Beaten (Top n))) (beaten-there false) equals-there
+    ties-there = ap₂ (λ (b : Bool) (n : ℕ). ties_of (cond b None (Some n))) (beaten-there false) equals-there
 
     row-there : lowered t (start_at Part Here q) ≡ start_at m There (down t q)
     row-there = rw (whole_row q.y t (omega (arith, i.bottom)) (omega arith), value, ← neighbours-there)

@@ -11,7 +11,7 @@ use lib.ListN.{length, take, drop, length-drop}
 use lib.Seq.{length-take-le}
 use borrow.Author.Tests.{ltb-false, lt-ltb, le-ltb, eqb-true, eq-eqb, ne_eqb, not-false}
 use Rattle.lists.specs.Limits.{largest_side, largest_map}
-use Rattle.lists.specs.Refusals.{judged, is_large}
+use Rattle.lists.specs.Refusals.{judged, lowest, is_large}
 use Rattle.lists.proofs.Tests.{and_parts, and_none, or-neither}
 use Rattle.lists.proofs.Refusals.{lowest-none, sides-small}
 use Rattle.std.specs.Prelude.{Result, Ok, Err}
@@ -30,9 +30,34 @@ use Rattle.pgm.proofs.Scanning.{first-at}
 use Rattle.pgm.proofs.Fields.{field-from, Within, all_rest, bare-within, first-within}
 use Rattle.pgm.proofs.Numbers.{large-capped, maxval-capped}
 
--- ---- numbers that are kept up to 65,536 are as large
+-- ---- numbers that are kept up to 65,536 give the same refusal
+
+-- the conditions on an upload by what is known about it, with a given number of bytes after its header
+abbrev pub conditions_by : Bool → Bool → ℕ → ℕ → ℕ → ℕ → List (Bool × ℕ)
+conditions_by sides header w h maxval left =
+    (sides && is_large w h, 1) ∷ (not header || ltb left (w * h), 12) ∷ (not (eqb maxval 255), 13) ∷ []
+
 is_large-capped : (w h : ℕ) → is_large (capped w) (capped h) ≡ is_large w h
 is_large-capped w h = ap₂ (λ (a b : Bool). a || b) (large-capped w) (large-capped h)
+
+module _ (w h maxval left left' : ℕ) where
+  pub judged-same : (sides header : Bool) → (header ≡ true → sides ≡ true) → (header ≡ true → left' ≡ left)
+      → lowest (conditions_by sides header (capped w) (capped h) (capped maxval) left')
+      ≡ lowest (conditions_by sides header w h maxval left)
+  judged-same false true s l = absurd (let no : ◌≡◌ {A = Bool} false true = s refl in let z : ◌≡◌ {A = ℕ} 0 1 = cc in omega arith)
+  judged-same false false s l = refl
+  judged-same true header s l = rw (is_large-capped w h) (go (is_large w h) refl header l)
+    where
+      go : (large : Bool) → is_large w h ≡ large → (header : Bool) → (header ≡ true → left' ≡ left)
+          → lowest ((large, 1) ∷ (not header || ltb left' (capped w * capped h), 12) ∷ (not (eqb (capped maxval) 255), 13) ∷ [])
+          ≡ lowest ((large, 1) ∷ (not header || ltb left (w * h), 12) ∷ (not (eqb maxval 255), 13) ∷ [])
+      go true e header l = refl
+      go false e false l = refl
+      go false e true l =
+          let small = sides-small w h e in
+          let cw : capped w ≡ w = omega arith in
+          let ch : capped h ≡ h = omega arith in
+          rw (cw, ch, maxval-capped maxval, l refl)
 
 -- ---- an upload that is accepted
 pub record Accepted (upload : List ℕ) : Type 0 where

@@ -42,4 +42,4 @@ returns c =
     tested-peak c.args.self.now.map.cells.now c.args.self.now.map.search (place c.args.self.now.x c.args.self.now.y)
     _ c.args.self.now.read _ (neighbours (goal.at.returns c).After-count_neighbors-neighbours)
     c.if-self.false (omega arith) _ c.is_beaten.ensures c.if-is_beaten.false
-    _ (c.ties_of-ties.ensures ∙ ap ties_of c.window_test-t.ensures)
+    _ (c.unwrap_or.ensures ∙ ap ties_of c.window_test-t.ensures)
