@@ -18,8 +18,8 @@ pub extern "C" fn zakdomp_strike_corner(
     place: usize,
     shown: u32,
 ) -> u8
-    ensures { CornerStruck (slices xs.old ys.old strengths.old neighbours.old) (edition count.old change.old) place shown
-        result (slices xs.new ys.new strengths.new neighbours.new) (edition count.new change.new) }
+    ensures { CornerStruck (slices xs.old ys.old strengths.old neighbours.old) (edition count.old change.old)
+        place shown result (slices xs.new ys.new strengths.new neighbours.new) (edition count.new change.new) }
 {
     let mut b = CornerBuffer {
         xs,

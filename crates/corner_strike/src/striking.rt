@@ -51,6 +51,7 @@ fn remove_corner(b: &mut CornerBuffer<'_>, count: usize, place: usize)
     ensures removed { contents b.new ≡ without_corner place count (contents b.old) }
 {
     let last = count - 1;
+    // By the place: each corner goes one place ahead of its own.
     for at in place..last {
         let next = b.at(at + 1);
         b.put(at, next);

@@ -33,7 +33,8 @@ rows_are true rows = refl
 rows_are false rows = refl
 
 -- ---- counting
-module _ (conds : List (Bool × ℕ)) (m : List Float) (s : Search) (wanted : ℕ) (r : Result Enough Refusal) (f : EnoughFound conds m s wanted r)
+module _ (conds : List (Bool × ℕ)) (m : List Float) (s : Search) (wanted : ℕ) (r : Result Enough Refusal)
+    (f : EnoughFound conds m s wanted r)
     (none : lowest conds ≡ 0) where
   counted : is_yes r ≡ leb wanted (length (peaks_in m s))
   unfolding enough_of

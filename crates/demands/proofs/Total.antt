@@ -199,8 +199,10 @@ total = record {
   write_frame = λ h pixels out out' r f. refused-one (writer.conditions h pixels (length out)) r f.number;
   write_corners = λ b count out out' r f. refused-one ((ltb 512 count, 10) ∷ []) r f.number;
   retouch = λ w h ring q value img m r img' m' f. refused-one (retouch.conditions (length img) (length m) w h ring q) r f.number;
-  response_limits = λ low high w h ring lows highs r lows' highs' f. limits-refuse low high w h ring (length lows) (length highs) r f.number;
-  sure_peak = λ lows highs w h ring threshold window least centroid q r f. sure-refuses (length lows) (length highs) w h ring window centroid q r f.number;
+  response_limits = λ low high w h ring lows highs r lows' highs' f.
+      limits-refuse low high w h ring (length lows) (length highs) r f.number;
+  sure_peak = λ lows highs w h ring threshold window least centroid q r f.
+      sure-refuses (length lows) (length highs) w h ring window centroid q r f.number;
   holding = λ kind start time r f. refused-one
       ((not (retention.known kind), 6) ∷ (retention.is_late start || retention.is_late time, 20) ∷ []) r f.number;
 }

@@ -1,6 +1,7 @@
 -- Request 8, "Retouched pixels": what a call of `retouch` leaves, by its promise. What holds for both rings is stated
 -- for any ring table.
-use Rattle.std.specs.Prelude.{ℕ, ◌+◌, ◌*◌, ◌<◌, ◌≤◌, ◌≡◌, true, false, List, length, get_or, ℤ, nat_abs, ◌-ℤ◌, Float, Ok}
+use Rattle.std.specs.Prelude.{ℕ, ◌+◌, ◌*◌, ◌<◌, ◌≤◌, ◌≡◌, true, false, List, length, get_or, ℤ, nat_abs, ◌-ℤ◌}
+use Rattle.std.specs.Prelude.{Float, Ok}
 use Rattle.std.specs.Float.{nan}
 use Rattle.float32.specs.Value.{dist}
 use Rattle.lists.specs.Places.{Place}

@@ -87,7 +87,8 @@ use Rattle.demands.specs.Enough.{HasPeaks}
 -- for a search of maps, for a frame and for the frame of an upload, with any choice of peaks
 abbrev pub PeaksRefuse : (ℕ → ℕ → ℕ → Float → ℕ → ℕ → ℕ → Search) → Type 0
 PeaksRefuse search =
-    (m : List Float) (w h ring : ℕ) (threshold : Float) (window least radius : ℕ) (b b' : Slices) (held : ℕ) (r : Result Peaks Refusal)
+    (m : List Float) (w h ring : ℕ) (threshold : Float) (window least radius : ℕ) (b b' : Slices)
+    (held : ℕ) (r : Result Peaks Refusal)
     → detect.PeaksAdded (detect.conditions (length m) w h ring window radius)
     (detect.starts_in m (search w h ring threshold window least radius))
     (detect.ties_in m (search w h ring threshold window least radius)) held b r b'
@@ -101,7 +102,8 @@ FrameRefuses choose =
 
 abbrev pub PhotographRefuses : (FrameParams → Choice) → Type 0
 PhotographRefuses choose =
-    (p : FrameParams) (upload : List ℕ) (b b' : Buffers) (r : Result Found Refusal) → PhotographFound (choose p) p upload b r b'
+    (p : FrameParams) (upload : List ℕ) (b b' : Buffers) (r : Result Found Refusal)
+    → PhotographFound (choose p) p upload b r b'
     → Refuses (1 ∷ 3 ∷ 5 ∷ 8 ∷ 9 ∷ 10 ∷ 12 ∷ 13 ∷ []) r
 
 -- a field for each function, by its name
@@ -118,10 +120,12 @@ pub record Total : Type 0 where
   pub level_at : (a : Ask) (k : ℕ) (r : Result Level Refusal) → LevelFound a k r
       → Refuses (1 ∷ 2 ∷ 3 ∷ 9 ∷ []) r
   pub find_peaks : (exact : Bool) → PeaksRefuse (detect.search_by exact)
-  pub has_peaks : (m : List Float) (w h ring : ℕ) (threshold : Float) (window least radius wanted : ℕ) (r : Result Enough Refusal)
+  pub has_peaks : (m : List Float) (w h ring : ℕ) (threshold : Float) (window least radius wanted : ℕ)
+      (r : Result Enough Refusal)
       → HasPeaks m w h ring threshold window least radius wanted r
       → Refuses (1 ∷ 2 ∷ 3 ∷ []) r
-  pub add_map_corners : (p : FrameParams) (exact : Bool) (m : List Float) (w h held : ℕ) (b b' : Slices) (r : Result Peaks Refusal)
+  pub add_map_corners : (p : FrameParams) (exact : Bool) (m : List Float) (w h held : ℕ) (b b' : Slices)
+      (r : Result Peaks Refusal)
       → CornersAdded p exact m w h held b r b'
       → Refuses (1 ∷ 2 ∷ 3 ∷ 10 ∷ []) r
   pub add_row_corners : (p : FrameParams) (exact : Bool) (m : List Float) (w h a z held : ℕ) (b b' : Slices)
@@ -141,7 +145,8 @@ pub record Total : Type 0 where
   pub merge_by_table : (radius : Float) (count : ℕ) (b b' : Slices) (table table' : List Float) (r : Result ℕ Refusal)
       → MergesByTable radius count b table r b' table'
       → Refuses (4 ∷ 5 ∷ 10 ∷ []) r
-  pub merge_apart : (radius : Float) (count : ℕ) (b d d' : Slices) (r : Result ℕ Refusal) → MergedApart radius count b d r d'
+  pub merge_apart : (radius : Float) (count : ℕ) (b d d' : Slices) (r : Result ℕ Refusal)
+      → MergedApart radius count b d r d'
       → Refuses (4 ∷ 5 ∷ 10 ∷ []) r
   pub merge_corners_naive : (radius : Float) (count : ℕ) (b b' : Slices) (r : Result ℕ Refusal)
       → MergesNaive radius count b r b'
@@ -162,16 +167,19 @@ pub record Total : Type 0 where
       → Refuses (1 ∷ 3 ∷ 5 ∷ 6 ∷ 7 ∷ 11 ∷ []) r
   pub write_frame : (h : Header) (pixels out out' : List ℕ) (r : Result ℕ Refusal) → FrameWritten h pixels out r out'
       → Refuses (1 ∷ 2 ∷ 3 ∷ 5 ∷ 19 ∷ []) r
-  pub write_corners : (b : Slices) (count : ℕ) (out out' : List ℕ) (r : Result ℕ Refusal) → CornersWritten b count out r out'
+  pub write_corners : (b : Slices) (count : ℕ) (out out' : List ℕ) (r : Result ℕ Refusal)
+      → CornersWritten b count out r out'
       → Refuses (10 ∷ []) r
   pub retouch : (w h ring : ℕ) (q : Place) (value : ℕ) (img : List ℕ) (m : List Float) (r : Result ℕ Refusal)
       (img' : List ℕ) (m' : List Float)
       → Retouches w h ring q value img m r img' m'
       → Refuses (1 ∷ 2 ∷ 3 ∷ 14 ∷ []) r
-  pub response_limits : (low high : List ℕ) (w h ring : ℕ) (lows highs : List ℤ) (r : Result (Unit {0}) Refusal) (lows' highs' : List ℤ)
+  pub response_limits : (low high : List ℕ) (w h ring : ℕ) (lows highs : List ℤ)
+      (r : Result (Unit {0}) Refusal) (lows' highs' : List ℤ)
       → LimitsWritten low high w h ring lows highs r lows' highs'
       → Refuses (1 ∷ 2 ∷ 3 ∷ 8 ∷ 15 ∷ []) r
-  pub sure_peak : (lows highs : List ℤ) (w h ring threshold window least centroid : ℕ) (q : Place) (r : Result Bool Refusal)
+  pub sure_peak : (lows highs : List ℤ) (w h ring threshold window least centroid : ℕ) (q : Place)
+      (r : Result Bool Refusal)
       → SurePeakTold lows highs w h ring threshold window least centroid q r
       → Refuses (1 ∷ 2 ∷ 3 ∷ 14 ∷ []) r
   pub holding : (kind start time : ℕ) (r : Result Holding Refusal) → StateTold kind start time r

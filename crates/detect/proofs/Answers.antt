@@ -129,7 +129,8 @@ module _ (conds : List (Bool × ℕ)) (cs : List Corner) (ties held : ℕ) (b : 
     buffer = q ∙ ap (λ (r : ℕ). result_or r (placed_corners held cs b) b) (sym e);
   }
 
-  pub found-refused : (e : Refusal) → All (λ c. Known c.1) conds → Err e ≡ verdict (lowest conds) → PeaksAdded conds cs ties held b (Err e) b
+  pub found-refused : (e : Refusal) → All (λ c. Known c.1) conds → Err e ≡ verdict (lowest conds)
+      → PeaksAdded conds cs ties held b (Err e) b
   found-refused e known p =
       let number = refusal-input (places_of b) held (length cs) conds (refused-some _ _ e p) in
       let answer = judged-err _ _ due e p in
@@ -199,7 +200,12 @@ module _ (conds : List (Bool × ℕ)) (clear : Clear conds) (cs : List Corner) (
         | no g ↦
             let r = by_number 0 (refusal-none (places_of b) held (length cs) conds clear (omega arith)) in
             let same = (judged-ok 0 _ p (sym q ∙ r.0)).1 in
-            record { count = ap (λ (p : Peaks). p.count) same; tied = ap (λ (p : Peaks). p.ties) same; fits = rw same (omega arith); buffer = r.1 }
+            record {
+              count = ap (λ (p : Peaks). p.count) same;
+              tied = ap (λ (p : Peaks). p.ties) same;
+              fits = rw same (omega arith);
+              buffer = r.1;
+            }
       ]
 
   pub refused-tells : (e : Refusal) → answer ≡ Err e → Short cs held b e b'

@@ -1,5 +1,6 @@
 -- Peaks searched for one after the other until there are as many as wanted: where the search stands, and the answer. Assumes nothing.
-use Rattle.std.proofs.Common.{◌≡◌, ℕ, zero, suc, ◌+◌, ◌-◌, ◌<◌, ◌≤◌, Bool, true, false, cond, leb, List, [], ◌∷◌, length, drop, sym, refl, Ok, Err}
+use Rattle.std.proofs.Common.{◌≡◌, ℕ, zero, suc, ◌+◌, ◌-◌, ◌<◌, ◌≤◌, Bool, true, false, cond, leb, List, [], ◌∷◌}
+use Rattle.std.proofs.Common.{length, drop, sym, refl, Ok, Err}
 use Rattle.std.proofs.Common.{ap, ◌∙◌, add-one, arith, length-drop, drop_of_length-le, drop-cons, le-leb}
 use mathlib.Core.List.{tail-eq_of_cons-eq}
 use lib.Ieee.{Float}

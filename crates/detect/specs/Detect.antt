@@ -98,7 +98,8 @@ values_of = values_by (λ p. p.count ∷ p.ties ∷ [])
 -- and have `ties` ties, and for a buffer b that holds `held`: the answer (how many peaks were added and how many ties
 -- they have) with its number and values, and the buffer after (RULES 2.5): the corners cs after its first `held`, or
 -- unchanged
-pub record PeaksAdded (conds : List (Bool × ℕ)) (cs : List Corner) (ties held : ℕ) (b : Slices) (r : Result Peaks Refusal)
+pub record PeaksAdded (conds : List (Bool × ℕ)) (cs : List Corner) (ties held : ℕ) (b : Slices)
+    (r : Result Peaks Refusal)
     (b' : Slices) : Type 0 where
   pub answer : r
       ≡ judged (refusal_of conds (places_of b) held (length cs)) (record { count = length cs; ties = ties })

@@ -75,6 +75,7 @@ module _ (input buffer : List ℕ) (after : List ℕ) where
     unfolding output_of
     stream-lists before a out w = rw found-frame.reading w
 
-  pub stream-refused : (e : Refusal) → FrameRead input buffer (Err e) after → (before : List ℕ) → Lists (output_of input) before (Err e) before
+  pub stream-refused : (e : Refusal) → FrameRead input buffer (Err e) after → (before : List ℕ)
+      → Lists (output_of input) before (Err e) before
   unfolding output_of
   stream-refused e r before = lists-refused _ before e (rw (refusal-found input buffer e after r).0)

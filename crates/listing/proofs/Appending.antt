@@ -2,12 +2,11 @@
 use Prim.Native.Nat.{ℕ, suc, ◌+◌, ◌-◌, ◌/◌, ◌%◌, ◌<◌, ◌≤◌}
 use native.Mathlib.Nat.{add-zero}
 use native.Mathlib.Omega.{arith}
-use mathlib.Core.Path.{◌≡◌, refl, sym, ap, ◌∙◌}
-use mathlib.Core.List.{List, [], ◌∷◌, ◌++◌, append_assoc, append-nil}
+use mathlib.Core.Path.{◌≡◌, sym, ap, ◌∙◌}
+use mathlib.Core.List.{List, [], ◌∷◌, ◌++◌, append_assoc}
 use lib.ListN.{length, set, length-append}
 use Rattle.lists.specs.Buffer.{placed}
-use borrow.Rule.Slice.PartMut.{put_mid}
-use Rattle.lists.proofs.Buffer.{put-placed, placed-none, placed-set, placed-more, placed-cons, placed-length}
+use Rattle.lists.proofs.Buffer.{placed-none, placed-more, placed-cons, placed-length}
 use Rattle.listing.specs.Text.{digit_of, digits}
 use Rattle.listing.specs.Internal.{Wrote}
 
@@ -38,21 +37,6 @@ wrote_as {a} {b} {at} {end} {before} {after} e w = rw e at w
 pub wrote_none : (at : ℕ) (before : List ℕ) → at ≤ length before → Wrote [] at before at before
 wrote_none at before h = record { fits = rw (add-zero at) h; ends = sym (add-zero at); holds = placed-none at before }
 
-pub wrote-byte : (at : ℕ) (before : List ℕ) (b : ℕ) → at < length before → Wrote (b ∷ []) at before (at + 1) (set before at b)
-wrote-byte at before b h =
-    let n : at ≡ at + 0 = omega arith in
-    record {
-      fits = omega arith;
-      ends = refl;
-      holds = ap (λ (k : ℕ). set before k b) n ∙ ap (λ (s : List ℕ). set s (at + 0) b) (placed-none at before)
-          ∙ placed-set at [] before b (omega arith);
-    }
-
--- a word, copied to its place
-pub wrote-word : (word : List ℕ) (at : ℕ) (before : List ℕ) → at + length word ≤ length before
-    → Wrote word at before (at + length word) (put_mid at (length word) before word)
-wrote-word word at before h = record { fits = h; ends = refl; holds = put-placed at (length word) word before refl }
-
 -- ---- digits, from the lowest on: the i highest are ahead
 pub record Ahead (base count n at i rest : ℕ) (before out : List ℕ) : Type 0 where
   pub behind : List ℕ
@@ -62,21 +46,8 @@ pub record Ahead (base count n at i rest : ℕ) (before out : List ℕ) : Type 0
   pub holds : out ≡ placed (at + i) behind before
 
 module _ (base count n at : ℕ) (before : List ℕ) where
-  pub ahead-all : at + count ≤ length before → Ahead base count n at count n before before
-  ahead-all h =
-      record {
-        behind = [];
-        split = sym (append-nil (digits base count n));
-        long = add-zero count;
-        fits = h;
-        holds = placed-none (at + count) before;
-      }
-
   -- the next digit is written before those behind it
   module _ (i rest : ℕ) (out : List ℕ) (a : Ahead base count n at i rest before out) where
-    pub ahead-length : length out ≡ length before
-    ahead-length = ap length a.holds ∙ placed-length (at + i) a.behind before (omega (arith, a.long, a.fits))
-
     pub ahead-next : 0 < i → (d : ℕ) → d ≡ digit_of (rest % base)
         → Ahead base count n at (i - 1) (rest / base) before (set out (at + (i - 1)) d)
     unfolding digits

@@ -2,17 +2,15 @@
 use Prim.Native.Nat.{ℕ, ◌+◌, ◌*◌, ◌^◌, ◌<◌, ◌≤◌}
 use native.Mathlib.Omega.{arith}
 use mathlib.Core.Path.{◌≡◌, sym, ap, ap₂, ◌∙◌}
-use mathlib.Core.List.{List, [], ◌∷◌, ◌++◌}
+use mathlib.Core.List.{List, ◌++◌}
 use lib.ListN.{length}
-use borrow.Author.Tests.{lt-ltb, le-ltb}
 use Rattle.lists.specs.Tab.{tab}
 use Rattle.lists.specs.Buffer.{front, Written}
 use Rattle.lists.proofs.Tab.{length-tab}
 use Rattle.lists.proofs.Buffer.{placed_first}
 use Rattle.corner_list.specs.declared.Corner.{Corner}
 use Rattle.corner_list.specs.CornerList.{Slices, corners_of}
-use Rattle.std.specs.Prelude.{Ok, Err}
-use Rattle.lists.specs.declared.refusal.Refusal.TheVariants.{ListTooLong}
+use Rattle.std.specs.Prelude.{Ok}
 use Rattle.lists.proofs.Judged.{judged-ok}
 use Rattle.listing.specs.Text.{fields, line, corners_word, heading, corners_text}
 use Rattle.listing.specs.Internal.{longest, Wrote}
@@ -56,24 +54,6 @@ module _ (f : ℕ → Corner) (count start : ℕ) (before : List ℕ) (i at : �
 -- ---- the promises
 pub wrote-first : {text : List ℕ} {end : ℕ} {before after : List ℕ} → Wrote text 0 before end after → Written text before end after
 wrote-first {text} {end} {before} w = record { ends = omega (arith, w.ends); holds = w.holds ∙ placed_first text before }
-
-module _ (b : Slices) (count : ℕ) (before : List ℕ) where
-  pub too_many : most_corners < count → CornersWritten b count before (Err ListTooLong) before
-  too_many h =
-      let t = lt-ltb most_corners count h in
-      record { answer = rw t; number = rw t; values = rw t; text = rw t }
-
-  pub all-written : count ≤ most_corners → (end : ℕ) (after : List ℕ) → Wrote (corners_text (corners_of b count)) 0 before end after
-      → CornersWritten b count before (Ok end) after
-  all-written h end after w =
-      let t = le-ltb most_corners count h in
-      let is = wrote-first w in
-      record {
-        answer = rw t (ap Ok is.ends);
-        number = rw t;
-        values = rw t (ap (λ (n : ℕ). n ∷ []) is.ends);
-        text = rw t is.holds;
-      }
 
 -- ---- what a caller learns: a text was written, and stands first in the buffer
 pub record Listed (b : Slices) (count : ℕ) (before : List ℕ) (end : ℕ) (after : List ℕ) : Type 0 where

@@ -20,7 +20,8 @@ values_of = values_by (λ n. n ∷ [])
 
 -- the text of the first `count` corners of a buffer is at the start, and the answer is its length; if refused, nothing
 -- changes
-pub record CornersWritten (b : Slices) (count : ℕ) (buffer : List ℕ) (r : Result ℕ Refusal) (after : List ℕ) : Type 0 where
+pub record CornersWritten (b : Slices) (count : ℕ) (buffer : List ℕ) (r : Result ℕ Refusal) (after : List ℕ)
+    : Type 0 where
   pub answer : r ≡ judged (refusal_of count) (length (corners_text (corners_of b count)))
   pub number : number_of r ≡ refusal_of count
   pub values : values_of r ≡ values_unless (refusal_of count) (length (corners_text (corners_of b count)) ∷ [])

@@ -57,7 +57,8 @@ values-refused zero due e values p = absurd (let no : ⊥ = grind arith in no)
 values-refused (suc n) due e values p = refl
 
 -- and a buffer is as it was
-pub refused-stays : {A B : Type 0} (n : ℕ) (due : A) (e : Refusal) (after before : B) → Err e ≡ judged n due → result_or n after before ≡ before
+pub refused-stays : {A B : Type 0} (n : ℕ) (due : A) (e : Refusal) (after before : B) → Err e ≡ judged n due
+    → result_or n after before ≡ before
 refused-stays zero due e after before p = absurd (let no : ⊥ = grind arith in no)
 refused-stays (suc n) due e after before p = refl
 

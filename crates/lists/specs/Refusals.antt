@@ -1,6 +1,7 @@
 -- Numbered conditions of refusal, the lowest first (RULES 2.3), an answer's values by its number, and the two
 -- conditions on every image and every map.
-use Rattle.std.specs.Prelude.{ℕ, zero, suc, ◌*◌, Bool, cond, not, ◌||◌, List, [], ◌∷◌, ltb, eqb, pred, get_or, Result, Ok, Err}
+use Rattle.std.specs.Prelude.{ℕ, zero, suc, ◌*◌, Bool, cond, not, ◌||◌, List, [], ◌∷◌, ltb, eqb, pred, get_or}
+use Rattle.std.specs.Prelude.{Result, Ok, Err}
 use Rattle.lists.specs.Limits.{largest_side}
 use Rattle.lists.specs.declared.refusal.Refusal.{Refusal}
 use Rattle.lists.specs.declared.refusal.Refusal.TheVariants.{SideTooLarge, WrongLength, OutOfRange, PositionOutside}

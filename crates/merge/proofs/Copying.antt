@@ -1,7 +1,7 @@
 -- The first corners of a buffer copied into another, one slice after the other. Assumes nothing.
 use Rattle.std.proofs.Common.{ℕ, ◌≤◌, ◌≡◌, take, arith}
 use Rattle.lists.specs.Buffer.{front}
-use Rattle.corner_list.specs.CornerList.{Slices, slices, places_of, corners_of, front_corners}
+use Rattle.corner_list.specs.CornerList.{Slices, places_of, corners_of, front_corners}
 use Rattle.corner_list.proofs.Corners.{corners-xs, corners-ys, corners-strengths, corners-neighbours}
 
 pub copied : (b d d' : Slices) (n : ℕ) → n ≤ places_of b → d'.xs ≡ front (take n b.xs) d.xs → d'.ys ≡ front (take n b.ys) d.ys

@@ -11,10 +11,10 @@ use lib.Ieee.{Float}
 use Rattle.std.specs.Prelude.{Result, Ok, Err}
 use Rattle.lists.specs.declared.refusal.Refusal.{Refusal}
 use Rattle.lists.specs.Places.{any}
-use Rattle.lists.specs.Refusals.{lowest, number_of, judged, verdict, result_or}
+use Rattle.lists.specs.Refusals.{lowest, number_of, judged, verdict}
 use Rattle.lists.proofs.Judged.{Known, judged-ok, refused-some}
 use Rattle.corner_list.specs.declared.Corner.{Corner}
-use Rattle.corner_list.specs.CornerList.{Slices, places_of, corner_at, corners_of, front_corners}
+use Rattle.corner_list.specs.CornerList.{Slices, places_of, corner_at, corners_of}
 use Rattle.corner_list.proofs.Corners.{corners-front, corners-behind}
 use Rattle.merge_radius.specs.MergeRadius.{is_off, radius_outside}
 use Rattle.merge_refusal.specs.Refusals.{corner_outside, refusal_of}

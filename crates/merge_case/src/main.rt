@@ -38,7 +38,8 @@ fn put_case(b: &mut CornerBuffer<'_>)
     b.put(2, unit_corner(0.0, 100.0));
 }
 
-// Merges the three corners of a buffer, by cells or by distance alone, and returns how many are left.
+// Merges the three corners of a buffer, by cells or by distance alone, and returns how many are left. Which one is a
+// bool and no closure, because what is then written is promised by it.
 fn merge_case(b: &mut CornerBuffer<'_>, cells: bool) -> usize
     requires bound { 3 ≤ places_of (contents b.old) }
     requires neighbours_value { corners_of (contents b.old) 3 ≡ three }

@@ -47,6 +47,7 @@ fn merge_list(b: &mut CornerBuffer<'_>, n: usize, radius: f32) -> usize
     }
     let square = radius * radius;
     let mut k = 0;
+    // By the place: the list lies in the buffer that changes.
     for i in 0..n {
         let c = b.at(i);
         k = settle_near(b, square, k, c);

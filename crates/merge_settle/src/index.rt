@@ -5,13 +5,16 @@
 // corner. Slots are floats, so that a buffer of floats can be the table: a slot holds a number as its 32 bits. Lists
 // usually come row by row, so in a long one only the last rows are near the corners to come: from time to time the
 // index is rebuilt from the corners that are not above row `floor`.
+// Table, grid and row are no struct: what is indexed lies in a buffer beside it, which changes, so every contract would
+// name that buffer still, and each method that changes the table would also promise grid, row and slice as they were.
 ghost use Rattle.std.specs.Prelude.{◌≡◌, ◌⊎◌, ◌+◌, ◌<◌, ◌≤◌, length, leb, IfSome, unwrap_or};
 ghost use Rattle.merge_grid.specs.Grid.{row_of};
 ghost use Rattle.merge_settle.specs.Internal.{pair_of, home_of, home_at, slots_of, SlotFor, ListsAt, Indexed};
 
 use merge_grid::{Grid, Position};
 
-// What an empty slot holds: the bits of 1.0.
+// What an empty slot holds: the bits of 1.0. What a slot holds becomes a place by `as`: std has no `From` of a u32 for
+// a usize.
 pub(crate) const EMPTY: u32 = 0x3f80_0000;
 
 pub(crate) const EMPTY_SLOT: f32 = 1.0;
@@ -90,6 +93,7 @@ pub(crate) fn list_kept(xs: &[f32], ys: &[f32], table: &mut [f32], g: Grid, floo
     requires { 0 < length table.old }
     ensures { Indexed g floor (slots_of table.new) xs.now ys.now k }
 {
+    // By the place, which is what the index lists.
     for i in 0..k {
         list_near(table, g, floor, i, merge_grid::position_at(xs, ys, i));
     }

@@ -106,6 +106,7 @@ pub(crate) fn merge_with(
     let mut low = 0;
     let v = b.view();
     crate::index::list_kept(v.xs, v.ys, table, g, floor, k);
+    // By the place, at which merging may stop, and from which it goes on.
     for i in done..n {
         if most <= k {
             return Step { done: i, kept: k };

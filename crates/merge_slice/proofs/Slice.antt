@@ -4,7 +4,7 @@ use Prim.Native.Nat.{ℕ, zero, suc, ◌≤◌, min}
 use native.Mathlib.Decide.{dec_lt}
 use native.Mathlib.Omega.{arith}
 use mathlib.Core.Path.{◌≡◌, refl, sym, ap, ap₂, ◌∙◌, subst}
-use mathlib.Core.Bool.{Bool, true, false, not, cond, ◌&&◌, ◌||◌}
+use mathlib.Core.Bool.{Bool, true, false, not, ◌&&◌, ◌||◌}
 use mathlib.Core.List.{List, [], ◌∷◌, map}
 use lib.Dec.{ltb}
 use borrow.Author.Tests.{lt-ltb, le-ltb, ltb-false}
@@ -23,7 +23,6 @@ use Rattle.corner_list.proofs.Corners.{slices-alike, same-places, corners-length
 use Rattle.corner_list.proofs.Corners.{front-xs, front-ys, front-strengths, front-neighbours}
 use Rattle.merge_radius.specs.MergeRadius.{is_off, radius_outside}
 use Rattle.merge_refusal.specs.Refusals.{corner_outside}
-use Rattle.merge_refusal.proofs.Judged.{judged-fits}
 use Rattle.merge.specs.Merge.{result_of, refusal_of, Merges}
 use Rattle.merge.proofs.Answer.{conditions-known}
 use Rattle.merge.proofs.Result.{result-length}

@@ -38,6 +38,7 @@ fn exchange(corners: &mut [Corner], b: &mut CornerBuffer<'_>, n: usize)
     ensures exchanged { (corners.new ≡ front (corners_of (contents b.old) n) corners.old)
         × (contents b.new ≡ front_corners (take n corners.old) (contents b.old)) }
 {
+    // By the place, by which the buffer is asked too.
     for i in 0..n {
         let c = corners[i];
         corners[i] = b.at(i);

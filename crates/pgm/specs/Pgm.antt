@@ -1,6 +1,7 @@
 -- What is read from an uploaded photograph (RULES 20): the refusals, the answer, and the pixels as a part of the
 -- upload.
-use Rattle.std.specs.Prelude.{ℕ, ◌*◌, ◌≡◌, Bool, cond, not, ◌&&◌, ◌||◌, List, [], ◌∷◌, eqb, ltb, length, take, drop, Result}
+use Rattle.std.specs.Prelude.{ℕ, ◌*◌, ◌≡◌, Bool, cond, not, ◌&&◌, ◌||◌, List, [], ◌∷◌, eqb, ltb}
+use Rattle.std.specs.Prelude.{length, take, drop, Result}
 use Rattle.lists.specs.declared.refusal.Refusal.{Refusal}
 use Rattle.lists.specs.Refusals.{lowest, number_of, values_by, judged, values_unless, is_large}
 use Rattle.pgm.specs.declared.PgmImage.{PgmImage}

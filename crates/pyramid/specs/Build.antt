@@ -13,7 +13,8 @@ values_of = values_by (λ n. n ∷ [])
 
 -- the promise of `build_pyramid`: r is the answer, and the level buffer d becomes e: the levels above the base at the
 -- start and the rest unchanged, or all of it unchanged if refused
-pub record Built (base : List ℕ) (w h count minimum_side : ℕ) (d : List ℕ) (r : Result ℕ Refusal) (e : List ℕ) : Type 0 where
+pub record Built (base : List ℕ) (w h count minimum_side : ℕ) (d : List ℕ) (r : Result ℕ Refusal) (e : List ℕ)
+    : Type 0 where
   pub answer : r ≡ judged (build_refusal_of (ask (length base) (length d) w h count minimum_side))
       (level_count w h count minimum_side)
   pub number : number_of r ≡ build_refusal_of (ask (length base) (length d) w h count minimum_side)

@@ -23,8 +23,7 @@ fn refine(body: &[u8], map: &[f32]) -> Outcome {
     refiner.refine(
         float(body, 1),
         float(body, 2),
-        byte_at(body, 12) == 1,
-        map,
+        (byte_at(body, 12) == 1).then_some(map),
         count_at(body, 13),
         count_at(body, 17),
     )

@@ -1,5 +1,4 @@
 pub mod Items
-pub mod Numbers
 pub mod Records
 pub mod Texts
 pub mod Append

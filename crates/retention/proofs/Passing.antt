@@ -8,7 +8,7 @@ use mathlib.Core.List.{List, ◌++◌}
 use borrow.Author.Tests.{ne_eqb}
 use Rattle.retention.specs.declared.reading.Standing.{Standing}
 use Rattle.retention.specs.Stream.{record_fault, place_of}
-use Rattle.retention.specs.Wanted.{item_fault, wanted_record, wanted_item, passed_from, wanted_from, items, wanted, Stands}
+use Rattle.retention.specs.Wanted.{item_fault, wanted_item, passed_from, wanted_from, items, wanted, Stands}
 use Rattle.retention.proofs.Append.{item-same}
 
 module _ (s : List ℕ) where
@@ -19,10 +19,6 @@ module _ (s : List ℕ) where
   pub fault-is : (k : ℕ) → (k ≡ 0 → ⊥) → record_fault s (9 * k - 1) ≡ item_fault s k
   fault-is zero h = absurd (h refl)
   fault-is (suc k) h = ap (record_fault s) (place k)
-
-  pub wanted-is : (k n : ℕ) → (k ≡ 0 → ⊥) → n ≡ wanted_record s (9 * k - 1) → n ≡ wanted_item s k
-  wanted-is zero n h e = absurd (h refl)
-  wanted-is (suc k) n h e = e ∙ ap (wanted_record s) (place k)
 
   -- the items before item p are passed: what is asked from item k on is what is asked from item p on
   pub record Passing (k p : ℕ) : Type 0 where

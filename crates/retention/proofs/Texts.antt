@@ -4,11 +4,8 @@ use native.Mathlib.Decide.{dec_lt}
 use native.Mathlib.Omega.{arith}
 use mathlib.Core.Path.{◌≡◌, refl, sym, ap, ◌∙◌}
 use mathlib.Core.List.{List, [], ◌∷◌, ◌++◌, append_assoc, append-nil}
-use lib.ListN.{length, take, drop, set, length-append, length-drop, length-set}
-use lib.Seq.{length-take-le}
+use lib.ListN.{length, length-append}
 use borrow.Author.Tests.{le-leb, lt-leb}
-use borrow.Rule.Slice.PartMut.{mid_of, put_mid}
-use Rattle.lists.proofs.Buffer.{front-take, put-placed}
 use Rattle.lists.specs.Buffer.{Written}
 use Rattle.lists.specs.declared.refusal.Refusal.{Refusal}
 use Rattle.lists.specs.Refusals.{refusal_number, unless}
@@ -17,7 +14,7 @@ use Rattle.listing.specs.Internal.{Wrote}
 use Rattle.listing.proofs.Numbers.{decimal-long}
 use Rattle.listing.proofs.Lines.{ended-long}
 use Rattle.listing.proofs.Texts.{wrote-first}
-use Rattle.listing.proofs.Appending.{wrote-length, wrote-more, wrote_as, wrote_none, wrote-byte}
+use Rattle.listing.proofs.Appending.{wrote-length, wrote-more, wrote_as}
 use Rattle.retention.specs.Retention.{letter_of}
 use Rattle.retention.specs.Stream.{most_records, longest_input, time_fault, record_fault, state_at, place_of, lines_from, output_of}
 use Rattle.retention.specs.Internal.{longest}
@@ -32,44 +29,11 @@ refusal-long : (e : Refusal) → length (refused_text (refusal_number e)) ≤ 11
 unfolding refused_text
 refusal-long e = omega (arith, ended-long (decimal (refusal_number e)) newline, decimal-long 1 (refusal_number e) (small e))
 
--- it was written into a text of its own, and is copied from there
-module _ (e : Refusal) (number : ℕ) (is : number ≡ refusal_number e) (before : List ℕ) (n : ℕ) (after : List ℕ)
-    (w : Written (refused_text number) before n after) where
-  pub text-fits : n ≤ length after
-  text-fits = omega (arith, w.ends, ap length w.holds ∙ length-append (refused_text number) (drop (length (refused_text number)) before))
-
-  pub text-short : n ≤ 11
-  text-short = omega (arith, w.ends, ap (λ (k : ℕ). length (refused_text k)) is, refusal-long e)
-
-  text-is : take n after ≡ refused_text number
-  text-is = ap (take n) w.holds ∙ front-take (refused_text number) before n w.ends
-
-  module _ (out : List ℕ) (at : ℕ) (ample : at + 11 ≤ length out) where
-    part-long : length (mid_of at (at + n - at) out) ≡ n
-    part-long = let k : at + n - at ≡ n = omega arith in
-        rw k (length-take-le n (drop at out) (omega (arith, length-drop at out, text-short)))
-
-    pub part-holds : length (mid_of at (at + n - at) out) ≡ length (take n after)
-    part-holds = omega (arith, part-long, length-take-le n after text-fits)
-
-    pub copied : (ys : List ℕ) → ys ≡ take n after
-        → Wrote (refused_text (refusal_number e)) at out (at + n) (put_mid at (at + n - at) out ys)
-    copied ys copy =
-        let whole : ys ≡ refused_text number = copy ∙ text-is in
-        let k : at + n - at ≡ length (refused_text number) = omega (arith, w.ends) in
-        rw (← is) (record {
-          fits = omega (arith, w.ends, text-short);
-          ends = ap (λ (j : ℕ). at + j) w.ends;
-          holds = rw whole (put-placed at (at + n - at) (refused_text number) out k);
-        })
-
--- ---- a letter and its newline
-pub letter-written : (at : ℕ) (out : List ℕ) (letter : ℕ) → at + 2 ≤ length out
-    → Wrote (letter ∷ newline ∷ []) at out (at + 2) (set (set out at letter) (at + 1) newline)
-letter-written at out letter l =
-    let two : at + 1 + 1 ≡ at + 2 = omega arith in
-    rw (← two)
-    (wrote-more (wrote-byte at out letter (omega arith)) (wrote-byte (at + 1) (set out at letter) newline (simp length-set (omega arith))))
+-- as it was written into a text of its own
+pub text-short : (e : Refusal) (number : ℕ) → number ≡ refusal_number e → (before : List ℕ) (n : ℕ) (after : List ℕ)
+    → Written (refused_text number) before n after
+    → n ≤ 11
+text-short e number is before n after w = omega (arith, w.ends, ap (λ (k : ℕ). length (refused_text k)) is, refusal-long e)
 
 -- ---- the lines of a stream
 pub refuses : (fault : ℕ) (lines : List ℕ) → (fault ≡ 0 → ⊥) → unless refused_text fault lines ≡ refused_text fault
@@ -107,17 +71,6 @@ module _ (s : List ℕ) where
     pub long : length text ≡ 2 * passed
     pub wrote : Wrote text 0 before end out
     pub rest : lines_from s most_records 0 ≡ text ++ lines_from s (most_records - passed) passed
-
-  pub listed-none : (before : List ℕ) → Listed before 8 0 before
-  listed-none before = record {
-    passed = 0;
-    place = refl;
-    few = omega arith;
-    text = [];
-    long = refl;
-    wrote = wrote_none 0 before (omega arith);
-    rest = refl;
-  }
 
   module _ (before : List ℕ) (at end : ℕ) (out : List ℕ) (l : Listed before at end out) where
     abbrev k : ℕ

@@ -42,7 +42,8 @@ adds : (c : After-search_of-search) (answer : Result Peaks Refusal) (b' : Slices
     (buffer-of (goal.at.After-search_of-search c).In_ok-refusal) answer b'
     → PeaksAdded (conditions-of (goal.at.After-search_of-search c).In_ok-refusal)
     (starts_in (map_of (goal.at.After-search_of-search c).In_ok-refusal) (search-of (goal.at.After-search_of-search c).In_ok-refusal))
-    (ties_in (map_of (goal.at.After-search_of-search c).In_ok-refusal) (search-of (goal.at.After-search_of-search c).In_ok-refusal)) c.args.held
+    (ties_in (map_of (goal.at.After-search_of-search c).In_ok-refusal)
+    (search-of (goal.at.After-search_of-search c).In_ok-refusal)) c.args.held
     (buffer-of (goal.at.After-search_of-search c).In_ok-refusal) answer b'
 adds c =
     found-clear (map_of (goal.at.After-search_of-search c).In_ok-refusal) c.search_of-search.result

@@ -1,24 +1,16 @@
 -- `listing::put_corners` meets its contract. The invariant: the lines of the corners passed are written. Assumes nothing.
 use Prim.Native.Nat.{◌^◌, ◌<◌}
 use native.Mathlib.Omega.{arith}
-use mathlib.Core.Path.{◌∙◌}
 use Rattle.corner_list.specs.CornerList.{corner_at}
 use Rattle.corner_list.specs.Buffer.{seen}
-use Rattle.listing.proofs.Appending.{wrote-length}
 use Rattle.listing.proofs.Texts.{lines_none, lines_next, lines-all}
 use Rattle.listing.proofs.put_corners.Goals as goal
-
-pub put_heading-at-requires : goal.put_heading-at-requires
-put_heading-at-requires c = omega (arith, c.requires.1)
 
 pub loop-i-init : goal.loop-i-init
 loop-i-init c =
     lines_none (corner_at (seen c.args.list)) c.args.count
     c.put_heading-at.result c.args.out.now
     c.put_heading-at.new.out c.requires.0 c.requires.1 c.put_heading-at.ensures
-
-pub put_line-at-requires : goal.put_line-at-requires
-put_line-at-requires c = omega (arith, c.loop-i.invariant.left, c.loop-i-test.true)
 
 pub loop-i-preserved : goal.loop-i-preserved
 loop-i-preserved c =
@@ -28,9 +20,6 @@ loop-i-preserved c =
     c.put_heading-at.new.out c.loop-i.i c.loop-i.at c.loop-i.out c.loop-i.invariant
     c.put_line-at.result c.put_line-at.new.out c.at.result small c.loop-i-test.true
     c.at.ensures c.put_line-at.ensures
-
-pub shape_of-out : goal.shape_of-out
-shape_of-out c = wrote-length c.loop-i.invariant.wrote ∙ wrote-length c.put_heading-at.ensures
 
 pub returns : goal.returns
 returns c =

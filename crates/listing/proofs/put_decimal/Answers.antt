@@ -8,9 +8,6 @@ use Rattle.listing.proofs.Numbers.{length_digits}
 use Rattle.listing.proofs.Appending.{wrote-more, wrote_as, wrote-length}
 use Rattle.listing.proofs.put_decimal.Goals as goal
 
-pub put_digits-next-requires : goal.put_digits-next-requires
-put_digits-next-requires c = (omega arith, omega arith, omega (arith, c.decimal_places-count.ensures))
-
 pub put-requires : goal.put-requires
 put-requires c =
     omega (

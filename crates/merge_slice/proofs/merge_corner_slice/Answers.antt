@@ -2,7 +2,6 @@
 use Prim.Native.Nat.{min}
 use native.Mathlib.Omega.{arith}
 use mathlib.Core.Path.{◌≡◌, sym, ap, ◌∙◌}
-use Rattle.corner_list.specs.CornerList.{places_of}
 use Rattle.corner_list.specs.Buffer.{contents}
 use Rattle.merge_slice.specs.MergeSlice.{shared_places}
 use Rattle.merge_slice.proofs.Slice.{slice-refused, slice-merged, places-stay}

