@@ -51,6 +51,8 @@ use Rattle.frame_writer.specs.FrameWriter as writer
 use Rattle.retouch.specs.Promise as retouch
 use Rattle.response_limits.specs.Promise as limits
 use Rattle.sure_peak.specs.Promise as sure
+use Rattle.retention.specs.declared.Holding.{Holding}
+use Rattle.retention.specs.Answer.{StateTold}
 use Rattle.retention.specs.Retention as retention
 use Rattle.demands.specs.ResponseCall.{view_of}
 use Rattle.demands.specs.Numbers.{OneOf, RefusesBy, Refuses}

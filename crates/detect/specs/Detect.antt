@@ -1,6 +1,7 @@
 -- Peak finding (RULES 4): the corners that a map's peaks start as, the refusals, and what is promised about the answer
 -- and the buffer.
-use Rattle.std.specs.Prelude.{◌≡◌, ℕ, ◌+◌, Bool, false, cond, List, [], ◌∷◌, ◌++◌, map, length, nat_lt, Float, Option, Result}
+use Rattle.std.specs.Prelude.{◌≡◌, ℕ, ◌+◌, Bool, false, cond, List, [], ◌∷◌, ◌++◌, map, length, nat_lt, Float, Option}
+use Rattle.std.specs.Prelude.{Result}
 use Rattle.lists.specs.Places.{Place, sum_of}
 use Rattle.lists.specs.declared.refusal.Refusal.{Refusal}
 use Rattle.lists.specs.Refusals.{lowest, number_of, values_by, values_unless, is_large, is_misfit, judged, result_or}

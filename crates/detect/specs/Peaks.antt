@@ -1,7 +1,7 @@
 -- Peak choice over a map of w by h, by a few questions about the values at its places (RULES 4.2 to 4.4; neighbors.rs,
 -- detect.rs).
-use Rattle.std.specs.Prelude.{ℕ, ◌+◌, ◌-◌, ◌*◌, min, Bool, true, false, cond, not, ◌&&◌, List, [], ◌∷◌, negsuc, ◌==◌, Option, None, Some}
-use Rattle.std.specs.Prelude.{nat_le, slice_index, slice_index_or, Float}
+use Rattle.std.specs.Prelude.{ℕ, ◌+◌, ◌-◌, ◌*◌, min, Bool, true, false, cond, not, ◌&&◌, List, [], ◌∷◌, negsuc, ◌==◌}
+use Rattle.std.specs.Prelude.{nat_le, slice_index_or, Float, Option, None, Some}
 use Rattle.std.specs.Float.{nan, fin, binary32}
 use Rattle.std.specs.Float.Ieee.{add, lt, le, eq}
 use Rattle.std.specs.Option.{unwrap_or}

@@ -1,4 +1,5 @@
-// A record: its kind, its body of fixed length, and its faults. The kind is a number, taken apart by `match` (RULES 16).
+// A record: its kind, its body of fixed length, and its faults. A kind is a number, taken apart by `match`
+// (RULES 16).
 ghost use Rattle.std.specs.Prelude.{◌≡◌, length, drop};
 ghost use Rattle.lists.specs.Refusals.{verdict};
 ghost use Rattle.stream.specs.Stream.{body_length, body_fault, record_fault};
