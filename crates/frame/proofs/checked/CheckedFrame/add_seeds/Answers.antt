@@ -25,7 +25,7 @@ last : (c : After-level)
     (level_side c.args.self.now.h (c.args.n - 1))
     (length c.args.map.now)
 last c =
-    last-ready _ _ _ _ _ _ c.requires.built_levels c.if-n-lt2.false _ refl _
+    last-ready _ _ _ _ _ _ c.requires.built_levels (omega arith) _ refl _
     (record { sound = c.args.self.now.sound; enough = c.requires.enough }) _ c.level.ensures _ _ refl refl
 
 pub invariant_of-last : goal.invariant_of-last
@@ -36,6 +36,6 @@ add_image_corners-requires c = (last (goal.at.add_image_corners-requires c).Afte
 
 pub returns-clause-added : goal.returns-clause-added
 returns-clause-added c =
-    last-seeds _ _ _ _ _ _ c.requires.built_levels c.if-n-lt2.false _ refl _
+    last-seeds _ _ _ _ _ _ c.requires.built_levels (omega arith) _ refl _
     (record { sound = c.args.self.now.sound; enough = c.requires.enough }) _ c.level.ensures _ _ refl refl
     (choice_of c.args.self.now.p c.args.self.now.exact) _ _ _ c.add_image_corners.ensures.added
