@@ -3,6 +3,7 @@
 
 mod bands; // the corners of a whole image, by bands of rows
 mod box_corners; // the corners of one box
+mod checked; // CheckedFrame: an image and parameters that no rule refuses
 mod search;
 mod shifting; // corners moved by a box's corner
 
@@ -10,6 +11,7 @@ ghost use Rattle.corner_list.specs.Buffer.{contents, SameSlices};
 ghost use Rattle.patch_corners.specs.OneMap.{choice_of};
 ghost use Rattle.frame.specs.Frame.{buffers, FrameFound};
 
+use checked::CheckedFrame;
 use corner_list::CornerBuffer;
 use frame_params::FrameParams;
 use lists::Refusal;
@@ -43,7 +45,14 @@ pub fn find_corners(
 {
     frame_pass::refusal(img.len(), w, h, p, map.len(), levels.len())?;
     let n = pyramid::build_pyramid(img, w, h, p.levels, p.minimum_side, levels)?;
-    match search::find_lists(img, w, h, p, exact, n, levels, map, seeds, corners) {
+    let frame = CheckedFrame {
+        img,
+        w,
+        h,
+        p,
+        exact,
+    };
+    match frame.find_lists(n, levels, map, seeds, corners) {
         Ok(lists) => {
             clearing::clear_list(seeds, lists.seeds);
             let left = merge::table::merge_by_table(corners, map, lists.corners, p.merge_radius)?;

@@ -44,10 +44,11 @@ returns-in_err-n-clause-found c =
     ∙ c.in_err-n.was in
     let no : ⊥ = grind arith in no)
 
-pub find_lists-requires-clause-frame_checked : goal.find_lists-requires-clause-frame_checked
-find_lists-requires-clause-frame_checked c =
-    let k = (goal.at.find_lists-requires-clause-frame_checked c).In_ok-refusal in
-    record { sound = sound k; enough = (taken k).enough }
+pub invariant_of-frame : goal.invariant_of-frame
+invariant_of-frame c = record { sound = sound (goal.at.invariant_of-frame c).In_ok-refusal }
+
+pub find_lists-requires-clause-enough : goal.find_lists-requires-clause-enough
+find_lists-requires-clause-enough c = (taken (goal.at.find_lists-requires-clause-enough c).In_ok-refusal).enough
 
 levels : (c : In_ok-n)
     → LevelsComplete c.args.img.now c.args.w c.args.h c.args.p.levels c.args.p.minimum_side c.args.levels.now c.build_pyramid.new.levels

@@ -1,5 +1,5 @@
--- `frame::bands::add_image_corners` meets its contract: a small map is one box; of a large one the corners of the rows that are complete
--- stand first in the buffer, and their peaks' ties are summed. Assumes nothing.
+-- `frame::checked::CheckedFrame::add_image_corners` meets its contract: a small map is one box; of a large one the corners of the rows that
+-- are complete stand first in the buffer, and their peaks' ties are summed. Assumes nothing.
 use borrow.Author.Rules.{rules}
 use Prim.Native.Nat.{◌<◌}
 use native.Mathlib.Omega.{arith}
@@ -8,28 +8,28 @@ use Rattle.lists.proofs.Judged.{passed-on}
 use Rattle.frame.specs.Internal.{Band}
 use Rattle.frame.proofs.InBands.{some-sides, rows_none, band-next, bands-none, bands-more, bands-full, bands-all}
 use Rattle.frame.proofs.InBands.{bands-tied}
-use Rattle.frame.proofs.bands.add_image_corners.Goals as goal
-use Rattle.frame.proofs.bands.add_image_corners.Goals.{After-min-e, At-loop-j}
+use Rattle.frame.proofs.checked.CheckedFrame.add_image_corners.Goals as goal
+use Rattle.frame.proofs.checked.CheckedFrame.add_image_corners.Goals.{After-min-e, At-loop-j}
 
 -- an image of so many pixels has rows and columns
-sides : (c : At-loop-j) → (0 < c.args.w) × (0 < c.args.h)
-sides c = some-sides _ _ _ c.requires.sound.sized (omega (arith, c.if-img-le-ONE_MAP.false))
+sides : (c : At-loop-j) → (0 < c.args.self.now.w) × (0 < c.args.self.now.h)
+sides c = some-sides _ _ _ c.args.self.now.sound.sized (omega (arith, c.if-self-le-ONE_MAP.false))
 
 -- the next band
 band : (c : After-min-e) →
-    Band c.args.w c.args.h c.loop-j.j c.min-e.result
+    Band c.args.self.now.w c.args.self.now.h c.loop-j.j c.min-e.result
 band c = band-next _ _ _ _ (sides (goal.at.After-min-e c).At-loop-j).0 c.loop-j-test.true c.min-e.ensures
 
 pub loop-j-init : goal.loop-j-init
 loop-j-init c =
-    (search rules, omega arith, refl, rows_none _ _ _, bands-none c.args.p c.args.img.now _ _ c.args.exact _)
+    (search rules, omega arith, refl, rows_none _ _ _, bands-none c.args.self.now.p c.args.self.now.img.now _ _ c.args.self.now.exact _)
 
 pub overflow_add-j : goal.overflow_add-j
-overflow_add-j c = omega (arith, c.loop-j.invariant.1, c.requires.sound.low)
+overflow_add-j c = omega (arith, c.loop-j.invariant.1, c.args.self.now.sound.low)
 
 pub add_band-requires : goal.add_band-requires
 add_band-requires c = (
-  record { sound = c.requires.sound; enough = omega (arith, c.requires.enough, c.loop-j.invariant.2) },
+  omega (arith, c.requires, c.loop-j.invariant.2),
   band (goal.at.add_band-requires c).After-min-e,
   c.loop-j.invariant.3,
 )
@@ -39,15 +39,18 @@ returns-in_err-more-clause-added c =
     let some = sides (goal.at.returns-in_err-more-clause-added c).At-loop-j in
     let rows = (band (goal.at.returns-in_err-more-clause-added c).After-min-e).some in
     rw (passed-on _ c.from_residual.ensures.1, ← c.in_err-more.was)
-    (bands-all c.args.p c.args.img.now c.args.w c.args.h c.args.exact some.0 some.1 _ c.requires _ (omega arith)
+    (bands-all c.args.self.now.p c.args.self.now.img.now c.args.self.now.w c.args.self.now.h c.args.self.now.exact some.0 some.1 _
+    (record { sound = c.args.self.now.sound; enough = c.requires }) _ (omega arith)
     (omega arith) _ _ _
-    (bands-full c.args.p c.args.img.now c.args.w c.args.h c.args.exact _ _ _ _ (omega arith) _ _ c.loop-j.invariant.4 _ _
+    (bands-full c.args.self.now.p c.args.self.now.img.now c.args.self.now.w c.args.self.now.h c.args.self.now.exact _ _ _ _
+    (omega arith) _ _ c.loop-j.invariant.4 _ _
     c.add_band.ensures.added _ c.in_err-more.was (band (goal.at.returns-in_err-more-clause-added c).After-min-e).within))
 
 pub overflow_add-held : goal.overflow_add-held
 overflow_add-held c =
     let some = (band (goal.at.overflow_add-held c).After-min-e).some in
-    let more = bands-more c.args.p c.args.img.now c.args.w c.args.h c.args.exact _ _ _ _ (omega arith) _ _ c.loop-j.invariant.4 _ _
+    let more = bands-more c.args.self.now.p c.args.self.now.img.now c.args.self.now.w c.args.self.now.h c.args.self.now.exact _ _
+    _ _ (omega arith) _ _ c.loop-j.invariant.4 _ _
     c.add_band.ensures.added _ c.in_ok-more.was in
     omega (arith, (more.added _ refl).1, c.well_formed)
 
@@ -55,12 +58,14 @@ pub overflow_add-ties : goal.overflow_add-ties
 overflow_add-ties c =
     let some = sides (goal.at.overflow_add-ties c).At-loop-j in
     let rows = (band (goal.at.overflow_add-ties c).After-min-e).some in
-    let more = bands-more c.args.p c.args.img.now c.args.w c.args.h c.args.exact _ _ _ _ (omega arith) _ _ c.loop-j.invariant.4 _ _
+    let more = bands-more c.args.self.now.p c.args.self.now.img.now c.args.self.now.w c.args.self.now.h c.args.self.now.exact _ _
+    _ _ (omega arith) _ _ c.loop-j.invariant.4 _ _
     c.add_band.ensures.added _ c.in_ok-more.was in
     omega (
       arith,
       (more.added _ refl).3,
-      bands-tied c.args.p c.args.img.now c.args.w c.args.h c.args.exact some.0 some.1 _ c.requires
+      bands-tied c.args.self.now.p c.args.self.now.img.now c.args.self.now.w c.args.self.now.h c.args.self.now.exact some.0 some.1
+          _ (record { sound = c.args.self.now.sound; enough = c.requires })
           c.min-e.result (band (goal.at.overflow_add-ties c).After-min-e).within,
     )
 
@@ -70,7 +75,8 @@ loop-j-smaller c = let b = band (goal.at.loop-j-smaller c).After-min-e in omega 
 pub loop-j-preserved : goal.loop-j-preserved
 loop-j-preserved c =
     let some = (band (goal.at.loop-j-preserved c).After-min-e).some in
-    let more = bands-more c.args.p c.args.img.now c.args.w c.args.h c.args.exact _ _ _ _ (omega arith) _ _ c.loop-j.invariant.4 _ _
+    let more = bands-more c.args.self.now.p c.args.self.now.img.now c.args.self.now.w c.args.self.now.h c.args.self.now.exact _ _
+    _ _ (omega arith) _ _ c.loop-j.invariant.4 _ _
     c.add_band.ensures.added _ c.in_ok-more.was in (
       search rules,
       (band (goal.at.loop-j-preserved c).After-min-e).within,
@@ -82,5 +88,6 @@ loop-j-preserved c =
 pub returns-clause-added : goal.returns-clause-added
 returns-clause-added c =
     let some = sides (goal.at.returns-clause-added c).At-loop-j in
-    bands-all c.args.p c.args.img.now c.args.w c.args.h c.args.exact some.0 some.1 _ c.requires _ c.loop-j.invariant.1
+    bands-all c.args.self.now.p c.args.self.now.img.now c.args.self.now.w c.args.self.now.h c.args.self.now.exact some.0 some.1 _
+    (record { sound = c.args.self.now.sound; enough = c.requires }) _ c.loop-j.invariant.1
     (omega arith) _ _ _ c.loop-j.invariant.4
