@@ -100,15 +100,13 @@ impl CheckedFrame<'_> {
             };
             return self.add_patch_corners(area, map, list, 0);
         }
-        let mut j = 0usize;
         let mut held = 0usize;
         let mut ties = 0u64;
-        while j < self.h {
+        for j in (0..self.h).step_by(ROWS) {
             let e = self.h.min(j + ROWS);
             let more = self.add_band(j, e, map, list, held)?;
             held += more.count;
             ties += more.ties;
-            j = e;
         }
         Ok(Peaks { count: held, ties })
     }

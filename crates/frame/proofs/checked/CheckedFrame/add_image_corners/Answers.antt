@@ -1,15 +1,17 @@
 -- `frame::checked::CheckedFrame::add_image_corners` meets its contract: a small map is one box; of a large one the corners of the rows that
 -- are complete stand first in the buffer, and their peaks' ties are summed. Assumes nothing.
 use borrow.Author.Rules.{rules}
-use Prim.Native.Nat.{◌<◌}
+use Prim.Native.Nat.{◌+◌, ◌<◌}
 use native.Mathlib.Omega.{arith}
-use mathlib.Core.Path.{refl}
+use mathlib.Core.Path.{◌≡◌, refl}
+use Rattle.std.specs.Prelude.{Ok}
+use Rattle.corner_list.specs.Buffer.{contents}
 use Rattle.lists.proofs.Judged.{passed-on}
-use Rattle.frame.specs.Internal.{Band}
+use Rattle.frame.specs.Internal.{AddsCorners, Band}
 use Rattle.frame.proofs.InBands.{some-sides, rows_none, band-next, bands-none, bands-more, bands-full, bands-all}
-use Rattle.frame.proofs.InBands.{bands-tied}
+use Rattle.frame.proofs.InBands.{bands-tied, corners_to, ties_to}
 use Rattle.frame.proofs.checked.CheckedFrame.add_image_corners.Goals as goal
-use Rattle.frame.proofs.checked.CheckedFrame.add_image_corners.Goals.{After-min-e, At-loop-j}
+use Rattle.frame.proofs.checked.CheckedFrame.add_image_corners.Goals.{After-min-e, At-loop-j, In_ok-more}
 
 -- an image of so many pixels has rows and columns
 sides : (c : At-loop-j) → (0 < c.args.self.now.w) × (0 < c.args.self.now.h)
@@ -69,25 +71,41 @@ overflow_add-ties c =
           c.min-e.result (band (goal.at.overflow_add-ties c).After-min-e).within,
     )
 
-pub loop-j-smaller : goal.loop-j-smaller
-loop-j-smaller c = let b = band (goal.at.loop-j-smaller c).After-min-e in omega (arith, b.some, b.within)
+-- the rows up to the end of the band are complete
+more : (c : In_ok-more)
+    → AddsCorners
+    (corners_to c.args.self.now.p c.args.self.now.img.now c.args.self.now.w c.args.self.now.h c.args.self.now.exact c.min-e.result)
+    (ties_to c.args.self.now.p c.args.self.now.img.now c.args.self.now.w c.args.self.now.h c.args.self.now.exact c.min-e.result) 0
+    (contents c.args.list.now) (Ok (record
+    { count = c.loop-j.held + c.in_ok-more.more.count; ties = c.loop-j.ties + c.in_ok-more.more.ties }))
+    (contents c.add_band.new.list)
+more c =
+    let some = (band (goal.at.In_ok-more c).After-min-e).some in
+    bands-more c.args.self.now.p c.args.self.now.img.now c.args.self.now.w c.args.self.now.h c.args.self.now.exact _ _ _ _ (omega arith)
+    _ _ c.loop-j.invariant.4 _ _ c.add_band.ensures.added _ c.in_ok-more.was
 
 pub loop-j-preserved : goal.loop-j-preserved
 loop-j-preserved c =
-    let some = (band (goal.at.loop-j-preserved c).After-min-e).some in
-    let more = bands-more c.args.self.now.p c.args.self.now.img.now c.args.self.now.w c.args.self.now.h c.args.self.now.exact _ _
-    _ _ (omega arith) _ _ c.loop-j.invariant.4 _ _
-    c.add_band.ensures.added _ c.in_ok-more.was in (
+    let k = (goal.at.loop-j-preserved c).In_ok-more in
+    let e : c.min-e.result ≡ c.loop-j.j + 64 = omega (arith, c.min-e.ensures) in (
       search rules,
-      (band (goal.at.loop-j-preserved c).After-min-e).within,
+      omega (arith, c.min-e.ensures),
       omega (arith, c.add_band.auto, c.loop-j.invariant.2),
-      c.add_band.ensures.rows_held,
-      more,
+      rw e at c.add_band.ensures.rows_held,
+      rw e at (more k),
     )
 
-pub returns-clause-added : goal.returns-clause-added
-returns-clause-added c =
-    let some = sides (goal.at.returns-clause-added c).At-loop-j in
+pub returns-in_ok-more-clause-added : goal.returns-in_ok-more-clause-added
+returns-in_ok-more-clause-added c =
+    let k = (goal.at.returns-in_ok-more-clause-added c).In_ok-more in
+    let some = sides (goal.at.returns-in_ok-more-clause-added c).At-loop-j in
     bands-all c.args.self.now.p c.args.self.now.img.now c.args.self.now.w c.args.self.now.h c.args.self.now.exact some.0 some.1 _
-    (record { sound = c.args.self.now.sound; enough = c.requires }) _ c.loop-j.invariant.1
-    (omega arith) _ _ _ c.loop-j.invariant.4
+    (record { sound = c.args.self.now.sound; enough = c.requires }) _ (omega (arith, c.min-e.ensures))
+    (omega (arith, c.min-e.ensures)) _ _ _
+    (more k)
+
+pub returns-else-self-le-ONE_MAP-clause-added : goal.returns-else-self-le-ONE_MAP-clause-added
+returns-else-self-le-ONE_MAP-clause-added c =
+    let some = sides (goal.at.returns-else-self-le-ONE_MAP-clause-added c).At-loop-j in
+    bands-all c.args.self.now.p c.args.self.now.img.now c.args.self.now.w c.args.self.now.h c.args.self.now.exact some.0 some.1 _
+    (record { sound = c.args.self.now.sound; enough = c.requires }) _ c.loop-j.invariant.1 (omega arith) _ _ _ c.loop-j.invariant.4

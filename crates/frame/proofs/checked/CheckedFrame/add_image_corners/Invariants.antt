@@ -1,4 +1,4 @@
-use Prim.Native.Nat.{◌-◌, ◌≤◌}
+use Prim.Native.Nat.{◌≤◌}
 use mathlib.Core.Path.{◌≡◌}
 use lib.ListN.{length}
 use Rattle.std.specs.Prelude.{Ok}
@@ -16,6 +16,3 @@ invariant-loop-j l =
     × AddsCorners (corners_to l.self.p l.self.img.now l.self.w l.self.h l.self.exact l.j)
     (ties_to l.self.p l.self.img.now l.self.w l.self.h l.self.exact l.j) 0
     (contents l.initial.list) (Ok (record { count = l.held; ties = l.ties })) (contents l.list)
-
-abbrev pub decreases-loop-j : goal.decreases-loop-j
-decreases-loop-j l = l.self.h - l.j
