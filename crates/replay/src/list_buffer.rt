@@ -1,9 +1,7 @@
 // A corner buffer: four slices, each the start of an array.
 ghost use Rattle.std.specs.Prelude.{◌≤◌};
 
-use crate::buffers::{
-    due_counts, due_floats, front, past_buffer, read_counts, read_floats,
-};
+use crate::buffers::{due_counts, due_floats, front, past_buffer, read_counts, read_floats};
 use crate::fields::{BAD, length_at, past, past_length, words_at};
 
 // The most places that a slice has: as many as a listing has corners.

@@ -32,7 +32,12 @@ fn is_due(body: &[u8], ys: usize, strengths: usize, neighbours: usize) -> bool {
 }
 
 // Whether the text of an answer is as expected.
-fn is_listing_due(body: &[u8], at: usize, text: &[u8; LONGEST], answer: Result<usize, Refusal>) -> bool {
+fn is_listing_due(
+    body: &[u8],
+    at: usize,
+    text: &[u8; LONGEST],
+    answer: Result<usize, Refusal>,
+) -> bool {
     let Ok(length) = answer else {
         return false;
     };
