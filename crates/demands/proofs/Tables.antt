@@ -33,10 +33,6 @@ widen n (k ∷ ns) ms e o =
     let both = and_parts (any (eqb k) ms) (within ns ms) e in
     ⊎_elim (λ same. subst (λ (j : ℕ). OneOf j ms) (sym same) (listed k ms both.0)) (widen n ns ms both.1) o
 
-pub cond-one : (b : Bool) (m n : ℕ) (ns : List ℕ) → OneOf m ns → OneOf n ns → OneOf (cond b m n) ns
-cond-one true m n ns p q = p
-cond-one false m n ns p q = q
-
 -- a table gives 0 or one of its numbers
 lowest-one : (cs : List (Bool × ℕ)) → OneOf (lowest cs) (0 ∷ map (λ c. c.1) cs)
 lowest-one [] = inl refl
