@@ -204,7 +204,7 @@ total = record {
   read_frame = λ input pixels pixels' r f e q. frame-few input (refusal_number e)
       (refusal-found input pixels e pixels' (subst (λ (a : Result Header Refusal). FrameRead input pixels a pixels') q f)).0;
   write_frame = λ h pixels out out' r f. refused-one (writer.conditions h pixels (length out)) r f.number;
-  write_corners = λ b count out out' r f. refused-one ((ltb 512 count, 10) ∷ []) r f.number;
+  write_corners = λ b count out out' r f. refused-one ((ltb (places_of b) count || ltb 512 count, 10) ∷ []) r f.number;
   retouch = λ w h ring q value img m r img' m' f. refused-one (retouch.conditions (length img) (length m) w h ring q) r f.number;
   response_limits = λ low high w h ring lows highs r lows' highs' f.
       limits-refuse low high w h ring (length lows) (length highs) r f.number;

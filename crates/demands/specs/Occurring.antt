@@ -294,7 +294,7 @@ occurring =
     ∷ [])
     (1 ∷ 2 ∷ 3 ∷ 5 ∷ 19 ∷ [])
     -- write_corners (RULES 12.3)
-    ∷ row (listing.refusal_of 513 ∷ []) (10 ∷ [])
+    ∷ row (listing.refusal_of 512 513 ∷ []) (10 ∷ [])
     -- retouch
     ∷ row
     (retouched [] [] 4097 0 5 ∷ retouched [] [] 1 1 5 ∷ retouched [] [] 0 0 0 ∷ retouched [] [] 0 0 5 ∷ [])

@@ -7,22 +7,24 @@
 -- definitions use for "none", is never one of them. The requests add numbers to the eleven: 12 and 13 from request 1,
 -- 14 from request 8, 15 from request 9, 16, 17 and 18 from request 10, 19 from request 11, 20 from request 13. The
 -- tables that the promises name say which condition has which number, and in which order they are checked.
--- No other public function refuses. Each of these promises one equation over its arguments:
--- lists           number_of, element_or
+-- No other public function refuses. Each of these promises one equation over its arguments, and if it is lent a corner
+-- buffer to be written, that its four slices are the same afterwards:
+-- lists           number_of, element_or, u8::from of a Refusal
 -- image_size      is_large, refusal
 -- ring            ring_offsets, is_ring
 -- frame_params    is_outside, parameters_fit
 -- float32         abs, is_finite, lifted, is_between, from_bits, to_bits, cut_off, round_half_away
 --                 (with its number, 0, and its values)
--- corner_list     is_inside, corner_at, put_corner, places
+-- corner_list     is_inside; places and at of CornerBuffer and of CornerView; view and put of CornerBuffer
 -- detect          refusal
 -- pyramid_levels  level_count, cells_before, cells_above, build_refusal and level_refusal
 -- pyramid         level (nothing if `level_at` refuses)
 -- pgm             pgm_pixels (nothing if `read_pgm` refuses)
 -- merge_radius    is_off, is_sized, is_outside
 -- merge_refusal   refusal
--- merge_grid      position_of, position_at, grid_of, column_of, row_of, is_near, is_joined
--- merge_settle    settle_list (one for how many are kept, one for the buffer)
+-- merge_grid      position_of, position_at, grid_of, column_of, row_of, is_near, is_joined, Position::from of a Corner
+-- merge_settle    settle_list (one for how many are kept, one for the buffer), settle_corner (one for the place, one
+--                 for the buffer), count_with
 -- clearing        clear, clear_list
 -- frame_pass      refusal (of the input, before the pass)
 -- stream          wanted

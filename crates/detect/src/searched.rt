@@ -1,6 +1,5 @@
 // A map with what it is searched with: what holds of the two together stands here once.
-ghost use Rattle.std.specs.Prelude.{◌≡◌, ◌-◌, ◌<◌, ◌≤◌};
-ghost use Rattle.lists.proofs.Rows.{row_part};
+ghost use Rattle.std.specs.Prelude.{◌≡◌, ◌+◌, ◌-◌, ◌*◌, ◌<◌, ◌≤◌, take, drop};
 ghost use Rattle.detect.specs.Internal.{Searchable};
 
 use crate::Search;
@@ -33,7 +32,9 @@ impl<'a> SearchedMap<'a> {
         requires in_rows { y < self.now.search.h }
         requires in_order { left ≤ right }
         requires in_columns { right ≤ self.now.search.w }
-        ensures { result.now ≡ row_part self.now.cells.now self.now.search.w y left right }
+        ensures { result.now
+            ≡ take (y * self.now.search.w + right - (y * self.now.search.w + left))
+            (drop (y * self.now.search.w + left) self.now.cells.now) }
     {
         let start = y * self.search.w;
         &self.cells[start + left..start + right]

@@ -9,7 +9,7 @@ use Rattle.std.specs.Prelude.{Result, Ok, Err}
 use Rattle.lists.specs.declared.refusal.Refusal.{Refusal}
 use Rattle.lists.specs.Refusals.{refusal_number, unless}
 use Rattle.lists.proofs.Judged.{refused-some, refused-above}
-use Rattle.corner_list.specs.CornerList.{Slices}
+use Rattle.corner_list.specs.CornerList.{Slices, places_of}
 use Rattle.frame_params.specs.declared.FrameParams.{FrameParams}
 use Rattle.patch_corners.specs.OneMap.{computed_choice}
 use Rattle.frame.specs.declared.Found.{Found}
@@ -43,7 +43,8 @@ module _ (h : Header) (pixels : List ℕ) (p : FrameParams) (is : p ≡ params_o
     written = λ end e.
         let l = listed b f.corners before end after (rw e at w) in
         rw (← is, finished.number, ← finished.corners, ← same) (record { ends = l.ends; holds = l.text });
-    refused = λ e q. absurd (refused-some (listing.refusal_of f.corners) _ e (sym q ∙ w.answer) (rw (le-ltb most_corners f.corners few)));
+    refused = λ e q. absurd (refused-some (listing.refusal_of (places_of b) f.corners) _ e (sym q ∙ w.answer)
+        (rw (le-ltb (places_of b) f.corners held, le-ltb most_corners f.corners few)));
   }
     where
       finished : Finished (computed_choice p) p pixels h.width h.height program_buffers f.corners f.ties b'
@@ -51,6 +52,9 @@ module _ (h : Header) (pixels : List ℕ) (p : FrameParams) (is : p ≡ params_o
 
       few : f.corners ≤ most_corners
       few = omega (arith, finished.fits)
+
+      held : f.corners ≤ places_of b
+      held = rw same finished.held
 
   -- or the refusal
   pub frame-refused : (e : Refusal) → FrameFound (computed_choice p) p pixels h.width h.height program_buffers (Err e) b'

@@ -6,10 +6,11 @@ use mathlib.Core.Path.{◌≡◌, refl, sym, ap, ◌∙◌}
 use mathlib.Core.Logic.{⊎_elim}
 use mathlib.Core.Bool.{false}
 use mathlib.Core.List.{List, [], ◌++◌, map}
-use lib.ListN.{length}
+use lib.ListN.{length, length-append, length-map}
 use lib.Dec.{ltb}
 use lib.Seq.{drop_at}
 use borrow.Author.Tests.{ltb-false}
+use Rattle.std.proofs.Math.Nat.{le-min}
 use Rattle.lists.specs.Buffer.{front}
 use Rattle.lists.specs.Refusals.{lowest}
 use Rattle.lists.proofs.Tests.{or-neither}
@@ -42,12 +43,20 @@ corners-padded cs b n e =
     (own-front (map neighbours_of cs) _))
     ∙ corners-front cs (padded_corners cs b) n e
 
+-- and the buffer has as many places
+padded-places : (cs : List Corner) (b : Slices) (n : ℕ) → n ≡ length cs → n ≤ places_of (padded_corners cs b)
+padded-places cs b n e = le-min (each x_of _) (le-min (each y_of _) (le-min (each strength_of _) (each neighbours_of _)))
+  where
+    each : {A : Type 0} (g : Corner → A) (r : List A) → n ≤ length (map g cs ++ r)
+    each g r = omega (arith, e, length-map cs g, length-append (map g cs) r)
+
 -- a finished frame: its corners and ties, by the pass, and the buffers
 pub record Finished (choose : Choice) (p : FrameParams) (img : List ℕ) (w h : ℕ) (b : Buffers) (n t : ℕ) (b' : Buffers) : Type 0 where
   pub number : refusal_of choose p img w h b ≡ 0
   pub count : n ≡ length (frame_pass p img w h choose).corners
   pub tied : t ≡ (frame_pass p img w h choose).ties
   pub fits : n ≤ places_of b.corners
+  pub held : n ≤ places_of b'.corners
   pub corners : corners_of b'.corners n ≡ (frame_pass p img w h choose).corners
   pub left : b' ≡ finished (above img w h (levels_in p img w h)) (frame_pass p img w h choose) b
 
@@ -81,6 +90,7 @@ module _ (choose : Choice) (p : FrameParams) (img : List ℕ) (w h : ℕ) (b : B
         count = count;
         tied = ap (λ (f : Found). f.ties) k.1;
         fits = omega (arith, count, few k.0);
+        held = rw left (padded-places q.corners b.corners f.corners count);
         corners = ap (λ (z : Buffers). corners_of z.corners f.corners) left ∙ corners-padded q.corners b.corners f.corners count;
         left = left;
       }

@@ -54,7 +54,7 @@ impl CheckedFrame<'_> {
             }))
             held (contents list.old) result (contents list.new) }
     {
-        let patch = response::inner_patch(
+        let Ok(patch) = response::inner_patch(
             self.img,
             self.w,
             self.h,
@@ -65,7 +65,9 @@ impl CheckedFrame<'_> {
             area.y1,
             margin(self.p),
             map,
-        )?;
+        ) else {
+            return Err(Refusal::MapTooShort);
+        };
         let cells = patch.h * patch.w;
         patch_corners::add_map_corners(
             &map[..cells],

@@ -9,7 +9,7 @@ use Rattle.lists.specs.Buffer.{front, Written}
 use Rattle.lists.proofs.Tab.{length-tab}
 use Rattle.lists.proofs.Buffer.{placed_first}
 use Rattle.corner_list.specs.declared.Corner.{Corner}
-use Rattle.corner_list.specs.CornerList.{Slices, corners_of}
+use Rattle.corner_list.specs.CornerList.{Slices, places_of, corners_of}
 use Rattle.std.specs.Prelude.{Ok}
 use Rattle.lists.proofs.Judged.{judged-ok}
 use Rattle.listing.specs.Text.{fields, line, corners_word, heading, corners_text}
@@ -63,5 +63,5 @@ pub record Listed (b : Slices) (count : ℕ) (before : List ℕ) (end : ℕ) (af
 pub listed : (b : Slices) (count : ℕ) (before : List ℕ) (end : ℕ) (after : List ℕ) → CornersWritten b count before (Ok end) after
     → Listed b count before end after
 listed b count before end after w =
-    let q = judged-ok (refusal_of count) _ end w.answer in
+    let q = judged-ok (refusal_of (places_of b) count) _ end w.answer in
     record { ends = q.1; text = rw q.0 at w.text }

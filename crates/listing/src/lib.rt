@@ -147,8 +147,8 @@ fn put_corners(list: CornerView<'_>, count: usize, out: &mut [u8]) -> usize
     at
 }
 
-// Writes the text of the first `count` corners of a buffer; the buffer `out` has a place for the
-// longest text.
+// Writes the text of the first `count` corners of a buffer, which has that many places and no more than a listing has;
+// the buffer `out` has a place for the longest text.
 pub fn write_corners(
     list: CornerView<'_>,
     count: usize,
@@ -156,7 +156,7 @@ pub fn write_corners(
 ) -> Result<usize, Refusal>
     ensures { CornersWritten (seen list.entry) count out.old result out.new }
 {
-    if MOST_CORNERS < count {
+    if list.places() < count || MOST_CORNERS < count {
         return Err(Refusal::ListTooLong);
     }
     Ok(put_corners(list, count, out))

@@ -1,20 +1,42 @@
--- The first corners of a buffer copied into another, one slice after the other. Assumes nothing.
-use Rattle.std.proofs.Common.{ℕ, ◌≤◌, ◌≡◌, take, arith}
-use Rattle.lists.specs.Buffer.{front}
-use Rattle.corner_list.specs.CornerList.{Slices, places_of, corners_of, front_corners}
-use Rattle.corner_list.proofs.Corners.{corners-xs, corners-ys, corners-strengths, corners-neighbours}
+-- The first corners of a buffer copied into another, one after the other. Assumes nothing.
+use Prim.Native.Nat.{ℕ, ◌+◌, ◌<◌, ◌≤◌}
+use native.Mathlib.Numerals.{add-one}
+use native.Mathlib.Omega.{arith}
+use mathlib.Core.Path.{◌≡◌, sym, ap, ◌∙◌}
+use mathlib.Core.List.{List, [], ◌∷◌, ◌++◌}
+use lib.ListN.{length}
+use Rattle.lists.specs.Tab.{tab}
+use Rattle.corner_list.specs.declared.Corner.{Corner}
+use Rattle.corner_list.specs.CornerList.{Slices, places_of, corner_at, corners_of, with_corner, front_corners}
+use Rattle.corner_list.proofs.Corners.{corners-length, corners-same, corners-next}
 
-pub copied : (b d d' : Slices) (n : ℕ) → n ≤ places_of b → d'.xs ≡ front (take n b.xs) d.xs → d'.ys ≡ front (take n b.ys) d.ys
-    → d'.strengths ≡ front (take n b.strengths) d.strengths → d'.neighbours ≡ front (take n b.neighbours) d.neighbours
-    → d' ≡ front_corners (corners_of b n) d
-copied b d d' n h p q r t =
-    rw (
-      corners-xs b n (omega arith),
-      corners-ys b n (omega arith),
-      corners-strengths b n (omega arith),
-      corners-neighbours b n (omega arith),
-      ← p,
-      ← q,
-      ← r,
-      ← t,
-    )
+-- the first i corners of b stand first in d, which was d₀
+pub record Copied (b : Slices) (i : ℕ) (d₀ d : Slices) : Type 0 where
+  pub fits : i ≤ places_of d₀
+  pub is : d ≡ front_corners (corners_of b i) d₀
+
+pub copied_none : (b d : Slices) → Copied b 0 d d
+unfolding tab
+copied_none b d = record { fits = omega arith; is = corners-same d 0 (omega arith) }
+
+module _ (b : Slices) (i : ℕ) (d₀ d : Slices) (at : Copied b i d₀ d) where
+  abbrev Done : List Corner
+  Done = corners_of b i
+
+  many : i ≡ length Done
+  many = sym (corners-length b i)
+
+  -- the next corner is copied
+  pub copied_more : (n : ℕ) → n ≤ places_of d₀ → i < n → (c : Corner) → c ≡ corner_at b i → (d' : Slices) → d' ≡ with_corner i c d
+      → Copied b (i + 1) d₀ d'
+  unfolding tab
+  copied_more n fit h c read d' put = record {
+    fits = omega arith;
+    is =
+        put ∙ ap (with_corner i c) at.is ∙ corners-next Done d₀ i c many (omega arith)
+        ∙ ap (λ (o : Corner). front_corners (Done ++ (o ∷ [])) d₀) read
+        ∙ ap (λ (m : ℕ). front_corners (corners_of b m) d₀) (sym (add-one i));
+  }
+
+  pub copied_all : (n : ℕ) → n ≤ i → i ≤ n → d ≡ front_corners (corners_of b n) d₀
+  copied_all n h g = let e : i ≡ n = omega arith in at.is ∙ ap (λ (m : ℕ). front_corners (corners_of b m) d₀) e

@@ -1,7 +1,6 @@
 // The list that merging a buffer would leave, written to a separate buffer. The merged buffer is only read. After the
 // list, the separate buffer stays as it was, so a corner is written only when it is kept.
-ghost use Rattle.std.specs.Prelude.{◌≡◌, ◌≤◌, length, take};
-ghost use Rattle.lists.specs.Buffer.{front};
+ghost use Rattle.std.specs.Prelude.{◌≡◌, ◌≤◌};
 ghost use Rattle.lists.specs.Refusals.{verdict};
 ghost use Rattle.corner_list.specs.CornerList.{corners_of, places_of, front_corners};
 ghost use Rattle.corner_list.specs.Buffer.{contents, seen, SameSlices};
@@ -12,32 +11,22 @@ ghost use Rattle.merge.specs.Apart.{refusal_apart, MergedApart};
 use corner_list::{CornerBuffer, CornerView};
 use lists::Refusal;
 
-// Copies the first n elements of a slice into another.
-fn copy_front<T: Copy>(from: &[T], n: usize, to: &mut [T])
-    requires { (n ≤ length from.now) × (n ≤ length to.old) }
-    ensures { to.new ≡ front (take n from.now) to.old }
-{
-    to[..n].copy_from_slice(&from[..n]);
-}
-
-// Copies the first n corners of a buffer into another.
+// Copies the first n corners of a buffer into another. Corner by corner: `copy_from_slice` of its slices would have the
+// library need `memmove` from outside, which nothing else in it needs.
 fn copy_list(list: CornerView<'_>, n: usize, b: &mut CornerBuffer<'_>)
-    requires from { n ≤ places_of (seen list) }
-    requires to { n ≤ places_of (contents b.old) }
+    requires { n ≤ places_of (contents b.old) }
     ensures same_slices { SameSlices b.old b.new }
     ensures copied { contents b.new
         ≡ front_corners (corners_of (seen list.entry) n) (contents b.old) }
 {
-    copy_front(list.xs, n, b.xs);
-    copy_front(list.ys, n, b.ys);
-    copy_front(list.strengths, n, b.strengths);
-    copy_front(list.neighbours, n, b.neighbours);
+    for i in 0..n {
+        b.put(i, list.at(i));
+    }
 }
 
 // Merges the first n corners of a buffer into another, and returns how many are left. It checks nothing.
 fn merge_into(list: CornerView<'_>, n: usize, radius: f32, b: &mut CornerBuffer<'_>) -> usize
-    requires from { n ≤ places_of (seen list) }
-    requires to { n ≤ places_of (contents b.old) }
+    requires { n ≤ places_of (contents b.old) }
     ensures same_slices { SameSlices b.old b.new }
     ensures left { Left (result_of radius (corners_of (seen list.entry) n)) (contents b.old) result (contents b.new) }
 {

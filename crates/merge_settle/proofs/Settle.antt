@@ -1,5 +1,5 @@
 -- A corner settled among the kept ones: as a list by the first that it joins, its length, and in the buffer. Assumes nothing.
-use Prim.Native.Nat.{ℕ, zero, suc, ◌+◌, ◌<◌, ◌≤◌}
+use Prim.Native.Nat.{ℕ, zero, suc, ◌+◌, ◌-◌, ◌^◌, ◌<◌, ◌≤◌}
 use native.Mathlib.Nat.{not-suc-le-zero}
 use native.Mathlib.Omega.{arith}
 use mathlib.Core.Path.{◌≡◌, refl, sym, ap, ◌∙◌}
@@ -9,7 +9,8 @@ use lib.ListN.{length, get_or, set, length-set, length-append}
 use lib.Seq.{set-get_or}
 use borrow.Author.Tests.{eq-eqb, ne_eqb}
 use lib.Ieee.{lt}
-use Rattle.std.specs.Prelude.{Option, None, Some, IfSome}
+use Rattle.std.specs.Prelude.{Option, None, Some, IfSome, min, eqb}
+use Rattle.std.proofs.Math.Nat.{min-eq_left}
 use Rattle.lists.proofs.Tests.{is_false}
 use Rattle.corner_list.specs.declared.Corner.{Corner}
 use Rattle.corner_list.specs.CornerList.{Slices, places_of, corner_at, corners_of, with_corner, front_corners}
@@ -139,3 +140,16 @@ module _ (j : Corner → Corner → Bool) (k : ℕ) (c : Corner) (b : Slices) (f
   pub settles-by : (joined : Option ℕ) → FirstPasses joins_at k joined → (place : Option ℕ) → place ≡ place_of b k c joined
       → (n : ℕ) → n ≡ count_with k place → (b' : Slices) → b' ≡ put_at place c b → Settled j k c b n b'
   settles-by joined first place is n e b' put = rw (e, put, is) (settles joined first)
+
+-- ---- how many are then kept, if a usize holds one more
+pub counted-all : (k : ℕ) (at : Option ℕ) (n : ℕ) → n ≡ min (count_with k at) (2 ^ 64 - 1) → k + 1 < 2 ^ 64
+    → n ≡ count_with k at
+counted-all k at n e h = e ∙ min-eq_left (at-most at)
+  where
+    pick : (b : Bool) → cond b (k + 1) k ≤ 2 ^ 64 - 1
+    pick true = omega arith
+    pick false = omega arith
+
+    at-most : (at : Option ℕ) → count_with k at ≤ 2 ^ 64 - 1
+    at-most None = omega arith
+    at-most (Some r) = pick (eqb r k)

@@ -1,5 +1,5 @@
 // The place that a corner takes among the kept ones: all that settling does, whichever corners join.
-ghost use Rattle.std.specs.Prelude.{◌≡◌, ◌<◌, ◌+◌, ◌^◌};
+ghost use Rattle.std.specs.Prelude.{◌≡◌, ◌-◌, ◌^◌, min};
 ghost use Rattle.corner_list.specs.Buffer.{contents, seen, SameSlices};
 ghost use Rattle.merge_settle.specs.Settle.{place_of, count_with, put_at};
 
@@ -39,9 +39,10 @@ pub fn settle_corner(
     place
 }
 
-// How many corners are kept after one takes a place among the first k, or the place right after them, or none.
+// How many corners are kept after one takes a place among the first k, or the place right after them, or none: no more
+// than a `usize` holds.
 pub fn count_with(k: usize, at: Option<usize>) -> usize
-    ensures { k + 1 < 2 ^ 64 → result ≡ count_with k at }
+    ensures { result ≡ min (count_with k at) (2 ^ 64 - 1) }
 {
     if at == Some(k) {
         k.saturating_add(1)

@@ -132,6 +132,15 @@ module _ (upload : List ℕ) where
   unfolding refusal_of conditions
   read-as r e = record { answer = e; number = number-judged _ _ e (grind arith); values = values-judged _ _ _ e }
 
+  -- the refusal by the fields as the code keeps them
+  by-fields : (left : ℕ) → (has_header upload ≡ true → left ≡ length (drop (raster_at upload) upload))
+      → refusal_of upload
+      ≡ lowest (conditions_by (has_sides upload) (has_header upload) (capped w) (capped h) (capped (maxval_of upload)) left)
+  unfolding refusal_of conditions
+  by-fields left e =
+      sym (judged-same w h (maxval_of upload) (length (drop (raster_at upload) upload)) left (has_sides upload) (has_header upload)
+      (λ z. (and_parts (has_sides upload) _ z).0) e)
+
   -- the sides cannot be read
   pub sides-none : has_sides upload ≡ false → PgmRead upload (Err HeaderUnread)
   unfolding refusal_of conditions
@@ -140,10 +149,8 @@ module _ (upload : List ℕ) where
   module _ (s : Sides) (sides : SidesHere upload s) where
     -- a side is too large
     pub sides-large : is_large s.w s.h ≡ true → PgmRead upload (Err SideTooLarge)
-    unfolding refusal_of conditions
     sides-large large =
-        let e : is_large w h ≡ true = sym (is_large-capped w h) ∙ rw (← sides.width, ← sides.height) large in
-        read-as _ (rw (sides.there, e))
+        read-as _ (rw (by-fields _ (λ z. refl), sides.there, ← sides.width, ← sides.height, large))
 
     module _ (small : is_large s.w s.h ≡ false) where
       fits : is_large w h ≡ false
@@ -160,28 +167,27 @@ module _ (upload : List ℕ) where
 
       -- the maxval cannot be read
       pub maxval-none : has_maxval upload ≡ false → PgmRead upload (Err HeaderUnread)
-      unfolding refusal_of conditions
-      maxval-none e = read-as _ (rw (sides.there, fits, e))
+      maxval-none e =
+          read-as _ (rw (by-fields _ (λ z. refl), sides.there, ← sides.width, ← sides.height, small, e))
 
       module _ (n : Number) (maxval : MaxvalHere upload n) where
-        left : ltb (length upload - n.end) (s.w * s.h) ≡ ltb (length (drop (raster_at upload) upload)) (w * h)
-        left = rw (length-drop (raster_at upload) upload, maxval.end, width-is, height-is)
+        left : length upload - n.end ≡ length (drop (raster_at upload) upload)
+        left = rw (length-drop (raster_at upload) upload, maxval.end) refl
 
         -- fewer bytes than pixels
         pub pixels-short : length upload - n.end < s.w * s.h → PgmRead upload (Err HeaderUnread)
-        unfolding refusal_of conditions
         pixels-short l =
-            let e = sym left ∙ lt-ltb (length upload - n.end) (s.w * s.h) l in
-            read-as _ (rw (sides.there, fits, maxval.there, e))
+            let few = lt-ltb (length upload - n.end) (s.w * s.h) l in
+            read-as _ (rw (by-fields _ (λ z. left), sides.there, ← sides.width, ← sides.height, small, maxval.there, few))
 
         module _ (enough : s.w * s.h ≤ length upload - n.end) where
           -- another maxval
           pub maxval-other : (n.value ≡ 255 → ⊥) → PgmRead upload (Err WrongMaxval)
-          unfolding refusal_of conditions
           maxval-other other =
-              let e = sym left ∙ le-ltb (length upload - n.end) (s.w * s.h) enough in
-              let o = sym (maxval-capped (maxval_of upload)) ∙ ne_eqb (capped (maxval_of upload)) 255 (λ z. other (maxval.value ∙ z)) in
-              read-as _ (rw (sides.there, fits, maxval.there, e, o))
+              let many = le-ltb (length upload - n.end) (s.w * s.h) enough in
+              let unlike = ne_eqb n.value 255 other in
+              read-as _
+              (rw (by-fields _ (λ z. left), sides.there, ← sides.width, ← sides.height, ← maxval.value, small, maxval.there, many, unlike))
 
           pub pixels-read : n.value ≡ 255 → PgmRead upload (Ok (record { at = n.end; w = s.w; h = s.h }))
           pixels-read full =
@@ -189,7 +195,7 @@ module _ (upload : List ℕ) where
                 header = rw sides.there maxval.there;
                 narrow = (sides-small w h fits).0;
                 low = (sides-small w h fits).1;
-                enough = ltb-false _ _ (sym left ∙ le-ltb (length upload - n.end) (s.w * s.h) enough);
+                enough = omega (arith, enough, left, ap₂ (λ (a b : ℕ). a * b) width-is height-is);
                 full = omega (arith, maxval.value, full);
               }) in
               read-as _ (rw (none, maxval.end, width-is, height-is))

@@ -9,12 +9,12 @@ use Rattle.lists.specs.Limits.{largest_side, most_levels}
 use Rattle.lists.specs.Buffer.{front}
 use Rattle.std.specs.Prelude.{Result, Ok, Err}
 use Rattle.lists.specs.declared.refusal.Refusal.{Refusal}
-use Rattle.lists.specs.Refusals.{judged}
+use Rattle.lists.specs.Refusals.{refusal_number, number_of, judged}
 use Rattle.lists.proofs.Judged.{judged-ok, refused-stays}
 use Rattle.lists.proofs.Tab.{get_d-grid-any}
 use Rattle.lists.proofs.Buffer.{front_length}
 use Rattle.pyramid_levels.specs.Levels.{level_side, level_count, cells_above}
-use Rattle.pyramid_levels.specs.Refusals.{ask, level_refusal_of}
+use Rattle.pyramid_levels.specs.Refusals.{ask, build_refusal_of, level_refusal_of}
 use Rattle.pyramid_levels.specs.Level.{level_answer}
 use Rattle.pyramid_levels.proofs.Sides.{side-le, count-few}
 use Rattle.pyramid_levels.specs.Internal.{LevelsAccepted}
@@ -44,8 +44,9 @@ module _ (base : List ℕ) (w h count minimum_side : ℕ) (d : List ℕ) (r : Re
       }
 
   -- or refused, and the level buffer is as it was
-  pub refused : (f : Refusal) → r ≡ Err f → e ≡ d
-  refused f c = b.buffer ∙ refused-stays _ _ f _ _ (sym c ∙ b.answer)
+  pub refused : (f : Refusal) → r ≡ Err f
+      → (build_refusal_of (ask (length base) (length d) w h count minimum_side) ≡ refusal_number f) × (e ≡ d)
+  refused f c = (sym b.number ∙ ap number_of c, b.buffer ∙ refused-stays _ _ f _ _ (sym c ∙ b.answer))
 
   -- where nothing refuses, all levels are built
   pub builds : LevelsAccepted (ask (length base) (length d) w h count minimum_side) → r ≡ Ok (level_count w h count minimum_side)

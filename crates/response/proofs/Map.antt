@@ -21,7 +21,9 @@ use Rattle.response.proofs.Inside.{far-off}
 use Rattle.response.proofs.Outcome.{number_of, taken}
 use Rattle.std.specs.Prelude.{Result, Ok, Err}
 use Rattle.lists.specs.declared.refusal.Refusal.{Refusal}
-use Rattle.lists.proofs.Judged.{judged-ok, refused-some}
+use Rattle.lists.specs.Refusals.{refusal_number}
+use Rattle.lists.specs.Refusals as answers
+use Rattle.lists.proofs.Judged.{judged-ok, refused-some, refused-stays}
 
 -- the buffer d after a map of pw by ph with the cells cs was made
 pub record Made (v : View) (cs d e : List Float) (pw ph : ℕ) : Type 0 where
@@ -48,6 +50,10 @@ module _ (v : View) {cs : List Float} (radius : ℕ) (d e : List Float) (r : Res
         enough = rw (cols, rows) (taken _ _ _ _ _ _ (sym (number_of v radius (length d)) ∙ q.0)).enough;
         fills = p.buffer ∙ rw q.0;
       }
+
+  -- or refused, and the buffer is as it was
+  pub refused : (x : Refusal) → r ≡ Err x → (refusal_of v radius (length d) ≡ refusal_number x) × (e ≡ d)
+  refused x c = (sym p.number ∙ ap answers.number_of c, p.buffer ∙ refused-stays _ _ x _ _ (sym c ∙ p.answer))
 
   -- where nothing refuses, a map is made
   module _ (none : refusal_of v radius (length d) ≡ 0) where

@@ -4,8 +4,11 @@ use native.Mathlib.Decide.{dec_lt}
 use native.Mathlib.Omega.{arith}
 use mathlib.Core.Path.{◌≡◌, refl, sym, ap, ◌∙◌}
 use mathlib.Core.List.{List, [], ◌∷◌, ◌++◌, append_assoc, append-nil}
-use lib.ListN.{length, length-append}
+use lib.ListN.{length, take, drop, length-append, length-drop}
+use lib.Seq.{length-take-le}
 use borrow.Author.Tests.{le-leb, lt-leb}
+use borrow.Rule.Slice.PartMut.{mid_of, put_mid}
+use Rattle.lists.proofs.Buffer.{front-take, put-placed}
 use Rattle.lists.specs.Buffer.{Written}
 use Rattle.lists.specs.declared.refusal.Refusal.{Refusal}
 use Rattle.lists.specs.Refusals.{refusal_number, unless}
@@ -21,19 +24,43 @@ use Rattle.retention.specs.Internal.{longest}
 
 -- ---- a refusal
 
+pub number-small : (e : Refusal) → refusal_number e ≤ 20
+number-small e = grind arith
+
 -- a number of at most two digits
-small : (e : Refusal) → refusal_number e < 100
-small e = grind arith
-
-refusal-long : (e : Refusal) → length (refused_text (refusal_number e)) ≤ 11
+pub refusal-long : (n : ℕ) → n ≤ 20 → length (refused_text n) ≤ 11
 unfolding refused_text
-refusal-long e = omega (arith, ended-long (decimal (refusal_number e)) newline, decimal-long 1 (refusal_number e) (small e))
+refusal-long n h = omega (arith, ended-long (decimal n) newline, decimal-long 1 n (omega arith))
 
--- as it was written into a text of its own
-pub text-short : (e : Refusal) (number : ℕ) → number ≡ refusal_number e → (before : List ℕ) (n : ℕ) (after : List ℕ)
-    → Written (refused_text number) before n after
-    → n ≤ 11
-text-short e number is before n after w = omega (arith, w.ends, ap (λ (k : ℕ). length (refused_text k)) is, refusal-long e)
+-- it was written into a text of its own, and is copied from there
+module _ (number : ℕ) (small : number ≤ 20) (before : List ℕ) (n : ℕ) (after : List ℕ)
+    (w : Written (refused_text number) before n after) where
+  pub text-fits : n ≤ length after
+  text-fits = omega (arith, w.ends, ap length w.holds ∙ length-append (refused_text number) (drop (length (refused_text number)) before))
+
+  pub text-short : n ≤ 11
+  text-short = omega (arith, w.ends, refusal-long number small)
+
+  text-is : take n after ≡ refused_text number
+  text-is = ap (take n) w.holds ∙ front-take (refused_text number) before n w.ends
+
+  module _ (out : List ℕ) (at : ℕ) (ample : at + 11 ≤ length out) where
+    part-long : length (mid_of at (at + n - at) out) ≡ n
+    part-long = let k : at + n - at ≡ n = omega arith in
+        rw k (length-take-le n (drop at out) (omega (arith, length-drop at out, text-short)))
+
+    pub part-holds : length (mid_of at (at + n - at) out) ≡ length (take n after)
+    part-holds = omega (arith, part-long, length-take-le n after text-fits)
+
+    pub copied : (ys : List ℕ) → ys ≡ take n after → Wrote (refused_text number) at out (at + n) (put_mid at (at + n - at) out ys)
+    copied ys copy =
+        let is : ys ≡ refused_text number = copy ∙ text-is in
+        let k : at + n - at ≡ length (refused_text number) = omega (arith, w.ends) in
+        record {
+          fits = omega (arith, w.ends, text-short);
+          ends = ap (λ (j : ℕ). at + j) w.ends;
+          holds = rw is (put-placed at (at + n - at) (refused_text number) out k);
+        }
 
 -- ---- the lines of a stream
 pub refuses : (fault : ℕ) (lines : List ℕ) → (fault ≡ 0 → ⊥) → unless refused_text fault lines ≡ refused_text fault

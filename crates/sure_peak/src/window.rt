@@ -6,12 +6,19 @@ ghost use Rattle.detect.specs.Peaks.{window};
 ghost use Rattle.sure_peak.specs.SurePeak.{stored_fifths};
 ghost use Rattle.sure_peak.specs.Internal.{Windowed};
 
-// How many of the cells are above v.
+// How many of the cells are above v. `filter` and `count` took three times the time. The loop has no early exit, so
+// that a compiler can compare several cells at a time.
 fn count_above(cells: &[i32], v: i32) -> u32
     requires { length cells.now ≤ 33 }
     ensures { result ≡ count (lt_z v) cells.now }
 {
-    cells.iter().filter(|cell| v < **cell).count() as u32
+    let mut n: u32 = 0;
+    for cell in cells {
+        if v < *cell {
+            n += 1;
+        }
+    }
+    n
 }
 
 // How many cells of the window around (x, y) are above v. The centre is counted with them and subtracted.

@@ -3,7 +3,7 @@ use Rattle.std.proofs.Common.{arith}
 use Rattle.corner_list.specs.CornerList.{corner_at}
 use Rattle.corner_list.specs.Buffer.{contents}
 use Rattle.merge_settle.specs.Internal.{FirstPasses}
-use Rattle.merge_settle.proofs.Settle.{settles-by}
+use Rattle.merge_settle.proofs.Settle.{settles-by, counted-all}
 use Rattle.merge_naive.specs.MergeNaive.{near_by}
 use Rattle.merge_naive.proofs.Naive.{found-viewed}
 use Rattle.merge_naive.proofs.settle_near.Goals as goal
@@ -16,5 +16,6 @@ found c = found-viewed _ _ _ _ c.args.c _ _ c.view-v.ensures c.from.ensures c.fi
 
 pub returns-clause-settled : goal.returns-clause-settled
 returns-clause-settled c =
+    let counted = counted-all c.args.k c.settle_corner-at.result _ c.count_with.ensures (omega (arith, c.requires, c.well_formed)) in
     settles-by _ _ _ _ c.requires _ (found (goal.at.returns-clause-settled c).After-first_near-joined) _
-    c.settle_corner-at.ensures.place _ (c.count_with.ensures (omega (arith, c.requires, c.well_formed))) _ c.settle_corner-at.ensures.put
+    c.settle_corner-at.ensures.place _ counted _ c.settle_corner-at.ensures.put

@@ -11,8 +11,7 @@ returns-in_err-refusal_apart-clause-merged c =
 
 pub merge_into-requires : goal.merge_into-requires
 merge_into-requires c =
-    let fits = apart_both _ _ _ _ (judged-ok _ _ _ (judged-places _ _ _ _ _ _ c.places.ensures c.in_ok-refusal_apart.ensures)).0 in
-    record { from = fits.0; to = fits.1 }
+    (apart_both _ _ _ _ (judged-ok _ _ _ (judged-places _ _ _ _ _ _ c.places.ensures c.in_ok-refusal_apart.ensures)).0).1
 
 pub returns-clause-merged : goal.returns-clause-merged
 returns-clause-merged c =

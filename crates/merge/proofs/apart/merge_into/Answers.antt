@@ -19,4 +19,4 @@ returns-then-is_off-clause-left c =
 pub returns-clause-left : goal.returns-clause-left
 returns-clause-left c =
     left-on _ (list (goal.at.returns-clause-left c).Start) _ _ _ _ _ (sym c.is_off.ensures ∙ c.if-is_off.false) _ refl c.grid_of-g.ensures
-    (left-settled c.grid_of-g.result (Some c.args.list) _ _ _ _ c.requires.to c.settle_list.ensures.settles)
+    (left-settled c.grid_of-g.result (Some c.args.list) _ _ _ _ c.requires c.settle_list.ensures.settles)

@@ -1,11 +1,12 @@
 -- `merge_settle::settling::settle_listed` meets its contract: put in the place that it takes, and listed. Assumes nothing.
 use Rattle.std.proofs.Common.{sym, ap, ◌∙◌, arith}
+use Rattle.std.specs.Prelude.{Some}
 use Rattle.corner_list.specs.CornerList.{Slices, corner_at}
 use Rattle.corner_list.specs.Buffer.{contents}
 use Rattle.merge_grid.specs.Grid.{joins}
 use Rattle.merge_settle.specs.Internal.{FirstPasses}
 use Rattle.merge_settle.specs.Settle.{count_with}
-use Rattle.merge_settle.proofs.Settle.{settles-by, place-by}
+use Rattle.merge_settle.proofs.Settle.{settles-by, place-by, counted-all}
 use Rattle.merge_settle.proofs.Slots.{some-floats}
 use Rattle.merge_settle.proofs.Indexing.{found-viewed, indexed-viewed, indexed-dropped, indexed-placed}
 use Rattle.merge_settle.proofs.settling.settle_listed.Goals as goal
@@ -41,7 +42,7 @@ pub returns : goal.returns
 returns c =
     let first = found (goal.at.returns c).After-find_joined-joined in
     let place = c.settle_corner-at.ensures.place in
-    let counted = c.count_with.ensures (omega (arith, c.requires.k_bound, c.well_formed)) in
+    let counted = counted-all c.args.k (Some c.in-Some.place) _ c.count_with.ensures (omega (arith, c.requires.k_bound, c.well_formed)) in
     record {
       same_slices = c.settle_corner-at.ensures.same_slices;
       settled =
